@@ -28,7 +28,7 @@ module _ (c : Config) (scripts : Scripts) where
   goes_none s todo left = record { done = []; leads = go-none (kind pause_image c) s; events = refl; count = omega arith }
 
   -- two parts follow each other
-  pub goes_then : (s t u : Stage Actor) (todo rest more : Agenda) (left later last : ℕ) → Goes c scripts s todo left t rest later → Goes c scripts t rest later u more last → Goes c scripts s todo left u more last
+  unfoldable pub goes_then : (s t u : Stage Actor) (todo rest more : Agenda) (left later last : ℕ) → Goes c scripts s todo left t rest later → Goes c scripts t rest later u more last → Goes c scripts s todo left u more last
   goes_then s t u todo rest more left later last one two = record {
     done = one.done ++ two.done;
     leads = go-append (kind pause_image c) s one.done two.done ∙ ap (λ x. go (kind pause_image c) x two.done) one.leads ∙ two.leads;

@@ -2,6 +2,10 @@ pub mod Events
 pub mod Memory
 pub mod Turns
 pub mod Noted
+pub mod Settles
+pub mod Noting
+pub mod Counting
+pub mod Swapped
 pub mod Going
 mod Keeps
 pub mod Calls

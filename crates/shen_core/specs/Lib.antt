@@ -4,3 +4,4 @@ pub mod Progress
 pub mod Calls
 pub mod Ending
 pub mod FromImage
+pub mod Noting

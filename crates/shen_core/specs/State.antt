@@ -6,6 +6,7 @@ use Rattle.heap_words.specs.Ranges.{seat_count}
 use Rattle.steps_base.specs.Steps.{Stage}
 use Rattle.shen_graph.specs.declared.order.Order.{Order}
 use Rattle.shen_graph.specs.declared.order.Order.TheVariants.{Nothing}
+use Rattle.shen_graph.specs.Noting.{Noting}
 use Rattle.step_core.specs.Actor as actors
 use Rattle.step_core.specs.Machines.{takes_of, plan_of}
 use Rattle.shen_core.specs.declared.plain.Plain.{Plain}
@@ -55,12 +56,17 @@ found_by p number = slice_index (words_of p) (table_index (plan_of p.config (ord
 abbrev pub IsStep : Plain → Plain → ℕ → Type 0
 IsStep old new number = runs.IsOneEvent (config_of old) (words_of old) (machines_of old) (words_of new) (machines_of new) number (order_at old number)
 
+-- the history that it notes
+abbrev pub notes_of : Plain → Noting
+notes_of p = p.notes
+
 -- all is as it was
 pub record IsUnchanged (old new : Plain) : Type 0 where
   pub config : config_of new ≡ config_of old
   pub words : words_of new ≡ words_of old
   pub machines : machines_of new ≡ machines_of old
   pub orders : orders_of new ≡ orders_of old
+  pub notes : notes_of new ≡ notes_of old
 
 -- the machine after its step
 abbrev pub next_machine : Plain → ℕ → actors.Machine

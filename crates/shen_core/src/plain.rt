@@ -8,8 +8,9 @@ use crate::from_image::{machines_from, words_from};
 use heap_machines::{Machine, Stepped, open_machines};
 use heap_words::{Access, Config, NoMemory, Place};
 use image_graph::Image;
-use shen_graph::{Command, GraphText, Reply, Work};
+use shen_graph::{Command, Entry, GraphText, History, Reply, Work};
 use std::alloc::Global;
+use std::mem;
 use step_core::open_words;
 use steps_base::make_access;
 
@@ -19,6 +20,8 @@ pub struct Plain {
     config: Config,
     words: Vec<u64>,
     machines: Vec<Machine>,
+    // What its steps settle is noted here, as long as there is memory for it: in `run_noted` alone.
+    notes: History,
     ghost all_words: { length words.items ≡ table_words config },
     ghost all_machines: { length machines.items ≡ seat_count config.mutators config.helpers },
     ghost one_heap: { All (λ m. heap_of m ≡ config) machines.items },
@@ -38,10 +41,15 @@ impl Plain {
     ghost use Rattle.step_core.specs.Begins.{Begins, Run, ending, graph_after};
     ghost use Rattle.shen_core.specs.FromImage.{CanBegin, stage_from};
     ghost use Rattle.heap_graph.specs.Shows as texts;
-    ghost use Rattle.shen_core.specs.State.{config_of, words_of, machines_of, orders_of, order_at, seats_of, Shows, machine_at, has_turn, found_by, next_machine, IsStep, IsUnchanged};
+    ghost use Rattle.shen_core.specs.State.{config_of, words_of, machines_of, orders_of, notes_of, order_at, seats_of, Shows, machine_at, has_turn, found_by, next_machine, IsStep, IsUnchanged};
     ghost use Rattle.heap_machines.specs.Answer.{says};
     ghost use Rattle.heap_machines.specs.Roles.{is_mutating};
     ghost use Rattle.heap_machines.specs.Turn.{order_for};
+    ghost use Rattle.steps_base.specs.Steps.{Stage};
+    ghost use Rattle.step_core.specs.Actor.{Actor};
+    ghost use Rattle.step_core.specs.History.{told};
+    ghost use Rattle.shen_core.specs.Runs.{event};
+    ghost use Rattle.shen_core.specs.Noting.{IsEnding, NotesTurn, Settles, noted};
     ghost use Rattle.shen_core.specs.Progress.{CanRun, IsTurn, IsNextTurn, HasNext, AllRest, next_for};
 
     /// The heap of this configuration before the first event, whose mutators have not begun a call.
@@ -52,7 +60,10 @@ impl Plain {
     {
         let words = open_words(alloc, config)?;
         let machines = open_machines(alloc, config)?;
-        Ok(Plain::of(config, words, machines))
+        let Ok(notes) = History::open(alloc) else {
+            return Err(NoMemory);
+        };
+        Ok(Plain::of(config, words, machines, notes))
     }
 
     /// The heap of an image's words, before the first event. Each thread has made so many objects before as `counts` says, in
@@ -69,11 +80,14 @@ impl Plain {
         let config = image.config();
         let words = words_from(alloc, &image)?;
         let machines = machines_from(alloc, image, counts)?;
-        Ok(Plain::of(config, words, machines))
+        let Ok(notes) = History::open(alloc) else {
+            return Err(NoMemory);
+        };
+        Ok(Plain::of(config, words, machines, notes))
     }
 
-    // The heap of these words and machines.
-    fn of(config: Config, words: Vec<u64>, machines: Vec<Machine>) -> Plain
+    // The heap of these words and machines, and what it notes into.
+    fn of(config: Config, words: Vec<u64>, machines: Vec<Machine>, notes: History) -> Plain
         requires words { length words.items ≡ table_words config }
         requires machines { length machines.items ≡ seat_count config.mutators config.helpers }
         requires heap { All (λ m. heap_of m ≡ config) machines.items }
@@ -87,6 +101,7 @@ impl Plain {
             config,
             words,
             machines,
+            notes,
         }
     }
 
@@ -133,6 +148,7 @@ impl Plain {
         ensures done { (result ≡ Stepped.Done) ↔ ((has_turn self.old number ≡ true) × (is_mutating (machine_at self.old number) ≡ true) × (place_in (order_at self.old number) (machine_at self.old number) ≡ Place.LV)) }
         ensures replied { result ≡ Stepped.Done → reply_in (machine_at self.new number) ≢ None }
         ensures again { (result ≡ Stepped.Again) ↔ ((has_turn self.old number ≡ true) × WaitsIn (config_of self.old) (machine_at self.old number) (found_by self.old number)) }
+        ensures notes { notes_of self.new ≡ notes_of self.old }
     {
         let machine = &mut self.machines[number];
         if machine.is_idle() {
@@ -140,6 +156,59 @@ impl Plain {
         }
         let found = make_access(&mut self.words, machine.plan());
         Stepped::of(machine.took(found))
+    }
+
+    /// The entry of a history that the machine's next step settles, if it settles one: of its own thread the reply of the call in
+    /// progress, which is given later; of another one, by the control, that the heap is full.
+    pub fn settles(&self, number: usize) -> Option<Entry>
+        requires number { number < seats_of self.now }
+        requires turn { has_turn self.now number ≡ true }
+        ensures { Settles self.now number result }
+    {
+        let machine = &self.machines[number];
+        if let Some(reply) = machine.settles(&self.words) {
+            return Some(Entry {
+                thread: number as u32 + 1,
+                command: machine.command(),
+                reply,
+            });
+        }
+        let mutator = machine.refuses(self.config, &self.words)?;
+        Some(Entry {
+            thread: mutator as u32 + 1,
+            command: self.machines[mutator].command(),
+            reply: Reply::Full,
+        })
+    }
+
+    // Notes what the machine's next step settles, as long as there is memory for it.
+    pub(crate) fn note_next(&mut self, number: usize)
+        requires number { number < seats_of self.old }
+        requires turn { has_turn self.old number ≡ true }
+        ensures notes { (s : Stage Actor) → Shows self.old s → IsEnding (config_of self.old) s → notes_of self.new ≡ noted (notes_of self.old) (told (config_of self.old) s (event number (order_at self.old number))) }
+        ensures config { config_of self.new ≡ config_of self.old }
+        ensures words { words_of self.new ≡ words_of self.old }
+        ensures machines { machines_of self.new ≡ machines_of self.old }
+        ensures orders { orders_of self.new ≡ orders_of self.old }
+    {
+        if self.notes.spare() == 0 {
+            return;
+        }
+        if let Some(entry) = self.settles(number) {
+            self.notes.note(entry.thread, entry.command, entry.reply);
+        }
+    }
+
+    // Exchanges the history that it notes for another.
+    pub(crate) fn swap_notes(&mut self, history: &mut History)
+        ensures notes { notes_of self.new ≡ history.old }
+        ensures history { history.new ≡ notes_of self.old }
+        ensures config { config_of self.new ≡ config_of self.old }
+        ensures words { words_of self.new ≡ words_of self.old }
+        ensures machines { machines_of self.new ≡ machines_of self.old }
+        ensures orders { orders_of self.new ≡ orders_of self.old }
+    {
+        mem::swap(&mut self.notes, history);
     }
 
     /// Its heap.
@@ -190,9 +259,33 @@ impl Plain {
         ensures words { words_of self.new ≡ words_of self.old }
         ensures machines { machines_of self.new ≡ machines_of self.old }
         ensures config { config_of self.new ≡ config_of self.old }
+        ensures notes { notes_of self.new ≡ notes_of self.old }
     {
         let next = self.next_command(work, number);
         self.machines[number].order_next(next)
+    }
+
+    // Gives the machine its order for its turn, if it has one, and notes what its step then settles, as long as there is memory
+    // for it.
+    pub(crate) fn order_noted(&mut self, work: &Work, number: usize) -> bool
+        requires number { number < seats_of self.old }
+        requires run { CanRun self.old work.now }
+        ensures turn { IsTurn self.old work.now number result (order_at self.new number) }
+        ensures has { has_turn self.new number ≡ result }
+        ensures next { IsNextTurn self.old work.now number result (order_at self.new number) }
+        ensures orders { orders_of self.new ≡ slice_set (orders_of self.old) number (order_at self.new number) }
+        ensures unchanged { result ≡ false → orders_of self.new ≡ orders_of self.old }
+        ensures words { words_of self.new ≡ words_of self.old }
+        ensures machines { machines_of self.new ≡ machines_of self.old }
+        ensures config { config_of self.new ≡ config_of self.old }
+        ensures notes { NotesTurn self.old work.now number self.new }
+        ensures none { result ≡ false → notes_of self.new ≡ notes_of self.old }
+    {
+        let has = self.order_next(work, number);
+        if has {
+            self.note_next(number);
+        }
+        has
     }
 
     /// Whether the machine would make a step on its turn.

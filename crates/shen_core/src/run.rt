@@ -1,14 +1,15 @@
-ghost use Rattle.std.specs.Prelude.{◌≡◌, ◌<◌, ◌≤◌, true, false, [], length, slice_set, All};
+ghost use Rattle.std.specs.Prelude.{ℕ, ◌≡◌, ◌<◌, ◌≤◌, true, false, [], length, slice_set, All};
 ghost use Rattle.shen_graph.specs.Work.{replies_of, script_in};
 ghost use Rattle.shen_core.specs.State.{config_of, words_of, machines_of, orders_of, order_at, seats_of, has_turn, IsUnchanged};
 ghost use Rattle.shen_graph.specs.declared.order.Order.TheVariants.{Nothing};
-ghost use Rattle.shen_core.specs.Progress.{Jobs, CanRun, IsTurn, HasTurned, Runs, DoesTask, AllIdle, SomeBusy, HasNext, IsInSeats, agenda};
-ghost use Rattle.step_core.specs.Schedule.{steps, until, replies, control, task_of};
+ghost use Rattle.shen_core.specs.Progress.{Jobs, CanRun, IsTurn, HasTurned, AllIdle, SomeBusy, HasNext, IsInSeats, agenda};
+ghost use Rattle.shen_core.specs.Noting.{NotesTurn, RunsNoted, DoesNoted, EndsNoted, NotesSchedule, commands_in};
+ghost use Rattle.step_core.specs.Schedule.{steps, until, replies, control, task_of, agenda_of};
 
 use crate::plain::Plain;
 use heap_machines::Stepped;
 use heap_words::{Item, Place, Schedule};
-use shen_graph::Work;
+use shen_graph::{History, Work};
 
 /// How a run has ended.
 #[derive(Clone, Copy, Debug, PartialEq, Eq)]
@@ -20,7 +21,7 @@ pub enum Ran {
 }
 
 impl Plain {
-    ghost use Rattle.shen_core.specs.Ending.{EndsRun, RunsSchedule};
+    ghost use Rattle.shen_core.specs.Ending.{RunsSchedule};
 
     // One turn of a machine: it goes on with its call, begins the next command of its script, or ends.
     fn turn(&mut self, work: &mut Work, number: usize) -> Stepped
@@ -31,8 +32,9 @@ impl Plain {
         ensures turned { HasTurned self.old work.old number self.new work.new result }
         ensures idle { result ≡ Stepped.Idle → IsUnchanged self.old self.new }
         ensures idle_work { result ≡ Stepped.Idle → work.new ≡ work.old }
+        ensures notes { NotesTurn self.old work.old number self.new }
     {
-        if !self.order_next(work, number) {
+        if !self.order_noted(work, number) {
             return Stepped::Idle;
         }
         let stepped = self.step(number);
@@ -48,7 +50,7 @@ impl Plain {
         requires run { CanRun self.old work.old }
         ensures run { CanRun self.new work.new }
         ensures config { config_of self.new ≡ config_of self.old }
-        ensures task { DoesTask self.old work.old (steps number count) limit self.new work.new result }
+        ensures task { DoesNoted self.old work.old (steps number count) limit self.new work.new result }
     {
         let mut left = limit;
         let mut wanted = count;
@@ -68,7 +70,7 @@ impl Plain {
         requires run { CanRun self.old work.old }
         ensures run { CanRun self.new work.new }
         ensures config { config_of self.new ≡ config_of self.old }
-        ensures task { DoesTask self.old work.old (until number place) limit self.new work.new result }
+        ensures task { DoesNoted self.old work.old (until number place) limit self.new work.new result }
     {
         let mut left = limit;
         while left > 0 && !self.is_at_place(work, number, place) {
@@ -87,7 +89,7 @@ impl Plain {
         requires run { CanRun self.old work.old }
         ensures run { CanRun self.new work.new }
         ensures config { config_of self.new ≡ config_of self.old }
-        ensures task { DoesTask self.old work.old (replies number count) limit self.new work.new result }
+        ensures task { DoesNoted self.old work.old (replies number count) limit self.new work.new result }
     {
         let mut left = limit;
         while left > 0 && (work.replies(number).list().len() as u64) < count {
@@ -106,7 +108,7 @@ impl Plain {
         ensures run { CanRun self.new work.new }
         ensures config { config_of self.new ≡ config_of self.old }
         ensures less { result ≤ left }
-        ensures task { DoesTask self.old work.old control left self.new work.new result }
+        ensures task { DoesNoted self.old work.old control left self.new work.new result }
     {
         if left == 0 {
             return left;
@@ -124,7 +126,7 @@ impl Plain {
         requires run { CanRun self.old work.old }
         ensures run { CanRun self.new work.new }
         ensures config { config_of self.new ≡ config_of self.old }
-        ensures task { DoesTask self.old work.old (task_of item) left self.new work.new result }
+        ensures task { DoesNoted self.old work.old (task_of item) left self.new work.new result }
     {
         match item {
             Item::Steps { number, count } => self.run_steps(work, number, count, left),
@@ -153,7 +155,7 @@ impl Plain {
         ensures run { CanRun self.new work.new }
         ensures config { config_of self.new ≡ config_of self.old }
         ensures less { result ≤ limit }
-        ensures round { Runs self.old work.old (agenda [] 0) limit self.new work.new (agenda [] 0) result }
+        ensures round { RunsNoted self.old work.old (agenda [] 0) limit self.new work.new (agenda [] 0) result }
         ensures idle { result ≡ limit → 0 < limit → AllIdle self.new work.new }
     {
         let mut left = limit;
@@ -175,7 +177,7 @@ impl Plain {
         requires { CanRun self.old work.old }
         ensures run { CanRun self.new work.new }
         ensures config { config_of self.new ≡ config_of self.old }
-        ensures ends { EndsRun self.old work.old (agenda [] 0) limit self.new work.new result }
+        ensures ends { EndsNoted self.old work.old (agenda [] 0) limit self.new work.new result }
     {
         let mut left = limit;
         loop {
@@ -205,10 +207,55 @@ impl Plain {
         ensures config { config_of self.new ≡ config_of self.old }
         ensures events { RunsSchedule self.old work.old schedule.now steps self.new work.new result }
     {
+        self.run_agenda(work, schedule, steps)
+    }
+
+    /// Runs as `run` does, and adds to the history the entry that each step settles, in the order of the steps: at the access by
+    /// which a call takes effect, and not where its reply is given. It takes no memory.
+    pub fn run_noted(
+        &mut self,
+        work: &mut Work,
+        schedule: &Schedule,
+        steps: u64,
+        history: &mut History,
+    ) -> Ran
+        requires run { CanRun self.old work.old }
+        requires items { All (IsInSeats (config_of self.old)) schedule.now }
+        requires spare { commands_in (config_of self.old) work.old ≤ history.old.spare }
+        ensures run { CanRun self.new work.new }
+        ensures config { config_of self.new ≡ config_of self.old }
+        ensures events { RunsSchedule self.old work.old schedule.now steps self.new work.new result }
+        ensures history { NotesSchedule self.old work.old schedule.now steps history.old history.new }
+    {
+        self.swap_notes(history);
+        let ran = self.run_agenda(work, schedule, steps);
+        self.within_scripts(work);
+        self.swap_notes(history);
+        ran
+    }
+
+    // Runs the items of a schedule and then rounds, and notes what is settled as long as there is memory for it.
+    fn run_agenda(&mut self, work: &mut Work, schedule: &Schedule, steps: u64) -> Ran
+        requires run { CanRun self.old work.old }
+        requires items { All (IsInSeats (config_of self.old)) schedule.now }
+        ensures run { CanRun self.new work.new }
+        ensures config { config_of self.new ≡ config_of self.old }
+        ensures events { EndsNoted self.old work.old (agenda_of schedule.now) steps self.new work.new result }
+    {
         let mut left = steps;
         for item in schedule.list() {
             left = self.run_item(work, *item, left);
         }
         self.run_rounds(work, left)
+    }
+
+    // No mutator has more replies than commands, as the work knows.
+    fn within_scripts(&self, work: &Work)
+        requires { CanRun self.now work.now }
+        ensures { (t : ℕ) → t < (config_of self.now).mutators → length (replies_of work.now t) ≤ length (script_in work.now t) }
+    {
+        for mutator in 0..self.config().mutators() {
+            let _ = work.next(mutator);
+        }
     }
 }

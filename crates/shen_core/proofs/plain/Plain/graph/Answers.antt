@@ -59,6 +59,7 @@ returns-clause-unchanged c =
       words = refl;
       machines = ordered_machines p.machines.items (c.seats-control.result - 1) m c.answer_graph.new.self here c.answer_graph.ensures.shown;
       orders = ordered_none p.machines.items (c.seats-control.result - 1) m c.answer_graph.new.self here c.answer_graph.ensures.order;
+      notes = refl;
     }
 
 pub returns-clause-shows : goal.returns-clause-shows

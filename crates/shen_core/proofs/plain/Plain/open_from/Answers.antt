@@ -41,3 +41,6 @@ machines_from-requires c = c.requires.counts
 
 pub returns-clause-config : goal.returns-clause-config
 returns-clause-config c = c.of.ensures.config ∙ c.config-config.ensures
+
+pub returns-in_default-clause-begins : goal.returns-in_default-clause-begins
+returns-in_default-clause-begins c = begins_from c.args.image.config c.args.image.words.items c.args.counts.now c.args.image.all_words

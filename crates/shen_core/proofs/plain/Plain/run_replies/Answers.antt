@@ -3,7 +3,8 @@ use Rattle.std.proofs.lemmas.Bool.{le-leb, lt-leb}
 use Rattle.step_core.specs.Schedule.{turn, waits_then, replies, control, control_after, moves}
 use Rattle.shen_core.specs.State.{config_of}
 use Rattle.shen_core.specs.Progress.{agenda}
-use Rattle.shen_core.proofs.Going.{plain_within, waiting_of, given_told, waiting_not, runs_none, runs_then, runs_out, task_done, task_idles, task_moves, replies_given, replies_move}
+use Rattle.shen_core.proofs.Going.{plain_within, waiting_of, given_told, waiting_not, replies_given, replies_move}
+use Rattle.shen_core.proofs.Noting.{runs_none, runs_then, runs_out, task_done, task_idles, task_moves}
 use Rattle.shen_core.proofs.plain.Plain.run_replies.Goals as goal
 
 pub loop-left-init : goal.loop-left-init
@@ -12,7 +13,7 @@ loop-left-init c = record { run = c.requires.run; config = refl; runs = λ tasks
 pub returns-in-Idle-clause-task : goal.returns-in-Idle-clause-task
 returns-in-Idle-clause-task c = λ tasks from.
     runs_then c.args.self.now c.loop-left.self c.turn.new.self c.args.work.now c.loop-left.work c.turn.new.work _ (agenda (replies c.args.number c.args.count ∷ tasks) from) (agenda tasks from) _ c.loop-left.left _ c.loop-left.invariant.config (c.loop-left.invariant.runs tasks from)
-    (task_idles c.loop-left.self c.turn.new.self c.loop-left.work c.turn.new.work c.args.number c.turn.result (replies c.args.number c.args.count) c.loop-left.left c.turn.ensures.turned c.in-Idle.is
+    (task_idles c.loop-left.self c.turn.new.self c.loop-left.work c.turn.new.work c.args.number c.turn.result (replies c.args.number c.args.count) c.loop-left.left c.turn.ensures.notes c.turn.ensures.turned c.in-Idle.is
     (λ scripts s shows tells none. replies_move (config_of c.loop-left.self) scripts s c.args.number c.args.count (let told = given_told c.loop-left.self c.loop-left.work c.args.number scripts s (plain_within c.args.self.now c.loop-left.self c.args.number c.loop-left.invariant.config (omega (arith, c.requires.number))) (subst (λ k. c.args.number < k.mutators) (sym c.loop-left.invariant.config) c.requires.number) shows tells in let list = ap length (c.list.ensures ∙ c.replies.ensures.replies) in (lt-leb _ _ (omega arith))) ∙ ap (λ e. moves e (control_after (waits_then (config_of c.loop-left.self) s e) ++ replies c.args.number c.args.count ∷ [])) none) tasks from)
 
 pub loop-left-preserved-in-Again : goal.loop-left-preserved-in-Again
@@ -22,7 +23,7 @@ loop-left-preserved-in-Again c = record {
   runs = λ tasks from.
       runs_then c.args.self.now c.loop-left.self c.run_control-left.new.self c.args.work.now c.loop-left.work c.run_control-left.new.work _ (agenda (replies c.args.number c.args.count ∷ tasks) from) (agenda (replies c.args.number c.args.count ∷ tasks) from) _ c.loop-left.left _ c.loop-left.invariant.config (c.loop-left.invariant.runs tasks from)
       (runs_then c.loop-left.self c.turn.new.self c.run_control-left.new.self c.loop-left.work c.turn.new.work c.run_control-left.new.work (agenda (replies c.args.number c.args.count ∷ tasks) from) (agenda (control ∷ replies c.args.number c.args.count ∷ tasks) from) (agenda (replies c.args.number c.args.count ∷ tasks) from) c.loop-left.left (c.loop-left.left - 1) _ c.turn.ensures.config
-      (task_moves c.loop-left.self c.turn.new.self c.loop-left.work c.turn.new.work c.args.number c.turn.result (replies c.args.number c.args.count) (control ∷ replies c.args.number c.args.count ∷ []) c.loop-left.left c.turn.ensures.turned (λ idle. cc) c.loop-left-test.true
+      (task_moves c.loop-left.self c.turn.new.self c.loop-left.work c.turn.new.work c.args.number c.turn.result (replies c.args.number c.args.count) (control ∷ replies c.args.number c.args.count ∷ []) c.loop-left.left c.turn.ensures.notes c.turn.ensures.turned (λ idle. cc) c.loop-left-test.true
       (λ scripts s shows tells waits. replies_move (config_of c.loop-left.self) scripts s c.args.number c.args.count (let told = given_told c.loop-left.self c.loop-left.work c.args.number scripts s (plain_within c.args.self.now c.loop-left.self c.args.number c.loop-left.invariant.config (omega (arith, c.requires.number))) (subst (λ k. c.args.number < k.mutators) (sym c.loop-left.invariant.config) c.requires.number) shows tells in let list = ap length (c.list.ensures ∙ c.replies.ensures.replies) in (lt-leb _ _ (omega arith))) ∙ ap (λ b. moves (turn scripts s c.args.number) (control_after b ++ replies c.args.number c.args.count ∷ [])) (waits ∙ ap waiting_of c.in-Again.is)) tasks from)
       (c.run_control-left.ensures.task (replies c.args.number c.args.count ∷ tasks) from));
 }
@@ -33,7 +34,7 @@ loop-left-preserved c = record {
   config = c.turn.ensures.config ∙ c.loop-left.invariant.config;
   runs = λ tasks from.
       runs_then c.args.self.now c.loop-left.self c.turn.new.self c.args.work.now c.loop-left.work c.turn.new.work _ (agenda (replies c.args.number c.args.count ∷ tasks) from) (agenda (replies c.args.number c.args.count ∷ tasks) from) _ c.loop-left.left _ c.loop-left.invariant.config (c.loop-left.invariant.runs tasks from)
-      (task_moves c.loop-left.self c.turn.new.self c.loop-left.work c.turn.new.work c.args.number c.turn.result (replies c.args.number c.args.count) (replies c.args.number c.args.count ∷ []) c.loop-left.left c.turn.ensures.turned c.in_default.not-Idle c.loop-left-test.true
+      (task_moves c.loop-left.self c.turn.new.self c.loop-left.work c.turn.new.work c.args.number c.turn.result (replies c.args.number c.args.count) (replies c.args.number c.args.count ∷ []) c.loop-left.left c.turn.ensures.notes c.turn.ensures.turned c.in_default.not-Idle c.loop-left-test.true
       (λ scripts s shows tells waits. replies_move (config_of c.loop-left.self) scripts s c.args.number c.args.count (let told = given_told c.loop-left.self c.loop-left.work c.args.number scripts s (plain_within c.args.self.now c.loop-left.self c.args.number c.loop-left.invariant.config (omega (arith, c.requires.number))) (subst (λ k. c.args.number < k.mutators) (sym c.loop-left.invariant.config) c.requires.number) shows tells in let list = ap length (c.list.ensures ∙ c.replies.ensures.replies) in (lt-leb _ _ (omega arith))) ∙ ap (λ b. moves (turn scripts s c.args.number) (control_after b ++ replies c.args.number c.args.count ∷ [])) (waits ∙ waiting_not c.turn.result c.in_default.not-Again)) tasks from);
 }
 

@@ -1,14 +1,15 @@
 use Rattle.std.proofs.Common.{◌≡◌, ℕ, List, ◌∷◌}
 use Rattle.step_core.specs.Schedule.{Task, replies}
 use Rattle.shen_core.specs.State.{config_of}
-use Rattle.shen_core.specs.Progress.{CanRun, Runs, agenda}
+use Rattle.shen_core.specs.Progress.{CanRun, agenda}
+use Rattle.shen_core.specs.Noting.{RunsNoted}
 use Rattle.shen_core.proofs.plain.Plain.run_replies.Given as goal
 
 abbrev pub invariant-loop-left : goal.invariant-loop-left
 invariant-loop-left l = record {
   run : CanRun l.self l.work;
   config : config_of l.self ≡ config_of l.initial.self;
-  runs : (tasks : List Task) (from : ℕ) → Runs l.initial.self l.initial.work (agenda (replies l.number l.count ∷ tasks) from) l.initial.left l.self l.work (agenda (replies l.number l.count ∷ tasks) from) l.left;
+  runs : (tasks : List Task) (from : ℕ) → RunsNoted l.initial.self l.initial.work (agenda (replies l.number l.count ∷ tasks) from) l.initial.left l.self l.work (agenda (replies l.number l.count ∷ tasks) from) l.left;
 }
 
 abbrev pub decreases-loop-left : goal.decreases-loop-left

@@ -1,9 +1,10 @@
 use Rattle.std.proofs.Common.{◌≡◌, ◌<◌, ◌+◌, [], refl, sym, ap, ◌∙◌, subst, arith}
 use Rattle.heap_words.specs.Ranges.{seat_count}
 use Rattle.shen_core.specs.State.{config_of, seats_of}
-use Rattle.shen_core.specs.Progress.{Runs, agenda}
-use Rattle.shen_core.proofs.Going.{runs_none, runs_then, runs_out}
-use Rattle.shen_core.proofs.Rounds.{round_idles, round_moves, round_ends, idle_more}
+use Rattle.shen_core.specs.Progress.{agenda}
+use Rattle.shen_core.proofs.Rounds.{idle_more}
+use Rattle.shen_core.proofs.Noting.{runs_none, runs_then, runs_out, round_idles, round_moves, round_ends}
+use Rattle.shen_core.specs.Noting.{RunsNoted}
 use Rattle.shen_core.proofs.plain.Plain.run_round.Goals as goal
 use Rattle.shen_core.proofs.plain.Plain.run_round.Goals.{in-Idle, in_default}
 
@@ -30,9 +31,9 @@ loop-number-preserved c =
         run = c.turn.ensures.run;
         config = c.turn.ensures.config ∙ c.loop-number.invariant.config;
         less = (let l = c.loop-number.invariant.less in omega arith);
-        runs = subst (λ n. Runs c.args.self.now c.args.work.now (agenda [] 0) c.args.limit c.turn.new.self c.turn.new.work (agenda [] (c.loop-number.number + 1)) n) (sym w.left-is)
+        runs = subst (λ n. RunsNoted c.args.self.now c.args.work.now (agenda [] 0) c.args.limit c.turn.new.self c.turn.new.work (agenda [] (c.loop-number.number + 1)) n) (sym w.left-is)
             (runs_then c.args.self.now c.loop-number.self c.turn.new.self c.args.work.now c.loop-number.work c.turn.new.work _ _ _ _ c.loop-number.left _ c.loop-number.invariant.config c.loop-number.invariant.runs
-            (round_idles c.loop-number.self c.turn.new.self c.loop-number.work c.turn.new.work c.loop-number.number c.turn.result c.loop-number.left below c.turn.ensures.turned w.in-Idle.is));
+            (round_idles c.loop-number.self c.turn.new.self c.loop-number.work c.turn.new.work c.loop-number.number c.turn.result c.loop-number.left below c.turn.ensures.notes c.turn.ensures.turned w.in-Idle.is));
         idle = λ e. idle_more c.loop-number.self c.turn.new.self c.loop-number.work c.turn.new.work c.loop-number.number c.turn.result (c.turn.ensures.idle w.in-Idle.is) (c.turn.ensures.idle_work w.in-Idle.is) c.turn.ensures.turned w.in-Idle.is
             (c.loop-number.invariant.idle (sym w.left-is ∙ e));
       }
@@ -40,9 +41,9 @@ loop-number-preserved c =
         run = c.turn.ensures.run;
         config = c.turn.ensures.config ∙ c.loop-number.invariant.config;
         less = (let l = c.loop-number.invariant.less in omega arith);
-        runs = subst (λ n. Runs c.args.self.now c.args.work.now (agenda [] 0) c.args.limit c.turn.new.self c.turn.new.work (agenda [] (c.loop-number.number + 1)) n) (sym w.left-is)
+        runs = subst (λ n. RunsNoted c.args.self.now c.args.work.now (agenda [] 0) c.args.limit c.turn.new.self c.turn.new.work (agenda [] (c.loop-number.number + 1)) n) (sym w.left-is)
             (runs_then c.args.self.now c.loop-number.self c.turn.new.self c.args.work.now c.loop-number.work c.turn.new.work _ _ _ _ c.loop-number.left _ c.loop-number.invariant.config c.loop-number.invariant.runs
-            (round_moves c.loop-number.self c.turn.new.self c.loop-number.work c.turn.new.work c.loop-number.number c.turn.result c.loop-number.left below c.turn.ensures.turned w.in_default.not-Idle (let some = c.if-left-eq0.false in omega arith)));
+            (round_moves c.loop-number.self c.turn.new.self c.loop-number.work c.turn.new.work c.loop-number.number c.turn.result c.loop-number.left below c.turn.ensures.notes c.turn.ensures.turned w.in_default.not-Idle (let some = c.if-left-eq0.false in omega arith)));
         idle = λ e. absurd (let l = c.loop-number.invariant.less in let some = c.if-left-eq0.false in omega arith);
       }
     ]
@@ -52,7 +53,7 @@ returns-clause-round c =
     let seats : seat_count (config_of c.loop-number.self).mutators (config_of c.loop-number.self).helpers ≡ seats_of c.args.self.now = ap (λ k. seat_count k.mutators k.helpers) c.loop-number.invariant.config in
     let at : c.loop-number.number ≡ seat_count (config_of c.loop-number.self).mutators (config_of c.loop-number.self).helpers = omega (arith, c.seats-seats.ensures, c.loop-number-test.false, seats) in
     runs_then c.args.self.now c.loop-number.self c.loop-number.self c.args.work.now c.loop-number.work c.loop-number.work _ _ (agenda [] 0) _ c.loop-number.left _ c.loop-number.invariant.config c.loop-number.invariant.runs
-    (subst (λ n. Runs c.loop-number.self c.loop-number.work (agenda [] n) c.loop-number.left c.loop-number.self c.loop-number.work (agenda [] 0) c.loop-number.left) (sym at) (round_ends c.loop-number.self c.loop-number.work c.loop-number.left))
+    (subst (λ n. RunsNoted c.loop-number.self c.loop-number.work (agenda [] n) c.loop-number.left c.loop-number.self c.loop-number.work (agenda [] 0) c.loop-number.left) (sym at) (round_ends c.loop-number.self c.loop-number.work c.loop-number.left))
 
 pub returns-then-left-eq0-clause-run : goal.returns-then-left-eq0-clause-run
 returns-then-left-eq0-clause-run c = c.loop-number.invariant.run

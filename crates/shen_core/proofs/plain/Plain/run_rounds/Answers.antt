@@ -1,7 +1,6 @@
 use Rattle.std.proofs.Common.{[], refl, ◌∙◌, arith}
 use Rattle.shen_core.specs.Progress.{agenda}
-use Rattle.shen_core.proofs.Going.{runs_none, runs_then}
-use Rattle.shen_core.proofs.Rounds.{ends_idle, ends_out, ends_then}
+use Rattle.shen_core.proofs.Noting.{runs_none, runs_then, ends_idle, ends_out, ends_then}
 use Rattle.shen_core.proofs.plain.Plain.run_rounds.Goals as goal
 use Rattle.shen_core.specs.declared.run.Ran.TheVariants.{Finished, Unfinished}
 

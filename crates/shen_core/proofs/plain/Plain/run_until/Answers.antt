@@ -3,7 +3,8 @@ use Rattle.step_core.specs.Schedule.{until, moves}
 use Rattle.shen_core.specs.State.{config_of}
 use Rattle.shen_core.specs.Progress.{agenda}
 use Rattle.shen_core.proofs.Turns.{stands_shown}
-use Rattle.shen_core.proofs.Going.{plain_within, runs_none, runs_then, runs_out, task_done, task_idles, task_moves, until_there, until_move}
+use Rattle.shen_core.proofs.Going.{plain_within, until_there, until_move}
+use Rattle.shen_core.proofs.Noting.{runs_none, runs_then, runs_out, task_done, task_idles, task_moves}
 use Rattle.shen_core.proofs.plain.Plain.run_until.Goals as goal
 
 pub loop-left-init : goal.loop-left-init
@@ -12,7 +13,7 @@ loop-left-init c = record { run = c.requires.run; config = refl; runs = λ tasks
 pub returns-in-Idle-clause-task : goal.returns-in-Idle-clause-task
 returns-in-Idle-clause-task c = λ tasks from.
     runs_then c.args.self.now c.loop-left.self c.turn.new.self c.args.work.now c.loop-left.work c.turn.new.work _ (agenda (until c.args.number c.args.place ∷ tasks) from) (agenda tasks from) _ c.loop-left.left _ c.loop-left.invariant.config (c.loop-left.invariant.runs tasks from)
-    (task_idles c.loop-left.self c.turn.new.self c.loop-left.work c.turn.new.work c.args.number c.turn.result (until c.args.number c.args.place) c.loop-left.left c.turn.ensures.turned c.in-Idle.is
+    (task_idles c.loop-left.self c.turn.new.self c.loop-left.work c.turn.new.work c.args.number c.turn.result (until c.args.number c.args.place) c.loop-left.left c.turn.ensures.notes c.turn.ensures.turned c.in-Idle.is
     (λ scripts s shows tells none. until_move (config_of c.loop-left.self) scripts s c.args.number c.args.place (stands_shown c.loop-left.self c.loop-left.work c.args.number c.args.place (plain_within c.args.self.now c.loop-left.self c.args.number c.loop-left.invariant.config c.requires.number) scripts s shows tells ∙ sym c.is_at_place.ensures ∙ c.if-not-is_at_place.true) ∙ ap (λ e. moves e (until c.args.number c.args.place ∷ [])) none) tasks from)
 
 pub loop-left-preserved : goal.loop-left-preserved
@@ -21,7 +22,7 @@ loop-left-preserved c = record {
   config = c.turn.ensures.config ∙ c.loop-left.invariant.config;
   runs = λ tasks from.
       runs_then c.args.self.now c.loop-left.self c.turn.new.self c.args.work.now c.loop-left.work c.turn.new.work _ (agenda (until c.args.number c.args.place ∷ tasks) from) (agenda (until c.args.number c.args.place ∷ tasks) from) _ c.loop-left.left _ c.loop-left.invariant.config (c.loop-left.invariant.runs tasks from)
-      (task_moves c.loop-left.self c.turn.new.self c.loop-left.work c.turn.new.work c.args.number c.turn.result (until c.args.number c.args.place) (until c.args.number c.args.place ∷ []) c.loop-left.left c.turn.ensures.turned c.in_default.not-Idle c.loop-left-test.true
+      (task_moves c.loop-left.self c.turn.new.self c.loop-left.work c.turn.new.work c.args.number c.turn.result (until c.args.number c.args.place) (until c.args.number c.args.place ∷ []) c.loop-left.left c.turn.ensures.notes c.turn.ensures.turned c.in_default.not-Idle c.loop-left-test.true
       (λ scripts s shows tells waits. until_move (config_of c.loop-left.self) scripts s c.args.number c.args.place (stands_shown c.loop-left.self c.loop-left.work c.args.number c.args.place (plain_within c.args.self.now c.loop-left.self c.args.number c.loop-left.invariant.config c.requires.number) scripts s shows tells ∙ sym c.is_at_place.ensures ∙ c.if-not-is_at_place.true)) tasks from);
 }
 

@@ -105,7 +105,7 @@ returns-then-is_idle-clause-idle c =
 pub returns-then-is_idle-clause-unchanged : goal.returns-then-is_idle-clause-unchanged
 returns-then-is_idle-clause-unchanged c = λ none.
     let back = put_back c.args.self.now.machines.items c.args.number c.index_mut-machine.result.now c.index_mut-machine.ensures.value in
-    record { config = refl; words = refl; machines = ap (map shown) back; orders = ap (map order_of) back }
+    record { config = refl; words = refl; machines = ap (map shown) back; orders = ap (map order_of) back; notes = refl }
 
 pub returns-then-is_idle-clause-event : goal.returns-then-is_idle-clause-event
 returns-then-is_idle-clause-event c =

@@ -7,22 +7,23 @@ use Rattle.shen_core.specs.State.{order_at, machines_of}
 use Rattle.shen_core.specs.Progress.{CanRun, IsTurn, IsNextTurn, HasTurned}
 use Rattle.shen_core.proofs.Turns.{machine_within, role_shown}
 use Rattle.shen_core.proofs.Noted.{IsStepped, can_run_on, can_run_noted, turned_on, turned_noted, none_given, reply_given, has_reply, can_tell}
+use Rattle.shen_core.proofs.Noting.{turn_kept}
 use Rattle.shen_core.proofs.plain.Plain.turn.Goals as goal
 
 pub reply-requires-clause-ended : goal.reply-requires-clause-ended
 reply-requires-clause-ended c =
     let p = c.args.self.now in
     let here = machine_within (machines_of p) c.args.number (omega (arith, length-map p.machines.items shown, p.all_machines, c.requires.number)) in
-    let has = c.order_next.ensures.has ∙ c.if-not-order_next.false in
-    let facts : IsStepped p c.order_next.new.self c.step-stepped.new.self c.args.work.now c.args.number c.step-stepped.result = record {
+    let has = c.order_noted.ensures.has ∙ c.if-not-order_noted.false in
+    let facts : IsStepped p c.order_noted.new.self c.step-stepped.new.self c.args.work.now c.args.number c.step-stepped.result = record {
       within = omega (arith, length-map p.machines.items shown, p.all_machines, c.requires.number);
-      mid_words = c.order_next.ensures.words;
-      mid_machines = c.order_next.ensures.machines;
-      mid_config = c.order_next.ensures.config;
-      mid_orders = c.order_next.ensures.orders;
+      mid_words = c.order_noted.ensures.words;
+      mid_machines = c.order_noted.ensures.machines;
+      mid_config = c.order_noted.ensures.config;
+      mid_orders = c.order_noted.ensures.orders;
       role = role_shown p.config p.words.items _ c.args.number _ p.reached here;
-      turn = subst (λ b. IsTurn p c.args.work.now c.args.number b (order_at c.order_next.new.self c.args.number)) c.if-not-order_next.false c.order_next.ensures.turn;
-      next = subst (λ b. IsNextTurn p c.args.work.now c.args.number b (order_at c.order_next.new.self c.args.number)) c.if-not-order_next.false c.order_next.ensures.next;
+      turn = subst (λ b. IsTurn p c.args.work.now c.args.number b (order_at c.order_noted.new.self c.args.number)) c.if-not-order_noted.false c.order_noted.ensures.turn;
+      next = subst (λ b. IsNextTurn p c.args.work.now c.args.number b (order_at c.order_noted.new.self c.args.number)) c.if-not-order_noted.false c.order_noted.ensures.next;
       has = has;
       event = c.step-stepped.ensures.event has;
       says = c.step-stepped.ensures.says has;
@@ -36,16 +37,16 @@ pub told-requires-clause-script : goal.told-requires-clause-script
 told-requires-clause-script c =
     let p = c.args.self.now in
     let here = machine_within (machines_of p) c.args.number (omega (arith, length-map p.machines.items shown, p.all_machines, c.requires.number)) in
-    let has = c.order_next.ensures.has ∙ c.if-not-order_next.false in
-    let facts : IsStepped p c.order_next.new.self c.step-stepped.new.self c.args.work.now c.args.number c.step-stepped.result = record {
+    let has = c.order_noted.ensures.has ∙ c.if-not-order_noted.false in
+    let facts : IsStepped p c.order_noted.new.self c.step-stepped.new.self c.args.work.now c.args.number c.step-stepped.result = record {
       within = omega (arith, length-map p.machines.items shown, p.all_machines, c.requires.number);
-      mid_words = c.order_next.ensures.words;
-      mid_machines = c.order_next.ensures.machines;
-      mid_config = c.order_next.ensures.config;
-      mid_orders = c.order_next.ensures.orders;
+      mid_words = c.order_noted.ensures.words;
+      mid_machines = c.order_noted.ensures.machines;
+      mid_config = c.order_noted.ensures.config;
+      mid_orders = c.order_noted.ensures.orders;
       role = role_shown p.config p.words.items _ c.args.number _ p.reached here;
-      turn = subst (λ b. IsTurn p c.args.work.now c.args.number b (order_at c.order_next.new.self c.args.number)) c.if-not-order_next.false c.order_next.ensures.turn;
-      next = subst (λ b. IsNextTurn p c.args.work.now c.args.number b (order_at c.order_next.new.self c.args.number)) c.if-not-order_next.false c.order_next.ensures.next;
+      turn = subst (λ b. IsTurn p c.args.work.now c.args.number b (order_at c.order_noted.new.self c.args.number)) c.if-not-order_noted.false c.order_noted.ensures.turn;
+      next = subst (λ b. IsNextTurn p c.args.work.now c.args.number b (order_at c.order_noted.new.self c.args.number)) c.if-not-order_noted.false c.order_noted.ensures.next;
       has = has;
       event = c.step-stepped.ensures.event has;
       says = c.step-stepped.ensures.says has;
@@ -59,16 +60,16 @@ pub told-requires-clause-more : goal.told-requires-clause-more
 told-requires-clause-more c =
     let p = c.args.self.now in
     let here = machine_within (machines_of p) c.args.number (omega (arith, length-map p.machines.items shown, p.all_machines, c.requires.number)) in
-    let has = c.order_next.ensures.has ∙ c.if-not-order_next.false in
-    let facts : IsStepped p c.order_next.new.self c.step-stepped.new.self c.args.work.now c.args.number c.step-stepped.result = record {
+    let has = c.order_noted.ensures.has ∙ c.if-not-order_noted.false in
+    let facts : IsStepped p c.order_noted.new.self c.step-stepped.new.self c.args.work.now c.args.number c.step-stepped.result = record {
       within = omega (arith, length-map p.machines.items shown, p.all_machines, c.requires.number);
-      mid_words = c.order_next.ensures.words;
-      mid_machines = c.order_next.ensures.machines;
-      mid_config = c.order_next.ensures.config;
-      mid_orders = c.order_next.ensures.orders;
+      mid_words = c.order_noted.ensures.words;
+      mid_machines = c.order_noted.ensures.machines;
+      mid_config = c.order_noted.ensures.config;
+      mid_orders = c.order_noted.ensures.orders;
       role = role_shown p.config p.words.items _ c.args.number _ p.reached here;
-      turn = subst (λ b. IsTurn p c.args.work.now c.args.number b (order_at c.order_next.new.self c.args.number)) c.if-not-order_next.false c.order_next.ensures.turn;
-      next = subst (λ b. IsNextTurn p c.args.work.now c.args.number b (order_at c.order_next.new.self c.args.number)) c.if-not-order_next.false c.order_next.ensures.next;
+      turn = subst (λ b. IsTurn p c.args.work.now c.args.number b (order_at c.order_noted.new.self c.args.number)) c.if-not-order_noted.false c.order_noted.ensures.turn;
+      next = subst (λ b. IsNextTurn p c.args.work.now c.args.number b (order_at c.order_noted.new.self c.args.number)) c.if-not-order_noted.false c.order_noted.ensures.next;
       has = has;
       event = c.step-stepped.ensures.event has;
       says = c.step-stepped.ensures.says has;
@@ -82,16 +83,16 @@ pub returns-in-Done-clause-run : goal.returns-in-Done-clause-run
 returns-in-Done-clause-run c =
     let p = c.args.self.now in
     let here = machine_within (machines_of p) c.args.number (omega (arith, length-map p.machines.items shown, p.all_machines, c.requires.number)) in
-    let has = c.order_next.ensures.has ∙ c.if-not-order_next.false in
-    let facts : IsStepped p c.order_next.new.self c.step-stepped.new.self c.args.work.now c.args.number c.step-stepped.result = record {
+    let has = c.order_noted.ensures.has ∙ c.if-not-order_noted.false in
+    let facts : IsStepped p c.order_noted.new.self c.step-stepped.new.self c.args.work.now c.args.number c.step-stepped.result = record {
       within = omega (arith, length-map p.machines.items shown, p.all_machines, c.requires.number);
-      mid_words = c.order_next.ensures.words;
-      mid_machines = c.order_next.ensures.machines;
-      mid_config = c.order_next.ensures.config;
-      mid_orders = c.order_next.ensures.orders;
+      mid_words = c.order_noted.ensures.words;
+      mid_machines = c.order_noted.ensures.machines;
+      mid_config = c.order_noted.ensures.config;
+      mid_orders = c.order_noted.ensures.orders;
       role = role_shown p.config p.words.items _ c.args.number _ p.reached here;
-      turn = subst (λ b. IsTurn p c.args.work.now c.args.number b (order_at c.order_next.new.self c.args.number)) c.if-not-order_next.false c.order_next.ensures.turn;
-      next = subst (λ b. IsNextTurn p c.args.work.now c.args.number b (order_at c.order_next.new.self c.args.number)) c.if-not-order_next.false c.order_next.ensures.next;
+      turn = subst (λ b. IsTurn p c.args.work.now c.args.number b (order_at c.order_noted.new.self c.args.number)) c.if-not-order_noted.false c.order_noted.ensures.turn;
+      next = subst (λ b. IsNextTurn p c.args.work.now c.args.number b (order_at c.order_noted.new.self c.args.number)) c.if-not-order_noted.false c.order_noted.ensures.next;
       has = has;
       event = c.step-stepped.ensures.event has;
       says = c.step-stepped.ensures.says has;
@@ -106,16 +107,16 @@ pub returns-in-Done-clause-turned : goal.returns-in-Done-clause-turned
 returns-in-Done-clause-turned c =
     let p = c.args.self.now in
     let here = machine_within (machines_of p) c.args.number (omega (arith, length-map p.machines.items shown, p.all_machines, c.requires.number)) in
-    let has = c.order_next.ensures.has ∙ c.if-not-order_next.false in
-    let facts : IsStepped p c.order_next.new.self c.step-stepped.new.self c.args.work.now c.args.number c.step-stepped.result = record {
+    let has = c.order_noted.ensures.has ∙ c.if-not-order_noted.false in
+    let facts : IsStepped p c.order_noted.new.self c.step-stepped.new.self c.args.work.now c.args.number c.step-stepped.result = record {
       within = omega (arith, length-map p.machines.items shown, p.all_machines, c.requires.number);
-      mid_words = c.order_next.ensures.words;
-      mid_machines = c.order_next.ensures.machines;
-      mid_config = c.order_next.ensures.config;
-      mid_orders = c.order_next.ensures.orders;
+      mid_words = c.order_noted.ensures.words;
+      mid_machines = c.order_noted.ensures.machines;
+      mid_config = c.order_noted.ensures.config;
+      mid_orders = c.order_noted.ensures.orders;
       role = role_shown p.config p.words.items _ c.args.number _ p.reached here;
-      turn = subst (λ b. IsTurn p c.args.work.now c.args.number b (order_at c.order_next.new.self c.args.number)) c.if-not-order_next.false c.order_next.ensures.turn;
-      next = subst (λ b. IsNextTurn p c.args.work.now c.args.number b (order_at c.order_next.new.self c.args.number)) c.if-not-order_next.false c.order_next.ensures.next;
+      turn = subst (λ b. IsTurn p c.args.work.now c.args.number b (order_at c.order_noted.new.self c.args.number)) c.if-not-order_noted.false c.order_noted.ensures.turn;
+      next = subst (λ b. IsNextTurn p c.args.work.now c.args.number b (order_at c.order_noted.new.self c.args.number)) c.if-not-order_noted.false c.order_noted.ensures.next;
       has = has;
       event = c.step-stepped.ensures.event has;
       says = c.step-stepped.ensures.says has;
@@ -130,16 +131,16 @@ pub returns-in_default-clause-run : goal.returns-in_default-clause-run
 returns-in_default-clause-run c =
     let p = c.args.self.now in
     let here = machine_within (machines_of p) c.args.number (omega (arith, length-map p.machines.items shown, p.all_machines, c.requires.number)) in
-    let has = c.order_next.ensures.has ∙ c.if-not-order_next.false in
-    let facts : IsStepped p c.order_next.new.self c.step-stepped.new.self c.args.work.now c.args.number c.step-stepped.result = record {
+    let has = c.order_noted.ensures.has ∙ c.if-not-order_noted.false in
+    let facts : IsStepped p c.order_noted.new.self c.step-stepped.new.self c.args.work.now c.args.number c.step-stepped.result = record {
       within = omega (arith, length-map p.machines.items shown, p.all_machines, c.requires.number);
-      mid_words = c.order_next.ensures.words;
-      mid_machines = c.order_next.ensures.machines;
-      mid_config = c.order_next.ensures.config;
-      mid_orders = c.order_next.ensures.orders;
+      mid_words = c.order_noted.ensures.words;
+      mid_machines = c.order_noted.ensures.machines;
+      mid_config = c.order_noted.ensures.config;
+      mid_orders = c.order_noted.ensures.orders;
       role = role_shown p.config p.words.items _ c.args.number _ p.reached here;
-      turn = subst (λ b. IsTurn p c.args.work.now c.args.number b (order_at c.order_next.new.self c.args.number)) c.if-not-order_next.false c.order_next.ensures.turn;
-      next = subst (λ b. IsNextTurn p c.args.work.now c.args.number b (order_at c.order_next.new.self c.args.number)) c.if-not-order_next.false c.order_next.ensures.next;
+      turn = subst (λ b. IsTurn p c.args.work.now c.args.number b (order_at c.order_noted.new.self c.args.number)) c.if-not-order_noted.false c.order_noted.ensures.turn;
+      next = subst (λ b. IsNextTurn p c.args.work.now c.args.number b (order_at c.order_noted.new.self c.args.number)) c.if-not-order_noted.false c.order_noted.ensures.next;
       has = has;
       event = c.step-stepped.ensures.event has;
       says = c.step-stepped.ensures.says has;
@@ -153,16 +154,16 @@ pub returns-in_default-clause-turned : goal.returns-in_default-clause-turned
 returns-in_default-clause-turned c =
     let p = c.args.self.now in
     let here = machine_within (machines_of p) c.args.number (omega (arith, length-map p.machines.items shown, p.all_machines, c.requires.number)) in
-    let has = c.order_next.ensures.has ∙ c.if-not-order_next.false in
-    let facts : IsStepped p c.order_next.new.self c.step-stepped.new.self c.args.work.now c.args.number c.step-stepped.result = record {
+    let has = c.order_noted.ensures.has ∙ c.if-not-order_noted.false in
+    let facts : IsStepped p c.order_noted.new.self c.step-stepped.new.self c.args.work.now c.args.number c.step-stepped.result = record {
       within = omega (arith, length-map p.machines.items shown, p.all_machines, c.requires.number);
-      mid_words = c.order_next.ensures.words;
-      mid_machines = c.order_next.ensures.machines;
-      mid_config = c.order_next.ensures.config;
-      mid_orders = c.order_next.ensures.orders;
+      mid_words = c.order_noted.ensures.words;
+      mid_machines = c.order_noted.ensures.machines;
+      mid_config = c.order_noted.ensures.config;
+      mid_orders = c.order_noted.ensures.orders;
       role = role_shown p.config p.words.items _ c.args.number _ p.reached here;
-      turn = subst (λ b. IsTurn p c.args.work.now c.args.number b (order_at c.order_next.new.self c.args.number)) c.if-not-order_next.false c.order_next.ensures.turn;
-      next = subst (λ b. IsNextTurn p c.args.work.now c.args.number b (order_at c.order_next.new.self c.args.number)) c.if-not-order_next.false c.order_next.ensures.next;
+      turn = subst (λ b. IsTurn p c.args.work.now c.args.number b (order_at c.order_noted.new.self c.args.number)) c.if-not-order_noted.false c.order_noted.ensures.turn;
+      next = subst (λ b. IsNextTurn p c.args.work.now c.args.number b (order_at c.order_noted.new.self c.args.number)) c.if-not-order_noted.false c.order_noted.ensures.next;
       has = has;
       event = c.step-stepped.ensures.event has;
       says = c.step-stepped.ensures.says has;
@@ -172,41 +173,47 @@ returns-in_default-clause-turned c =
     } in
     turned_on _ _ _ _ _ _ facts (none_given _ _ _ _ _ _ facts (λ done. c.in_default.not-Done done))
 
-pub order_next-requires-clause-number : goal.order_next-requires-clause-number
-order_next-requires-clause-number c = c.requires.number
+pub order_noted-requires-clause-number : goal.order_noted-requires-clause-number
+order_noted-requires-clause-number c = c.requires.number
 
-pub order_next-requires-clause-run : goal.order_next-requires-clause-run
-order_next-requires-clause-run c = c.requires.run
+pub order_noted-requires-clause-run : goal.order_noted-requires-clause-run
+order_noted-requires-clause-run c = c.requires.run
 
-pub returns-then-not-order_next-clause-config : goal.returns-then-not-order_next-clause-config
-returns-then-not-order_next-clause-config c = c.order_next.ensures.config
+pub returns-then-not-order_noted-clause-config : goal.returns-then-not-order_noted-clause-config
+returns-then-not-order_noted-clause-config c = c.order_noted.ensures.config
 
-pub returns-then-not-order_next-clause-idle_work : goal.returns-then-not-order_next-clause-idle_work
-returns-then-not-order_next-clause-idle_work c = λ _. refl
+pub returns-then-not-order_noted-clause-idle_work : goal.returns-then-not-order_noted-clause-idle_work
+returns-then-not-order_noted-clause-idle_work c = λ _. refl
 
 pub reply-requires-clause-number : goal.reply-requires-clause-number
-reply-requires-clause-number c = subst (λ k. c.args.number < seat_count k.mutators k.helpers) (sym (c.step-stepped.ensures.config ∙ c.order_next.ensures.config)) c.requires.number
+reply-requires-clause-number c = subst (λ k. c.args.number < seat_count k.mutators k.helpers) (sym (c.step-stepped.ensures.config ∙ c.order_noted.ensures.config)) c.requires.number
 
 pub step-stepped-requires : goal.step-stepped-requires
-step-stepped-requires c = subst (λ k. c.args.number < seat_count k.mutators k.helpers) (sym c.order_next.ensures.config) c.requires.number
+step-stepped-requires c = subst (λ k. c.args.number < seat_count k.mutators k.helpers) (sym c.order_noted.ensures.config) c.requires.number
 
 pub returns-in-Done-clause-config : goal.returns-in-Done-clause-config
-returns-in-Done-clause-config c = c.step-stepped.ensures.config ∙ c.order_next.ensures.config
+returns-in-Done-clause-config c = c.step-stepped.ensures.config ∙ c.order_noted.ensures.config
 
 pub returns-in-Done-clause-idle : goal.returns-in-Done-clause-idle
-returns-in-Done-clause-idle c = λ idle. absurd (false≢true (sym (c.step-stepped.ensures.idle.0 idle) ∙ c.order_next.ensures.has ∙ c.if-not-order_next.false))
+returns-in-Done-clause-idle c = λ idle. absurd (false≢true (sym (c.step-stepped.ensures.idle.0 idle) ∙ c.order_noted.ensures.has ∙ c.if-not-order_noted.false))
 
 pub returns-in-Done-clause-idle_work : goal.returns-in-Done-clause-idle_work
-returns-in-Done-clause-idle_work c = λ idle. absurd (false≢true (sym (c.step-stepped.ensures.idle.0 idle) ∙ c.order_next.ensures.has ∙ c.if-not-order_next.false))
+returns-in-Done-clause-idle_work c = λ idle. absurd (false≢true (sym (c.step-stepped.ensures.idle.0 idle) ∙ c.order_noted.ensures.has ∙ c.if-not-order_noted.false))
 
 pub returns-in_default-clause-config : goal.returns-in_default-clause-config
-returns-in_default-clause-config c = c.step-stepped.ensures.config ∙ c.order_next.ensures.config
+returns-in_default-clause-config c = c.step-stepped.ensures.config ∙ c.order_noted.ensures.config
 
 pub returns-in_default-clause-idle : goal.returns-in_default-clause-idle
-returns-in_default-clause-idle c = λ idle. absurd (false≢true (sym (c.step-stepped.ensures.idle.0 idle) ∙ c.order_next.ensures.has ∙ c.if-not-order_next.false))
+returns-in_default-clause-idle c = λ idle. absurd (false≢true (sym (c.step-stepped.ensures.idle.0 idle) ∙ c.order_noted.ensures.has ∙ c.if-not-order_noted.false))
 
 pub returns-in_default-clause-idle_work : goal.returns-in_default-clause-idle_work
 returns-in_default-clause-idle_work c = λ _. refl
 
-pub returns-then-not-order_next-clause-idle : goal.returns-then-not-order_next-clause-idle
-returns-then-not-order_next-clause-idle c = λ _. record { config = c.order_next.ensures.config; words = c.order_next.ensures.words; machines = c.order_next.ensures.machines; orders = c.order_next.ensures.unchanged c.if-not-order_next.true }
+pub returns-then-not-order_noted-clause-idle : goal.returns-then-not-order_noted-clause-idle
+returns-then-not-order_noted-clause-idle c = λ _. record { config = c.order_noted.ensures.config; words = c.order_noted.ensures.words; machines = c.order_noted.ensures.machines; orders = c.order_noted.ensures.unchanged c.if-not-order_noted.true; notes = c.order_noted.ensures.none c.if-not-order_noted.true }
+
+pub returns-in-Done-clause-notes : goal.returns-in-Done-clause-notes
+returns-in-Done-clause-notes c = turn_kept c.args.self.now c.order_noted.new.self c.step-stepped.new.self c.args.work.now c.args.number c.order_noted.ensures.notes c.step-stepped.ensures.notes
+
+pub returns-in_default-clause-notes : goal.returns-in_default-clause-notes
+returns-in_default-clause-notes c = turn_kept c.args.self.now c.order_noted.new.self c.step-stepped.new.self c.args.work.now c.args.number c.order_noted.ensures.notes c.step-stepped.ensures.notes

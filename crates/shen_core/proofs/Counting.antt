@@ -1,0 +1,166 @@
+-- A run settles no more entries than its scripts have commands.
+use Rattle.std.proofs.Common.{◌≡◌, ◌≢◌, ◌<◌, ◌≤◌, ℕ, zero, suc, ◌+◌, ◌-◌, Bool, true, false, List, [], ◌∷◌, ◌++◌, length, map, All, Option, Some, None, refl, sym, ap, ◌∙◌, subst, append_assoc, arith}
+use Rattle.std.specs.Prelude.{◌==◌, slice_get, sum_by, if◌then◌else◌}
+use Rattle.std.specs.List.{range_with_len}
+use Rattle.std.proofs.lemmas.Bool.{false≢true, cases_Bool, eqb-true, eq-eqb}
+use Rattle.std.proofs.lemmas.List.{append-nil, length-append, length-map}
+use Rattle.std.proofs.lemmas.Option.{slice_get-map, get_or_from_slice_get}
+use Rattle.std.proofs.lemmas.Bool.Decides.{nat_tests}
+use Rattle.std.specs.Option.{option_map}
+use Rattle.std.proofs.lemmas.List.Elements.{All-head, All-tail, filter-append}
+use Rattle.packing.specs.Tops.{sum_below}
+use Rattle.packing.proofs.Sums.{sum_both, sum_of_one, sum_same}
+use Rattle.step_core.proofs.Crowds.{sum_below_le, sum_by_range}
+use Rattle.heap_machines.specs.Pause.{pause_image}
+use Rattle.heap_machines.proofs.Pauses.{heap_pauses}
+use Rattle.heap_words.specs.declared.config.Config.{Config}
+use Rattle.heap_words.specs.Words.{Answer, view}
+use Rattle.steps_base.specs.Steps.{Stage, Event, go}
+use Rattle.steps_base.proofs.Runs.{go-append}
+use Rattle.shen_graph.specs.declared.order.Order.{Order}
+use Rattle.shen_graph.specs.declared.command.Command.{Command}
+use Rattle.shen_graph.specs.declared.command.Reply.{Reply}
+use Rattle.shen_graph.specs.History.{Entry, of_thread}
+use Rattle.shen_graph.specs.Noting.{Noting}
+use Rattle.shen_graph.specs.Work as work
+use Rattle.mutator.specs.Orders.{is_between_calls}
+use Rattle.mutator.specs.Rows.{Mutating}
+use Rattle.heap_machines.specs.Shown.{no_machine}
+use Rattle.step_core.specs.Actor.{mutating, Actor, entries_of}
+use Rattle.step_core.specs.Machines.{kind, is_resting}
+use Rattle.step_core.specs.Begins.{Run, ending, history_in}
+use Rattle.step_core.specs.History.{history}
+use Rattle.step_core.specs.Schedule.{Scripts}
+use Rattle.step_core.specs.Sound.{IsSound}
+use Rattle.step_core.specs.Threads.{IsSettled}
+use Rattle.step_core.proofs.Theorem.{run_sound}
+use Rattle.shen_core.specs.declared.plain.Plain.{Plain}
+use Rattle.shen_core.specs.State.{config_of, machines_of, machine_at, Shows}
+use Rattle.shen_core.specs.Progress.{Jobs, Tells, CanRun}
+use Rattle.shen_core.specs.Noting.{with_entry, noted, commands_in}
+use Rattle.shen_core.proofs.Noting.{IsNoted}
+use Rattle.shen_core.proofs.Settles.{history_both}
+
+-- with one entry more a thread has one more, or as many
+abbrev one : Entry → ℕ → ℕ
+one e t = if e.thread == t + 1 then 1 else 0
+
+more : (b : Bool) (e : Entry) (es : List Entry) → length (if b then e ∷ es else es) ≡ (if b then 1 else 0) + length es
+more true e es = omega arith
+more false e es = omega arith
+
+thread_more : (e : Entry) (es : List Entry) (t : ℕ) → length (of_thread (e ∷ es) (t + 1)) ≡ one e t + length (of_thread es (t + 1))
+thread_more e es t = more (e.thread == t + 1) e (of_thread es (t + 1))
+
+one_at : (e : Entry) (t : ℕ) → e.thread ≡ t + 1 → one e t ≡ 1
+one_at e t is = ap (λ b. if b then 1 else 0) (eq-eqb e.thread (t + 1) is)
+
+one_off : (e : Entry) (t : ℕ) → e.thread ≢ t + 1 → one e t ≡ 0
+one_off e t differs = by_test (e.thread == t + 1) refl
+  where
+    by_test : (b : Bool) → (e.thread == t + 1) ≡ b → one e t ≡ 0
+    by_test true same = absurd (differs (eqb-true e.thread (t + 1) same))
+    by_test false other = ap (λ b. if b then 1 else 0) other
+
+-- entries are those of their threads
+counted : (n : ℕ) (es : List Entry) → All (IsSettled n) es → length es ≤ sum_below (λ t. length (of_thread es (t + 1))) n
+counted n [] all = omega arith
+counted n (e ∷ es) all =
+    let settled = All-head (IsSettled n) e es all in
+    let q : ℕ = e.thread - 1 in
+    let least = settled.least in
+    let most = settled.most in
+    let below : q < n = omega (arith, least, most) in
+    let at : one e q ≡ 1 = one_at e q (omega (arith, least)) in
+    let sum : sum_below (one e) n ≡ one e q = sum_of_one (one e) n q below (λ k small differs. one_off e k (λ same. differs (omega (arith, same)))) in
+    let both = sum_both (one e) (λ t. length (of_thread es (t + 1))) n in
+    let same = sum_same (λ t. length (of_thread (e ∷ es) (t + 1))) (λ t. one e t + length (of_thread es (t + 1))) n (λ t small. thread_more e es t) in
+    let rest = counted n es (All-tail (IsSettled n) e es all) in
+    omega (arith, at, sum, both, same, rest)
+
+all_right : {X : Type 0} (P : X → Type 0) (xs ys : List X) → All P (xs ++ ys) → All P ys
+all_right P [] ys all = all
+all_right P (x ∷ xs) ys all = all_right P xs ys (All-tail P x (xs ++ ys) all)
+
+few : (seat : ℕ) (command : Command) (o : Option Reply) → length (entries_of seat command o) ≤ 1
+few seat command None = omega arith
+few seat command (Some r) = omega arith
+
+-- What events settle from a stage of a run on, where memory shows the stage after them.
+module _ (c : Config) (run : Run c) (es : List (Event Order)) (scripts : Scripts) (q : Plain) (jobs later : Jobs) (config : config_of q ≡ c) (shows : Shows q (go (kind pause_image c) (ending pause_image c run) es))
+    (before : Tells c scripts jobs (ending pause_image c run)) (after : Tells c scripts later (go (kind pause_image c) (ending pause_image c run) es)) (can : CanRun q later)
+    (within : (t : ℕ) → t < c.mutators → length (work.replies_of later t) ≤ length (work.script_in later t)) where
+  abbrev h : List Entry
+  h = history pause_image c (ending pause_image c run) es
+
+  -- the run with these events
+  abbrev longer : Run c
+  longer = record { start = run.start; graph = run.graph; begins = run.begins; events = run.events ++ es }
+
+  ends : ending pause_image c longer ≡ go (kind pause_image c) (ending pause_image c run) es
+  ends = go-append (kind pause_image c) run.start run.events es
+
+  past : history_in pause_image c longer ≡ history_in pause_image c run ++ h
+  past = history_both c run.start run.events es
+
+  sound : IsSound c run.graph (ending pause_image c longer) (history_in pause_image c longer)
+  sound = run_sound pause_image heap_pauses c longer
+
+  -- all entries are of threads of the heap
+  entries : All (IsSettled c.mutators) h
+  entries = all_right (IsSettled c.mutators) (history_in pause_image c run) h (subst (λ xs. All (IsSettled c.mutators) xs) past sound.entries)
+
+  -- a thread has no more of them than commands
+  each : (t : ℕ) → t < c.mutators → length (of_thread h (t + 1)) ≤ length (work.script_in jobs t)
+  each t below =
+      let found = sound.of_heap.mutators t below in
+      let a = found.actor in
+      let m = found.mutator in
+      let calls = sound.threads t a m found.here in
+      let here : slice_get (go (kind pause_image c) (ending pause_image c run) es).machines t ≡ Some a = ap (λ (s : Stage Actor). slice_get s.machines t) (sym ends) ∙ found.here.here in
+      let replies = ap length (after.replies t a below here) ∙ length-map a.calls (λ e. e.reply) in
+      let script = ap length (after.scripts_are t below ∙ sym (before.scripts_are t below)) in
+      let split = ap length (sym calls.entries_are ∙ ap (λ xs. of_thread xs (t + 1)) past ∙ filter-append (λ e. e.thread == t + 1) (history_in pause_image c run) h) in
+      let both = length-append a.calls (entries_of t a.command calls.fixed) in
+      let parts = length-append (of_thread (history_in pause_image c run) (t + 1)) (of_thread h (t + 1)) in
+      let enough = within t below in
+      by_rest a m here found.here.is calls.fixed calls.between_calls (is_between_calls m.spot) refl replies script split both parts enough
+    where
+      by_rest : (a : Actor) (m : Mutating) → slice_get (go (kind pause_image c) (ending pause_image c run) es).machines t ≡ Some a → a.machine ≡ mutating m → (fixed : Option Reply) → (is_between_calls m.spot ≡ true → fixed ≡ None)
+          → (b : Bool) → is_between_calls m.spot ≡ b → length (work.replies_of later t) ≡ length a.calls → length (work.script_in later t) ≡ length (work.script_in jobs t)
+          → length (a.calls ++ entries_of t a.command fixed) ≡ length (of_thread (history_in pause_image c run) (t + 1) ++ of_thread h (t + 1))
+          → length (a.calls ++ entries_of t a.command fixed) ≡ length a.calls + length (entries_of t a.command fixed)
+          → length (of_thread (history_in pause_image c run) (t + 1) ++ of_thread h (t + 1)) ≡ length (of_thread (history_in pause_image c run) (t + 1)) + length (of_thread h (t + 1))
+          → length (work.replies_of later t) ≤ length (work.script_in later t) → length (of_thread h (t + 1)) ≤ length (work.script_in jobs t)
+      by_rest a m here is fixed between true rest replies script split both parts enough =
+          let none : length (entries_of t a.command fixed) ≡ 0 = ap (λ o. length (entries_of t a.command o)) (between rest) in
+          omega (arith, replies, script, split, both, parts, enough, none)
+      by_rest a m here is fixed between false busy replies script split both parts enough =
+          let at : slice_get (machines_of q) t ≡ Some (mutating m) = sym (ap (λ ms. slice_get ms t) shows.machines_are) ∙ slice_get-map (λ (x : Actor). x.machine) (go (kind pause_image c) (ending pause_image c run) es).machines t
+          ∙ ap (option_map (λ (x : Actor). x.machine)) here ∙ ap Some is in
+          let machine : machine_at q t ≡ mutating m = get_or_from_slice_get (machines_of q) t (mutating m) no_machine at in
+          let short = can.busy t (subst (λ k. t < k.mutators) (sym config) below) (ap is_resting machine ∙ busy) in
+          let one_more = few t a.command fixed in
+          omega (arith, replies, script, split, both, parts, short, one_more)
+
+  pub settled_few : length h ≤ commands_in c jobs
+  settled_few =
+      let sums = sum_by_range (λ t. length (work.script_in jobs t)) 0 c.mutators in
+      let same = sum_same (λ k. length (work.script_in jobs (k + 0))) (λ k. length (work.script_in jobs k)) c.mutators (λ k small. ap (λ j. length (work.script_in jobs j)) (omega arith)) in
+      let less = sum_below_le (λ t. length (of_thread h (t + 1))) (λ t. length (work.script_in jobs t)) c.mutators each in
+      let all = counted c.mutators h entries in
+      omega (arith, sums, same, less, all)
+
+-- with memory for all entries, all are noted
+pub noted_all : (n : Noting) (es : List Entry) → length es ≤ n.spare → IsNoted n (noted n es) es
+unfolding noted
+noted_all n [] enough = record { list = sym (append-nil n.list); spare = omega arith }
+noted_all n (e ∷ es) enough =
+    let some : (n.spare == 0) ≡ false = grind (arith, nat_tests, enough) in
+    let next : with_entry n e ≡ record { list = n.list ++ e ∷ []; spare = n.spare - 1 } = rw some refl in
+    let rest = noted_all (record { list = n.list ++ e ∷ []; spare = n.spare - 1 }) es (omega (arith, enough)) in
+    subst (λ x. IsNoted n (noted x es) (e ∷ es)) (sym next)
+    (record {
+      list = rest.list ∙ append_assoc n.list (e ∷ []) es;
+      spare = (let spare = rest.spare in omega (arith, spare, enough));
+    })
