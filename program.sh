@@ -2,12 +2,17 @@
 # once it has set
 #   program      the name of its crate
 #   unasked      what the program writes without words and without input, by which a whole one is known
+#   refusal      the line by which the program refuses words
+#   page         the page that has the words
 #   reads_input  a function: whether these words make the program read its input
+#   may_be_words a function: whether the program may take these words, by which others are refused before anything is built
+#   help_text    a function, if the program has the word --help: writes what that writes; --version is then answered, too
 #
 # The proved program is the one that `rt ci`, or `rt run` in the crate's folder, has left there; a copy of the last one is kept
 # in out/, so that it runs at once, also while a later `rt ci` has set it aside. Where there is none, or a source has
 # changed since, `rt try` runs the program from its sources, unproved and slower, and a line on the standard error says so.
-# This proves nothing. Its own failures end with 1; any other status is the program's.
+# This proves nothing. Its own failures end with 1; any other status is the program's. Where the environment says SHENRUN_PROVED=1,
+# nothing is run that is not proved.
 
 say() {
     printf '%s: %s\n' "$program" "$1" >&2
@@ -19,7 +24,10 @@ sums=out/$program.sources         # the sums of the sources that it was made of
 room=                             # a folder for this call, once there is one
 
 finish() {
-    [ -z "$room" ] || rm -rf "$room"
+    if [ -n "$room" ]; then
+        chmod -R u+w "$room" 2>/dev/null
+        rm -rf "$room"
+    fi
     exit "$1"
 }
 trap 'finish 129' HUP
@@ -71,8 +79,39 @@ is_fresh() {
 
 # Ends as the program ended.
 end_with() {
-    [ "$1" -ne 2 ] || say "docs/FORMATS.md has the words that the program takes"
+    [ "$1" -ne 2 ] || say "$page has the words that the program takes"
     finish "$1"
+}
+
+# Whether a word is a number from 1 to this one, as a trace spells it.
+is_number() {
+    case $1 in
+        '' | *[!0-9]* | 0*) return 1 ;;
+    esac
+    [ "${#1}" -le 10 ] && [ "$1" -le "$2" ]
+}
+
+# Refuses words as the program does, before anything is built: those that are not UTF-8, and those that it does not take.
+judge() {
+    for word in "$@"; do
+        if printf '%s' "$word" | LC_ALL=C.UTF-8 grep -qaxv '.*'; then
+            finish 8
+        fi
+    done
+    if ! may_be_words "$@"; then
+        printf '%s\n' "$refusal"
+        end_with 2
+    fi
+}
+
+# Writes which text the program is of, and whether it is proved.
+version() {
+    kit=$( (rt version || echo 'kit unknown') 2>/dev/null)
+    commit=$(git rev-parse --short HEAD 2>/dev/null || echo none)
+    proof=unproved
+    if is_fresh; then proof=proved; fi
+    printf '%s, sum of the sources %s, commit %s, %s\n%s\n' "$program" "$(sums_now | cksum | cut -d ' ' -f 1)" "$commit" "$proof" "$kit"
+    finish 0
 }
 
 # Runs a proved program, in its own folder, so that the name by which it is called is short.
@@ -100,6 +139,10 @@ instead() {
 
 # Runs the program from its sources, without a proof.
 unproved() {
+    if [ "${SHENRUN_PROVED-}" = 1 ]; then
+        say "there is no proved program of these sources, and SHENRUN_PROVED=1 wants one (rt ci makes it)"
+        finish 1
+    fi
     command -v rt >/dev/null || instead "there is no rt on the path, and nothing else builds the program" "$@"
     room=$(mktemp -d 2>/dev/null) || instead "the folder ${TMPDIR:-/tmp} cannot be written" "$@"
     if [ -x "$kept" ] || [ -x "$left" ]; then
@@ -119,6 +162,7 @@ unproved() {
         mkdir -p "$room/$crate"
         cp -R "$crate/src" "$crate/specs" "$room/$crate" 2>/dev/null
     done
+    chmod -R u+w "$room"
     (cd "$room/crates/$program" && exec rt try --seconds 30 -- "$@") <"$room/trace" >"$room/answer" 2>"$room/said"
     status=$?
     case $(tail -n 1 "$room/said") in
@@ -136,9 +180,19 @@ unproved() {
 }
 
 take
+if command -v help_text >/dev/null; then
+    case $#:${1-} in
+        1:--version) version ;;
+        1:--help)
+            help_text
+            finish 0
+            ;;
+    esac
+fi
 if is_fresh; then
     proved "$kept" "$@"
 elif [ ! -w out/. ] && [ -x "$left" ] && ! is_outdated; then
     proved "$left" "$@"
 fi
+judge "$@"
 unproved "$@"

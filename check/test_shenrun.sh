@@ -105,6 +105,12 @@ echo answers >"$room/bin/says"
 call 'nothing is proved: rt try answers, and one line names rt ci' 0 12 'rt ci' 1 "$copy" replay
 [ "$(cat "$room/bin/called")" = 'try --seconds 30 -- replay' ] || { echo 'FAILED  how rt is called'; failed=1; }
 [ "$(wc -l <"$room/stderr")" -eq 1 ] || { echo 'FAILED  one line on the standard error'; failed=1; }
+call 'words that it does not take are refused before anything is built' 2 'bad words' 'docs/FORMATS.md' 0 "$copy" replay --steps 0
+call 'and a word that is not UTF-8, as the proved program does' 8 '' '' 0 "$copy" "$(printf '\377')"
+SHENRUN_PROVED=1
+export SHENRUN_PROVED
+call 'nothing that is not proved runs where that is asked for' 1 '' 'SHENRUN_PROVED=1' 0 "$copy" replay
+unset SHENRUN_PROVED
 echo unfinished >"$room/bin/says"
 call 'its bytes and status are kept' 4 'unfinished after 7 steps' 'not proved yet' 1 "$copy" replay --steps 7
 echo refuses >"$room/bin/says"
