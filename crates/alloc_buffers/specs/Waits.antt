@@ -13,7 +13,7 @@ WaitsAt (TakeRegion region) got = IsIn got region → ⊥
 WaitsAt _ got = ⊥
 
 -- A taking ends at TS, and at TF where of the free regions that are found none may be taken.
-abbrev pub EndsAt : Config → Kind → TakeSpot → ℕ → Type 0
-EndsAt c kind (StoreTop region top) got = Unit {0}
-EndsAt c kind LoadFree got = MayTakeNone c kind got
-EndsAt c kind _ got = ⊥
+abbrev pub TakingEndsAt : Config → Kind → TakeSpot → ℕ → Type 0
+TakingEndsAt c kind (StoreTop region top) got = Unit {0}
+TakingEndsAt c kind LoadFree got = MayTakeNone c kind got
+TakingEndsAt c kind _ got = ⊥

@@ -26,7 +26,7 @@ impl Take {
     ghost use Rattle.steps_base.specs.Touch.{placed};
     ghost use Rattle.alloc_buffers.specs.Rows.{place_at, touch_at, next_at, is_ended, says};
     ghost use Rattle.alloc_buffers.specs.Seen.{wanted, spot_of, IsFit};
-    ghost use Rattle.alloc_buffers.specs.Waits.{WaitsAt, EndsAt};
+    ghost use Rattle.alloc_buffers.specs.Waits.{WaitsAt, TakingEndsAt};
     ghost use Rattle.alloc_buffers.specs.Room.{MayTakeNone};
 
     /// A machine of a seat that wants 3 to 35 words.
@@ -72,7 +72,7 @@ impl Take {
         ensures says { result ≡ says (spot_of self.old) (spot_of self.new) }
 
         // The taking ends at TS, and at TF where no region may be taken, and its answer is there then.
-        ensures done { let w = wanted self.old in (result ≡ Took.Done) ↔ EndsAt w.config w.kind (spot_of self.old) got }
+        ensures done { let w = wanted self.old in (result ≡ Took.Done) ↔ TakingEndsAt w.config w.kind (spot_of self.old) got }
         ensures answered { result ≡ Took.Done → is_ended (spot_of self.new) ≡ true }
         ensures again { (result ≡ Took.Again) ↔ WaitsAt (spot_of self.old) got }
 

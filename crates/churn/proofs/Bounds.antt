@@ -14,8 +14,8 @@ use Rattle.shen_graph.specs.Reach.IsReachable.{from_root, from_field}
 use Rattle.shen_graph.proofs.Distinct.{distinct}
 use Rattle.shen_graph.proofs.PlainLemmas.{same_name-true}
 use Rattle.shen_graph.proofs.ReachLemmas.{same_name-laws, names_held, Contains-names_held, Contains-from_slice_get}
-use Rattle.churn.proofs.Parts.{IsThread, own, fields_of, field_of, IsBox, IsLeaf, IsLink, Tidy, name_of}
-use Rattle.churn.proofs.Runs.{thread_or_not}
+use Rattle.churn.proofs.Belongings.{IsThread, own, fields_of, field_of, IsBox, IsLeaf, IsLink, Tidy, name_of}
+use Rattle.churn.proofs.BelowTheHub.{thread_or_not}
 use Rattle.churn.proofs.Opening.{thread_cases}
 
 -- what a thread has in its roots for leaves, and in its box

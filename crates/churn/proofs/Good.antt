@@ -17,12 +17,12 @@ use Rattle.shen_graph.specs.Step.{Outcome, outcome, answers, shown}
 use Rattle.shen_graph.proofs.PlainLemmas.{same_name-itself}
 use Rattle.churn.specs.Script.{round, churn_script}
 use Rattle.churn.specs.Laws.{NoneIsBad}
-use Rattle.churn.proofs.Parts.{IsThread, own, fields_of, field_of, Tidy, Same-itself}
+use Rattle.churn.proofs.Belongings.{IsThread, own, fields_of, field_of, Tidy, Same-itself}
 use Rattle.churn.proofs.Moves.{root_case, object_case, field_case, with_slot, with_value, hub_with, eqb_itself, none_in}
-use Rattle.churn.proofs.Steps.{first-step}
-use Rattle.churn.proofs.Runs.{IsGiven, thread_or_not, of_thread-here, of_thread-there, after_given, solo}
+use Rattle.churn.proofs.Commands.{first-step}
+use Rattle.churn.proofs.BelowTheHub.{IsGiven, thread_or_not, of_thread-here, of_thread-there, after_given, solo}
 use Rattle.churn.proofs.Opening.{begins_none, tidy_opening, going_opening, script_is}
-use Rattle.churn.proofs.Turns.{AreOf, of_thread-are, given_of, replied, run_given}
+use Rattle.churn.proofs.OneAfterAnother.{AreOf, of_thread-are, given_of, replied, run_given}
 
 -- null, or an object with a number
 abbrev pub IsFilled : Graph → Reference → Type 0

@@ -1,12 +1,12 @@
 pub mod ScriptLemmas
-pub mod Parts
+pub mod Belongings
 pub mod Moves
-pub mod Steps
-pub mod Runs
+pub mod Commands
+pub mod BelowTheHub
 pub mod Opening
 pub mod Bounds
 pub mod Refusals
-pub mod Turns
+pub mod OneAfterAnother
 pub mod Numbers
 pub mod Sums
 pub mod Played

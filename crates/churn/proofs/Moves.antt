@@ -8,7 +8,7 @@ use Rattle.shen_graph.specs.declared.name.Name.{Name}
 use Rattle.shen_graph.specs.Graph.{Graph, Object, Reference, named, hub, same_name, with_root, with_object, with_named, with_fresh, blank}
 use Rattle.shen_graph.specs.Reach.{size}
 use Rattle.shen_graph.proofs.PlainLemmas.{same_name-true}
-use Rattle.churn.proofs.Parts.{IsThread, own, fields_of, field_of, IsBox, IsLeaf, IsLink, Same, Tidy, Fits, Same-itself, Same-join, name_of, named_same}
+use Rattle.churn.proofs.Belongings.{IsThread, own, fields_of, field_of, IsBox, IsLeaf, IsLink, Same, Tidy, Fits, Same-itself, Same-join, name_of, named_same}
 
 -- Two graphs go on from two that are the same to a thread, by a change of what belongs to it.
 pub record Moved (t : ℕ) (g h g' h' : Graph) : Type 0 where

@@ -16,11 +16,11 @@ use Rattle.shen_graph.specs.Graph.{Graph, Object, Reference, named, same_referen
 use Rattle.shen_graph.specs.Step.{Outcome, IsLegal, outcome, answers, on, shown, yes_or_no}
 use Rattle.shen_graph.specs.History.{Entry, after_entry, EachIsLegal, of_thread, commands_of, replies_of, Follows}
 use Rattle.churn.specs.Script.{round, churn_script, churn_scripts}
-use Rattle.churn.specs.Summary.{number_told}
+use Rattle.churn.specs.Summary.{number_summed}
 use Rattle.churn.specs.Laws.{in_turn}
-use Rattle.churn.proofs.Parts.{IsThread}
+use Rattle.churn.proofs.Belongings.{IsThread}
 use Rattle.churn.proofs.Moves.{object_case}
-use Rattle.churn.proofs.Runs.{of_thread-here, of_thread-there, thread_or_not}
+use Rattle.churn.proofs.BelowTheHub.{of_thread-here, of_thread-there, thread_or_not}
 use Rattle.churn.proofs.Opening.{script_is, script_none, all_append}
 
 -- no number of an object is above
@@ -37,7 +37,7 @@ WritesBelow most _ = Unit {0}
 
 -- no number is told above, and none is left
 pub record Below (most : ℕ) (o : Outcome) : Type 0 where
-  pub told : number_told o.reply ≤ most
+  pub told : number_summed o.reply ≤ most
   pub left : IsBelow most o.graph
 
 null_below : (most : ℕ) (g : Graph) (r : Reference) → IsBelow most g → AreBelow most (named g r)
@@ -80,11 +80,11 @@ on_below : {A : Type 0} (most : ℕ) (x : Option A) (g : Graph) (f : A → Outco
 on_below most None g f below each = record { told = omega arith; left = below }
 on_below most (Some v) g f below each = each v refl
 
-shown_below : (most : ℕ) (r : Reference) → number_told (shown r) ≤ most
+shown_below : (most : ℕ) (r : Reference) → number_summed (shown r) ≤ most
 shown_below most None = omega arith
 shown_below most (Some n) = omega arith
 
-either_below : (most : ℕ) (b : Bool) → number_told (yes_or_no b) ≤ most
+either_below : (most : ℕ) (b : Bool) → number_summed (yes_or_no b) ≤ most
 either_below most true = omega arith
 either_below most false = omega arith
 
@@ -121,23 +121,23 @@ legal_below most g h t c r below writes legal =
     elim legal [
       | inl done ↦ subst (Below most) (sym done) (outcome_below most g t c below writes)
       | inr full ↦ record {
-        told = subst (λ (x : Reply). number_told x ≤ most) (sym full.1) (omega arith);
+        told = subst (λ (x : Reply). number_summed x ≤ most) (sym full.1) (omega arith);
         left = subst (IsBelow most) (sym full.2) below;
       }
     ]
 
-told_below : (most : ℕ) (g : Graph) (es : List Entry) → IsBelow most g → AllByRecursion (λ e. WritesBelow most e.command) es → EachIsLegal g es → AllByRecursion (λ r. number_told r ≤ most) (replies_of es)
+told_below : (most : ℕ) (g : Graph) (es : List Entry) → IsBelow most g → AllByRecursion (λ e. WritesBelow most e.command) es → EachIsLegal g es → AllByRecursion (λ r. number_summed r ≤ most) (replies_of es)
 told_below most g [] below writes legal = tt
 told_below most g (e ∷ es) below writes legal =
     let b = legal_below most g (after_entry g e) e.thread e.command e.reply below writes.0 legal.0 in
     (b.told, told_below most (after_entry g e) es b.left writes.1 legal.1)
 
-pub sum_below : (most : ℕ) (rs : List Reply) → AllByRecursion (λ r. number_told r ≤ most) rs → sum_by number_told rs ≤ length rs * most
+pub sum_below : (most : ℕ) (rs : List Reply) → AllByRecursion (λ r. number_summed r ≤ most) rs → sum_by number_summed rs ≤ length rs * most
 sum_below most [] h = omega arith
 sum_below most (r ∷ rs) h =
     let rest = sum_below most rs h.1 in
-    let here : number_told r ≤ most = h.0 in
-    let cons = sum_by-cons number_told r rs in
+    let here : number_summed r ≤ most = h.0 in
+    let cons = sum_by-cons number_summed r rs in
     let count : length (r ∷ rs) * most ≡ length rs * most + most = omega arith in
     omega arith
 
@@ -180,7 +180,7 @@ begins_below most n = at (same_name n hub) refl
 
 -- the sum of the numbers that a run tells
 pub run_below : (seed count : ℕ) (es : List Entry) → Follows (churn_scripts seed count) es → EachIsLegal (opening 3) es
-    → sum_by number_told (replies_of es) ≤ length (replies_of es) * (seed + count)
+    → sum_by number_summed (replies_of es) ≤ length (replies_of es) * (seed + count)
 run_below seed count es follows legal =
     sum_below (seed + count) (replies_of es) (told_below (seed + count) (opening 3) es (begins_below (seed + count)) (commands_below seed count es follows) legal)
 

@@ -10,11 +10,11 @@ use Rattle.shen_graph.specs.Graph.{Object, named, hub, opening}
 use Rattle.shen_graph.specs.Reach.{size}
 use Rattle.shen_graph.specs.History.{Entry, of_thread, commands_of, script_of, Follows}
 use Rattle.churn.specs.Script.{round, churn_script, churn_scripts}
-use Rattle.churn.proofs.Parts.{IsThread, own, IsLeaf, IsLink, IsBox, field_of, Tidy}
+use Rattle.churn.proofs.Belongings.{IsThread, own, IsLeaf, IsLink, IsBox, field_of, Tidy}
 use Rattle.churn.proofs.Moves.{not_hub_too, none_in}
-use Rattle.churn.proofs.Steps.{IsLater}
-use Rattle.churn.proofs.Steps.IsLater.{makes, writes, links, stores, drops, loads, reads, swaps, exchanges}
-use Rattle.churn.proofs.Runs.{Going}
+use Rattle.churn.proofs.Commands.{IsLater}
+use Rattle.churn.proofs.Commands.IsLater.{makes, writes, links, stores, drops, loads, reads, swaps, exchanges}
+use Rattle.churn.proofs.BelowTheHub.{Going}
 
 pub thread_cases : (t : ℕ) → IsThread t → (t ≡ 1) ⊎ ((t ≡ 2) ⊎ (t ≡ 3))
 thread_cases t is =

@@ -11,12 +11,12 @@ use Rattle.shen_graph.specs.Graph.{Graph, Reference, field_at, number_at, same_r
 use Rattle.shen_graph.specs.Step.{Outcome, IsLegal, outcome, answers, on, shown, yes_or_no}
 use Rattle.shen_graph.specs.History.{Entry, is_full, after_entry, after, EachIsLegal, of_thread, commands_of, script_of, Follows}
 use Rattle.churn.specs.Script.{churn_script, churn_scripts}
-use Rattle.churn.specs.Laws.{IsRun, in_turn, ThereIsOneInTurn}
-use Rattle.churn.proofs.Parts.{IsThread}
-use Rattle.churn.proofs.Runs.{IsGiven, thread_or_not}
+use Rattle.churn.specs.Laws.{IsWorkloadRun, in_turn, ThereIsOneInTurn}
+use Rattle.churn.proofs.Belongings.{IsThread}
+use Rattle.churn.proofs.BelowTheHub.{IsGiven, thread_or_not}
 use Rattle.churn.proofs.Opening.{thread_cases, script_none}
 use Rattle.churn.proofs.Refusals.{legal-append}
-use Rattle.churn.proofs.Turns.{AreOf, all_of, none_of, given_append, given_at, runs_are_in_turn}
+use Rattle.churn.proofs.OneAfterAnother.{AreOf, all_of, none_of, given_append, given_at, runs_are_in_turn}
 
 -- an outcome is never Full
 
@@ -146,7 +146,7 @@ whole_given seed count =
     given_append (first_part seed count) (second_part seed count ++ third_part seed count) (played_given (opening 3) 1 (churn_script seed count 1))
     (given_append (second_part seed count) (third_part seed count) (played_given (after_first seed count) 2 (churn_script seed count 2)) (played_given (after_second seed count) 3 (churn_script seed count 3)))
 
-whole_run : (seed count : ℕ) → IsRun seed count (whole seed count)
+whole_run : (seed count : ℕ) → IsWorkloadRun seed count (whole seed count)
 whole_run seed count = record {
   follows = whole_follows seed count;
   legal = record {

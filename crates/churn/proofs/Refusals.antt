@@ -16,10 +16,10 @@ use Rattle.shen_graph.specs.Graph.{Graph, opening}
 use Rattle.shen_graph.specs.History.{Entry, is_full, after_entry, after, EachIsLegal, of_thread, commands_of}
 use Rattle.shen_graph.specs.Crowd.{words_asked, next_command, words_open, IsCrowded, AreCrowded}
 use Rattle.churn.specs.Script.{round, churn_script, churn_scripts}
-use Rattle.churn.proofs.Parts.{Tidy, Same-itself}
-use Rattle.churn.proofs.Steps.{IsLater}
-use Rattle.churn.proofs.Steps.IsLater.{makes, writes, links, stores, drops, loads, reads, swaps, exchanges}
-use Rattle.churn.proofs.Runs.{IsGiven, Ahead, Going, going-here, entry-step}
+use Rattle.churn.proofs.Belongings.{Tidy, Same-itself}
+use Rattle.churn.proofs.Commands.{IsLater}
+use Rattle.churn.proofs.Commands.IsLater.{makes, writes, links, stores, drops, loads, reads, swaps, exchanges}
+use Rattle.churn.proofs.BelowTheHub.{IsGiven, Ahead, Going, going-here, entry-step}
 use Rattle.churn.proofs.Opening.{script_later}
 use Rattle.churn.proofs.Bounds.{few_live}
 

@@ -11,18 +11,18 @@ use Rattle.shen_graph.specs.History as history
 use Rattle.shen_graph.specs.GraphText.{Row, row_in}
 use Rattle.shen_graph.specs.Reach.{IsReach, size}
 use Rattle.shen_graph.specs.Work.{Progress}
-use Rattle.churn.specs.Summary.{IsSummary, summary_of, all_replies, number_told, row_words}
-use Rattle.churn.specs.Laws.{in_turn, Tells, SumsUpRuns, OneSummary, RunsCanBeSummedUp}
-use Rattle.churn.proofs.Parts.{Tidy, Same-itself}
-use Rattle.churn.proofs.Runs.{solo}
+use Rattle.churn.specs.Summary.{IsSummary, summary_of, all_replies, number_summed, row_words}
+use Rattle.churn.specs.Laws.{in_turn, TellsRun, SumsUpRuns, OneSummary, RunsCanBeSummedUp}
+use Rattle.churn.proofs.Belongings.{Tidy, Same-itself}
+use Rattle.churn.proofs.BelowTheHub.{solo}
 use Rattle.churn.proofs.Opening.{tidy_opening, going_opening}
 use Rattle.churn.proofs.Bounds.{few_live}
 use Rattle.churn.proofs.OneReach.{one_reach}
 use Rattle.churn.proofs.Numbers.{run_below, run_long}
-use Rattle.churn.proofs.Turns.{run_given, runs_are_in_turn, one_in_turn}
+use Rattle.churn.proofs.OneAfterAnother.{run_given, runs_are_in_turn, one_in_turn}
 
 -- the replies of the three threads are those of the run thread by thread
-replies_in_turn : (es : List Entry) (work : List (Option Progress)) (rows : List Row) → Tells es work rows → all_replies work ≡ history.replies_of (in_turn es)
+replies_in_turn : (es : List Entry) (work : List (Option Progress)) (rows : List Row) → TellsRun es work rows → all_replies work ≡ history.replies_of (in_turn es)
 replies_in_turn es work rows tells =
     let reply : Entry → Reply = λ e. e.reply in
     let one = tells.replies 0 (omega arith) in
@@ -63,8 +63,8 @@ runs_can_be_summed_up seed count es work rows run tells =
     let live = few_live g (sum_by (λ n. size (named g (Some n))) tells.names) tidy (tells.names, tells.reach, refl) in
     record {
       commands = ap (length {A = Reply}) replies ∙ long;
-      sum = subst (λ (n : ℕ). sum_by number_told (all_replies work) ≤ n * (seed + count)) long
-          (subst (λ (rs : List Reply). sum_by number_told rs ≤ length (history.replies_of (in_turn es)) * (seed + count)) (sym replies) sum);
+      sum = subst (λ (n : ℕ). sum_by number_summed (all_replies work) ≤ n * (seed + count)) long
+          (subst (λ (rs : List Reply). sum_by number_summed rs ≤ length (history.replies_of (in_turn es)) * (seed + count)) (sym replies) sum);
       words = subst (λ (n : ℕ). n ≤ 1159) (sym (ap (sum_by row_words) tells.objects ∙ words_of_rows g tells.names)) live;
     }
 

@@ -11,10 +11,10 @@ use Rattle.shen_graph.specs.GraphText.{Row, row_in}
 use Rattle.shen_graph.specs.Work.{Progress, replies_of}
 use Rattle.churn.specs.declared.summary.Summary.{Summary}
 use Rattle.churn.specs.Script.{churn_scripts}
-use Rattle.churn.specs.Summary.{IsSummary, all_replies, number_told, row_words}
+use Rattle.churn.specs.Summary.{IsSummary, all_replies, number_summed, row_words}
 
 -- A history of the workload that a heap of 16 regions of 256 words may have.
-pub record IsRun (seed count : ℕ) (entries : List Entry) : Type 0 where
+pub record IsWorkloadRun (seed count : ℕ) (entries : List Entry) : Type 0 where
   pub follows : Follows (churn_scripts seed count) entries
   pub legal : IsLegalHistory 16 256 (churn_scripts seed count) entries
 
@@ -24,7 +24,7 @@ in_turn entries = of_thread entries 1 ++ (of_thread entries 2 ++ of_thread entri
 
 -- A run in which the whole script of thread 1 comes first, then that of thread 2, then that of thread 3, without Full.
 pub record IsRunInTurn (seed count : ℕ) (entries : List Entry) : Type 0 where
-  pub run : IsRun seed count entries
+  pub run : IsWorkloadRun seed count entries
   pub turns : entries ≡ in_turn entries
   pub no_full : IsWithoutFull entries
 
@@ -34,7 +34,7 @@ pub record TellTheSame (a b : List Entry) : Type 0 where
   pub graph : after (opening 3) a ≡ after (opening 3) b
 
 -- What is in memory after a run: the replies of each thread, and a row for each object that can be reached.
-pub record Tells (entries : List Entry) (work : List (Option Progress)) (rows : List Row) : Type 0 where
+pub record TellsRun (entries : List Entry) (work : List (Option Progress)) (rows : List Row) : Type 0 where
   pub names : List Name
   pub replies : (mutator : ℕ) → mutator < 3 → replies_of work mutator ≡ history.replies_of (of_thread entries (mutator + 1))
   pub reach : IsReach (after (opening 3) entries) names
@@ -48,19 +48,19 @@ pub record SumsUpTurns (seed count : ℕ) (s : Summary) : Type 0 where
 
 -- It is, if these replies and rows are what some run tells.
 abbrev pub SumsUpRuns : (seed count : ℕ) → List (Option Progress) → List Row → Summary → Type 0
-SumsUpRuns seed count work rows s = (entries : List Entry) → IsRun seed count entries → Tells entries work rows → SumsUpTurns seed count s
+SumsUpRuns seed count work rows s = (entries : List Entry) → IsWorkloadRun seed count entries → TellsRun entries work rows → SumsUpTurns seed count s
 
 -- No allocation of a run is refused.
 abbrev pub NoneIsFull : Type 0
-NoneIsFull = (seed count : ℕ) (entries : List Entry) → IsRun seed count entries → IsWithoutFull entries
+NoneIsFull = (seed count : ℕ) (entries : List Entry) → IsWorkloadRun seed count entries → IsWithoutFull entries
 
 -- No command of a run is answered Bad.
 abbrev pub NoneIsBad : Type 0
-NoneIsBad = (seed count : ℕ) (entries : List Entry) → IsRun seed count entries → All (λ e. e.reply ≢ reply.Bad) entries
+NoneIsBad = (seed count : ℕ) (entries : List Entry) → IsWorkloadRun seed count entries → All (λ e. e.reply ≢ reply.Bad) entries
 
 -- Each run tells the same as the run of its entries thread by thread.
 abbrev pub RunsAreInTurn : Type 0
-RunsAreInTurn = (seed count : ℕ) (entries : List Entry) → IsRun seed count entries → IsRunInTurn seed count (in_turn entries) × TellTheSame entries (in_turn entries)
+RunsAreInTurn = (seed count : ℕ) (entries : List Entry) → IsWorkloadRun seed count entries → IsRunInTurn seed count (in_turn entries) × TellTheSame entries (in_turn entries)
 
 -- There is a run thread by thread, and it is the only one.
 
@@ -77,8 +77,8 @@ OneSummary = (seed count : ℕ) (a b : Summary) → SumsUpTurns seed count a →
 -- What a run tells can be summed up: so many commands, and numbers that are not large.
 pub record CanSumUp (seed count : ℕ) (work : List (Option Progress)) (rows : List Row) : Type 0 where
   pub commands : length (all_replies work) ≡ 6 + 24 * count
-  pub sum : sum_by number_told (all_replies work) ≤ (6 + 24 * count) * (seed + count)
+  pub sum : sum_by number_summed (all_replies work) ≤ (6 + 24 * count) * (seed + count)
   pub words : sum_by row_words rows ≤ 1159
 
 abbrev pub RunsCanBeSummedUp : Type 0
-RunsCanBeSummedUp = (seed count : ℕ) (entries : List Entry) (work : List (Option Progress)) (rows : List Row) → IsRun seed count entries → Tells entries work rows → CanSumUp seed count work rows
+RunsCanBeSummedUp = (seed count : ℕ) (entries : List Entry) (work : List (Option Progress)) (rows : List Row) → IsWorkloadRun seed count entries → TellsRun entries work rows → CanSumUp seed count work rows

@@ -16,9 +16,9 @@ is_bad Bad = true
 is_bad _ = false
 
 -- the number that a reply tells. The others tell none, and add nothing
-abbrev pub number_told : Reply → ℕ
-number_told (Number n) = n
-number_told _ = 0
+abbrev pub number_summed : Reply → ℕ
+number_summed (Number n) = n
+number_summed _ = 0
 
 -- the words of a row's object: header, shape, name, and one for each field and each number
 abbrev pub row_words : Row → ℕ
@@ -34,7 +34,7 @@ summary_of seed count replies rows = record {
   full = count_by is_full replies;
   objects = length rows;
   words = sum_by row_words rows;
-  sum = sum_by number_told replies;
+  sum = sum_by number_summed replies;
 }
 
 -- these replies come to those that were counted
@@ -43,7 +43,7 @@ with_replies s replies = record s {
   commands = s.commands + length replies;
   bad = s.bad + count_by is_bad replies;
   full = s.full + count_by is_full replies;
-  sum = s.sum + sum_by number_told replies;
+  sum = s.sum + sum_by number_summed replies;
 }
 
 -- and these objects

@@ -1,7 +1,7 @@
 ghost use Rattle.std.specs.Prelude.{◌≡◌, ◌+◌, ◌<◌, ◌≤◌, ◌^◌, [], ◌∷◌, length, sum_by};
 ghost use Rattle.shen_graph.specs.Work.{HasScript};
 ghost use Rattle.churn.specs.Laws.{SumsUpRuns};
-ghost use Rattle.churn.specs.Summary.{summary_of, all_replies, number_told, row_words, with_replies, with_rows};
+ghost use Rattle.churn.specs.Summary.{summary_of, all_replies, number_summed, row_words, with_replies, with_rows};
 
 use shen_graph::{GraphText, Reply, Work};
 
@@ -47,7 +47,7 @@ impl Summary {
     fn add_reply(&mut self, reply: Reply)
         requires counts { self.old.bad ≤ self.old.commands × self.old.full ≤ self.old.commands }
         requires commands { self.old.commands + 1 < 2 ^ 64 }
-        requires sum { self.old.sum + number_told reply < 2 ^ 64 }
+        requires sum { self.old.sum + number_summed reply < 2 ^ 64 }
         ensures { self.new ≡ with_replies self.old (reply ∷ []) }
     {
         self.commands += 1;
@@ -63,7 +63,7 @@ impl Summary {
     fn add_replies(&mut self, replies: &[Reply])
         requires counts { self.old.bad ≤ self.old.commands × self.old.full ≤ self.old.commands }
         requires commands { self.old.commands + length replies.now < 2 ^ 64 }
-        requires sum { self.old.sum + sum_by number_told replies.now < 2 ^ 64 }
+        requires sum { self.old.sum + sum_by number_summed replies.now < 2 ^ 64 }
         ensures { self.new ≡ with_replies self.old replies.now }
     {
         for reply in replies {
@@ -89,7 +89,7 @@ impl Summary {
 fn counted(seed: u64, count: u64, replies: &Work, graph: &GraphText) -> Summary
     requires scripts { HasScript replies.now 0 × HasScript replies.now 1 × HasScript replies.now 2 }
     requires commands { length (all_replies replies.now) < 2 ^ 64 }
-    requires sum { sum_by number_told (all_replies replies.now) < 2 ^ 64 }
+    requires sum { sum_by number_summed (all_replies replies.now) < 2 ^ 64 }
     requires words { sum_by row_words graph.now.rows < 2 ^ 64 }
     ensures { result ≡ summary_of seed count (all_replies replies.now) graph.now.rows }
 {
@@ -106,7 +106,7 @@ fn counted(seed: u64, count: u64, replies: &Work, graph: &GraphText) -> Summary
 pub fn summarize(seed: u64, count: u64, replies: &Work, graph: &GraphText) -> Summary
     requires scripts { HasScript replies.now 0 × HasScript replies.now 1 × HasScript replies.now 2 }
     requires commands { length (all_replies replies.now) < 2 ^ 64 }
-    requires sum { sum_by number_told (all_replies replies.now) < 2 ^ 64 }
+    requires sum { sum_by number_summed (all_replies replies.now) < 2 ^ 64 }
     requires words { sum_by row_words graph.now.rows < 2 ^ 64 }
     ensures counts { result ≡ summary_of seed count (all_replies replies.now) graph.now.rows }
     ensures turns { SumsUpRuns seed count replies.now graph.now.rows result }

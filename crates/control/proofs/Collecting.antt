@@ -7,15 +7,15 @@ use Rattle.std.proofs.Math.Logic.{∥∥₁_elim, ∥∥₁_map}
 use Rattle.std.proofs.Math.Nat.{ℕ_set}
 use Rattle.heap_words.specs.declared.config.Config.{Config}
 use Rattle.heap_words.specs.Words.{Word, Phase, Cset}
-use Rattle.image_laws.specs.Full.{full}
+use Rattle.full_words.specs.Full.{full}
 use Rattle.image_graph.specs.Holds.{HoldsSome}
-use Rattle.mark_laws.specs.Init.{init_marked}
+use Rattle.cycle_words.specs.Marking.Init.{init_marked}
 use Rattle.mark_core.specs.Result.{MarksSome}
-use Rattle.evac_pauses.specs.Collect.{evac_next}
-use Rattle.finish_laws.specs.Finish.{finished, is_whole}
+use Rattle.cycle_pauses.specs.Evacuation.Collect.{evac_next}
+use Rattle.cycle_words.specs.Finishing.Finish.{finished, is_whole}
 use Rattle.cycle_pauses.specs.Ended.{ended}
 use Rattle.cycle_pauses.specs.Collect.{is_room_needed, next_in_cycle, past_marking, room_made, collected, CanPauseSome}
-use Rattle.update_laws.specs.Changes.{init_updated, final_updated}
+use Rattle.cycle_words.specs.Updating.Changes.{init_updated, final_updated}
 
 -- they hold some graph
 pub can_hold : (c : Config) (m : Word → ℕ) → CanPauseSome c m → HoldsSome c m

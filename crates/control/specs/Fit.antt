@@ -2,10 +2,10 @@
 use Rattle.std.specs.Prelude.{ℕ, ◌≡◌, ◌+◌, List, [], ◌∷◌, ◌++◌}
 use Rattle.heap_words.specs.declared.config.Config.{Config}
 use Rattle.heap_world.specs.Change.{image_view, image_words}
-use Rattle.control_steps.specs.declared.spot.ControlSpot.{ControlSpot}
-use Rattle.control_steps.specs.declared.spot.ControlSpot.TheVariants.{LoadWord}
-use Rattle.control_steps.specs.Rows.{Controlling}
-use Rattle.control_steps.specs.Ready.{UnitGoesOn}
+use Rattle.control_rows.specs.declared.spot.ControlSpot.{ControlSpot}
+use Rattle.control_rows.specs.declared.spot.ControlSpot.TheVariants.{LoadWord}
+use Rattle.control_rows.specs.Rows.{Controlling}
+use Rattle.control_rows.specs.Ready.{UnitGoesOn}
 use Rattle.cycle_pauses.specs.Collect.{CanPauseSome}
 
 -- In a unit those from which the unit can; the last word of the image, where the image that was loaded holds a graph, and in phase

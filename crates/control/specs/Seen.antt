@@ -1,7 +1,7 @@
 -- What the events see of the control.
 use Rattle.heap_words.specs.declared.config.Config.{Config}
 use Rattle.image_graph.specs.State.{config_of}
-use Rattle.control_steps.specs.Rows.{Controlling}
+use Rattle.control_rows.specs.Rows.{Controlling}
 use Rattle.control.specs.Image.{image_in, words_seen}
 use Rattle.control.specs.declared.machine.Control.{Control}
 

@@ -5,10 +5,10 @@ ghost use Rattle.std.specs.Int.{bit_at};
 ghost use Rattle.heap_words.specs.Words.{Phase, Ask, Evac};
 ghost use Rattle.heap_words.specs.Counter as counter;
 ghost use Rattle.image_graph.specs.State.{config_of, memory_of};
-ghost use Rattle.mark_laws.specs.Final.{final_marked};
+ghost use Rattle.cycle_words.specs.Marking.Final.{final_marked};
 ghost use Rattle.mark_core.specs.Result.{MarksSome};
-ghost use Rattle.cset_laws.specs.Begun.{CanBegin};
-ghost use Rattle.evac_pauses.specs.Collect.{evac_next};
+ghost use Rattle.cycle_words.specs.Evacuation.Begun.{CanBegin};
+ghost use Rattle.cycle_pauses.specs.Evacuation.Collect.{evac_next};
 ghost use Rattle.cycle_pauses.specs.Ended.{ended, CanEnd};
 ghost use Rattle.cycle_pauses.specs.Collect as room;
 ghost use Rattle.cycle_pauses.specs.Collect.{next_in_cycle, room_made, collected, CanPauseSome};
@@ -18,7 +18,7 @@ use degenerated::{Finished, finish};
 use full_cycle::full;
 use image_graph::Image;
 use mark_core::{final_mark, init_mark};
-use update_core::{final_update, init_update};
+use update_refs::{final_update, init_update};
 
 // The phases: none between two cycles, and then those of a cycle. After evacuation references are updated.
 const IDLE: u64 = 0;

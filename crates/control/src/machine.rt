@@ -1,10 +1,10 @@
 ghost use Rattle.std.specs.Prelude.{◌≡◌, true};
 ghost use Rattle.image_graph.specs.State.{config_of};
-ghost use Rattle.control_steps.specs.Ready.{is_ready};
+ghost use Rattle.control_rows.specs.Ready.{is_ready};
 ghost use Rattle.control.specs.Clear.{IsClear};
 
 use crate::pause::{clear, load, take_found};
-use control_steps::{ControlSpot, LastPause};
+use control_rows::{ControlSpot, LastPause};
 use heap_words::{Access, Config, Place, Took};
 use image_graph::Image;
 use shen_graph::GraphText;
@@ -30,8 +30,8 @@ impl Control {
     ghost use Rattle.image_graph.specs.State.{memory_of};
     ghost use Rattle.image_graph.specs.Holds.{HoldsSome};
     ghost use Rattle.image_graph.specs.Left.{StandsForSome, ShowsTheGraph};
-    ghost use Rattle.control_steps.specs.Rows.{is_gone, control_place, control_access, control_next, control_says};
-    ghost use Rattle.control_steps.specs.Waits.{WaitsAt};
+    ghost use Rattle.control_rows.specs.Rows.{is_gone, control_place, control_access, control_next, control_says};
+    ghost use Rattle.control_rows.specs.Waits.{WaitsAt};
     ghost use Rattle.cycle_pauses.specs.Collect.{collect_image};
     ghost use Rattle.control.specs.Fit.{IsFit};
     ghost use Rattle.control.specs.Image.{image_from, IsLoadedFrom};

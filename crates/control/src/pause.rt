@@ -4,16 +4,16 @@ ghost use Rattle.std.specs.Prelude.{◌≡◌, ◌+◌, ◌<◌, true, length, t
 ghost use Rattle.heap_words.specs.Words.{Phase, Cset, image_start, table_words};
 ghost use Rattle.heap_world.specs.Change.{image_view, image_words};
 ghost use Rattle.image_graph.specs.State.{config_of, memory_of};
-ghost use Rattle.control_steps.specs.declared.spot.ControlSpot.TheVariants.{LoadWord};
-ghost use Rattle.control_steps.specs.Ready.{is_ready};
-ghost use Rattle.control_steps.specs.Rows.{next_spot, next_image, seen_after, next_seen, next_phase, next_set};
+ghost use Rattle.control_rows.specs.declared.spot.ControlSpot.TheVariants.{LoadWord};
+ghost use Rattle.control_rows.specs.Ready.{is_ready};
+ghost use Rattle.control_rows.specs.Rows.{next_spot, next_image, seen_after, next_seen, next_phase, next_set};
 ghost use Rattle.cycle_pauses.specs.Collect.{collect_image, CanPauseSome};
 ghost use Rattle.control.specs.Clear.{IsClear};
 ghost use Rattle.control.specs.Fit.{fits_with};
 ghost use Rattle.control.specs.Image.{image_in, image_from, words_seen};
 
 use crate::collect::collect;
-use control_steps::{ControlSpot, LastPause, image_words};
+use control_rows::{ControlSpot, LastPause, image_words};
 use image_graph::Image;
 
 // Makes the words before the image 0.

@@ -11,11 +11,11 @@ use Rattle.heap_words.specs.declared.config.Config.{Config}
 use Rattle.heap_words.specs.Words.{Word, Free, Top, Tams}
 use Rattle.packing.proofs.Sums.{sum_same}
 use Rattle.regions.specs.Sets.{members_below}
-use Rattle.mark_laws.specs.Marks.{bits_of}
-use Rattle.mark_laws.proofs.Bits.{one, bits_at}
-use Rattle.mark_laws.specs.Final.{is_current}
-use Rattle.cset_laws.specs.Live.{live_words, garbage, is_candidate}
-use Rattle.cset_laws.specs.Front.{comes_before, live_up_to, is_in_front}
+use Rattle.cycle_words.specs.Marking.Marks.{bits_of}
+use Rattle.cycle_words.proofs.Marking.Bits.{one, bits_at}
+use Rattle.cycle_words.specs.Marking.Final.{is_current}
+use Rattle.cycle_words.specs.Evacuation.Live.{live_words, garbage, is_candidate}
+use Rattle.cycle_words.specs.Evacuation.Front.{comes_before, live_up_to, is_in_front}
 use Rattle.cset_choice.specs.Tables.{AreLive, adds, up_to}
 
 -- a set of regions below a number has no others

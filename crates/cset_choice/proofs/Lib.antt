@@ -1,7 +1,7 @@
 pub mod Objects
 pub mod Choosing
-pub mod Copying
-pub mod Turns
-pub mod Beginning
-pub mod Ready
+pub mod CopyStores
+pub mod ClearedInTurn
+pub mod EvacuationBegun
+pub mod CanBegin
 pub mod Reading

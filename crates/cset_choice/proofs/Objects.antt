@@ -13,10 +13,10 @@ use Rattle.regions.specs.Place.{region_with}
 use Rattle.regions.proofs.PlaceLemmas.{regions_tile}
 use Rattle.image_graph.specs.Make.{AreInHeap}
 use Rattle.image_graph.proofs.Room.{room_in_heap}
-use Rattle.mark_laws.specs.Marks.{is_black}
-use Rattle.cset_laws.specs.Live.{words_at, marked_words}
-use Rattle.cset_laws.specs.Begun.{is_collected}
-use Rattle.cset_laws.proofs.Places.{some_words, from_base}
+use Rattle.cycle_words.specs.Marking.Marks.{is_black}
+use Rattle.cycle_words.specs.Evacuation.Live.{words_at, marked_words}
+use Rattle.cycle_words.specs.Evacuation.Begun.{is_collected}
+use Rattle.cycle_words.proofs.Evacuation.RegionAddresses.{some_words, from_base}
 
 -- one term more of a sum
 pub sum_more : (f : ℕ → ℕ) (i words x : ℕ) → words ≡ sum_below f i → x ≡ f i → words + x ≡ sum_below f (i + 1)

@@ -4,8 +4,8 @@ use Rattle.std.specs.Int.{bit_at}
 use Rattle.heap_words.specs.declared.config.Config.{Config}
 use Rattle.heap_words.specs.Words.{Word}
 use Rattle.packing.specs.Tops.{sum_below}
-use Rattle.cset_laws.specs.Live.{live_words}
-use Rattle.cset_laws.specs.Front.{comes_before}
+use Rattle.cycle_words.specs.Evacuation.Live.{live_words}
+use Rattle.cycle_words.specs.Evacuation.Front.{comes_before}
 
 -- a table of 64 numbers has the live words of each region
 pub record AreLive (c : Config) (memory : Word → ℕ) (live : List ℕ) : Type 0 where

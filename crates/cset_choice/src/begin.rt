@@ -3,11 +3,11 @@
 ghost use Rattle.std.specs.Prelude.{ℕ, ◌≡◌, ◌^◌, ◌<◌, ◌↔◌, IsTrue, true, map, slice_index};
 ghost use Rattle.std.specs.List.{range_with_len};
 ghost use Rattle.heap_words.specs.Words.{Word, Cset, Root, Answer, Heap, IsWord, word_at, table_words};
-ghost use Rattle.image_laws.specs.Full.{now_in};
+ghost use Rattle.full_words.specs.Full.{now_in};
 ghost use Rattle.image_graph.specs.State.{config_of, words_of, memory_of};
-ghost use Rattle.cset_laws.specs.Choice.{chosen};
-ghost use Rattle.cset_laws.specs.Begun as begun;
-ghost use Rattle.cset_laws.specs.Begun.{CanBegin, CanClear, CanClearInTurn, moved_out, cleared_at, cleared_in_turn, root_places, evac_started, evac_spared, evac_begun};
+ghost use Rattle.cycle_words.specs.Evacuation.Choice.{chosen};
+ghost use Rattle.cycle_words.specs.Evacuation.Begun as begun;
+ghost use Rattle.cycle_words.specs.Evacuation.Begun.{CanBegin, CanClear, CanClearInTurn, moved_out, cleared_at, cleared_in_turn, root_places, evac_started, evac_spared, evac_begun};
 
 use crate::copy::copy_out;
 use heap_words::{Config, forwarded, forwardee};

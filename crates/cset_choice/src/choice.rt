@@ -4,12 +4,12 @@ ghost use Rattle.std.specs.Prelude.{ℕ, ◌≡◌, ◌+◌, ◌*◌, ◌^◌, �
 ghost use Rattle.std.specs.Int.{bit_at};
 ghost use Rattle.heap_words.specs.Words.{Free};
 ghost use Rattle.image_graph.specs.State.{config_of, memory_of};
-ghost use Rattle.mark_laws.specs.Marks.{bits_of};
+ghost use Rattle.cycle_words.specs.Marking.Marks.{bits_of};
 ghost use Rattle.packing.specs.Places.{LieApart};
-ghost use Rattle.cset_laws.specs.Live as lives;
-ghost use Rattle.cset_laws.specs.Front as front;
-ghost use Rattle.cset_laws.specs.Choice as choices;
-ghost use Rattle.cset_laws.specs.Begun.{CanBegin};
+ghost use Rattle.cycle_words.specs.Evacuation.Live as lives;
+ghost use Rattle.cycle_words.specs.Evacuation.Front as front;
+ghost use Rattle.cycle_words.specs.Evacuation.Choice as choices;
+ghost use Rattle.cycle_words.specs.Evacuation.Begun.{CanBegin};
 ghost use Rattle.cset_choice.specs.Tables.{AreLive, adds, up_to};
 
 use crate::live::live_words;

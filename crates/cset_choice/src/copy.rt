@@ -5,10 +5,10 @@ ghost use Rattle.heap_words.specs.Words.{Cset, Top};
 ghost use Rattle.packing.specs.Rooms.{lowest_room};
 ghost use Rattle.image_graph.specs.State.{config_of, memory_of};
 ghost use Rattle.image_graph.specs.Make.{AreInHeap, AreWithin};
-ghost use Rattle.cset_laws.specs.Live.{words_at};
-ghost use Rattle.cset_laws.specs.Copying.{tops_outside};
+ghost use Rattle.cycle_words.specs.Evacuation.Live.{words_at};
+ghost use Rattle.cycle_words.specs.Evacuation.Copying.{tops_outside};
 ghost use Rattle.regions.specs.Sets.{IsOutside};
-ghost use Rattle.cset_laws.specs.Copied.{CanCopyOut, copy_address, top_address, copied_out, copied_to};
+ghost use Rattle.cycle_words.specs.Evacuation.Copied.{CanCopyOut, copy_address, top_address, copied_out, copied_to};
 ghost use Rattle.cset_choice.specs.Steps.{words_copied};
 
 use heap_words::{header_to, words_of};

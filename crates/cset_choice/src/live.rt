@@ -4,13 +4,12 @@ ghost use Rattle.std.specs.Prelude.{◌≡◌, ◌*◌, ◌<◌, ◌≤◌};
 ghost use Rattle.heap_words.specs.Words.{Heap, IsWord};
 ghost use Rattle.packing.specs.Places.{LieApart};
 ghost use Rattle.image_graph.specs.State.{config_of, memory_of};
-ghost use Rattle.mark_laws.specs.Marks as marks;
-ghost use Rattle.cset_laws.specs.Live as lives;
+ghost use Rattle.cycle_words.specs.Marking.Marks as marks;
+ghost use Rattle.cycle_words.specs.Evacuation.Live as lives;
 
 use heap_words::words_of;
 use image_graph::Image;
-use mark_bits::{is_marked_in, mark_word};
-use regions::base;
+use regions::{base, is_marked_in, mark_word};
 
 // Whether an object at an address is marked.
 fn is_black(image: &Image, address: u64) -> bool

@@ -6,25 +6,25 @@ use Rattle.std.proofs.lemmas.Bool.{cases_Bool, cases_eq, cond-true, cond-false, 
 use Rattle.heap_words.specs.declared.config.Config.{Config}
 use Rattle.heap_words.specs.Words.{Word, Pause, Left, End, State, Phase, Evac, Ask, Root, Wait, Answer, Top, Heap, is_image}
 use Rattle.shen_graph.specs.Graph.{Graph}
-use Rattle.image_laws.specs.Held.{IsAmong}
-use Rattle.image_laws.specs.Full.{now_in, root_words, kept_in, made_in, served_in, room_for, served, full}
-use Rattle.image_laws.specs.Promised.{with_promised}
-use Rattle.image_laws.proofs.Reached.{can_pack}
-use Rattle.image_laws.proofs.Origin.{kept_inside, lie_apart}
-use Rattle.image_laws.proofs.Walked.{walk_keeps}
-use Rattle.image_laws.proofs.Served.{served_first, turn_idle, turn_waits}
+use Rattle.full_words.specs.Held.{IsAmong}
+use Rattle.full_words.specs.Full.{now_in, root_words, kept_in, made_in, served_in, room_for, served, full}
+use Rattle.full_words.specs.Promised.{with_promised}
+use Rattle.full_words.proofs.Reached.{can_pack}
+use Rattle.full_words.proofs.Origin.{kept_inside, lie_apart}
+use Rattle.full_words.proofs.Walked.{walk_keeps}
+use Rattle.full_words.proofs.Served.{served_first, turn_idle, turn_waits}
 use Rattle.image_graph.specs.Holds.{Holds}
-use Rattle.pause_laws.proofs.Images.{full_before}
-use Rattle.pause_laws.proofs.Outside.{IsZeroOutside, served_outside, full_outside}
-use Rattle.cset_laws.specs.Copied.{MayChange, copied_out}
-use Rattle.evac_pauses.proofs.Outside.{of_two, copied_outside, copied_same}
-use Rattle.evac_pauses.proofs.Turns.{copies_out}
-use Rattle.update_pauses.proofs.Outside.{final_outside}
-use Rattle.finish_laws.specs.Updated.{updated_word, is_kept_field, all_updated}
-use Rattle.finish_laws.specs.Copies.{is_left, has_copy_room, copied_from, CanCopyFrom, all_copied, is_room_for_all}
-use Rattle.finish_laws.specs.Finish.{set_freed, cycle_finished, finished, is_whole, CanFinish}
-use Rattle.finish_laws.proofs.Copies.{room_found, copied_none, copied_next, copied_stuck, copied_skips}
-use Rattle.finish_laws.proofs.Fields.{low_spared}
+use Rattle.cycle_pauses.proofs.Full.Images.{full_before}
+use Rattle.cycle_pauses.proofs.Full.Outside.{IsZeroOutside, served_outside, full_outside}
+use Rattle.cycle_words.specs.Evacuation.Copied.{MayChange, copied_out}
+use Rattle.cycle_pauses.proofs.Evacuation.Outside.{of_two, copied_outside, copied_same}
+use Rattle.cycle_pauses.proofs.Evacuation.ClearingInTurn.{copies_out}
+use Rattle.cycle_pauses.proofs.Updating.Outside.{final_outside}
+use Rattle.cycle_words.specs.Finishing.Updated.{updated_word, is_kept_field, all_updated}
+use Rattle.cycle_words.specs.Finishing.Copies.{is_left, has_copy_room, copied_from, CanCopyFrom, all_copied, is_room_for_all}
+use Rattle.cycle_words.specs.Finishing.Finish.{set_freed, cycle_finished, finished, is_whole, CanFinish}
+use Rattle.cycle_words.proofs.Finishing.Copies.{room_found, copied_none, copied_next, copied_stuck, copied_skips}
+use Rattle.cycle_words.proofs.Finishing.Fields.{low_spared}
 use Rattle.cycle_pauses.specs.Ended.{ended, CanEnd}
 
 -- the same memory at a word

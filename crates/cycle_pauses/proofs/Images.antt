@@ -5,15 +5,15 @@ use Rattle.heap_words.specs.Words.{Word, Pause, Left, End, State, Phase, IsWord,
 use Rattle.heap_world.specs.Change.{image_words, image_view}
 use Rattle.std.specs.Prelude.{◌==◌, if◌then◌else◌}
 use Rattle.std.proofs.lemmas.Bool.{true≢false}
-use Rattle.image_laws.specs.Full.{full}
-use Rattle.pause_laws.proofs.Images.{full_before, image_of_length, word_by_name, table_by_name}
-use Rattle.mark_laws.specs.Init.{init_marked}
-use Rattle.evac_pauses.specs.Collect.{evac_next}
-use Rattle.update_laws.specs.Changes.{init_updated, final_updated}
+use Rattle.full_words.specs.Full.{full}
+use Rattle.cycle_pauses.proofs.Full.Images.{full_before, image_of_length, word_by_name, table_by_name}
+use Rattle.cycle_words.specs.Marking.Init.{init_marked}
+use Rattle.cycle_pauses.specs.Evacuation.Collect.{evac_next}
+use Rattle.cycle_words.specs.Updating.Changes.{init_updated, final_updated}
 use Rattle.cycle_pauses.specs.Ended.{ended}
 use Rattle.cycle_pauses.specs.Collect.{is_room_needed, next_in_cycle, past_marking, room_made, collected, collect_image}
 use Rattle.cycle_pauses.specs.Laws.{TableIsCollected}
-use Rattle.evac_pauses.proofs.Outside.{of_two, next_before}
+use Rattle.cycle_pauses.proofs.Evacuation.Outside.{of_two, next_before}
 use Rattle.cycle_pauses.proofs.Finished.{ended_before}
 
 -- the beginning of marking leaves the words before the image

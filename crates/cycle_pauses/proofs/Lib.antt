@@ -1,4 +1,9 @@
 pub mod Finished
-pub mod Ends
+pub mod EndedPaused
 pub mod Images
 pub mod Pauses
+pub mod Full
+pub mod Marking
+pub mod Evacuation
+pub mod Updating
+pub mod Finishing

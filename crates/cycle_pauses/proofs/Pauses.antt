@@ -18,38 +18,38 @@ use Rattle.heap_world.specs.World.{Plot}
 use Rattle.heap_world.specs.Asking.{Asking, asks}
 use Rattle.heap_world.specs.Represents.{Represents}
 use Rattle.heap_world.specs.Change.{image_view, IsPaused, IsDue}
-use Rattle.image_laws.specs.Full.{full}
-use Rattle.image_laws.specs.Promised.{Promises}
-use Rattle.pause_laws.proofs.ByCopies.{by_copies}
-use Rattle.pause_laws.proofs.Outside.{IsZeroOutside}
-use Rattle.pause_laws.proofs.Images.{holds_outside}
-use Rattle.pause_laws.proofs.Pauses.{paused}
-use Rattle.pause_laws.proofs.Promises.{promises_of}
-use Rattle.pause_laws.proofs.Dead.{plain}
-use Rattle.pause_laws.proofs.Holding.{holds_by}
-use Rattle.mark_laws.specs.Init.{init_marked}
-use Rattle.mark_laws.specs.Final.{final_marked}
-use Rattle.mark_laws.specs.Laws.{HasNoMoreSeats}
-use Rattle.mark_pauses.proofs.Chains.{is_marking}
-use Rattle.mark_pauses.proofs.Outside.{init_outside, final_outside}
-use Rattle.mark_pauses.proofs.Standing.{beginning_represents}
-use Rattle.cset_laws.specs.Choice.{chosen}
-use Rattle.cset_laws.specs.Begun.{CanBegin}
-use Rattle.cset_laws.proofs.Clearing.{can_clear_in_turn}
-use Rattle.cset_laws.proofs.Ready.{evacuation_can_begin}
-use Rattle.evac_pauses.specs.Collect.{evac_next}
-use Rattle.evac_pauses.proofs.Outside.{begun_outside}
-use Rattle.evac_pauses.proofs.Begun.{idle_pause, evacuation_represents}
-use Rattle.update_laws.specs.Changes.{init_updated, final_updated}
-use Rattle.update_pauses.proofs.Beginning.{updating_begins}
-use Rattle.update_pauses.proofs.Ending.{updating_ends}
-use Rattle.update_pauses.proofs.Outside as update
+use Rattle.full_words.specs.Full.{full}
+use Rattle.full_words.specs.Promised.{Promises}
+use Rattle.cycle_pauses.proofs.Full.ByCopies.{by_copies}
+use Rattle.cycle_pauses.proofs.Full.Outside.{IsZeroOutside}
+use Rattle.cycle_pauses.proofs.Full.Images.{holds_outside}
+use Rattle.cycle_pauses.proofs.Full.Pauses.{paused}
+use Rattle.cycle_pauses.proofs.Full.Promises.{promises_of}
+use Rattle.cycle_pauses.proofs.Full.Dead.{plain}
+use Rattle.cycle_pauses.proofs.Full.Holding.{holds_by}
+use Rattle.cycle_words.specs.Marking.Init.{init_marked}
+use Rattle.cycle_words.specs.Marking.Final.{final_marked}
+use Rattle.cycle_words.specs.Marking.Laws.{HasNoMoreSeats}
+use Rattle.cycle_pauses.proofs.Marking.Chains.{is_marking}
+use Rattle.cycle_pauses.proofs.Marking.Outside.{init_outside, final_outside}
+use Rattle.cycle_pauses.proofs.Marking.WhileMarking.{beginning_represents}
+use Rattle.cycle_words.specs.Evacuation.Choice.{chosen}
+use Rattle.cycle_words.specs.Evacuation.Begun.{CanBegin}
+use Rattle.cycle_words.proofs.Evacuation.Clearing.{can_clear_in_turn}
+use Rattle.cycle_words.proofs.Evacuation.CanBegin.{evacuation_can_begin}
+use Rattle.cycle_pauses.specs.Evacuation.Collect.{evac_next}
+use Rattle.cycle_pauses.proofs.Evacuation.Outside.{begun_outside}
+use Rattle.cycle_pauses.proofs.Evacuation.Begun.{idle_pause, evacuation_represents}
+use Rattle.cycle_words.specs.Updating.Changes.{init_updated, final_updated}
+use Rattle.cycle_pauses.proofs.Updating.Beginning.{updating_begins}
+use Rattle.cycle_pauses.proofs.Updating.Ending.{updating_ends}
+use Rattle.cycle_pauses.proofs.Updating.Outside as update
 use Rattle.cycle_pauses.specs.Ended.{ended}
 use Rattle.cycle_pauses.specs.Collect.{is_room_needed, next_in_cycle, past_marking, room_made, collected, collect_image, CanPause}
 use Rattle.cycle_pauses.specs.Laws.{RepresentingCanCollect, EndedCanBegin, RunningCanEnd, ImageIsCollected, CollectIsPause}
 use Rattle.cycle_pauses.proofs.Images.{collected_by_name, collected_length}
 use Rattle.cycle_pauses.proofs.Finished.{ended_outside}
-use Rattle.cycle_pauses.proofs.Ends.{paused_from, ended_is_paused, can_end, can_end_prop}
+use Rattle.cycle_pauses.proofs.EndedPaused.{paused_from, ended_is_paused, can_end, can_end_prop}
 
 -- there is no collection set in phases 0 and 1
 calm_in : (c : Config) (m : Word → ℕ) (g : Graph) (asking : ℕ → Asking) (r : Represents c m g asking) → m Phase < 2 → m Cset ≡ 0

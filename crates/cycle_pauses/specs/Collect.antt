@@ -10,13 +10,13 @@ use Rattle.heap_words.specs.Counter.{is_out_of_room}
 use Rattle.shen_graph.specs.Graph.{Graph}
 use Rattle.heap_world.specs.World.{Plot}
 use Rattle.heap_world.specs.Change.{Change, image_words, image_view}
-use Rattle.image_laws.specs.Full.{full}
-use Rattle.image_laws.specs.Promised.{Promises}
+use Rattle.full_words.specs.Full.{full}
+use Rattle.full_words.specs.Promised.{Promises}
 use Rattle.image_graph.specs.Holds.{HoldsBy}
-use Rattle.mark_laws.specs.Init.{init_marked}
-use Rattle.mark_laws.specs.Facts.{IsMarking}
-use Rattle.evac_pauses.specs.Collect.{evac_next}
-use Rattle.update_laws.specs.Changes.{init_updated, final_updated}
+use Rattle.cycle_words.specs.Marking.Init.{init_marked}
+use Rattle.cycle_words.specs.Marking.WhileMarking.{IsMarking}
+use Rattle.cycle_pauses.specs.Evacuation.Collect.{evac_next}
+use Rattle.cycle_words.specs.Updating.Changes.{init_updated, final_updated}
 use Rattle.cycle_pauses.specs.Ended.{ended, CanEnd}
 
 -- room is needed now: a mutator waits for it, or a copier found none while objects are evacuated

@@ -2,9 +2,9 @@
 use Rattle.std.specs.Prelude.{ℕ, ◌≡◌, if◌then◌else◌, false}
 use Rattle.heap_words.specs.declared.config.Config.{Config}
 use Rattle.heap_words.specs.Words.{Word}
-use Rattle.image_laws.specs.Full.{full}
+use Rattle.full_words.specs.Full.{full}
 use Rattle.image_graph.specs.Holds.{HoldsSome}
-use Rattle.finish_laws.specs.Finish.{CanFinish, finished, is_whole}
+use Rattle.cycle_words.specs.Finishing.Finish.{CanFinish, finished, is_whole}
 
 -- The words after a cycle was ended in its pause. Where an object or a request found no room, the heap is collected in full from the
 -- words that finishing leaves.

@@ -7,12 +7,12 @@ use Rattle.shen_graph.specs.Graph.{Graph}
 use Rattle.heap_world.specs.Asking.{Asking}
 use Rattle.heap_world.specs.Represents.{Represents}
 use Rattle.heap_world.specs.Change.{image_words, image_view, IsPaused, IsPause}
-use Rattle.image_laws.specs.Full.{served}
-use Rattle.mark_laws.specs.Laws.{HasNoMoreSeats}
-use Rattle.mark_laws.specs.Final.{final_marked}
-use Rattle.cset_laws.specs.Begun.{CanBegin}
-use Rattle.update_pauses.specs.Freed.{IsFreed}
-use Rattle.finish_laws.specs.Finish.{cycle_finished, is_whole}
+use Rattle.full_words.specs.Full.{served}
+use Rattle.cycle_words.specs.Marking.Laws.{HasNoMoreSeats}
+use Rattle.cycle_words.specs.Marking.Final.{final_marked}
+use Rattle.cycle_words.specs.Evacuation.Begun.{CanBegin}
+use Rattle.cycle_pauses.specs.Updating.Freed.{IsFreed}
+use Rattle.cycle_words.specs.Finishing.Finish.{cycle_finished, is_whole}
 use Rattle.cycle_pauses.specs.Ended.{ended, CanEnd}
 use Rattle.cycle_pauses.specs.Collect.{is_room_needed, past_marking, collected, collect_image, CanPauseSome}
 

@@ -3,6 +3,12 @@
 //! ending it does not make enough room. It keeps the graph, and answers who waits. Laws, as theorems and no code.
 #![tactic(auto)]
 
+pub mod evacuation_laws;
+pub mod finishing_laws;
+pub mod full_laws;
+pub mod marking_laws;
+pub mod updating_laws;
+
 ghost use Rattle.cycle_pauses.specs.Laws.{EndedIsPaused, SetIsFreedFirst, RepresentingCanCollect, EndedCanBegin, RunningCanEnd, ImageIsCollected, TableIsCollected, CollectIsPause};
 
 /// A law: a cycle that is ended in its pause is what a pause owes. It keeps the graph, and answers each mutator that asks.

@@ -4,14 +4,14 @@ use Rattle.std.proofs.lemmas.Bool.{cases_eq, cond-true, cond-false, and_left, fa
 use Rattle.std.proofs.Math.Path.{fun_ext}
 use Rattle.heap_words.specs.declared.config.Config.{Config}
 use Rattle.heap_words.specs.Words.{Word, Evac, Ask, Top, Wait, write}
-use Rattle.image_laws.specs.Full.{served}
+use Rattle.full_words.specs.Full.{served}
 use Rattle.image_graph.specs.Left.{IsLeft}
 use Rattle.image_graph.specs.Make.{AreWithin}
-use Rattle.update_laws.specs.Changes.{is_chosen, final_updated}
-use Rattle.finish_laws.specs.Updated.{all_updated}
-use Rattle.finish_laws.specs.Copies.{is_room_for_all, all_copied}
-use Rattle.finish_laws.proofs.Whole.{nobody_is, nobody_from, waits_if_left, left_if_waits}
-use Rattle.finish_laws.specs.Finish.{set_freed, cycle_finished, finished, nobody_waits, is_whole}
+use Rattle.cycle_words.specs.Updating.Changes.{is_chosen, final_updated}
+use Rattle.cycle_words.specs.Finishing.Updated.{all_updated}
+use Rattle.cycle_words.specs.Finishing.Copies.{is_room_for_all, all_copied}
+use Rattle.cycle_words.proofs.Finishing.Whole.{nobody_is, nobody_from, waits_if_left, left_if_waits}
+use Rattle.cycle_words.specs.Finishing.Finish.{set_freed, cycle_finished, finished, nobody_waits, is_whole}
 
 -- the end of the cycle
 ended_at : (c : Config) (m : Word → ℕ) (w : Word) → write (write (final_updated c m) Evac 0) Ask 0 w ≡ set_freed c m w

@@ -1,6 +1,6 @@
-pub mod Copying
+pub mod CopyingOut
 pub mod Starts
-pub mod Updating
+pub mod UpdatedFields
 pub mod Naming
 pub mod Finishing
 pub mod Reading

@@ -7,10 +7,10 @@ use Rattle.heap_words.specs.declared.config.Config.{Config}
 use Rattle.heap_words.specs.Words.{Word, Root, Answer, Heap, view, write}
 use Rattle.heap_words.proofs.Stores.{view_none}
 use Rattle.regions.specs.Place.{region_with}
-use Rattle.finish_laws.specs.Updated.{updated_word, is_kept_field, CanUpdateAll, all_updated}
-use Rattle.finish_laws.proofs.Fields.{low_spared}
+use Rattle.cycle_words.specs.Finishing.Updated.{updated_word, is_kept_field, CanUpdateAll, all_updated}
+use Rattle.cycle_words.proofs.Finishing.Fields.{low_spared}
 use Rattle.degenerated.specs.Steps.{fields_updated, is_of_first, row_updated, roots_updated, answers_updated}
-use Rattle.degenerated.proofs.Updating.{same_word, field_outside, lies_outside}
+use Rattle.degenerated.proofs.UpdatedFields.{same_word, field_outside, lies_outside}
 
 module _ (c : Config) (m : Word → ℕ) where
   -- the roots of a mutator

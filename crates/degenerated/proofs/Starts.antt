@@ -2,8 +2,8 @@
 use Rattle.std.proofs.Common.{◌≡◌, ◌≢◌, ℕ, ◌+◌, ◌-◌, ◌<◌, ◌≤◌, ◌==◌, cond, zero, suc, refl, sym, ap, ◌∙◌, ⊎_elim, arith}
 use Rattle.std.proofs.lemmas.Bool.{cases_eq}
 use Rattle.heap_words.specs.Encoding.{object_words}
-use Rattle.finish_laws.specs.Updated.{start_of}
-use Rattle.finish_laws.proofs.Starts.{start_first, start_ends, start_goes_on}
+use Rattle.cycle_words.specs.Finishing.Updated.{start_of}
+use Rattle.cycle_words.proofs.Finishing.Starts.{start_first, start_ends, start_goes_on}
 
 module _ (heap : ℕ → ℕ) (base : ℕ) where
   -- the words of the object that begins at a distance

@@ -3,9 +3,9 @@ use Rattle.std.specs.Prelude.{ℕ, ◌+◌, ◌==◌, ◌&&◌, nat_le, nat_lt, 
 use Rattle.heap_words.specs.declared.config.Config.{Config}
 use Rattle.heap_words.specs.Words.{Word, Root, Answer, Heap}
 use Rattle.regions.specs.Place.{base_of, region_with}
-use Rattle.cset_laws.specs.Copied.{copied_out}
-use Rattle.finish_laws.specs.Updated.{updated_word, is_kept_field}
-use Rattle.finish_laws.specs.Copies.{is_left, has_copy_room}
+use Rattle.cycle_words.specs.Evacuation.Copied.{copied_out}
+use Rattle.cycle_words.specs.Finishing.Updated.{updated_word, is_kept_field}
+use Rattle.cycle_words.specs.Finishing.Copies.{is_left, has_copy_room}
 
 -- the words after the turn of an address: an object that is left there was copied out, if some region has room
 abbrev pub turn_taken : Config → (Word → ℕ) → ℕ → Word → ℕ

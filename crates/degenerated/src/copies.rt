@@ -3,9 +3,9 @@
 ghost use Rattle.std.specs.Prelude.{◌≡◌, ◌*◌, true};
 ghost use Rattle.heap_words.specs.Words.{Phase, Heap, IsWord};
 ghost use Rattle.image_graph.specs.State.{config_of, memory_of};
-ghost use Rattle.cset_laws.specs.Copied.{CanCopyOut};
-ghost use Rattle.finish_laws.specs.Copies as left;
-ghost use Rattle.finish_laws.specs.Copies.{CanCopyFrom, copied_from, is_room_from, all_copied, is_room_for_all};
+ghost use Rattle.cycle_words.specs.Evacuation.Copied.{CanCopyOut};
+ghost use Rattle.cycle_words.specs.Finishing.Copies as left;
+ghost use Rattle.cycle_words.specs.Finishing.Copies.{CanCopyFrom, copied_from, is_room_from, all_copied, is_room_for_all};
 ghost use Rattle.degenerated.specs.Steps.{turn_taken, has_turn_room};
 
 use cset_choice::copy_out;

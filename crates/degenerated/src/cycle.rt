@@ -2,12 +2,12 @@
 
 ghost use Rattle.std.specs.Prelude.{◌≡◌, ◌↔◌, true};
 ghost use Rattle.image_graph.specs.State.{config_of, memory_of};
-ghost use Rattle.finish_laws.specs.Finish.{CanFinish, finished, is_whole, set_freed};
+ghost use Rattle.cycle_words.specs.Finishing.Finish.{CanFinish, finished, is_whole, set_freed};
 
 use crate::copies::copy_rest;
 use crate::update::update_all;
 use image_graph::Image;
-use update_core::final_update;
+use update_refs::final_update;
 
 /// How finishing a cycle has ended.
 #[derive(Clone, Copy, Debug, PartialEq, Eq)]

@@ -4,9 +4,9 @@ ghost use Rattle.std.specs.Prelude.{◌≡◌, ◌+◌, ◌^◌, ◌<◌, ◌==�
 ghost use Rattle.heap_words.specs.Words.{Cset, Heap, IsWord};
 ghost use Rattle.regions.specs.Sets.{IsOutside};
 ghost use Rattle.image_graph.specs.State.{config_of, memory_of};
-ghost use Rattle.cset_laws.specs.Live.{words_at};
-ghost use Rattle.finish_laws.specs.Updated as updates;
-ghost use Rattle.finish_laws.specs.Updated.{CanUpdateAll, updated_word, object_of, is_outside};
+ghost use Rattle.cycle_words.specs.Evacuation.Live.{words_at};
+ghost use Rattle.cycle_words.specs.Finishing.Updated as updates;
+ghost use Rattle.cycle_words.specs.Finishing.Updated.{CanUpdateAll, updated_word, object_of, is_outside};
 ghost use Rattle.degenerated.specs.Steps.{fields_updated, is_at, is_of, is_of_first};
 
 use cset_choice::is_collected;

@@ -3,7 +3,7 @@
 ghost use Rattle.std.specs.Prelude.{◌≡◌, ◌^◌, ◌<◌};
 ghost use Rattle.heap_words.specs.Words.{Word, Cset, IsWord, word_at, table_words, write};
 ghost use Rattle.image_graph.specs.State.{config_of, memory_of};
-ghost use Rattle.finish_laws.specs.Updated.{CanUpdateAll, all_updated, updated_word};
+ghost use Rattle.cycle_words.specs.Finishing.Updated.{CanUpdateAll, all_updated, updated_word};
 ghost use Rattle.degenerated.specs.Steps.{row_updated, roots_updated, answers_updated};
 
 use crate::fields::{update_fields, updated};

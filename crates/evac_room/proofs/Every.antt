@@ -21,8 +21,8 @@ use Rattle.evac_room.specs.declared.spot.RoomSpot.{RoomSpot}
 use Rattle.evac_room.specs.declared.spot.RoomSpot.TheVariants.{Outside, Inside}
 use Rattle.evac_room.specs.Spot.{is_counted}
 use Rattle.evac_room.specs.Rows.{form_at, next_at, answer_at, IsFit}
-use Rattle.evac_room.specs.Core.{takes_at, begun, kind, opening, IsFew, AreOfOthers, reached, counter, counted, said, copying_at, answer_by, answer_to}
-use Rattle.evac_room.proofs.Steps.{Mine, mine_stays, after, IsKept, Says, CanStep, each_keeps, each_says, each_fits}
+use Rattle.evac_room.specs.Core.{takes_at, wish_begun, copier_kind, opening, IsFew, AreOfOthers, copiers_reached, counter, counted, said, copying_at, answer_by, answer_to}
+use Rattle.evac_room.proofs.OneStep.{Mine, mine_stays, after, IsKept, Says, CanStep, each_keeps, each_says, each_fits}
 use Rattle.evac_room.proofs.Spots.{begun_goes, begun_weight, weight_one, begun_mine, counted_set, weight_counted, counted_outside, outside_here, accessed_one, found_one}
 
 -- What holds of the word and the copiers after every list of steps: the word counts those that are counted, and each one
@@ -40,18 +40,18 @@ pub record IsCounting (s : Stage RoomSpot) : Type 0 where
 
 -- a copier that takes the wish can step
 pub can_step : (word : ℕ) (copiers : List RoomSpot) (number : ℕ) (spot : RoomSpot) (wish : Wish) → Holds word copiers → slice_get copiers number ≡ Some spot → takes_at spot wish ≡ true
-    → CanStep word (begun spot wish)
+    → CanStep word (wish_begun spot wish)
 can_step word copiers number spot wish holds here takes = record {
   going = begun_goes spot wish takes;
   is_word = holds.is_word;
   few = omega (arith, holds.counts, holds.few, count_by-le-length is_counted copiers);
-  is_in = λ in_count. omega (arith, holds.counts, weight_counted copiers number spot here, begun_weight spot wish, weight_one (begun spot wish) in_count);
+  is_in = λ in_count. omega (arith, holds.counts, weight_counted copiers number spot here, begun_weight spot wish, weight_one (wish_begun spot wish) in_count);
   mine = begun_mine word spot wish (holds.mine number spot here);
 }
 
 -- the invariant after a copier's step
 pub holds_next : (word : ℕ) (copiers : List RoomSpot) (number : ℕ) (spot : RoomSpot) (wish : Wish) (made : ℕ) (next : RoomSpot) → Holds word copiers → slice_get copiers number ≡ Some spot
-    → IsKept word (begun spot wish) made next → Holds made (slice_set copiers number next)
+    → IsKept word (wish_begun spot wish) made next → Holds made (slice_set copiers number next)
 holds_next word copiers number spot wish made next holds here kept = record {
   is_word = kept.is_word;
   few = omega (arith, holds.few, length-set copiers number next);
@@ -77,14 +77,14 @@ is_at_word s one = ap (λ ws. let x : Stage RoomSpot = record { words = ws; mach
 
 -- an event of a table of one word
 pub moved_one : (word : ℕ) (copiers : List RoomSpot) (number : ℕ) (spot : RoomSpot) (wish : Wish)
-    → moved kind (at_word word copiers) number spot wish ≡ at_word (after word (begun spot wish)) (slice_set copiers number (next_at (begun spot wish) word))
+    → moved copier_kind (at_word word copiers) number spot wish ≡ at_word (after word (wish_begun spot wish)) (slice_set copiers number (next_at (wish_begun spot wish) word))
 moved_one word copiers number spot wish =
-    ap (λ ws. let x : Stage RoomSpot = record { words = ws; machines = slice_set copiers number (next_at (begun spot wish) (slice_index (word ∷ []) (table_index (access_at 0 (form_at (begun spot wish)))))) } in x) (accessed_one (form_at (begun spot wish)) word)
-    ∙ ap (λ got. at_word (after word (begun spot wish)) (slice_set copiers number (next_at (begun spot wish) got))) (found_one (form_at (begun spot wish)) word)
+    ap (λ ws. let x : Stage RoomSpot = record { words = ws; machines = slice_set copiers number (next_at (wish_begun spot wish) (slice_index (word ∷ []) (table_index (access_at 0 (form_at (wish_begun spot wish)))))) } in x) (accessed_one (form_at (wish_begun spot wish)) word)
+    ∙ ap (λ got. at_word (after word (wish_begun spot wish)) (slice_set copiers number (next_at (wish_begun spot wish) got))) (found_one (form_at (wish_begun spot wish)) word)
 
 pub moved_is : (s : Stage RoomSpot) (number : ℕ) (spot : RoomSpot) (wish : Wish) → s.words ≡ counter s ∷ []
-    → moved kind s number spot wish ≡ at_word (after (counter s) (begun spot wish)) (slice_set s.machines number (next_at (begun spot wish) (counter s)))
-moved_is s number spot wish one = ap (λ x. moved kind x number spot wish) (is_at_word s one) ∙ moved_one (counter s) s.machines number spot wish
+    → moved copier_kind s number spot wish ≡ at_word (after (counter s) (wish_begun spot wish)) (slice_set s.machines number (next_at (wish_begun spot wish) (counter s)))
+moved_is s number spot wish one = ap (λ x. moved copier_kind x number spot wish) (is_at_word s one) ∙ moved_one (counter s) s.machines number spot wish
 
 -- what a step may do to the word
 pub record IsStep (old new : Stage RoomSpot) : Type 0 where
@@ -92,12 +92,12 @@ pub record IsStep (old new : Stage RoomSpot) : Type 0 where
   pub bit_stays : is_out_of_room (counter old) ≡ true → is_out_of_room (counter new) ≡ true
   pub quiet_stays : IsQuiet (counter old) → counter new ≡ counter old
 
-pub each_step : (s : Stage RoomSpot) (step : Event Wish) → IsCounting s → IsStep s (act kind s step)
-each_step s step sound = act_cases kind (λ x. IsStep s x) s step
+pub each_step : (s : Stage RoomSpot) (step : Event Wish) → IsCounting s → IsStep s (act copier_kind s step)
+each_step s step sound = act_cases copier_kind (λ x. IsStep s x) s step
     (record { sound = sound; bit_stays = λ h. h; quiet_stays = λ q. refl })
     (λ spot here takes.
-    let kept : IsKept (counter s) (begun spot step.order) (after (counter s) (begun spot step.order)) (next_at (begun spot step.order) (counter s)) =
-    each_keeps (counter s) (begun spot step.order) (can_step (counter s) s.machines step.number spot step.order sound.holds here takes) in
+    let kept : IsKept (counter s) (wish_begun spot step.order) (after (counter s) (wish_begun spot step.order)) (next_at (wish_begun spot step.order) (counter s)) =
+    each_keeps (counter s) (wish_begun spot step.order) (can_step (counter s) s.machines step.number spot step.order sound.holds here takes) in
     subst (λ x. IsStep s x) (sym (moved_is s step.number spot step.order sound.one)) (record {
       sound = record {
         one = refl;
@@ -119,10 +119,10 @@ opening_sound copiers few = record {
 }
 
 -- each list of steps keeps the invariant
-pub run_sound : (s : Stage RoomSpot) (steps : List (Event Wish)) → IsCounting s → IsCounting (go kind s steps)
-run_sound s steps sound = go-keeps kind IsCounting (λ x step before. (each_step x step before).sound) s steps sound
+pub run_sound : (s : Stage RoomSpot) (steps : List (Event Wish)) → IsCounting s → IsCounting (go copier_kind s steps)
+run_sound s steps sound = go-keeps copier_kind IsCounting (λ x step before. (each_step x step before).sound) s steps sound
 
-pub reached_sound : (copiers : ℕ) (steps : List (Event Wish)) → IsFew copiers → IsCounting (reached copiers steps)
+pub reached_sound : (copiers : ℕ) (steps : List (Event Wish)) → IsFew copiers → IsCounting (copiers_reached copiers steps)
 reached_sound copiers steps few = run_sound (opening copiers) steps (opening_sound copiers few)
 
 -- what stays from one stage to all that follow
@@ -131,8 +131,8 @@ pub record IsLater (old : ℕ) (s : Stage RoomSpot) : Type 0 where
   pub bit_stays : is_out_of_room old ≡ true → is_out_of_room (counter s) ≡ true
   pub quiet_stays : IsQuiet old → counter s ≡ old
 
-pub later_more : (s : Stage RoomSpot) (more : List (Event Wish)) → IsCounting s → IsLater (counter s) (go kind s more)
-later_more s more sound = go-keeps kind (λ x. IsLater (counter s) x)
+pub later_more : (s : Stage RoomSpot) (more : List (Event Wish)) → IsCounting s → IsLater (counter s) (go copier_kind s more)
+later_more s more sound = go-keeps copier_kind (λ x. IsLater (counter s) x)
     (λ x step before. let next = each_step x step before.sound in record {
       sound = next.sound;
       bit_stays = λ h. next.bit_stays (before.bit_stays h);
@@ -140,21 +140,21 @@ later_more s more sound = go-keeps kind (λ x. IsLater (counter s) x)
     })
     s more (record { sound = sound; bit_stays = λ h. h; quiet_stays = λ q. refl })
 
-pub later_reached : (copiers : ℕ) (steps more : List (Event Wish)) → IsFew copiers → IsLater (counter (reached copiers steps)) (reached copiers (steps ++ more))
+pub later_reached : (copiers : ℕ) (steps more : List (Event Wish)) → IsFew copiers → IsLater (counter (copiers_reached copiers steps)) (copiers_reached copiers (steps ++ more))
 later_reached copiers steps more few =
-    subst (λ x. IsLater (counter (reached copiers steps)) x) (sym (go-append kind (opening copiers) steps more))
-    (later_more (reached copiers steps) more (reached_sound copiers steps few))
+    subst (λ x. IsLater (counter (copiers_reached copiers steps)) x) (sym (go-append copier_kind (opening copiers) steps more))
+    (later_more (copiers_reached copiers steps) more (reached_sound copiers steps few))
 
 -- what an answer says, of a sound stage
 pub answer_says : (s : Stage RoomSpot) (step : Event Wish) (answer : Copying) → IsCounting s → answer_to s step ≡ Some answer → Says (counter s) answer
 answer_says s step answer sound = by_machine (slice_get s.machines step.number) refl
   where
     by_takes : (spot : RoomSpot) (b : Bool) → slice_get s.machines step.number ≡ Some spot → takes_at spot step.order ≡ b
-        → (if b then Some (copying_at (begun spot step.order) (counter s)) else None) ≡ Some answer → Says (counter s) answer
+        → (if b then Some (copying_at (wish_begun spot step.order) (counter s)) else None) ≡ Some answer → Says (counter s) answer
     by_takes spot true here takes is =
-        let same : copying_at (begun spot step.order) (counter s) ≡ answer = cc (is) in
+        let same : copying_at (wish_begun spot step.order) (counter s) ≡ answer = cc (is) in
         subst (λ x. Says (counter s) x) same
-        (each_says (counter s) (begun spot step.order) (can_step (counter s) s.machines step.number spot step.order sound.holds here takes))
+        (each_says (counter s) (wish_begun spot step.order) (can_step (counter s) s.machines step.number spot step.order sound.holds here takes))
     by_takes spot false here takes is = absurd (cc (is))
 
     by_machine : (m : Option RoomSpot) → slice_get s.machines step.number ≡ m → answer_by (counter s) step.order m ≡ Some answer → Says (counter s) answer
@@ -167,66 +167,66 @@ inside_by_answer Done Inside is = refl
 inside_by_answer Done _ is = absurd (cc (is))
 inside_by_answer _ next is = absurd (cc (is))
 
-pub act_inside : (s : Stage RoomSpot) (step : Event Wish) → IsCounting s → answer_to s step ≡ Some copying.Inside → slice_get (act kind s step).machines step.number ≡ Some Inside
+pub act_inside : (s : Stage RoomSpot) (step : Event Wish) → IsCounting s → answer_to s step ≡ Some copying.Inside → slice_get (act copier_kind s step).machines step.number ≡ Some Inside
 act_inside s step sound = by_machine (slice_get s.machines step.number) refl
   where
     by_takes : (spot : RoomSpot) (b : Bool) → slice_get s.machines step.number ≡ Some spot → takes_at spot step.order ≡ b
-        → (if b then Some (copying_at (begun spot step.order) (counter s)) else None) ≡ Some copying.Inside → slice_get (act kind s step).machines step.number ≡ Some Inside
+        → (if b then Some (copying_at (wish_begun spot step.order) (counter s)) else None) ≡ Some copying.Inside → slice_get (act copier_kind s step).machines step.number ≡ Some Inside
     by_takes spot true here takes is =
-        let next_is : next_at (begun spot step.order) (counter s) ≡ Inside = inside_by_answer (answer_at (begun spot step.order) (counter s)) _ (cc (is)) in
-        ap (λ x. slice_get x.machines step.number) (act-event kind s step spot (record { here = here; takes = takes }) ∙ moved_is s step.number spot step.order sound.one)
+        let next_is : next_at (wish_begun spot step.order) (counter s) ≡ Inside = inside_by_answer (answer_at (wish_begun spot step.order) (counter s)) _ (cc (is)) in
+        ap (λ x. slice_get x.machines step.number) (act-event copier_kind s step spot (record { here = here; takes = takes }) ∙ moved_is s step.number spot step.order sound.one)
         ∙ slice_get-set_same s.machines step.number spot _ here ∙ ap (λ x. Some x) next_is
     by_takes spot false here takes is = absurd (cc (is))
 
-    by_machine : (m : Option RoomSpot) → slice_get s.machines step.number ≡ m → answer_by (counter s) step.order m ≡ Some copying.Inside → slice_get (act kind s step).machines step.number ≡ Some Inside
+    by_machine : (m : Option RoomSpot) → slice_get s.machines step.number ≡ m → answer_by (counter s) step.order m ≡ Some copying.Inside → slice_get (act copier_kind s step).machines step.number ≡ Some Inside
     by_machine None here is = absurd (cc (is))
     by_machine (Some spot) here is = by_takes spot (takes_at spot step.order) here refl is
 
 -- steps of others leave a copier where it stands
-pub others_leave : (s : Stage RoomSpot) (number : ℕ) (steps : List (Event Wish)) → AreOfOthers number steps → slice_get (go kind s steps).machines number ≡ slice_get s.machines number
-others_leave s number [] others = ap (λ x. slice_get x.machines number) (go-none kind s)
+pub others_leave : (s : Stage RoomSpot) (number : ℕ) (steps : List (Event Wish)) → AreOfOthers number steps → slice_get (go copier_kind s steps).machines number ≡ slice_get s.machines number
+others_leave s number [] others = ap (λ x. slice_get x.machines number) (go-none copier_kind s)
 others_leave s number (step ∷ steps) others =
     let apart : step.number ≢ number = All-head (λ e. e.number ≢ number) step steps others in
-    ap (λ x. slice_get x.machines number) (go-first kind s step steps)
-    ∙ others_leave (act kind s step) number steps (All-tail (λ e. e.number ≢ number) step steps others)
-    ∙ machines_other kind s step number (λ same. apart (sym same))
+    ap (λ x. slice_get x.machines number) (go-first copier_kind s step steps)
+    ∙ others_leave (act copier_kind s step) number steps (All-tail (λ e. e.number ≢ number) step steps others)
+    ∙ machines_other copier_kind s step number (λ same. apart (sym same))
 
 -- the laws over every list of steps
-pub word_counts : (copiers : ℕ) (steps : List (Event Wish)) → IsFew copiers → count_of (counter (reached copiers steps)) ≡ counted (reached copiers steps).machines
+pub word_counts : (copiers : ℕ) (steps : List (Event Wish)) → IsFew copiers → count_of (counter (copiers_reached copiers steps)) ≡ counted (copiers_reached copiers steps).machines
 word_counts copiers steps few = (reached_sound copiers steps few).holds.counts
 
-pub word_is_word : (copiers : ℕ) (steps : List (Event Wish)) → IsFew copiers → counter (reached copiers steps) < 2 ^ 64
+pub word_is_word : (copiers : ℕ) (steps : List (Event Wish)) → IsFew copiers → counter (copiers_reached copiers steps) < 2 ^ 64
 word_is_word copiers steps few = (reached_sound copiers steps few).holds.is_word
 
-pub words_fit : (copiers : ℕ) (steps : List (Event Wish)) (number : ℕ) (spot : RoomSpot) (wish : Wish) → IsFew copiers → slice_get (reached copiers steps).machines number ≡ Some spot → takes_at spot wish ≡ true
-    → IsFit (begun spot wish) (counter (reached copiers steps))
+pub words_fit : (copiers : ℕ) (steps : List (Event Wish)) (number : ℕ) (spot : RoomSpot) (wish : Wish) → IsFew copiers → slice_get (copiers_reached copiers steps).machines number ≡ Some spot → takes_at spot wish ≡ true
+    → IsFit (wish_begun spot wish) (counter (copiers_reached copiers steps))
 words_fit copiers steps number spot wish few here takes =
     each_fits _ _ (can_step _ _ number spot wish (reached_sound copiers steps few).holds here takes)
 
-pub bit_stays : (copiers : ℕ) (steps more : List (Event Wish)) → IsFew copiers → is_out_of_room (counter (reached copiers steps)) ≡ true → is_out_of_room (counter (reached copiers (steps ++ more))) ≡ true
+pub bit_stays : (copiers : ℕ) (steps more : List (Event Wish)) → IsFew copiers → is_out_of_room (counter (copiers_reached copiers steps)) ≡ true → is_out_of_room (counter (copiers_reached copiers (steps ++ more))) ≡ true
 bit_stays copiers steps more few = (later_reached copiers steps more few).bit_stays
 
 -- a copier that was told that it may copy stands inside, and the others leave it there
-pub inside_still : (copiers : ℕ) (steps more : List (Event Wish)) (step : Event Wish) → IsFew copiers → answer_to (reached copiers steps) step ≡ Some copying.Inside → AreOfOthers step.number more
-    → slice_get (reached copiers (steps ++ step ∷ more)).machines step.number ≡ Some Inside
+pub inside_still : (copiers : ℕ) (steps more : List (Event Wish)) (step : Event Wish) → IsFew copiers → answer_to (copiers_reached copiers steps) step ≡ Some copying.Inside → AreOfOthers step.number more
+    → slice_get (copiers_reached copiers (steps ++ step ∷ more)).machines step.number ≡ Some Inside
 inside_still copiers steps more step few answer others =
-    ap (λ s. slice_get s.machines step.number) (go-append kind (opening copiers) steps (step ∷ more) ∙ go-first kind (reached copiers steps) step more)
-    ∙ others_leave (act kind (reached copiers steps) step) step.number more others
-    ∙ act_inside (reached copiers steps) step (reached_sound copiers steps few) answer
+    ap (λ s. slice_get s.machines step.number) (go-append copier_kind (opening copiers) steps (step ∷ more) ∙ go-first copier_kind (copiers_reached copiers steps) step more)
+    ∙ others_leave (act copier_kind (copiers_reached copiers steps) step) step.number more others
+    ∙ act_inside (copiers_reached copiers steps) step (reached_sound copiers steps few) answer
 
 -- and the word counts it
-pub inside_until_its_step : (copiers : ℕ) (steps more : List (Event Wish)) (step : Event Wish) → IsFew copiers → answer_to (reached copiers steps) step ≡ Some copying.Inside → AreOfOthers step.number more
-    → (slice_get (reached copiers (steps ++ step ∷ more)).machines step.number ≡ Some Inside) × (1 ≤ count_of (counter (reached copiers (steps ++ step ∷ more))))
+pub inside_until_its_step : (copiers : ℕ) (steps more : List (Event Wish)) (step : Event Wish) → IsFew copiers → answer_to (copiers_reached copiers steps) step ≡ Some copying.Inside → AreOfOthers step.number more
+    → (slice_get (copiers_reached copiers (steps ++ step ∷ more)).machines step.number ≡ Some Inside) × (1 ≤ count_of (counter (copiers_reached copiers (steps ++ step ∷ more))))
 inside_until_its_step copiers steps more step few answer others =
     let here = inside_still copiers steps more step few answer others in
-    (here, omega (arith, word_counts copiers (steps ++ step ∷ more) few, weight_counted (reached copiers (steps ++ step ∷ more)).machines step.number Inside here))
+    (here, omega (arith, word_counts copiers (steps ++ step ∷ more) few, weight_counted (copiers_reached copiers (steps ++ step ∷ more)).machines step.number Inside here))
 
-pub stopped_is_quiet : (copiers : ℕ) (steps : List (Event Wish)) (step : Event Wish) → IsFew copiers → answer_to (reached copiers steps) step ≡ Some copying.Stopped → IsQuiet (counter (reached copiers steps))
-stopped_is_quiet copiers steps step few answer = (answer_says (reached copiers steps) step copying.Stopped (reached_sound copiers steps few) answer).stopped_is_quiet refl
+pub stopped_is_quiet : (copiers : ℕ) (steps : List (Event Wish)) (step : Event Wish) → IsFew copiers → answer_to (copiers_reached copiers steps) step ≡ Some copying.Stopped → IsQuiet (counter (copiers_reached copiers steps))
+stopped_is_quiet copiers steps step few answer = (answer_says (copiers_reached copiers steps) step copying.Stopped (reached_sound copiers steps few) answer).stopped_is_quiet refl
 
-pub quiet_stays : (copiers : ℕ) (steps more : List (Event Wish)) → IsFew copiers → IsQuiet (counter (reached copiers steps)) → IsQuiet (counter (reached copiers (steps ++ more)))
+pub quiet_stays : (copiers : ℕ) (steps more : List (Event Wish)) → IsFew copiers → IsQuiet (counter (copiers_reached copiers steps)) → IsQuiet (counter (copiers_reached copiers (steps ++ more)))
 quiet_stays copiers steps more few quiet = subst IsQuiet (sym ((later_reached copiers steps more few).quiet_stays quiet)) quiet
 
-pub none_enters : (copiers : ℕ) (steps more : List (Event Wish)) (step : Event Wish) → IsFew copiers → IsQuiet (counter (reached copiers steps)) → answer_to (reached copiers (steps ++ more)) step ≢ Some copying.Inside
+pub none_enters : (copiers : ℕ) (steps more : List (Event Wish)) (step : Event Wish) → IsFew copiers → IsQuiet (counter (copiers_reached copiers steps)) → answer_to (copiers_reached copiers (steps ++ more)) step ≢ Some copying.Inside
 none_enters copiers steps more step few quiet answer =
-    (answer_says (reached copiers (steps ++ more)) step copying.Inside (reached_sound copiers (steps ++ more) few) answer).none_enters (quiet_stays copiers steps more few quiet) refl
+    (answer_says (copiers_reached copiers (steps ++ more)) step copying.Inside (reached_sound copiers (steps ++ more) few) answer).none_enters (quiet_stays copiers steps more few quiet) refl

@@ -1,4 +1,4 @@
-pub mod Steps
+pub mod OneStep
 pub mod Spots
 pub mod Every
 pub mod Memory

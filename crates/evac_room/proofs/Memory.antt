@@ -18,15 +18,15 @@ use Rattle.heap_words.specs.Counter.{IsQuiet}
 use Rattle.evac_room.specs.declared.spot.RoomSpot.{RoomSpot}
 use Rattle.evac_room.specs.declared.spot.RoomSpot.TheVariants.{Outside, Lower}
 use Rattle.evac_room.specs.Rows.{next_at, IsFit}
-use Rattle.evac_room.specs.Core.{takes_at, begun, kind, opening, IsFew, copying_at, answer_to}
+use Rattle.evac_room.specs.Core.{takes_at, wish_begun, copier_kind, opening, IsFew, copying_at, answer_to}
 use Rattle.evac_room.specs.Copier.{spot_of}
-use Rattle.evac_room.proofs.Steps.{after, IsKept, Says, each_keeps, each_says, each_fits}
+use Rattle.evac_room.proofs.OneStep.{after, IsKept, Says, each_keeps, each_says, each_fits}
 use Rattle.evac_room.proofs.Every.{at_word, moved_one, IsCounting, reached_sound, can_step}
 
 -- what follows from a sound stage, and has one proof at most, follows of each stage that memory may have
-pub from_memory : {P : Type 0} → IsProp P → (copiers : ℕ) (s : Stage RoomSpot) → IsFew copiers → ∥ IsReached kind (opening copiers) s ∥₁ → (IsCounting s → P) → P
+pub from_memory : {P : Type 0} → IsProp P → (copiers : ℕ) (s : Stage RoomSpot) → IsFew copiers → ∥ IsReached copier_kind (opening copiers) s ∥₁ → (IsCounting s → P) → P
 from_memory prop copiers s few some follows =
-    ∥∥₁_elim some prop (λ one. follows (reached_has kind IsCounting (opening copiers) s (λ steps. reached_sound copiers steps few) one))
+    ∥∥₁_elim some prop (λ one. follows (reached_has copier_kind IsCounting (opening copiers) s (λ steps. reached_sound copiers steps few) one))
 
 pub IsFit-prop : (spot : RoomSpot) (word : ℕ) → IsProp (IsFit spot word)
 IsFit-prop Lower word = hlevel (le_prop)
@@ -45,8 +45,8 @@ spot_here copiers number x below value =
 pub record IsMade (word made : ℕ) (copiers : List Copier) (number : ℕ) (x y : Copier) (wish : Wish) : Type 0 where
   pub here : slice_get (map spot_of copiers) number ≡ Some (spot_of x)
   pub takes : takes_at (spot_of x) wish ≡ true
-  pub spot_is : spot_of y ≡ next_at (begun (spot_of x) wish) word
-  pub word_is : made ≡ after word (begun (spot_of x) wish)
+  pub spot_is : spot_of y ≡ next_at (wish_begun (spot_of x) wish) word
+  pub word_is : made ≡ after word (wish_begun (spot_of x) wish)
 
 -- the wish is taken by the copier that the code reads
 pub takes_here : (copiers : List Copier) (number : ℕ) (x : Copier) (wish : Wish) → slice_get (map spot_of copiers) number ≡ Some (spot_of x)
@@ -55,7 +55,7 @@ takes_here copiers number x wish here takes =
     subst (λ spot. takes_at spot wish ≡ true) (get_or_from_slice_get (map spot_of copiers) number (spot_of x) Outside here) takes
 
 pub made_from : (word made : ℕ) (copiers : List Copier) (number : ℕ) (x y : Copier) (wish : Wish) → number < length (map spot_of copiers) → x ≡ get_or copiers number x
-    → takes_at (get_or (map spot_of copiers) number Outside) wish ≡ true → spot_of y ≡ next_at (begun (spot_of x) wish) word → made ≡ after word (begun (spot_of x) wish)
+    → takes_at (get_or (map spot_of copiers) number Outside) wish ≡ true → spot_of y ≡ next_at (wish_begun (spot_of x) wish) word → made ≡ after word (wish_begun (spot_of x) wish)
     → IsMade word made copiers number x y wish
 made_from word made copiers number x y wish below value takes spot_is word_is =
     let here : slice_get (map spot_of copiers) number ≡ Some (spot_of x) = spot_here copiers number x below value in
@@ -63,48 +63,48 @@ made_from word made copiers number x y wish below value takes spot_is word_is =
 
 module _ (word made : ℕ) (copiers : List Copier) (number : ℕ) (x y : Copier) (wish : Wish) (step : IsMade word made copiers number x y wish) where
   -- it is one step of the protocol
-  pub made_event : at_word made (map spot_of (slice_set copiers number y)) ≡ act kind (at_word word (map spot_of copiers)) (record { number = number; order = wish })
+  pub made_event : at_word made (map spot_of (slice_set copiers number y)) ≡ act copier_kind (at_word word (map spot_of copiers)) (record { number = number; order = wish })
   made_event =
       ap (λ w. at_word w (map spot_of (slice_set copiers number y))) step.word_is
-      ∙ ap (λ spots. at_word (after word (begun (spot_of x) wish)) spots) (map-set spot_of copiers number y ∙ ap (λ spot. slice_set (map spot_of copiers) number spot) step.spot_is)
+      ∙ ap (λ spots. at_word (after word (wish_begun (spot_of x) wish)) spots) (map-set spot_of copiers number y ∙ ap (λ spot. slice_set (map spot_of copiers) number spot) step.spot_is)
       ∙ sym (moved_one word (map spot_of copiers) number (spot_of x) wish)
-      ∙ sym (act-event kind (at_word word (map spot_of copiers)) (record { number = number; order = wish }) (spot_of x) (record { here = step.here; takes = step.takes }))
+      ∙ sym (act-event copier_kind (at_word word (map spot_of copiers)) (record { number = number; order = wish }) (spot_of x) (record { here = step.here; takes = step.takes }))
 
-  pub made_reached : IsReached kind (opening (length copiers)) (at_word word (map spot_of copiers)) → IsReached kind (opening (length (slice_set copiers number y))) (at_word made (map spot_of (slice_set copiers number y)))
+  pub made_reached : IsReached copier_kind (opening (length copiers)) (at_word word (map spot_of copiers)) → IsReached copier_kind (opening (length (slice_set copiers number y))) (at_word made (map spot_of (slice_set copiers number y)))
   made_reached reached =
-      subst (λ n. IsReached kind (opening n) (at_word made (map spot_of (slice_set copiers number y)))) (sym (length-set copiers number y))
-      (subst (λ s. IsReached kind (opening (length copiers)) s) (sym made_event) (reached_more kind (opening (length copiers)) (at_word word (map spot_of copiers)) (record { number = number; order = wish }) reached))
+      subst (λ n. IsReached copier_kind (opening n) (at_word made (map spot_of (slice_set copiers number y)))) (sym (length-set copiers number y))
+      (subst (λ s. IsReached copier_kind (opening (length copiers)) s) (sym made_event) (reached_more copier_kind (opening (length copiers)) (at_word word (map spot_of copiers)) (record { number = number; order = wish }) reached))
 
   pub made_few : IsFew (length copiers) → IsFew (length (slice_set copiers number y))
   made_few few = subst IsFew (sym (length-set copiers number y)) few
 
-  pub made_answer : (answer : Copying) → answer ≡ copying_at (begun (spot_of x) wish) word → answer_to (at_word word (map spot_of copiers)) (record { number = number; order = wish }) ≡ Some answer
+  pub made_answer : (answer : Copying) → answer ≡ copying_at (wish_begun (spot_of x) wish) word → answer_to (at_word word (map spot_of copiers)) (record { number = number; order = wish }) ≡ Some answer
   made_answer answer is = rw (step.here, step.takes) (ap (λ a. Some a) (sym is))
 
   -- what the step keeps, and what its answer says
-  pub made_keeps : IsCounting (at_word word (map spot_of copiers)) → IsKept word (begun (spot_of x) wish) made (spot_of y)
+  pub made_keeps : IsCounting (at_word word (map spot_of copiers)) → IsKept word (wish_begun (spot_of x) wish) made (spot_of y)
   made_keeps sound =
-      subst (λ spot. IsKept word (begun (spot_of x) wish) made spot) (sym step.spot_is)
-      (subst (λ w. IsKept word (begun (spot_of x) wish) w (next_at (begun (spot_of x) wish) word)) (sym step.word_is)
-      (each_keeps word (begun (spot_of x) wish) (can_step word (map spot_of copiers) number (spot_of x) wish sound.holds step.here step.takes)))
+      subst (λ spot. IsKept word (wish_begun (spot_of x) wish) made spot) (sym step.spot_is)
+      (subst (λ w. IsKept word (wish_begun (spot_of x) wish) w (next_at (wish_begun (spot_of x) wish) word)) (sym step.word_is)
+      (each_keeps word (wish_begun (spot_of x) wish) (can_step word (map spot_of copiers) number (spot_of x) wish sound.holds step.here step.takes)))
 
-  pub made_says : (answer : Copying) → answer ≡ copying_at (begun (spot_of x) wish) word → IsCounting (at_word word (map spot_of copiers)) → Says word answer
+  pub made_says : (answer : Copying) → answer ≡ copying_at (wish_begun (spot_of x) wish) word → IsCounting (at_word word (map spot_of copiers)) → Says word answer
   made_says answer is sound =
       subst (λ a. Says word a) (sym is)
-      (each_says word (begun (spot_of x) wish) (can_step word (map spot_of copiers) number (spot_of x) wish sound.holds step.here step.takes))
+      (each_says word (wish_begun (spot_of x) wish) (can_step word (map spot_of copiers) number (spot_of x) wish sound.holds step.here step.takes))
 
 -- the word that a copier finds is fit
 pub found_fits : (word : ℕ) (copiers : List Copier) (number : ℕ) (x : Copier) (wish : Wish) → slice_get (map spot_of copiers) number ≡ Some (spot_of x) → takes_at (spot_of x) wish ≡ true
-    → IsCounting (at_word word (map spot_of copiers)) → IsFit (begun (spot_of x) wish) word
+    → IsCounting (at_word word (map spot_of copiers)) → IsFit (wish_begun (spot_of x) wish) word
 found_fits word copiers number x wish here takes sound =
-    each_fits word (begun (spot_of x) wish) (can_step word (map spot_of copiers) number (spot_of x) wish sound.holds here takes)
+    each_fits word (wish_begun (spot_of x) wish) (can_step word (map spot_of copiers) number (spot_of x) wish sound.holds here takes)
 
 -- one copier more, as the opening makes them
 pub outside_more : (copiers : List Copier) (new : Copier) (count : ℕ) → map spot_of copiers ≡ replicate count Outside → spot_of new ≡ Outside → map spot_of (copiers ++ new ∷ []) ≡ replicate (count + 1) Outside
 outside_more copiers new count so_far is =
     map-append spot_of copiers (new ∷ []) ∙ ap (λ spots. spots ++ spot_of new ∷ []) so_far ∙ ap (λ spot. replicate count Outside ++ spot ∷ []) is ∙ replicate_more count Outside
 
-pub opened_reached : (copiers : List Copier) (count : ℕ) → length copiers ≡ count → map spot_of copiers ≡ replicate count Outside → IsReached kind (opening (length copiers)) (at_word 0 (map spot_of copiers))
+pub opened_reached : (copiers : List Copier) (count : ℕ) → length copiers ≡ count → map spot_of copiers ≡ replicate count Outside → IsReached copier_kind (opening (length copiers)) (at_word 0 (map spot_of copiers))
 opened_reached copiers count all are =
-    subst (λ n. IsReached kind (opening n) (at_word 0 (map spot_of copiers))) (sym all)
-    (subst (λ spots. IsReached kind (opening count) (at_word 0 spots)) (sym are) (reached_none kind (opening count)))
+    subst (λ n. IsReached copier_kind (opening n) (at_word 0 (map spot_of copiers))) (sym all)
+    (subst (λ spots. IsReached copier_kind (opening count) (at_word 0 spots)) (sym are) (reached_none copier_kind (opening count)))

@@ -10,11 +10,11 @@ use Rattle.evac_room.specs.declared.wish.Wish.TheVariants.{Enter, Leave, NoRoom}
 use Rattle.evac_room.specs.declared.spot.RoomSpot.{RoomSpot}
 use Rattle.evac_room.specs.declared.spot.RoomSpot.TheVariants.{Outside, Inside, Stopped}
 use Rattle.evac_room.specs.Spot.{is_at_rest, is_counted}
-use Rattle.evac_room.specs.Core.{takes_at, begun, counted}
-use Rattle.evac_room.proofs.Steps.{Mine, weight}
+use Rattle.evac_room.specs.Core.{takes_at, wish_begun, counted}
+use Rattle.evac_room.proofs.OneStep.{Mine, weight}
 
 -- a copier that takes the wish then has an access to make
-pub begun_goes : (spot : RoomSpot) (wish : Wish) → takes_at spot wish ≡ true → is_at_rest (begun spot wish) ≡ false
+pub begun_goes : (spot : RoomSpot) (wish : Wish) → takes_at spot wish ≡ true → is_at_rest (wish_begun spot wish) ≡ false
 begun_goes Outside Enter takes = refl
 begun_goes Outside Leave takes = absurd (cc (takes))
 begun_goes Outside NoRoom takes = absurd (cc (takes))
@@ -27,7 +27,7 @@ begun_goes Inside NoRoom takes = refl
 begun_goes _ wish takes = refl
 
 -- a wish changes no count
-pub begun_weight : (spot : RoomSpot) (wish : Wish) → weight (begun spot wish) ≡ weight spot
+pub begun_weight : (spot : RoomSpot) (wish : Wish) → weight (wish_begun spot wish) ≡ weight spot
 begun_weight Outside Enter = refl
 begun_weight Stopped Enter = refl
 begun_weight Inside Leave = refl
@@ -37,7 +37,7 @@ begun_weight spot wish = refl
 pub weight_one : (spot : RoomSpot) → is_counted spot ≡ true → weight spot ≡ 1
 weight_one spot is = ap {B = ℕ} (λ b. cond b 1 0) is
 
-pub begun_mine : (word : ℕ) (spot : RoomSpot) (wish : Wish) → Mine word spot → Mine word (begun spot wish)
+pub begun_mine : (word : ℕ) (spot : RoomSpot) (wish : Wish) → Mine word spot → Mine word (wish_begun spot wish)
 begun_mine word Outside Enter mine = tt
 begun_mine word Stopped Enter mine = tt
 begun_mine word Inside Leave mine = tt

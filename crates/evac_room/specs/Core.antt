@@ -25,19 +25,19 @@ takes_at Inside _ = true
 takes_at _ wish = true
 
 -- where it stands once it has taken the wish: at rest it begins a call
-abbrev pub begun : RoomSpot → Wish → RoomSpot
-begun Outside Enter = Look
-begun Stopped Enter = Look
-begun Inside Leave = Lower
-begun Inside NoRoom = Ask
-begun spot wish = spot
+abbrev pub wish_begun : RoomSpot → Wish → RoomSpot
+wish_begun Outside Enter = Look
+wish_begun Stopped Enter = Look
+wish_begun Inside Leave = Lower
+wish_begun Inside NoRoom = Ask
+wish_begun spot wish = spot
 
 -- copiers as machines over one word, under wishes
-abbrev pub kind : MachineKind RoomSpot Wish
-kind = record {
+abbrev pub copier_kind : MachineKind RoomSpot Wish
+copier_kind = record {
   takes = takes_at;
-  plan = λ spot wish. access_at 0 (form_at (begun spot wish));
-  took = λ spot wish got. next_at (begun spot wish) got;
+  plan = λ spot wish. access_at 0 (form_at (wish_begun spot wish));
+  took = λ spot wish got. next_at (wish_begun spot wish) got;
 }
 
 -- so many copiers outside, and the word 0
@@ -50,8 +50,8 @@ pub record IsFew (copiers : ℕ) : Type 0 where
   pub most : copiers ≤ 12
 
 -- what a list of steps leads to from the opening
-abbrev pub reached : ℕ → List (Event Wish) → Stage RoomSpot
-reached copiers steps = go kind (opening copiers) steps
+abbrev pub copiers_reached : ℕ → List (Event Wish) → Stage RoomSpot
+copiers_reached copiers steps = go copier_kind (opening copiers) steps
 
 -- none of these steps is one of the copier of this number
 abbrev pub AreOfOthers : ℕ → List (Event Wish) → Type 0
@@ -83,7 +83,7 @@ copying_at spot got = said (answer_at spot got) (next_at spot got)
 -- what a step answers, if there is the copier and it takes the wish
 abbrev pub answer_by : ℕ → Wish → Option RoomSpot → Option Copying
 answer_by word wish None = None
-answer_by word wish (Some spot) = if takes_at spot wish then Some (copying_at (begun spot wish) word) else None
+answer_by word wish (Some spot) = if takes_at spot wish then Some (copying_at (wish_begun spot wish) word) else None
 
 -- what a step answers in a stage
 abbrev pub answer_to : Stage RoomSpot → Event Wish → Option Copying
@@ -91,10 +91,10 @@ answer_to s step = answer_by (counter s) step.order (slice_get s.machines step.n
 
 -- the word, where the copiers stand, and what a step answers, after a list of steps from the opening
 abbrev pub word_after : ℕ → List (Event Wish) → ℕ
-word_after copiers steps = counter (reached copiers steps)
+word_after copiers steps = counter (copiers_reached copiers steps)
 
 abbrev pub spots_after : ℕ → List (Event Wish) → List RoomSpot
-spots_after copiers steps = (reached copiers steps).machines
+spots_after copiers steps = (copiers_reached copiers steps).machines
 
 abbrev pub answer_after : ℕ → List (Event Wish) → Event Wish → Option Copying
-answer_after copiers steps step = answer_to (reached copiers steps) step
+answer_after copiers steps step = answer_to (copiers_reached copiers steps) step

@@ -7,8 +7,8 @@ use Rattle.evac_room.specs.declared.spot.RoomSpot.TheVariants.{Outside}
 use Rattle.evac_room.specs.Copier.{spot_of}
 
 -- the word that counts
-abbrev pub word_of : Copiers → ℕ
-word_of c = c.word
+abbrev pub counting_word : Copiers → ℕ
+counting_word c = c.word
 
 -- where the copiers stand, by their numbers
 abbrev pub spots_of : Copiers → List RoomSpot
@@ -18,5 +18,5 @@ abbrev pub spot_at : Copiers → ℕ → RoomSpot
 spot_at c number = slice_index_or (spots_of c) number Outside
 
 -- the word and the copiers, as steps see them
-abbrev pub stage_of : Copiers → Stage RoomSpot
-stage_of c = record { words = word_of c ∷ []; machines = spots_of c }
+abbrev pub copiers_stage : Copiers → Stage RoomSpot
+copiers_stage c = record { words = counting_word c ∷ []; machines = spots_of c }

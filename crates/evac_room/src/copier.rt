@@ -23,7 +23,7 @@ impl Copier {
     ghost use Rattle.steps_base.specs.Touch.{formed};
     ghost use Rattle.evac_room.specs.Spot.{is_at_rest};
     ghost use Rattle.evac_room.specs.Rows.{form_at, next_at, IsFit};
-    ghost use Rattle.evac_room.specs.Core.{takes_at, begun, copying_at};
+    ghost use Rattle.evac_room.specs.Core.{takes_at, wish_begun, copying_at};
 
     // Whether its call has ended.
     fn is_at_rest(&self) -> bool
@@ -57,7 +57,7 @@ impl Copier {
     // At rest it takes the wish.
     fn begin(&mut self, config: Config, wish: Wish)
         requires { takes_at (spot_of self.old) wish ≡ true }
-        ensures begun { spot_of self.new ≡ begun (spot_of self.old) wish }
+        ensures begun { spot_of self.new ≡ wish_begun (spot_of self.old) wish }
         ensures going { is_at_rest (spot_of self.new) ≡ false }
     {
         if self.is_at_rest() {
@@ -115,10 +115,10 @@ impl Copier {
     // Makes its next access of the word.
     pub(crate) fn advance(&mut self, config: Config, word: &mut u64, wish: Wish) -> Copying
         requires wish { takes_at (spot_of self.old) wish ≡ true }
-        requires fit { IsFit (begun (spot_of self.old) wish) word.old }
-        ensures spot { spot_of self.new ≡ next_at (begun (spot_of self.old) wish) word.old }
-        ensures word { word.new ≡ formed (form_at (begun (spot_of self.old) wish)) word.old }
-        ensures says { result ≡ copying_at (begun (spot_of self.old) wish) word.old }
+        requires fit { IsFit (wish_begun (spot_of self.old) wish) word.old }
+        ensures spot { spot_of self.new ≡ next_at (wish_begun (spot_of self.old) wish) word.old }
+        ensures word { word.new ≡ formed (form_at (wish_begun (spot_of self.old) wish)) word.old }
+        ensures says { result ≡ copying_at (wish_begun (spot_of self.old) wish) word.old }
     {
         self.begin(config, wish);
         let access = self.plan();

@@ -1,6 +1,6 @@
 ghost use Rattle.std.specs.Prelude.{◌≡◌, [], ◌∷◌, map, length};
 ghost use Rattle.steps_base.specs.Steps.{IsReached};
-ghost use Rattle.evac_room.specs.Core.{kind, opening, IsFew};
+ghost use Rattle.evac_room.specs.Core.{copier_kind, opening, IsFew};
 ghost use Rattle.evac_room.specs.Copier.{spot_of};
 
 use crate::copier::Copier;
@@ -15,7 +15,7 @@ pub struct Copiers {
     word: u64,
     copiers: Vec<Copier>,
     ghost few: { IsFew (length copiers.items) },
-    ghost reached: { ∥ IsReached kind (opening (length copiers.items)) (record { words = word ∷ []; machines = map spot_of copiers.items }) ∥₁ },
+    ghost reached: { ∥ IsReached copier_kind (opening (length copiers.items)) (record { words = word ∷ []; machines = map spot_of copiers.items }) ∥₁ },
 }
 
 impl Copiers {
@@ -23,12 +23,12 @@ impl Copiers {
     ghost use Rattle.steps_base.specs.Steps.{act};
     ghost use Rattle.heap_words.specs.Counter.{count_of, is_out_of_room, IsQuiet};
     ghost use Rattle.evac_room.specs.Core.{takes_at, answer_to, counted};
-    ghost use Rattle.evac_room.specs.State.{word_of, spots_of, spot_at, stage_of};
+    ghost use Rattle.evac_room.specs.State.{counting_word, spots_of, spot_at, copiers_stage};
 
     /// So many copiers, 1 to 12, none of them inside. The word is 0.
     pub fn open(alloc: Global, count: usize) -> Result<Copiers, NoMemory>
         requires { IsFew count }
-        ensures { IfOk result (λ copiers. stage_of copiers ≡ opening count) }
+        ensures { IfOk result (λ copiers. copiers_stage copiers ≡ opening count) }
     {
         let Ok(config) = Config::new(4, 64, 1, 0, 0) else {
             unreachable!()
@@ -60,20 +60,20 @@ impl Copiers {
         requires number { number < length (spots_of self.old) }
         requires wish { takes_at (spot_at self.old number) wish ≡ true }
         // it is one step of those of which the laws speak
-        ensures step { stage_of self.new ≡ act kind (stage_of self.old) (record { number = number; order = wish }) }
-        ensures says { answer_to (stage_of self.old) (record { number = number; order = wish }) ≡ Some result }
+        ensures step { copiers_stage self.new ≡ act copier_kind (copiers_stage self.old) (record { number = number; order = wish }) }
+        ensures says { answer_to (copiers_stage self.old) (record { number = number; order = wish }) ≡ Some result }
         // what the laws say of this step
-        ensures bit_stays { is_out_of_room (word_of self.old) ≡ true → is_out_of_room (word_of self.new) ≡ true }
-        ensures stopped_is_quiet { result ≡ Copying.Stopped → IsQuiet (word_of self.old) }
-        ensures quiet_stays { IsQuiet (word_of self.old) → IsQuiet (word_of self.new) }
-        ensures none_enters { IsQuiet (word_of self.old) → result ≢ Copying.Inside }
+        ensures bit_stays { is_out_of_room (counting_word self.old) ≡ true → is_out_of_room (counting_word self.new) ≡ true }
+        ensures stopped_is_quiet { result ≡ Copying.Stopped → IsQuiet (counting_word self.old) }
+        ensures quiet_stays { IsQuiet (counting_word self.old) → IsQuiet (counting_word self.new) }
+        ensures none_enters { IsQuiet (counting_word self.old) → result ≢ Copying.Inside }
     {
         self.copiers[number].advance(self.config, &mut self.word, wish)
     }
 
     /// The word: its lower 63 bits count the copiers that are inside or not yet taken off.
     pub fn word(&self) -> u64
-        ensures word { result ≡ word_of self.now }
+        ensures word { result ≡ counting_word self.now }
         ensures counts { count_of result ≡ counted (spots_of self.now) }
     {
         self.word

@@ -9,7 +9,7 @@ ghost use Rattle.heap_words.specs.Counter.{count_of, is_out_of_room, marked, IsQ
 ghost use Rattle.evac_room.specs.declared.spot.RoomSpot.{RoomSpot};
 ghost use Rattle.evac_room.specs.declared.spot.RoomSpot.TheVariants.{Inside};
 ghost use Rattle.evac_room.specs.Rows.{IsFit};
-ghost use Rattle.evac_room.specs.Core.{IsFew, AreOfOthers, counted, takes_at, begun, word_after, spots_after, answer_after};
+ghost use Rattle.evac_room.specs.Core.{IsFew, AreOfOthers, counted, takes_at, wish_begun, word_after, spots_after, answer_after};
 
 pub use crate::copiers::Copiers;
 pub use crate::wish::{Copying, Wish};
@@ -34,7 +34,7 @@ pub fn every_list_of_steps()
     // a copier that takes a wish finds a fit word
     ensures fits { (copiers : ℕ) (steps : List (Event Wish)) (number : ℕ) (spot : RoomSpot) (wish : Wish) → IsFew copiers
         → slice_get (spots_after copiers steps) number ≡ Some spot → takes_at spot wish ≡ true
-        → IsFit (begun spot wish) (word_after copiers steps) }
+        → IsFit (wish_begun spot wish) (word_after copiers steps) }
     // bit 63 once set stays
     ensures bit_stays { (copiers : ℕ) (steps more : List (Event Wish)) → IsFew copiers
         → is_out_of_room (word_after copiers steps) ≡ true

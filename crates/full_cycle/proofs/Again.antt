@@ -11,18 +11,18 @@ use Rattle.shen_graph.specs.Graph.{Graph, Object, blank, fresh, same_reference}
 use Rattle.shen_graph.specs.Reach.{IsReachable}
 use Rattle.shen_graph.specs.Reach as reach
 use Rattle.heap_world.specs.World.{Plot}
-use Rattle.image_laws.specs.Held.{IsAmong}
-use Rattle.image_laws.specs.Plot.{packed_block}
-use Rattle.image_laws.specs.Full.{now_in, root_words, kept_in, packed_in, full}
-use Rattle.image_laws.specs.Promised.{Promises, with_promised}
-use Rattle.image_laws.specs.Image.{ImageStands}
-use Rattle.image_laws.specs.Serving.{asked_name, served_block, served_promises}
-use Rattle.image_laws.proofs.Reached.{reached_is_held}
-use Rattle.image_laws.proofs.Promised.{same_reference-true, old_object}
-use Rattle.image_laws.proofs.Standing.{standing_holds}
-use Rattle.image_laws.proofs.Serving.{full_stands}
-use Rattle.image_laws.proofs.Still.{full_current, full_wait, packed_wait}
-use Rattle.image_laws.proofs.Turned.{SamePromise, IsPromisedAsAsked, promise_after}
+use Rattle.full_words.specs.Held.{IsAmong}
+use Rattle.full_words.specs.Plot.{packed_block}
+use Rattle.full_words.specs.Full.{now_in, root_words, kept_in, packed_in, full}
+use Rattle.full_words.specs.Promised.{Promises, with_promised}
+use Rattle.full_words.specs.Image.{ImageStands}
+use Rattle.full_words.specs.Serving.{asked_name, served_block, served_promises}
+use Rattle.full_words.proofs.Reached.{reached_is_held}
+use Rattle.full_words.proofs.Promised.{same_reference-true, old_object}
+use Rattle.full_words.proofs.ImagesStand.{standing_holds}
+use Rattle.full_words.proofs.Serving.{full_stands}
+use Rattle.full_words.proofs.Still.{full_current, full_wait, packed_wait}
+use Rattle.full_words.proofs.Turned.{SamePromise, IsPromisedAsAsked, promise_after}
 use Rattle.image_graph.specs.Holds.{HoldsBy, HoldsSome}
 
 module _ (c : Config) (m : Word → ℕ) (block : Plot) (owner : ℕ → Option ℕ) (p : Promises) (g : Graph) (holds : HoldsBy c m block owner p g) where

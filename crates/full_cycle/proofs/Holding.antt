@@ -12,19 +12,19 @@ use Rattle.shen_graph.specs.declared.name.Name.{Name}
 use Rattle.shen_graph.specs.Graph.{Graph, Reference}
 use Rattle.heap_world.specs.World.{Plot, thing, name_at}
 use Rattle.heap_world.proofs.Pointing.{piece_inside, named_if_not_0}
-use Rattle.image_laws.specs.Held.{IsHeld, from_root, from_field, IsAmong, AreHeldKept}
-use Rattle.image_laws.specs.Pack.{CanPack}
-use Rattle.image_laws.specs.Plot.{heap_end}
-use Rattle.image_laws.specs.Full.{now_in, root_words, copies_of, field_words, kept_in}
-use Rattle.image_laws.specs.Promised.{Promises, with_promised}
-use Rattle.image_laws.proofs.Named.{thing_at}
-use Rattle.image_laws.proofs.Reached.{held_is_reached, can_pack, refs_read}
-use Rattle.image_laws.proofs.Origin.{kept_inside, lie_apart}
-use Rattle.image_laws.proofs.Found.{has_at, found_held}
-use Rattle.image_laws.proofs.Walked.{walk_keeps, root_held, field_held}
-use Rattle.image_laws.proofs.Roots.{root_among, answer_among}
+use Rattle.full_words.specs.Held.{IsLedTo, from_root, from_field, IsAmong, AreHeldKept}
+use Rattle.full_words.specs.Pack.{CanPack}
+use Rattle.full_words.specs.Plot.{heap_end}
+use Rattle.full_words.specs.Full.{now_in, root_words, copies_of, field_words, kept_in}
+use Rattle.full_words.specs.Promised.{Promises, with_promised}
+use Rattle.full_words.proofs.Named.{thing_at}
+use Rattle.full_words.proofs.Reached.{held_is_reached, can_pack, refs_read}
+use Rattle.full_words.proofs.Origin.{kept_inside, lie_apart}
+use Rattle.full_words.proofs.Found.{has_at, found_held}
+use Rattle.full_words.proofs.Walked.{walk_keeps, root_held, field_held}
+use Rattle.full_words.proofs.Roots.{root_among, answer_among}
 use Rattle.image_graph.specs.Holds.{HoldsBy, HoldsSome}
-use Rattle.full_cycle.specs.Collect.{found_by, LeadsToHeld, CanCollect}
+use Rattle.full_cycle.specs.Collect.{found_in_turns, LeadsToHeld, CanCollect}
 
 module _ (c : Config) (memory : Word → ℕ) (block : Plot) (owner : ℕ → Option ℕ) (p : Promises) (g : Graph) (holds : HoldsBy c memory block owner p g) where
   abbrev top : ℕ → ℕ
@@ -43,7 +43,7 @@ module _ (c : Config) (memory : Word → ℕ) (block : Plot) (owner : ℕ → Op
   IsRoot = IsAmong (root_words c memory)
 
   abbrev Held : ℕ → Type 0
-  Held = IsHeld now heap IsRoot
+  Held = IsLedTo now heap IsRoot
 
   abbrev kept : ℕ → ℕ
   kept = kept_in c memory
@@ -92,10 +92,10 @@ module _ (c : Config) (memory : Word → ℕ) (block : Plot) (owner : ℕ → Op
       let inside = named_inside (heap (a + 3 + i)) to.0 to.2 in
       (inside.0, inside.1, held_kept (now (heap (a + 3 + i))) (from_field a i held few other))
 
-  found_kept : (n a : ℕ) → slice_get (found_by c memory n) n ≡ Some a → 0 < kept a
+  found_kept : (n a : ℕ) → slice_get (found_in_turns c memory n) n ≡ Some a → 0 < kept a
   found_kept n a at =
       held_kept a (found_held (λ b. copies_of memory (field_words memory b)) (copies_of memory (root_words c memory)) Held
-      (root_held c memory block more holds.objects) (field_held c memory block more holds.objects) n a (has_at (found_by c memory n) n a at))
+      (root_held c memory block more holds.objects) (field_held c memory block more holds.objects) n a (has_at (found_in_turns c memory n) n a at))
 
   can_collect : CanCollect c memory
   can_collect = record {

@@ -6,11 +6,11 @@ use Rattle.heap_words.specs.declared.config.Config.{Config}
 use Rattle.heap_words.specs.Words.{Word, Heap, IsWord}
 use Rattle.heap_words.specs.Encoding.{refs_in, object_words}
 use Rattle.heap_graph.specs.Walk.{has, with_address, with_addresses}
-use Rattle.image_laws.specs.Plot.{heap_end}
-use Rattle.image_laws.specs.Full.{now_in, held_in, kept_in, copies_of}
+use Rattle.full_words.specs.Plot.{heap_end}
+use Rattle.full_words.specs.Full.{now_in, held_in, kept_in, copies_of}
 use Rattle.image_graph.specs.declared.image.Image.{Image}
 use Rattle.image_graph.specs.State.{memory_of, found_of, IsUnchanged}
-use Rattle.full_cycle.specs.Collect.{copy_in, CanCollect, LeadsToHeld}
+use Rattle.full_cycle.specs.Collect.{current_address, CanCollect, LeadsToHeld}
 use Rattle.image_graph.proofs.Same.{memory_same}
 use Rattle.full_cycle.proofs.Listed.{noted_more}
 
@@ -34,17 +34,17 @@ module _ (c : Config) (m : Word → ℕ) (can : CanCollect c m) where
       let at = object_inside (now_in m word) to.2 in
       (at.0, omega (arith, at.1))
 
-pub copy_is : (m : Word → ℕ) (word : ℕ) → word ≢ 0 → now_in m word ≡ copy_in m word
+pub copy_is : (m : Word → ℕ) (word : ℕ) → word ≢ 0 → now_in m word ≡ current_address m word
 copy_is m word other = sym (cond-false (word == 0) 0 (now_in m word) (ne_eqb word 0 other))
 
 -- one word more was noted
 pub noted_step : (i j k : Image) (f : ℕ → ℕ) (n word : ℕ) → IsUnchanged i j
     → found_of j ≡ with_addresses (found_of i) (copies_of (memory_of i) (map f (range_with_len 0 n)))
-    → word ≡ f n → found_of k ≡ with_address (found_of j) (copy_in (memory_of j) word)
+    → word ≡ f n → found_of k ≡ with_address (found_of j) (current_address (memory_of j) word)
     → found_of k ≡ with_addresses (found_of i) (copies_of (memory_of i) (map f (range_with_len 0 (n + 1))))
 noted_step i j k f n word same before is noted =
     noted
-    ∙ ap (λ xs. with_address xs (copy_in (memory_of j) word)) before
-    ∙ ap (λ (m : Word → ℕ). with_address (with_addresses (found_of i) (copies_of (memory_of i) (map f (range_with_len 0 n)))) (copy_in m word)) (memory_same i j same)
-    ∙ ap (λ w. with_address (with_addresses (found_of i) (copies_of (memory_of i) (map f (range_with_len 0 n)))) (copy_in (memory_of i) w)) is
+    ∙ ap (λ xs. with_address xs (current_address (memory_of j) word)) before
+    ∙ ap (λ (m : Word → ℕ). with_address (with_addresses (found_of i) (copies_of (memory_of i) (map f (range_with_len 0 n)))) (current_address m word)) (memory_same i j same)
+    ∙ ap (λ w. with_address (with_addresses (found_of i) (copies_of (memory_of i) (map f (range_with_len 0 n)))) (current_address (memory_of i) w)) is
     ∙ noted_more (memory_of i) f n (found_of i)

@@ -1,9 +1,9 @@
 pub mod Listed
 pub mod Rows
-pub mod Steps
+pub mod TableRows
 pub mod Refused
 pub mod Kept
-pub mod Places
+pub mod RangeWords
 pub mod Holding
 pub mod Slices
 pub mod Whole

@@ -8,18 +8,18 @@ use Rattle.heap_words.specs.declared.config.Config.{Config}
 use Rattle.heap_words.specs.Words.{Word, Root, Answer, heap_size}
 use Rattle.heap_graph.specs.Walk.{with_address, with_addresses}
 use Rattle.heap_graph.proofs.Marks.{with_addresses-push}
-use Rattle.image_laws.specs.Full.{copies_of, roots_below, answers_below, root_words, field_words, held_in}
-use Rattle.image_laws.proofs.Turns.{noted_both}
-use Rattle.image_laws.proofs.Turns as turns
-use Rattle.full_cycle.specs.Collect.{copy_in, found_by}
+use Rattle.full_words.specs.Full.{copies_of, roots_below, answers_below, root_words, field_words, held_in}
+use Rattle.full_words.proofs.FoundInTurn.{noted_both}
+use Rattle.full_words.proofs.FoundInTurn as turns
+use Rattle.full_cycle.specs.Collect.{current_address, found_in_turns}
 
 -- one word more of a row
 pub noted_more : (m : Word → ℕ) (f : ℕ → ℕ) (i : ℕ) (order : List ℕ)
-    → with_address (with_addresses order (copies_of m (map f (range_with_len 0 i)))) (copy_in m (f i))
+    → with_address (with_addresses order (copies_of m (map f (range_with_len 0 i)))) (current_address m (f i))
     ≡ with_addresses order (copies_of m (map f (range_with_len 0 (i + 1))))
 noted_more m f i order =
-    sym (with_addresses-push order (copies_of m (map f (range_with_len 0 i))) (copy_in m (f i)))
-    ∙ ap (with_addresses order) (sym (ap (copies_of m) (map-range_with_len_more f 0 i i (omega arith)) ∙ map-append (copy_in m) (map f (range_with_len 0 i)) (f i ∷ [])))
+    sym (with_addresses-push order (copies_of m (map f (range_with_len 0 i))) (current_address m (f i)))
+    ∙ ap (with_addresses order) (sym (ap (copies_of m) (map-range_with_len_more f 0 i i (omega arith)) ∙ map-append (current_address m) (map f (range_with_len 0 i)) (f i ∷ [])))
 
 -- the roots of one mutator more
 pub roots_more : (m : Word → ℕ) (t : ℕ) (order : List ℕ)
@@ -29,18 +29,18 @@ roots_more m t order =
     let next : suc t ≡ t + 1 = omega arith in
     let row : List ℕ = map (λ i. m (Root t i)) (range_with_len 0 16) in
     noted_both order (copies_of m (roots_below m t)) (copies_of m row)
-    ∙ ap (with_addresses order) (sym (map-append (copy_in m) (roots_below m t) row))
+    ∙ ap (with_addresses order) (sym (map-append (current_address m) (roots_below m t) row))
     ∙ ap (λ n. with_addresses order (copies_of m (roots_below m n))) next
 
 -- the answer of one mutator more, if it is an address
 pub answer_more : (m : Word → ℕ) (t : ℕ) (order : List ℕ) → 1 < m (Answer t)
-    → with_address (with_addresses order (copies_of m (answers_below m t))) (copy_in m (m (Answer t)))
+    → with_address (with_addresses order (copies_of m (answers_below m t))) (current_address m (m (Answer t)))
     ≡ with_addresses order (copies_of m (answers_below m (t + 1)))
 answer_more m t order some =
     let next : suc t ≡ t + 1 = omega arith in
     let one : cond (nat_le (m (Answer t)) 1) [] (m (Answer t) ∷ []) ≡ m (Answer t) ∷ [] = cond-false (nat_le (m (Answer t)) 1) [] (m (Answer t) ∷ []) (lt-leb (m (Answer t)) 1 some) in
-    sym (with_addresses-push order (copies_of m (answers_below m t)) (copy_in m (m (Answer t))))
-    ∙ ap (with_addresses order) (sym (ap (λ xs. copies_of m (answers_below m t ++ xs)) one ∙ map-append (copy_in m) (answers_below m t) (m (Answer t) ∷ [])))
+    sym (with_addresses-push order (copies_of m (answers_below m t)) (current_address m (m (Answer t))))
+    ∙ ap (with_addresses order) (sym (ap (λ xs. copies_of m (answers_below m t ++ xs)) one ∙ map-append (current_address m) (answers_below m t) (m (Answer t) ∷ [])))
     ∙ ap (λ n. with_addresses order (copies_of m (answers_below m n))) next
 
 pub answer_none : (m : Word → ℕ) (t : ℕ) (order : List ℕ) → m (Answer t) ≤ 1
@@ -48,7 +48,7 @@ pub answer_none : (m : Word → ℕ) (t : ℕ) (order : List ℕ) → m (Answer 
 answer_none m t order none =
     let next : suc t ≡ t + 1 = omega arith in
     let empty : cond (nat_le (m (Answer t)) 1) [] (m (Answer t) ∷ []) ≡ [] = cond-true (nat_le (m (Answer t)) 1) [] (m (Answer t) ∷ []) (le-leb (m (Answer t)) 1 none) in
-    ap (with_addresses order) (sym (ap (λ xs. copies_of m (answers_below m t ++ xs)) empty ∙ map-append (copy_in m) (answers_below m t) [] ∙ nothing (copies_of m (answers_below m t))))
+    ap (with_addresses order) (sym (ap (λ xs. copies_of m (answers_below m t ++ xs)) empty ∙ map-append (current_address m) (answers_below m t) [] ∙ nothing (copies_of m (answers_below m t))))
     ∙ ap (λ n. with_addresses order (copies_of m (answers_below m n))) next
   where
     nothing : (xs : List ℕ) → xs ++ [] ≡ xs
@@ -59,7 +59,7 @@ answer_none m t order none =
 
 module _ (c : Config) (m : Word → ℕ) where
   abbrev found : ℕ → List ℕ
-  found = found_by c m
+  found = found_in_turns c m
 
   abbrev fields : ℕ → List ℕ
   fields a = copies_of m (field_words m a)
@@ -67,7 +67,7 @@ module _ (c : Config) (m : Word → ℕ) where
   pub no_turn : with_addresses (with_addresses [] (copies_of m (roots_below m c.mutators))) (copies_of m (answers_below m c.mutators)) ≡ found 0
   no_turn =
       noted_both [] (copies_of m (roots_below m c.mutators)) (copies_of m (answers_below m c.mutators))
-      ∙ ap (with_addresses []) (sym (map-append (copy_in m) (roots_below m c.mutators) (answers_below m c.mutators)))
+      ∙ ap (with_addresses []) (sym (map-append (current_address m) (roots_below m c.mutators) (answers_below m c.mutators)))
       ∙ turns.no_turn fields (copies_of m (root_words c m))
 
   pub next_turn : (n a : ℕ) → slice_get (found n) n ≡ Some a → with_addresses (found n) (fields a) ≡ found (n + 1)

@@ -2,19 +2,19 @@
 use Rattle.std.proofs.Common.{◌≡◌, ◌≢◌, ℕ, ◌<◌, ◌↔◌, ⊎_elim, sym, ap, ◌∙◌, subst, arith}
 use Rattle.heap_words.specs.declared.config.Config.{Config}
 use Rattle.heap_words.specs.Words.{Word, Top, Wait, Answer, Heap}
-use Rattle.packing.specs.Rooms.{HasNoRoom, IsLowestRoom}
-use Rattle.image_laws.specs.Held.{IsAmong}
-use Rattle.image_laws.specs.Full.{now_in, root_words, kept_in, asked_in, packed_in, full}
-use Rattle.image_laws.specs.Plot.{packed_block}
-use Rattle.image_laws.specs.Promised.{with_promised}
-use Rattle.image_laws.specs.Image.{ImageStands}
-use Rattle.image_laws.specs.Serving.{served_block, served_promises}
-use Rattle.image_laws.specs.Served.{tops_at_turn}
-use Rattle.image_laws.proofs.Reached.{held_are_reachable}
-use Rattle.image_laws.proofs.Walked.{walk_keeps}
-use Rattle.image_laws.proofs.Served.{requests_are_answered}
-use Rattle.image_laws.proofs.Serving.{full_stands}
-use Rattle.image_laws.proofs.Still.{packed_wait}
+use Rattle.packing.specs.Rooms.{NoneHasRoom, IsLowestRoom}
+use Rattle.full_words.specs.Held.{IsAmong}
+use Rattle.full_words.specs.Full.{now_in, root_words, kept_in, asked_in, packed_in, full}
+use Rattle.full_words.specs.Plot.{packed_block}
+use Rattle.full_words.specs.Promised.{with_promised}
+use Rattle.full_words.specs.Image.{ImageStands}
+use Rattle.full_words.specs.Serving.{served_block, served_promises}
+use Rattle.full_words.specs.Served.{tops_at_turn}
+use Rattle.full_words.proofs.Reached.{held_are_reachable}
+use Rattle.full_words.proofs.Walked.{walk_keeps}
+use Rattle.full_words.proofs.Served.{requests_are_answered}
+use Rattle.full_words.proofs.Serving.{full_stands}
+use Rattle.full_words.proofs.Still.{packed_wait}
 use Rattle.image_graph.specs.Left.{IsLeft}
 use Rattle.full_cycle.specs.Result.{KeepsTheGraph, KeepsTheReachable, RefusesTheLeft}
 
@@ -43,7 +43,7 @@ refuses c m t inside waits =
           (λ (room : (r : ℕ) × IsLowestRoom c.region_words (tops_at_turn c after t) (asked_in after t) c.regions r).
           let given = answered.given room.0 room.1 in
           absurd (omega (arith, given, one, c.in_range.least_words)))
-          (λ (none : HasNoRoom c.region_words (tops_at_turn c after t) (asked_in after t) c.regions). record { below = inside; waits = waiting; no_room = none })
+          (λ (none : NoneHasRoom c.region_words (tops_at_turn c after t) (asked_in after t) c.regions). record { below = inside; waits = waiting; no_room = none })
           answered.either,
       λ left. answered.full left.no_room,
     )

@@ -12,15 +12,15 @@ use Rattle.heap_words.proofs.Stores.{is_word_true, view_word, view_none}
 use Rattle.heap_graph.specs.Walk.{has, IsMarked}
 use Rattle.packing.specs.Places.{new_place, LieApart}
 use Rattle.packing.specs.Tops.{top_before, words_in}
-use Rattle.packing.proofs.Places.{stays_above}
+use Rattle.packing.proofs.Placed.{stays_above}
 use Rattle.packing.proofs.Sums.{sum_of_none}
 use Rattle.packing.proofs.Tops.{added, place_in_range}
-use Rattle.sliding.specs.Slide.{IsSlidTo, renewed, slid, slid_word, is_covered}
-use Rattle.sliding.specs.Table.{word_of, kept_of, now_of, LeadsToKept, CanCompact}
-use Rattle.sliding.proofs.Slid.{slid_word-same, slid_next, slid_none, slid_only, renewed_alike}
-use Rattle.sliding.proofs.Flags.{kept_marked, kept_unmarked, kept_below}
-use Rattle.image_laws.specs.Plot.{heap_end, packed_top}
-use Rattle.image_laws.specs.Full.{now_in, held_in, kept_in}
+use Rattle.packing.specs.Slide.{IsSlidTo, renewed, slid, slid_word, is_covered}
+use Rattle.packing.specs.Table.{word_of, kept_of, now_of, LeadsToKept, CanCompact}
+use Rattle.packing.proofs.Slid.{slid_word-same, slid_next, slid_none, slid_only, renewed_alike}
+use Rattle.packing.proofs.Flags.{kept_marked, kept_unmarked, kept_below}
+use Rattle.full_words.specs.Plot.{heap_end, packed_top}
+use Rattle.full_words.specs.Full.{now_in, held_in, kept_in}
 use Rattle.image_graph.specs.Pack.{IsPacked}
 use Rattle.image_graph.proofs.Packed.{heap_behind}
 use Rattle.full_cycle.specs.Collect.{CanCollect, LeadsToHeld}

@@ -7,10 +7,10 @@ use Rattle.heap_words.specs.Words.{Word, Pause, Left, End, State, Phase, Cset, F
 use Rattle.heap_words.proofs.Stores.{is_word_true, view_none}
 use Rattle.packing.specs.Places.{new_place}
 use Rattle.packing.proofs.Tops.{top_within}
-use Rattle.sliding.specs.Slide.{renewed}
-use Rattle.sliding.specs.Table.{IsInTable, from_table}
-use Rattle.image_laws.specs.Plot.{heap_end}
-use Rattle.image_laws.specs.Full.{now_in, kept_in, renewed_answer, empty_regions, packed}
+use Rattle.packing.specs.Slide.{renewed}
+use Rattle.packing.specs.Table.{IsInTable, from_table}
+use Rattle.full_words.specs.Plot.{heap_end}
+use Rattle.full_words.specs.Full.{now_in, kept_in, renewed_answer, empty_regions, packed}
 use Rattle.image_graph.specs.declared.image.Image.{Image}
 use Rattle.image_graph.specs.State.{config_of, words_of, memory_of, places_of, IsUnchanged}
 use Rattle.image_graph.specs.Make.{AreWithin}

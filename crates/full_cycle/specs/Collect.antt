@@ -4,17 +4,17 @@ use Rattle.heap_words.specs.declared.config.Config.{Config}
 use Rattle.heap_words.specs.Words.{Word, Root, Answer, Heap}
 use Rattle.heap_words.specs.Encoding.{refs_in}
 use Rattle.packing.specs.Places.{LieApart}
-use Rattle.image_laws.specs.Held.{found_in}
-use Rattle.image_laws.specs.Plot.{heap_end}
-use Rattle.image_laws.specs.Full.{now_in, copies_of, field_words, root_words, kept_in}
+use Rattle.full_words.specs.Held.{found_in}
+use Rattle.full_words.specs.Plot.{heap_end}
+use Rattle.full_words.specs.Full.{now_in, copies_of, field_words, root_words, kept_in}
 
 -- the address of the current copy of what a word names; null stays null
-abbrev pub copy_in : (Word → ℕ) → ℕ → ℕ
-copy_in memory word = if word == 0 then 0 else now_in memory word
+abbrev pub current_address : (Word → ℕ) → ℕ → ℕ
+current_address memory word = if word == 0 then 0 else now_in memory word
 
 -- the addresses that are found in so many turns
-abbrev pub found_by : Config → (Word → ℕ) → ℕ → List ℕ
-found_by c memory = found_in (λ a. copies_of memory (field_words memory a)) (copies_of memory (root_words c memory))
+abbrev pub found_in_turns : Config → (Word → ℕ) → ℕ → List ℕ
+found_in_turns c memory = found_in (λ a. copies_of memory (field_words memory a)) (copies_of memory (root_words c memory))
 
 -- a word is null, or the address of an object in the heap whose current copy is kept
 abbrev pub LeadsToHeld : Config → (Word → ℕ) → ℕ → Type 0
@@ -26,7 +26,7 @@ pub record CanCollect (c : Config) (memory : Word → ℕ) : Type 0 where
   pub apart : LieApart c.region_words (kept_in c memory)
   pub inside : (a : ℕ) → 0 < kept_in c memory a → a + kept_in c memory a ≤ heap_end c
   pub current : (a : ℕ) → 0 < kept_in c memory a → now_in memory a ≡ a
-  pub found : (n a : ℕ) → slice_get (found_by c memory n) n ≡ Some a → 0 < kept_in c memory a
+  pub found : (n a : ℕ) → slice_get (found_in_turns c memory n) n ≡ Some a → 0 < kept_in c memory a
   pub roots : (t i : ℕ) → t < c.mutators → i < 16 → LeadsToHeld c memory (memory (Root t i))
   pub answers : (t : ℕ) → t < c.mutators → 1 < memory (Answer t) → LeadsToHeld c memory (memory (Answer t))
   pub fields : (a i : ℕ) → 0 < kept_in c memory a → i < refs_in (memory (Heap (a + 1))) → LeadsToHeld c memory (memory (Heap (a + 3 + i)))

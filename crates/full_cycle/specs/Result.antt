@@ -6,11 +6,11 @@ use Rattle.shen_graph.specs.declared.name.Name.{Name}
 use Rattle.shen_graph.specs.Graph.{Graph}
 use Rattle.shen_graph.specs.Reach.{IsReachable}
 use Rattle.heap_world.specs.World.{Plot, thing}
-use Rattle.image_laws.specs.Plot.{packed_block}
-use Rattle.image_laws.specs.Full.{kept_in, packed_in}
-use Rattle.image_laws.specs.Promised.{Promises, with_promised}
-use Rattle.image_laws.specs.Image.{ImageStands}
-use Rattle.image_laws.specs.Serving.{served_block, served_promises}
+use Rattle.full_words.specs.Plot.{packed_block}
+use Rattle.full_words.specs.Full.{kept_in, packed_in}
+use Rattle.full_words.specs.Promised.{Promises, with_promised}
+use Rattle.full_words.specs.Image.{ImageStands}
+use Rattle.full_words.specs.Serving.{served_block, served_promises}
 use Rattle.image_graph.specs.Holds.{HoldsBy}
 use Rattle.image_graph.specs.Left.{IsLeft}
 

@@ -2,9 +2,9 @@
 use Rattle.std.specs.Prelude.{ℕ, ◌≡◌, ◌==◌, ◌&&◌, nat_le, nat_lt, if◌then◌else◌, List, slice_index}
 use Rattle.heap_words.specs.declared.config.Config.{Config}
 use Rattle.heap_words.specs.Words.{Word, Phase, Cset, Evac, Claim, Ask, Top, Tams, Limit, Current, Root, Count, Wait, Answer, Grey, Black, Heap}
-use Rattle.sliding.specs.Slide.{renewed, slid}
-use Rattle.sliding.specs.Table.{from_table, IsInTable}
-use Rattle.image_laws.specs.Plot.{heap_end, packed_top}
+use Rattle.packing.specs.Slide.{renewed, slid}
+use Rattle.packing.specs.Table.{from_table, IsInTable}
+use Rattle.full_words.specs.Plot.{heap_end, packed_top}
 
 -- the words after the kept objects were packed: the heap and the tops
 abbrev pub moved_in : Config → (now kept : ℕ → ℕ) → (Word → ℕ) → Word → ℕ

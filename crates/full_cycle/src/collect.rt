@@ -1,7 +1,7 @@
 //! A full collection, step by step.
 
 ghost use Rattle.std.specs.Prelude.{◌≡◌};
-ghost use Rattle.image_laws.specs.Full.{full};
+ghost use Rattle.full_words.specs.Full.{full};
 ghost use Rattle.image_graph.specs.State.{config_of, memory_of};
 ghost use Rattle.image_graph.specs.Holds.{HoldsSome};
 ghost use Rattle.full_cycle.specs.Result.{KeepsTheGraph, KeepsTheReachable, RefusesTheLeft};

@@ -1,7 +1,7 @@
 //! Packs what was found, by the names of words.
 
 ghost use Rattle.std.specs.Prelude.{ℕ, ◌≡◌};
-ghost use Rattle.image_laws.specs.Full.{now_in, held_in, kept_in};
+ghost use Rattle.full_words.specs.Full.{now_in, held_in, kept_in};
 ghost use Rattle.image_graph.specs.State.{config_of, memory_of, found_of, places_of, AreFound};
 ghost use Rattle.full_cycle.specs.Collect.{CanCollect, LeadsToHeld};
 ghost use Rattle.full_cycle.specs.Steps.{moved_in, IsRenewedAs};

@@ -4,9 +4,9 @@ ghost use Rattle.std.specs.Prelude.{ℕ, ◌≡◌, ◌+◌, ◌<◌, ◌≤◌,
 ghost use Rattle.std.specs.List.{range_with_len};
 ghost use Rattle.heap_words.specs.Words.{Root, Answer};
 ghost use Rattle.heap_graph.specs.Walk.{with_address, with_addresses};
-ghost use Rattle.image_laws.specs.Full.{copies_of, roots_below, answers_below, field_words, held_in, kept_in};
+ghost use Rattle.full_words.specs.Full.{copies_of, roots_below, answers_below, field_words, held_in, kept_in};
 ghost use Rattle.image_graph.specs.State.{config_of, memory_of, found_of, AreFound, IsUnchanged};
-ghost use Rattle.full_cycle.specs.Collect.{copy_in, CanCollect, LeadsToHeld};
+ghost use Rattle.full_cycle.specs.Collect.{current_address, CanCollect, LeadsToHeld};
 
 use heap_words::refs_of;
 use image_graph::Image;
@@ -18,7 +18,7 @@ fn find_copy(image: &mut Image, word: u64)
     requires leads { LeadsToHeld (config_of image.old) (memory_of image.old) word }
     ensures unchanged { IsUnchanged image.old image.new }
     ensures found { AreFound image.new }
-    ensures noted { found_of image.new ≡ with_address (found_of image.old) (copy_in (memory_of image.old) word) }
+    ensures noted { found_of image.new ≡ with_address (found_of image.old) (current_address (memory_of image.old) word) }
 {
     if word != 0 {
         let copy = image.resolve(word);
@@ -64,7 +64,7 @@ fn find_answer(image: &mut Image, mutator: usize)
     ensures unchanged { IsUnchanged image.old image.new }
     ensures found { AreFound image.new }
     ensures none { memory_of image.old (Answer mutator) ≤ 1 → found_of image.new ≡ found_of image.old }
-    ensures noted { 1 < memory_of image.old (Answer mutator) → found_of image.new ≡ with_address (found_of image.old) (copy_in (memory_of image.old) (memory_of image.old (Answer mutator))) }
+    ensures noted { 1 < memory_of image.old (Answer mutator) → found_of image.new ≡ with_address (found_of image.old) (current_address (memory_of image.old) (memory_of image.old (Answer mutator))) }
 {
     let config = image.config();
     let answer = image.word(config.answer_at(mutator));

@@ -8,7 +8,7 @@ use Rattle.heap_words.specs.Words.{Pause, Left, State, table_words, view}
 use Rattle.steps_base.specs.Steps.{Stage}
 use Rattle.handshake.specs.Standing.{Standing, outside, idle, state_word, pause_word, is_within, HasSeat, control_seat}
 use Rattle.handshake.specs.Shaken.{IsShaken}
-use Rattle.handshake.specs.Left.{IsCounted}
+use Rattle.handshake.specs.Left.{AreLeftCounted}
 use Rattle.handshake.proofs.Counting.{weight, count_by-cons}
 
 -- an element stands below the length
@@ -62,7 +62,7 @@ count_first p (x ∷ xs) (suc n) long first others =
 -- no mutator has ended, and the word says how many there are
 pub counted_begins : {R : Type 0} (c : Config) (left : R → Bool) (s : Stage R) → length s.words ≡ table_words c → length s.machines ≡ seat_count c.mutators c.helpers
     → ((k : ℕ) (r : R) → k < c.mutators → slice_get s.machines k ≡ Some r → left r ≡ true) → ((k : ℕ) (r : R) → c.mutators ≤ k → slice_get s.machines k ≡ Some r → left r ≡ false)
-    → view c s.words Left ≡ c.mutators → IsCounted c left s
+    → view c s.words Left ≡ c.mutators → AreLeftCounted c left s
 counted_begins c left s words machines first others count = record {
   words = words;
   few = omega (arith, machines, c.in_range.most_mutators, c.in_range.most_helpers);

@@ -13,8 +13,8 @@ use Rattle.steps_base.specs.Steps.{MachineKind, Stage, Event, act, go, accessed}
 use Rattle.steps_base.proofs.Runs.{go-none, go-first}
 use Rattle.steps_base.proofs.Laws.{act_cases}
 use Rattle.handshake.specs.Obeys.{is_load}
-use Rattle.handshake.specs.Left.{Counts, EventCounts, EachCounts, IsCounted}
-use Rattle.handshake.proofs.Words.{accessed-load}
+use Rattle.handshake.specs.Left.{Counts, EventCounts, EachCounts, AreLeftCounted}
+use Rattle.handshake.proofs.PauseWords.{accessed-load}
 
 -- what a machine adds to the count
 abbrev pub weight : Bool → ℕ
@@ -35,14 +35,14 @@ count_some p [] n x here is = absurd (cc (here))
 count_some p (z ∷ xs) zero x here is = let same : z ≡ x = cc (here) in omega (arith, ap (λ r. weight (p r)) same, ap weight is, count_by-cons p z xs)
 count_some p (z ∷ xs) (suc n) x here is = omega (arith, count_some p xs n x here is, count_by-cons p z xs)
 
-module _ {R : Type 0} (c : Config) (left : R → Bool) (s : Stage R) (counted : IsCounted c left s) (number : ℕ) (old new : R) (here : slice_get s.machines number ≡ Some old) where
+module _ {R : Type 0} (c : Config) (left : R → Bool) (s : Stage R) (counted : AreLeftCounted c left s) (number : ℕ) (old new : R) (here : slice_get s.machines number ≡ Some old) where
   -- the stage after an access
   abbrev after : Access → Stage R
   after access = record { words = accessed access s.words; machines = slice_set s.machines number new }
 
   -- what a step may do to the count: a count of 0 stays
   pub record IsStep (access : Access) : Type 0 where
-    pub holds : IsCounted c left (after access)
+    pub holds : AreLeftCounted c left (after access)
     pub none_stays : view c s.words Left ≡ 0 → view c (accessed access s.words) Left ≡ 0
 
   -- a word that is as it was, and a machine that counts as before
@@ -80,30 +80,30 @@ module _ {R : Type 0} (c : Config) (left : R → Bool) (s : Stage R) (counted : 
 
 module _ {R O : Type 0} (c : Config) (kind : MachineKind R O) (left : R → Bool) where
   -- an event that counts keeps the count
-  pub counted_step : (s : Stage R) (e : Event O) → IsCounted c left s → EventCounts c kind left s e → IsCounted c left (act kind s e)
-  counted_step s e counted counts = act_cases kind (λ x. IsCounted c left x) s e counted
+  pub counted_step : (s : Stage R) (e : Event O) → AreLeftCounted c left s → EventCounts c kind left s e → AreLeftCounted c left (act kind s e)
+  counted_step s e counted counts = act_cases kind (λ x. AreLeftCounted c left x) s e counted
       (λ r here takes. (counts_step c left s counted e.number r (kind.took r e.order (slice_index s.words (table_index (kind.plan r e.order)))) here (kind.plan r e.order)
       (λ got. left (kind.took r e.order got)) _
       (counts r (record { here = here; takes = takes })) refl).holds)
 
   -- once all have ended it goes on so
-  pub none_step : (s : Stage R) (e : Event O) → IsCounted c left s → EventCounts c kind left s e → view c s.words Left ≡ 0 → view c (act kind s e).words Left ≡ 0
+  pub none_step : (s : Stage R) (e : Event O) → AreLeftCounted c left s → EventCounts c kind left s e → view c s.words Left ≡ 0 → view c (act kind s e).words Left ≡ 0
   none_step s e counted counts none = act_cases kind (λ x. view c x.words Left ≡ 0) s e none
       (λ r here takes. (counts_step c left s counted e.number r (kind.took r e.order (slice_index s.words (table_index (kind.plan r e.order)))) here (kind.plan r e.order)
       (λ got. left (kind.took r e.order got)) _
       (counts r (record { here = here; takes = takes })) refl).none_stays none)
 
   -- so does a run of events that count
-  pub counted_run : (s : Stage R) (es : List (Event O)) → IsCounted c left s → EachCounts c kind left s es → IsCounted c left (go kind s es)
-  counted_run s [] counted counts = subst (λ x. IsCounted c left x) (sym (go-none kind s)) counted
-  counted_run s (e ∷ es) counted counts = subst (λ x. IsCounted c left x) (sym (go-first kind s e es))
+  pub counted_run : (s : Stage R) (es : List (Event O)) → AreLeftCounted c left s → EachCounts c kind left s es → AreLeftCounted c left (go kind s es)
+  counted_run s [] counted counts = subst (λ x. AreLeftCounted c left x) (sym (go-none kind s)) counted
+  counted_run s (e ∷ es) counted counts = subst (λ x. AreLeftCounted c left x) (sym (go-first kind s e es))
       (counted_run (act kind s e) es (counted_step s e counted counts.0) counts.1)
 
-  pub none_run : (s : Stage R) (es : List (Event O)) → IsCounted c left s → EachCounts c kind left s es → view c s.words Left ≡ 0 → view c (go kind s es).words Left ≡ 0
+  pub none_run : (s : Stage R) (es : List (Event O)) → AreLeftCounted c left s → EachCounts c kind left s es → view c s.words Left ≡ 0 → view c (go kind s es).words Left ≡ 0
   none_run s [] counted counts none = subst (λ x. view c x.words Left ≡ 0) (sym (go-none kind s)) none
   none_run s (e ∷ es) counted counts none = subst (λ x. view c x.words Left ≡ 0) (sym (go-first kind s e es))
       (none_run (act kind s e) es (counted_step s e counted counts.0) counts.1 (none_step s e counted counts.0 none))
 
 -- a mutator that has not ended finds a count that is not 0
-pub left_some : {R : Type 0} (c : Config) (left : R → Bool) (s : Stage R) (number : ℕ) (r : R) → IsCounted c left s → slice_get s.machines number ≡ Some r → left r ≡ true → view c s.words Left ≢ 0
+pub left_some : {R : Type 0} (c : Config) (left : R → Bool) (s : Stage R) (number : ℕ) (r : R) → AreLeftCounted c left s → slice_get s.machines number ≡ Some r → left r ≡ true → view c s.words Left ≢ 0
 left_some c left s number r counted here is none = omega (arith, none, counted.counts, count_some left s.machines number r here is)

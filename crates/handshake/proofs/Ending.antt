@@ -16,7 +16,7 @@ use Rattle.steps_base.proofs.Runs.{go-none, go-first}
 use Rattle.steps_base.proofs.Laws.{act_cases}
 use Rattle.handshake.specs.Obeys.{is_load}
 use Rattle.handshake.specs.Ending.{KeepsEnd, EventKeepsEnd, EachKeepsEnd, IsEndWord}
-use Rattle.handshake.proofs.Words.{accessed-load}
+use Rattle.handshake.proofs.PauseWords.{accessed-load}
 
 module _ {R : Type 0} (c : Config) (ended : R → Bool) (s : Stage R) (known : IsEndWord c ended s) (number : ℕ) (old new : R) (here : slice_get s.machines number ≡ Some old) where
   -- the stage after an access

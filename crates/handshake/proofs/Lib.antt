@@ -1,8 +1,8 @@
-pub mod Words
-pub mod Steps
+pub mod PauseWords
+pub mod StepsKeep
 pub mod Shaking
 pub mod Still
-pub mod Parts
+pub mod Obeying
 pub mod Counting
 pub mod Beginnings
 pub mod Ending

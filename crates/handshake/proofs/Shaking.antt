@@ -18,8 +18,8 @@ use Rattle.handshake.specs.Rows.{after_seat}
 use Rattle.handshake.specs.Standing.{Standing, outside, looks, backs, inside, leaves, idle, stops, checks, works, goes, state_word, pause_word, is_within, is_pausing, is_free, is_checked, HasSeat, control_seat, stop_standing}
 use Rattle.handshake.specs.Obeys.{is_load, IsHarmless, Enters, StaysOut, Looks, GoesOut, GoesOn, Stops, Checks, EndsPause, Obeys}
 use Rattle.handshake.specs.Shaken.{IsShaken, EventObeys, EachObeys}
-use Rattle.handshake.proofs.Words.{KeepsWords, elsewhere_keeps, load_keeps, pause_stored, pause_stored_states, state_stored, state_stored_pause, state_stored_other}
-use Rattle.handshake.proofs.Steps.{seat_keeps, control_keeps}
+use Rattle.handshake.proofs.PauseWords.{KeepsWords, elsewhere_keeps, load_keeps, pause_stored, pause_stored_states, state_stored, state_stored_pause, state_stored_other}
+use Rattle.handshake.proofs.StepsKeep.{seat_keeps, control_keeps}
 
 -- a machine in the heap has a state word of 1
 within_state : (w : Standing) → is_within w ≡ true → state_word w ≡ 1

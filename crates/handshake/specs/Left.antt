@@ -33,7 +33,7 @@ EachCounts c kind left s [] = Unit {0}
 EachCounts c kind left s (e ∷ es) = EventCounts c kind left s e × EachCounts c kind left (act kind s e) es
 
 -- the word counts the mutators that have not ended
-pub record IsCounted {R : Type 0} (c : Config) (left : R → Bool) (s : Stage R) : Type 0 where
+pub record AreLeftCounted {R : Type 0} (c : Config) (left : R → Bool) (s : Stage R) : Type 0 where
   pub words : length s.words ≡ table_words c
   pub few : length s.machines ≤ 12
   pub counts : view c s.words Left ≡ count_by left s.machines

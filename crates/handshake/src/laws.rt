@@ -8,7 +8,7 @@ ghost use Rattle.steps_base.specs.Steps.{MachineKind, Stage, Event, go};
 ghost use Rattle.handshake.specs.Standing.{Standing};
 ghost use Rattle.handshake.specs.Obeys.{RowsObey};
 ghost use Rattle.handshake.specs.Shaken.{IsShaken, EachObeys, IsPausing, IsStill};
-ghost use Rattle.handshake.specs.Left.{IsCounted, EachCounts};
+ghost use Rattle.handshake.specs.Left.{AreLeftCounted, EachCounts};
 ghost use Rattle.handshake.specs.Ending.{IsEndWord, EachKeepsEnd};
 
 /// The law of the handshake: whatever list of events is made of which each one obeys, state words and pause word go on to say
@@ -30,11 +30,11 @@ pub fn rows_obey()
 /// goes on to be their number. So a mutator that ends finds no 0; and a word that is 0 stays 0.
 pub fn mutators_are_counted<R, O>()
     ensures counted { (c : Config) (kind : MachineKind R O) (left : R → Bool) (s : Stage R) (events : List (Event O))
-        → IsCounted c left s → EachCounts c kind left s events → IsCounted c left (go kind s events) }
+        → AreLeftCounted c left s → EachCounts c kind left s events → AreLeftCounted c left (go kind s events) }
     ensures found { (c : Config) (left : R → Bool) (s : Stage R) (number : ℕ) (r : R)
-        → IsCounted c left s → slice_get s.machines number ≡ Some r → left r ≡ true → view c s.words Left ≢ 0 }
+        → AreLeftCounted c left s → slice_get s.machines number ≡ Some r → left r ≡ true → view c s.words Left ≢ 0 }
     ensures none_stays { (c : Config) (kind : MachineKind R O) (left : R → Bool) (s : Stage R) (events : List (Event O))
-        → IsCounted c left s → EachCounts c kind left s events → view c s.words Left ≡ 0 → view c (go kind s events).words Left ≡ 0 }
+        → AreLeftCounted c left s → EachCounts c kind left s events → view c s.words Left ≡ 0 → view c (go kind s events).words Left ≡ 0 }
 {}
 
 /// The law of the word that says that the control has ended: whatever list of events is made of which each one keeps it, the word

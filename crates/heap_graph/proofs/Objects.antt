@@ -2,7 +2,7 @@
 use Rattle.std.proofs.Common.{ℕ, ◌≡◌, ◌+◌, ◌-◌, ◌<◌, ◌≤◌, List, length, get_or, take, drop, arith, ◌∙◌, length-drop}
 use Rattle.std.proofs.lemmas.List.{length-take-le, get_or-take, get_or-drop}
 use Rattle.heap_words.specs.Encoding.{refs_in, nums_in}
-use Rattle.heap_graph.specs.Walk.{shape_at, refs_at, nums_at, words_at}
+use Rattle.heap_graph.specs.Walk.{shape_at, refs_at, nums_at, size_at}
 
 length_part : (xs : List ℕ) (from n : ℕ) → from + n ≤ length xs → length (take (from + n - from) (drop from xs)) ≡ n
 length_part xs from n h =
@@ -13,10 +13,10 @@ length_part xs from n h =
 get_or_part : (xs : List ℕ) (from n i : ℕ) → i < n → get_or (take (from + n - from) (drop from xs)) i 0 ≡ get_or xs (from + i) 0
 get_or_part xs from n i h = get_or-take (from + n - from) (drop from xs) i 0 (omega arith) ∙ get_or-drop from xs i 0
 
-pub length-refs_at : (heap : List ℕ) (k : ℕ) → k + words_at heap k ≤ length heap → length (refs_at heap k) ≡ refs_in (shape_at heap k)
+pub length-refs_at : (heap : List ℕ) (k : ℕ) → k + size_at heap k ≤ length heap → length (refs_at heap k) ≡ refs_in (shape_at heap k)
 length-refs_at heap k h = length_part heap (k + 3) (refs_in (shape_at heap k)) (omega arith)
 
-pub length-nums_at : (heap : List ℕ) (k : ℕ) → k + words_at heap k ≤ length heap → length (nums_at heap k) ≡ nums_in (shape_at heap k)
+pub length-nums_at : (heap : List ℕ) (k : ℕ) → k + size_at heap k ≤ length heap → length (nums_at heap k) ≡ nums_in (shape_at heap k)
 length-nums_at heap k h = length_part heap (k + 3 + refs_in (shape_at heap k)) (nums_in (shape_at heap k)) (omega arith)
 
 pub get_or-refs_at : (heap : List ℕ) (k i : ℕ) → i < refs_in (shape_at heap k) → get_or (refs_at heap k) i 0 ≡ get_or heap (k + 3 + i) 0

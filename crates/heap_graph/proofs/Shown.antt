@@ -15,8 +15,8 @@ use Rattle.shen_graph.specs.declared.name.Name.{Name}
 use Rattle.shen_graph.specs.Graph.{Graph, Reference, same_name}
 use Rattle.shen_graph.specs.GraphText.{Text, Row, row_in, names_of}
 use Rattle.shen_graph.specs.Reach.{IsReachable, InOrder}
-use Rattle.heap_graph.specs.Walk.{has, refs_at, words_at, IsNamed, IsWalkable, IsWalk}
-use Rattle.heap_graph.specs.Rows.{name_at, reference_in, row_at, root_word, root_rows}
+use Rattle.heap_graph.specs.Walk.{has, refs_at, size_at, IsNamed, IsWalkable, IsWalk}
+use Rattle.heap_graph.specs.Rows.{name_in_heap, reference_in, row_in_heap, root_word, root_rows}
 use Rattle.heap_graph.specs.Shows.{ShowsGraph, WordsStand}
 use Rattle.heap_graph.proofs.Sizes.{sizes_fit, same_functions}
 use Rattle.heap_graph.proofs.Standing.{facts, led_name, name_led, reference_same, row_same}
@@ -37,9 +37,9 @@ module _ (first : ℕ) (heap roots : List ℕ) (sound : IsWalkable first heap ro
     pub all_above : All (λ a. first ≤ a) order
     all_above = all_from-has (λ a. first ≤ a) order (λ a h. sound.above a (walk.led a h))
 
-    pub all_below : All (λ a. a + words_at heap (a - first) ≤ first + length heap) order
+    pub all_below : All (λ a. a + size_at heap (a - first) ≤ first + length heap) order
     all_below =
-        all_from-has (λ a. a + words_at heap (a - first) ≤ first + length heap) order (λ a h. sound.below a (walk.led a h))
+        all_from-has (λ a. a + size_at heap (a - first) ≤ first + length heap) order (λ a h. sound.below a (walk.led a h))
 
     pub all_named : All (λ a. All (IsNamed first heap) (refs_at heap (a - first))) order
     all_named =
@@ -48,9 +48,9 @@ module _ (first : ℕ) (heap roots : List ℕ) (sound : IsWalkable first heap ro
         (λ a field. sound.fields_named m a (walk.led m h) field))
 
     -- the objects take at most all words
-    pub all_fit : sum_by (λ a. words_at heap (a - first)) order ≤ length heap
+    pub all_fit : sum_by (λ a. size_at heap (a - first)) order ≤ length heap
     all_fit =
-        sizes_fit (λ a. words_at heap (a - first)) order first (length heap) walk.once
+        sizes_fit (λ a. size_at heap (a - first)) order first (length heap) walk.once
         (λ a b ha hb. sound.apart a b (walk.led a ha) (walk.led b hb))
         (λ a h. sound.above a (walk.led a h)) (λ a h. sound.below a (walk.led a h))
 
@@ -61,24 +61,24 @@ Contains-map f xs x c =
 
 module _ (first : ℕ) (heap roots order : List ℕ) (at : ℕ → Option Name) (g : Graph) (one : 1 ≤ first)
     (s : WordsStand first heap roots at g) (walk : IsWalk first heap roots order) where
-  pub names_differ : IsDistinct same_name (map (λ r. r.name) (map (row_at first heap) order))
+  pub names_differ : IsDistinct same_name (map (λ r. r.name) (map (row_in_heap first heap) order))
   names_differ =
-      IsDistinct-from_apart same_name (map (λ r. r.name) (map (row_at first heap) order))
+      IsDistinct-from_apart same_name (map (λ r. r.name) (map (row_in_heap first heap) order))
       (λ i j d before h.
-      let many : length (map (λ (r : Row). r.name) (map (row_at first heap) order)) ≡ length order =
-      length-map (map (row_at first heap) order) (λ (r : Row). r.name) ∙ length-map order (row_at first heap) in
+      let many : length (map (λ (r : Row). r.name) (map (row_in_heap first heap) order)) ≡ length order =
+      length-map (map (row_in_heap first heap) order) (λ (r : Row). r.name) ∙ length-map order (row_in_heap first heap) in
       let low : j < length order = omega (arith, many, h) in
       apart i j d before low)
     where
       read : (i : ℕ) (d : Name) → i < length order
-          → get_or (map (λ (r : Row). r.name) (map (row_at first heap) order)) i d ≡ name_at heap (get_or order i 0 - first)
+          → get_or (map (λ (r : Row). r.name) (map (row_in_heap first heap) order)) i d ≡ name_in_heap heap (get_or order i 0 - first)
       read i d low =
-          get_or-map (λ (r : Row). r.name) (map (row_at first heap) order) i (row_at first heap 0) d (rw length-map low)
-          ∙ ap (λ (r : Row). r.name) (get_or-map (row_at first heap) order i 0 (row_at first heap 0) low)
+          get_or-map (λ (r : Row). r.name) (map (row_in_heap first heap) order) i (row_in_heap first heap 0) d (rw length-map low)
+          ∙ ap (λ (r : Row). r.name) (get_or-map (row_in_heap first heap) order i 0 (row_in_heap first heap 0) low)
 
       apart : (i j : ℕ) (d : Name) → i < j → j < length order
-          → same_name (get_or (map (λ (r : Row). r.name) (map (row_at first heap) order)) i d)
-          (get_or (map (λ (r : Row). r.name) (map (row_at first heap) order)) j d) ≡ false
+          → same_name (get_or (map (λ (r : Row). r.name) (map (row_in_heap first heap) order)) i d)
+          (get_or (map (λ (r : Row). r.name) (map (row_in_heap first heap) order)) j d) ≡ false
       apart i j d before low =
           false_from_ne_true _ (λ is.
           let earlier : i < length order = omega arith in
@@ -96,30 +96,30 @@ module _ (first : ℕ) (heap roots order : List ℕ) (at : ℕ → Option Name) 
   abbrev IsFound : Row → Type 0
   IsFound r = (a : ℕ) × (n : Name) × (has order a ≡ true) × (at a ≡ Some n) × IsReachable g n × (r ≡ row_in g n)
 
-  found : All IsFound (map (row_at first heap) order)
+  found : All IsFound (map (row_in_heap first heap) order)
   found =
-      All-map IsFound (row_at first heap) order
-      (All-from_any nat_eq_equiv (λ a. IsFound (row_at first heap a)) order
+      All-map IsFound (row_in_heap first heap) order
+      (All-from_any nat_eq_equiv (λ a. IsFound (row_in_heap first heap a)) order
       (λ a h. let u = led_name first heap roots at g one s a (walk.led a h) in
       (a, u.0, h, u.1.0, u.2, row_same first heap roots at g one s a u.0 u.1)))
 
-  module _ (text : Text) (moved : IsPermutation (map (row_at first heap) order) text.rows) where
+  module _ (text : Text) (moved : IsPermutation (map (row_in_heap first heap) order) text.rows) where
     found_rows : All IsFound text.rows
-    found_rows = All-permutation IsFound (map (row_at first heap) order) text.rows moved found
+    found_rows = All-permutation IsFound (map (row_in_heap first heap) order) text.rows moved found
 
     every : (n : Name) → IsReachable g n → Contains (names_of text) n
     every n reach =
         let u = name_led first heap roots at g one s n reach in
-        let row = row_at first heap u.0 in
+        let row = row_in_heap first heap u.0 in
         let c = Contains-from_any exact_unsigned_eq u.0 order (walk.all u.0 u.2) in
         let there : Contains text.rows row =
-        Contains-permutation (map (row_at first heap) order) text.rows row moved (Contains-map (row_at first heap) order u.0 c) in
+        Contains-permutation (map (row_in_heap first heap) order) text.rows row moved (Contains-map (row_in_heap first heap) order u.0 c) in
         subst (λ (m : Name). Contains (names_of text) m) (facts first heap roots at g one s u.0 n u.1).name
         (Contains-map (λ (r : Row). r.name) text.rows row there)
 
     only : (n : Name) → Contains (names_of text) n → IsReachable g n
     only n c =
-        let d = row_at first heap 0 in
+        let d = row_in_heap first heap 0 in
         let low : c.0 < length text.rows = omega (arith, length-map text.rows (λ (r : Row). r.name), c.1) in
         let f = found_rows c.0 d low in
         let e : f.1 ≡ n =
@@ -128,7 +128,7 @@ module _ (first : ℕ) (heap roots order : List ℕ) (at : ℕ → Option Name) 
 
     rows_same : text.rows ≡ map (row_in g) (names_of text)
     rows_same =
-        let d = row_at first heap 0 in
+        let d = row_in_heap first heap 0 in
         let names = names_of text in
         let many : length names ≡ length text.rows = length-map text.rows (λ (r : Row). r.name) in
         ext_get_or d text.rows (map (row_in g) names) (sym (length-map names (row_in g) ∙ many))

@@ -12,9 +12,9 @@ use Rattle.shen_graph.specs.Graph.{Graph, Object, Reference, named}
 use Rattle.shen_graph.specs.Reach.{IsReachable, from_root as reach_root, from_field as reach_field, size}
 use Rattle.heap_world.specs.Objects.{Refers}
 use Rattle.shen_graph.specs.GraphText.{row_in}
-use Rattle.heap_graph.specs.Walk.{has, shape_at, refs_at, nums_at, words_at, current_at, currents, Leads, from_root, from_field, IsWalkable}
+use Rattle.heap_graph.specs.Walk.{has, shape_at, refs_at, nums_at, size_at, current_at, currents, Leads, from_root, from_field, IsWalkable}
 use Rattle.heap_graph.specs.Stands.{current_of, IsAt}
-use Rattle.heap_graph.specs.Rows.{name_at, reference_in, row_at, root_word}
+use Rattle.heap_graph.specs.Rows.{name_in_heap, reference_in, row_in_heap, root_word}
 use Rattle.heap_graph.specs.Shows.{WordsStand}
 use Rattle.heap_graph.proofs.Copies.{plain_current, current_same, current_null}
 use Rattle.heap_graph.proofs.Objects.{length-refs_at, length-nums_at, get_or-refs_at, get_or-nums_at}
@@ -24,9 +24,9 @@ use Rattle.heap_graph.proofs.RootRows.{root_word-at}
 pub record Facts (first : ℕ) (heap : List ℕ) (g : Graph) (a : ℕ) (n : Name) (o : Object) : Type 0 where
   pub refs : refs_in (shape_at heap (a - first)) ≡ length o.refs
   pub nums : nums_in (shape_at heap (a - first)) ≡ length o.nums
-  pub words : words_at heap (a - first) ≡ size o
-  pub within : a - first + words_at heap (a - first) ≤ length heap
-  pub name : name_at heap (a - first) ≡ n
+  pub words : size_at heap (a - first) ≡ size o
+  pub within : a - first + size_at heap (a - first) ≤ length heap
+  pub name : name_in_heap heap (a - first) ≡ n
   pub object : named g (Some n) ≡ o
 
 code_thread : (t k : ℕ) → k < 2 ^ 32 → thread_in (name_code t k) ≡ t
@@ -111,7 +111,7 @@ module _ (first : ℕ) (heap roots : List ℕ) (at : ℕ → Option Name) (g : G
       ap refs_in shape ∙ refs_in-shape_word (length o.refs) (length o.nums) w.few_refs w.few_nums in
       let nums : nums_in (shape_at heap (a - first)) ≡ length o.nums =
       ap nums_in shape ∙ nums_in-shape_word (length o.refs) (length o.nums) w.few_refs w.few_nums in
-      let words : words_at heap (a - first) ≡ size o = omega (arith, refs, nums) in
+      let words : size_at heap (a - first) ≡ size o = omega (arith, refs, nums) in
       let second = sym (shift first a 2 above) in
       record {
         refs = refs;
@@ -231,9 +231,9 @@ module _ (first : ℕ) (heap roots : List ℕ) (at : ℕ → Option Name) (g : G
 
   -- the reference that a word stands for is the one that is read from it
   pub reference_same : (w : ℕ) (r : Reference) → Refers at w r → reference_in first heap w ≡ r
-  reference_same w None h = cond-true (w == 0) None (Some (name_at heap (current_at first heap w - first))) (eq-eqb w 0 h)
+  reference_same w None h = cond-true (w == 0) None (Some (name_in_heap heap (current_at first heap w - first))) (eq-eqb w 0 h)
   reference_same w (Some n) h =
-      cond-false (w == 0) None (Some (name_at heap (current_at first heap w - first))) (ne_eqb w 0 (never_null w n h))
+      cond-false (w == 0) None (Some (name_in_heap heap (current_at first heap w - first))) (ne_eqb w 0 (never_null w n h))
       ∙ ap (λ b. Some b) (facts (current_at first heap w) n (current_is w n h)).name
 
   refs_same : (a : ℕ) (n : Name) (here : IsHere a n)
@@ -274,7 +274,7 @@ module _ (first : ℕ) (heap roots : List ℕ) (at : ℕ → Option Name) (g : G
       ∙ (object_at a n here).1.words.numbers i (get_or o.nums i 0) (slice_get-get_or o.nums i 0 low))
 
   -- the row by the words of an object is its row in the graph
-  pub row_same : (a : ℕ) (n : Name) → IsHere a n → row_at first heap a ≡ row_in g n
+  pub row_same : (a : ℕ) (n : Name) → IsHere a n → row_in_heap first heap a ≡ row_in g n
   row_same a n here =
       let f = facts a n here in
       ap (λ m. record { name = m; refs = map (reference_in first heap) (refs_at heap (a - first)); nums = nums_at heap (a - first) }) f.name

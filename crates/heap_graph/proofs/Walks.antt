@@ -5,7 +5,7 @@ use Rattle.std.proofs.lemmas.List.Folds.{list_any_at}
 use Rattle.std.proofs.lemmas.Bool.{eq-eqb, false≢true, cases_lt}
 use Rattle.std.proofs.lemmas.Map.Keys.{IsDistinct-from_apart}
 use Rattle.std.proofs.lemmas.Map.Views.{Contains-from_any, exact_unsigned_eq}
-use Rattle.heap_graph.specs.Walk.{has, refs_at, currents, Leads, from_root, from_field, IsWalkable, IsMarked, IsAmong, IsWalk, with_addresses}
+use Rattle.heap_graph.specs.Walk.{has, refs_at, currents, Leads, from_root, from_field, IsWalkable, IsMarked, IsNullOrAmong, IsWalk, with_addresses}
 use Rattle.heap_graph.proofs.Marks.{kept, new, only, prefix}
 
 -- with no flag set, the list without an address is marked
@@ -29,7 +29,7 @@ among_from_led first heap roots n a sound e led =
 
 -- the words that lead to objects each have a flag, or are null
 pub all_among : (first : ℕ) (heap roots : List ℕ) (n : ℕ) (words : List ℕ) → IsWalkable first heap roots → n ≡ length heap
-    → ((a : ℕ) → a ≢ 0 → has words a ≡ true → Leads first heap roots a) → All (IsAmong first n) words
+    → ((a : ℕ) → a ≢ 0 → has words a ≡ true → Leads first heap roots a) → All (IsNullOrAmong first n) words
 all_among first heap roots n words sound e led =
     λ k d h ne. among_from_led first heap roots n _ sound e (led _ ne (list_any_at _ words k d h (eq-eqb _ _ refl)))
 

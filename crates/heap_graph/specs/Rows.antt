@@ -8,17 +8,17 @@ use Rattle.shen_graph.specs.GraphText.{Text, Row, with_reference, with_number}
 use Rattle.heap_graph.specs.Walk.{refs_at, nums_at, current_at}
 
 -- the name of the object whose header is the word at an index of the heap
-abbrev pub name_at : List ℕ → ℕ → Name
-name_at heap k = record { thread = thread_in (slice_index heap (k + 2)); count = count_in (slice_index heap (k + 2)) }
+abbrev pub name_in_heap : List ℕ → ℕ → Name
+name_in_heap heap k = record { thread = thread_in (slice_index heap (k + 2)); count = count_in (slice_index heap (k + 2)) }
 
 -- the reference that a word stands for, by the name of the current copy there
 abbrev pub reference_in : ℕ → List ℕ → ℕ → Reference
-reference_in first heap word = if word == 0 then None else Some (name_at heap (current_at first heap word - first))
+reference_in first heap word = if word == 0 then None else Some (name_in_heap heap (current_at first heap word - first))
 
 -- the row of the object at an address
-abbrev pub row_at : ℕ → List ℕ → ℕ → Row
-row_at first heap a = record {
-  name = name_at heap (a - first);
+abbrev pub row_in_heap : ℕ → List ℕ → ℕ → Row
+row_in_heap first heap a = record {
+  name = name_in_heap heap (a - first);
   refs = map (reference_in first heap) (refs_at heap (a - first));
   nums = nums_at heap (a - first);
 }

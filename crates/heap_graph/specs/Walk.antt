@@ -23,8 +23,8 @@ nums_at heap k =
     slice_range heap (k + 3 + refs_in (shape_at heap k)) (k + 3 + refs_in (shape_at heap k) + nums_in (shape_at heap k))
 
 -- how many words it has
-abbrev pub words_at : List ℕ → ℕ → ℕ
-words_at heap k = object_words (shape_at heap k)
+abbrev pub size_at : List ℕ → ℕ → ℕ
+size_at heap k = object_words (shape_at heap k)
 
 -- the address of the current copy of what a word names, by the header there; null stays null
 abbrev pub current_at : (first : ℕ) (heap : List ℕ) → ℕ → ℕ
@@ -50,12 +50,12 @@ pub record IsWalkable (first : ℕ) (heap roots : List ℕ) : Type 0 where
   pub roots_named : (a : ℕ) → has roots a ≡ true → IsNamed first heap a
   pub fields_named : (m a : ℕ) → Leads first heap roots m → has (refs_at heap (m - first)) a ≡ true → IsNamed first heap a
   pub above : (a : ℕ) → Leads first heap roots a → first ≤ a
-  pub below : (a : ℕ) → Leads first heap roots a → a + words_at heap (a - first) ≤ first + length heap
-  pub apart : (a b : ℕ) → Leads first heap roots a → Leads first heap roots b → a < b → a + words_at heap (a - first) ≤ b
+  pub below : (a : ℕ) → Leads first heap roots a → a + size_at heap (a - first) ≤ first + length heap
+  pub apart : (a b : ℕ) → Leads first heap roots a → Leads first heap roots b → a < b → a + size_at heap (a - first) ≤ b
 
 -- a word is null, or the address of one of so many words
-abbrev pub IsAmong : (first words : ℕ) → ℕ → Type 0
-IsAmong first words a = a ≢ 0 → (first ≤ a) × (a < first + words)
+abbrev pub IsNullOrAmong : (first words : ℕ) → ℕ → Type 0
+IsNullOrAmong first words a = a ≢ 0 → (first ≤ a) × (a < first + words)
 
 -- the list has no address twice, and a flag for each address says whether the list has it
 pub record IsMarked (first : ℕ) (marks : List Bool) (order : List ℕ) : Type 0 where

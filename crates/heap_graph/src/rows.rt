@@ -5,8 +5,8 @@ ghost use Rattle.std.specs.List.{IsDistinct};
 ghost use Rattle.shen_graph.specs.Graph.{same_name};
 ghost use Rattle.shen_graph.specs.Reach.{InOrder};
 ghost use Rattle.shen_graph.specs.GraphText.{names_of};
-ghost use Rattle.heap_graph.specs.Walk.{refs_at, nums_at, words_at, IsNamed};
-ghost use Rattle.heap_graph.specs.Rows.{name_at, reference_in, row_at, with_references, with_numbers, with_whole_row, root_word, root_rows};
+ghost use Rattle.heap_graph.specs.Walk.{refs_at, nums_at, size_at, IsNamed};
+ghost use Rattle.heap_graph.specs.Rows.{name_in_heap, reference_in, row_in_heap, with_references, with_numbers, with_whole_row, root_word, root_rows};
 
 use crate::walk::{current, references};
 use heap_words::{count_of, nums_of, refs_of, thread_of};
@@ -15,7 +15,7 @@ use shen_graph::{GraphText, Name};
 // The name of the object whose header is the word at an index.
 fn name(heap: &[u64], index: usize) -> Name
     requires { index + 3 ≤ length heap.now }
-    ensures { result ≡ name_at heap.now index }
+    ensures { result ≡ name_in_heap heap.now index }
 {
     let word = heap[index + 2];
     Name {
@@ -38,7 +38,7 @@ fn reference_to(first: u64, heap: &[u64], word: u64) -> Option<Name>
 
 // The numbers of the object whose header is the word at an index.
 fn numbers(heap: &[u64], index: usize) -> &[u64]
-    requires { index + words_at heap.now index ≤ length heap.now }
+    requires { index + size_at heap.now index ≤ length heap.now }
     ensures { result.now ≡ nums_at heap.now index }
 {
     let shape = heap[index + 1];
@@ -72,10 +72,10 @@ fn add_numbers(words: &[u64], text: &mut GraphText)
 // Adds the row of the object at an address.
 fn add_object(first: u64, heap: &[u64], address: u64, text: &mut GraphText)
     requires above { first ≤ address }
-    requires below { address + words_at heap.now (address - first) ≤ first + length heap.now }
+    requires below { address + size_at heap.now (address - first) ≤ first + length heap.now }
     requires named { All (IsNamed first heap.now) (refs_at heap.now (address - first)) }
-    requires room { words_at heap.now (address - first) ≤ text.old.spare }
-    ensures { text.new ≡ with_whole_row text.old (row_at first heap.now address) }
+    requires room { size_at heap.now (address - first) ≤ text.old.spare }
+    ensures { text.new ≡ with_whole_row text.old (row_in_heap first heap.now address) }
 {
     let index = (address - first) as usize;
     text.object(name(heap, index));
@@ -86,10 +86,10 @@ fn add_object(first: u64, heap: &[u64], address: u64, text: &mut GraphText)
 // Adds the row of the object at each of some addresses.
 fn add_objects(first: u64, heap: &[u64], order: &[u64], text: &mut GraphText)
     requires above { All (λ a. first ≤ a) order.now }
-    requires below { All (λ a. a + words_at heap.now (a - first) ≤ first + length heap.now) order.now }
+    requires below { All (λ a. a + size_at heap.now (a - first) ≤ first + length heap.now) order.now }
     requires named { All (λ a. All (IsNamed first heap.now) (refs_at heap.now (a - first))) order.now }
-    requires room { sum_by (λ a. words_at heap.now (a - first)) order.now ≤ text.old.spare }
-    ensures rows { text.new.rows ≡ text.old.rows ++ map (row_at first heap.now) order.now }
+    requires room { sum_by (λ a. size_at heap.now (a - first)) order.now ≤ text.old.spare }
+    ensures rows { text.new.rows ≡ text.old.rows ++ map (row_in_heap first heap.now) order.now }
     ensures roots { text.new.roots ≡ text.old.roots }
     ensures room { text.new.room ≡ text.old.room }
 {
@@ -102,11 +102,11 @@ fn add_objects(first: u64, heap: &[u64], order: &[u64], text: &mut GraphText)
 /// for each address from `first` on.
 pub(crate) fn write_objects(first: u64, heap: &[u64], order: &[u64], text: &mut GraphText)
     requires above { All (λ a. first ≤ a) order.now }
-    requires below { All (λ a. a + words_at heap.now (a - first) ≤ first + length heap.now) order.now }
+    requires below { All (λ a. a + size_at heap.now (a - first) ≤ first + length heap.now) order.now }
     requires named { All (λ a. All (IsNamed first heap.now) (refs_at heap.now (a - first))) order.now }
-    requires room { sum_by (λ a. words_at heap.now (a - first)) order.now ≤ text.old.spare }
-    requires differ { IsDistinct same_name (map (λ r. r.name) (text.old.rows ++ map (row_at first heap.now) order.now)) }
-    ensures rows { IsPermutation (text.old.rows ++ map (row_at first heap.now) order.now) text.new.rows }
+    requires room { sum_by (λ a. size_at heap.now (a - first)) order.now ≤ text.old.spare }
+    requires differ { IsDistinct same_name (map (λ r. r.name) (text.old.rows ++ map (row_in_heap first heap.now) order.now)) }
+    ensures rows { IsPermutation (text.old.rows ++ map (row_in_heap first heap.now) order.now) text.new.rows }
     ensures order { InOrder (names_of text.new) }
     ensures roots { text.new.roots ≡ text.old.roots }
     ensures room { text.new.room ≡ text.old.room }

@@ -1,7 +1,7 @@
 //! Finds the addresses that roots lead to, by current copies.
 
 ghost use Rattle.std.specs.Prelude.{◌≡◌, ◌+◌, ◌≤◌, All, length, vec_capacity};
-ghost use Rattle.heap_graph.specs.Walk.{refs_at, words_at, current_at, currents, IsNamed, IsWalkable, IsAmong, IsMarked, IsWalk, with_address, with_addresses};
+ghost use Rattle.heap_graph.specs.Walk.{refs_at, size_at, current_at, currents, IsNamed, IsWalkable, IsNullOrAmong, IsMarked, IsWalk, with_address, with_addresses};
 
 use heap_words::{forwarded, forwardee, refs_of};
 
@@ -9,7 +9,7 @@ use heap_words::{forwarded, forwardee, refs_of};
 /// and says which of them `order` has.
 pub fn take_down(first: u64, address: u64, marks: &mut [bool], order: &mut Vec<u64>)
     requires marked { IsMarked first marks.old order.old.items }
-    requires among { IsAmong first (length marks.old) address }
+    requires among { IsNullOrAmong first (length marks.old) address }
     requires room { length marks.old ≤ vec_capacity order.old }
     ensures marked { IsMarked first marks.new order.new.items }
     ensures room { vec_capacity order.new ≡ vec_capacity order.old }
@@ -44,7 +44,7 @@ pub(crate) fn current(first: u64, heap: &[u64], word: u64) -> u64
 fn take_each_down(first: u64, heap: &[u64], words: &[u64], marks: &mut [bool], order: &mut Vec<u64>)
     requires named { All (IsNamed first heap.now) words.now }
     requires marked { IsMarked first marks.old order.old.items }
-    requires among { All (IsAmong first (length marks.old)) (currents first heap.now words.now) }
+    requires among { All (IsNullOrAmong first (length marks.old)) (currents first heap.now words.now) }
     requires room { length marks.old ≤ vec_capacity order.old }
     ensures marked { IsMarked first marks.new order.new.items }
     ensures room { vec_capacity order.new ≡ vec_capacity order.old }
@@ -57,7 +57,7 @@ fn take_each_down(first: u64, heap: &[u64], words: &[u64], marks: &mut [bool], o
 
 /// The references of the object whose header is the word at an index.
 pub(crate) fn references(heap: &[u64], index: usize) -> &[u64]
-    requires { index + words_at heap.now index ≤ length heap.now }
+    requires { index + size_at heap.now index ≤ length heap.now }
     ensures { result.now ≡ refs_at heap.now index }
 {
     let count = refs_of(heap[index + 1]) as usize;

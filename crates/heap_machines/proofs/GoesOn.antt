@@ -39,7 +39,7 @@ use Rattle.mutator.specs.declared.makes.MakeSpot.{MakeSpot}
 use Rattle.mutator.specs.declared.makes.MakeSpot.TheVariants as make
 use Rattle.mutator.specs.declared.waits.WaitSpot.{WaitSpot}
 use Rattle.mutator.specs.declared.waits.WaitSpot.TheVariants as wait
-use Rattle.mutator.specs.Commands.{roots_of, lacks_object, has_part}
+use Rattle.mutator.specs.Commands.{command_roots, lacks_object, has_part}
 use Rattle.mutator.specs.Orders.{is_between_calls}
 use Rattle.mutator.specs.WaitRows.{after_enter, wait_next}
 use Rattle.mutator.specs.Rows.{Mutating, given_at, next_at, first_spot, after_roots, after_first, after_second, after_root, on_number, with_part, after_shape, after_take, is_to_record, after_recording, overwritten, after_remember, after_expected, after_resolved, with_loaded, after_resolve, after_swap, take_next, load_next, field_next, number_next, show_next, make_next}
@@ -70,10 +70,10 @@ in_roots (Same a b) first second third = refl
 in_roots _ first second third = refl
 
 in_first : (command : Command) (first : ℕ) → InCall (after_first command first)
-in_first command first = either (nat_lt 1 (length (roots_of command))) (Loading (load.Second first)) (after_roots command first 0 0) refl (in_roots command first 0 0)
+in_first command first = either (nat_lt 1 (length (command_roots command))) (Loading (load.Second first)) (after_roots command first 0 0) refl (in_roots command first 0 0)
 
 in_second : (command : Command) (first second : ℕ) → InCall (after_second command first second)
-in_second command first second = either (nat_lt 2 (length (roots_of command))) (Loading (load.Third first second)) (after_roots command first second 0) refl (in_roots command first second 0)
+in_second command first second = either (nat_lt 2 (length (command_roots command))) (Loading (load.Third first second)) (after_roots command first second 0) refl (in_roots command first second 0)
 
 in_root : (command : Command) (first : ℕ) → InCall (after_root command first)
 in_root command first = either (lacks_object command first) (Leave reply.Bad) (after_first command first) refl (in_first command first)

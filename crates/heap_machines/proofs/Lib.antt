@@ -4,6 +4,6 @@ pub mod Replies
 pub mod Names
 pub mod OnScript
 pub mod Openings
-pub mod Standing
+pub mod RestedGraph
 pub mod Pauses
 pub mod Fit

@@ -10,7 +10,7 @@ use Rattle.shen_graph.specs.Valid.{IsValid}
 use Rattle.heap_world.specs.Change.{Change}
 use Rattle.step_core.specs.Actor.{Machine}
 use Rattle.step_core.specs.Machines.{machine_after, may_begin, made_of_machine, at_hand_of}
-use Rattle.heap_machines.specs.Roles.{given_in}
+use Rattle.heap_machines.specs.Roles.{reply_of_step}
 use Rattle.heap_machines.proofs.Replies.{given_after, none_after, rest_at_hand}
 use Rattle.heap_machines.proofs.Turns.{begins_at_rest}
 
@@ -21,11 +21,11 @@ HasNames machine script replies = made_of_machine machine + script < 4294967295 
 
 module _ (change : Change) (c : Config) (order : Order) (got : ℕ) (machine : Machine) (script replies : ℕ) (names : HasNames machine script replies) where
   -- after a step that gives no reply
-  pub names_on : given_in machine ≡ None → HasNames (machine_after change c order got machine) script replies
+  pub names_on : reply_of_step machine ≡ None → HasNames (machine_after change c order got machine) script replies
   names_on none = let step = none_after change c order got machine none in omega (arith, step, names)
 
   -- and after one whose reply was noted
-  pub names_noted : (r : Reply) → given_in machine ≡ Some r → HasNames (machine_after change c order got machine) script (replies + 1)
+  pub names_noted : (r : Reply) → reply_of_step machine ≡ Some r → HasNames (machine_after change c order got machine) script (replies + 1)
   names_noted r gives =
       let step = given_after change c order got machine r gives in
       let made = step.made in

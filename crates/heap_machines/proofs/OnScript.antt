@@ -17,10 +17,10 @@ use Rattle.mutator.specs.Orders.{is_between_calls, takes_commands}
 use Rattle.heap_world.specs.Change.{Change}
 use Rattle.step_core.specs.Machines.{takes_of, machine_after, ended_by, took_of, next_order, is_resting, may_begin}
 use Rattle.heap_machines.specs.Turn.{order_for}
-use Rattle.heap_machines.specs.Roles.{given_in, is_mutating}
+use Rattle.heap_machines.specs.Roles.{reply_of_step, is_mutating}
 use Rattle.heap_machines.specs.Scripts.{IsOnScript, HasDoneScript}
 use Rattle.heap_machines.proofs.Turns.{turn_at_rest, rest_takes}
-use Rattle.step_core.proofs.Roles.{turn_in_call}
+use Rattle.step_core.proofs.Machines.Roles.{turn_in_call}
 use Rattle.heap_machines.proofs.Replies.{given_after, ended_none, ended_some, busy_after, begun_after, ended_after}
 
 -- the first elements and the next are one more
@@ -91,7 +91,7 @@ module _ (change : Change) (c : Config) (script : List Command) (a : Actor) (ord
           on.doing goes.0 ∙ ap (λ (o : Order). Some (command_by o a.command)) (sym goes.1)
 
   -- and where it has ended, there is none
-  ended_then : given_in a.machine ≡ None → is_resting then_is ≡ true → next ≡ None
+  ended_then : reply_of_step a.machine ≡ None → is_resting then_is ≡ true → next ≡ None
   ended_then none_given rest = by_may (may_begin a.machine) refl
     where
       by_next : may_begin a.machine ≡ true → (o : Option Command) → next ≡ o → o ≡ None
@@ -108,9 +108,9 @@ module _ (change : Change) (c : Config) (script : List Command) (a : Actor) (ord
 
   -- it stays on its script
   pub script_step : IsOnScript script (took_of change c a order got a.machine)
-  script_step = by_given (given_in a.machine) refl
+  script_step = by_given (reply_of_step a.machine) refl
     where
-      by_given : (o : Option Reply) → given_in a.machine ≡ o → IsOnScript script (took_of change c a order got a.machine)
+      by_given : (o : Option Reply) → reply_of_step a.machine ≡ o → IsOnScript script (took_of change c a order got a.machine)
       by_given None none =
           let same : a.calls ++ ended_by a.command a.machine ≡ a.calls = ap (λ es. a.calls ++ es) (ended_none a.command a.machine none) ∙ append-nil a.calls in
           record {

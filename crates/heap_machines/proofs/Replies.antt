@@ -18,22 +18,22 @@ use Rattle.mutator.specs.declared.overwrites.Overwritten.TheVariants as overwrit
 use Rattle.mutator.specs.declared.waits.WaitSpot.TheVariants as wait
 use Rattle.mutator.specs.declared.makes.MakeSpot.TheVariants as make
 use Rattle.mutator.specs.Orders.{is_between_calls, takes_commands}
-use Rattle.mutator.specs.Rows.{Mutating, begun, given_at, answer_at, reply_at, next_at, after_remember}
+use Rattle.mutator.specs.Rows.{Mutating, call_begun, given_at, answer_at, reply_at, next_at, after_remember}
 use Rattle.mutator.proofs.Done as ends
 use Rattle.step_core.specs.Actor.{Machine, mutating, Actor, entries_of}
 use Rattle.heap_world.specs.Change.{Change}
 use Rattle.step_core.specs.Machines.{machine_after, answer_of, ended_by, reply_in, is_resting, may_begin, made_of_machine, recorded_at_hand, at_hand, at_hand_of}
-use Rattle.heap_machines.specs.Roles.{given_in, is_mutating}
-use Rattle.step_core.proofs.Roles.{others_go_on}
+use Rattle.heap_machines.specs.Roles.{reply_of_step, is_mutating}
+use Rattle.step_core.proofs.Machines.Roles.{others_go_on}
 use Rattle.heap_machines.proofs.GoesOn.{call_goes_on}
 
 -- a step that ends a call gives a reply
-pub done_gives : (c : Config) (machine : Machine) (got : ℕ) → answer_of c machine got ≡ Some Done → (r : Reply) × (given_in machine ≡ Some r)
+pub done_gives : (c : Config) (machine : Machine) (got : ℕ) → answer_of c machine got ≡ Some Done → (r : Reply) × (reply_of_step machine ≡ Some r)
 done_gives c (mutating m) got done = ends.done_gives c m.kept m.spot got (let said = done in cc)
 done_gives c other got done = absurd (others_go_on c other got refl done)
 
 -- no other step does
-pub other_gives : (c : Config) (machine : Machine) (got : ℕ) → (answer_of c machine got ≡ Some Done → ⊥) → given_in machine ≡ None
+pub other_gives : (c : Config) (machine : Machine) (got : ℕ) → (answer_of c machine got ≡ Some Done → ⊥) → reply_of_step machine ≡ None
 other_gives c (mutating m) got other = by_spot m.spot other
   where
     by_spot : (spot : Spot) → (Some (answer_at c m.kept spot got) ≡ Some Done → ⊥) → given_at spot ≡ None
@@ -51,7 +51,7 @@ pub record HasGiven (machine next : Machine) (r : Reply) : Type 0 where
   pub made : made_of_machine next ≡ made_of_machine machine
   pub was_at_hand : at_hand_of machine ≡ 1
 
-pub given_after : (change : Change) (c : Config) (order : Order) (got : ℕ) (machine : Machine) (r : Reply) → given_in machine ≡ Some r → HasGiven machine (machine_after change c order got machine) r
+pub given_after : (change : Change) (c : Config) (order : Order) (got : ℕ) (machine : Machine) (r : Reply) → reply_of_step machine ≡ Some r → HasGiven machine (machine_after change c order got machine) r
 given_after change c order got (mutating m) r gives = record {
   replied = replied m.spot gives;
   rest = rest m.spot gives;
@@ -99,7 +99,7 @@ rest_at_hand (mutating m) rest = by_spot m.spot rest
 rest_at_hand _ rest = refl
 
 -- an order makes no object
-begun_made : (order : Order) (m : Mutating) → (begun order m).made ≡ m.made
+begun_made : (order : Order) (m : Mutating) → (call_begun order m).made ≡ m.made
 begun_made Nothing m = refl
 begun_made (Begin command) m = refl
 begun_made End m = refl
@@ -112,7 +112,7 @@ stays_at_hand address overwrites.Cas Recorded = omega arith
 stays_at_hand address next _ = omega arith
 
 -- A machine that gives no reply makes at most one object in a step, and then a reply is at hand that was not before.
-pub none_after : (change : Change) (c : Config) (order : Order) (got : ℕ) (machine : Machine) → given_in machine ≡ None
+pub none_after : (change : Change) (c : Config) (order : Order) (got : ℕ) (machine : Machine) → reply_of_step machine ≡ None
     → made_of_machine (machine_after change c order got machine) + at_hand_of machine ≤ made_of_machine machine + at_hand_of (machine_after change c order got machine)
 none_after change c order got (mutating m) none = by_spot m.spot none
   where
@@ -130,7 +130,7 @@ none_after change c order got (mutating m) none = by_spot m.spot none
 none_after change c order got _ none = omega arith
 
 -- a machine in a call goes on with it, if it gives no reply
-pub busy_after : (change : Change) (c : Config) (got : ℕ) (machine : Machine) → is_resting machine ≡ false → given_in machine ≡ None → is_resting (machine_after change c Nothing got machine) ≡ false
+pub busy_after : (change : Change) (c : Config) (got : ℕ) (machine : Machine) → is_resting machine ≡ false → reply_of_step machine ≡ None → is_resting (machine_after change c Nothing got machine) ≡ false
 busy_after change c got (mutating m) busy none = call_goes_on c m got m.spot busy none
 busy_after change c got _ busy none = refl
 
@@ -155,11 +155,11 @@ ended_after change c got (mutating m) may = by_spot m.spot may
 ended_after change c got _ may = absurd cc
 
 -- the call that a step ends has the reply that it gives
-pub ended_none : (command : Command) (machine : Machine) → given_in machine ≡ None → ended_by command machine ≡ []
+pub ended_none : (command : Command) (machine : Machine) → reply_of_step machine ≡ None → ended_by command machine ≡ []
 ended_none command (mutating m) none = ap (entries_of m.seat command) none
 ended_none command _ none = refl
 
-pub ended_some : (command : Command) (machine : Machine) (r : Reply) → given_in machine ≡ Some r → (e : Entry) × (ended_by command machine ≡ e ∷ []) × (e.command ≡ command) × (e.reply ≡ r)
+pub ended_some : (command : Command) (machine : Machine) (r : Reply) → reply_of_step machine ≡ Some r → (e : Entry) × (ended_by command machine ≡ e ∷ []) × (e.command ≡ command) × (e.reply ≡ r)
 ended_some command (mutating m) r gives = (record { thread = m.seat + 1; command = command; reply = r }, ap (entries_of m.seat command) gives, refl, refl)
 ended_some command _ r gives = absurd cc
 
@@ -169,7 +169,7 @@ listed None = []
 listed (Some r) = r ∷ []
 
 -- the replies of the calls that a step ends
-pub ended_replies : (command : Command) (machine : Machine) → map (λ e. e.reply) (ended_by command machine) ≡ listed (given_in machine)
+pub ended_replies : (command : Command) (machine : Machine) → map (λ e. e.reply) (ended_by command machine) ≡ listed (reply_of_step machine)
 ended_replies command (mutating m) = by_given (given_at m.spot)
   where
     by_given : (o : Option Reply) → map (λ e. e.reply) (entries_of m.seat command o) ≡ listed o
@@ -178,7 +178,7 @@ ended_replies command (mutating m) = by_given (given_at m.spot)
 ended_replies command _ = refl
 
 -- the replies of an actor's calls after its step
-pub took_replies : (a : Actor) → map (λ e. e.reply) (a.calls ++ ended_by a.command a.machine) ≡ map (λ e. e.reply) a.calls ++ listed (given_in a.machine)
+pub took_replies : (a : Actor) → map (λ e. e.reply) (a.calls ++ ended_by a.command a.machine) ≡ map (λ e. e.reply) a.calls ++ listed (reply_of_step a.machine)
 took_replies a =
     map-append (λ e. e.reply) a.calls (ended_by a.command a.machine)
     ∙ ap (λ rs. map (λ e. e.reply) a.calls ++ rs) (ended_replies a.command a.machine)

@@ -18,7 +18,7 @@ use Rattle.step_core.specs.Actor.{Machine, mutating}
 use Rattle.step_core.specs.Machines.{takes_of, machine_after, order_by, next_order, is_machine_at, is_resting, may_begin}
 use Rattle.heap_machines.specs.Turn.{order_for}
 use Rattle.heap_machines.specs.Roles.{is_mutating}
-use Rattle.step_core.proofs.Roles.{turn_in_call}
+use Rattle.step_core.proofs.Machines.Roles.{turn_in_call}
 
 -- a mutator makes a step under an order that may stand, but where it is idle
 pub turn_idle : (spot : Spot) (made : ℕ) (order : Order) → is_pending spot made order ≡ true → takes_at spot made order ≡ not (is_between_calls spot && is_nothing order)

@@ -1,10 +1,10 @@
 -- What else is told of a machine.
 use Rattle.std.specs.Prelude.{ℕ, List, Option, Some, None}
 use Rattle.control.specs.Image.{IsLoadedFrom}
-use Rattle.control_steps.specs.Rows.{Controlling}
+use Rattle.control_rows.specs.Rows.{Controlling}
 use Rattle.step_core.specs.Actor.{Machine}
 use Rattle.step_core.specs.Machines.{control_in}
-pub use Rattle.step_core.specs.Machines.{is_mutating, given_in}
+pub use Rattle.step_core.specs.Machines.{is_mutating, reply_of_step}
 
 -- of the control, if it is one
 abbrev pub CanShowBy : List ℕ → Option Controlling → Type 0

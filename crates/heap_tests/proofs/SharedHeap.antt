@@ -1,25 +1,25 @@
 -- What is known of the bundle of a heap before the first event, and of one whose machines have made steps.
 use Rattle.std.proofs.Common.{◌≡◌, ℕ, ◌<◌, Some, ap, ◌∙◌, arith, ◌%◌, true, None, sym}
 use Rattle.std.specs.Prelude.{◌==◌, if◌then◌else◌, unwrap_or}
-use Rattle.shared_steps.specs.Views.{whole, dealt_to, machine_of, kept_one, is_dealt_to}
+use Rattle.shared_table.specs.Views.{whole, dealt_to, machine_of, kept_one, is_dealt_to}
 use Rattle.heap_words.specs.declared.config.Config.{Config}
 use Rattle.shen_graph.specs.Work.{begun}
 use Rattle.table_heap.specs.declared.bundle.Bundle.{Bundle}
 use Rattle.table_heap.specs.declared.heap.Heap.{Heap}
 use Rattle.table_heap.specs.Core.{heap_opening, machine_in}
-use Rattle.table_heap.specs.State.{IsOf, IsFresh, view_of, machines_of, machine_at, HasMachine, IsSameBundle}
+use Rattle.table_heap.specs.State.{IsBundleOf, IsFresh, view_of, machines_of, machine_at, HasMachine, IsSameBundle}
 use Rattle.std.specs.Option.{is_some}
 use Rattle.std.proofs.lemmas.Bool.Decides.{nat_tests}
 use Rattle.heap_words.specs.Ranges.{seat_count}
-use Rattle.shared_steps.proofs.Kept.{machine_of-kept, kept_some}
-use Rattle.shared_steps.proofs.Shown.{machine_of-whole, machine_of-picked}
+use Rattle.shared_table.proofs.Kept.{machine_of-kept, kept_some}
+use Rattle.shared_table.proofs.ViewsShow.{machine_of-whole, machine_of-picked}
 use Rattle.heap_machines.specs.Shown.{no_machine}
 use Rattle.heap_machines.proofs.Openings.{first_actor, first_free_to_begin, first_made}
 use Rattle.step_core.specs.Machines.{may_begin, made_of_machine}
 use Rattle.step_core.specs.Opening.{opening_machine, opening_actor}
 
 -- it is still a bundle of the heap, and has its machines
-pub same_of : (old new : Bundle) (h : Heap) → IsSameBundle old new → IsOf old h → IsOf new h
+pub same_of : (old new : Bundle) (h : Heap) → IsSameBundle old new → IsBundleOf old h → IsBundleOf new h
 same_of old new h same of = record { table = same.table ∙ of.table; config = same.config ∙ of.config }
 
 has_in_view : (b : Bundle) (number : ℕ) → is_some (machine_of (machines_of b) number) ≡ is_some (machine_of (view_of b) number)
@@ -43,7 +43,7 @@ fresh_at c b bundles k number fresh within dealt =
 
 -- a bundle of the heap whose mutator has not begun a call
 pub record CanCall (h : Heap) (b : Bundle) (number : ℕ) : Type 0 where
-  pub of : IsOf b h
+  pub of : IsBundleOf b h
   pub has : HasMachine b number
   pub rest : may_begin (machine_at b number) ≡ true
   pub made : made_of_machine (machine_at b number) ≡ 0

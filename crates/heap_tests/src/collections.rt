@@ -12,7 +12,7 @@ use image_graph::Image;
 use mark_core::{final_mark, init_mark};
 use std::process::Abort;
 use std::test::Fail;
-use update_core::{final_update, init_update};
+use update_refs::{final_update, init_update};
 
 // A word by its name, and what it holds.
 type Row = (WordName, u64);

@@ -3,7 +3,7 @@ ghost use Rattle.std.specs.Prelude.{◌≡◌, ◌<◌, ◌≤◌, true, length,
 ghost use Rattle.shen_graph.specs.Valid.{IsValid};
 ghost use Rattle.shen_graph.specs.Work.{HasScript};
 ghost use Rattle.step_core.specs.Machines.{may_begin, made_of_machine};
-ghost use Rattle.table_heap.specs.State.{IsOf, HasMachine, machine_at};
+ghost use Rattle.table_heap.specs.State.{IsBundleOf, HasMachine, machine_at};
 ghost use Rattle.table_heap.specs.Running.{CanStart};
 
 use heap_words::Config;
@@ -87,7 +87,7 @@ fn script(alloc: Global, commands: &[Command]) -> Result<Script, Fail>
 
 // A heap of one mutator and so many helpers, all its machines in one bundle, and work in which the mutator does this.
 fn opened(alloc: Global, helpers: usize, commands: &[Command]) -> Result<(Heap, Bundle, Work), Fail>
-    ensures heap { IfOk result (λ made. IsOf made.1 made.0) }
+    ensures heap { IfOk result (λ made. IsBundleOf made.1 made.0) }
     ensures start { IfOk result (λ made. CanStart made.1 made.2) }
     ensures script { IfOk result (λ made. HasScript made.2 0) }
     ensures call { IfOk result (λ made. HasMachine made.1 0 × (may_begin (machine_at made.1 0) ≡ true) × (made_of_machine (machine_at made.1 0) ≡ 0)) }
@@ -136,7 +136,7 @@ fn one_thread_runs_all_machines(rt: HostRuntime) -> Result<(), Fail> {
 
 // Lets the mutator make a call, step by step, and end. It has no more steps to make than these.
 fn call(heap: &Heap, bundle: &mut Bundle, command: Command) -> Option<Reply>
-    requires heap { IsOf bundle.old heap.now }
+    requires heap { IsBundleOf bundle.old heap.now }
     requires here { HasMachine bundle.old 0 }
     requires rest { may_begin (machine_at bundle.old 0) ≡ true }
     requires made { made_of_machine (machine_at bundle.old 0) ≡ 0 }

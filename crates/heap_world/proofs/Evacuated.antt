@@ -4,7 +4,7 @@ use Rattle.std.proofs.lemmas.Bool.{cases_eq}
 use Rattle.std.proofs.lemmas.Option.{none-some, same_Some}
 use Rattle.heap_words.specs.declared.config.Config.{Config}
 use Rattle.heap_words.specs.Encoding.{object_words}
-use Rattle.mark_bits.specs.Marks.{HasMark}
+use Rattle.regions.specs.Marks.{HasMark}
 use Rattle.regions.specs.Place.{base_of}
 use Rattle.regions.proofs.PlaceLemmas.{regions_tile}
 use Rattle.regions.specs.Sets.{IsIn}

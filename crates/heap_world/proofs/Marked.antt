@@ -4,7 +4,7 @@ use Rattle.std.specs.Int.{bit_at}
 use Rattle.std.proofs.lemmas.Bool.{cases_eq}
 use Rattle.heap_words.specs.declared.config.Config.{Config}
 use Rattle.heap_words.specs.Words.{Phase, Grey, Count, Buffer, Heap}
-use Rattle.mark_bits.specs.Marks.{mark_word, mark_bit}
+use Rattle.regions.specs.Marks.{mark_word, mark_bit}
 use Rattle.shen_graph.specs.declared.name.Name.{Name}
 use Rattle.heap_world.specs.World.{Block, thing, hand, promised, filler, Plot, Snapshot, Scan, World, IsMarkable, IsYoung, IsNoted, NeedsNoMarking, AreMarks, AreEntries, KeepsSnapshot, NotedIn}
 use Rattle.heap_world.specs.Rely.{RelyMarks}

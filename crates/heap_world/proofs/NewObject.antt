@@ -18,7 +18,7 @@ use Rattle.heap_world.proofs.Pointing.{named_piece}
 use Rattle.heap_world.proofs.Objects.{two_names, where_object}
 use Rattle.heap_world.proofs.Unwritten.{unwritten_stays}
 use Rattle.heap_world.proofs.Marked.{markable_stays, marked_made}
-use Rattle.mark_bits.specs.Marks.{HasMark}
+use Rattle.regions.specs.Marks.{HasMark}
 use Rattle.heap_world.proofs.Evacuated.{evacuated_made}
 use Rattle.heap_world.proofs.Updated.{updated_made}
 use Rattle.heap_world.proofs.Pieces.{piece_cases, object_reads}

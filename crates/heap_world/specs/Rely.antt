@@ -6,7 +6,7 @@ use Rattle.heap_words.specs.Ranges.{seat_count}
 use Rattle.heap_words.specs.Words.{Top, Tams, Limit, Current, Root, Heap, Phase, Cset, Evac, Claim, Ask, State, Wait, Answer, Count, Buffer, Grey}
 use Rattle.regions.specs.Sets.{IsIn}
 use Rattle.heap_words.specs.Counter.{is_out_of_room, IsQuiet}
-use Rattle.mark_bits.specs.Marks.{HasMark}
+use Rattle.regions.specs.Marks.{HasMark}
 use Rattle.shen_graph.specs.declared.name.Name.{Name}
 use Rattle.heap_world.specs.World.{World, Block, TargetIn, thing, moved, spent, hand, promised, filler, words_of, name_at, Body, body_at, body_words, IsCollected, IsMarkable, IsCurrent, NotedIn}
 

@@ -9,7 +9,7 @@ use Rattle.regions.specs.Place.{base_of, region_with}
 use Rattle.regions.specs.Sets.{IsIn}
 use Rattle.shen_graph.specs.declared.name.Name.{Name}
 use Rattle.shen_graph.specs.Graph.{Reference, Object, Graph}
-use Rattle.mark_bits.specs.Marks.{address_at, mark_at, HasMark}
+use Rattle.regions.specs.Marks.{address_at, mark_at, HasMark}
 use Rattle.heap_words.specs.Counter.{count_of, is_out_of_room, IsQuiet}
 use Rattle.heap_world.specs.Objects.{Refers, IsObject}
 

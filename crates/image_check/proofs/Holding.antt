@@ -18,13 +18,13 @@ use Rattle.shen_graph.proofs.PlainLemmas.{same_name-true, same_name-itself}
 use Rattle.heap_graph.specs.Walk.{has}
 use Rattle.heap_world.specs.Roots.{is_root_of}
 use Rattle.heap_world.specs.World.{Block, thing, words_of, Plot, name_at, Points, IsThing, IsGiven, IsPlotted, IsFilled, AreObjects}
-use Rattle.image_laws.specs.Promised.{Promises}
-use Rattle.image_laws.specs.Image.{RootsStand, ImageStands}
-use Rattle.image_laws.specs.Serving.{asked_name, IsAsking}
-use Rattle.image_laws.proofs.Found.{index_of, has_at}
-use Rattle.image_laws.proofs.Standing.{standing_holds}
+use Rattle.full_words.specs.Promised.{Promises}
+use Rattle.full_words.specs.Image.{RootsStand, ImageStands}
+use Rattle.full_words.specs.Serving.{asked_name, IsAsking}
+use Rattle.full_words.proofs.Found.{index_of, has_at}
+use Rattle.full_words.proofs.ImagesStand.{standing_holds}
 use Rattle.image_graph.specs.Holds.{HoldsBy, HoldsSome}
-use Rattle.image_check.specs.Laid.{words_in, end_of, IsReference, LiesRight, ReadsRight, IsLaidOut}
+use Rattle.image_check.specs.Laid.{laid_words, used_end, IsReference, LiesRight, ReadsRight, IsLaidOut}
 
 -- nothing is promised
 abbrev no_promise : Promises
@@ -90,26 +90,26 @@ module _ (c : Config) (m : Word → ℕ) (objects : List ℕ) (laid : IsLaidOut 
   reads a is = let at = place_of a is in subst (ReadsRight c m objects) at.2 (laid.reads at.0 at.1)
 
   -- a later object begins behind an earlier one, and has a higher name
-  behind : (i j : ℕ) → i < j → j < length objects → (address i + words_in m (address i) ≤ address j) × (m (Heap (address i + 2)) < m (Heap (address j + 2)))
+  behind : (i j : ℕ) → i < j → j < length objects → (address i + laid_words m (address i) ≤ address j) × (m (Heap (address i + 2)) < m (Heap (address j + 2)))
   behind i zero before within = absurd (omega (arith, before))
   behind i (suc j) before within =
       let next : j + 1 ≡ suc j = omega arith in
-      let apart : address j + words_in m (address j) ≤ address (suc j) = subst (λ k. address j + words_in m (address j) ≤ address k) next (laid.order.apart j (omega (arith, within))) in
+      let apart : address j + laid_words m (address j) ≤ address (suc j) = subst (λ k. address j + laid_words m (address j) ≤ address k) next (laid.order.apart j (omega (arith, within))) in
       let named : m (Heap (address j + 2)) < m (Heap (address (suc j) + 2)) = subst (λ k. m (Heap (address j + 2)) < m (Heap (address k + 2))) next (laid.order.named j (omega (arith, within))) in
       ⊎_elim
-      (λ (same : i ≡ j). subst (λ k. (address k + words_in m (address k) ≤ address (suc j)) × (m (Heap (address k + 2)) < m (Heap (address (suc j) + 2)))) (sym same) (apart, named))
+      (λ (same : i ≡ j). subst (λ k. (address k + laid_words m (address k) ≤ address (suc j)) × (m (Heap (address k + 2)) < m (Heap (address (suc j) + 2)))) (sym same) (apart, named))
       (λ (other : i ≢ j).
       let rest = behind i j (omega (arith, before, other)) (omega (arith, within)) in
       (omega (arith, rest.0, apart), omega (arith, rest.1, named)))
       (cases_eq i j)
 
   -- objects lie apart
-  apart : (a b : ℕ) → has objects a ≡ true → has objects b ≡ true → a < b → a + words_in m a ≤ b
+  apart : (a b : ℕ) → has objects a ≡ true → has objects b ≡ true → a < b → a + laid_words m a ≤ b
   apart a b is_a is_b less =
       let i = place_of a is_a in
       let j = place_of b is_b in
       ⊎_elim
-      (λ (before : i.0 < j.0). subst (λ k. a + words_in m a ≤ k) j.2 (subst (λ k. k + words_in m k ≤ address j.0) i.2 (behind i.0 j.0 before j.1).0))
+      (λ (before : i.0 < j.0). subst (λ k. a + laid_words m a ≤ k) j.2 (subst (λ k. k + laid_words m k ≤ address j.0) i.2 (behind i.0 j.0 before j.1).0))
       (λ not_before. ⊎_elim
       (λ (after : j.0 < i.0). absurd (let far = (behind j.0 i.0 after i.1).0 in omega (arith, far, i.2, j.2, less)))
       (λ not_after. let same : i.0 ≡ j.0 = omega (arith, not_before, not_after) in absurd (omega (arith, ap address same, i.2, j.2, less)))
@@ -209,12 +209,12 @@ module _ (c : Config) (m : Word → ℕ) (objects : List ℕ) (laid : IsLaidOut 
         let at = piece_at a b is in
         let own = lies a at.0 in
         let region = in_region a at.0 in
-        let long : words_in m a ≡ words_of b = ap words_of at.1 in
+        let long : laid_words m a ≡ words_of b = ap words_of at.1 in
         record { region = region_with c a; within = region.0; from_base = region.1.from; to_top = omega (arith, own.to_top, long) };
     apart = λ a b x y is_x is_y before.
         let one = piece_at a x is_x in
         let other = piece_at b y is_y in
-        let long : words_in m a ≡ words_of x = ap words_of one.1 in
+        let long : laid_words m a ≡ words_of x = ap words_of one.1 in
         let far = apart a b one.0 other.0 before in
         omega (arith, far, long);
   }
@@ -227,12 +227,12 @@ module _ (c : Config) (m : Word → ℕ) (objects : List ℕ) (laid : IsLaidOut 
     first = λ r within used. some_piece (base_of c r) ((laid.regions r within).first used);
     next = λ r a x within from is below.
         let at = piece_at a x is in
-        let long : words_in m a ≡ words_of x = ap words_of at.1 in
+        let long : laid_words m a ≡ words_of x = ap words_of at.1 in
         let most = (laid.regions r within).within in
         let region : region_with c a ≡ r = regions_tile.of_no_other c r a (record { from = from; before = omega (arith, below, most) }) in
-        let end : end_of c m a ≡ base_of c r + m (Top r) = ap (λ k. base_of c k + m (Top k)) region in
+        let end : used_end c m a ≡ base_of c r + m (Top r) = ap (λ k. base_of c k + m (Top k)) region in
         let there = (lies a at.0).next (λ e. omega (arith, e, end, below, long)) in
-        subst (λ w. (b : Block) × (block (a + w) ≡ Some b)) long (some_piece (a + words_in m a) there);
+        subst (λ w. (b : Block) × (block (a + w) ≡ Some b)) long (some_piece (a + laid_words m a) there);
   }
 
   -- the words of an object

@@ -10,7 +10,7 @@ use Rattle.heap_words.proofs.Rows.{word_inside}
 use Rattle.regions.specs.Place.{base_of, region_with}
 use Rattle.regions.proofs.PlaceLemmas.{regions_tile}
 use Rattle.heap_graph.specs.Walk.{has}
-use Rattle.image_check.specs.Laid.{words_in, end_of, LiesRight}
+use Rattle.image_check.specs.Laid.{laid_words, used_end, LiesRight}
 
 -- what was read at the place of a word is the word
 pub read : (c k : Config) (m : Word → ℕ) (w : Word) (at value : ℕ) → k ≡ c → IsWord c w → at ≡ word_at k w
@@ -44,13 +44,13 @@ pub first : (c k : Config) (m : Word → ℕ) (objects : List ℕ) (a : ℕ) →
 first c k m objects a same lies = subst (λ (j : Config). IsWord j (Heap a)) (sym same) (lies.above, omega (arith, lies.below))
 
 -- a reference of an object that ends in the heap
-pub field : (c : Config) (m : Word → ℕ) (objects : List ℕ) (a i : ℕ) → LiesRight c m objects a → a + words_in m a ≤ (c.regions + 1) * c.region_words
+pub field : (c : Config) (m : Word → ℕ) (objects : List ℕ) (a i : ℕ) → LiesRight c m objects a → a + laid_words m a ≤ (c.regions + 1) * c.region_words
     → i < refs_in (m (Heap (a + 1))) → IsWord c (Heap (a + 3 + i))
 field c m objects a i lies inside below = (omega (arith, lies.above), omega (arith, inside, below))
 
 -- an object ends in the heap where no region uses more words than it has
 pub inside : (c : Config) (m : Word → ℕ) (objects : List ℕ) (a : ℕ) → ((r : ℕ) → r < c.regions → m (Top r) ≤ c.region_words) → LiesRight c m objects a
-    → a + words_in m a ≤ (c.regions + 1) * c.region_words
+    → a + laid_words m a ≤ (c.regions + 1) * c.region_words
 inside c m objects a tops lies =
     let below = regions_tile.in_range c a (first c c m objects a refl lies) in
     let last : (region_with c a + 2) * c.region_words ≤ (c.regions + 1) * c.region_words = mul-le-mul (omega (arith, below)) (omega arith) in
@@ -72,7 +72,7 @@ small_end k r below =
 -- an object lies right by what was computed of it
 pub lies_by : (c k : Config) (m : Word → ℕ) (objects : List ℕ) (a first size words region base top : ℕ) → k ≡ c
     → first ≡ k.region_words → size ≡ heap_size k → first ≤ a → 3 ≤ first + size - a
-    → words ≡ words_in m a → region ≡ region_with k a → base ≡ base_of k region → top ≡ m (Top region)
+    → words ≡ laid_words m a → region ≡ region_with k a → base ≡ base_of k region → top ≡ m (Top region)
     → a + words ≤ base + top → (a + words ≢ base + top → has objects (a + words) ≡ true) → LiesRight c m objects a
 lies_by c k m objects a first size words region base top same one two from left long at placed used within next =
     let r : region ≡ region_with c a = at ∙ ap (λ (j : Config). region_with j a) same in
@@ -84,7 +84,7 @@ lies_by c k m objects a first size words region base top same one two from left 
       above = omega (arith, o, from);
       below = omega (arith, o, s, from, left);
       to_top = omega (arith, within, long, b, t);
-      next = λ (other : a + words_in m a ≢ end_of c m a).
+      next = λ (other : a + laid_words m a ≢ used_end c m a).
           subst (λ (n : ℕ). has objects (a + n) ≡ true) long
           (next (λ (end : a + words ≡ base + top). other (omega (arith, end, long, b, t))));
     }

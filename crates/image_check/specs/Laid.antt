@@ -9,12 +9,12 @@ use Rattle.regions.specs.Sets.{IsIn}
 use Rattle.heap_graph.specs.Walk.{has}
 
 -- how many words the object at an address has
-abbrev pub words_in : (Word → ℕ) → ℕ → ℕ
-words_in m a = object_words (m (Heap (a + 1)))
+abbrev pub laid_words : (Word → ℕ) → ℕ → ℕ
+laid_words m a = object_words (m (Heap (a + 1)))
 
 -- where the part in use ends of the region that an address is of
-abbrev pub end_of : Config → (Word → ℕ) → ℕ → ℕ
-end_of c m a = base_of c (region_with c a) + m (Top (region_with c a))
+abbrev pub used_end : Config → (Word → ℕ) → ℕ → ℕ
+used_end c m a = base_of c (region_with c a) + m (Top (region_with c a))
 
 -- a word is null or the address of an object
 abbrev pub IsReference : List ℕ → ℕ → Type 0
@@ -24,8 +24,8 @@ IsReference objects word = word ≢ 0 → has objects word ≡ true
 pub record LiesRight (c : Config) (m : Word → ℕ) (objects : List ℕ) (a : ℕ) : Type 0 where
   pub above : c.region_words ≤ a
   pub below : a + 3 ≤ (c.regions + 1) * c.region_words
-  pub to_top : a + words_in m a ≤ end_of c m a
-  pub next : a + words_in m a ≢ end_of c m a → has objects (a + words_in m a) ≡ true
+  pub to_top : a + laid_words m a ≤ used_end c m a
+  pub next : a + laid_words m a ≢ used_end c m a → has objects (a + laid_words m a) ≡ true
 
 -- a name has a thread of the heap, or 0, and its count is below what the thread asks for
 pub record IsNamedRight (c : Config) (m : Word → ℕ) (name : ℕ) : Type 0 where
@@ -47,7 +47,7 @@ pub record ReadsRight (c : Config) (m : Word → ℕ) (objects : List ℕ) (a : 
 
 -- objects are in the order of their addresses and of their names, and no two share a word
 pub record AreInOrder (m : Word → ℕ) (objects : List ℕ) : Type 0 where
-  pub apart : (k : ℕ) → k + 1 < length objects → slice_index objects k + words_in m (slice_index objects k) ≤ slice_index objects (k + 1)
+  pub apart : (k : ℕ) → k + 1 < length objects → slice_index objects k + laid_words m (slice_index objects k) ≤ slice_index objects (k + 1)
   pub named : (k : ℕ) → k + 1 < length objects → m (Heap (slice_index objects k + 2)) < m (Heap (slice_index objects (k + 1) + 2))
 
 -- a region has no more words in use than it has, and an object at its base if it has some; a free one has none

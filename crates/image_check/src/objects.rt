@@ -5,7 +5,7 @@ ghost use Rattle.heap_words.specs.Words.{Top, Heap, IsWord};
 ghost use Rattle.heap_words.specs.Encoding.{refs_in};
 ghost use Rattle.heap_graph.specs.Walk.{has};
 ghost use Rattle.image_graph.specs.State.{config_of, memory_of};
-ghost use Rattle.image_check.specs.Laid.{words_in, IsReference, LiesRight, IsNamedRight, IsShape, ReadsRight, AreInOrder};
+ghost use Rattle.image_check.specs.Laid.{laid_words, IsReference, LiesRight, IsNamedRight, IsShape, ReadsRight, AreInOrder};
 
 use heap_words::{count_of, nums_of, refs_of, request_count, shape_of, thread_of, words_of};
 use image_graph::Image;
@@ -117,7 +117,7 @@ fn are_fields_right(image: &Image, objects: &[u64], address: u64, refs: u64) -> 
 // Whether the words of an object are those of one.
 fn reads_right(image: &Image, objects: &[u64], address: u64) -> bool
     requires lies { LiesRight (config_of image.now) (memory_of image.now) objects.now address }
-    requires inside { address + words_in (memory_of image.now) address ≤ ((config_of image.now).regions + 1) * (config_of image.now).region_words }
+    requires inside { address + laid_words (memory_of image.now) address ≤ ((config_of image.now).regions + 1) * (config_of image.now).region_words }
     ensures { IsTrue result → ReadsRight (config_of image.now) (memory_of image.now) objects.now address }
 {
     let config = image.config();

@@ -1,8 +1,8 @@
 pub mod Same
-pub mod Steps
+pub mod NamedStores
 pub mod Room
 pub mod Turns
 pub mod Packed
 pub mod Shown
-pub mod Parts
+pub mod SameWords
 pub mod Read

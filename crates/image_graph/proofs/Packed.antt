@@ -8,8 +8,8 @@ use borrow.Rule.Slice.PartMut.{put_mid, post_of}
 use Rattle.heap_words.specs.declared.config.Config.{Config}
 use Rattle.heap_words.specs.Words.{Top, word_at, table_words, heap_size, heap_start, heap_in}
 use Rattle.packing.specs.Tops.{top_before}
-use Rattle.sliding.specs.Slide.{IsSlidTo, renewed}
-use Rattle.sliding.specs.Table.{word_of, kept_of, now_of, LeadsToKept, IsRenewedBy}
+use Rattle.packing.specs.Slide.{IsSlidTo, renewed}
+use Rattle.packing.specs.Table.{word_of, kept_of, now_of, LeadsToKept, IsRenewedBy}
 use Rattle.image_graph.specs.Pack.{IsPacked}
 
 -- what stands behind a front of a list

@@ -8,9 +8,9 @@ use Rattle.heap_words.specs.Words.{Word, Top, Wait}
 use Rattle.heap_words.specs.Encoding.{object_words, request_shape_in}
 use Rattle.regions.specs.Rooms.{EachHasLess, IsFirstWithRoom}
 use Rattle.regions.specs.Place.{base_of}
-use Rattle.packing.specs.Rooms.{lowest_room, HasNoRoom, IsLowestRoom}
+use Rattle.packing.specs.Rooms.{lowest_room, NoneHasRoom, IsLowestRoom}
 use Rattle.packing.proofs.Rooms.{all_full, lowest_is, has_room, none_has_room}
-use Rattle.image_laws.specs.Full.{made_in}
+use Rattle.full_words.specs.Full.{made_in}
 use Rattle.image_graph.specs.Make.{AreInHeap, AreWithin}
 
 -- where each region has less room than is asked for
@@ -56,7 +56,7 @@ found_room c m words asked r result is same found =
     (ap (λ n. lowest_room c.region_words (λ q. m (Top q)) n c.regions) (sym same) ∙ sym is ∙ found)
 
 pub found_none : (c : Config) (m : Word → ℕ) (words asked : ℕ) (result : Option ℕ) → result ≡ lowest_room c.region_words (λ q. m (Top q)) words c.regions
-    → words ≡ asked → result ≡ None → HasNoRoom c.region_words (λ q. m (Top q)) asked c.regions
+    → words ≡ asked → result ≡ None → NoneHasRoom c.region_words (λ q. m (Top q)) asked c.regions
 found_none c m words asked result is same none =
     none_has_room c.region_words (λ q. m (Top q)) asked c.regions
     (ap (λ n. lowest_room c.region_words (λ q. m (Top q)) n c.regions) (sym same) ∙ sym is ∙ none)

@@ -14,20 +14,20 @@ use Rattle.shen_graph.specs.Reach.{IsReachable}
 use Rattle.shen_graph.specs.Reach as reach
 use Rattle.heap_world.specs.Roots.{is_root_of, HasNoMore}
 use Rattle.heap_world.specs.World.{Block, thing, moved, spent, hand, promised, filler, Plot, name_at, Points, IsThing}
-use Rattle.image_laws.proofs.Named.{thing_at}
+use Rattle.full_words.proofs.Named.{thing_at}
 use Rattle.heap_graph.specs.Walk.{has}
 use Rattle.heap_graph.specs.Shows.{WordsStand}
 use Rattle.heap_world.specs.Objects.{IsObject}
 use Rattle.heap_world.proofs.Pointing.{named_thing}
-use Rattle.image_laws.proofs.Standing.{own_copy}
+use Rattle.full_words.proofs.ImagesStand.{own_copy}
 use Rattle.heap_graph.proofs.Tables.{AreCopies, copies_stand}
-use Rattle.image_laws.specs.Held.{IsHeld, from_root, from_field, IsAmong, AreHeldKept}
-use Rattle.image_laws.specs.Full.{now_in, root_words, held_in, kept_in}
-use Rattle.image_laws.specs.Promised.{Promises, with_promised}
-use Rattle.image_laws.proofs.Reached.{held_is_reached, refs_read, named_object, none_at_0}
-use Rattle.image_laws.proofs.Promised.{same_reference-true, reaches_promised}
-use Rattle.image_laws.proofs.Roots.{root_among}
-use Rattle.image_laws.proofs.Walked.{walk_keeps}
+use Rattle.full_words.specs.Held.{IsLedTo, from_root, from_field, IsAmong, AreHeldKept}
+use Rattle.full_words.specs.Full.{now_in, root_words, held_in, kept_in}
+use Rattle.full_words.specs.Promised.{Promises, with_promised}
+use Rattle.full_words.proofs.Reached.{held_is_reached, refs_read, named_object, none_at_0}
+use Rattle.full_words.proofs.Promised.{same_reference-true, reaches_promised}
+use Rattle.full_words.proofs.Roots.{root_among}
+use Rattle.full_words.proofs.Walked.{walk_keeps}
 use Rattle.image_graph.specs.Holds.{HoldsBy}
 
 -- a piece, if it is an object that is not promised
@@ -64,7 +64,7 @@ module _ (c : Config) (m : Word → ℕ) (block : Plot) (owner : ℕ → Option 
   IsRoot = IsAmong (root_words c m)
 
   abbrev Held : ℕ → Type 0
-  Held = IsHeld (now_in m) heap IsRoot
+  Held = IsLedTo (now_in m) heap IsRoot
 
   -- the pieces whose current copies are held, and that are not promised
   abbrev shown : Plot

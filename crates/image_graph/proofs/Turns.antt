@@ -7,9 +7,9 @@ use Rattle.std.proofs.Math.Bridge.{le_prop}
 use Rattle.heap_words.specs.declared.config.Config.{Config}
 use Rattle.heap_words.specs.Words.{Word, Top, Wait}
 use Rattle.heap_words.specs.Encoding.{object_words, request_shape_in}
-use Rattle.packing.specs.Rooms.{HasNoRoom}
-use Rattle.image_laws.specs.Full.{asked_in, served, served_in, room_for}
-use Rattle.image_laws.proofs.Served.{before_turn}
+use Rattle.packing.specs.Rooms.{NoneHasRoom}
+use Rattle.full_words.specs.Full.{asked_in, served, served_in, room_for}
+use Rattle.full_words.proofs.Served.{before_turn}
 use Rattle.image_graph.specs.Holds.{HoldsSome}
 use Rattle.image_graph.specs.Left.{IsLeft}
 use Rattle.image_graph.specs.Make.{AreWithin}
@@ -55,20 +55,20 @@ asks c m t some =
 
 -- what it means for a request to be left at its turn
 pub left_at : (c : Config) (m : Word → ℕ) (t : ℕ) → t < c.mutators → served c m t (Wait t) ≢ 0
-    → HasNoRoom c.region_words (λ r. served c m t (Top r)) (object_words (request_shape_in (served c m t (Wait t)))) c.regions → IsLeft c m t
+    → NoneHasRoom c.region_words (λ r. served c m t (Top r)) (object_words (request_shape_in (served c m t (Wait t)))) c.regions → IsLeft c m t
 left_at c m t below some none =
     let waits : m (Wait t) ≢ 0 = λ e. some (wait_is c m t ∙ e) in
     record {
       below = below;
       waits = waits;
-      no_room = subst (λ n. HasNoRoom c.region_words (λ r. served c m t (Top r)) n c.regions) (asks c m t waits) none;
+      no_room = subst (λ n. NoneHasRoom c.region_words (λ r. served c m t (Top r)) n c.regions) (asks c m t waits) none;
     }
 
 pub left_from : (c : Config) (m : Word → ℕ) (t : ℕ) → IsLeft c m t → (served c m t (Wait t) ≢ 0)
-    × HasNoRoom c.region_words (λ r. served c m t (Top r)) (object_words (request_shape_in (served c m t (Wait t)))) c.regions
+    × NoneHasRoom c.region_words (λ r. served c m t (Top r)) (object_words (request_shape_in (served c m t (Wait t)))) c.regions
 left_from c m t left = (
   λ e. left.waits (sym (wait_is c m t) ∙ e),
-  subst (λ n. HasNoRoom c.region_words (λ r. served c m t (Top r)) n c.regions) (sym (asks c m t left.waits)) left.no_room,
+  subst (λ n. NoneHasRoom c.region_words (λ r. served c m t (Top r)) n c.regions) (sym (asks c m t left.waits)) left.no_room,
 )
 
 -- whether a request is left of the threads that had their turn

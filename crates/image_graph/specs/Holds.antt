@@ -8,12 +8,12 @@ use Rattle.regions.specs.Sets.{IsIn, IsOutside}
 use Rattle.shen_graph.specs.declared.name.Name.{Name}
 use Rattle.shen_graph.specs.Graph.{Graph, Object, fresh}
 use Rattle.heap_world.specs.World.{Plot, thing, IsFilled, IsFreeWord, AreCurrent, IsGiven}
-use Rattle.image_laws.specs.Held.{IsAmong, HoldsGraph}
-use Rattle.image_laws.specs.Plot.{AreThings}
-use Rattle.image_laws.specs.Full.{now_in, root_words}
-use Rattle.image_laws.specs.Promised.{Promises, with_promised, AreFresh}
-use Rattle.image_laws.specs.Image.{RootsStand}
-use Rattle.image_laws.specs.Serving.{AreAsking}
+use Rattle.full_words.specs.Held.{IsAmong, HoldsGraph}
+use Rattle.full_words.specs.Plot.{AreThings}
+use Rattle.full_words.specs.Full.{now_in, root_words}
+use Rattle.full_words.specs.Promised.{Promises, with_promised, AreFresh}
+use Rattle.full_words.specs.Image.{RootsStand}
+use Rattle.full_words.specs.Serving.{AreAsking}
 
 -- an object that has moved is in the collection set, and its copy is outside and has not moved
 pub record HasMoved (c : Config) (memory : Word → ℕ) (block : Plot) (a refs nums : ℕ) (name : Name) : Type 0 where

@@ -3,23 +3,23 @@ use Rattle.std.specs.Prelude.{ℕ, ◌≡◌, ◌≢◌, ◌<◌, Option, List, 
 use Rattle.heap_words.specs.declared.config.Config.{Config}
 use Rattle.heap_words.specs.Words.{Word, Wait, view, table_words, heap_in, roots_in}
 use Rattle.shen_graph.specs.declared.name.Name.{Name}
-use Rattle.packing.specs.Rooms.{HasNoRoom}
-use Rattle.image_laws.specs.Full.{asked_in}
-use Rattle.image_laws.specs.Served.{tops_at_turn}
+use Rattle.packing.specs.Rooms.{NoneHasRoom}
+use Rattle.full_words.specs.Full.{asked_in}
+use Rattle.full_words.specs.Served.{tops_at_turn}
 use Rattle.shen_graph.specs.Graph.{Graph}
 use Rattle.shen_graph.specs.GraphText.{Text}
 use Rattle.heap_graph.specs.Shows.{WordsStand, StandForSome, ShowsGraph}
 use Rattle.heap_world.specs.World.{Plot}
-use Rattle.image_laws.specs.Promised.{Promises}
-use Rattle.image_laws.specs.Image.{ImageStands}
-use Rattle.image_laws.specs.Serving.{AreAsking, served_block, served_promises}
+use Rattle.full_words.specs.Promised.{Promises}
+use Rattle.full_words.specs.Image.{ImageStands}
+use Rattle.full_words.specs.Serving.{AreAsking, served_block, served_promises}
 use Rattle.image_graph.specs.Holds.{HoldsBy}
 
 -- a thread waits, and when its turn comes each region has less room than it asks for
 pub record IsLeft (c : Config) (memory : Word → ℕ) (t : ℕ) : Type 0 where
   pub below : t < c.mutators
   pub waits : memory (Wait t) ≢ 0
-  pub no_room : HasNoRoom c.region_words (tops_at_turn c memory t) (asked_in memory t) c.regions
+  pub no_room : NoneHasRoom c.region_words (tops_at_turn c memory t) (asked_in memory t) c.regions
 
 -- the words stand for the same graph as before all threads had their turn, and the objects that were made are promised
 abbrev pub IsServedGraph : Config → (before after : Word → ℕ) → Type 0

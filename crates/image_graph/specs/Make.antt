@@ -4,9 +4,9 @@ use Rattle.heap_words.specs.declared.config.Config.{Config}
 use Rattle.heap_words.specs.Words.{Word, Top, Heap}
 
 -- a memory after so many words of the heap were cleared, from an address on
-abbrev pub cleared : (address words : ℕ) → (Word → ℕ) → Word → ℕ
-cleared address words memory (Heap x) = if nat_le address x && nat_lt x (address + words) then 0 else memory (Heap x)
-cleared address words memory word = memory word
+abbrev pub heap_cleared : (address words : ℕ) → (Word → ℕ) → Word → ℕ
+heap_cleared address words memory (Heap x) = if nat_le address x && nat_lt x (address + words) then 0 else memory (Heap x)
+heap_cleared address words memory word = memory word
 
 -- so many words from an address on are of the heap
 pub record AreInHeap (c : Config) (address words : ℕ) : Type 0 where

@@ -3,8 +3,8 @@ use Rattle.std.specs.Prelude.{ℕ, ◌≡◌, ◌+◌, ◌<◌, ◌≤◌, ◌�
 use Rattle.heap_words.specs.declared.config.Config.{Config}
 use Rattle.heap_words.specs.Words.{Top, word_at, heap_size, heap_start, heap_in}
 use Rattle.packing.specs.Tops.{top_before}
-use Rattle.sliding.specs.Slide.{IsSlidTo, renewed}
-use Rattle.sliding.specs.Table.{word_of, kept_of, now_of, LeadsToKept, IsRenewedBy}
+use Rattle.packing.specs.Slide.{IsSlidTo, renewed}
+use Rattle.packing.specs.Table.{word_of, kept_of, now_of, LeadsToKept, IsRenewedBy}
 
 -- The heap was slid, the tops are those of the packed objects, and no word is changed that is of neither. By the table of
 -- new places each word that led to a marked object can be renewed.

@@ -24,7 +24,7 @@ pub struct Image {
 impl Image {
     ghost use Rattle.std.specs.Prelude.{ℕ, ◌<◌, true, false, slice_set, slice_index, Option, IfOk};
     ghost use Rattle.heap_words.specs.Words.{Word, Top, Heap, IsWord, word_at, write};
-    ghost use Rattle.image_laws.specs.Full.{now_in};
+    ghost use Rattle.full_words.specs.Full.{now_in};
     ghost use Rattle.image_graph.specs.State.{config_of, words_of, memory_of, marks_of, found_of, places_of, IsUnchanged, IsSomeSeats};
     ghost use Rattle.image_graph.specs.Left.{StandsForSome, ShowsTheGraph};
 

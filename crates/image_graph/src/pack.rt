@@ -3,14 +3,14 @@
 ghost use Rattle.std.specs.Prelude.{ℕ, ◌≡◌, ◌+◌, ◌<◌, ◌≤◌, ◌⊎◌, length, slice_index};
 ghost use Rattle.heap_words.specs.Words.{Top, word_at, table_words, heap_size, heap_start, heap_in};
 ghost use Rattle.packing.specs.Tops.{top_before};
-ghost use Rattle.sliding.specs.Slide.{IsSlidTo, renewed};
-ghost use Rattle.sliding.specs.Table.{word_of, kept_of, now_of, LeadsToKept, CanCompact, IsRenewedBy, IsInTable, from_table};
+ghost use Rattle.packing.specs.Slide.{IsSlidTo, renewed};
+ghost use Rattle.packing.specs.Table.{word_of, kept_of, now_of, LeadsToKept, CanCompact, IsRenewedBy, IsInTable, from_table};
 ghost use Rattle.image_graph.specs.State.{config_of, words_of, marks_of, places_of};
 ghost use Rattle.image_graph.specs.Pack.{IsPacked};
 
 use crate::image::Image;
 use heap_words::Config;
-use sliding::{compact_marked, renew};
+use packing::{compact_marked, renew};
 
 // Packs the marked objects of a table. `marks` and `places` have an entry for each word of the heap.
 fn pack_words(config: Config, marks: &[bool], words: &mut [u64], places: &mut [u64])

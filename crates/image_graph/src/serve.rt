@@ -3,12 +3,12 @@
 ghost use Rattle.std.specs.Prelude.{ℕ, ◌≡◌, ◌≢◌, ◌+◌, ◌<◌, ◌≤◌, ◌↔◌, true, false};
 ghost use Rattle.heap_words.specs.Words.{Cset, Top, Wait};
 ghost use Rattle.heap_words.specs.Encoding.{object_words, request_shape_in};
-ghost use Rattle.packing.specs.Rooms.{lowest_room, HasNoRoom};
-ghost use Rattle.image_laws.specs.Full.{made_in, served, served_in, room_for};
+ghost use Rattle.packing.specs.Rooms.{lowest_room, NoneHasRoom};
+ghost use Rattle.full_words.specs.Full.{made_in, served, served_in, room_for};
 ghost use Rattle.image_graph.specs.State.{config_of, memory_of};
 ghost use Rattle.image_graph.specs.Holds.{HoldsSome};
 ghost use Rattle.image_graph.specs.Left.{IsLeft, IsServedGraph};
-ghost use Rattle.image_graph.specs.Make.{cleared, AreInHeap, AreWithin};
+ghost use Rattle.image_graph.specs.Make.{heap_cleared, AreInHeap, AreWithin};
 
 use crate::image::Image;
 use heap_words::{name_word, request_count, request_shape, words_of};
@@ -19,7 +19,7 @@ impl Image {
     fn clear(&mut self, address: u64, words: u64)
         requires inside { AreInHeap (config_of self.old) address words }
         ensures config { config_of self.new ≡ config_of self.old }
-        ensures words { memory_of self.new ≡ cleared address words (memory_of self.old) }
+        ensures words { memory_of self.new ≡ heap_cleared address words (memory_of self.old) }
     {
         let config = self.config();
         for index in 0..words {
@@ -68,7 +68,7 @@ impl Image {
         ensures within { AreWithin (config_of self.new) (memory_of self.new) }
         ensures idle { memory_of self.old (Wait mutator) ≡ 0 → memory_of self.new ≡ memory_of self.old }
         ensures waits { memory_of self.old (Wait mutator) ≢ 0 → memory_of self.new ≡ served_in (config_of self.old) (memory_of self.old) mutator (room_for (config_of self.old) (memory_of self.old) mutator) }
-        ensures left { result ≡ false ↔ ((memory_of self.old (Wait mutator) ≢ 0) × HasNoRoom (config_of self.old).region_words (λ r. memory_of self.old (Top r)) (object_words (request_shape_in (memory_of self.old (Wait mutator)))) (config_of self.old).regions) }
+        ensures left { result ≡ false ↔ ((memory_of self.old (Wait mutator) ≢ 0) × NoneHasRoom (config_of self.old).region_words (λ r. memory_of self.old (Top r)) (object_words (request_shape_in (memory_of self.old (Wait mutator)))) (config_of self.old).regions) }
     {
         let config = self.config();
         let request = self.word(config.wait_at(mutator));

@@ -3,7 +3,7 @@ use Rattle.std.proofs.Common.{◌≡◌, ℕ, List, [], ◌∷◌, subst}
 use Rattle.heap_words.specs.declared.config.Config.{Config}
 use Rattle.heap_words.specs.Words.{Evac, Heap}
 use Rattle.load_barrier.specs.declared.spot.ResolveSpot.{ResolveSpot}
-use Rattle.load_barrier.specs.Runs.{Resolving, Move, own, others, after_move, after_moves, IsMove, AreMoves, resolving_from, ResolvingHolds, AnswersAreCurrent}
+use Rattle.load_barrier.specs.Alone.{Resolving, Move, own, others, after_move, after_moves, IsMove, AreMoves, resolving_from, ResolvingHolds, AnswersAreCurrent}
 use Rattle.load_barrier.proofs.Knows.{Can, Knows, can_stays}
 use Rattle.load_barrier.proofs.Resolving.{each_step}
 

@@ -8,7 +8,7 @@ use Rattle.heap_words.specs.Words.{Heap, Top, IsWord, is_word, is_image}
 use Rattle.heap_words.proofs.Stores.{is_word_true}
 use Rattle.regions.specs.Place.{region_with}
 use Rattle.regions.proofs.PlaceLemmas.{regions_tile}
-use Rattle.mark_bits.proofs.Marking.{word_inside}
+use Rattle.regions.proofs.MarksApart.{word_inside}
 use Rattle.alloc_buffers.specs.Rows as takes
 use Rattle.alloc_buffers.proofs.Accesses.{in_image}
 use Rattle.load_barrier.specs.declared.copying.CopySpot.{CopySpot}
@@ -16,7 +16,7 @@ use Rattle.load_barrier.specs.declared.copying.CopySpot.TheVariants.{LoadWord, S
 use Rattle.load_barrier.specs.declared.spot.ResolveSpot.{ResolveSpot}
 use Rattle.load_barrier.specs.declared.spot.ResolveSpot.TheVariants.{LoadHeader, Entering, LoadShape, Taking, Copying, Leaving, Stopping, LoadAgain, Resolved}
 use Rattle.load_barrier.specs.Rows as resolves
-use Rattle.load_barrier.specs.Fit.{has_words, is_size, is_object, copy_ready, is_busy}
+use Rattle.load_barrier.specs.Fit.{has_words, is_word_count, is_object, copy_ready, is_busy}
 use Rattle.load_barrier.specs.Fit as resolve
 use Rattle.load_barrier.specs.declared.evac_spot.EvacSpot.{EvacSpot}
 use Rattle.load_barrier.specs.declared.evac_spot.EvacSpot.TheVariants as evac

@@ -9,13 +9,13 @@ use Rattle.alloc_buffers.specs.Rows as takes
 use Rattle.heap_words.specs.Counter.{count_of, IsQuiet}
 use Rattle.evac_room.specs.declared.spot.RoomSpot.{RoomSpot}
 use Rattle.evac_room.specs.declared.spot.RoomSpot.TheVariants.{Look, Raise, Ask, Mark, Wait}
-use Rattle.evac_room.proofs.Steps.{Mine, mine_stays}
+use Rattle.evac_room.proofs.OneStep.{Mine, mine_stays}
 use Rattle.load_barrier.specs.declared.copying.CopySpot.{CopySpot}
 use Rattle.load_barrier.specs.declared.copying.CopySpot.TheVariants.{LoadWord, StoreWord, StoreHeader, Publish, GiveBack}
 use Rattle.load_barrier.specs.declared.spot.ResolveSpot.{ResolveSpot}
 use Rattle.load_barrier.specs.declared.spot.ResolveSpot.TheVariants.{LoadHeader, Entering, LoadShape, Taking, Copying, Leaving, Stopping, LoadAgain, Resolved}
 use Rattle.load_barrier.specs.Rows.{current_copy}
-use Rattle.load_barrier.specs.Runs.{is_copier, IsHeader, words_in, AreCopied, IsWhole, LeaveObject}
+use Rattle.load_barrier.specs.Alone.{is_copier, IsHeader, words_by_shape, AreCopied, IsWholeCopy, LeaveObject}
 
 -- it asks to copy
 abbrev pub IsAsking : RoomSpot → Type 0
@@ -33,11 +33,11 @@ IsGoing _ = ⊥
 module _ (phase address : ℕ) where
   -- what holds while it copies
   abbrev pub CopyKnows : (ℕ → ℕ) → ℕ → CopySpot → Type 0
-  CopyKnows heap copy (LoadWord words index) = (words ≡ words_in heap address) × (1 ≤ index) × (index < words) × AreCopied heap address copy index
+  CopyKnows heap copy (LoadWord words index) = (words ≡ words_by_shape heap address) × (1 ≤ index) × (index < words) × AreCopied heap address copy index
   CopyKnows heap copy (StoreWord words index found) =
-      (words ≡ words_in heap address) × (1 ≤ index) × (index < words) × AreCopied heap address copy index × (found ≡ heap (address + index))
-  CopyKnows heap copy StoreHeader = AreCopied heap address copy (words_in heap address)
-  CopyKnows heap copy Publish = IsWhole heap address copy
+      (words ≡ words_by_shape heap address) × (1 ≤ index) × (index < words) × AreCopied heap address copy index × (found ≡ heap (address + index))
+  CopyKnows heap copy StoreHeader = AreCopied heap address copy (words_by_shape heap address)
+  CopyKnows heap copy Publish = IsWholeCopy heap address copy
   CopyKnows heap copy (GiveBack answer) = heap address ≡ header_word answer
 
   -- the header does not change any more
@@ -49,7 +49,7 @@ module _ (phase address : ℕ) where
   Knows heap evac LoadHeader = ⊤
   Knows heap evac (Entering at) = IsAsking at × Mine evac at
   Knows heap evac LoadShape = ⊤
-  Knows heap evac (Taking words at) = (words ≡ words_in heap address) × (takes.is_ended at ≡ false)
+  Knows heap evac (Taking words at) = (words ≡ words_by_shape heap address) × (takes.is_ended at ≡ false)
   Knows heap evac (Copying copy at) = CopyKnows heap copy at
   Knows heap evac (Leaving answer) = heap address ≡ header_word answer
   Knows heap evac (Stopping at) = IsGoing at × Mine evac at
@@ -89,13 +89,13 @@ module _ (phase address : ℕ) (spot : ResolveSpot) (before after : Word → ℕ
   abbrev pub new : ℕ → ℕ
   new a = after (Heap a)
 
-  words_stay : is_copier spot ≡ true → words_in new address ≡ words_in old address
+  words_stay : is_copier spot ≡ true → words_by_shape new address ≡ words_by_shape old address
   words_stay copies = ap object_words (left.words copies 1 (omega arith) (omega arith))
 
-  copied_stay : (copy index : ℕ) → is_copier spot ≡ true → index ≤ words_in old address
-      → ((k : ℕ) → k < words_in old address → new (copy + k) ≡ old (copy + k)) → AreCopied old address copy index → AreCopied new address copy index
+  copied_stay : (copy index : ℕ) → is_copier spot ≡ true → index ≤ words_by_shape old address
+      → ((k : ℕ) → k < words_by_shape old address → new (copy + k) ≡ old (copy + k)) → AreCopied old address copy index → AreCopied new address copy index
   copied_stay copy index copies most room copied k some below =
-      let inside : k < words_in old address = omega (arith, below, most) in
+      let inside : k < words_by_shape old address = omega (arith, below, most) in
       room k inside ∙ copied k some below ∙ sym (left.words copies k some inside)
 
   header_stays : (to : ℕ) → old address ≡ header_word to → new address ≡ header_word to
@@ -132,13 +132,13 @@ copy_stays phase address copy (StoreWord words index found) before after left kn
 copy_stays phase address copy StoreHeader before after left knows =
     let same = words_stay phase address (Copying copy StoreHeader) before after left refl in
     subst (λ n. AreCopied (λ a. after (Heap a)) address copy n) (sym same)
-    (copied_stay phase address (Copying copy StoreHeader) before after left copy (words_in (λ a. before (Heap a)) address) refl (omega arith) left.room knows)
+    (copied_stay phase address (Copying copy StoreHeader) before after left copy (words_by_shape (λ a. before (Heap a)) address) refl (omega arith) left.room knows)
 copy_stays phase address copy Publish before after left knows =
     let same = words_stay phase address (Copying copy Publish) before after left refl in
     record {
       header = first (left.room 0 (omega arith)) ∙ knows.header;
       words = subst (λ n. AreCopied (λ a. after (Heap a)) address copy n) (sym same)
-          (copied_stay phase address (Copying copy Publish) before after left copy (words_in (λ a. before (Heap a)) address) refl (omega arith) left.room knows.words);
+          (copied_stay phase address (Copying copy Publish) before after left copy (words_by_shape (λ a. before (Heap a)) address) refl (omega arith) left.room knows.words);
     }
   where
     first : after (Heap (copy + 0)) ≡ before (Heap (copy + 0)) → after (Heap copy) ≡ before (Heap copy)

@@ -20,7 +20,7 @@ use Rattle.load_barrier.specs.declared.copying.CopySpot.TheVariants.{LoadWord, S
 use Rattle.load_barrier.specs.declared.spot.ResolveSpot.{ResolveSpot}
 use Rattle.load_barrier.specs.declared.spot.ResolveSpot.TheVariants.{LoadHeader, Entering, LoadShape, Taking, Copying, Leaving, Stopping, LoadAgain, Resolved}
 use Rattle.load_barrier.specs.Rows.{touch_at, next_at, is_resolved, current_copy, after_header, after_enter, after_take, after_word, after_publish, after_stop, take_next}
-use Rattle.load_barrier.specs.Runs.{IsHeader, words_in, AreCopied, IsApart, IsCounter}
+use Rattle.load_barrier.specs.Alone.{IsHeader, words_by_shape, AreCopied, IsApart, IsCounter}
 use Rattle.load_barrier.proofs.Knows.{CanResolve, Can, header_forwarded, names_copy, current_named}
 
 module _ (phase address : ℕ) where
@@ -70,7 +70,7 @@ module _ (phase address : ℕ) where
       by_found false is = record { header = can.header; counted = λ copies. absurd (cc (copies)); knows = (tt, tt) }
 
   -- a step of the taking of room
-  take_leads : (heap : ℕ → ℕ) (evac words : ℕ) (at : TakeSpot) → IsHeader (heap address) → 1 ≤ count_of evac → words ≡ words_in heap address
+  take_leads : (heap : ℕ → ℕ) (evac words : ℕ) (at : TakeSpot) → IsHeader (heap address) → 1 ≤ count_of evac → words ≡ words_by_shape heap address
       → CanResolve phase address heap evac (after_take words at)
   take_leads heap evac words (take.Ended (At copy)) header some are =
       record { header = header; counted = λ copies. some; knows = (are, omega arith, omega (arith, are), λ k least below. absurd (omega (arith, least, below))) }
@@ -116,18 +116,18 @@ wrote_else : (heap : ℕ → ℕ) (at value a : ℕ) → at ≢ a → wrote heap
 wrote_else heap at value a other = cond-false (at == a) _ _ (grind (arith, nat_tests))
 
 -- A word of the copy is written: the object stays, since its room lies apart from it.
-module _ (address copy : ℕ) (heap : ℕ → ℕ) (index value : ℕ) (inside : index < words_in heap address) (apart : IsApart heap address (Copying copy Publish)) where
+module _ (address copy : ℕ) (heap : ℕ → ℕ) (index value : ℕ) (inside : index < words_by_shape heap address) (apart : IsApart heap address (Copying copy Publish)) where
   abbrev filled : ℕ → ℕ
   filled = wrote heap (copy + index) value
 
-  object_stays : (k : ℕ) → k < words_in heap address → filled (address + k) ≡ heap (address + k)
+  object_stays : (k : ℕ) → k < words_by_shape heap address → filled (address + k) ≡ heap (address + k)
   object_stays k below = wrote_else heap (copy + index) value (address + k) (λ same. by_side same apart)
     where
-      by_side : copy + index ≡ address + k → (copy + words_in heap address ≤ address) ⊎ (address + words_in heap address ≤ copy) → ⊥
+      by_side : copy + index ≡ address + k → (copy + words_by_shape heap address ≤ address) ⊎ (address + words_by_shape heap address ≤ copy) → ⊥
       by_side same (inl low) = omega (arith, same, low, inside, below)
       by_side same (inr high) = omega (arith, same, high, inside, below)
 
-  words_stay : words_in filled address ≡ words_in heap address
+  words_stay : words_by_shape filled address ≡ words_by_shape heap address
   words_stay = ap object_words (object_stays 1 (omega arith))
 
   head_stays : filled address ≡ heap address
@@ -143,13 +143,13 @@ module _ (phase address copy : ℕ) where
       → CanResolve phase address (wrote heap (copy + index) found) evac (Copying copy (after_word words (index + 1)))
   word_next heap evac words index found apart can = by_index (nat_lt (index + 1) words) refl
     where
-      inside : index < words_in heap address
+      inside : index < words_by_shape heap address
       inside = omega (arith, can.knows.0, can.knows.2)
 
       header : IsHeader (wrote heap (copy + index) found address)
       header = subst IsHeader (sym (head_stays address copy heap index found inside apart)) can.header
 
-      same : words_in (wrote heap (copy + index) found) address ≡ words_in heap address
+      same : words_by_shape (wrote heap (copy + index) found) address ≡ words_by_shape heap address
       same = words_stay address copy heap index found inside apart
 
       one_more : AreCopied (wrote heap (copy + index) found) address copy (index + 1)
@@ -174,7 +174,7 @@ module _ (phase address copy : ℕ) where
         knows = (can.knows.0 ∙ sym same, omega arith, grind (arith, nat_tests), one_more);
       }
       by_index false is =
-          let last : words_in (wrote heap (copy + index) found) address ≡ index + 1 = grind (arith, nat_tests, same, can.knows.0, can.knows.2) in
+          let last : words_by_shape (wrote heap (copy + index) found) address ≡ index + 1 = grind (arith, nat_tests, same, can.knows.0, can.knows.2) in
           record {
             header = header;
             counted = λ copies. can.counted refl;
@@ -186,10 +186,10 @@ module _ (phase address copy : ℕ) where
       → CanResolve phase address (wrote heap copy plain_header) evac (Copying copy Publish)
   header_stored heap evac apart can = subst (λ a. CanResolve phase address (wrote heap a plain_header) evac (Copying copy Publish)) (omega arith) stored
     where
-      inside : 0 < words_in heap address
+      inside : 0 < words_by_shape heap address
       inside = omega arith
 
-      same : words_in (wrote heap (copy + 0) plain_header) address ≡ words_in heap address
+      same : words_by_shape (wrote heap (copy + 0) plain_header) address ≡ words_by_shape heap address
       same = words_stay address copy heap 0 plain_header inside apart
 
       stored : CanResolve phase address (wrote heap (copy + 0) plain_header) evac (Copying copy Publish)

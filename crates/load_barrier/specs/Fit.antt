@@ -16,8 +16,8 @@ abbrev pub has_words : Config → ℕ → ℕ → Bool
 has_words c address words = nat_le c.region_words address && nat_le (address + words) ((c.regions + 1) * c.region_words)
 
 -- whether they are as many as an object has
-abbrev pub is_size : ℕ → Bool
-is_size words = nat_le 3 words && nat_le words 35
+abbrev pub is_word_count : ℕ → Bool
+is_word_count words = nat_le 3 words && nat_le words 35
 
 -- whether a part that has its own end has not come to it
 abbrev pub is_busy : Bool → Bool
@@ -25,7 +25,7 @@ is_busy ended = if ended then false else true
 
 -- whether an object of so many words lies in the heap
 abbrev pub is_object : Config → ℕ → ℕ → Bool
-is_object c address words = is_size words && has_words c address words
+is_object c address words = is_word_count words && has_words c address words
 
 -- whether a word of an object and of its copy, counted from 0, can be copied
 abbrev pub is_copied : Config → ℕ → ℕ → ℕ → ℕ → Bool

@@ -5,4 +5,4 @@ pub mod Seen
 pub mod UnitRows
 pub mod UnitFit
 pub mod UnitEnds
-pub mod Runs
+pub mod Alone

@@ -13,7 +13,7 @@ use Rattle.heap_words.specs.Encoding.{object_words}
 use Rattle.heap_words.specs.Words.{Claim, Top, Black, Heap}
 use Rattle.steps_base.specs.Touch.{Touch, touch, loads, exchanges}
 use Rattle.regions.specs.Place.{region_with, base_of}
-use Rattle.mark_bits.specs.Marks.{mark_word, mark_bit}
+use Rattle.regions.specs.Marks.{mark_word, mark_bit}
 use Rattle.load_barrier.specs.declared.spot.ResolveSpot.{ResolveSpot}
 use Rattle.load_barrier.specs.declared.spot.ResolveSpot.TheVariants.{LoadHeader, Resolved}
 use Rattle.load_barrier.specs.Rows as resolves

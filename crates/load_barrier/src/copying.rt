@@ -80,7 +80,7 @@ impl CopySpot {
                 value: PLAIN_HEADER,
             },
             // keeps HaveMoved, AreObjects, AreKept of heap_world and Target
-            // keeps KeepsSnapshot.kept, IsWalkedTo of evac_steps and NameTheSame
+            // keeps KeepsSnapshot.kept, IsWalkedTo and NameTheSame
             CopySpot::Publish => Access::Exchange {
                 at: config.heap_at(address),
                 expect: PLAIN_HEADER,

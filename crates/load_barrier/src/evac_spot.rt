@@ -11,8 +11,7 @@ ghost use Rattle.load_barrier.specs.UnitEnds.{WaitsAt};
 use crate::set::{COPY, lies_in_set};
 use crate::spot::ResolveSpot;
 use heap_words::{Access, Config, Place, Took, Unit};
-use mark_bits::{is_marked_in, mark_word};
-use regions::{base, is_in, next_object};
+use regions::{base, is_in, is_marked_in, mark_word, next_object};
 use std::fmt;
 use std::fmt::{Debug, Formatter, Write};
 

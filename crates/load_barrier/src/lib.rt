@@ -18,7 +18,7 @@ mod resolve;
 mod set;
 mod spot;
 
-ghost use Rattle.load_barrier.specs.Runs.{AnswersAreCurrent};
+ghost use Rattle.load_barrier.specs.Alone.{AnswersAreCurrent};
 
 pub use copying::CopySpot;
 pub use evac_spot::EvacSpot;

@@ -12,21 +12,21 @@ use Rattle.heap_words.proofs.Stores.{view_none}
 use Rattle.shen_graph.specs.Graph.{Graph}
 use Rattle.heap_graph.specs.Walk.{has}
 use Rattle.heap_world.specs.World.{Plot}
-use Rattle.image_laws.specs.Promised.{Promises}
-use Rattle.image_laws.proofs.Reached.{refs_read}
+use Rattle.full_words.specs.Promised.{Promises}
+use Rattle.full_words.proofs.Reached.{refs_read}
 use Rattle.image_graph.specs.Holds.{HoldsBy}
-use Rattle.mark_laws.specs.Marks.{mark_bits}
-use Rattle.mark_laws.specs.Close.{IsTraced, traced_in, closed}
-use Rattle.mark_laws.specs.Facts.{IsObjectAt, IsMarking}
-use Rattle.mark_laws.proofs.Plain.{object_above}
-use Rattle.mark_laws.proofs.Traced.{listed_traced}
-use Rattle.mark_laws.proofs.Closed.{followed}
+use Rattle.cycle_words.specs.Marking.Marks.{mark_bits}
+use Rattle.cycle_words.specs.Marking.Close.{IsTraced, traced_in, closed}
+use Rattle.cycle_words.specs.Marking.WhileMarking.{IsObjectAt, IsMarking}
+use Rattle.cycle_words.proofs.Marking.Plain.{object_above}
+use Rattle.cycle_words.proofs.Marking.Traced.{listed_traced}
+use Rattle.cycle_words.proofs.Marking.Closed.{followed}
 use Rattle.mark_core.specs.Steps.{marked, emptied}
 use Rattle.mark_core.specs.Trace.{CanTrace}
 use Rattle.mark_core.specs.Result.{MarksSome}
 use Rattle.mark_core.proofs.Colours.{bits_none}
 use Rattle.mark_core.proofs.Tracing.{traced_inside}
-use Rattle.mark_core.proofs.Beginning.{below_and_past}
+use Rattle.mark_core.proofs.MarkingBegun.{below_and_past}
 
 -- where marking runs, what tracing comes to can be found
 module _ (c : Config) (m : Word → ℕ) (block : Plot) (owner : ℕ → Option ℕ) (p : Promises) (g : Graph) (holds : HoldsBy c m block owner p g) (marking : IsMarking c m block) where

@@ -1,8 +1,8 @@
 -- Words of mark bits from the bits of one address after another.
 use Rattle.std.proofs.Common.{◌≡◌, ℕ, ◌+◌, ◌*◌, ◌^◌, ◌<◌, ◌≤◌, cond, Bool, false, zero, suc, refl, sym, ap, ◌∙◌, arith}
 use Rattle.std.proofs.Math.Nat.{pow-le-pow_right}
-use Rattle.mark_laws.specs.Marks.{bits_of}
-use Rattle.mark_laws.proofs.Bits.{one, bits_small}
+use Rattle.cycle_words.specs.Marking.Marks.{bits_of}
+use Rattle.cycle_words.proofs.Marking.Bits.{one, bits_small}
 
 -- one bit more
 pub bits_more : (test : ℕ → Bool) (first k bit bits : ℕ) (set : Bool) → set ≡ test (first + k) → bit ≡ cond set 1 0 * 2 ^ k → bits ≡ bits_of test first k

@@ -1,11 +1,11 @@
-pub mod State
-pub mod Steps
+pub mod FoundStays
+pub mod LoopTurns
 pub mod Colours
 pub mod Listed
-pub mod Beginning
+pub mod MarkingBegun
 pub mod Tracing
 pub mod Closing
 pub mod Freeing
-pub mod Ending
+pub mod MarkingEnded
 pub mod Some
 pub mod Reading

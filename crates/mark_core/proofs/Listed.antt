@@ -7,10 +7,10 @@ use Rattle.heap_words.specs.declared.config.Config.{Config}
 use Rattle.heap_words.specs.Words.{Word, Root, Count, Buffer, Answer}
 use Rattle.heap_graph.specs.Walk.{with_address, with_addresses}
 use Rattle.heap_graph.proofs.Marks.{with_addresses-push}
-use Rattle.image_laws.specs.Full.{roots_below, answers_below}
-use Rattle.image_laws.proofs.Turns.{noted_both}
-use Rattle.mark_laws.specs.Marks.{is_grey}
-use Rattle.mark_laws.specs.Close.{greys_below, entries_below}
+use Rattle.full_words.specs.Full.{roots_below, answers_below}
+use Rattle.full_words.proofs.FoundInTurn.{noted_both}
+use Rattle.cycle_words.specs.Marking.Marks.{is_grey}
+use Rattle.cycle_words.specs.Marking.Close.{greys_below, entries_below}
 
 -- one word more of a row
 pub word_more : (f : ℕ → ℕ) (i : ℕ) (order : List ℕ)

@@ -4,7 +4,7 @@ use Rattle.std.proofs.Math.Logic.{∥∥₁_map}
 use Rattle.heap_words.specs.declared.config.Config.{Config}
 use Rattle.heap_words.specs.Words.{Word}
 use Rattle.image_graph.specs.Holds.{HoldsSome}
-use Rattle.mark_laws.specs.Final.{freed_block, freed_owner}
+use Rattle.cycle_words.specs.Marking.Final.{freed_block, freed_owner}
 use Rattle.mark_core.specs.Result.{MarksSome, BeginsToMark, MarksThrough, EndsMarking}
 
 module _ (c : Config) (before after : Word → ℕ) where

@@ -3,8 +3,8 @@ use Rattle.std.proofs.Common.{◌≡◌, ℕ, ◌+◌, ◌<◌, false, arith}
 use Rattle.heap_words.specs.declared.config.Config.{Config}
 use Rattle.heap_words.specs.Words.{Word, Count, Buffer, Heap, IsWord}
 use Rattle.heap_words.specs.Encoding.{refs_in}
-use Rattle.mark_laws.specs.Marks.{is_black}
-use Rattle.mark_laws.specs.Close.{IsTraced, from_buffer, from_field}
+use Rattle.cycle_words.specs.Marking.Marks.{is_black}
+use Rattle.cycle_words.specs.Marking.Close.{IsTraced, from_buffer, from_field}
 use Rattle.mark_core.specs.Trace.{IsNullOrInside, CanTrace}
 
 module _ (c : Config) (m : Word → ℕ) (can : CanTrace c m) where

@@ -5,11 +5,11 @@ use Rattle.heap_words.specs.Words.{Word, Free}
 use Rattle.regions.specs.Sets.{IsIn}
 use Rattle.shen_graph.specs.Graph.{Graph}
 use Rattle.heap_world.specs.World.{Plot}
-use Rattle.image_laws.specs.Promised.{Promises}
+use Rattle.full_words.specs.Promised.{Promises}
 use Rattle.image_graph.specs.Holds.{HoldsBy}
-use Rattle.mark_laws.specs.Facts.{IsMarking, IsMarkedThrough}
-use Rattle.mark_laws.specs.Final.{IsDead, freed_block, freed_owner}
-use Rattle.mark_laws.specs.Laws.{BeginsMarking, AreClosed}
+use Rattle.cycle_words.specs.Marking.WhileMarking.{IsMarking, IsMarkedThrough}
+use Rattle.cycle_words.specs.Marking.Final.{IsDead, freed_block, freed_owner}
+use Rattle.cycle_words.specs.Marking.Laws.{BeginsMarking, AreClosed}
 
 -- the words hold some graph while marking runs
 abbrev pub MarksSome : Config → (Word → ℕ) → Type 0

@@ -3,8 +3,8 @@ use Rattle.std.specs.Prelude.{ℕ, ◌≢◌, ◌+◌, ◌<◌, ◌≤◌}
 use Rattle.heap_words.specs.declared.config.Config.{Config}
 use Rattle.heap_words.specs.Words.{Word, Root, Count, Answer, Heap, IsWord}
 use Rattle.heap_words.specs.Encoding.{refs_in}
-use Rattle.image_laws.specs.Plot.{heap_end}
-use Rattle.mark_laws.specs.Close.{IsTraced}
+use Rattle.full_words.specs.Plot.{heap_end}
+use Rattle.cycle_words.specs.Marking.Close.{IsTraced}
 
 -- a word is null or an address of the heap
 abbrev pub IsNullOrInside : Config → ℕ → Type 0

@@ -4,10 +4,10 @@ ghost use Rattle.std.specs.Prelude.{ℕ, ◌≡◌, ◌<◌, ◌≤◌, [], map}
 ghost use Rattle.std.specs.List.{range_with_len};
 ghost use Rattle.heap_words.specs.Words.{Cset, Root, Answer};
 ghost use Rattle.heap_graph.specs.Walk.{with_address, with_addresses};
-ghost use Rattle.image_laws.specs.Full.{roots_below, answers_below, root_words};
+ghost use Rattle.full_words.specs.Full.{roots_below, answers_below, root_words};
 ghost use Rattle.image_graph.specs.State.{config_of, memory_of, found_of, AreFound, IsUnchanged};
 ghost use Rattle.image_graph.specs.Holds.{HoldsSome};
-ghost use Rattle.mark_laws.specs.Init.{init_marked};
+ghost use Rattle.cycle_words.specs.Marking.Init.{init_marked};
 ghost use Rattle.mark_core.specs.Steps.{noted};
 ghost use Rattle.mark_core.specs.Trace.{HasRootsInside};
 ghost use Rattle.mark_core.specs.Result.{BeginsToMark, MarksSome};

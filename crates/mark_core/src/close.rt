@@ -3,7 +3,7 @@
 ghost use Rattle.std.specs.Prelude.{◌≡◌};
 ghost use Rattle.image_graph.specs.State.{config_of, memory_of};
 ghost use Rattle.image_graph.specs.Holds.{HoldsSome};
-ghost use Rattle.mark_laws.specs.Close.{closed};
+ghost use Rattle.cycle_words.specs.Marking.Close.{closed};
 ghost use Rattle.mark_core.specs.Result.{MarksSome, MarksTheTraced, MarksThrough};
 
 use crate::clear::empty_buffers;

@@ -4,11 +4,11 @@ ghost use Rattle.std.specs.Prelude.{◌≡◌, ◌*◌, ◌^◌, ◌<◌, if◌t
 ghost use Rattle.heap_words.specs.Words.{Grey, IsWord, bit_words};
 ghost use Rattle.heap_graph.specs.Walk.{has};
 ghost use Rattle.image_graph.specs.State.{config_of, memory_of, found_of, AreFound};
-ghost use Rattle.mark_laws.specs.Marks.{mark_bits};
+ghost use Rattle.cycle_words.specs.Marking.Marks.{mark_bits};
 ghost use Rattle.mark_core.specs.Steps.{greyed, marked};
 
 use image_graph::Image;
-use mark_bits::mark_words;
+use regions::mark_words;
 
 // A bit of a word, where it is to be set, and else no bit.
 fn bit_if(set: bool, bit: u64) -> u64

@@ -2,7 +2,7 @@
 
 ghost use Rattle.std.specs.Prelude.{ℕ, ◌≡◌, ◌<◌, true, false};
 ghost use Rattle.image_graph.specs.State.{config_of, memory_of};
-ghost use Rattle.mark_laws.specs.Final as final;
+ghost use Rattle.cycle_words.specs.Marking.Final as final;
 ghost use Rattle.mark_core.specs.Steps.{freed_one, freed_below};
 
 use crate::look::is_black;

@@ -3,8 +3,8 @@
 ghost use Rattle.std.specs.Prelude.{◌≡◌};
 ghost use Rattle.image_graph.specs.State.{config_of, memory_of};
 ghost use Rattle.image_graph.specs.Holds.{HoldsSome};
-ghost use Rattle.mark_laws.specs.Close.{closed};
-ghost use Rattle.mark_laws.specs.Final.{dead_in, final_marked};
+ghost use Rattle.cycle_words.specs.Marking.Close.{closed};
+ghost use Rattle.cycle_words.specs.Marking.Final.{dead_in, final_marked};
 ghost use Rattle.mark_core.specs.Result.{MarksSome, EndsMarking, FreesTheDead};
 
 use crate::close::close_marks;

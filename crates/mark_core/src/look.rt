@@ -3,10 +3,10 @@
 ghost use Rattle.std.specs.Prelude.{◌≡◌};
 ghost use Rattle.heap_words.specs.Words.{Heap, IsWord};
 ghost use Rattle.image_graph.specs.State.{config_of, memory_of};
-ghost use Rattle.mark_laws.specs.Marks as marks;
+ghost use Rattle.cycle_words.specs.Marking.Marks as marks;
 
 use image_graph::Image;
-use mark_bits::{is_marked_in, mark_word};
+use regions::{is_marked_in, mark_word};
 
 /// Whether an address is grey.
 pub(crate) fn is_grey(image: &Image, address: u64) -> bool

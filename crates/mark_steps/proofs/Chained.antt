@@ -6,7 +6,7 @@ use Rattle.heap_words.specs.declared.config.Config.{Config}
 use Rattle.heap_words.specs.Words.{Phase, Top, Tams, Black, Heap, IsWord}
 use Rattle.regions.specs.Place.{base_of, region_with}
 use Rattle.regions.proofs.PlaceLemmas.{regions_tile}
-use Rattle.mark_bits.specs.Marks.{mark_word, mark_bit, mark_at}
+use Rattle.regions.specs.Marks.{mark_word, mark_bit, mark_at}
 use Rattle.shen_graph.specs.declared.name.Name.{Name}
 use Rattle.heap_world.specs.World.{World, thing, Snapshot, IsMarkable, IsYoung, IsToScan, IsTracedAt, IsLed, NotedIn, was_at, Shared}
 use Rattle.heap_world.proofs.Pointing.{piece_inside}

@@ -1,5 +1,5 @@
 pub mod Changes
-pub mod Marks
+pub mod MarkedMore
 pub mod Records
 pub mod Scanned
 pub mod Scans

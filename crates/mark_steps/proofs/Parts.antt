@@ -3,7 +3,7 @@ use Rattle.std.proofs.Common.{refl}
 use Rattle.mark_steps.specs.Laws.{RecordingSteps, ScanningSteps}
 use Rattle.satb_barrier.proofs.Remembering.{found_is_fit}
 use Rattle.mark_steps.proofs.Records.{each_records, takes_in_hand, can_record_stays, record_inside, record_noted}
-use Rattle.scan_steps.proofs.Inside.{scan_inside}
+use Rattle.scan_part.proofs.Inside.{scan_inside}
 use Rattle.mark_steps.proofs.Scans.{each_scans, can_scan_stays}
 
 -- what the steps of recording owe

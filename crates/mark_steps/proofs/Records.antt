@@ -8,8 +8,8 @@ use Rattle.std.proofs.lemmas.Option.{same_Some}
 use Rattle.heap_words.specs.declared.config.Config.{Config}
 use Rattle.heap_words.specs.Words.{Claim, Word, Phase, Count, Buffer, Grey, Black, Heap, IsWord}
 use Rattle.steps_base.specs.Touch.{touched}
-use Rattle.mark_bits.specs.Marks.{mark_word, mark_bit, address_at, HasMark}
-use Rattle.mark_bits.proofs.Marking.{word_back, bit_back, mark_stays, word_inside}
+use Rattle.regions.specs.Marks.{mark_word, mark_bit, address_at, HasMark}
+use Rattle.regions.proofs.MarksApart.{word_back, bit_back, mark_stays, word_inside}
 use Rattle.heap_world.specs.World.{World, Scan, hand, with_recording, IsMarkable, IsNoted, IsToScan, AreMarks, AreEntries, NotedIn, Shared}
 use Rattle.heap_world.specs.Rely.{Keeps, Rely}
 use Rattle.heap_world.proofs.Keeping.{load_keeps}
@@ -23,7 +23,7 @@ use Rattle.satb_barrier.proofs.Remembering.{RememberStep, can_remember_stays, ea
 use Rattle.mark_steps.specs.Recording.{recording_of, CanRecord}
 use Rattle.mark_steps.specs.Laws.{RecordStep, with_in_hand, TakesInHand}
 use Rattle.mark_steps.proofs.Changes.{is_marking, marking_touched, same_marking, world_after, IsMarkingStep, shared_after, keeps_after, others_after, step_after}
-use Rattle.mark_steps.proofs.Marks.{markable_word, marks_with}
+use Rattle.mark_steps.proofs.MarkedMore.{markable_word, marks_with}
 
 -- what is recorded is noted
 recorded_noted : (c : Config) (memory : Word → ℕ) (recording : ℕ → Option ℕ) (mutator v : ℕ) → mutator < c.mutators → IsRecorded c memory mutator v

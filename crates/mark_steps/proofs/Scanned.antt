@@ -6,8 +6,8 @@ use Rattle.std.proofs.lemmas.Nat.Bits.{bit_at-lt}
 use Rattle.heap_words.specs.declared.config.Config.{Config}
 use Rattle.heap_words.specs.Ranges.{seat_count}
 use Rattle.heap_words.specs.Words.{Heap, IsWord}
-use Rattle.mark_bits.specs.Marks.{mark_word, mark_bit, mark_at, with_mark}
-use Rattle.mark_bits.proofs.Marking.{mark_no_more}
+use Rattle.regions.specs.Marks.{mark_word, mark_bit, mark_at, with_mark}
+use Rattle.regions.proofs.MarksApart.{mark_no_more}
 use Rattle.heap_world.specs.World.{Scan, IsToScan}
 use Rattle.heap_world.proofs.Updates.{updated, updated_there, updated_else}
 use Rattle.mark_steps.specs.Scanning.{scan_at}

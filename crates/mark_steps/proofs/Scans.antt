@@ -10,8 +10,8 @@ use Rattle.heap_words.specs.Encoding.{refs_in}
 use Rattle.heap_words.specs.Words.{Phase, Word, Claim, Count, Buffer, Grey, Black, Heap, IsWord, is_word, bit_words}
 use Rattle.heap_words.proofs.Shapes.{refs_in-shape_word}
 use Rattle.steps_base.specs.Touch.{touched}
-use Rattle.mark_bits.specs.Marks.{mark_word, mark_bit, mark_at, address_at, lowest_address, HasMark}
-use Rattle.mark_bits.proofs.Marking.{mark_set, mark_stays, word_inside}
+use Rattle.regions.specs.Marks.{mark_word, mark_bit, mark_at, address_at, lowest_address, HasMark}
+use Rattle.regions.proofs.MarksApart.{mark_set, mark_stays, word_inside}
 use Rattle.shen_graph.specs.declared.name.Name.{Name}
 use Rattle.shen_graph.specs.Graph.{Reference}
 use Rattle.heap_world.specs.World.{World, moved, Scan, thing, Points, was_at, IsMarkable, IsNoted, IsToScan, NeedsNoMarking, IsTracedAt, AreMarks, AreEntries, NotedIn, Shared}
@@ -19,14 +19,14 @@ use Rattle.heap_world.specs.Rely.{Rely}
 use Rattle.heap_world.proofs.Pointing.{named_thing}
 use Rattle.heap_world.proofs.Unmoved.{unmoved}
 use Rattle.heap_world.proofs.Updates.{updated, updated_there, updated_else}
-use Rattle.scan_steps.specs.declared.spot.ScanSpot.{ScanSpot}
-use Rattle.scan_steps.specs.declared.spot.ScanSpot.TheVariants.{LoadClaim, ClaimUnit, LoadGrey, LoadBlack, SetBlack, LoadShape, LoadField, SetGrey, Ended}
-use Rattle.scan_steps.specs.Rows.{touch_at, next_at, next_reference, has_unit, has_fields, unscanned_in, is_ended, is_ready}
-use Rattle.scan_steps.proofs.Found.{unscanned_found}
+use Rattle.scan_part.specs.declared.spot.ScanSpot.{ScanSpot}
+use Rattle.scan_part.specs.declared.spot.ScanSpot.TheVariants.{LoadClaim, ClaimUnit, LoadGrey, LoadBlack, SetBlack, LoadShape, LoadField, SetGrey, Ended}
+use Rattle.scan_part.specs.Rows.{touch_at, next_at, next_reference, has_unit, has_fields, unscanned_in, is_ended, is_ready}
+use Rattle.scan_part.proofs.Found.{unscanned_found}
 use Rattle.mark_steps.specs.Scanning.{scan_at, scanning_of, IsAtField, IsDoneOrFound, ScanFacts, CanScan}
 use Rattle.mark_steps.specs.Laws.{ScanStep}
 use Rattle.mark_steps.proofs.Changes.{with_marking, marking_touched, marking_loaded, world_after, step_after}
-use Rattle.mark_steps.proofs.Marks.{markable_shape, markable_word, marks_with}
+use Rattle.mark_steps.proofs.MarkedMore.{markable_shape, markable_word, marks_with}
 use Rattle.mark_steps.proofs.Scanned.{scan_of_others, scan_passes, scan_blackened}
 
 -- a word of the heap is one by test

@@ -4,7 +4,7 @@ use Rattle.std.specs.Prelude.{ℕ, ◌≡◌, ◌≢◌, ◌+◌, ◌<◌, ◌�
 use Rattle.heap_words.specs.declared.config.Config.{Config}
 use Rattle.heap_words.specs.Ranges.{seat_count}
 use Rattle.heap_words.specs.Words.{Phase, Tams, Black, Heap}
-use Rattle.mark_bits.specs.Marks.{mark_at, HasMark}
+use Rattle.regions.specs.Marks.{mark_at, HasMark}
 use Rattle.shen_graph.specs.declared.name.Name.{Name}
 use Rattle.heap_world.specs.World.{World, thing, IsMarkable, IsYoung, NotedIn, Shared}
 use Rattle.mark_steps.specs.Scanning.{scan_at}

@@ -9,10 +9,10 @@ use Rattle.heap_world.specs.Part.{PartStep, SameWork}
 use Rattle.satb_barrier.specs.declared.spot.RememberSpot.{RememberSpot}
 use Rattle.satb_barrier.specs.declared.spot.RememberSpot.TheVariants.{LoadCount}
 use Rattle.satb_barrier.specs.Rows as remember
-use Rattle.scan_steps.specs.declared.spot.ScanSpot.{ScanSpot}
-use Rattle.scan_steps.specs.declared.spot.ScanSpot.TheVariants.{LoadClaim}
-use Rattle.scan_steps.specs.Rows as scan
-use Rattle.scan_steps.specs.Seen as seen
+use Rattle.scan_part.specs.declared.spot.ScanSpot.{ScanSpot}
+use Rattle.scan_part.specs.declared.spot.ScanSpot.TheVariants.{LoadClaim}
+use Rattle.scan_part.specs.Rows as scan
+use Rattle.scan_part.specs.Seen as seen
 use Rattle.mark_steps.specs.Recording.{CanRecord}
 use Rattle.mark_steps.specs.Scanning.{CanScan}
 

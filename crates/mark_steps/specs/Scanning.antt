@@ -5,12 +5,12 @@ use Rattle.heap_words.specs.declared.config.Config.{Config}
 use Rattle.heap_words.specs.Encoding.{refs_in}
 use Rattle.heap_words.specs.Ranges.{seat_count}
 use Rattle.heap_words.specs.Words.{Phase, Heap}
-use Rattle.mark_bits.specs.Marks.{address_at}
+use Rattle.regions.specs.Marks.{address_at}
 use Rattle.shen_graph.specs.declared.name.Name.{Name}
 use Rattle.heap_world.specs.World.{World, Scan, Plot, thing, hand, IsMarkable, NotedIn, was_at, NeedsNoMarking}
-use Rattle.scan_steps.specs.declared.spot.ScanSpot.{ScanSpot}
-use Rattle.scan_steps.specs.declared.spot.ScanSpot.TheVariants.{LoadBlack, SetBlack, LoadShape, LoadField, SetGrey}
-use Rattle.scan_steps.specs.Rows.{is_ready}
+use Rattle.scan_part.specs.declared.spot.ScanSpot.{ScanSpot}
+use Rattle.scan_part.specs.declared.spot.ScanSpot.TheVariants.{LoadBlack, SetBlack, LoadShape, LoadField, SetGrey}
+use Rattle.scan_part.specs.Rows.{is_ready}
 
 -- a scan of an object that has come to a field
 abbrev pub scan_at : ℕ → ℕ → Scan

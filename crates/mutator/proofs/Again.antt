@@ -18,9 +18,9 @@ use Rattle.mutator.specs.declared.waits.WaitSpot.TheVariants as wait
 use Rattle.mutator.specs.WaitRows.{call_says, wait_says}
 use Rattle.mutator.specs.declared.fields.FieldSpot.{FieldSpot}
 use Rattle.mutator.specs.declared.fields.FieldSpot.TheVariants.{Exchange}
-use Rattle.mutator.specs.Rows.{words_of, field_says, make_says}
+use Rattle.mutator.specs.Rows.{words_made, field_says, make_says}
 use Rattle.mutator.specs.Waits.{WaitsAt}
-use Rattle.mutator.proofs.Parts.{says_again}
+use Rattle.mutator.proofs.CallKnows.{says_again}
 
 -- one that says that there is more to do does not say it
 pub never : (More ≡ Again) ↔ ⊥
@@ -42,7 +42,7 @@ enters_where_it_waits enter.Inside next got = (λ is. cc, λ waits. absurd waits
 -- one that makes an object where its taking of room does
 pub makes_where_it_waits : (c : Config) (command : Command) (at : MakeSpot) (got : ℕ) → (make_says c command at got ≡ Again) ↔ WaitsAt (Making at) got
 makes_where_it_waits c command (Taking take) got =
-    let by = taking.says_where_it_waits c (words_of command) Fresh take got in (λ is. by.0 ((says_again _).0 is), λ waits. (says_again _).1 (by.1 waits))
+    let by = taking.says_where_it_waits c (words_made command) Fresh take got in (λ is. by.0 ((says_again _).0 is), λ waits. (says_again _).1 (by.1 waits))
 makes_where_it_waits c command _ got = (λ is. cc, λ waits. absurd waits)
 
 -- and one that waits for its object where there is no answer yet

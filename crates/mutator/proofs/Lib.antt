@@ -3,6 +3,6 @@ pub mod Again
 pub mod Orders
 pub mod Making
 pub mod Leaving
-pub mod Parts
+pub mod CallKnows
 pub mod Goes
 pub mod Inside

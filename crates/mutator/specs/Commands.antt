@@ -5,19 +5,19 @@ use Rattle.shen_graph.specs.declared.command.Command.{Command}
 use Rattle.shen_graph.specs.declared.command.Command.TheVariants.{New, Get, Set, Cas, Xchg, Rd, Wr, Copy, Drop, Same}
 
 -- the roots that a command loads, in this order; for a command on an object that of the object comes first
-abbrev pub roots_of : Command → List ℕ
-roots_of (Get dst src field) = src ∷ []
-roots_of (Set obj field val) = obj ∷ val ∷ []
-roots_of (Cas obj field expect val) = obj ∷ expect ∷ val ∷ []
-roots_of (Xchg dst obj field val) = obj ∷ val ∷ []
-roots_of (Rd obj index) = obj ∷ []
-roots_of (Wr obj index value) = obj ∷ []
-roots_of (Copy dst src) = src ∷ []
-roots_of (Same a b) = a ∷ b ∷ []
-roots_of _ = []
+abbrev pub command_roots : Command → List ℕ
+command_roots (Get dst src field) = src ∷ []
+command_roots (Set obj field val) = obj ∷ val ∷ []
+command_roots (Cas obj field expect val) = obj ∷ expect ∷ val ∷ []
+command_roots (Xchg dst obj field val) = obj ∷ val ∷ []
+command_roots (Rd obj index) = obj ∷ []
+command_roots (Wr obj index value) = obj ∷ []
+command_roots (Copy dst src) = src ∷ []
+command_roots (Same a b) = a ∷ b ∷ []
+command_roots _ = []
 
-abbrev pub root_of : Command → ℕ → ℕ
-root_of command k = slice_index (roots_of command) k
+abbrev pub command_root : Command → ℕ → ℕ
+command_root command k = slice_index (command_roots command) k
 
 -- the root that a command changes, if it changes one
 abbrev pub dst_of : Command → ℕ
@@ -39,9 +39,9 @@ index_of (Wr obj index value) = index
 index_of _ = 0
 
 -- the number that it stores, if it stores one
-abbrev pub number_of : Command → ℕ
-number_of (Wr obj index value) = value
-number_of _ = 0
+abbrev pub stored_number : Command → ℕ
+stored_number (Wr obj index value) = value
+stored_number _ = 0
 
 -- how many references and numbers the object has that it makes, if it makes one
 abbrev pub refs_of : Command → ℕ

@@ -26,7 +26,7 @@ use Rattle.mutator.specs.declared.waits.WaitSpot.{WaitSpot}
 use Rattle.mutator.specs.declared.waits.WaitSpot.TheVariants as wait
 use Rattle.shen_graph.specs.Valid.{is_size}
 use Rattle.mutator.specs.Commands.{refs_of, nums_of}
-use Rattle.mutator.specs.Rows.{Mutating, words_of, take_next, touch_at, next_of}
+use Rattle.mutator.specs.Rows.{Mutating, words_made, take_next, touch_at, next_of}
 
 -- whether a mutator that has made so many objects can make one more, of so many fields
 abbrev pub is_next_object : ℕ → ℕ → ℕ → Bool
@@ -41,13 +41,13 @@ abbrev pub is_going : TakeSpot → Bool
 is_going take = if takes.is_ended take then false else true
 
 -- whether an entering of the heap has not ended
-abbrev pub is_outside : EnterSpot → Bool
-is_outside at = if is_entered at then false else true
+abbrev pub is_still_outside : EnterSpot → Bool
+is_still_outside at = if is_entered at then false else true
 
 -- whether the numbers of a spot of the making of an object are in range
 abbrev pub make_fits : Config → Command → MakeSpot → Bool
-make_fits c command (Taking take) = is_going take && takes.numbers_fit c (words_of command) take
-make_fits c command (StoreWord address done) = nat_lt done (words_of command)
+make_fits c command (Taking take) = is_going take && takes.numbers_fit c (words_made command) take
+make_fits c command (StoreWord address done) = nat_lt done (words_made command)
 make_fits c command (StoreRoot address) = true
 
 -- whether a mutator that has made so many objects can count one more, where its step counts one
@@ -70,7 +70,7 @@ resolve_fits c seat address at = is_word c (Heap address) && resolve_ready c sea
 
 -- Whether the numbers of a spot, beside those of its access, are in range. The phase is 0 to 3 wherever a call has begun.
 abbrev pub numbers_fit : Config → ℕ → ℕ → Kept → Spot → Bool
-numbers_fit c seat made kept (Entering at next) = is_outside at
+numbers_fit c seat made kept (Entering at next) = is_still_outside at
 numbers_fit c seat made kept LoadSet = nat_lt kept.phase 4
 numbers_fit c seat made kept (Resolving address at next) = resolve_fits c seat address at
 numbers_fit c seat made kept (Recording at address next) = remember_fits c address at
@@ -94,7 +94,7 @@ IsReady c m = is_ready c m.seat m.made m.kept m.spot ≡ true
 
 -- whether a making can go on with the word: its taking of room can
 abbrev pub make_goes : Config → ℕ → Command → MakeSpot → ℕ → Bool
-make_goes c seat command (Taking take) got = takes.is_ready c seat (words_of command) (take_next c command take got)
+make_goes c seat command (Taking take) got = takes.is_ready c seat (words_made command) (take_next c command take got)
 make_goes c seat command _ got = true
 
 -- the count of mutators that have not ended is not 0 where one of them ends
@@ -103,14 +103,14 @@ EndsFit End got = got ≢ 0
 EndsFit _ got = Unit {0}
 
 -- whether a word is null or an address of the heap
-abbrev pub is_reference : Config → ℕ → Bool
-is_reference c word = if word == 0 then true else is_word c (Heap word)
+abbrev pub is_reference_word : Config → ℕ → Bool
+is_reference_word c word = if word == 0 then true else is_word c (Heap word)
 
 -- whether a word that was found in a field can be gone on with: one that is to be used is a reference
 abbrev pub field_goes : Config → FieldSpot → ℕ → Bool
-field_goes c fields.Load got = is_reference c got
-field_goes c (fields.LoadExpected expect value) got = is_reference c got
-field_goes c (fields.Swap value) got = is_reference c got
+field_goes c fields.Load got = is_reference_word c got
+field_goes c (fields.LoadExpected expect value) got = is_reference_word c got
+field_goes c (fields.Swap value) got = is_reference_word c got
 field_goes c _ got = true
 
 -- the word is fit for the part: a reference that is to be used is one, and a resolving can go on

@@ -50,7 +50,7 @@ use Rattle.mutator.specs.declared.shows.ShowSpot.TheVariants as show
 use Rattle.mutator.specs.declared.makes.MakeSpot.{MakeSpot}
 use Rattle.mutator.specs.declared.makes.MakeSpot.TheVariants as make
 use Rattle.mutator.specs.declared.waits.WaitSpot.TheVariants as wait
-use Rattle.mutator.specs.Commands.{roots_of, root_of, dst_of, index_of, number_of, refs_of, nums_of, lacks_object, has_part}
+use Rattle.mutator.specs.Commands.{command_roots, command_root, dst_of, index_of, stored_number, refs_of, nums_of, lacks_object, has_part}
 use Rattle.mutator.specs.WaitRows.{call_says, after_enter, next_name, wait_place, wait_touch, wait_next, wait_made, wait_says}
 
 -- A mutator between two accesses: its number, how many objects it has made, what its call has kept, and where it stands.
@@ -121,14 +121,14 @@ place_at order (Leave reply) = place.LV
 place_at order Gone = place.ML
 
 -- how many words the object has that a command makes
-abbrev pub words_of : Command → ℕ
-words_of command = 3 + refs_of command + nums_of command
+abbrev pub words_made : Command → ℕ
+words_made command = 3 + refs_of command + nums_of command
 
 -- the next access, of each part of a call
 abbrev pub load_touch : ℕ → Command → LoadSpot → Touch
-load_touch seat command load.First = touch (Root seat (root_of command 0)) loads
-load_touch seat command (load.Second first) = touch (Root seat (root_of command 1)) loads
-load_touch seat command (load.Third first second) = touch (Root seat (root_of command 2)) loads
+load_touch seat command load.First = touch (Root seat (command_root command 0)) loads
+load_touch seat command (load.Second first) = touch (Root seat (command_root command 1)) loads
+load_touch seat command (load.Third first second) = touch (Root seat (command_root command 2)) loads
 load_touch seat command (load.Shape object second third) = touch (Heap (object + 1)) loads
 
 abbrev pub field_touch : ℕ → Command → FieldSpot → Touch
@@ -141,14 +141,14 @@ field_touch object command (fields.Exchange found expect value) = touch (Heap (o
 
 abbrev pub number_touch : ℕ → ℕ → Command → NumberSpot → Touch
 number_touch object refs command number.Load = touch (Heap (object + 3 + refs + index_of command)) loads
-number_touch object refs command number.Store = touch (Heap (object + 3 + refs + index_of command)) (stores (number_of command))
+number_touch object refs command number.Store = touch (Heap (object + 3 + refs + index_of command)) (stores (stored_number command))
 
 abbrev pub show_touch : ℕ → ℕ → Command → ShowSpot → Touch
 show_touch seat value command show.LoadName = touch (Heap (value + 2)) loads
 show_touch seat value command (show.StoreRoot reply) = touch (Root seat (dst_of command)) (stores value)
 
 abbrev pub make_touch : ℕ → ℕ → Command → MakeSpot → Touch
-make_touch seat made command (make.Taking take) = takes.touch_at seat (words_of command) take
+make_touch seat made command (make.Taking take) = takes.touch_at seat (words_made command) take
 make_touch seat made command (make.StoreWord address done) = touch (Heap (address + done)) (stores (fresh_word seat made (refs_of command) (nums_of command) done))
 make_touch seat made command (make.StoreRoot address) = touch (Root seat (dst_of command)) (stores address)
 
@@ -195,10 +195,10 @@ after_roots command first second third = Loading (load.Shape first second third)
 
 -- where it goes on once one or two of them were loaded
 abbrev pub after_first : Command → ℕ → Spot
-after_first command first = if nat_lt 1 (length (roots_of command)) then Loading (load.Second first) else after_roots command first 0 0
+after_first command first = if nat_lt 1 (length (command_roots command)) then Loading (load.Second first) else after_roots command first 0 0
 
 abbrev pub after_second : Command → ℕ → ℕ → Spot
-after_second command first second = if nat_lt 2 (length (roots_of command)) then Loading (load.Third first second) else after_roots command first second 0
+after_second command first second = if nat_lt 2 (length (command_roots command)) then Loading (load.Third first second) else after_roots command first second 0
 
 -- the reply is Bad where there is no object
 abbrev pub after_root : Command → ℕ → Spot
@@ -284,7 +284,7 @@ after_take take = Making (make.Taking take)
 
 -- where a taking of room stands after the access
 abbrev pub take_next : Config → Command → TakeSpot → ℕ → TakeSpot
-take_next c command take got = takes.next_at c (words_of command) Fresh take got
+take_next c command take got = takes.next_at c (words_made command) Fresh take got
 
 -- where it goes on with an object of so many words, once so many of them were stored
 abbrev pub after_word : ℕ → ℕ → ℕ → Spot
@@ -315,7 +315,7 @@ show_next value (show.StoreRoot reply) got = Leave reply
 
 abbrev pub make_next : Config → ℕ → ℕ → Command → MakeSpot → ℕ → Spot
 make_next c seat made command (make.Taking take) got = after_take (take_next c command take got)
-make_next c seat made command (make.StoreWord address done) got = after_word (words_of command) address (done + 1)
+make_next c seat made command (make.StoreWord address done) got = after_word (words_made command) address (done + 1)
 make_next c seat made command (make.StoreRoot address) got = Leave (reply.Ref (next_name seat made))
 
 -- how many objects were made then
@@ -324,15 +324,15 @@ made_after made (make.StoreRoot address) = made + 1
 made_after made _ = made
 
 -- what a mutator between two calls is after its access: by its order it enters the heap for a call, or has ended
-abbrev pub begun : Order → Mutating → Mutating
-begun Nothing m = m
-begun (Begin command) m = record m { kept = record m.kept { command = command }; spot = Entering Look Call }
-begun End m = record m { spot = Gone }
+abbrev pub call_begun : Order → Mutating → Mutating
+call_begun Nothing m = m
+call_begun (Begin command) m = record m { kept = record m.kept { command = command }; spot = Entering Look Call }
+call_begun End m = record m { spot = Gone }
 
 -- what a mutator is after the access, by the word that it was told
 abbrev pub next_at : Config → Mutating → Order → ℕ → Spot → Mutating
-next_at c m order got Rest = begun order m
-next_at c m order got (Ended reply) = begun order m
+next_at c m order got Rest = call_begun order m
+next_at c m order got (Ended reply) = call_begun order m
 next_at c m order got (Entering at next) = record m { spot = after_enter next (enters.enter_next at got) }
 next_at c m order got LoadPhase = record m { kept = record m.kept { phase = got }; spot = LoadSet }
 next_at c m order got LoadSet = record m { kept = record m.kept { cset = got }; spot = first_spot m.kept.command }

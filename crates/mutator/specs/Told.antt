@@ -17,7 +17,7 @@ use Rattle.mutator.specs.declared.numbers.NumberSpot.{NumberSpot}
 use Rattle.mutator.specs.declared.numbers.NumberSpot.TheVariants as number
 use Rattle.mutator.specs.declared.makes.MakeSpot.TheVariants as make
 use Rattle.mutator.specs.declared.waits.WaitSpot.TheVariants as wait
-use Rattle.mutator.specs.Commands.{root_of, index_of, lacks_object, has_part}
+use Rattle.mutator.specs.Commands.{command_root, index_of, lacks_object, has_part}
 use Rattle.mutator.specs.WaitRows.{next_name}
 use Rattle.mutator.specs.Rows.{Mutating, name_in}
 
@@ -40,8 +40,8 @@ told_second memory _ first second = None
 
 -- what each part of a call settles
 abbrev pub load_told : (Word → ℕ) → ℕ → Command → LoadSpot → Option Reply
-load_told memory seat command load.First = if lacks_object command (memory (Root seat (root_of command 0))) then Some reply.Bad else None
-load_told memory seat command (load.Second first) = told_second memory command first (memory (Root seat (root_of command 1)))
+load_told memory seat command load.First = if lacks_object command (memory (Root seat (command_root command 0))) then Some reply.Bad else None
+load_told memory seat command (load.Second first) = told_second memory command first (memory (Root seat (command_root command 1)))
 load_told memory seat command (load.Third first second) = None
 load_told memory seat command (load.Shape object second third) = if has_part command (memory (Heap (object + 1))) then None else Some reply.Bad
 

@@ -6,7 +6,7 @@ use shen_graph::Command;
 
 /// How many roots a command loads.
 pub(crate) fn root_count(command: Command) -> usize
-    ensures { result ≡ length (parts.roots_of command) }
+    ensures { result ≡ length (parts.command_roots command) }
 {
     match command {
         Command::New { .. } | Command::Drop { .. } | Command::Gc => 0,
@@ -18,7 +18,7 @@ pub(crate) fn root_count(command: Command) -> usize
 
 /// The root that a command loads first, if it loads one.
 pub(crate) fn first_root(command: Command) -> u32
-    ensures { result ≡ parts.root_of command 0 }
+    ensures { result ≡ parts.command_root command 0 }
 {
     match command {
         Command::Get { src, .. } | Command::Copy { src, .. } => src,
@@ -34,7 +34,7 @@ pub(crate) fn first_root(command: Command) -> u32
 
 /// The root that a command loads second, if it loads two.
 pub(crate) fn second_root(command: Command) -> u32
-    ensures { result ≡ parts.root_of command 1 }
+    ensures { result ≡ parts.command_root command 1 }
 {
     match command {
         Command::Set { val, .. } | Command::Xchg { val, .. } => val,
@@ -46,7 +46,7 @@ pub(crate) fn second_root(command: Command) -> u32
 
 /// The root that a command loads third, if it loads three.
 pub(crate) fn third_root(command: Command) -> u32
-    ensures { result ≡ parts.root_of command 2 }
+    ensures { result ≡ parts.command_root command 2 }
 {
     match command {
         Command::Cas { val, .. } => val,
@@ -84,7 +84,7 @@ pub(crate) fn index_of(command: Command) -> u32
 
 /// The number that a command stores, if it stores one.
 pub(crate) fn number_of(command: Command) -> u64
-    ensures { result ≡ parts.number_of command }
+    ensures { result ≡ parts.stored_number command }
 {
     match command {
         Command::Wr { value, .. } => value,

@@ -2,7 +2,7 @@ ghost use Rattle.std.specs.Prelude.{◌≡◌, true};
 ghost use Rattle.steps_base.specs.Touch.{placed};
 ghost use Rattle.steps_base.specs.Fits.{touch_fits};
 ghost use Rattle.mutator.specs.Rows as rows;
-ghost use Rattle.mutator.specs.Fit.{field_goes, is_reference};
+ghost use Rattle.mutator.specs.Fit.{field_goes, is_reference_word};
 
 use crate::commands::index_of;
 use crate::overwrites::{Overwritten, is_to_record};
@@ -140,7 +140,7 @@ impl Debug for FieldSpot {
 // Where it goes on with the reference that it has swapped out of a field, for a root: while objects are marked, one that is not
 // null is recorded, and objects do not move then; in other phases it is resolved.
 fn after_swap(config: Config, phase: u64, cset: u64, found: u64) -> Spot
-    requires { is_reference config found ≡ true }
+    requires { is_reference_word config found ≡ true }
     ensures { result ≡ rows.after_swap config phase cset found }
 {
     if is_to_record(phase, found) {

@@ -1,6 +1,6 @@
 ghost use Rattle.std.specs.Prelude.{◌≡◌, true};
 ghost use Rattle.mutator.specs.Rows as rows;
-ghost use Rattle.mutator.specs.Fit.{is_reference};
+ghost use Rattle.mutator.specs.Fit.{is_reference_word};
 
 use crate::fields::FieldSpot;
 use crate::shows::after_field;
@@ -31,7 +31,7 @@ impl Loaded {
     /// Where a call that has loaded this phase and this collection set goes on with what it found in the field: a reference into
     /// the set is resolved first.
     pub(crate) fn begin(self, config: Config, phase: u64, cset: u64, found: u64) -> Spot
-        requires { is_reference config found ≡ true }
+        requires { is_reference_word config found ≡ true }
         ensures { result ≡ rows.with_loaded config phase cset found self }
     {
         if must_resolve(config, phase, cset, found) {

@@ -36,7 +36,7 @@ impl Mutator {
     ghost use Rattle.heap_words.specs.Access.{table_index};
     ghost use Rattle.heap_words.specs.Words.{table_words, view};
     ghost use Rattle.mutator.specs.Orders.{is_between_calls, takes_commands, takes_at};
-    ghost use Rattle.mutator.specs.Rows.{fresh_mutator, mutator_after, place_at, touch_of, begun, next_of, make_says, answer_at, reply_at};
+    ghost use Rattle.mutator.specs.Rows.{fresh_mutator, mutator_after, place_at, touch_of, call_begun, next_of, make_says, answer_at, reply_at};
     ghost use Rattle.mutator.specs.WaitRows.{wait_says};
     ghost use Rattle.mutator.specs.Fit.{IsFit};
     ghost use Rattle.mutator.specs.Told.{told_of};
@@ -313,7 +313,7 @@ impl Mutator {
     // Goes on by its order, once its first access has been made: it enters for a call, or has ended.
     fn obey(&mut self, order: Order)
         requires { order_of self.old ≡ Order.Nothing }
-        ensures seen { seen self.new ≡ begun order (seen self.old) }
+        ensures seen { seen self.new ≡ call_begun order (seen self.old) }
         ensures order { order_of self.new ≡ Order.Nothing }
         ensures config { config_of self.new ≡ config_of self.old }
     {
@@ -387,7 +387,7 @@ fn first_access(config: Config, seat: usize, order: Order) -> Access
 {
     let at = config.left_at();
     match order {
-        // keeps IsCounted of handshake
+        // keeps AreLeftCounted
         Order::End => Access::Sub { at, value: 1 },
         _ => EnterSpot::Raise.access(config, seat),
     }

@@ -1,4 +1,10 @@
-pub mod Places
+pub mod Placed
 pub mod Sums
 pub mod Tops
 pub mod Rooms
+pub mod Flags
+pub mod Assigned
+pub mod Slid
+pub mod Moved
+pub mod Checked
+pub mod Followed

@@ -6,7 +6,7 @@ use Rattle.std.proofs.lemmas.Nat.{div-add-mod', mul-le, mod_below, div-mul-add}
 use Rattle.packing.specs.Places.{place_behind, end_before, new_place, LieApart}
 use Rattle.packing.specs.Tops.{sum_below, words_in, top_before}
 use Rattle.packing.specs.Laws.{TopsAreFilled}
-use Rattle.packing.proofs.Places.{end_next, end_same, end_from_first, moves_down, place_from_end, stays_apart, stays_above, stays_within}
+use Rattle.packing.proofs.Placed.{end_next, end_same, end_from_first, moves_down, place_from_end, stays_apart, stays_above, stays_within}
 use Rattle.packing.proofs.Sums.{sum_next, sum_none, sum_same, sum_both, sum_of_none, sum_of_one}
 
 -- two rows are one, or one ends before the other begins

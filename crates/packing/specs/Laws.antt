@@ -2,7 +2,7 @@
 use Rattle.std.specs.Prelude.{ℕ, ◌≡◌, ◌+◌, ◌-◌, ◌*◌, ◌/◌, ◌%◌, ◌<◌, ◌≤◌, Some, None}
 use Rattle.packing.specs.Places.{LieApart, new_place}
 use Rattle.packing.specs.Tops.{sum_below, top_before}
-use Rattle.packing.specs.Rooms.{HasNoRoom, IsLowestRoom, tops_served, room_at_turn, granted}
+use Rattle.packing.specs.Rooms.{NoneHasRoom, IsLowestRoom, tops_served, room_at_turn, granted}
 
 -- No kept object is placed above the address where it lay, so each one fits. They stay apart, in the order in which
 -- they lay, and each stays within one region.
@@ -32,7 +32,7 @@ PackingFills = (region_words : ℕ) (kept : ℕ → ℕ) (regions : ℕ) → Lie
 -- A request that finds no room at its turn found less than it asks for above each top. So, where it is no longer than a
 -- region, what the regions held before and what was given before it in this round crowd all of them.
 pub record IsCrowdedOut (region_words regions : ℕ) (asked top : ℕ → ℕ) (t : ℕ) : Type 0 where
-  pub each : HasNoRoom region_words (tops_served region_words regions asked top t) (asked t) regions
+  pub each : NoneHasRoom region_words (tops_served region_words regions asked top t) (asked t) regions
   pub crowded : asked t ≤ region_words → regions * (region_words - asked t + 1) ≤ sum_below top regions + sum_below (granted region_words regions asked top) t
 
 -- A request gets the lowest room there is at its turn. It is left exactly where each region has less room then, and
@@ -43,7 +43,7 @@ pub record RequestsAreServed : Type 0 where
   pub found : (region_words regions : ℕ) (asked top : ℕ → ℕ) (t r : ℕ)
       → room_at_turn region_words regions asked top t ≡ Some r → IsLowestRoom region_words (tops_served region_words regions asked top t) (asked t) regions r
   pub refused : (region_words regions : ℕ) (asked top : ℕ → ℕ) (t : ℕ)
-      → HasNoRoom region_words (tops_served region_words regions asked top t) (asked t) regions
+      → NoneHasRoom region_words (tops_served region_words regions asked top t) (asked t) regions
       → room_at_turn region_words regions asked top t ≡ None
   pub sum : (region_words regions : ℕ) (asked top : ℕ → ℕ) (t : ℕ)
       → sum_below (tops_served region_words regions asked top t) regions ≡ sum_below top regions + sum_below (granted region_words regions asked top) t

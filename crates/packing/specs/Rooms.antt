@@ -13,8 +13,8 @@ lowest_room region_words top words zero = None
 lowest_room region_words top words (suc r) = first_of_two (lowest_room region_words top words r) (if nat_le (top r + words) region_words then Some r else None)
 
 -- no region has room for so many words above its top
-abbrev pub HasNoRoom : (region_words : ℕ) (top : ℕ → ℕ) (words regions : ℕ) → Type 0
-HasNoRoom region_words top words regions = (r : ℕ) → r < regions → region_words < top r + words
+abbrev pub NoneHasRoom : (region_words : ℕ) (top : ℕ → ℕ) (words regions : ℕ) → Type 0
+NoneHasRoom region_words top words regions = (r : ℕ) → r < regions → region_words < top r + words
 
 -- a region has room for so many words above its top, and no lower one has
 pub record IsLowestRoom (region_words : ℕ) (top : ℕ → ℕ) (words regions r : ℕ) : Type 0 where

@@ -1,11 +1,25 @@
-//! Packing in the order of addresses, as numbers alone: where the objects go that a sliding full collection keeps, how
-//! full each region is then, and which requests for words find room above the tops.
+//! Packing in the order of addresses: where the objects go that a sliding full collection keeps, how full each region is
+//! then, and which requests for words find room above the tops; and sliding, which moves the objects down to these places.
 //!
-//! The definitions stand in `specs/`; the functions here are laws, each a theorem and no code. Their lemmas in `proofs/`
-//! serve the crates that move the words.
+//! The places are numbers alone, with laws, each a theorem and no code. Sliding is over slices: a table with one word for each
+//! heap word says where each object goes, so that no header of the heap has to hold that and no word that no object covers is
+//! written. `assign` fills the table and the tops, `follow` gives each old copy the place of its current copy, and `slide` moves
+//! the words and renews the references. Each is one sweep over the addresses and takes no memory. The idea of sliding
+//! compaction is that of the LISP 2 collector; what is different here is that references are renewed while an object
+//! moves, so that words left behind show no renewed reference. `compact_marked` is all three in turn.
 #![tactic(auto)]
 
+mod compact;
+mod copies;
+mod moves;
+mod places;
+
 ghost use Rattle.packing.specs.Laws.{PackingFits, PackingFills, RequestsAreServed};
+
+pub use compact::compact_marked;
+pub use copies::follow;
+pub use moves::{renew, slide, slides_to_one_heap};
+pub use places::{assign, place_behind};
 
 /// A law: no kept object is placed above the address where it lay, so that each one fits; they stay apart and in order,
 /// each within one region.

@@ -1,3 +1,4 @@
+pub mod MarksApart
 pub mod PlaceLemmas
 pub mod SetLemmas
 pub mod WalkLemmas

@@ -1,3 +1,5 @@
+pub mod Marks
+pub mod Touches
 pub mod Place
 pub mod Sets
 pub mod Rooms

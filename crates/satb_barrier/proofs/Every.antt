@@ -4,7 +4,7 @@ use Rattle.heap_words.specs.declared.config.Config.{Config}
 use Rattle.heap_words.specs.Words.{Word, Heap, IsWord}
 use Rattle.satb_barrier.specs.declared.spot.RememberSpot.TheVariants.{LoadCount}
 use Rattle.satb_barrier.specs.Recorded.{IsBuffer}
-use Rattle.satb_barrier.specs.Runs.{Recording, Move, own, others, after_move, after_moves, IsMove, AreMoves, recording_from, RecordingHolds, KeepsRecorded, RecordingIsKept}
+use Rattle.satb_barrier.specs.Alone.{Recording, Move, own, others, after_move, after_moves, IsMove, AreMoves, recording_from, RecordingHolds, KeepsRecorded, RecordingIsKept}
 use Rattle.satb_barrier.specs.Facts.{RememberFacts, CanRemember}
 use Rattle.satb_barrier.proofs.Remembering.{recorded_stays, can_remember_stays, found_is_fit, each_remembers}
 

@@ -7,9 +7,9 @@ use Rattle.std.proofs.lemmas.Bool.Decides.{nat_tests}
 use Rattle.heap_words.specs.declared.config.Config.{Config}
 use Rattle.heap_words.specs.Words.{Word, Count, Buffer, Heap, IsWord}
 use Rattle.steps_base.specs.Touch.{touch, touched, loads, stores}
-use Rattle.mark_bits.specs.Marks.{mark_word, mark_bit, HasMark}
-use Rattle.mark_bits.specs.Touches.{grey_touch}
-use Rattle.mark_bits.proofs.Marking.{bit_below, bits_stay, mark_set}
+use Rattle.regions.specs.Marks.{mark_word, mark_bit, HasMark}
+use Rattle.regions.specs.Touches.{grey_touch}
+use Rattle.regions.proofs.MarksApart.{bit_below, bits_stay, mark_set}
 use Rattle.satb_barrier.specs.declared.spot.RememberSpot.{RememberSpot}
 use Rattle.satb_barrier.specs.declared.spot.RememberSpot.TheVariants.{LoadCount, LoadEntry, MarkEntry, ClearCount, StoreEntry, StoreCount, Recorded}
 use Rattle.satb_barrier.specs.Rows.{touch_at, next_at, is_recorded, is_ready, IsFit}

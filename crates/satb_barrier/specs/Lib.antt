@@ -2,4 +2,4 @@ pub mod Rows
 pub mod Seen
 pub mod Recorded
 pub mod Facts
-pub mod Runs
+pub mod Alone

@@ -3,7 +3,7 @@ use Rattle.std.specs.Prelude.{ℕ, ◌≡◌, ◌<◌, ◌≤◌, ◌⊎◌}
 use Rattle.std.specs.Int.{bit_at}
 use Rattle.heap_words.specs.declared.config.Config.{Config}
 use Rattle.heap_words.specs.Words.{Word, Count, Buffer, Grey, Heap, IsWord}
-use Rattle.mark_bits.specs.Marks.{HasMark}
+use Rattle.regions.specs.Marks.{HasMark}
 
 -- the words of grey bits
 abbrev pub greys_in : (Word → ℕ) → ℕ → ℕ

@@ -10,7 +10,7 @@
 mod remember;
 mod spot;
 
-ghost use Rattle.satb_barrier.specs.Runs.{RecordingIsKept};
+ghost use Rattle.satb_barrier.specs.Alone.{RecordingIsKept};
 
 pub use remember::Remember;
 pub use spot::RememberSpot;

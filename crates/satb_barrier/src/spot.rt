@@ -5,7 +5,7 @@ ghost use Rattle.steps_base.specs.Touch.{placed};
 ghost use Rattle.satb_barrier.specs.Rows as rows;
 
 use heap_words::{Access, Config, Place, Took};
-use mark_bits::grey_access;
+use regions::grey_access;
 use std::fmt;
 use std::fmt::{Debug, Formatter, Write};
 

@@ -15,8 +15,8 @@ use Rattle.shen_core.specs.State.{config_of, seats_of, Shows}
 use Rattle.shen_core.specs.Progress.{Jobs, HasNext, AllIdle, IsInSeats, agenda}
 use Rattle.shen_core.proofs.Rounds.{round_pass, round_move, round_again, idle_round}
 use Rattle.schedule_walk.specs.declared.walk.Walk.{Walk}
-use Rattle.schedule_walk.specs.Agendas.{number_of, tasks_of, tasks_after, later_in, agenda_in, after_by, agenda_after, weight_of, weight_in, IsWalkOf, HasNoItem}
-use Rattle.schedule_walk.specs.Nexts.{IsOver, GoesOn, AreIdleFrom, HasSameNext, HasNoNext, IsDueNext}
+use Rattle.schedule_walk.specs.Agendas.{agenda_number, tasks_of, tasks_after, later_in, agenda_in, after_by, agenda_after, weight_of, weight_in, IsWalkOf, HasNoItem}
+use Rattle.schedule_walk.specs.Nexts.{IsOver, WalksOn, AreIdleFrom, HasSameNext, HasNoNext, IsDueNext}
 
 -- an option that has no value
 pub is_none : {A : Type 0} (o : Option A) → is_some o ≡ false → o ≡ None
@@ -129,7 +129,7 @@ control_passed p jobs w number due is has scripts s shows tells =
     ∙ ap (λ t. after_move (moves t []) (tasks_of w.present ++ later_in w) w.from (next_by (config_of p) scripts s (tasks_of w.present ++ later_in w) w.from)) (ap (turn scripts s) (sym is) ∙ is_none (turn scripts s number) (has scripts s shows))
 
 -- the machine of an item is one of the heap
-pub item_within : (c : Config) (item : Item) → IsInSeats c item → number_of item < seat_count c.mutators c.helpers
+pub item_within : (c : Config) (item : Item) → IsInSeats c item → agenda_number item < seat_count c.mutators c.helpers
 item_within c (Steps number count) within = within
 item_within c (Until number place) within = within
 item_within c (Replies number count) within = omega arith
@@ -153,7 +153,7 @@ module _ (p : Plain) (jobs : Jobs) (w : Walk) (item : Item) (control : w.control
       ∙ ap (λ o. next (config_of p) scripts s (agenda (tasks_of o ++ later_in w) w.from)) present
 
   -- it makes the next event where it goes on, and its machine has a turn
-  pub item_due : GoesOn p jobs item → IsInSeats (config_of p) item → HasNext p (number_of item) true → IsDueNext p jobs w (number_of item)
+  pub item_due : WalksOn p jobs item → IsInSeats (config_of p) item → HasNext p (agenda_number item) true → IsDueNext p jobs w (agenda_number item)
   item_due goes within has = record {
     within = item_within (config_of p) item within;
     has = has;
@@ -162,8 +162,8 @@ module _ (p : Plain) (jobs : Jobs) (w : Walk) (item : Item) (control : w.control
         item_first scripts s
         ∙ ap (λ m. after_move m (later_in w) w.from (next_by (config_of p) scripts s (later_in w) w.from))
         (goes scripts s shows tells ∙ ap (λ t. moves t (tasks_after (waits_then (config_of p) s t) item)) turns)
-        ∙ ap (λ o. Some (record { event = e; agenda = after_by false o (later_in w) w.from (number_of item) (waits (config_of p) s e) })) (sym present)
-        ∙ ap (λ b. Some (record { event = e; agenda = after_by b w.present (later_in w) w.from (number_of item) (waits (config_of p) s e) })) (sym control);
+        ∙ ap (λ o. Some (record { event = e; agenda = after_by false o (later_in w) w.from (agenda_number item) (waits (config_of p) s e) })) (sym present)
+        ∙ ap (λ b. Some (record { event = e; agenda = after_by b w.present (later_in w) w.from (agenda_number item) (waits (config_of p) s e) })) (sym control);
   }
 
   -- it is passed over where it is done
@@ -174,7 +174,7 @@ module _ (p : Plain) (jobs : Jobs) (w : Walk) (item : Item) (control : w.control
       ∙ sym (ap (λ b. next (config_of p) scripts s (agenda (control_after b ++ later_in w) w.from)) control)
 
   -- or where its machine has no turn
-  pub item_idle : GoesOn p jobs item → HasNext p (number_of item) false → HasSameNext p jobs (agenda_in w) (agenda_in (without_item w))
+  pub item_idle : WalksOn p jobs item → HasNext p (agenda_number item) false → HasSameNext p jobs (agenda_in w) (agenda_in (without_item w))
   item_idle goes has = item_passed (λ scripts s shows tells.
       goes scripts s shows tells
-      ∙ ap (λ t. moves t (tasks_after (waits_then (config_of p) s t) item)) (is_none (turn scripts s (number_of item)) (has scripts s shows)))
+      ∙ ap (λ t. moves t (tasks_after (waits_then (config_of p) s t) item)) (is_none (turn scripts s (agenda_number item)) (has scripts s shows)))

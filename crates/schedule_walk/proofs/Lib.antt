@@ -2,4 +2,4 @@ pub mod Stepping
 pub mod Finding
 pub mod Items
 pub mod Walking
-pub mod Ends
+pub mod WalkEnds

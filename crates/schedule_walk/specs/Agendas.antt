@@ -9,10 +9,10 @@ use Rattle.shen_core.specs.Progress.{IsInSeats}
 use Rattle.schedule_walk.specs.declared.walk.Walk.{Walk}
 
 -- the machine of an item
-abbrev pub number_of : Item → ℕ
-number_of (Steps number count) = number
-number_of (Until number place) = number
-number_of (Replies number count) = number
+abbrev pub agenda_number : Item → ℕ
+agenda_number (Steps number count) = number
+agenda_number (Until number place) = number
+agenda_number (Replies number count) = number
 
 -- what is left of an item after an event of it
 abbrev pub left_of : Item → Item

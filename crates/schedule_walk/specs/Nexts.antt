@@ -14,16 +14,16 @@ use Rattle.shen_core.specs.Progress.{Jobs, Tells, HasNext, Runs}
 use Rattle.schedule_walk.specs.declared.seen.Seen.{Seen}
 use Rattle.schedule_walk.specs.declared.walk.Walk.{Walk}
 use Rattle.schedule_walk.specs.Seen.{Sees}
-use Rattle.schedule_walk.specs.Agendas.{number_of, tasks_after, agenda_in, agenda_after}
+use Rattle.schedule_walk.specs.Agendas.{agenda_number, tasks_after, agenda_in, agenda_after}
 
 -- an item has no event any more
 abbrev pub IsOver : Plain → Jobs → Item → Type 0
 IsOver p jobs item = (scripts : Scripts) (s : Stage Actor) → Shows p s → Tells (config_of p) scripts jobs s → move_of (config_of p) scripts s (task_of item) ≡ None
 
 -- the next event of an item is that of its machine's turn
-abbrev pub GoesOn : Plain → Jobs → Item → Type 0
-GoesOn p jobs item = (scripts : Scripts) (s : Stage Actor) → Shows p s → Tells (config_of p) scripts jobs s
-    → move_of (config_of p) scripts s (task_of item) ≡ moves (turn scripts s (number_of item)) (tasks_after (waits_then (config_of p) s (turn scripts s (number_of item))) item)
+abbrev pub WalksOn : Plain → Jobs → Item → Type 0
+WalksOn p jobs item = (scripts : Scripts) (s : Stage Actor) → Shows p s → Tells (config_of p) scripts jobs s
+    → move_of (config_of p) scripts s (task_of item) ≡ moves (turn scripts s (agenda_number item)) (tasks_after (waits_then (config_of p) s (turn scripts s (agenda_number item))) item)
 
 -- the machines from one number on have no turn, below another
 abbrev pub AreIdleFrom : Plain → ℕ → ℕ → Type 0
@@ -66,13 +66,13 @@ pub record HasNone (c : Config) (scripts : Scripts) (s : Stage Actor) (todo : Ag
   pub tells : Tells c scripts later s
 
 -- the next event was made, or there was none
-abbrev pub IsNext : Config → Scripts → Stage Actor → Agenda → Plain → Jobs → Agenda → Option Seen → Type 0
-IsNext c scripts s todo q later rest None = HasNone c scripts s todo q later rest
-IsNext c scripts s todo q later rest (Some seen) = IsMade c scripts s todo q later rest seen
+abbrev pub IsNextSeen : Config → Scripts → Stage Actor → Agenda → Plain → Jobs → Agenda → Option Seen → Type 0
+IsNextSeen c scripts s todo q later rest None = HasNone c scripts s todo q later rest
+IsNextSeen c scripts s todo q later rest (Some seen) = IsMade c scripts s todo q later rest seen
 
 -- whatever stage memory showed, the next event of the agenda was made there, and the rest is to be done; or there was none
 abbrev pub MakesNext : Plain → Jobs → Agenda → Plain → Jobs → Agenda → Option Seen → Type 0
-MakesNext p jobs todo q later rest result = (scripts : Scripts) (s : Stage Actor) → Shows p s → Tells (config_of p) scripts jobs s → IsNext (config_of p) scripts s todo q later rest result
+MakesNext p jobs todo q later rest result = (scripts : Scripts) (s : Stage Actor) → Shows p s → Tells (config_of p) scripts jobs s → IsNextSeen (config_of p) scripts s todo q later rest result
 
 -- The events of an agenda were made, as many as a limit allows or all that there are; where the limit is higher, the schedule
 -- goes on from there.

@@ -2,8 +2,8 @@ ghost use Rattle.std.specs.Prelude.{◌≡◌, ◌<◌, ◌≤◌, true, false, 
 ghost use Rattle.shen_graph.specs.declared.order.Order.TheVariants.{Nothing};
 ghost use Rattle.shen_core.specs.State.{config_of, orders_of, seats_of};
 ghost use Rattle.shen_core.specs.Progress.{CanRun, IsInSeats};
-ghost use Rattle.schedule_walk.specs.Agendas.{number_of, left_of, wakes};
-ghost use Rattle.schedule_walk.specs.Nexts.{IsOver, GoesOn, IsFirstBusy};
+ghost use Rattle.schedule_walk.specs.Agendas.{agenda_number, left_of, wakes};
+ghost use Rattle.schedule_walk.specs.Nexts.{IsOver, WalksOn, IsFirstBusy};
 
 use crate::seen::{Seen, turn_seen};
 use heap_words::{Item, Schedule};
@@ -27,7 +27,7 @@ pub struct Walk {
 
 // The machine of an item.
 fn machine_of(item: Item) -> usize
-    ensures { result ≡ number_of item }
+    ensures { result ≡ agenda_number item }
 {
     match item {
         Item::Steps { number, .. } => number,
@@ -41,7 +41,7 @@ fn is_over(item: Item, plain: &Plain, work: &Work) -> bool
     requires item { IsInSeats (config_of plain.now) item }
     requires run { CanRun plain.now work.now }
     ensures over { result ≡ true → IsOver plain.now work.now item }
-    ensures more { result ≡ false → GoesOn plain.now work.now item }
+    ensures more { result ≡ false → WalksOn plain.now work.now item }
 {
     match item {
         Item::Steps { count, .. } => count == 0,

@@ -1,7 +1,7 @@
 //! A text that is kept in memory, to be compared.
 ghost use Rattle.std.specs.Prelude.{◌≡◌, ◌<◌, ℕ, Some, length, IfOk, MatchBool};
 ghost use Rattle.shen_graph.specs.Work.{HasScript};
-ghost use Rattle.trace_writing.specs.Answer.{text_of};
+ghost use Rattle.trace_writing.specs.Answer.{spelled_answer};
 
 use shen_base::{Failed, Sink};
 use shen_graph::NoMemory;
@@ -36,7 +36,7 @@ impl Sink for Kept {
 /// Whether a body is the text of an answer, byte for byte.
 pub fn is_text(alloc: Global, body: &[u8], answer: &Answer) -> Result<bool, NoMemory>
     requires { (mutator : ℕ) → mutator < length answer.now.graph.roots → HasScript answer.now.replies mutator }
-    ensures { IfOk result (λ same. MatchBool same (body.now ≡ text_of answer.now) (body.now ≡ text_of answer.now → ⊥)) }
+    ensures { IfOk result (λ same. MatchBool same (body.now ≡ spelled_answer answer.now) (body.now ≡ spelled_answer answer.now → ⊥)) }
 {
     let mut sink = Kept {
         bytes: Vec::new(alloc),

@@ -10,7 +10,7 @@ use Rattle.std.specs.Option.{option_map}
 use Rattle.std.proofs.lemmas.List.Elements.{All-head, All-tail, filter-append}
 use Rattle.packing.specs.Tops.{sum_below}
 use Rattle.packing.proofs.Sums.{sum_both, sum_of_one, sum_same}
-use Rattle.step_core.proofs.Crowds.{sum_below_le, sum_by_range}
+use Rattle.step_core.proofs.History.Crowds.{sum_below_le, sum_by_range}
 use Rattle.heap_machines.specs.Pause.{pause_image}
 use Rattle.heap_machines.proofs.Pauses.{heap_pauses}
 use Rattle.heap_words.specs.declared.config.Config.{Config}
@@ -33,7 +33,7 @@ use Rattle.step_core.specs.History.{history}
 use Rattle.step_core.specs.Schedule.{Scripts}
 use Rattle.step_core.specs.Sound.{IsSound}
 use Rattle.step_core.specs.Threads.{IsSettled}
-use Rattle.step_core.proofs.Theorem.{run_sound}
+use Rattle.step_core.proofs.Theorem.EveryList.{run_sound}
 use Rattle.shen_core.specs.declared.plain.Plain.{Plain}
 use Rattle.shen_core.specs.State.{config_of, machines_of, machine_at, Shows}
 use Rattle.shen_core.specs.Progress.{Jobs, Tells, CanRun}

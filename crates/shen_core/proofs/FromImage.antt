@@ -22,12 +22,12 @@ use Rattle.step_core.specs.Actor.{mutating, fresh_helper, Actor}
 use Rattle.heap_machines.specs.Shown.{no_machine, shown}
 use Rattle.step_core.specs.Actor as actors
 use Rattle.step_core.specs.Machines.{kind, HasNumber, IsIdle}
-use Rattle.step_core.specs.Begins.{Begins, IsNew}
+use Rattle.step_core.specs.Begins.{Begins, HasCalledNothing}
 use Rattle.heap_machines.specs.declared.machine.Machine.{Machine}
 use Rattle.shen_core.specs.declared.plain.Plain.{Plain}
 use Rattle.shen_core.specs.State.{words_of, machines_of, orders_of}
 use Rattle.shen_core.specs.Runs.{WordsShow, IsShownBySome}
-use Rattle.shen_core.specs.FromImage.{control_from, machine_from, actor_from, stage_from, CanBegin}
+use Rattle.shen_core.specs.FromImage.{control_from, machine_from, actor_from, stage_from, CanBeginFrom}
 
 -- one machine more
 pub machines_more : (c : Config) (counts : List ℕ) (memory : Word → ℕ) (machines : List Machine) (new : Machine) (number : ℕ) → map shown machines ≡ map (machine_from c counts memory) (range_with_len 0 number) → shown new ≡ machine_from c counts memory number
@@ -85,7 +85,7 @@ machine_new c counts memory g count k below = by_role (nat_lt k c.mutators) refl
     by_role false is false other = ((let above = ltb-false k (c.mutators + c.helpers) other in omega arith), (refl, refl, refl, refl))
 
 -- the stage begins each graph with which the words can begin
-pub begins_from : (c : Config) (words counts : List ℕ) → length words ≡ table_words c → (g : Graph) → CanBegin c (view c words) counts g → Begins c (stage_from c words counts) g
+pub begins_from : (c : Config) (words counts : List ℕ) → length words ≡ table_words c → (g : Graph) → CanBeginFrom c (view c words) counts g → Begins c (stage_from c words counts) g
 unfolding stage_from
 begins_from c words counts long g can = record {
   words = long;
@@ -95,7 +95,7 @@ begins_from c words counts long g can = record {
   machines = λ k a here.
       let is = stage_actor c words counts k a here in
       let new = machine_new c counts (view c words) g can.counts_are k is.0 in
-      subst (λ (x : Actor). IsNew c (view c words Phase) (view c words Cset) g k x) is.1 (record { number_is = new.0; idle = new.1; calls = refl; valid = refl });
+      subst (λ (x : Actor). HasCalledNothing c (view c words Phase) (view c words Cset) g k x) is.1 (record { number_is = new.0; idle = new.1; calls = refl; valid = refl });
 }
 
 -- memory shows the stage
@@ -105,7 +105,7 @@ unfolding stage_from
 shows_from c words counts held machines words_are machines_are = record { words_are = sym words_are; machines_are = stage_machines c words counts ∙ sym machines_are }
 
 -- so some run has led there, of no event
-pub shown_from : (c : Config) (words counts held : List ℕ) (machines : List actors.Machine) → length words ≡ table_words c → WordsShow held machines (stage_from c words counts) → ∥ ((g : Graph) × CanBegin c (view c words) counts g) ∥₁
+pub shown_from : (c : Config) (words counts held : List ℕ) (machines : List actors.Machine) → length words ≡ table_words c → WordsShow held machines (stage_from c words counts) → ∥ ((g : Graph) × CanBeginFrom c (view c words) counts g) ∥₁
     → ∥ IsShownBySome c held machines ∥₁
 shown_from c words counts held machines long shows some = ∥∥₁_map some (λ can. record {
   run = record { start = stage_from c words counts; graph = can.0; begins = begins_from c words counts long can.0 can.1; events = [] };

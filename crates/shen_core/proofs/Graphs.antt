@@ -12,16 +12,16 @@ use Rattle.heap_words.specs.Words.{heap_in, roots_in}
 use Rattle.image_graph.specs.Left.{StandsForSome}
 use Rattle.heap_graph.specs.Shows.{WordsStand}
 use Rattle.shen_graph.specs.declared.name.Name.{Name}
-use Rattle.control_steps.specs.declared.spot.ControlSpot.{ControlSpot}
-use Rattle.control_steps.specs.declared.spot.ControlSpot.TheVariants.{LoadWord, StoreWord}
-use Rattle.control_steps.specs.Rows.{Controlling}
+use Rattle.control_rows.specs.declared.spot.ControlSpot.{ControlSpot}
+use Rattle.control_rows.specs.declared.spot.ControlSpot.TheVariants.{LoadWord, StoreWord}
+use Rattle.control_rows.specs.Rows.{Controlling}
 use Rattle.control.specs.Image.{image_from, IsLoadedFrom}
 use Rattle.heap_machines.specs.Roles.{CanShowBy, CanShow}
-use Rattle.heap_machines.proofs.Standing as standing
+use Rattle.heap_machines.proofs.RestedGraph as standing
 use Rattle.step_core.specs.Actor.{Machine, Actor}
 use Rattle.heap_machines.specs.Shown.{no_machine}
 use Rattle.step_core.specs.Begins.{Run, ending, graph_after}
-use Rattle.step_core.specs.Settled.{image_in, image_of, control_number}
+use Rattle.step_core.specs.Settled.{image_read, image_of, control_number}
 use Rattle.step_core.specs.Machines.{control_in, is_resting}
 use Rattle.shen_core.specs.Runs.{WordsShow, IsShownBySome}
 use Rattle.shen_core.proofs.Events.{shown_actor}
@@ -40,7 +40,7 @@ can_show_is_prop table machine = by_control (control_in machine)
     by_control (Some k) = loaded_is_prop table k.spot k.image
 
 module _ (c : Config) (words : List ℕ) (machines : List Machine) (rest : (number : ℕ) → number < c.mutators → is_resting (slice_index_or machines number no_machine) ≡ true)
-    (calm : image_in (slice_index_or machines (control_number c) no_machine) ≡ None) (run : Run c) (shows : WordsShow words machines (ending pause_image c run)) where
+    (calm : image_read (slice_index_or machines (control_number c) no_machine) ≡ None) (run : Run c) (shows : WordsShow words machines (ending pause_image c run)) where
   -- the machine of an actor of the stage
   pub machine_of : (number : ℕ) (a : Actor) → slice_get (ending pause_image c run).machines number ≡ Some a → a.machine ≡ slice_index_or machines number no_machine
   machine_of number a here =
@@ -58,7 +58,7 @@ module _ (c : Config) (words : List ℕ) (machines : List Machine) (rest : (numb
     where
       by_actor : (o : Option Actor) → slice_get (ending pause_image c run).machines (control_number c) ≡ o → image_of o ≡ None
       by_actor None here = refl
-      by_actor (Some a) here = ap image_in (machine_of (control_number c) a here) ∙ calm
+      by_actor (Some a) here = ap image_read (machine_of (control_number c) a here) ∙ calm
 
   -- the control can work on the words of the image
   pub can_show : (machine : Machine) → slice_get machines (control_number c) ≡ Some machine → CanShow (image_from c words) machine
@@ -75,7 +75,7 @@ module _ (c : Config) (words : List ℕ) (machines : List Machine) (rest : (numb
 
 -- so it is of those that led to the words
 module _ (c : Config) (words : List ℕ) (machines : List Machine) (rest : (number : ℕ) → number < c.mutators → is_resting (slice_index_or machines number no_machine) ≡ true)
-    (calm : image_in (slice_index_or machines (control_number c) no_machine) ≡ None) (some : ∥ IsShownBySome c words machines ∥₁) where
+    (calm : image_read (slice_index_or machines (control_number c) no_machine) ≡ None) (some : ∥ IsShownBySome c words machines ∥₁) where
   pub some_can_show : (machine : Machine) → slice_get machines (control_number c) ≡ Some machine → CanShow (image_from c words) machine
   some_can_show machine here = ∥∥₁_elim some (can_show_is_prop (image_from c words) machine) (λ s. can_show c words machines rest calm s.run s.shows machine here)
 

@@ -9,12 +9,12 @@ use Rattle.steps_base.proofs.Runs.{go-none, go-first}
 use Rattle.shen_graph.specs.declared.order.Order.{Order}
 use Rattle.step_core.specs.Actor.{Actor}
 use Rattle.step_core.specs.Machines.{kind}
-use Rattle.step_core.specs.Schedule.{Scripts, turn, is_at_place, given, Task, steps, until, replies, control, Move, moves, move_of, or_else, first_turn, numbers_from, Agenda, Next, round_of, after_move, next_by, next, and_then, scheduled}
+use Rattle.step_core.specs.Schedule.{Scripts, turn, is_at_place, given, Task, steps, until, replies, control, ScheduledEvent, moves, move_of, or_else, first_turn, numbers_from, Agenda, Next, round_of, after_move, next_by, next, and_then, scheduled}
 
 -- a move has the event that it is of
-moves_turn : (o : Option (Event Order)) (tasks : List Task) (m : Move) → moves o tasks ≡ Some m → o ≡ Some m.event
+moves_turn : (o : Option (Event Order)) (tasks : List Task) (m : ScheduledEvent) → moves o tasks ≡ Some m → o ≡ Some m.event
 moves_turn None tasks m e = absurd cc
-moves_turn (Some x) tasks m e = ap (λ (y : Move). Some y.event) (same_Some (record { event = x; tasks = tasks }) m e)
+moves_turn (Some x) tasks m e = ap (λ (y : ScheduledEvent). Some y.event) (same_Some (record { event = x; tasks = tasks }) m e)
 
 -- the event is a machine's turn
 abbrev IsSomeTurn : Scripts → Stage Actor → Event Order → Type 0
@@ -26,7 +26,7 @@ by_test true x y e = absurd cc
 by_test false x y e = e
 
 -- the event of a task is the turn of its machine
-task_turn : (c : Config) (scripts : Scripts) (s : Stage Actor) (t : Task) (m : Move) → move_of c scripts s t ≡ Some m → IsSomeTurn scripts s m.event
+task_turn : (c : Config) (scripts : Scripts) (s : Stage Actor) (t : Task) (m : ScheduledEvent) → move_of c scripts s t ≡ Some m → IsSomeTurn scripts s m.event
 task_turn c scripts s (steps number zero) m e = absurd cc
 task_turn c scripts s (steps number (suc count)) m e = (number, moves_turn (turn scripts s number) _ m e)
 task_turn c scripts s (until number place) m e = (number, moves_turn (turn scripts s number) _ m (by_test (is_at_place scripts s number place) _ m e))
@@ -52,7 +52,7 @@ next_turn : (c : Config) (scripts : Scripts) (s : Stage Actor) (tasks : List Tas
 next_turn c scripts s [] from x e = round_next scripts s (first_turn scripts s (numbers_from c from)) x (round_turn scripts s (numbers_from c from)) e
 next_turn c scripts s (t ∷ ts) from x e = by_move (move_of c scripts s t) refl (next_turn c scripts s ts from x) e
   where
-    by_move : (o : Option Move) → move_of c scripts s t ≡ o → (next_by c scripts s ts from ≡ Some x → IsSomeTurn scripts s x.event) → after_move o ts from (next_by c scripts s ts from) ≡ Some x → IsSomeTurn scripts s x.event
+    by_move : (o : Option ScheduledEvent) → move_of c scripts s t ≡ o → (next_by c scripts s ts from ≡ Some x → IsSomeTurn scripts s x.event) → after_move o ts from (next_by c scripts s ts from) ≡ Some x → IsSomeTurn scripts s x.event
     by_move None here others is = others is
     by_move (Some m) here others is = subst (λ (z : Next). IsSomeTurn scripts s z.event) (same_Some _ x is) (task_turn c scripts s t m here)
 

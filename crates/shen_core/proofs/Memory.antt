@@ -26,11 +26,11 @@ use Rattle.heap_machines.proofs.Openings.{first_machines, first_count}
 use Rattle.step_core.specs.Actor as actors
 use Rattle.step_core.specs.Machines.{takes_of, plan_of, place_in, answer_of, machine_after, kind, WaitsIn}
 use Rattle.step_core.specs.Opening.{opening_words, opening_machine, opening}
-use Rattle.step_core.proofs.FirstFacts.{opening_run}
+use Rattle.step_core.proofs.Theorem.FirstFacts.{opening_run}
 use Rattle.steps_base.specs.Steps.{accessed}
 use Rattle.steps_base.proofs.Places.{slice_get-set_same}
 use Rattle.steps_base.proofs.Runs.{go-none}
-use Rattle.shen_core.specs.Runs.{WordsShow, event, IsShownBySome, IsOneEvent, next_by}
+use Rattle.shen_core.specs.Runs.{WordsShow, event, IsShownBySome, IsOneEvent, machine_next}
 use Rattle.shen_core.proofs.Events.{one_event}
 
 -- a machine of these has made its access, and has taken its word
@@ -151,14 +151,14 @@ module _ (config : Config) (words new_words : List ℕ) (machines : List Machine
   made_heap same one_heap = All-set (λ y. heap_of y ≡ config) machines number n (same ∙ made.heap) one_heap
 
   -- all that holds of the machines after the step
-  pub made_machines : map shown (slice_set machines number n) ≡ slice_set (map shown machines) number (next_by config words (slice_index_or (map order_of machines) number Nothing) (slice_index_or (map shown machines) number no_machine))
+  pub made_machines : map shown (slice_set machines number n) ≡ slice_set (map shown machines) number (machine_next config words (slice_index_or (map order_of machines) number Nothing) (slice_index_or (map shown machines) number no_machine))
   made_machines =
       map-set shown machines number n
       ∙ ap (λ x. slice_set (map shown machines) number x)
       (made.shown_is
-      ∙ ap (λ c. next_by c words (order_of m) (shown m)) made.heap
-      ∙ ap (λ order. next_by config words order (shown m)) (sym (order_here machines number m made.here))
-      ∙ ap (λ x. next_by config words (slice_index_or (map order_of machines) number Nothing) x) (sym (machine_here machines number m made.here)))
+      ∙ ap (λ c. machine_next c words (order_of m) (shown m)) made.heap
+      ∙ ap (λ order. machine_next config words order (shown m)) (sym (order_here machines number m made.here))
+      ∙ ap (λ x. machine_next config words (slice_index_or (map order_of machines) number Nothing) x) (sym (machine_here machines number m made.here)))
 
 -- a list after a change of an element that does not show
 set_alike : {A B : Type 0} (f : A → B) (xs : List A) (number : ℕ) (x y : A) → slice_get xs number ≡ Some x → f y ≡ f x → map f (slice_set xs number y) ≡ map f xs

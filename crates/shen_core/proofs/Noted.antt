@@ -21,14 +21,14 @@ use Rattle.shen_graph.specs.declared.order.Order.TheVariants.{Nothing}
 use Rattle.heap_machines.specs.declared.stepped.Stepped.{Stepped}
 use Rattle.heap_machines.specs.declared.stepped.Stepped.TheVariants as stepped
 use Rattle.heap_machines.specs.Answer.{stepped_of, stepped_by, says}
-use Rattle.step_core.proofs.Roles.{says_some}
+use Rattle.step_core.proofs.Machines.Roles.{says_some}
 use Rattle.heap_machines.proofs.Replies.{listed, took_replies, done_gives, other_gives, given_after}
 use Rattle.heap_machines.proofs.Names.{HasNames, names_on, names_noted}
 use Rattle.heap_machines.proofs.OnScript.{begins, goes_on_with}
 use Rattle.step_core.specs.Actor.{Machine, Actor}
 use Rattle.heap_machines.specs.Shown.{no_machine}
 use Rattle.step_core.specs.Machines.{takes_of, plan_of, answer_of, machine_after, kind, is_again, again_by, is_resting, may_begin, reply_in, made_of_machine, at_hand_of}
-use Rattle.heap_machines.specs.Roles.{is_mutating, given_in}
+use Rattle.heap_machines.specs.Roles.{is_mutating, reply_of_step}
 use Rattle.step_core.specs.Schedule.{Scripts, waits, waits_of, waits_in}
 use Rattle.shen_core.specs.declared.plain.Plain.{Plain}
 use Rattle.shen_core.specs.Runs.{WordsShow, event}
@@ -46,7 +46,7 @@ orders_after old mid new number order mid_is new_is none =
 
 -- the replies of the machine's actor after its event
 pub acted_replies : (c : Config) (s : Stage Actor) (number : ℕ) (order : Order) (a : Actor) (machine : Machine) → slice_get s.machines number ≡ Some a → a.machine ≡ machine → takes_of machine order ≡ true
-    → (b : Actor) → slice_get (act (kind pause_image c) s (event number order)).machines number ≡ Some b → map (λ e. e.reply) b.calls ≡ map (λ e. e.reply) a.calls ++ listed (given_in machine)
+    → (b : Actor) → slice_get (act (kind pause_image c) s (event number order)).machines number ≡ Some b → map (λ e. e.reply) b.calls ≡ map (λ e. e.reply) a.calls ++ listed (reply_of_step machine)
 unfolding kind
 acted_replies c s number order a machine here is takes b there =
     let taken : takes_of a.machine order ≡ true = ap (λ x. takes_of x order) is ∙ takes in
@@ -55,11 +55,11 @@ acted_replies c s number order a machine here is takes b there =
     let same = same_Some _ b (sym found ∙ there) in
     ap (λ x. map (λ e. e.reply) x.calls) (sym same)
     ∙ took_replies a
-    ∙ ap (λ x. map (λ e. e.reply) a.calls ++ listed (given_in x)) is
+    ∙ ap (λ x. map (λ e. e.reply) a.calls ++ listed (reply_of_step x)) is
 
 -- the work tells the replies after an event that gives none
 pub tells_on : (c : Config) (words : List ℕ) (machines : List Machine) (jobs : Jobs) (number : ℕ) (machine : Machine) (order : Order) (scripts : Scripts) (s : Stage Actor)
-    → WordsShow words machines s → Tells c scripts jobs s → slice_get machines number ≡ Some machine → takes_of machine order ≡ true → given_in machine ≡ None
+    → WordsShow words machines s → Tells c scripts jobs s → slice_get machines number ≡ Some machine → takes_of machine order ≡ true → reply_of_step machine ≡ None
     → Tells c scripts jobs (act (kind pause_image c) s (event number order))
 tells_on c words machines jobs number machine order scripts s shows tells here takes none = record {
   scripts_are = tells.scripts_are;
@@ -76,7 +76,7 @@ tells_on c words machines jobs number machine order scripts s shows tells here t
 
 -- and with the reply noted after one that gives it
 pub tells_noted : (c : Config) (words : List ℕ) (machines : List Machine) (jobs : Jobs) (number : ℕ) (machine : Machine) (order : Order) (reply : Reply) (scripts : Scripts) (s : Stage Actor)
-    → WordsShow words machines s → Tells c scripts jobs s → slice_get machines number ≡ Some machine → takes_of machine order ≡ true → given_in machine ≡ Some reply → work.HasScript jobs number
+    → WordsShow words machines s → Tells c scripts jobs s → slice_get machines number ≡ Some machine → takes_of machine order ≡ true → reply_of_step machine ≡ Some reply → work.HasScript jobs number
     → Tells c scripts (work.with_reply jobs number reply) (act (kind pause_image c) s (event number order))
 tells_noted c words machines jobs number machine order reply scripts s shows tells here takes gives has = record {
   scripts_are = λ t below. script_kept jobs number reply t has ∙ tells.scripts_are t below;
@@ -186,7 +186,7 @@ module _ (p mid q : Plain) (jobs : Jobs) (number : ℕ) (said : Stepped) (facts 
   got = slice_index (words_of mid) (table_index (plan_of (config_of mid) (order_at mid number) (machine_at mid number)))
 
   -- a machine that gives a reply is a mutator, by its number
-  pub below_now : (r : Reply) → given_in (machine_at mid number) ≡ Some r → number < (config_of p).mutators
+  pub below_now : (r : Reply) → reply_of_step (machine_at mid number) ≡ Some r → number < (config_of p).mutators
   below_now r gives =
       ltb-true number (config_of p).mutators
       (sym facts.role ∙ ap is_mutating (sym same_machine) ∙ (given_after pause_image (config_of mid) (order_at mid number) got (machine_at mid number) r gives).role)
@@ -220,7 +220,7 @@ module _ (p mid q : Plain) (jobs : Jobs) (number : ℕ) (said : Stepped) (facts 
           slice_get_within (work.script_in jobs number) (length (work.replies_of jobs number)) begun.0 (ap (λ b. if b then work.next_of jobs number else None) (sym (lt-ltb number (config_of p).mutators below)) ∙ begun.1)
 
   -- the work is as it was
-  pub can_run_on : given_in (machine_at mid number) ≡ None → CanRun p jobs → CanRun q jobs
+  pub can_run_on : reply_of_step (machine_at mid number) ≡ None → CanRun p jobs → CanRun q jobs
   can_run_on none before =
       can_run_after p q jobs jobs number (next_machine mid number)
       (after_turn jobs before (λ t h. h) (λ t. refl) (λ t other. refl) (more_now before)
@@ -229,7 +229,7 @@ module _ (p mid q : Plain) (jobs : Jobs) (number : ℕ) (said : Stepped) (facts 
       (subst (λ machine. HasNames machine (length (work.script_in jobs number)) (length (work.replies_of jobs number))) (sym same_machine) (before.made number below)) none)) before
 
   -- the reply is noted
-  pub can_run_noted : (r : Reply) → given_in (machine_at mid number) ≡ Some r → CanRun p jobs → CanRun q (work.with_reply jobs number r)
+  pub can_run_noted : (r : Reply) → reply_of_step (machine_at mid number) ≡ Some r → CanRun p jobs → CanRun q (work.with_reply jobs number r)
   can_run_noted r gives before =
       let below_it = below_now r gives in
       let has = before.jobs_are number below_it in
@@ -269,21 +269,21 @@ module _ (p mid q : Plain) (jobs : Jobs) (number : ℕ) (said : Stepped) (facts 
       }))
 
   -- no reply is given
-  pub turned_on : given_in (machine_at mid number) ≡ None → HasTurned p jobs number q jobs said
+  pub turned_on : reply_of_step (machine_at mid number) ≡ None → HasTurned p jobs number q jobs said
   turned_on none = has_turned jobs (λ scripts s shows tells.
       tells_on (config_of p) (words_of mid) (machines_of mid) jobs number (machine_at mid number) (order_at mid number) scripts s shows tells here_mid facts.has none)
 
   -- a reply is given, and noted
-  pub turned_noted : (r : Reply) → given_in (machine_at mid number) ≡ Some r → work.HasScript jobs number → HasTurned p jobs number q (work.with_reply jobs number r) said
+  pub turned_noted : (r : Reply) → reply_of_step (machine_at mid number) ≡ Some r → work.HasScript jobs number → HasTurned p jobs number q (work.with_reply jobs number r) said
   turned_noted r gives has = has_turned (work.with_reply jobs number r) (λ scripts s shows tells.
       tells_noted (config_of p) (words_of mid) (machines_of mid) jobs number (machine_at mid number) (order_at mid number) r scripts s shows tells here_mid facts.has gives has)
 
   -- a step that is not done gives no reply
-  pub none_given : (said ≡ stepped.Done → ⊥) → given_in (machine_at mid number) ≡ None
+  pub none_given : (said ≡ stepped.Done → ⊥) → reply_of_step (machine_at mid number) ≡ None
   none_given other = other_gives (config_of mid) (machine_at mid number) got (λ is. other (facts.says ∙ ap stepped_by is))
 
   -- a step that is done gives one
-  some_given : said ≡ stepped.Done → (r : Reply) × (given_in (machine_at mid number) ≡ Some r)
+  some_given : said ≡ stepped.Done → (r : Reply) × (reply_of_step (machine_at mid number) ≡ Some r)
   some_given done = done_gives (config_of mid) (machine_at mid number) got (done_of (answer_of (config_of mid) (machine_at mid number) got) (sym facts.says ∙ done))
 
   -- the machine after its step
@@ -301,7 +301,7 @@ module _ (p mid q : Plain) (jobs : Jobs) (number : ℕ) (said : Stepped) (facts 
       cc
 
   -- the reply that memory has after a step that ends a call is the one that the step gives
-  pub reply_given : (r : Reply) → said ≡ stepped.Done → reply_in (machine_at q number) ≡ Some r → given_in (machine_at mid number) ≡ Some r
+  pub reply_given : (r : Reply) → said ≡ stepped.Done → reply_in (machine_at q number) ≡ Some r → reply_of_step (machine_at mid number) ≡ Some r
   reply_given r done has =
       let found = some_given done in
       let given = given_after pause_image (config_of mid) (order_at mid number) got (machine_at mid number) found.0 found.1 in

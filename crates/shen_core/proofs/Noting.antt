@@ -25,7 +25,7 @@ use Rattle.shen_core.specs.declared.run.Ran.TheVariants.{Finished, Unfinished}
 use Rattle.shen_core.specs.Runs.{event}
 use Rattle.shen_core.specs.State.{config_of, words_of, machines_of, notes_of, order_at, Shows}
 use Rattle.shen_core.specs.Progress.{Jobs, IsTurn, Goes, Tells, WentOn, agenda, Turned, HasTurned, IsPassed, AllIdle, SomeBusy}
-use Rattle.shen_core.specs.Ending.{HasRun}
+use Rattle.shen_core.specs.WholeRun.{HasRun}
 use Rattle.shen_core.specs.Noting.{with_entry, noted, IsEnding, told_by, NotesTurn, HasGone, RunsNoted, DoesNoted, HasRunNoted, EndsNoted}
 use Rattle.shen_core.proofs.Going as going
 use Rattle.shen_core.proofs.Going.{goes_then, waiting_of, moved_of}

@@ -20,7 +20,7 @@ use Rattle.shen_core.specs.declared.run.Ran.TheVariants.{Finished, Unfinished}
 use Rattle.heap_machines.specs.declared.stepped.Stepped.{Stepped}
 use Rattle.heap_machines.specs.declared.stepped.Stepped.TheVariants.{Idle}
 use Rattle.shen_core.specs.State.{config_of, Shows, IsUnchanged}
-use Rattle.shen_core.specs.Ending.{HasEnded, HasRun, EndsRun}
+use Rattle.shen_core.specs.WholeRun.{HasEnded, HasRun, EndsRun}
 use Rattle.shen_core.proofs.Going.{goes_same, goes_next, moved_of}
 use Rattle.shen_core.proofs.Turns.{turn_number}
 use Rattle.shen_core.proofs.Calls.{all_call, all_have_called}

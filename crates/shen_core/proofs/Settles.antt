@@ -29,23 +29,23 @@ use Rattle.mutator.specs.Orders.{is_between_calls, takes_commands, takes_at}
 use Rattle.mutator.specs.Rows.{Mutating, next_at, next_of}
 use Rattle.mutator.specs.Told.{told_at, told_of}
 use Rattle.helper.specs.Rows.{Helping}
-use Rattle.control_steps.specs.declared.spot.ControlSpot.{ControlSpot}
-use Rattle.control_steps.specs.declared.spot.ControlSpot.TheVariants.{StoreWord}
-use Rattle.control_steps.specs.Rows.{Controlling}
+use Rattle.control_rows.specs.declared.spot.ControlSpot.{ControlSpot}
+use Rattle.control_rows.specs.declared.spot.ControlSpot.TheVariants.{StoreWord}
+use Rattle.control_rows.specs.Rows.{Controlling}
 use Rattle.heap_machines.specs.Pause.{pause_image}
 use Rattle.heap_machines.proofs.Pauses.{heap_pauses}
 use Rattle.heap_machines.specs.Settles.{reply_settled, command_in, refused_word, refused_at, refused_by}
 use Rattle.heap_machines.specs.Shown.{no_machine}
 use Rattle.step_core.specs.Actor.{Machine, mutating, helping, controlling, Actor, entry_of, entries_of, command_by}
 use Rattle.step_core.specs.Machines.{takes_of, plan_of, machine_after, told_with, told_word, told_storing, command_at, took_of, kind, is_mutating, is_resting, HasNumber, IsIdle}
-use Rattle.step_core.specs.Settled.{settled, settled_by, stored_image, image_in, image_of, control_number}
+use Rattle.step_core.specs.Settled.{settled, settled_by, stored_image, image_read, image_of, control_number}
 use Rattle.step_core.specs.Standing.{standing_at, control_standing}
 use Rattle.step_core.specs.Pausing.{IsInPause}
 use Rattle.step_core.specs.Begins.{Run, ending, history_in}
 use Rattle.step_core.specs.History.{told, told_by, told_of_machine, history}
 use Rattle.step_core.specs.Sound.{IsMutator, SomeMutator, IsSound, AreCalls}
-use Rattle.step_core.proofs.Theorem.{run_sound, run_pauses}
-use Rattle.step_core.proofs.Entries.{own_more}
+use Rattle.step_core.proofs.Theorem.EveryList.{run_sound, run_pauses}
+use Rattle.step_core.proofs.History.Entries.{own_more}
 use Rattle.shen_core.specs.Runs.{event, WordsShow, IsShownBySome}
 use Rattle.shen_core.proofs.Events.{shown_actor}
 use Rattle.shen_core.specs.Noting.{IsEnding}
@@ -221,14 +221,14 @@ module _ (c : Config) (run : Run c) where
   commands_kept number a m here is busy = go_keeps c run.start run.events (begins_keeps c run) number a here m is busy
 
   -- while an image counts the control stores it
-  storing_pauses : (a : Actor) (image : List ℕ) → slice_get s.machines (control_number c) ≡ Some a → image_in a.machine ≡ Some image → IsInPause c s
+  storing_pauses : (a : Actor) (image : List ℕ) → slice_get s.machines (control_number c) ≡ Some a → image_read a.machine ≡ Some image → IsInPause c s
   storing_pauses a image here holds = by_machine a.machine refl holds
     where
       by_spot : (k : Controlling) → a.machine ≡ controlling k → (spot : ControlSpot) → k.spot ≡ spot → stored_image spot k.image ≡ Some image → IsInPause c s
       by_spot k is (StoreWord index) at holds = record { actor = a; control = k; here = here; is = is; pausing = ap (λ x. is_pausing (control_standing x)) at }
       by_spot k is _ at holds = absurd cc
 
-      by_machine : (machine : Machine) → a.machine ≡ machine → image_in machine ≡ Some image → IsInPause c s
+      by_machine : (machine : Machine) → a.machine ≡ machine → image_read machine ≡ Some image → IsInPause c s
       by_machine (controlling k) is holds = by_spot k is k.spot refl holds
       by_machine (mutating m) is holds = absurd cc
       by_machine (helping h) is holds = absurd cc
@@ -237,7 +237,7 @@ module _ (c : Config) (run : Run c) where
   told_counts : (number : ℕ) (a : Actor) (m : Mutating) → IsMutator s number a m → told_of (settled c s) m ≡ told_of (view c s.words) m
   told_counts number a m here = by_actor (slice_get s.machines (control_number c)) refl
     where
-      by_image : (k : Actor) → slice_get s.machines (control_number c) ≡ Some k → (o : Option (List ℕ)) → image_in k.machine ≡ o → told_of (settled_by c s.words o) m ≡ told_of (view c s.words) m
+      by_image : (k : Actor) → slice_get s.machines (control_number c) ≡ Some k → (o : Option (List ℕ)) → image_read k.machine ≡ o → told_of (settled_by c s.words o) m ≡ told_of (view c s.words) m
       by_image k there None holds = refl
       by_image k there (Some image) holds =
           let empty = run_pauses pause_image heap_pauses c run.start run.graph run.begins run.events (storing_pauses k image there holds) in
@@ -245,7 +245,7 @@ module _ (c : Config) (run : Run c) where
 
       by_actor : (o : Option Actor) → slice_get s.machines (control_number c) ≡ o → told_of (settled_by c s.words (image_of o)) m ≡ told_of (view c s.words) m
       by_actor None there = refl
-      by_actor (Some k) there = by_image k there (image_in k.machine) refl
+      by_actor (Some k) there = by_image k there (image_read k.machine) refl
 
   -- the event of a mutator settles what memory sees
   pub told_mutating : (number : ℕ) (order : Order) (a : Actor) (m : Mutating) → slice_get s.machines number ≡ Some a → a.machine ≡ mutating m → takes_of (mutating m) order ≡ true

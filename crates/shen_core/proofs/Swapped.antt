@@ -18,7 +18,7 @@ use Rattle.shen_core.specs.declared.plain.Plain.{Plain}
 use Rattle.shen_core.specs.declared.run.Ran.{Ran}
 use Rattle.shen_core.specs.State.{config_of, words_of, machines_of, orders_of, machine_at, notes_of, Shows}
 use Rattle.shen_core.specs.Progress.{Jobs, Tells, CanRun}
-use Rattle.shen_core.specs.Ending.{HasRun, EndsRun}
+use Rattle.shen_core.specs.WholeRun.{HasRun, EndsRun}
 use Rattle.shen_core.specs.Noting.{noted, IsEnding, EndsNoted, HasRunNoted, IsHistory, NotesSchedule, commands_in}
 use Rattle.shen_core.proofs.Counting.{settled_few, noted_all}
 

@@ -17,7 +17,7 @@ use Rattle.shen_graph.specs.Work as work
 use Rattle.shen_graph.specs.Valid.{IsValid}
 use Rattle.shen_graph.specs.declared.order.Order.{Order}
 use Rattle.heap_machines.proofs.Turns.{order_alike, rest_is_mutating, begins_at_rest, order_of_script}
-use Rattle.step_core.proofs.Roles.{role_of, fit_is_prop}
+use Rattle.step_core.proofs.Machines.Roles.{role_of, fit_is_prop}
 use Rattle.heap_machines.proofs.Names.{command_fits}
 use Rattle.step_core.specs.Actor.{Machine, Actor}
 use Rattle.heap_machines.specs.Shown.{no_machine}
@@ -27,7 +27,7 @@ use Rattle.heap_machines.specs.Turn.{order_for}
 use Rattle.step_core.specs.Begins.{ending}
 use Rattle.step_core.specs.Schedule.{Scripts, nth_script, turn, turn_of, is_at_place, is_actor_at}
 use Rattle.heap_words.specs.declared.place.Place.{Place}
-use Rattle.step_core.proofs.Theorem.{run_sound, found_fit}
+use Rattle.step_core.proofs.Theorem.EveryList.{run_sound, found_fit}
 use Rattle.shen_core.specs.declared.plain.Plain.{Plain}
 use Rattle.shen_core.specs.State.{config_of, words_of, machines_of, machine_at, Shows}
 use Rattle.shen_core.specs.Runs.{IsShownBySome, event}

@@ -8,7 +8,7 @@ use Rattle.steps_base.specs.Steps.{Stage}
 use Rattle.shen_graph.specs.declared.command.Command.TheVariants.{Gc}
 use Rattle.shen_graph.specs.Graph.{Graph}
 use Rattle.mutator.specs.Rows.{mutator_after}
-use Rattle.control_steps.specs.declared.spot.ControlSpot.TheVariants.{LookLeft}
+use Rattle.control_rows.specs.declared.spot.ControlSpot.TheVariants.{LookLeft}
 use Rattle.heap_world.specs.Asking.{nothing}
 use Rattle.heap_world.specs.Represents.{Represents}
 use Rattle.step_core.specs.Actor.{Machine, mutating, fresh_helper, controlling, Actor}
@@ -37,7 +37,7 @@ stage_from c words counts = record {
 
 -- The words stand for the graph, in which the threads have made so many objects; nobody waits, no pause is wanted, no machine
 -- is inside, and no mutator has ended.
-pub record CanBegin (c : Config) (memory : Word → ℕ) (counts : List ℕ) (g : Graph) : Type 0 where
+pub record CanBeginFrom (c : Config) (memory : Word → ℕ) (counts : List ℕ) (g : Graph) : Type 0 where
   pub stands : Represents c memory g (λ t. nothing)
   pub outside : IsCalmOutside c memory
   pub counts_are : (t : ℕ) → t < c.mutators → g.count (t + 1) ≡ slice_index counts t

@@ -2,6 +2,6 @@ pub mod Runs
 pub mod State
 pub mod Progress
 pub mod Calls
-pub mod Ending
+pub mod WholeRun
 pub mod FromImage
 pub mod Noting

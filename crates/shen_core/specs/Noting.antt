@@ -19,7 +19,7 @@ use Rattle.shen_core.specs.declared.run.Ran.{Ran}
 use Rattle.shen_core.specs.Runs.{event}
 use Rattle.shen_core.specs.State.{config_of, notes_of, order_at, Shows}
 use Rattle.shen_core.specs.Progress.{Jobs, Tells, WentOn, agenda}
-use Rattle.shen_core.specs.Ending.{HasRun}
+use Rattle.shen_core.specs.WholeRun.{HasRun}
 
 -- a history with one entry more, if there is memory for it
 abbrev pub with_entry : Noting → Entry → Noting

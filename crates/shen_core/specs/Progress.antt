@@ -12,7 +12,7 @@ use Rattle.shen_graph.specs.declared.order.Order.{Order}
 use Rattle.shen_graph.specs.declared.order.Order.TheVariants.{Nothing}
 use Rattle.step_core.specs.Actor.{Actor}
 use Rattle.heap_machines.specs.Pause.{pause_image}
-use Rattle.step_core.specs.Settled.{image_in, control_number}
+use Rattle.step_core.specs.Settled.{image_read, control_number}
 use Rattle.step_core.specs.Machines.{kind, made_of_machine, at_hand_of, is_resting}
 use Rattle.heap_machines.specs.Turn.{order_for}
 use Rattle.step_core.specs.Schedule.{Scripts, nth_script, turn, waits, Task, Agenda, scheduled}
@@ -138,4 +138,4 @@ HasNext p number has = (scripts : Scripts) (s : Stage Actor) → Shows p s → i
 -- no mutator has a call in progress, and the control is not storing a new image
 pub record AllRest (p : Plain) : Type 0 where
   pub mutators : (number : ℕ) → number < (config_of p).mutators → is_resting (machine_at p number) ≡ true
-  pub control : image_in (machine_at p (control_number (config_of p))) ≡ None
+  pub control : image_read (machine_at p (control_number (config_of p))) ≡ None

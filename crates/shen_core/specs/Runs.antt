@@ -31,5 +31,5 @@ pub record IsOneEvent (c : Config) (words : List ℕ) (machines : List Machine) 
       → WordsShow new_words new_machines (go (kind pause_image c) start (events ++ event number order ∷ []))
 
 -- a machine after the step that it makes on these words
-abbrev pub next_by : Config → List ℕ → Order → Machine → Machine
-next_by c words order machine = machine_after pause_image c order (slice_index words (table_index (plan_of c order machine))) machine
+abbrev pub machine_next : Config → List ℕ → Order → Machine → Machine
+machine_next c words order machine = machine_after pause_image c order (slice_index words (table_index (plan_of c order machine))) machine

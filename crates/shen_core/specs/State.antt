@@ -49,8 +49,8 @@ abbrev pub has_turn : Plain → ℕ → Bool
 has_turn p number = takes_of (machine_at p number) (order_at p number)
 
 -- the word that the machine's next access finds
-abbrev pub found_by : Plain → ℕ → ℕ
-found_by p number = slice_index (words_of p) (table_index (plan_of p.config (order_at p number) (machine_at p number)))
+abbrev pub word_found_by : Plain → ℕ → ℕ
+word_found_by p number = slice_index (words_of p) (table_index (plan_of p.config (order_at p number) (machine_at p number)))
 
 -- one event of the machine, under its order, leads from the one to the other
 abbrev pub IsStep : Plain → Plain → ℕ → Type 0
@@ -70,4 +70,4 @@ pub record IsUnchanged (old new : Plain) : Type 0 where
 
 -- the machine after its step
 abbrev pub next_machine : Plain → ℕ → actors.Machine
-next_machine p number = runs.next_by (config_of p) (words_of p) (order_at p number) (machine_at p number)
+next_machine p number = runs.machine_next (config_of p) (words_of p) (order_at p number) (machine_at p number)

@@ -39,9 +39,9 @@ impl Plain {
     ghost use Rattle.shen_graph.specs.Graph.{Graph};
     ghost use Rattle.image_graph.specs.State as images;
     ghost use Rattle.step_core.specs.Begins.{Begins, Run, ending, graph_after};
-    ghost use Rattle.shen_core.specs.FromImage.{CanBegin, stage_from};
+    ghost use Rattle.shen_core.specs.FromImage.{CanBeginFrom, stage_from};
     ghost use Rattle.heap_graph.specs.Shows as texts;
-    ghost use Rattle.shen_core.specs.State.{config_of, words_of, machines_of, orders_of, notes_of, order_at, seats_of, Shows, machine_at, has_turn, found_by, next_machine, IsStep, IsUnchanged};
+    ghost use Rattle.shen_core.specs.State.{config_of, words_of, machines_of, orders_of, notes_of, order_at, seats_of, Shows, machine_at, has_turn, word_found_by, next_machine, IsStep, IsUnchanged};
     ghost use Rattle.heap_machines.specs.Answer.{says};
     ghost use Rattle.heap_machines.specs.Roles.{is_mutating};
     ghost use Rattle.heap_machines.specs.Turn.{order_for};
@@ -71,10 +71,10 @@ impl Plain {
     /// is inside, and no mutator has ended; runs from here are runs from that graph.
     pub fn open_from(alloc: Global, image: Image, counts: &[u32]) -> Result<Plain, NoMemory>
         requires counts { length counts.now ≡ (images.config_of image).mutators }
-        requires begins { ∥ ((g : Graph) × CanBegin (images.config_of image) (images.memory_of image) counts.now g) ∥₁ }
+        requires begins { ∥ ((g : Graph) × CanBeginFrom (images.config_of image) (images.memory_of image) counts.now g) ∥₁ }
         ensures config { IfOk result (λ plain. config_of plain ≡ images.config_of image) }
         ensures stage { IfOk result (λ plain. Shows plain (stage_from (images.config_of image) (images.words_of image) counts.now)) }
-        ensures begins { (g : Graph) → CanBegin (images.config_of image) (images.memory_of image) counts.now g → Begins (images.config_of image) (stage_from (images.config_of image) (images.words_of image) counts.now) g }
+        ensures begins { (g : Graph) → CanBeginFrom (images.config_of image) (images.memory_of image) counts.now g → Begins (images.config_of image) (stage_from (images.config_of image) (images.words_of image) counts.now) g }
         ensures orders { IfOk result (λ plain. All (λ order. order ≡ Nothing) (orders_of plain)) }
     {
         let config = image.config();
@@ -139,7 +139,7 @@ impl Plain {
         ensures idle { (result ≡ Stepped.Idle) ↔ (has_turn self.old number ≡ false) }
         ensures unchanged { has_turn self.old number ≡ false → IsUnchanged self.old self.new }
         ensures event { has_turn self.old number ≡ true → IsStep self.old self.new number }
-        ensures says { has_turn self.old number ≡ true → result ≡ says (config_of self.old) (machine_at self.old number) (found_by self.old number) }
+        ensures says { has_turn self.old number ≡ true → result ≡ says (config_of self.old) (machine_at self.old number) (word_found_by self.old number) }
         ensures machines { has_turn self.old number ≡ true → machines_of self.new ≡ slice_set (machines_of self.old) number (next_machine self.old number) }
         ensures orders { has_turn self.old number ≡ true → orders_of self.new ≡ slice_set (orders_of self.old) number Nothing }
         ensures config { config_of self.new ≡ config_of self.old }
@@ -147,7 +147,7 @@ impl Plain {
         // A call ends exactly where its mutator leaves the heap, and its reply is at hand then.
         ensures done { (result ≡ Stepped.Done) ↔ ((has_turn self.old number ≡ true) × (is_mutating (machine_at self.old number) ≡ true) × (place_in (order_at self.old number) (machine_at self.old number) ≡ Place.LV)) }
         ensures replied { result ≡ Stepped.Done → reply_in (machine_at self.new number) ≢ None }
-        ensures again { (result ≡ Stepped.Again) ↔ ((has_turn self.old number ≡ true) × WaitsIn (config_of self.old) (machine_at self.old number) (found_by self.old number)) }
+        ensures again { (result ≡ Stepped.Again) ↔ ((has_turn self.old number ≡ true) × WaitsIn (config_of self.old) (machine_at self.old number) (word_found_by self.old number)) }
         ensures notes { notes_of self.new ≡ notes_of self.old }
     {
         let machine = &mut self.machines[number];

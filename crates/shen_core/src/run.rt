@@ -21,7 +21,7 @@ pub enum Ran {
 }
 
 impl Plain {
-    ghost use Rattle.shen_core.specs.Ending.{RunsSchedule};
+    ghost use Rattle.shen_core.specs.WholeRun.{RunsSchedule};
 
     // One turn of a machine: it goes on with its call, begins the next command of its script, or ends.
     fn turn(&mut self, work: &mut Work, number: usize) -> Stepped

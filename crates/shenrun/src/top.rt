@@ -11,7 +11,7 @@ ghost use Rattle.trace_grammar.specs.Grammar.{Came, Reads};
 ghost use Rattle.trace_runs.specs.Words.{IsReplay, AskRun, AskTrace, IsChurn, AskChurn, BeginWith};
 ghost use Rattle.trace_runs.specs.Replayed.{IsReplayed, IsRun};
 ghost use Rattle.trace_runs.specs.Churned.{IsChurned};
-ghost use Rattle.trace_runs.specs.Answered.{IsAnswered, IsAnswer};
+ghost use Rattle.trace_runs.specs.Answered.{StatusFits, IsReplayStatus};
 
 use shen_base::{Sink, Source};
 use std::alloc::Global;
@@ -62,7 +62,7 @@ pub fn shenrun<R: Threads + Wait + Sync, S: Source, K: Sink, G: Gate>(
 
     // What each status says of the words, of what came and of what was written; and that the sink was called at most once for
     // each byte of the text.
-    ensures answered { IsAnswered (map string_bytes words.now)
+    ensures answered { StatusFits (map string_bytes words.now)
         (record { before = S.left source.old; after = S.left source.new; faults_before = S.faults source.old; faults_after = S.faults source.new })
         (record { before = outlet (K.written sink.old) (K.faults sink.old) (K.calls sink.old); after = outlet (K.written sink.new) (K.faults sink.new) (K.calls sink.new) }) result }
 
@@ -70,7 +70,7 @@ pub fn shenrun<R: Threads + Wait + Sync, S: Source, K: Sink, G: Gate>(
     // is refused.
     ensures complete { (bytes : List ℕ) (config : Sizes) (scripts : List (List Command)) (items : List Item) → AskTrace (map string_bytes words.now)
         → S.left source.old ≡ Some bytes → Reads bytes config scripts items
-        → (Rose (S.faults source.old) (S.faults source.new) → ⊥) → (Rose (K.faults sink.old) (K.faults sink.new) → ⊥) → IsAnswer (map string_bytes words.now) result }
+        → (Rose (S.faults source.old) (S.faults source.new) → ⊥) → (Rose (K.faults sink.old) (K.faults sink.new) → ⊥) → IsReplayStatus (map string_bytes words.now) result }
 
     // Where a churn is asked for and the sink does not fail, there is an answer, or memory is refused.
     ensures churned { AskChurn (map string_bytes words.now) → (Rose (K.faults sink.old) (K.faults sink.new) → ⊥) → (result ≡ Status.Ok) ⊎ (result ≡ Status.NoMemory) }

@@ -19,7 +19,7 @@ use Rattle.shen_core.specs.declared.plain.Plain.{Plain}
 use Rattle.shen_core.specs.State.{config_of, orders_of, Shows}
 use Rattle.shen_core.specs.Progress.{Jobs, CanRun, IsInSeats, IsRunnable}
 use Rattle.shen_core.proofs.Fresh.{can_run_first}
-use Rattle.trace_grammar.specs.Spelling.{TraceLine, IsLine, line, space, newline, word_of, numbers, numbers_of, header, IsItem, IsScheduleLine, schedule_line}
+use Rattle.trace_grammar.specs.Spelling.{TraceLine, IsLine, line, space, newline, command_word, numbers, numbers_of, header, IsItem, IsScheduleLine, schedule_line}
 use Rattle.trace_grammar.specs.Grammar.{Reads, most_bytes, scripts_of, items_of}
 use Rattle.trace_grammar.specs.Grammar as grammar
 
@@ -50,7 +50,7 @@ some : (front back : List ℕ) (k : ℕ) → 1 ≤ length (front ++ k ∷ back)
 some front back k = omega (arith, length-append front (k ∷ back))
 
 some_bytes : (l : TraceLine) → 1 ≤ length (line l)
-some_bytes l = some (decimal l.thread) (word_of l.command ++ (numbers (numbers_of l.command) ++ newline ∷ [])) space
+some_bytes l = some (decimal l.thread) (command_word l.command ++ (numbers (numbers_of l.command) ++ newline ∷ [])) space
 
 one_more : (n : ℕ) (first rest : List ℕ) → 1 ≤ length first → n ≤ length rest → suc n ≤ length (first ++ rest)
 one_more n first rest one others = omega (arith, length-append first rest)

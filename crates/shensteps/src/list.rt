@@ -2,7 +2,7 @@
 ghost use Rattle.std.specs.Prelude.{◌≡◌, ◌<◌, ◌≤◌, ℕ, List, All, None};
 ghost use Rattle.shen_core.specs.State.{config_of};
 ghost use Rattle.shen_core.specs.Progress.{CanRun, IsInSeats, AllIdle, SomeBusy, Runs};
-ghost use Rattle.shen_core.specs.Ending.{RunsSchedule};
+ghost use Rattle.shen_core.specs.WholeRun.{RunsSchedule};
 ghost use Rattle.schedule_walk.specs.Agendas.{agenda_in, IsWalkOf};
 ghost use Rattle.schedule_walk.specs.Nexts.{HasNoNext, MakesNext};
 ghost use Rattle.trace_grammar.specs.Grammar.{Reads};

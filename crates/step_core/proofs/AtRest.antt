@@ -10,24 +10,24 @@ use Rattle.shen_graph.specs.History.{Entry, after, of_thread}
 use Rattle.mutator.specs.declared.spot.Spot.{Spot}
 use Rattle.mutator.specs.declared.spot.Spot.TheVariants.{Rest, Ended, Gone}
 use Rattle.mutator.specs.Orders.{is_between_calls}
-use Rattle.control_steps.specs.declared.spot.ControlSpot.{ControlSpot}
-use Rattle.control_steps.specs.declared.spot.ControlSpot.TheVariants as control
-use Rattle.control_steps.specs.Rows.{Controlling}
+use Rattle.control_rows.specs.declared.spot.ControlSpot.{ControlSpot}
+use Rattle.control_rows.specs.declared.spot.ControlSpot.TheVariants as control
+use Rattle.control_rows.specs.Rows.{Controlling}
 use Rattle.heap_world.specs.World.{World, Shared}
 use Rattle.heap_world.specs.Asking.{Asking, nothing, IsAsked}
 use Rattle.heap_world.specs.Represents.{Represents}
 use Rattle.step_core.specs.Actor.{Machine, mutating, helping, controlling, Actor}
 use Rattle.step_core.specs.AtRest.{IsAtRest}
-use Rattle.step_core.specs.Machines.{image_in}
+use Rattle.step_core.specs.Machines.{image_read}
 use Rattle.step_core.specs.Seats.{is_working}
 use Rattle.step_core.specs.Settled.{settled, settled_by, stored_image, image_of, control_number}
 use Rattle.step_core.specs.Sound.{world_of}
-use Rattle.step_core.proofs.Asked.{asking_at}
-use Rattle.step_core.proofs.Facts.{IsResting, ControlFacts, IsControl, IsMachine}
-use Rattle.step_core.proofs.Induction.{Goes}
-use Rattle.step_core.proofs.Paused.{asking, words_stand, mutator_asks}
-use Rattle.step_core.proofs.Pauses.{open_world}
-use Rattle.step_core.proofs.Roles.{number_of, machine_there, mutator_there, control_of}
+use Rattle.step_core.proofs.Control.Asked.{asking_at}
+use Rattle.step_core.proofs.Machines.Owed.{IsResting, ControlFacts, IsControl, IsMachine}
+use Rattle.step_core.proofs.Theorem.Induction.{Goes}
+use Rattle.step_core.proofs.Control.Paused.{asking, words_stand, mutator_asks}
+use Rattle.step_core.proofs.Control.Pauses.{open_world}
+use Rattle.step_core.proofs.Machines.Roles.{number_of, machine_there, mutator_there, control_of}
 
 -- the control rests where it works on no unit
 still_at : (c : Config) (w : World) (number : ℕ) (spot : ControlSpot) → is_working spot ≡ false → ControlFacts c w number spot → IsResting w number
@@ -69,7 +69,7 @@ module _ (c : Config) (g : Graph) (s : Stage Actor) (past : List Entry) (goes : 
   -- the words of the table count
   table_counts : settled c s ≡ view c s.words
   table_counts =
-      ap (λ o. settled_by c s.words (image_of o)) the_control.1 ∙ ap (λ machine. settled_by c s.words (image_in machine)) its_role.1
+      ap (λ o. settled_by c s.words (image_of o)) the_control.1 ∙ ap (λ machine. settled_by c s.words (image_read machine)) its_role.1
       ∙ ap (settled_by c s.words) (rest.no_image (control_number c) the_control.0 its_role.0 the_control.1 its_role.1)
 
   abbrev table_world : World

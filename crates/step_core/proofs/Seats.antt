@@ -15,10 +15,10 @@ use Rattle.alloc_buffers.specs.declared.spot.TakeSpot.{TakeSpot}
 use Rattle.alloc_buffers.specs.declared.spot.TakeSpot.TheVariants.{LoadFree}
 use Rattle.load_barrier.specs.declared.spot.ResolveSpot.{ResolveSpot}
 use Rattle.load_barrier.specs.declared.spot.ResolveSpot.TheVariants as resolve
-use Rattle.copy_steps.specs.Resolving.{ResolveFacts}
+use Rattle.move_steps.specs.Resolving.Facts.{ResolveFacts}
 use Rattle.load_barrier.specs.declared.evac_spot.EvacSpot.{EvacSpot}
 use Rattle.load_barrier.specs.declared.evac_spot.EvacSpot.TheVariants as evac
-use Rattle.evac_steps.specs.Evacuating.{HasNothing, WorkFacts, CanEvacuate}
+use Rattle.move_steps.specs.Evacuation.Facts.{HasNothing, WorkFacts, CanEvacuate}
 use Rattle.mutator.specs.declared.spot.Kept.{Kept}
 use Rattle.mutator.specs.declared.spot.Spot.{Spot}
 use Rattle.mutator.specs.declared.spot.Spot.TheVariants.{Entering, OnField, Resolving, Recording, OnNumber, Showing, Making, Waiting}
@@ -38,16 +38,16 @@ use Rattle.mutator.specs.declared.resolves.Loaded.TheVariants.{ForRoot, ToCompar
 use Rattle.mutator.specs.declared.waits.WaitSpot.{WaitSpot}
 use Rattle.mutator.specs.declared.waits.WaitSpot.TheVariants as wait
 use Rattle.mutator.specs.Orders.{is_waiting}
-use Rattle.mutator.specs.Rows.{Mutating, words_of}
+use Rattle.mutator.specs.Rows.{Mutating, words_made}
 use Rattle.helper.specs.declared.spot.HelpSpot.{HelpSpot}
 use Rattle.helper.specs.declared.spot.HelpSpot.TheVariants as help
-use Rattle.control_steps.specs.declared.spot.ControlSpot.{ControlSpot}
-use Rattle.control_steps.specs.declared.spot.ControlSpot.TheVariants as control
+use Rattle.control_rows.specs.declared.spot.ControlSpot.{ControlSpot}
+use Rattle.control_rows.specs.declared.spot.ControlSpot.TheVariants as control
 use Rattle.heap_world.specs.World.{World, hand, UsableIn}
 use Rattle.step_core.specs.Actor.{Machine, mutating, helping, controlling, Actor}
 use Rattle.step_core.specs.Seats.{copies_in, IsRoomIn, help_unit, control_unit, unit_scan, unit_copies, unit_region, UnitRoom, take_looks, resolve_looks, evac_looks, unit_looks, make_looks, call_looks, IsInSeat, before_record, before_resolve, works_on, AsksNothing, MakesObject, is_clearing, IsServed}
-use Rattle.step_core.proofs.Facts.{IsResting, CanWork, HelpFacts, ControlFacts, IsMachine, IsThread}
-use Rattle.step_core.proofs.Stepped.{HasObject, FieldFacts, NumberFacts, ShowFacts, RecordFacts, LoadedFacts, MakeFacts, IsResolving, IsMaking, IsPolling, IsAnswered, WaitFacts, SpotFacts, Mine, HasTaken}
+use Rattle.step_core.proofs.Machines.Owed.{IsResting, CanWork, HelpFacts, ControlFacts, IsMachine, IsThread}
+use Rattle.step_core.proofs.Machines.Stepped.{HasObject, FieldFacts, NumberFacts, ShowFacts, RecordFacts, LoadedFacts, MakeFacts, IsResolving, IsMaking, IsPolling, IsAnswered, WaitFacts, SpotFacts, Mine, HasTaken}
 
 -- What the ghost state and the pieces have of a seat that works on a unit of evacuation.
 record OnUnit (c : Config) (w : World) (seat : ℕ) (at : EvacSpot) : Type 0 where
@@ -157,8 +157,8 @@ module _ (c : Config) (w : World) (seat : ℕ) where
   control_at control.Gone facts = at_rest Worked facts
 
 -- a mutator that is about to look for a free region
-make_lacks : (c : Config) (w : World) (seat made wanted : ℕ) (k command : Command) (fixed : Option Reply) (at : MakeSpot) → make_looks (words_of k) at ≡ Some wanted → MakeFacts c w seat made k command fixed at → HasLess c w.memory seat wanted
-make_lacks c w seat made wanted k command fixed (make.Taking take) looks facts = take_lacks c w seat wanted (words_of k) take looks facts.1
+make_lacks : (c : Config) (w : World) (seat made wanted : ℕ) (k command : Command) (fixed : Option Reply) (at : MakeSpot) → make_looks (words_made k) at ≡ Some wanted → MakeFacts c w seat made k command fixed at → HasLess c w.memory seat wanted
+make_lacks c w seat made wanted k command fixed (make.Taking take) looks facts = take_lacks c w seat wanted (words_made k) take looks facts.1
 make_lacks c w seat made wanted k command fixed _ looks facts = absurd cc
 
 resolving_lacks : (c : Config) (w : World) (seat address wanted : ℕ) (at : ResolveSpot) → resolve_looks at ≡ Some wanted → IsResolving c w seat address at → HasLess c w.memory seat wanted

@@ -8,8 +8,8 @@ use Rattle.shen_graph.specs.History.{Entry}
 use Rattle.mutator.specs.Rows.{Mutating}
 use Rattle.helper.specs.Rows as helpers
 use Rattle.helper.specs.Rows.{Helping}
-use Rattle.control_steps.specs.declared.spot.ControlSpot.TheVariants.{LookLeft}
-use Rattle.control_steps.specs.Rows.{Controlling}
+use Rattle.control_rows.specs.declared.spot.ControlSpot.TheVariants.{LookLeft}
+use Rattle.control_rows.specs.Rows.{Controlling}
 
 -- what memory keeps of a machine, by its role
 pub data Machine : Type 0 where

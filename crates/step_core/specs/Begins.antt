@@ -18,7 +18,7 @@ use Rattle.step_core.specs.Opening.{opening}
 use Rattle.step_core.specs.History.{history}
 
 -- the machine of a number is idle and has ended no call yet
-pub record IsNew (c : Config) (phase cset : ℕ) (g : Graph) (number : ℕ) (a : Actor) : Type 0 where
+pub record HasCalledNothing (c : Config) (phase cset : ℕ) (g : Graph) (number : ℕ) (a : Actor) : Type 0 where
   pub number_is : HasNumber c number a.machine
   pub idle : IsIdle phase cset g number a.machine
   pub calls : a.calls ≡ []
@@ -36,7 +36,7 @@ pub record Begins (c : Config) (s : Stage Actor) (g : Graph) : Type 0 where
   pub seats : length s.machines ≡ seat_count c.mutators c.helpers
   pub stands : Represents c (view c s.words) g (λ t. nothing)
   pub outside : IsCalmOutside c (view c s.words)
-  pub machines : (number : ℕ) (a : Actor) → slice_get s.machines number ≡ Some a → IsNew c (view c s.words Phase) (view c s.words Cset) g number a
+  pub machines : (number : ℕ) (a : Actor) → slice_get s.machines number ≡ Some a → HasCalledNothing c (view c s.words Phase) (view c s.words Cset) g number a
 
 -- a run: a stage that begins a graph, and what happens from there
 pub record Run (c : Config) : Type 0 where

@@ -12,5 +12,5 @@ abbrev pub begun_by : Actor → List Command
 begun_by a = commands_of a.calls ++ (if is_resting a.machine then [] else a.command ∷ [])
 
 -- those of each mutator, in the order of their numbers
-abbrev pub begun : Config → Stage Actor → List (List Command)
-begun c s = map begun_by (take c.mutators s.machines)
+abbrev pub scripts_begun : Config → Stage Actor → List (List Command)
+scripts_begun c s = map begun_by (take c.mutators s.machines)

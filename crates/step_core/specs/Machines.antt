@@ -1,6 +1,6 @@
 -- What machines do, by their roles: the orders that they take, their accesses, what follows, what they say, what their accesses settle,
 -- where they stand, and what they can go on from. Each function has one clause a role. Two files of definitions tell the roles apart
--- besides: `Shown.antt` of heap_machines, for the machines in memory, and `InHand.antt` of recycled, for the addresses in hand.
+-- besides: `Shown.antt` of heap_machines, for the machines in memory, and `InHand.antt` of cycle_runs, for the addresses in hand.
 use Rattle.std.specs.Prelude.{ℕ, ◌≡◌, ◌+◌, ◌<◌, ◌≤◌, ◌==◌, Bool, true, false, ◌&&◌, List, [], ◌++◌, length, Option, Some, None, slice_get, slice_index, if◌then◌else◌}
 use Rattle.heap_words.specs.declared.config.Config.{Config}
 use Rattle.heap_words.specs.declared.access.Access.{Access}
@@ -38,13 +38,13 @@ use Rattle.helper.specs.Rows as help
 use Rattle.helper.specs.Rows.{help_place, help_touch, help_next, help_says}
 use Rattle.helper.specs.Waits as helpers
 use Rattle.helper.specs.Ready as ready
-use Rattle.control_steps.specs.declared.spot.ControlSpot.{ControlSpot}
-use Rattle.control_steps.specs.declared.spot.ControlSpot.TheVariants.{LookLeft, StoreWord}
-use Rattle.control_steps.specs.Rows.{Controlling, control_place, control_access, control_next, control_says, is_gone}
-use Rattle.control_steps.specs.Waits as control
-use Rattle.control_steps.specs.Ready.{UnitGoesOn}
+use Rattle.control_rows.specs.declared.spot.ControlSpot.{ControlSpot}
+use Rattle.control_rows.specs.declared.spot.ControlSpot.TheVariants.{LookLeft, StoreWord}
+use Rattle.control_rows.specs.Rows.{Controlling, control_place, control_access, control_next, control_says, is_gone}
+use Rattle.control_rows.specs.Waits as control
+use Rattle.control_rows.specs.Ready.{UnitGoesOn}
 use Rattle.step_core.specs.Actor.{Machine, mutating, helping, controlling, Actor, entries_of, command_by}
-use Rattle.step_core.specs.Fit.{IsWhole}
+use Rattle.step_core.specs.Fit.{IsWholeImage}
 use Rattle.step_core.specs.Standing.{standing_at, help_standing, control_standing}
 
 -- whether it takes the order
@@ -108,9 +108,9 @@ stored_image (StoreWord index) image = Some image
 stored_image _ image = None
 
 -- and of a machine
-abbrev pub image_in : Machine → Option (List ℕ)
-image_in (controlling k) = stored_image k.spot k.image
-image_in _ = None
+abbrev pub image_read : Machine → Option (List ℕ)
+image_read (controlling k) = stored_image k.spot k.image
+image_read _ = None
 
 -- what a mutator does between two calls: it begins the command that follows in its script, and ends where there is none
 abbrev pub next_order : Option Command → Order
@@ -139,9 +139,9 @@ reply_in (mutating m) = reply_at m.spot
 reply_in _ = None
 
 -- the reply that its step gives, if it ends a call
-abbrev pub given_in : Machine → Option Reply
-given_in (mutating m) = given_at m.spot
-given_in _ = None
+abbrev pub reply_of_step : Machine → Option Reply
+reply_of_step (mutating m) = given_at m.spot
+reply_of_step _ = None
 
 -- whether it is a mutator
 abbrev pub is_mutating : Machine → Bool
@@ -178,7 +178,7 @@ standing_of (controlling k) = control_standing k.spot
 abbrev pub IsFitFor : Config → Order → ℕ → Machine → Type 0
 IsFitFor c order got (mutating m) = IsFit c m order got
 IsFitFor c order got (helping h) = ready.IsFit c h got
-IsFitFor c order got (controlling k) = IsWhole c k.spot k.image got × UnitGoesOn c k.spot got
+IsFitFor c order got (controlling k) = IsWholeImage c k.spot k.image got × UnitGoesOn c k.spot got
 
 -- where its step that finds this word says that it waits
 abbrev pub WaitsIn : Config → Machine → ℕ → Type 0

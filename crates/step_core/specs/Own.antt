@@ -12,8 +12,8 @@ use Rattle.mutator.specs.declared.makes.MakeSpot.TheVariants as make
 use Rattle.mutator.specs.declared.resolves.Loaded.{Loaded}
 use Rattle.mutator.specs.declared.resolves.Loaded.TheVariants.{ForRoot, ToCompare}
 use Rattle.mutator.specs.Commands.{dst_of}
-use Rattle.copy_steps.specs.Resolving.{IsRoomAt}
-use Rattle.mutator.specs.Rows.{Mutating, words_of}
+use Rattle.move_steps.specs.Resolving.Facts.{IsRoomAt}
+use Rattle.mutator.specs.Rows.{Mutating, words_made}
 use Rattle.heap_world.specs.World.{World, hand, Points}
 
 -- the word that counts as a root where a call has the value of its own root in hand
@@ -40,8 +40,8 @@ root_now w seat kept _ index = w.memory (Root seat index)
 -- room is in hand while an object is made, or copied: these words from this address on
 abbrev pub IsInMaking : Command → MakeSpot → ℕ → ℕ → Type 0
 IsInMaking k (make.Taking take) a words = ⊥
-IsInMaking k (make.StoreWord address done) a words = (a ≡ address) × (words ≡ words_of k)
-IsInMaking k (make.StoreRoot address) a words = (a ≡ address) × (words ≡ words_of k)
+IsInMaking k (make.StoreWord address done) a words = (a ≡ address) × (words ≡ words_made k)
+IsInMaking k (make.StoreRoot address) a words = (a ≡ address) × (words ≡ words_made k)
 
 abbrev pub IsInHand : Kept → Spot → ℕ → ℕ → Type 0
 IsInHand kept (Making at) a words = IsInMaking kept.command at a words

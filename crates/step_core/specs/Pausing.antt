@@ -9,9 +9,9 @@ use Rattle.mutator.specs.declared.spot.Spot.TheVariants.{Waiting}
 use Rattle.mutator.specs.declared.waits.WaitSpot.TheVariants as wait
 use Rattle.mutator.specs.Orders.{takes_at}
 use Rattle.mutator.specs.Rows.{Mutating, touch_of}
-use Rattle.control_steps.specs.declared.spot.ControlSpot.{ControlSpot}
-use Rattle.control_steps.specs.declared.spot.ControlSpot.TheVariants.{LoadWord, StoreWord}
-use Rattle.control_steps.specs.Rows.{Controlling}
+use Rattle.control_rows.specs.declared.spot.ControlSpot.{ControlSpot}
+use Rattle.control_rows.specs.declared.spot.ControlSpot.TheVariants.{LoadWord, StoreWord}
+use Rattle.control_rows.specs.Rows.{Controlling}
 use Rattle.heap_world.specs.Change.{image_words}
 use Rattle.helper.specs.Rows.{Helping, help_touch}
 use Rattle.step_core.specs.Actor.{helping, controlling, Actor}

@@ -77,12 +77,12 @@ task_of (Until number place) = until number place
 task_of (Replies number count) = replies number count
 
 -- an event, and what is to be done after it
-pub record Move : Type 0 where
+pub record ScheduledEvent : Type 0 where
   pub event : Event Order
   pub tasks : List Task
 
 -- the event with what is to be done then, where there is an event
-abbrev pub moves : Option (Event Order) → List Task → Option Move
+abbrev pub moves : Option (Event Order) → List Task → Option ScheduledEvent
 moves None tasks = None
 moves (Some e) tasks = Some (record { event = e; tasks = tasks })
 
@@ -96,7 +96,7 @@ waits_then c s None = false
 waits_then c s (Some e) = waits c s e
 
 -- the next event of a task: none where the task is done, or its machine idle
-abbrev pub move_of : Config → Scripts → Stage Actor → Task → Option Move
+abbrev pub move_of : Config → Scripts → Stage Actor → Task → Option ScheduledEvent
 move_of c scripts s (steps number zero) = None
 move_of c scripts s (steps number (suc count)) = moves (turn scripts s number) (steps number count ∷ [])
 move_of c scripts s (until number place) = if is_at_place scripts s number place then None else moves (turn scripts s number) (until number place ∷ [])
@@ -132,7 +132,7 @@ abbrev pub round_of : Option (Event Order) → Option Next
 round_of None = None
 round_of (Some e) = Some (record { event = e; agenda = record { tasks = []; from = e.number + 1 } })
 
-abbrev pub after_move : Option Move → List Task → ℕ → Option Next → Option Next
+abbrev pub after_move : Option ScheduledEvent → List Task → ℕ → Option Next → Option Next
 after_move None tasks from later = later
 after_move (Some m) tasks from later = Some (record { event = m.event; agenda = record { tasks = m.tasks ++ tasks; from = from } })
 

@@ -8,7 +8,7 @@ use Rattle.shen_graph.specs.declared.command.Command.TheVariants.{New}
 use Rattle.alloc_buffers.specs.Facts.{HasLess}
 use Rattle.alloc_buffers.specs.declared.spot.TakeSpot.{TakeSpot}
 use Rattle.alloc_buffers.specs.declared.spot.TakeSpot.TheVariants.{LoadFree}
-use Rattle.load_barrier.specs.Runs.{is_copier}
+use Rattle.load_barrier.specs.Alone.{is_copier}
 use Rattle.load_barrier.specs.declared.spot.ResolveSpot.{ResolveSpot}
 use Rattle.load_barrier.specs.declared.spot.ResolveSpot.TheVariants as resolve
 use Rattle.load_barrier.specs.declared.evac_spot.EvacSpot.{EvacSpot}
@@ -17,9 +17,9 @@ use Rattle.unit_part.specs.declared.spot.UnitSpot.{UnitSpot}
 use Rattle.unit_part.specs.declared.spot.UnitSpot.TheVariants.{Scanning, Evacuating, Updating, Ended}
 use Rattle.heap_words.specs.declared.access.Unit.TheVariants.{Worked}
 use Rattle.mark_steps.specs.Scanning.{scanning_of}
-use Rattle.copy_steps.specs.Resolving.{IsRoomAt}
-use Rattle.evac_steps.specs.Evacuating.{working_of}
-use Rattle.update_steps.specs.Updating.{pass_of}
+use Rattle.move_steps.specs.Resolving.Facts.{IsRoomAt}
+use Rattle.move_steps.specs.Evacuation.Facts.{working_of}
+use Rattle.move_steps.specs.Updating.Facts.{pass_of}
 use Rattle.mutator.specs.declared.spot.Kept.{Kept}
 use Rattle.mutator.specs.declared.spot.Spot.{Spot}
 use Rattle.mutator.specs.declared.spot.Spot.TheVariants.{OnField, Resolving, Recording, OnNumber, Showing, Making, Waiting}
@@ -31,11 +31,11 @@ use Rattle.mutator.specs.declared.resolves.Loaded.{Loaded}
 use Rattle.mutator.specs.declared.resolves.Loaded.TheVariants.{ForRoot, ToCompare}
 use Rattle.mutator.specs.declared.waits.WaitSpot.TheVariants as wait
 use Rattle.mutator.specs.Orders.{is_waiting}
-use Rattle.mutator.specs.Rows.{Mutating, words_of}
+use Rattle.mutator.specs.Rows.{Mutating, words_made}
 use Rattle.helper.specs.declared.spot.HelpSpot.{HelpSpot}
 use Rattle.helper.specs.declared.spot.HelpSpot.TheVariants as help
-use Rattle.control_steps.specs.declared.spot.ControlSpot.{ControlSpot}
-use Rattle.control_steps.specs.declared.spot.ControlSpot.TheVariants as control
+use Rattle.control_rows.specs.declared.spot.ControlSpot.{ControlSpot}
+use Rattle.control_rows.specs.declared.spot.ControlSpot.TheVariants as control
 use Rattle.heap_world.specs.World.{World, Scan, hand, name_at, UsableIn}
 use Rattle.heap_world.specs.Asking.{HasNoPromise}
 use Rattle.step_core.specs.Actor.{Machine, mutating, helping, controlling}
@@ -136,7 +136,7 @@ make_looks words (make.Taking take) = take_looks words take
 make_looks words _ = None
 
 abbrev pub call_looks : Kept → Spot → Option ℕ
-call_looks kept (Making at) = make_looks (words_of kept.command) at
+call_looks kept (Making at) = make_looks (words_made kept.command) at
 call_looks kept (Resolving address at next) = resolve_looks at
 call_looks kept _ = None
 

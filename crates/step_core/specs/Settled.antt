@@ -5,7 +5,7 @@ use Rattle.heap_words.specs.Words.{Word, view, is_image}
 use Rattle.heap_world.specs.Change.{image_view}
 use Rattle.steps_base.specs.Steps.{Stage}
 use Rattle.step_core.specs.Actor.{Actor}
-pub use Rattle.step_core.specs.Machines.{stored_image, image_in}
+pub use Rattle.step_core.specs.Machines.{stored_image, image_read}
 
 -- a table in which the words of an image count as the image has them
 abbrev pub mixed : Config → List ℕ → List ℕ → Word → ℕ
@@ -14,7 +14,7 @@ mixed c words image word = if is_image word then image_view c image word else vi
 -- the image that counts, if one does
 abbrev pub image_of : Option Actor → Option (List ℕ)
 image_of None = None
-image_of (Some a) = image_in a.machine
+image_of (Some a) = image_read a.machine
 
 abbrev pub settled_by : Config → List ℕ → Option (List ℕ) → Word → ℕ
 settled_by c words None = view c words

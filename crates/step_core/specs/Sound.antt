@@ -31,7 +31,7 @@ use Rattle.step_core.specs.Actor.{mutating, Actor, entries_of}
 use Rattle.step_core.specs.Machines.{takes_of, plan_of, HasNumber, IsFitFor}
 use Rattle.step_core.specs.Settled.{settled}
 use Rattle.step_core.specs.Own.{HasItsOwn}
-use Rattle.step_core.specs.Begun.{begun}
+use Rattle.step_core.specs.Begun.{scripts_begun}
 use Rattle.step_core.specs.Seats.{is_clearing, IsInSeat, IsServed}
 use Rattle.step_core.specs.Threads.{IsSettled}
 
@@ -137,7 +137,7 @@ pub record IsSound (c : Config) (g : Graph) (s : Stage Actor) (past : List Entry
   pub stands : StandsFor c s (after g past)
   -- the history is legal, and who was refused was crowded out by live objects and the other threads' allocations
   pub legal : EachIsLegal g past
-  pub crowded : AreCrowded c.regions c.region_words g (begun c s) past
+  pub crowded : AreCrowded c.regions c.region_words g (scripts_begun c s) past
   -- each entry is of a thread of the heap, and no thread has more roots than its 16
   pub entries : All (IsSettled c.mutators) past
   pub no_more : HasNoMore c.mutators (after g past)

@@ -16,7 +16,7 @@ ghost use Rattle.shen_graph.specs.History.{after};
 ghost use Rattle.heap_world.specs.Asking.{nothing};
 ghost use Rattle.heap_world.specs.Change.{Change, IsPause};
 ghost use Rattle.heap_world.specs.Represents.{Represents};
-ghost use Rattle.control_steps.specs.Rows.{Controlling};
+ghost use Rattle.control_rows.specs.Rows.{Controlling};
 ghost use Rattle.step_core.specs.Actor.{Actor, controlling};
 ghost use Rattle.step_core.specs.Machines.{takes_of, plan_of, kind, IsFitFor};
 ghost use Rattle.step_core.specs.Settled.{settled};

@@ -15,14 +15,14 @@ use Rattle.shen_graph.specs.Valid.{IsValid}
 use Rattle.shen_graph.specs.Work.{Progress, answered}
 use Rattle.step_core.specs.Actor.{Machine, Actor}
 use Rattle.step_core.specs.Machines.{is_resting, may_begin, made_of_machine, took_of, machine_after}
-use Rattle.heap_machines.specs.Roles.{is_mutating, given_in}
+use Rattle.heap_machines.specs.Roles.{is_mutating, reply_of_step}
 use Rattle.heap_machines.specs.Scripts.{IsOnScript}
 use Rattle.heap_machines.specs.Turn.{order_for}
 use Rattle.heap_machines.proofs.OnScript.{script_step, script_done}
 use Rattle.heap_machines.proofs.Replies.{listed, took_replies, given_after}
 use Rattle.heap_machines.proofs.Names.{HasNames, names_on, names_noted, command_fits}
 use Rattle.heap_machines.proofs.Turns.{turn_at_rest}
-use Rattle.step_core.proofs.Roles.{turn_in_call}
+use Rattle.step_core.proofs.Machines.Roles.{turn_in_call}
 use Rattle.table_heap.specs.Running.{Jobs, CanStartOn, IsAtWork, IsAtWorkOn, IsIdleForGood, HasDone}
 use Rattle.table_heap.proofs.Jobs.{progress_there, script_here, replies_here}
 
@@ -78,11 +78,11 @@ module _ (p : Progress) (a : Actor) (at : IsAtWork p a) where
     on_then = script_step pause_image c p.script a order got at.on (ap (λ n. order_for (slice_get p.script n) a.machine) (sym count) ∙ next)
 
     -- the replies of its calls
-    replies_then : map (λ e. e.reply) then_is.calls ≡ p.replies ++ listed (given_in a.machine)
-    replies_then = took_replies a ∙ ap (λ rs. rs ++ listed (given_in a.machine)) (sym at.replies)
+    replies_then : map (λ e. e.reply) then_is.calls ≡ p.replies ++ listed (reply_of_step a.machine)
+    replies_then = took_replies a ∙ ap (λ rs. rs ++ listed (reply_of_step a.machine)) (sym at.replies)
 
     -- no reply was given
-    pub goes_on : given_in a.machine ≡ None → IsAtWork p then_is
+    pub goes_on : reply_of_step a.machine ≡ None → IsAtWork p then_is
     goes_on none = record {
       on = on_then;
       replies = sym (replies_then ∙ ap (λ g. p.replies ++ listed g) none ∙ append-nil p.replies);
@@ -90,7 +90,7 @@ module _ (p : Progress) (a : Actor) (at : IsAtWork p a) where
       made = names_on pause_image c order got a.machine (length p.script) (length p.replies) at.made none;
     }
 
-    module _ (reply : Reply) (gives : given_in a.machine ≡ Some reply) where
+    module _ (reply : Reply) (gives : reply_of_step a.machine ≡ Some reply) where
       -- in its call there are more commands than replies
       pub more : length p.replies < length p.script
       more =

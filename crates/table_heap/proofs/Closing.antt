@@ -10,10 +10,10 @@ use Rattle.heap_words.specs.declared.config.Config.{Config}
 use Rattle.heap_words.specs.Ranges.{seat_count}
 use Rattle.shen_graph.specs.declared.order.Order.TheVariants.{Nothing}
 use Rattle.steps_base.specs.Steps.{IsReached}
-use Rattle.shared_steps.specs.Views.{View, machine_of, machines_of, whole, kept_of, IsWhole}
-use Rattle.shared_steps.proofs.Kept.{length-kept, kept_some}
-use Rattle.shared_steps.proofs.Numbers.{all_here}
-use Rattle.shared_steps.proofs.Shown.{machine_of-whole}
+use Rattle.shared_table.specs.Views.{View, machine_of, machines_of, whole, kept_in_view, HasAllMachines}
+use Rattle.shared_table.proofs.Kept.{length-kept, kept_some}
+use Rattle.shared_table.proofs.Numbers.{all_here}
+use Rattle.shared_table.proofs.ViewsShow.{machine_of-whole}
 use Rattle.step_core.specs.Actor.{Machine, Actor}
 use Rattle.step_core.specs.Machines.{takes_of}
 use Rattle.step_core.specs.Settled.{image_of}
@@ -41,8 +41,8 @@ read_next rows words at x within here read k below = by_number (k == at) refl
         get_or-set_other words at k x 0 other ∙ read k (grind (arith, nat_tests))
 
 -- where memory has each machine, the view has all
-pub view_is_whole : (c : Config) (view : View Actor) (items : View Machine) → kept_of machine_in view ≡ items → length items ≡ seat_count c.mutators c.helpers
-    → ((number : ℕ) → number < seat_count c.mutators c.helpers → is_some (machine_of items number) ≡ true) → IsWhole (length (heap_opening c).machines) view
+pub view_is_whole : (c : Config) (view : View Actor) (items : View Machine) → kept_in_view machine_in view ≡ items → length items ≡ seat_count c.mutators c.helpers
+    → ((number : ℕ) → number < seat_count c.mutators c.helpers → is_some (machine_of items number) ≡ true) → HasAllMachines (length (heap_opening c).machines) view
 view_is_whole c view items kept long here = record {
   all = all_here view (λ k below. sym (kept_some machine_in view k) ∙ ap (λ v. is_some (machine_of v k)) kept ∙ here k (omega (arith, below, count)));
   counts = count ∙ sym (first_count c);

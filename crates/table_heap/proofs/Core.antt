@@ -5,9 +5,9 @@ use Rattle.heap_words.specs.declared.config.Config.{Config}
 use Rattle.shen_graph.specs.declared.order.Order.{Order}
 use Rattle.shen_graph.specs.declared.order.Order.TheVariants.{Nothing}
 use Rattle.steps_base.specs.Steps.{Event, Finds}
-use Rattle.control_steps.specs.declared.spot.ControlSpot.{ControlSpot}
-use Rattle.control_steps.specs.declared.spot.ControlSpot.TheVariants.{StoreWord}
-use Rattle.control_steps.specs.Rows.{is_gone}
+use Rattle.control_rows.specs.declared.spot.ControlSpot.{ControlSpot}
+use Rattle.control_rows.specs.declared.spot.ControlSpot.TheVariants.{StoreWord}
+use Rattle.control_rows.specs.Rows.{is_gone}
 use Rattle.heap_machines.specs.declared.machine.Machine as memory
 use Rattle.heap_machines.specs.declared.machine.Machine.TheVariants as memories
 use Rattle.heap_machines.specs.Shown.{shown, has_turn}
@@ -18,9 +18,9 @@ use Rattle.heap_machines.proofs.Pauses.{heap_pauses}
 use Rattle.step_core.specs.Begins.{Run, first_graph}
 use Rattle.step_core.specs.Machines.{takes_of, plan_of, took_of, kind, IsFitFor}
 use Rattle.step_core.specs.Opening.{opening_words, opening}
-use Rattle.step_core.specs.Settled.{stored_image, image_in, image_of}
-use Rattle.step_core.proofs.FirstFacts.{opening_begins}
-use Rattle.step_core.proofs.Theorem.{found_fit}
+use Rattle.step_core.specs.Settled.{stored_image, image_read, image_of}
+use Rattle.step_core.proofs.Theorem.FirstFacts.{opening_begins}
+use Rattle.step_core.proofs.Theorem.EveryList.{found_fit}
 use Rattle.table_heap.specs.Core.{heap_kind, heap_opening}
 
 pub kind_takes : (c : Config) (a : Actor) (order : Order) → (heap_kind c).takes a order ≡ takes_of a.machine order
@@ -53,7 +53,7 @@ gone_is_calm : (spot : ControlSpot) (image : List ℕ) → (true && (if is_gone 
 gone_is_calm (StoreWord index) image gone = absurd cc
 gone_is_calm _ image gone = refl
 
-machine_is_calm : (machine : Machine) → takes_of machine Nothing ≡ false → image_in machine ≡ None
+machine_is_calm : (machine : Machine) → takes_of machine Nothing ≡ false → image_read machine ≡ None
 machine_is_calm (controlling k) idle = gone_is_calm k.spot k.image idle
 machine_is_calm _ idle = refl
 

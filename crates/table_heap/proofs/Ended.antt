@@ -9,7 +9,7 @@ use Rattle.step_core.specs.Actor.{Machine, Actor}
 use Rattle.step_core.specs.Machines.{takes_of, may_begin}
 use Rattle.step_core.specs.Schedule.{Scripts, nth_script, turn, turn_of}
 use Rattle.heap_machines.proofs.Turns.{turn_at_rest, order_of_script}
-use Rattle.step_core.proofs.Roles.{turn_in_call}
+use Rattle.step_core.proofs.Machines.Roles.{turn_in_call}
 use Rattle.table_heap.specs.Running.{IsIdleForGood}
 
 -- a machine that is idle for good makes no step without an order

@@ -12,7 +12,7 @@ use Rattle.step_core.specs.Actor.{Actor}
 use Rattle.step_core.specs.Begins.{Run, ending, graph_after}
 use Rattle.step_core.specs.Machines.{is_resting}
 use Rattle.step_core.specs.Settled.{image_of, control_number}
-use Rattle.heap_machines.proofs.Standing as standing
+use Rattle.heap_machines.proofs.RestedGraph as standing
 use Rattle.table_heap.specs.Core.{heap_kind, heap_opening}
 use Rattle.table_heap.proofs.Core.{run_of}
 

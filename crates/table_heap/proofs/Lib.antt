@@ -1,5 +1,5 @@
 pub mod Core
-pub mod Places
+pub mod MachineUnder
 pub mod Said
 pub mod Stepping
 pub mod Opened

@@ -9,11 +9,11 @@ use Rattle.std.proofs.lemmas.List.FromFn.{get_or-map-range_with_len, length-map-
 use Rattle.std.proofs.lemmas.Option.{slice_get-map, slice_get_within, get_or_from_slice_get}
 use Rattle.heap_words.specs.declared.config.Config.{Config}
 use Rattle.heap_words.specs.Ranges.{seat_count}
-use Rattle.shared_steps.specs.Views.{View, machine_of, whole, picked, left_over, dealt_to, is_dealt_to, is_dealt_below, kept_of}
-use Rattle.shared_steps.proofs.Closing.{length-whole}
-use Rattle.shared_steps.proofs.Dealing.{picked_twice, picked_all}
-use Rattle.shared_steps.proofs.Kept.{kept-whole}
-use Rattle.shared_steps.proofs.Shown.{machine_of-whole, machine_of-picked}
+use Rattle.shared_table.specs.Views.{View, machine_of, whole, machines_picked, machines_left, dealt_to, is_dealt_to, is_dealt_below, kept_in_view}
+use Rattle.shared_table.proofs.Closing.{length-whole}
+use Rattle.shared_table.proofs.Dealing.{picked_twice, picked_all}
+use Rattle.shared_table.proofs.Kept.{kept-whole}
+use Rattle.shared_table.proofs.ViewsShow.{machine_of-whole, machine_of-picked}
 use Rattle.heap_machines.specs.declared.machine.Machine.{Machine}
 use Rattle.heap_machines.specs.Shown.{shown, order_of, heap_of, no_machine}
 use Rattle.heap_machines.proofs.Openings.{first_machines, first_role}
@@ -29,7 +29,7 @@ module _ (c : Config) (machines : List Machine) (first : map shown machines ≡ 
   opened_count = length-whole machines ∙ sym (length-map machines shown) ∙ ap length first ∙ length-map-range_with_len (opening_machine c) 0 (seat_count c.mutators c.helpers)
 
   -- memory has the machines of the opening
-  pub opened_kept : kept_of machine_in (whole (heap_opening c).machines) ≡ kept_of shown (whole machines)
+  pub opened_kept : kept_in_view machine_in (whole (heap_opening c).machines) ≡ kept_in_view shown (whole machines)
   opened_kept = kept-whole machine_in (heap_opening c).machines ∙ ap whole (first_machines c ∙ sym first) ∙ sym (kept-whole shown machines)
 
   -- which are of the heap
@@ -48,7 +48,7 @@ module _ (c : Config) (machines : List Machine) (first : map shown machines ≡ 
       }
 
 -- no order is pending
-pub opened_orders : (machines : List Machine) → All (λ m. order_of m ≡ Nothing) machines → (number : ℕ) (order : Order) → machine_of (kept_of order_of (whole machines)) number ≡ Some order → order ≡ Nothing
+pub opened_orders : (machines : List Machine) → All (λ m. order_of m ≡ Nothing) machines → (number : ℕ) (order : Order) → machine_of (kept_in_view order_of (whole machines)) number ≡ Some order → order ≡ Nothing
 opened_orders machines none number order there = by_machine (slice_get machines number) refl
   where
     found : option_map order_of (slice_get machines number) ≡ Some order
@@ -62,7 +62,7 @@ opened_orders machines none number order there = by_machine (slice_get machines 
         both ∙ ap order_of (sym (get_or_from_slice_get machines number m m is)) ∙ none number m (slice_get_within machines number m is)
 
 -- some of them
-pub picked_some : {R : Type 0} (test : ℕ → Bool) (v : View R) (k : ℕ) (r : R) → machine_of (picked test v) k ≡ Some r → machine_of v k ≡ Some r
+pub picked_some : {R : Type 0} (test : ℕ → Bool) (v : View R) (k : ℕ) (r : R) → machine_of (machines_picked test v) k ≡ Some r → machine_of v k ≡ Some r
 picked_some {R} test v k r there = by_test (test k) (sym (machine_of-picked test v k) ∙ there)
   where
     by_test : (b : Bool) → (if b then machine_of v k else None) ≡ Some r → machine_of v k ≡ Some r
@@ -71,13 +71,13 @@ picked_some {R} test v k r there = by_test (test k) (sym (machine_of-picked test
 
 module _ {R : Type 0} (workers : ℕ) (view : View R) where
   -- bundles are dealt one after the other, from those that are left
-  pub left_first : left_over (is_dealt_below workers 0) view ≡ view
+  pub left_first : machines_left (is_dealt_below workers 0) view ≡ view
   left_first = picked_all (λ k. not (is_dealt_below workers 0 k)) view (λ k. grind (arith, nat_tests))
 
-  pub dealt_next : (bundle : ℕ) → dealt_to workers bundle (left_over (is_dealt_below workers bundle) view) ≡ dealt_to workers bundle view
+  pub dealt_next : (bundle : ℕ) → dealt_to workers bundle (machines_left (is_dealt_below workers bundle) view) ≡ dealt_to workers bundle view
   dealt_next bundle = picked_twice (is_dealt_to workers bundle) (λ k. not (is_dealt_below workers bundle k)) (is_dealt_to workers bundle) view (λ k. grind (arith, nat_tests))
 
-  pub left_next : (bundle : ℕ) → left_over (is_dealt_to workers bundle) (left_over (is_dealt_below workers bundle) view) ≡ left_over (is_dealt_below workers (bundle + 1)) view
+  pub left_next : (bundle : ℕ) → machines_left (is_dealt_to workers bundle) (machines_left (is_dealt_below workers bundle) view) ≡ machines_left (is_dealt_below workers (bundle + 1)) view
   left_next bundle = picked_twice (λ k. not (is_dealt_to workers bundle k)) (λ k. not (is_dealt_below workers bundle k)) (λ k. not (is_dealt_below workers (bundle + 1) k)) view (λ k. grind (arith, nat_tests))
 
 -- one element more

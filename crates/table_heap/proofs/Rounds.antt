@@ -3,7 +3,7 @@ use Rattle.std.proofs.Common.{◌≡◌, ◌<◌, ◌≤◌, ⊎_elim, ℕ, ◌+
 use Rattle.std.specs.Prelude.{is_some}
 use Rattle.std.proofs.lemmas.Bool.{false≢true, cases_eq}
 use Rattle.heap_words.specs.Ranges.{seat_count}
-use Rattle.shared_steps.specs.Views.{machine_of}
+use Rattle.shared_table.specs.Views.{machine_of}
 use Rattle.shen_graph.specs.Work.{replies_of}
 use Rattle.step_core.specs.Actor.{Actor}
 use Rattle.heap_machines.specs.declared.stepped.Stepped.{Stepped}
@@ -16,7 +16,7 @@ use Rattle.table_heap.specs.State.{view_of, machine_at, IsSameBundle, IsUnchange
 use Rattle.table_heap.specs.Running.{Jobs, CanStart, AreAtWork, IsIdleForGood, AreIdleForGood, HasDone, HaveDone, AreSameJobs}
 use Rattle.table_heap.proofs.AtWork.{starts, done}
 use Rattle.table_heap.proofs.Jobs.{script_here, replies_here}
-use Rattle.table_heap.proofs.Places.{within}
+use Rattle.table_heap.proofs.MachineUnder.{within}
 use Rattle.table_heap.proofs.Running.{in_memory, at_number, same_bundle_more, same_jobs_more}
 
 -- A bundle and its work in a round, in which it was the turn of the machines of the numbers below this one. Where nobody has made

@@ -2,9 +2,9 @@
 use Rattle.std.proofs.Common.{◌≡◌, ◌<◌, ℕ, true, length, Option, Some, None, refl, sym, ap, ◌∙◌, subst}
 use Rattle.std.specs.Prelude.{slice_get, nat_lt, is_some, IfSome, unwrap_or, if◌then◌else◌}
 use Rattle.std.proofs.lemmas.Bool.{false≢true}
-use Rattle.shared_steps.specs.Views.{View, machine_of}
-use Rattle.shared_steps.proofs.Kept.{kept_here, kept_some}
-use Rattle.shared_steps.proofs.Numbers.{same_none, same_more}
+use Rattle.shared_table.specs.Views.{View, machine_of}
+use Rattle.shared_table.proofs.Kept.{kept_here, kept_some}
+use Rattle.shared_table.proofs.Numbers.{same_none, same_more}
 use Rattle.shen_graph.specs.Valid.{IsValid}
 use Rattle.shen_graph.specs.Work.{HasScript, next_of}
 use Rattle.step_core.specs.Actor.{Actor}
@@ -16,7 +16,7 @@ use Rattle.table_heap.specs.declared.bundle.Bundle.{Bundle}
 use Rattle.table_heap.specs.Core.{machine_in}
 use Rattle.table_heap.specs.State.{view_of, machines_of, HasMachine, machine_at, IsSameBundle}
 use Rattle.table_heap.specs.Running.{Jobs, HasNoMutator, AreAtWork, next_for, AreSameJobs}
-use Rattle.table_heap.proofs.Places.{shows_here}
+use Rattle.table_heap.proofs.MachineUnder.{shows_here}
 use Rattle.table_heap.proofs.Jobs.{has_here, next_here}
 use Rattle.table_heap.proofs.AtWork.{next_fits}
 

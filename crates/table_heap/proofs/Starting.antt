@@ -3,8 +3,8 @@ use Rattle.std.proofs.Common.{◌≡◌, ◌<◌, ℕ, Bool, true, false, List, 
 use Rattle.std.specs.Prelude.{nat_lt, if◌then◌else◌}
 use Rattle.std.proofs.lemmas.Bool.{ltb-true}
 use Rattle.heap_words.specs.declared.config.Config.{Config}
-use Rattle.shared_steps.specs.Views.{View, machine_of, whole, dealt_to, is_dealt_to}
-use Rattle.shared_steps.proofs.Shown.{machine_of-whole, machine_of-picked}
+use Rattle.shared_table.specs.Views.{View, machine_of, whole, dealt_to, is_dealt_to}
+use Rattle.shared_table.proofs.ViewsShow.{machine_of-whole, machine_of-picked}
 use Rattle.shen_graph.specs.declared.command.Command.{Command}
 use Rattle.shen_graph.specs.Valid.{IsValid}
 use Rattle.shen_graph.specs.Work.{progress_of, begun}

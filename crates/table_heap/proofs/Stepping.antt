@@ -6,11 +6,11 @@ use Rattle.atomic_table.specs.Table.{Me}
 use Rattle.heap_words.specs.declared.access.Access.{Access}
 use Rattle.heap_words.specs.declared.config.Config.{Config}
 use Rattle.shen_graph.specs.declared.order.Order.{Order}
-use Rattle.shared_steps.specs.Rule.{Took}
-use Rattle.shared_steps.specs.Views.{View, machine_of, kept_of, picked, merged, one_of, SameNumbers}
-use Rattle.shared_steps.proofs.Kept.{kept_can, kept_finds, kept_step, kept-set}
-use Rattle.shared_steps.proofs.Numbers.{same_step}
-use Rattle.shared_steps.proofs.Shown.{machine_of-set, machine_of-picked, machine_of-merged}
+use Rattle.shared_table.specs.Rule.{Took}
+use Rattle.shared_table.specs.Views.{View, machine_of, kept_in_view, machines_picked, merged, whichever_is_there, SameNumbers}
+use Rattle.shared_table.proofs.Kept.{kept_can, kept_finds, kept_step, kept-set}
+use Rattle.shared_table.proofs.Numbers.{same_step}
+use Rattle.shared_table.proofs.ViewsShow.{machine_of-set, machine_of-picked, machine_of-merged}
 use Rattle.heap_machines.specs.declared.machine.Machine.{Machine}
 use Rattle.heap_machines.specs.Shown.{shown, order_of, heap_of, has_turn}
 use Rattle.heap_machines.proofs.Turns.{role_stays}
@@ -19,13 +19,13 @@ use Rattle.heap_machines.specs.Roles.{is_mutating}
 use Rattle.heap_machines.specs.Pause.{pause_image}
 use Rattle.step_core.specs.Machines.{takes_of, plan_of, machine_after, IsFitFor}
 use Rattle.table_heap.specs.Core.{heap_kind, heap_opening, machine_in}
-use Rattle.table_heap.specs.Known.{IsOfHeap, AreOfHeap}
+use Rattle.table_heap.specs.Known.{IsMachineOfHeap, AreOfHeap}
 use Rattle.table_heap.proofs.Core.{kind_takes, kind_plan, kind_took, found_fits}
-use Rattle.table_heap.proofs.Places.{shows_here}
+use Rattle.table_heap.proofs.MachineUnder.{shows_here}
 
-module _ {S : Type 0} (c : Config) (items : View Machine) (before : Me S (View Actor)) (kept : kept_of machine_in before.0 ≡ kept_of shown items) (number : ℕ) (m : Machine) (here : machine_of items number ≡ Some m) where
+module _ {S : Type 0} (c : Config) (items : View Machine) (before : Me S (View Actor)) (kept : kept_in_view machine_in before.0 ≡ kept_in_view shown items) (number : ℕ) (m : Machine) (here : machine_of items number ≡ Some m) where
   -- memory has the machine of the view
-  seen_here : machine_of (kept_of machine_in before.0) number ≡ Some (shown m)
+  seen_here : machine_of (kept_in_view machine_in before.0) number ≡ Some (shown m)
   seen_here = ap (λ v. machine_of v number) kept ∙ shows_here shown items number m here
 
   -- it can make its access
@@ -52,7 +52,7 @@ module _ {S : Type 0} (c : Config) (items : View Machine) (before : Me S (View A
 
     module _ (n : Machine) (shown_is : shown n ≡ machine_after pause_image (heap_of m) (order_of m) got (shown m)) (heap : heap_of m ≡ c) where
       -- memory keeps what the view has
-      pub kept_after : kept_of machine_in after.0 ≡ kept_of shown (slice_set items number (Some n))
+      pub kept_after : kept_in_view machine_in after.0 ≡ kept_in_view shown (slice_set items number (Some n))
       kept_after =
           kept_step (heap_kind c) (heap_opening c) machine_in number (order_of m) before after got (shown m) (shown n) took seen_here
           (λ a is. ap machine_in (kind_took c a (order_of m) got) ∙ ap (machine_after pause_image c (order_of m) got) is ∙ ap (λ k. machine_after pause_image k (order_of m) got (shown m)) (sym heap) ∙ sym shown_is)
@@ -81,19 +81,19 @@ can_as k c view number o p access same order can_it =
 pub heap_put : (c : Config) (items : View Machine) (number : ℕ) (m n : Machine) → machine_of items number ≡ Some m → heap_of n ≡ heap_of m → is_mutating (shown n) ≡ is_mutating (shown m) → AreOfHeap c items → AreOfHeap c (slice_set items number (Some n))
 heap_put c items number m n here heap role are k x there = by_number (k == number) refl (sym (machine_of-set items number m (Some n) here k) ∙ there)
   where
-    by_number : (b : Bool) → (k == number) ≡ b → (if k == number then Some n else machine_of items k) ≡ Some x → IsOfHeap c k x
+    by_number : (b : Bool) → (k == number) ≡ b → (if k == number then Some n else machine_of items k) ≡ Some x → IsMachineOfHeap c k x
     by_number true is found =
         let same : k ≡ number = grind (arith, nat_tests) in
         let new : n ≡ x = cc (rw is at found) in
         let old = are number m here in
-        subst (λ y. IsOfHeap c k y) new (subst (λ j. IsOfHeap c j n) (sym same) (record { heap = heap ∙ old.heap; role = role ∙ old.role }))
+        subst (λ y. IsMachineOfHeap c k y) new (subst (λ j. IsMachineOfHeap c j n) (sym same) (record { heap = heap ∙ old.heap; role = role ∙ old.role }))
     by_number false is found = are k x (rw is at found)
 
 -- so are some of its machines
-pub heap_picked : (c : Config) (test : ℕ → Bool) (v : View Machine) → AreOfHeap c v → AreOfHeap c (picked test v)
+pub heap_picked : (c : Config) (test : ℕ → Bool) (v : View Machine) → AreOfHeap c v → AreOfHeap c (machines_picked test v)
 heap_picked c test v are k x there = by_test (test k) (sym (machine_of-picked test v k) ∙ there)
   where
-    by_test : (b : Bool) → (if b then machine_of v k else None) ≡ Some x → IsOfHeap c k x
+    by_test : (b : Bool) → (if b then machine_of v k else None) ≡ Some x → IsMachineOfHeap c k x
     by_test true found = are k x found
     by_test false found = absurd cc
 
@@ -102,10 +102,10 @@ pub each_merged : {R : Type 0} (P : ℕ → R → Type 0) (v w : View R) → ((k
     → (k : ℕ) (r : R) → machine_of (merged v w) k ≡ Some r → P k r
 each_merged {R} P v w first second k r there = by_first (machine_of v k) refl (sym (machine_of-merged v w k) ∙ there)
   where
-    by_first : (o : Option R) → machine_of v k ≡ o → one_of (machine_of v k) (machine_of w k) ≡ Some r → P k r
-    by_first None is found = second k r (sym (ap (λ y. one_of y (machine_of w k)) is) ∙ found)
-    by_first (Some m) is found = first k r (is ∙ sym (ap (λ y. one_of y (machine_of w k)) is) ∙ found)
+    by_first : (o : Option R) → machine_of v k ≡ o → whichever_is_there (machine_of v k) (machine_of w k) ≡ Some r → P k r
+    by_first None is found = second k r (sym (ap (λ y. whichever_is_there y (machine_of w k)) is) ∙ found)
+    by_first (Some m) is found = first k r (is ∙ sym (ap (λ y. whichever_is_there y (machine_of w k)) is) ∙ found)
 
 -- the machines of two bundles of a heap are of it
 pub heap_merged : (c : Config) (v w : View Machine) → AreOfHeap c v → AreOfHeap c w → AreOfHeap c (merged v w)
-heap_merged c v w first second = each_merged (IsOfHeap c) v w first second
+heap_merged c v w first second = each_merged (IsMachineOfHeap c) v w first second

@@ -5,8 +5,8 @@ use Rattle.std.proofs.lemmas.Bool.{false≢true}
 use Rattle.std.proofs.lemmas.Bool.Decides.{nat_tests}
 use Rattle.std.proofs.lemmas.List.{set-set}
 use Rattle.heap_machines.specs.Pause.{pause_image}
-use Rattle.shared_steps.specs.Views.{View, machine_of}
-use Rattle.shared_steps.proofs.Shown.{machine_of-set}
+use Rattle.shared_table.specs.Views.{View, machine_of}
+use Rattle.shared_table.proofs.ViewsShow.{machine_of-set}
 use Rattle.shen_graph.specs.declared.command.Reply.{Reply}
 use Rattle.shen_graph.specs.declared.order.Order.{Order}
 use Rattle.shen_graph.specs.declared.order.Order.TheVariants.{Nothing}
@@ -16,18 +16,18 @@ use Rattle.step_core.specs.Machines.{answer_of, took_of, reply_in}
 use Rattle.heap_machines.specs.Answer.{stepped_by, says}
 use Rattle.heap_machines.specs.declared.stepped.Stepped.{Stepped}
 use Rattle.heap_machines.specs.declared.stepped.Stepped.TheVariants as stepped
-use Rattle.heap_machines.specs.Roles.{is_mutating, given_in}
+use Rattle.heap_machines.specs.Roles.{is_mutating, reply_of_step}
 use Rattle.heap_machines.specs.Turn.{order_for}
 use Rattle.heap_machines.proofs.Replies.{done_gives, other_gives, given_after}
 use Rattle.heap_machines.proofs.Turns.{role_stays}
 use Rattle.table_heap.specs.declared.bundle.Bundle.{Bundle}
-use Rattle.table_heap.specs.State.{view_of, orders_of, machine_at, order_at, IsUnmoved, IsStep}
+use Rattle.table_heap.specs.State.{view_of, orders_of, machine_at, order_at, IsUnmoved, IsBundleStep}
 use Rattle.table_heap.specs.Running.{Jobs, HasNoOrder, EachMutator, IsAtWorkOn, AreAtWork, next_for, AreSameJobs}
 use Rattle.table_heap.proofs.Core.{kind_took}
 use Rattle.shen_graph.proofs.Noted.{progress_other, script_kept}
 use Rattle.table_heap.proofs.Jobs.{has_here, script_here, replies_here, next_here, noted_here, numbers_kept}
 use Rattle.table_heap.proofs.AtWork.{goes_on, noted, more}
-use Rattle.table_heap.proofs.Places.{put_there}
+use Rattle.table_heap.proofs.MachineUnder.{put_there}
 use Rattle.table_heap.proofs.Running.{at_number, role_at}
 use Rattle.table_heap.proofs.Said.{done_by}
 
@@ -60,7 +60,7 @@ pub record IsTurn (old mid new : Bundle) (jobs : Jobs) (number : ℕ) (said : St
   pub unmoved : IsUnmoved old mid
   pub turn : order_for (next_for old.config jobs number) (machine_at old number) ≡ Some (order_at mid number)
   pub orders : orders_of mid ≡ slice_set (orders_of old) number (Some (order_at mid number))
-  pub step : IsStep mid new number said
+  pub step : IsBundleStep mid new number said
 
 module _ (old mid new : Bundle) (jobs : Jobs) (number : ℕ) (said : Stepped) (made : IsTurn old mid new jobs number said) (before : AreAtWork old jobs) where
   -- the machine, before and after
@@ -109,7 +109,7 @@ module _ (old mid new : Bundle) (jobs : Jobs) (number : ℕ) (said : Stepped) (m
   said_is = made.step.said_is ∙ ap (λ machine. says mid.config machine made.step.got) (at_number mid number was made.step.took.here)
 
   -- a step that is not done gives no reply
-  none_given : (said ≡ stepped.Done → ⊥) → given_in was.machine ≡ None
+  none_given : (said ≡ stepped.Done → ⊥) → reply_of_step was.machine ≡ None
   none_given other = other_gives mid.config was.machine made.step.got (λ is. other (said_is ∙ ap stepped_by is))
 
   -- the work is as it was
@@ -124,11 +124,11 @@ module _ (old mid new : Bundle) (jobs : Jobs) (number : ℕ) (said : Stepped) (m
   }
 
   -- a step that is done gives one
-  some_given : said ≡ stepped.Done → (r : Reply) × (given_in was.machine ≡ Some r)
+  some_given : said ≡ stepped.Done → (r : Reply) × (reply_of_step was.machine ≡ Some r)
   some_given done = done_gives mid.config was.machine made.step.got (done_by (answer_of mid.config was.machine made.step.got) (sym said_is ∙ done))
 
   -- a machine that gives a reply is a mutator
-  role_given : (r : Reply) → given_in was.machine ≡ Some r → is_mutating was.machine ≡ true
+  role_given : (r : Reply) → reply_of_step was.machine ≡ Some r → is_mutating was.machine ≡ true
   role_given r gives = (given_after pause_image mid.config order made.step.got was.machine r gives).role
 
   -- it has a script, and the reply can be noted
@@ -144,14 +144,14 @@ module _ (old mid new : Bundle) (jobs : Jobs) (number : ℕ) (said : Stepped) (m
       )
 
   -- the reply that is at hand is the one that the step gave
-  pub reply_given : (r : Reply) → said ≡ stepped.Done → reply_in (machine_at new number) ≡ Some r → given_in was.machine ≡ Some r
+  pub reply_given : (r : Reply) → said ≡ stepped.Done → reply_in (machine_at new number) ≡ Some r → reply_of_step was.machine ≡ Some r
   reply_given r done at_hand =
       let given = some_given done in
       let replied = (given_after pause_image mid.config order made.step.got was.machine given.0 given.1).replied in
       given.1 ∙ sym replied ∙ ap reply_in (sym (at_number new number then_is there)) ∙ at_hand
 
   module _ (r : Reply) (done : said ≡ stepped.Done) (at_hand : reply_in (machine_at new number) ≡ Some r) where
-    abbrev gives : given_in was.machine ≡ Some r
+    abbrev gives : reply_of_step was.machine ≡ Some r
     gives = reply_given r done at_hand
 
     abbrev role : is_mutating was.machine ≡ true

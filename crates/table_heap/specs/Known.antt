@@ -1,15 +1,15 @@
 -- What memory knows of the machines of a bundle, each under its number.
 use Rattle.std.specs.Prelude.{ℕ, ◌≡◌, nat_lt, Some}
 use Rattle.heap_words.specs.declared.config.Config.{Config}
-use Rattle.shared_steps.specs.Views.{View, machine_of}
+use Rattle.shared_table.specs.Views.{View, machine_of}
 use Rattle.heap_machines.specs.declared.machine.Machine.{Machine}
 use Rattle.heap_machines.specs.Shown.{shown, heap_of}
 use Rattle.heap_machines.specs.Roles.{is_mutating}
 
 -- they are machines of the heap, and those of the first numbers are its mutators
-pub record IsOfHeap (c : Config) (number : ℕ) (m : Machine) : Type 0 where
+pub record IsMachineOfHeap (c : Config) (number : ℕ) (m : Machine) : Type 0 where
   pub heap : heap_of m ≡ c
   pub role : is_mutating (shown m) ≡ nat_lt number c.mutators
 
 abbrev pub AreOfHeap : Config → View Machine → Type 0
-AreOfHeap c machines = (number : ℕ) (m : Machine) → machine_of machines number ≡ Some m → IsOfHeap c number m
+AreOfHeap c machines = (number : ℕ) (m : Machine) → machine_of machines number ≡ Some m → IsMachineOfHeap c number m

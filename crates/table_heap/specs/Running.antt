@@ -1,7 +1,7 @@
 -- What is known of the mutators of a bundle, and of the work for them, before a run of their scripts, during it and after it.
 use Rattle.std.specs.Prelude.{ℕ, ◌≡◌, ◌+◌, ◌<◌, true, false, List, [], length, All, Option, Some, None, is_some, nat_lt, if◌then◌else◌}
 use Rattle.heap_words.specs.declared.config.Config.{Config}
-use Rattle.shared_steps.specs.Views.{View, machine_of}
+use Rattle.shared_table.specs.Views.{View, machine_of}
 use Rattle.shen_graph.specs.declared.command.Command.{Command}
 use Rattle.shen_graph.specs.declared.command.Reply.{Reply}
 use Rattle.shen_graph.specs.declared.order.Order.{Order}

@@ -2,8 +2,8 @@
 use Rattle.std.specs.Prelude.{ℕ, ◌≡◌, Bool, true, Some, unwrap_or, slice_set}
 use Rattle.std.specs.Option.{is_some}
 use Rattle.heap_words.specs.declared.config.Config.{Config}
-use Rattle.shared_steps.specs.Views.{View, machine_of, kept_of, SameNumbers}
-use Rattle.shared_steps.specs.Rule.{Took}
+use Rattle.shared_table.specs.Views.{View, machine_of, kept_in_view, SameNumbers}
+use Rattle.shared_table.specs.Rule.{Took}
 use Rattle.shen_graph.specs.declared.order.Order.{Order}
 use Rattle.shen_graph.specs.declared.order.Order.TheVariants.{Nothing}
 use Rattle.heap_machines.specs.Answer.{says}
@@ -28,14 +28,14 @@ view_of b = b.seat.me.0
 
 -- the same without what memory does not keep
 abbrev pub machines_of : Bundle → View Machine
-machines_of b = kept_of shown b.machines.items
+machines_of b = kept_in_view shown b.machines.items
 
 -- the orders that they were given
 abbrev pub orders_of : Bundle → View Order
-orders_of b = kept_of order_of b.machines.items
+orders_of b = kept_in_view order_of b.machines.items
 
 -- the bundle is one of this heap
-pub record IsOf (b : Bundle) (h : Heap) : Type 0 where
+pub record IsBundleOf (b : Bundle) (h : Heap) : Type 0 where
   pub table : b.seat.table_id ≡ h.table.shared.table_id
   pub config : b.config ≡ h.config
 
@@ -72,7 +72,7 @@ pub record IsUnchanged (old new : Bundle) : Type 0 where
 
 -- The step of a machine was one event of the heap's machines: its access told it this word, and so it said this. No other
 -- machine of the bundle has changed.
-pub record IsStep (old new : Bundle) (number : ℕ) (said : Stepped) : Type 0 where
+pub record IsBundleStep (old new : Bundle) (number : ℕ) (said : Stepped) : Type 0 where
   pub got : ℕ
   pub took : Took (heap_kind old.config) (heap_opening old.config) number (order_at old number) old.seat.me got new.seat.me
   pub said_is : said ≡ says old.config (machine_at old number) got
@@ -80,6 +80,6 @@ pub record IsStep (old new : Bundle) (number : ℕ) (said : Stepped) : Type 0 wh
 
 -- A bundle of the heap before the first event: its machines are these, and none has an order.
 pub record IsFresh (h : Heap) (b : Bundle) (view : View Actor) : Type 0 where
-  pub of : IsOf b h
+  pub of : IsBundleOf b h
   pub machines : view_of b ≡ view
   pub orders : (number : ℕ) (order : Order) → machine_of (orders_of b) number ≡ Some order → order ≡ Nothing

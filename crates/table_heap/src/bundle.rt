@@ -1,7 +1,7 @@
 ghost use Rattle.std.specs.Prelude.{◌≡◌, [], length};
 ghost use Rattle.heap_words.specs.Ranges.{seat_count};
 ghost use Rattle.heap_machines.specs.Shown.{shown};
-ghost use Rattle.shared_steps.specs.Views.{kept_of};
+ghost use Rattle.shared_table.specs.Views.{kept_in_view};
 ghost use Rattle.table_heap.specs.Core.{machine_in};
 ghost use Rattle.table_heap.specs.Known.{AreOfHeap};
 
@@ -9,7 +9,7 @@ use crate::heap::Heap;
 use crate::machines::{Acting, OfHeaps};
 use heap_machines::{Machine, Stepped};
 use heap_words::{Config, NoMemory};
-use shared_steps::{ViewSeat, deal_bundle, deal_machines, join_bundle, join_machines, make_step};
+use shared_table::{ViewSeat, deal_bundle, deal_machines, join_bundle, join_machines, make_step};
 use shen_graph::{Command, Order, Reply};
 use std::alloc::Global;
 use std::marker::Brand;
@@ -22,7 +22,7 @@ pub struct Bundle {
     pub(crate) seat: ViewSeat<Acting>,
     pub(crate) machines: Vec<Option<Machine>>,
     ghost seats: { length machines.items ≡ seat_count config.mutators config.helpers },
-    ghost kept: { kept_of machine_in seat.me.0 ≡ kept_of shown machines.items },
+    ghost kept: { kept_in_view machine_in seat.me.0 ≡ kept_in_view shown machines.items },
     ghost slots: { seat.me.1 ≡ [] },
     ghost of_heap: { AreOfHeap config machines.items },
 }
@@ -31,12 +31,12 @@ impl Bundle {
     ghost use Rattle.std.specs.Prelude.{◌<◌, ◌↔◌, ◌≢◌, true, false, Some, None, IfOk, slice_set};
     ghost use Rattle.std.specs.Option.{is_some};
     ghost use Rattle.heap_words.specs.declared.place.Place.TheVariants as places;
-    ghost use Rattle.shared_steps.specs.Views.{machine_of, merged, dealt_to, left_over, is_dealt_to};
+    ghost use Rattle.shared_table.specs.Views.{machine_of, merged, dealt_to, machines_left, is_dealt_to};
     ghost use Rattle.shen_graph.specs.Valid.{IsValid};
     ghost use Rattle.heap_machines.specs.Roles.{is_mutating};
     ghost use Rattle.step_core.specs.Machines.{takes_of, reply_in, place_in, may_begin, made_of_machine};
     ghost use Rattle.heap_machines.specs.Roles.{is_mutating};
-    ghost use Rattle.table_heap.specs.State.{heap_of, view_of, machines_of, orders_of, IsOf, HasMachine, machine_at, order_at, has_turn, IsSameBundle, IsUnmoved, IsUnchanged, IsStep};
+    ghost use Rattle.table_heap.specs.State.{heap_of, view_of, machines_of, orders_of, IsBundleOf, HasMachine, machine_at, order_at, has_turn, IsSameBundle, IsUnmoved, IsUnchanged, IsBundleStep};
 
     /// Gives the machines of one bundle, of so many, to a bundle of their own: those whose numbers have the remainder `bundle`.
     /// The error is that memory was refused.
@@ -47,11 +47,11 @@ impl Bundle {
         bundles: usize,
         bundle: usize,
     ) -> Result<Bundle, NoMemory>
-        requires heap { IsOf self.old heap.now }
+        requires heap { IsBundleOf self.old heap.now }
         requires some { 0 < bundles }
-        ensures dealt { IfOk result (λ dealt. IsOf dealt heap.now × (view_of dealt ≡ dealt_to bundles bundle (view_of self.old)) × (orders_of dealt ≡ dealt_to bundles bundle (orders_of self.old))) }
-        ensures heap { IsOf self.new heap.now }
-        ensures left { IfOk result (λ _. (view_of self.new ≡ left_over (is_dealt_to bundles bundle) (view_of self.old)) × (orders_of self.new ≡ left_over (is_dealt_to bundles bundle) (orders_of self.old))) }
+        ensures dealt { IfOk result (λ dealt. IsBundleOf dealt heap.now × (view_of dealt ≡ dealt_to bundles bundle (view_of self.old)) × (orders_of dealt ≡ dealt_to bundles bundle (orders_of self.old))) }
+        ensures heap { IsBundleOf self.new heap.now }
+        ensures left { IfOk result (λ _. (view_of self.new ≡ machines_left (is_dealt_to bundles bundle) (view_of self.old)) × (orders_of self.new ≡ machines_left (is_dealt_to bundles bundle) (orders_of self.old))) }
     {
         let Ok(machines) = deal_machines(alloc, &mut self.machines, bundles, bundle) else {
             return Err(NoMemory);
@@ -110,11 +110,11 @@ impl Bundle {
     /// Gives a machine of the bundle one step, which is one access of the heap's table. It waits for nothing, and takes no
     /// memory.
     pub fn step(&mut self, heap: &Heap, number: usize) -> Stepped
-        requires heap { IsOf self.old heap.now }
+        requires heap { IsBundleOf self.old heap.now }
         requires here { HasMachine self.old number }
         ensures idle { (result ≡ Stepped.Idle) ↔ (has_turn self.old number ≡ false) }
         ensures unchanged { has_turn self.old number ≡ false → IsUnchanged self.old self.new }
-        ensures event { has_turn self.old number ≡ true → IsStep self.old self.new number result }
+        ensures event { has_turn self.old number ≡ true → IsBundleStep self.old self.new number result }
         ensures same { IsSameBundle self.old self.new }
 
         // A call ends exactly where its mutator leaves the heap, and its reply is at hand then.
@@ -151,9 +151,9 @@ impl Bundle {
 
     /// The machines of both bundles.
     pub fn join(mut self, heap: &Heap, other: Bundle) -> Bundle
-        requires this { IsOf self heap.now }
-        requires other { IsOf other heap.now }
-        ensures heap { IsOf result heap.now }
+        requires this { IsBundleOf self heap.now }
+        requires other { IsBundleOf other heap.now }
+        ensures heap { IsBundleOf result heap.now }
         ensures view { view_of result ≡ merged (view_of self) (view_of other) }
         ensures orders { orders_of result ≡ merged (orders_of self) (orders_of other) }
     {

@@ -2,7 +2,7 @@ ghost use Rattle.std.specs.Prelude.{◌≡◌, ◌≤◌, None, length, vec_capa
 ghost use Rattle.std.specs.Slots.{slots_items, slots_len, IsFull};
 ghost use Rattle.heap_words.specs.Words.{table_words, heap_size};
 ghost use Rattle.steps_base.specs.Steps.{IsReached};
-ghost use Rattle.shared_steps.specs.Views.{machines_of};
+ghost use Rattle.shared_table.specs.Views.{machines_of};
 ghost use Rattle.step_core.specs.Settled.{image_of, control_number};
 ghost use Rattle.table_heap.specs.Core.{heap_kind, heap_opening};
 
@@ -12,7 +12,7 @@ use crate::machines::{Acting, OfHeaps};
 use atomic_table::Closed as Rows;
 use heap_graph::write_graph;
 use heap_words::{Config, heap_in, roots_in};
-use shared_steps::{ViewSeat, close_table};
+use shared_table::{ViewSeat, close_table};
 use shen_graph::{GraphText, Order};
 use std::alloc::Global;
 use std::snapshot::Snapshot;
@@ -46,13 +46,13 @@ fn read_words(rows: &Rows<(), Global>, words: &mut Vec<u64>)
 }
 
 impl Heap {
-    ghost use Rattle.shared_steps.specs.Views.{whole};
+    ghost use Rattle.shared_table.specs.Views.{whole};
     ghost use Rattle.table_heap.specs.State as state;
     ghost use Rattle.table_heap.specs.Closed.{HasAll, IsControlIdle, config_of, machines_of as actors_of, stage_of};
 
     /// Ends the sharing, by a bundle that has all machines. The control is idle. No memory is taken.
     pub fn close(self, bundle: Bundle) -> Closed
-        requires heap { state.IsOf bundle self }
+        requires heap { state.IsBundleOf bundle self }
         requires all { HasAll bundle }
         requires control { IsControlIdle bundle }
         ensures config { config_of result ≡ state.config_of self }

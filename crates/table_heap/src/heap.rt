@@ -1,12 +1,12 @@
 ghost use Rattle.std.specs.Prelude.{◌≡◌, ◌≤◌, length, vec_capacity, IfOk};
-ghost use Rattle.shared_steps.specs.Views.{whole};
+ghost use Rattle.shared_table.specs.Views.{whole};
 ghost use Rattle.heap_words.specs.Words.{table_words, heap_size};
 
 use crate::bundle::Bundle;
 use crate::machines::{Acting, OfHeaps};
 use heap_machines::{Machine, open_machines};
 use heap_words::{Config, NoMemory};
-use shared_steps::{StepsTable, open_table};
+use shared_table::{StepsTable, open_table};
 use shen_graph::Order;
 use std::alloc::Global;
 use step_core::open_words;
@@ -46,9 +46,9 @@ fn placed(alloc: Global, mut machines: Vec<Machine>) -> Result<Vec<Option<Machin
 
 impl Heap {
     ghost use Rattle.std.specs.Prelude.{ℕ, Some, slice_get};
-    ghost use Rattle.shared_steps.specs.Views.{dealt_to};
+    ghost use Rattle.shared_table.specs.Views.{dealt_to};
     ghost use Rattle.table_heap.specs.Core.{heap_opening};
-    ghost use Rattle.table_heap.specs.State.{config_of, view_of, IsOf, IsFresh};
+    ghost use Rattle.table_heap.specs.State.{config_of, view_of, IsBundleOf, IsFresh};
     ghost use Rattle.table_heap.specs.declared.bundle.Bundle.{Bundle as Bundles};
 
     // The heap of this configuration before the first event, with all its machines in one bundle.

@@ -1,7 +1,7 @@
 ghost use Rattle.table_heap.specs.Core.{heap_kind, heap_opening};
 
 use heap_words::Config;
-use shared_steps::Machines;
+use shared_table::Machines;
 use shen_graph::Order;
 use std::marker::Model;
 

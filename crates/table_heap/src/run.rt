@@ -1,6 +1,6 @@
 ghost use Rattle.std.specs.Prelude.{◌≡◌, ◌≢◌, ◌↔◌, true, false, Some, None, if◌then◌else◌, slice_set};
 ghost use Rattle.heap_machines.specs.Turn.{order_for};
-ghost use Rattle.table_heap.specs.State.{heap_of, view_of, orders_of, IsOf, HasMachine, machine_at, order_at, has_turn, IsSameBundle, IsUnmoved, IsUnchanged};
+ghost use Rattle.table_heap.specs.State.{heap_of, view_of, orders_of, IsBundleOf, HasMachine, machine_at, order_at, has_turn, IsSameBundle, IsUnmoved, IsUnchanged};
 ghost use Rattle.table_heap.specs.Running.{HasNoOrder, CanStart, AreAtWork, next_for, IsIdleForGood, AreIdleForGood, HaveDone, AreSameJobs};
 
 use crate::bundle::Bundle;
@@ -93,7 +93,7 @@ impl Bundle {
 
     // One turn of a machine: it goes on with its call, begins the next command of its script, or ends.
     fn turn<G: Gate>(&mut self, heap: &Heap, work: &mut Work, gate: &G, number: usize) -> Stepped
-        requires heap { IsOf self.old heap.now }
+        requires heap { IsBundleOf self.old heap.now }
         requires here { HasMachine self.old number }
         requires work { AreAtWork self.old work.old }
         ensures work { AreAtWork self.new work.new }
@@ -115,7 +115,7 @@ impl Bundle {
 
     // One turn of each machine of the bundle, in the order of their numbers.
     fn round<G: Gate>(&mut self, heap: &Heap, work: &mut Work, gate: &G) -> Round
-        requires heap { IsOf self.old heap.now }
+        requires heap { IsBundleOf self.old heap.now }
         requires work { AreAtWork self.old work.old }
         ensures work { AreAtWork self.new work.new }
         ensures same { IsSameBundle self.old self.new }
@@ -137,7 +137,7 @@ impl Bundle {
     /// all mutators of the heap have, and a helper when the control has. After a round in which every step waits for another
     /// machine the thread backs off, each time for longer, until several rounds in a row went on. No memory is taken.
     pub fn run<R: Wait, G: Gate>(&mut self, rt: &R, heap: &Heap, work: &mut Work, gate: &G)
-        requires heap { IsOf self.old heap.now }
+        requires heap { IsBundleOf self.old heap.now }
         requires start { CanStart self.old work.old }
         ensures same { IsSameBundle self.old self.new }
         ensures orders { HasNoOrder self.new }

@@ -4,17 +4,17 @@ use Rattle.std.specs.Prelude.{Result, is_err}
 use Rattle.std.specs.Io.KnownBytes.{Appends}
 use Rattle.std.proofs.KnownBytes.{Appends-nil, Appends-trans}
 use Rattle.shen_base.specs.Count.{Rose, CalledAtMost}
-use Rattle.text_writer.specs.Sending.{Outlet, outlet, Held, Stage, stage, WritesFront, WritesUpTo, HasTaken, Puts, Writes}
+use Rattle.text_writer.specs.Sending.{Outlet, outlet, Held, SinkStage, stage, WritesFront, WritesUpTo, HasTaken, Puts, Writes}
 
 -- one text was put, and then another
-pub puts_both : {a b c : Stage} {x y : List ℕ} → Puts a b x → Puts b c y → Puts a c (x ++ y)
+pub puts_both : {a b c : SinkStage} {x y : List ℕ} → Puts a b x → Puts b c y → Puts a c (x ++ y)
 puts_both {a} {b} {c} {x} {y} p q = record {
   behind = λ first sofar h.
       subst (HasTaken c first) (append_assoc sofar x y) (q.behind first (sofar ++ x) (p.behind first sofar h));
 }
 
 -- an equal text was put
-pub puts_same : {a b : Stage} {x y : List ℕ} → x ≡ y → Puts a b x → Puts a b y
+pub puts_same : {a b : SinkStage} {x y : List ℕ} → x ≡ y → Puts a b x → Puts a b y
 puts_same {a} {b} {x} {y} e p = record {
   behind = λ first sofar h. subst (λ t. HasTaken b first (sofar ++ t)) e (p.behind first sofar h);
 }
@@ -34,7 +34,7 @@ few_longer : (before after : ℕ) (x y : List ℕ) → CalledAtMost (length x) b
 few_longer before after x y few = omega (arith, length-append x y)
 
 -- after a fault, whatever is put is ignored
-pub puts_more_stopped : (a b : Stage) (x y : List ℕ) → b.block.failed ≡ true → Puts a b x → Puts a b (x ++ y)
+pub puts_more_stopped : (a b : SinkStage) (x y : List ℕ) → b.block.failed ≡ true → Puts a b x → Puts a b (x ++ y)
 puts_more_stopped a b x y failed p = record {
   behind = λ first sofar h.
       let taken : HasTaken b first (sofar ++ x) = p.behind first sofar h in
@@ -98,21 +98,21 @@ taken_none w f c =
     }
 
 -- the text that was taken, where nothing is left in the block and there was no fault
-taken_all : (s : Stage) (first : Outlet) (text : List ℕ) → s.block.failed ≡ false → s.block.unsent ≡ [] → HasTaken s first text → Appends first.written s.sink.written text
+taken_all : (s : SinkStage) (first : Outlet) (text : List ℕ) → s.block.failed ≡ false → s.block.unsent ≡ [] → HasTaken s first text → Appends first.written s.sink.written text
 taken_all s first text ok emptied h =
     let up = h.going ok in
     subst (Appends first.written s.sink.written) (sym (append-nil up.sent) ∙ ap (λ t. up.sent ++ t) (sym emptied) ∙ up.split) up.appended
 
 -- the stage behind one where nothing more was put
-pub taken_still : {a b : Stage} {first : Outlet} {text : List ℕ} → Puts a b [] → HasTaken a first text → HasTaken b first text
+pub taken_still : {a b : SinkStage} {first : Outlet} {text : List ℕ} → Puts a b [] → HasTaken a first text → HasTaken b first text
 taken_still {a} {b} {first} {text} p h = subst (HasTaken b first) (append-nil text) (p.behind first text h)
 
 -- the calls of a sink, where a block before it has taken a text
-few_taken : (s : Stage) (first : Outlet) (text : List ℕ) → HasTaken s first text → CalledAtMost (length text) first.calls s.sink.calls
+few_taken : (s : SinkStage) (first : Outlet) (text : List ℕ) → HasTaken s first text → CalledAtMost (length text) first.calls s.sink.calls
 few_taken s first text h = omega (arith, h.few_calls)
 
 -- an emptied block at the end, with no fault
-pub writes_all : {F : Type 0} (s : Stage) (first : Outlet) (text : List ℕ) → s.block.failed ≡ false → s.block.unsent ≡ [] → HasTaken s first text
+pub writes_all : {F : Type 0} (s : SinkStage) (first : Outlet) (text : List ℕ) → s.block.failed ≡ false → s.block.unsent ≡ [] → HasTaken s first text
     → Writes {T = Unit {0}} {E = F} (Ok tt) first s.sink text
 writes_all s first text ok emptied h = record {
   all = taken_all s first text ok emptied h;
@@ -123,7 +123,7 @@ writes_all s first text ok emptied h = record {
 }
 
 -- a block at the end, after a fault
-pub writes_front : {F : Type 0} (e : F) (s : Stage) (first : Outlet) (text : List ℕ) → s.block.failed ≡ true → HasTaken s first text
+pub writes_front : {F : Type 0} (e : F) (s : SinkStage) (first : Outlet) (text : List ℕ) → s.block.failed ≡ true → HasTaken s first text
     → Writes {T = Unit {0}} {E = F} (Err e) first s.sink text
 writes_front e s first text failed h = record {
   all = tt;
@@ -134,11 +134,11 @@ writes_front e s first text failed h = record {
 }
 
 -- nothing was taken by an empty block, and then this text was put
-pub taken_by_new : {w : Option (List ℕ)} {f c : ℕ} {held : Held} {s : Stage} {text : List ℕ} → held ≡ record { unsent = []; failed = false } → Puts (stage w f c held) s text → HasTaken s (outlet w f c) text
+pub taken_by_new : {w : Option (List ℕ)} {f c : ℕ} {held : Held} {s : SinkStage} {text : List ℕ} → held ≡ record { unsent = []; failed = false } → Puts (stage w f c held) s text → HasTaken s (outlet w f c) text
 taken_by_new {w} {f} {c} {held} {s} {text} e p = p.behind (outlet w f c) [] (subst (λ h. HasTaken (stage w f c h) (outlet w f c) []) (sym e) (taken_none w f c))
 
 -- a turn of putting: some was put, then the block was emptied or not, and then it took a piece
-pub puts_turn : (a : Stage) (w w' : Option (List ℕ)) (f f' c c' : ℕ) (before held after : Held) (done piece : List ℕ)
+pub puts_turn : (a : SinkStage) (w w' : Option (List ℕ)) (f f' c c' : ℕ) (before held after : Held) (done piece : List ℕ)
     → Puts a (stage w f c before) done → Puts (stage w f c before) (stage w' f' c' held) [] → after ≡ record held { unsent = held.unsent ++ piece }
     → Puts a (stage w' f' c' after) (done ++ piece)
 puts_turn a w w' f f' c c' before held after done piece p q e =

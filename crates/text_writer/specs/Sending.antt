@@ -18,11 +18,11 @@ pub record Held : Type 0 where
   pub failed : Bool
 
 -- a sink and a block before it
-pub record Stage : Type 0 where
+pub record SinkStage : Type 0 where
   pub sink : Outlet
   pub block : Held
 
-abbrev pub stage : Option (List ℕ) → ℕ → ℕ → Held → Stage
+abbrev pub stage : Option (List ℕ) → ℕ → ℕ → Held → SinkStage
 stage written faults calls block = record { sink = outlet written faults calls; block = block }
 
 -- A front of a text was written before a call failed: by at most one call for each of its bytes, and the one that failed.
@@ -53,12 +53,12 @@ pub record WritesUpTo (before after : Outlet) (text unsent : List ℕ) : Type 0 
 -- This text was put since the sink stood as `first`. It is written or stands in the block; or its front is written, and
 -- there was a fault. The calls so far, and one more for each byte that stands in the block, are at most one for each byte
 -- of the text.
-pub record HasTaken (s : Stage) (first : Outlet) (text : List ℕ) : Type 0 where
+pub record HasTaken (s : SinkStage) (first : Outlet) (text : List ℕ) : Type 0 where
   pub never_fell : first.faults ≤ s.sink.faults
   pub going : s.block.failed ≡ false → WritesUpTo first s.sink text s.block.unsent
   pub stopped : s.block.failed ≡ true → WritesFront first s.sink text × Rose first.faults s.sink.faults
   pub few_calls : CalledAtMost (length text) first.calls (s.sink.calls + length s.block.unsent)
 
 -- From one stage to the next a text was put, behind all that was put before.
-pub record Puts (old new : Stage) (text : List ℕ) : Type 0 where
+pub record Puts (old new : SinkStage) (text : List ℕ) : Type 0 where
   pub behind : (first : Outlet) (sofar : List ℕ) → HasTaken old first sofar → HasTaken new first (sofar ++ text)

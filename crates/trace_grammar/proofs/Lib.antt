@@ -7,4 +7,4 @@ pub mod Pieces
 pub mod ReadItems
 pub mod ScheduleLines
 pub mod Once
-mod Turns
+mod LoopReading

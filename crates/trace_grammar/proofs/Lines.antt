@@ -7,9 +7,9 @@ use Rattle.shen_graph.specs.declared.command.Command.TheVariants as command
 use Rattle.shen_graph.specs.Valid.{IsValid}
 use Rattle.trace_grammar.specs.declared.kind.CommandKind.{CommandKind}
 use Rattle.trace_grammar.specs.declared.kind.CommandKind.TheVariants.{New, Get, Set, Cas, Xchg, Rd, Wr, Copy, Drop, Same, Gc}
-use Rattle.trace_grammar.specs.Spelling.{TraceLine, IsLine, FitsValue, line, numbers, word_of, numbers_of}
-use Rattle.trace_grammar.specs.Kinds.{kinds, word, limits, command_from, AreWithin, Suit}
-use Rattle.trace_grammar.specs.Scanning.{◌>>=◌, behind, found, positive_at, numbers_at, kind_among, command_at, line_at}
+use Rattle.trace_grammar.specs.Spelling.{TraceLine, IsLine, FitsWhenWritten, line, numbers, command_word, numbers_of}
+use Rattle.trace_grammar.specs.Kinds.{kinds, word, limits, command_from, AreWithinLimits, Suit}
+use Rattle.trace_grammar.specs.Scanning.{◌>>=◌, behind, found, positive_at, numbers_at, kind_among, spelled_command, line_at}
 use Rattle.trace_grammar.specs.Front.{NoDigit}
 use Rattle.trace_grammar.proofs.Numbers.{AreSmall, then_some, same_some, behind_takes, positive_takes, positive_again, numbers_take, numbers_again}
 
@@ -54,16 +54,16 @@ limits_small Same = (lit< tt, (lit< tt, tt))
 limits_small Gc = tt
 
 -- a number within its limit
-pub within_at : (bounds ns : List ℕ) (i : ℕ) → AreWithin bounds ns → i < length bounds → get_or ns i 0 ≤ get_or bounds i 0
+pub within_at : (bounds ns : List ℕ) (i : ℕ) → AreWithinLimits bounds ns → i < length bounds → get_or ns i 0 ≤ get_or bounds i 0
 within_at [] ns i within lt = absurd (omega arith)
 within_at (b ∷ bounds) [] i within lt = absurd within
 within_at (b ∷ bounds) (n ∷ ns) zero within lt = within.0
 within_at (b ∷ bounds) (n ∷ ns) (suc i) within lt = within_at bounds ns i within.1 (omega arith)
 
-within_front : (bounds ns : List ℕ) (i : ℕ) → AreWithin bounds (take (length bounds) ns) → i < length bounds → get_or ns i 0 ≤ get_or bounds i 0
+within_front : (bounds ns : List ℕ) (i : ℕ) → AreWithinLimits bounds (take (length bounds) ns) → i < length bounds → get_or ns i 0 ≤ get_or bounds i 0
 within_front bounds ns i within lt = subst (λ (n : ℕ). n ≤ get_or bounds i 0) (get_or-take (length bounds) ns i 0 lt) (within_at bounds (take (length bounds) ns) i within lt)
 
-pub suits : (k : CommandKind) (ns : List ℕ) → AreWithin (limits k) (take (length (limits k)) ns) → Suit k ns
+pub suits : (k : CommandKind) (ns : List ℕ) → AreWithinLimits (limits k) (take (length (limits k)) ns) → Suit k ns
 suits New ns h = let at = λ (i : ℕ). within_front (limits New) ns i h in (at 0 (lit< tt), at 1 (lit< tt), at 2 (lit< tt))
 suits Get ns h = let at = λ (i : ℕ). within_front (limits Get) ns i h in (at 0 (lit< tt), at 1 (lit< tt), at 2 (lit< tt))
 suits Set ns h = let at = λ (i : ℕ). within_front (limits Set) ns i h in (at 0 (lit< tt), at 1 (lit< tt), at 2 (lit< tt))
@@ -91,7 +91,7 @@ kind_of (command.Drop dst) = Drop
 kind_of (command.Same a b) = Same
 kind_of command.Gc = Gc
 
-pub within_length : (bounds ns : List ℕ) → AreWithin bounds ns → length ns ≡ length bounds
+pub within_length : (bounds ns : List ℕ) → AreWithinLimits bounds ns → length ns ≡ length bounds
 within_length [] [] h = refl
 within_length [] (n ∷ ns) h = absurd h
 within_length (b ∷ bounds) [] h = absurd h
@@ -118,7 +118,7 @@ four_listed : (ns : List ℕ) → length ns ≡ 4 → get_or ns 0 0 ∷ get_or n
 four_listed [] e = absurd (omega arith)
 four_listed (a ∷ ns) e = ap (λ (xs : List ℕ). a ∷ xs) (three_listed ns (omega arith))
 
-pub made_numbers : (k : CommandKind) (ns : List ℕ) → AreWithin (limits k) ns → numbers_of (command_from k ns) ≡ ns
+pub made_numbers : (k : CommandKind) (ns : List ℕ) → AreWithinLimits (limits k) ns → numbers_of (command_from k ns) ≡ ns
 made_numbers New ns h = three_listed ns (within_length (limits New) ns h)
 made_numbers Get ns h = three_listed ns (within_length (limits Get) ns h)
 made_numbers Set ns h = three_listed ns (within_length (limits Set) ns h)
@@ -131,7 +131,7 @@ made_numbers Drop ns h = one_listed ns (within_length (limits Drop) ns h)
 made_numbers Same ns h = two_listed ns (within_length (limits Same) ns h)
 made_numbers Gc ns h = none_listed ns (within_length (limits Gc) ns h)
 
-pub made_word : (k : CommandKind) (ns : List ℕ) → word_of (command_from k ns) ≡ word k
+pub made_word : (k : CommandKind) (ns : List ℕ) → command_word (command_from k ns) ≡ word k
 made_word New ns = refl
 made_word Get ns = refl
 made_word Set ns = refl
@@ -144,10 +144,10 @@ made_word Drop ns = refl
 made_word Same ns = refl
 made_word Gc ns = refl
 
-at_most : (bounds ns : List ℕ) → AreWithin bounds ns → (i : ℕ) → i < length bounds → get_or ns i 0 ≤ get_or bounds i 0
+at_most : (bounds ns : List ℕ) → AreWithinLimits bounds ns → (i : ℕ) → i < length bounds → get_or ns i 0 ≤ get_or bounds i 0
 at_most bounds ns h i lt = within_at bounds ns i h lt
 
-pub made_valid : (k : CommandKind) (ns : List ℕ) → AreWithin (limits k) ns → IsValid (command_from k ns) × FitsValue (command_from k ns)
+pub made_valid : (k : CommandKind) (ns : List ℕ) → AreWithinLimits (limits k) ns → IsValid (command_from k ns) × FitsWhenWritten (command_from k ns)
 made_valid New ns h = let at = at_most (limits New) ns h in let a = at 0 (lit< tt) in let b = at 1 (lit< tt) in let c = at 2 (lit< tt) in ((omega arith, omega arith, omega arith), tt)
 made_valid Get ns h = let at = at_most (limits Get) ns h in let a = at 0 (lit< tt) in let b = at 1 (lit< tt) in let c = at 2 (lit< tt) in ((omega arith, omega arith, omega arith), tt)
 made_valid Set ns h = let at = at_most (limits Set) ns h in let a = at 0 (lit< tt) in let b = at 1 (lit< tt) in let c = at 2 (lit< tt) in ((omega arith, omega arith, omega arith), tt)
@@ -173,7 +173,7 @@ command_again (command.Drop dst) = refl
 command_again (command.Same a b) = refl
 command_again command.Gc = refl
 
-pub word_again : (c : Command) → word (kind_of c) ≡ word_of c
+pub word_again : (c : Command) → word (kind_of c) ≡ command_word c
 word_again (command.New dst refs nums) = refl
 word_again (command.Get dst src field) = refl
 word_again (command.Set obj field val) = refl
@@ -186,7 +186,7 @@ word_again (command.Drop dst) = refl
 word_again (command.Same a b) = refl
 word_again command.Gc = refl
 
-pub valid_within : (c : Command) → IsValid c → FitsValue c → AreWithin (limits (kind_of c)) (numbers_of c)
+pub valid_within : (c : Command) → IsValid c → FitsWhenWritten c → AreWithinLimits (limits (kind_of c)) (numbers_of c)
 valid_within (command.New dst refs nums) v f = (omega arith, (omega arith, (omega arith, tt)))
 valid_within (command.Get dst src field) v f = (omega arith, (omega arith, (omega arith, tt)))
 valid_within (command.Set obj field val) v f = (omega arith, (omega arith, (omega arith, tt)))
@@ -201,8 +201,8 @@ valid_within command.Gc v f = tt
 
 -- ---- lines
 
-command_takes : (bytes : List ℕ) (x : Command × List ℕ) → command_at bytes ≡ Some x → (bytes ≡ word_of x.0 ++ (numbers (numbers_of x.0) ++ x.1)) × IsValid x.0 × FitsValue x.0
-unfolding command_at
+command_takes : (bytes : List ℕ) (x : Command × List ℕ) → spelled_command bytes ≡ Some x → (bytes ≡ command_word x.0 ++ (numbers (numbers_of x.0) ++ x.1)) × IsValid x.0 × FitsWhenWritten x.0
+unfolding spelled_command
 command_takes bytes x e =
     then_some (kind_among kinds bytes) (λ k. numbers_at (limits k.0) k.1 >>= λ ns. Some (command_from k.0 ns.0, ns.1)) x e (λ k at_k e1.
     then_some (numbers_at (limits k.0) k.1) (λ ns. Some (command_from k.0 ns.0, ns.1)) x e1 (λ ns at_ns e2.
@@ -210,29 +210,29 @@ command_takes bytes x e =
     let rest = numbers_take (limits k.0) k.1 ns (limits_small k.0) at_ns in
     let made : Command × List ℕ = (command_from k.0 ns.0, ns.1) in
     let valid = made_valid k.0 ns.0 rest.1 in
-    let spelled : bytes ≡ word_of made.0 ++ (numbers (numbers_of made.0) ++ made.1) = rw (made_word k.0 ns.0, made_numbers k.0 ns.0 rest.1) (kind ∙ ap (λ (bs : List ℕ). word k.0 ++ bs) rest.0) in
-    subst (λ (y : Command × List ℕ). (bytes ≡ word_of y.0 ++ (numbers (numbers_of y.0) ++ y.1)) × IsValid y.0 × FitsValue y.0) (same_some made x e2) (spelled, valid.0, valid.1)))
+    let spelled : bytes ≡ command_word made.0 ++ (numbers (numbers_of made.0) ++ made.1) = rw (made_word k.0 ns.0, made_numbers k.0 ns.0 rest.1) (kind ∙ ap (λ (bs : List ℕ). word k.0 ++ bs) rest.0) in
+    subst (λ (y : Command × List ℕ). (bytes ≡ command_word y.0 ++ (numbers (numbers_of y.0) ++ y.1)) × IsValid y.0 × FitsWhenWritten y.0) (same_some made x e2) (spelled, valid.0, valid.1)))
 
-command_again_at : (c : Command) (rest : List ℕ) → IsValid c → FitsValue c → NoDigit rest → command_at (word_of c ++ (numbers (numbers_of c) ++ rest)) ≡ Some (c, rest)
-unfolding command_at
+command_again_at : (c : Command) (rest : List ℕ) → IsValid c → FitsWhenWritten c → NoDigit rest → spelled_command (command_word c ++ (numbers (numbers_of c) ++ rest)) ≡ Some (c, rest)
+unfolding spelled_command
 command_again_at c rest valid fits none =
     rw (← word_again c, kind_again (kind_of c) (numbers (numbers_of c) ++ rest), numbers_again (limits (kind_of c)) (numbers_of c) rest (valid_within c valid fits) (limits_small (kind_of c)) none, command_again c) refl
 
-line-append : (l : TraceLine) (rest : List ℕ) → line l ++ rest ≡ decimal l.thread ++ 32 ∷ (word_of l.command ++ (numbers (numbers_of l.command) ++ 10 ∷ rest))
+line-append : (l : TraceLine) (rest : List ℕ) → line l ++ rest ≡ decimal l.thread ++ 32 ∷ (command_word l.command ++ (numbers (numbers_of l.command) ++ 10 ∷ rest))
 line-append l rest =
-    append_assoc (decimal l.thread) (32 ∷ (word_of l.command ++ (numbers (numbers_of l.command) ++ 10 ∷ []))) rest
-    ∙ ap (λ (bs : List ℕ). decimal l.thread ++ 32 ∷ bs) (append_assoc (word_of l.command) (numbers (numbers_of l.command) ++ 10 ∷ []) rest
-    ∙ ap (λ (bs : List ℕ). word_of l.command ++ bs) (append_assoc (numbers (numbers_of l.command)) (10 ∷ []) rest))
+    append_assoc (decimal l.thread) (32 ∷ (command_word l.command ++ (numbers (numbers_of l.command) ++ 10 ∷ []))) rest
+    ∙ ap (λ (bs : List ℕ). decimal l.thread ++ 32 ∷ bs) (append_assoc (command_word l.command) (numbers (numbers_of l.command) ++ 10 ∷ []) rest
+    ∙ ap (λ (bs : List ℕ). command_word l.command ++ bs) (append_assoc (numbers (numbers_of l.command)) (10 ∷ []) rest))
 
-line_parts : (bytes gap words end rest : List ℕ) (l : TraceLine) → bytes ≡ decimal l.thread ++ gap → gap ≡ 32 ∷ words → words ≡ word_of l.command ++ (numbers (numbers_of l.command) ++ end) → end ≡ 10 ∷ rest → bytes ≡ line l ++ rest
+line_parts : (bytes gap words end rest : List ℕ) (l : TraceLine) → bytes ≡ decimal l.thread ++ gap → gap ≡ 32 ∷ words → words ≡ command_word l.command ++ (numbers (numbers_of l.command) ++ end) → end ≡ 10 ∷ rest → bytes ≡ line l ++ rest
 line_parts bytes gap words end rest l a b c d = rw (a, b, c, d) (sym (line-append l rest))
 
 pub line_takes : (threads : ℕ) (bytes : List ℕ) (x : TraceLine × List ℕ) → threads < 2 ^ 64 → line_at threads bytes ≡ Some x → (bytes ≡ line x.0 ++ x.1) × IsLine threads x.0
 unfolding line_at
 line_takes threads bytes x small e =
-    then_some (positive_at threads bytes) (λ t. behind (32 ∷ []) t.1 >>= λ rest. command_at rest >>= λ c. behind (10 ∷ []) c.1 >>= λ end. Some (record { thread = t.0; command = c.0 }, end)) x e (λ t at_t e1.
-    then_some (behind (32 ∷ []) t.1) (λ rest. command_at rest >>= λ c. behind (10 ∷ []) c.1 >>= λ end. Some (record { thread = t.0; command = c.0 }, end)) x e1 (λ rest at_rest e2.
-    then_some (command_at rest) (λ c. behind (10 ∷ []) c.1 >>= λ end. Some (record { thread = t.0; command = c.0 }, end)) x e2 (λ c at_c e3.
+    then_some (positive_at threads bytes) (λ t. behind (32 ∷ []) t.1 >>= λ rest. spelled_command rest >>= λ c. behind (10 ∷ []) c.1 >>= λ end. Some (record { thread = t.0; command = c.0 }, end)) x e (λ t at_t e1.
+    then_some (behind (32 ∷ []) t.1) (λ rest. spelled_command rest >>= λ c. behind (10 ∷ []) c.1 >>= λ end. Some (record { thread = t.0; command = c.0 }, end)) x e1 (λ rest at_rest e2.
+    then_some (spelled_command rest) (λ c. behind (10 ∷ []) c.1 >>= λ end. Some (record { thread = t.0; command = c.0 }, end)) x e2 (λ c at_c e3.
     then_some (behind (10 ∷ []) c.1) (λ end. Some (record { thread = t.0; command = c.0 }, end)) x e3 (λ end at_end e4.
     let thread = positive_takes threads bytes t small at_t in
     let command = command_takes rest c at_c in
@@ -245,4 +245,4 @@ pub line_again : (threads : ℕ) (l : TraceLine) (rest : List ℕ) → threads <
 unfolding line_at
 line_again threads l rest small fits =
     ap (line_at threads) (line-append l rest)
-    ∙ rw (positive_again threads l.thread (32 ∷ (word_of l.command ++ (numbers (numbers_of l.command) ++ 10 ∷ rest))) fits.from_one fits.to_last small refl, command_again_at l.command (10 ∷ rest) fits.valid fits.fits refl) refl
+    ∙ rw (positive_again threads l.thread (32 ∷ (command_word l.command ++ (numbers (numbers_of l.command) ++ 10 ∷ rest))) fits.from_one fits.to_last small refl, command_again_at l.command (10 ∷ rest) fits.valid fits.fits refl) refl

@@ -10,8 +10,8 @@ use Rattle.std.proofs.lemmas.List.Concat.{flat_map-cons}
 use Rattle.std.proofs.lemmas.Str.Parse.{IsNumeralModel, numerals_by_value, tells_digits}
 use Rattle.std.proofs.lemmas.Fmt.{decimal-digits_value, digits_decimal, digits_value-decimal, decimal_nonempty, first_decimal, decimal_digit}
 use Rattle.trace_grammar.specs.Spelling.{numbers, space}
-use Rattle.trace_grammar.specs.Kinds.{AreWithin}
-use Rattle.trace_grammar.specs.Scanning.{◌>>=◌, behind, digit_count, is_numeral, numeral, number_at, positive_at, spaced_at, numbers_at}
+use Rattle.trace_grammar.specs.Kinds.{AreWithinLimits}
+use Rattle.trace_grammar.specs.Scanning.{◌>>=◌, behind, digit_count, is_numeral, numeral, spelled_number, positive_at, spaced_at, numbers_at}
 use Rattle.trace_grammar.specs.Front.{NoDigit}
 use Rattle.trace_grammar.proofs.Digits.{digits_are_digits}
 
@@ -104,16 +104,16 @@ numeral_again limit n le small =
     let value : digits_value 10 (decimal n) ≡ n = digits_value-decimal own n (omega arith) in
     rw (numeral_made (decimal n) (decimal_nonempty n (omega arith)) (lone_zero n (omega arith)), value, within limit n le) refl
 
-pub number_takes : (limit : ℕ) (bytes : List ℕ) (x : ℕ × List ℕ) → limit < 2 ^ 64 → number_at limit bytes ≡ Some x → (bytes ≡ decimal x.0 ++ x.1) × (x.0 ≤ limit)
-unfolding number_at
+pub number_takes : (limit : ℕ) (bytes : List ℕ) (x : ℕ × List ℕ) → limit < 2 ^ 64 → spelled_number limit bytes ≡ Some x → (bytes ≡ decimal x.0 ++ x.1) × (x.0 ≤ limit)
+unfolding spelled_number
 number_takes limit bytes x small e =
     let a = bind_some (numeral limit (take (digit_count bytes) bytes)) (λ n. Some (n, drop (digit_count bytes) bytes)) x e in
     let one = numeral_takes limit (take (digit_count bytes) bytes) a.0 small (digits_are_digits bytes) a.1 in
     let made : ℕ × List ℕ = (a.0, drop (digit_count bytes) bytes) in
     subst (λ (y : ℕ × List ℕ). (bytes ≡ decimal y.0 ++ y.1) × (y.0 ≤ limit)) (same_some made x a.2) (sym (take-append-drop (digit_count bytes) bytes) ∙ ap (λ (ds : List ℕ). ds ++ drop (digit_count bytes) bytes) one.0, one.1)
 
-pub number_again : (limit n : ℕ) (rest : List ℕ) → n ≤ limit → limit < 2 ^ 64 → NoDigit rest → number_at limit (decimal n ++ rest) ≡ Some (n, rest)
-unfolding number_at
+pub number_again : (limit n : ℕ) (rest : List ℕ) → n ≤ limit → limit < 2 ^ 64 → NoDigit rest → spelled_number limit (decimal n ++ rest) ≡ Some (n, rest)
+unfolding spelled_number
 number_again limit n rest le small none =
     let count : digit_count (decimal n ++ rest) ≡ length (decimal n) = digit_count-append (decimal n) rest (digits_decimal own n (omega arith)) none in
     rw (count, take_at (decimal n) rest, drop_at (decimal n) rest, numeral_again limit n le small) refl
@@ -123,7 +123,7 @@ number_again limit n rest le small none =
 pub positive_takes : (limit : ℕ) (bytes : List ℕ) (x : ℕ × List ℕ) → limit < 2 ^ 64 → positive_at limit bytes ≡ Some x → (bytes ≡ decimal x.0 ++ x.1) × (1 ≤ x.0) × (x.0 ≤ limit)
 unfolding positive_at
 positive_takes limit bytes x small e =
-    let a = bind_some (number_at limit bytes) (λ t. cond (eqb t.0 0) None (Some t)) x e in
+    let a = bind_some (spelled_number limit bytes) (λ t. cond (eqb t.0 0) None (Some t)) x e in
     let b = not_stopped (eqb a.0.0 0) (Some a.0) x a.2 in
     let one = number_takes limit bytes a.0 small a.1 in
     let some : 1 ≤ a.0.0 = above_zero a.0.0 b.0 in
@@ -144,7 +144,7 @@ positive_again limit n rest some le small none = rw (number_again limit n rest l
 pub spaced_takes : (limit : ℕ) (bytes : List ℕ) (x : ℕ × List ℕ) → limit < 2 ^ 64 → spaced_at limit bytes ≡ Some x → (bytes ≡ 32 ∷ (decimal x.0 ++ x.1)) × (x.0 ≤ limit)
 unfolding spaced_at
 spaced_takes limit bytes x small e =
-    let a = bind_some (behind (32 ∷ []) bytes) (number_at limit) x e in
+    let a = bind_some (behind (32 ∷ []) bytes) (spelled_number limit) x e in
     let one = number_takes limit a.0 x small a.2 in
     (behind_takes (32 ∷ []) bytes a.0 a.1 ∙ ap (λ (bs : List ℕ). 32 ∷ bs) one.0, one.1)
 
@@ -159,11 +159,11 @@ abbrev pub AreSmall : List ℕ → Type 0
 AreSmall [] = Unit {0}
 AreSmall (limit ∷ limits) = (limit < 2 ^ 64) × AreSmall limits
 
-pub numbers_take : (limits bytes : List ℕ) (x : List ℕ × List ℕ) → AreSmall limits → numbers_at limits bytes ≡ Some x → (bytes ≡ numbers x.0 ++ x.1) × AreWithin limits x.0
+pub numbers_take : (limits bytes : List ℕ) (x : List ℕ × List ℕ) → AreSmall limits → numbers_at limits bytes ≡ Some x → (bytes ≡ numbers x.0 ++ x.1) × AreWithinLimits limits x.0
 unfolding numbers_at
 numbers_take [] bytes x small e =
     let made : List ℕ × List ℕ = ([], bytes) in
-    subst (λ (y : List ℕ × List ℕ). (bytes ≡ numbers y.0 ++ y.1) × AreWithin [] y.0) (same_some made x e) (refl, tt)
+    subst (λ (y : List ℕ × List ℕ). (bytes ≡ numbers y.0 ++ y.1) × AreWithinLimits [] y.0) (same_some made x e) (refl, tt)
 numbers_take (limit ∷ limits) bytes x small e =
     let a = bind_some (spaced_at limit bytes) (λ n. numbers_at limits n.1 >>= λ ns. Some (n.0 ∷ ns.0, ns.1)) x e in
     let b = bind_some (numbers_at limits a.0.1) (λ ns. Some (a.0.0 ∷ ns.0, ns.1)) x a.2 in
@@ -171,9 +171,9 @@ numbers_take (limit ∷ limits) bytes x small e =
     let others = numbers_take limits a.0.1 b.0 small.1 b.1 in
     let made : List ℕ × List ℕ = (a.0.0 ∷ b.0.0, b.0.1) in
     let spelled : bytes ≡ numbers made.0 ++ made.1 = one.0 ∙ ap (λ (bs : List ℕ). 32 ∷ (decimal a.0.0 ++ bs)) others.0 ∙ sym (numbers-cons a.0.0 b.0.0 b.0.1) in
-    subst (λ (y : List ℕ × List ℕ). (bytes ≡ numbers y.0 ++ y.1) × AreWithin (limit ∷ limits) y.0) (same_some made x b.2) (spelled, (one.1, others.1))
+    subst (λ (y : List ℕ × List ℕ). (bytes ≡ numbers y.0 ++ y.1) × AreWithinLimits (limit ∷ limits) y.0) (same_some made x b.2) (spelled, (one.1, others.1))
 
-pub numbers_again : (limits ns rest : List ℕ) → AreWithin limits ns → AreSmall limits → NoDigit rest → numbers_at limits (numbers ns ++ rest) ≡ Some (ns, rest)
+pub numbers_again : (limits ns rest : List ℕ) → AreWithinLimits limits ns → AreSmall limits → NoDigit rest → numbers_at limits (numbers ns ++ rest) ≡ Some (ns, rest)
 unfolding numbers_at
 numbers_again [] [] rest within small none = refl
 numbers_again [] (n ∷ ns) rest within small none = absurd within

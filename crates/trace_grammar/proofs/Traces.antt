@@ -13,10 +13,10 @@ use Rattle.std.proofs.lemmas.Grind.{flat_map-append}
 use Rattle.shen_graph.specs.declared.command.Command.{Command}
 use Rattle.heap_words.specs.declared.config.Config.{Config}
 use Rattle.heap_words.specs.declared.schedule.Item.{Item}
-use Rattle.trace_grammar.specs.Spelling.{TraceLine, IsLine, line, header, space, newline, numbers, word_of, numbers_of, schedule_line}
+use Rattle.trace_grammar.specs.Spelling.{TraceLine, IsLine, line, header, space, newline, numbers, command_word, numbers_of, schedule_line}
 use Rattle.trace_grammar.specs.Front.{IsBehindCommands}
-use Rattle.trace_grammar.specs.Scanning.{numeral, number_at, positive_at, line_at}
-use Rattle.trace_grammar.specs.Grammar.{most_bytes, commands_in, scripts_of, with_line, HasTaken, HasScheduled, Reads}
+use Rattle.trace_grammar.specs.Scanning.{numeral, spelled_number, positive_at, line_at}
+use Rattle.trace_grammar.specs.Grammar.{most_bytes, commands_in, scripts_of, with_line, HasReadLines, HasScheduled, Reads}
 use Rattle.trace_grammar.proofs.Numbers.{same_some}
 use Rattle.trace_grammar.proofs.Lines.{line_again}
 
@@ -80,10 +80,10 @@ scripts_more threads lines l fits =
 
 -- ---- taking lines
 
-pub taken_none : (threads : ℕ) (bytes : List ℕ) (scripts : List (List Command)) → scripts ≡ scripts_of threads [] → HasTaken threads bytes bytes scripts
+pub taken_none : (threads : ℕ) (bytes : List ℕ) (scripts : List (List Command)) → scripts ≡ scripts_of threads [] → HasReadLines threads bytes bytes scripts
 taken_none threads bytes scripts e = record { lines = []; in_range = tt; spelled = refl; by_thread = e }
 
-pub taken_more : (threads : ℕ) (bytes rest after : List ℕ) (scripts news : List (List Command)) (l : TraceLine) → HasTaken threads bytes rest scripts → IsLine threads l → rest ≡ line l ++ after → news ≡ with_line scripts l → HasTaken threads bytes after news
+pub taken_more : (threads : ℕ) (bytes rest after : List ℕ) (scripts news : List (List Command)) (l : TraceLine) → HasReadLines threads bytes rest scripts → IsLine threads l → rest ≡ line l ++ after → news ≡ with_line scripts l → HasReadLines threads bytes after news
 taken_more threads bytes rest after scripts news l taken fits parts made = record {
   lines = taken.lines ++ l ∷ [];
   in_range = all_more threads taken.lines l taken.in_range fits;
@@ -91,7 +91,7 @@ taken_more threads bytes rest after scripts news l taken fits parts made = recor
   by_thread = made ∙ ap (λ (s : List (List Command)). with_line s l) taken.by_thread ∙ scripts_more threads taken.lines l fits;
 }
 
-pub taken_count : (threads : ℕ) (bytes rest after : List ℕ) (scripts news : List (List Command)) (l : TraceLine) (taken : HasTaken threads bytes rest scripts) (fits : IsLine threads l) (parts : rest ≡ line l ++ after) (made : news ≡ with_line scripts l)
+pub taken_count : (threads : ℕ) (bytes rest after : List ℕ) (scripts news : List (List Command)) (l : TraceLine) (taken : HasReadLines threads bytes rest scripts) (fits : IsLine threads l) (parts : rest ≡ line l ++ after) (made : news ≡ with_line scripts l)
     → length (taken_more threads bytes rest after scripts news l taken fits parts made).lines ≡ length taken.lines + 1
 unfolding taken_more
 taken_count threads bytes rest after scripts news l taken fits parts made = length-append taken.lines (l ∷ [])
@@ -101,7 +101,7 @@ flat_append x xs rest = ap (λ (bs : List ℕ). bs ++ rest) (flat_map-cons line 
 
 -- what is behind the commands is no line
 no_line : (threads : ℕ) (bytes : List ℕ) → IsBehindCommands bytes → line_at threads bytes ≡ None
-unfolding line_at positive_at number_at numeral
+unfolding line_at positive_at spelled_number numeral
 no_line threads [] behind = refl
 no_line threads (b ∷ bytes) behind = rw behind refl
 
@@ -142,7 +142,7 @@ turns_behind (items ∷ turns) = refl
 
 -- what was read is a trace
 pub whole : (bytes rest behind : List ℕ) (c : Config) (threads : ℕ) (scripts : List (List Command)) (items : List Item) → length bytes ≤ most_bytes → bytes ≡ header c ++ rest → threads ≡ c.mutators
-    → HasTaken threads rest behind scripts → HasScheduled c behind [] items → Reads bytes c scripts items
+    → HasReadLines threads rest behind scripts → HasScheduled c behind [] items → Reads bytes c scripts items
 whole bytes rest behind c threads scripts items short found same taken turned = record {
   lines = taken.lines;
   in_range = subst (λ (n : ℕ). AllByRecursion (IsLine n) taken.lines) same taken.in_range;
@@ -160,7 +160,7 @@ few_lines [] = omega arith
 few_lines (l ∷ lines) =
     let front = ap length (flat_map-cons line l lines) in
     let sizes = length-append (line l) (flat_map line lines) in
-    let parts = length-append (decimal l.thread) (space ∷ (word_of l.command ++ (numbers (numbers_of l.command) ++ newline ∷ []))) in
+    let parts = length-append (decimal l.thread) (space ∷ (command_word l.command ++ (numbers (numbers_of l.command) ++ newline ∷ []))) in
     let others = few_lines lines in
     omega (arith, front, sizes, parts, others)
 

@@ -25,7 +25,7 @@ abbrev pub with_line : List (List Command) → TraceLine → List (List Command)
 with_line scripts l = slice_set scripts (l.thread - 1) (slice_index_or scripts (l.thread - 1) [] ++ l.command ∷ [])
 
 -- these lines were taken from the front of the bytes, and what they say is in the scripts
-pub record HasTaken (threads : ℕ) (bytes rest : List ℕ) (scripts : List (List Command)) : Type 0 where
+pub record HasReadLines (threads : ℕ) (bytes rest : List ℕ) (scripts : List (List Command)) : Type 0 where
   pub lines : List TraceLine
   pub in_range : AllByRecursion (IsLine threads) lines
   pub spelled : bytes ≡ flat_map line lines ++ rest

@@ -51,11 +51,11 @@ command_from Same ns = command.Same (slice_index ns 0) (slice_index ns 1)
 command_from Gc ns = command.Gc
 
 -- these numbers are within these limits
-abbrev pub AreWithin : List ℕ → List ℕ → Type 0
-AreWithin [] [] = Unit {0}
-AreWithin [] (n ∷ ns) = ⊥
-AreWithin (limit ∷ limits) [] = ⊥
-AreWithin (limit ∷ limits) (n ∷ ns) = (n ≤ limit) × AreWithin limits ns
+abbrev pub AreWithinLimits : List ℕ → List ℕ → Type 0
+AreWithinLimits [] [] = Unit {0}
+AreWithinLimits [] (n ∷ ns) = ⊥
+AreWithinLimits (limit ∷ limits) [] = ⊥
+AreWithinLimits (limit ∷ limits) (n ∷ ns) = (n ≤ limit) × AreWithinLimits limits ns
 
 -- the first of these numbers are within the limits of the kind
 abbrev pub Suit : CommandKind → List ℕ → Type 0

@@ -32,8 +32,8 @@ unfoldable pub numeral : ℕ → List ℕ → Option ℕ
 numeral limit digits = if is_numeral digits then (if nat_lt limit (digits_value 10 digits) then None else Some (digits_value 10 digits)) else None
 
 -- the number that the digits at the front spell, at most a limit
-unfoldable pub number_at : ℕ → List ℕ → Option (ℕ × List ℕ)
-number_at limit bytes = do
+unfoldable pub spelled_number : ℕ → List ℕ → Option (ℕ × List ℕ)
+spelled_number limit bytes = do
   n ← numeral limit (take (digit_count bytes) bytes)
   Some (n, drop (digit_count bytes) bytes)
 
@@ -41,12 +41,12 @@ number_at limit bytes = do
 unfoldable pub spaced_at : ℕ → List ℕ → Option (ℕ × List ℕ)
 spaced_at limit bytes = do
   rest ← behind (32 ∷ []) bytes
-  number_at limit rest
+  spelled_number limit rest
 
 -- a number from 1 on, at most a limit
 unfoldable pub positive_at : ℕ → List ℕ → Option (ℕ × List ℕ)
 positive_at limit bytes = do
-  n ← number_at limit bytes
+  n ← spelled_number limit bytes
   if n.0 == 0 then None else Some n
 
 -- numbers up to these limits, each after a space
@@ -68,8 +68,8 @@ kind_among [] bytes = None
 kind_among (k ∷ kinds) bytes = found k (behind (word k) bytes) (kind_among kinds bytes)
 
 -- a command's word and its numbers
-unfoldable pub command_at : List ℕ → Option (Command × List ℕ)
-command_at bytes = do
+unfoldable pub spelled_command : List ℕ → Option (Command × List ℕ)
+spelled_command bytes = do
   k ← kind_among kinds bytes
   ns ← numbers_at (limits k.0) k.1
   Some (command_from k.0 ns.0, ns.1)
@@ -79,7 +79,7 @@ unfoldable pub line_at : ℕ → List ℕ → Option (TraceLine × List ℕ)
 line_at threads bytes = do
   t ← positive_at threads bytes
   rest ← behind (32 ∷ []) t.1
-  c ← command_at rest
+  c ← spelled_command rest
   end ← behind (10 ∷ []) c.1
   Some (record { thread = t.0; command = c.0 }, end)
 

@@ -24,18 +24,18 @@ abbrev pub numbers : List ℕ → List ℕ
 numbers ns = flat_map (λ n. space ∷ decimal n) ns
 
 -- the word of a command
-abbrev pub word_of : Command → List ℕ
-word_of (New dst refs nums) = codes "new"
-word_of (Get dst src field) = codes "get"
-word_of (Set obj field val) = codes "set"
-word_of (Cas obj field expect val) = codes "cas"
-word_of (Xchg dst obj field val) = codes "xchg"
-word_of (Rd obj index) = codes "rd"
-word_of (Wr obj index value) = codes "wr"
-word_of (Copy dst src) = codes "copy"
-word_of (Drop dst) = codes "drop"
-word_of (Same a b) = codes "same"
-word_of Gc = codes "gc"
+abbrev pub command_word : Command → List ℕ
+command_word (New dst refs nums) = codes "new"
+command_word (Get dst src field) = codes "get"
+command_word (Set obj field val) = codes "set"
+command_word (Cas obj field expect val) = codes "cas"
+command_word (Xchg dst obj field val) = codes "xchg"
+command_word (Rd obj index) = codes "rd"
+command_word (Wr obj index value) = codes "wr"
+command_word (Copy dst src) = codes "copy"
+command_word (Drop dst) = codes "drop"
+command_word (Same a b) = codes "same"
+command_word Gc = codes "gc"
 
 -- the numbers behind it
 abbrev pub numbers_of : Command → List ℕ
@@ -57,19 +57,19 @@ pub record TraceLine : Type 0 where
   pub command : Command
 
 abbrev pub line : TraceLine → List ℕ
-line l = decimal l.thread ++ space ∷ (word_of l.command ++ (numbers (numbers_of l.command) ++ newline ∷ []))
+line l = decimal l.thread ++ space ∷ (command_word l.command ++ (numbers (numbers_of l.command) ++ newline ∷ []))
 
 -- a number that is written fits 64 bits
-abbrev pub FitsValue : Command → Type 0
-FitsValue (Wr obj index value) = value < 2 ^ 64
-FitsValue _ = Unit {0}
+abbrev pub FitsWhenWritten : Command → Type 0
+FitsWhenWritten (Wr obj index value) = value < 2 ^ 64
+FitsWhenWritten _ = Unit {0}
 
 -- what may stand on a line where there are so many threads, counted from 1
 pub record IsLine (threads : ℕ) (l : TraceLine) : Type 0 where
   pub from_one : 1 ≤ l.thread
   pub to_last : l.thread ≤ threads
   pub valid : IsValid l.command
-  pub fits : FitsValue l.command
+  pub fits : FitsWhenWritten l.command
 
 -- a title and numbers, on a line of their own
 abbrev pub titled : List ℕ → List ℕ → List ℕ

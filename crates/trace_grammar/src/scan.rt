@@ -5,7 +5,7 @@ ghost use Rattle.std.specs.Str.Parse.{AllDigits, digits_value};
 ghost use Rattle.std.specs.Option.{option_map};
 ghost use Rattle.std.specs.Fmt.{decimal};
 ghost use Rattle.trace_grammar.specs.Spelling.{IsUpTo};
-ghost use Rattle.trace_grammar.specs.Scanning.{behind, digit_count, is_numeral, numeral, number_at, positive_at, spaced_at, numbers_at};
+ghost use Rattle.trace_grammar.specs.Scanning.{behind, digit_count, is_numeral, numeral, spelled_number, positive_at, spaced_at, numbers_at};
 
 /// What is behind a text at the front of the bytes.
 pub fn text_at<'a>(text: &[u8], bytes: &'a [u8]) -> Option<&'a [u8]>
@@ -67,9 +67,9 @@ fn numeral(limit: u64, digits: &[u8]) -> Option<u64>
 }
 
 /// The number that the digits at the front spell, at most a limit, and the bytes behind it.
-#[tactic(auto, unfolding(crate::specs::Scanning::number_at))]
+#[tactic(auto, unfolding(crate::specs::Scanning::spelled_number))]
 fn number_at(limit: u64, bytes: &[u8]) -> Option<(u64, &[u8])>
-    ensures { option_map (λ x. (x.0, x.1.now)) result ≡ number_at limit bytes.now }
+    ensures { option_map (λ x. (x.0, x.1.now)) result ≡ spelled_number limit bytes.now }
 {
     let (digits, rest) = bytes.split_at(digits_at(bytes));
     let number = numeral(limit, digits)?;

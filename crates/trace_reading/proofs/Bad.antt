@@ -9,7 +9,7 @@ use Rattle.heap_words.specs.declared.config.Config.{Config}
 use Rattle.heap_words.specs.declared.schedule.Item.{Item}
 use Rattle.trace_grammar.specs.Spelling.{TraceLine, IsLine, line, header, schedule_line, IsScheduleLine}
 use Rattle.trace_grammar.specs.Front.{IsBehindCommands}
-use Rattle.trace_grammar.specs.Grammar.{HasTaken}
+use Rattle.trace_grammar.specs.Grammar.{HasReadLines}
 use Rattle.trace_grammar.specs.declared.why.Why.{Why}
 use Rattle.trace_grammar.proofs.Traces.{few_lines, few_turns, command_is_no_turn}
 use Rattle.trace_refusals.specs.Causes.{parts}
@@ -61,7 +61,7 @@ stops_in_commands bytes rest c n why e stops =
     let lines = begun_lines bytes stops.lines stops.rest 3 c stops.in_range (subst (λ (bs : List ℕ). Begun bytes bs 3 (Commands c)) stops.spelled head) in
     begun_stops bytes stops.rest (3 + length stops.lines) n (Commands c) why lines (omega (arith, stops.number)) stops.cause
 
-pub stops_in_turns : (bytes rest behind : List ℕ) (c : Config) (scripts : List (List Command)) (first n : ℕ) (why : Why) (taken : HasTaken c.mutators rest behind scripts) → bytes ≡ header c ++ rest → first ≡ 4 + length taken.lines
+pub stops_in_turns : (bytes rest behind : List ℕ) (c : Config) (scripts : List (List Command)) (first n : ℕ) (why : Why) (taken : HasReadLines c.mutators rest behind scripts) → bytes ≡ header c ++ rest → first ≡ 4 + length taken.lines
     → StopsTurns c first behind n why → StopsAt bytes n why
 stops_in_turns bytes rest behind c scripts first n why taken e number stops =
     let head = begun_head bytes rest c e in

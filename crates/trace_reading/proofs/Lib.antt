@@ -1,2 +1,2 @@
 pub mod Bad
-pub mod Places
+pub mod PlaceCodes

@@ -1,15 +1,15 @@
 //! A command's line.
 ghost use Rattle.std.specs.Prelude.{◌≡◌};
 ghost use Rattle.std.specs.Option.{option_map};
-ghost use Rattle.trace_grammar.specs.Scanning.{command_at, line_at};
+ghost use Rattle.trace_grammar.specs.Scanning.{spelled_command, line_at};
 
 use shen_graph::Command;
 use trace_grammar::{kind_at, numbers_at, positive_at, text_at};
 
 /// The command at the front, and what is behind its numbers.
-#[tactic(auto, unfolding(trace_grammar::specs::Scanning::command_at))]
+#[tactic(auto, unfolding(trace_grammar::specs::Scanning::spelled_command))]
 fn command_at(bytes: &[u8]) -> Option<(Command, &[u8])>
-    ensures { option_map (λ x. (x.0, x.1.now)) result ≡ command_at bytes.now }
+    ensures { option_map (λ x. (x.0, x.1.now)) result ≡ spelled_command bytes.now }
 {
     let (kind, rest) = kind_at(bytes)?;
     let (numbers, rest) = numbers_at(kind.limits(), rest)?;

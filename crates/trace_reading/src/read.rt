@@ -7,7 +7,7 @@ ghost use Rattle.heap_words.specs.declared.config.Config.{Config as Sizes};
 ghost use Rattle.trace_grammar.specs.Spelling.{TraceLine, IsLine, line, header};
 ghost use Rattle.trace_grammar.specs.Scanning.{sizes_at};
 ghost use Rattle.trace_grammar.specs.Front.{IsBehindCommands};
-ghost use Rattle.trace_grammar.specs.Grammar.{most_bytes, with_line, scripts_of, HasTaken, Reads, Came};
+ghost use Rattle.trace_grammar.specs.Grammar.{most_bytes, with_line, scripts_of, HasReadLines, Reads, Came};
 ghost use Rattle.trace_grammar.specs.declared.why.Why.{Why as Cause};
 ghost use Rattle.trace_refusals.specs.Causes.{parts};
 ghost use Rattle.trace_refusals.specs.Refused.{body_stage, cause_of, StopsAt, Refused};
@@ -99,7 +99,7 @@ fn take_lines<'a>(
 ) -> Result<(u64, &'a [u8]), TraceFault>
     requires scripts { scripts.old.items ≡ scripts_of config.now.mutators [] }
     requires few { length bytes.now ≤ most_bytes }
-    ensures ok { IfOk result (λ x. (taken : HasTaken config.now.mutators bytes.now x.1.now scripts.new.items) × (x.0 ≡ 4 + length taken.lines)) }
+    ensures ok { IfOk result (λ x. (taken : HasReadLines config.now.mutators bytes.now x.1.now scripts.new.items) × (x.0 ≡ 4 + length taken.lines)) }
     ensures behind { IfOk result (λ x. IsBehindCommands x.1.now) }
     ensures fault { IfErr result IsTextFault }
     ensures bad_line { (n : ℕ) (why : Cause) → result ≡ Err (TraceFault.BadLine n why) → StopsCommands config.now bytes.now n why }

@@ -10,14 +10,14 @@ use Rattle.heap_words.specs.declared.schedule.Item.{Item}
 use Rattle.trace_grammar.specs.Spelling.{TraceLine, IsLine, line, newline, titled, header, schedule_line, IsScheduleLine}
 use Rattle.trace_grammar.specs.declared.why.Why.{Why}
 use Rattle.trace_refusals.specs.Causes.{parts}
-use Rattle.trace_refusals.specs.Refused.{Stage, Version, Heap, Threads, Commands, Turns, body_stage, cause_of, Follows, Lead, StopsAt}
+use Rattle.trace_refusals.specs.Refused.{LineStage, Version, Heap, Threads, Commands, Turns, body_stage, cause_of, LineFollows, Lead, StopsAt}
 use Rattle.trace_refusals.proofs.Heads.{titled_is, version_spelled, heap_spelled, threads_spelled}
 use Rattle.trace_refusals.proofs.Commands.{line_words, line_is}
-use Rattle.trace_refusals.proofs.Turns.{words_of_turn, turn_is}
+use Rattle.trace_refusals.proofs.ScheduleWords.{words_of_turn, turn_is}
 use Rattle.trace_refusals.proofs.Leads.{line_of, line_in_front, bytes_of_line, first_line}
 
 -- the bytes begin with so many lines of a trace, and this is to stand on the next
-pub record Begun (bytes rest : List ℕ) (n : ℕ) (stage : Stage) : Type 0 where
+pub record Begun (bytes rest : List ℕ) (n : ℕ) (stage : LineStage) : Type 0 where
   pub before : List (List ℕ)
   pub lines : parts newline bytes ≡ before ++ parts newline rest
   pub number : n ≡ length before
@@ -26,11 +26,11 @@ pub record Begun (bytes rest : List ℕ) (n : ℕ) (stage : Stage) : Type 0 wher
 pub begun_none : (bytes : List ℕ) → Begun bytes bytes 0 Version
 begun_none bytes = record { before = []; lines = refl; number = refl; lead = refl }
 
-lead_more : (first : Stage) (texts : List (List ℕ)) (stage : Stage) (text : List ℕ) (next : Stage) → Lead first texts stage → Follows stage text next → Lead first (texts ++ text ∷ []) next
-lead_more first [] stage text next lead f = subst (λ (s : Stage). Lead s (text ∷ []) next) (sym lead) (next, f, refl)
+lead_more : (first : LineStage) (texts : List (List ℕ)) (stage : LineStage) (text : List ℕ) (next : LineStage) → Lead first texts stage → LineFollows stage text next → Lead first (texts ++ text ∷ []) next
+lead_more first [] stage text next lead f = subst (λ (s : LineStage). Lead s (text ∷ []) next) (sym lead) (next, f, refl)
 lead_more first (t ∷ texts) stage text next lead f = (lead.0, lead.1, lead_more lead.0 texts stage text next lead.2 f)
 
-pub begun_more : (bytes text rest : List ℕ) (n : ℕ) (stage next : Stage) → Begun bytes (text ++ 10 ∷ rest) n stage → Follows stage text next → Begun bytes rest (n + 1) next
+pub begun_more : (bytes text rest : List ℕ) (n : ℕ) (stage next : LineStage) → Begun bytes (text ++ 10 ∷ rest) n stage → LineFollows stage text next → Begun bytes rest (n + 1) next
 begun_more bytes text rest n stage next b f = record {
   before = b.before ++ text ∷ [];
   lines = b.lines ∙ ap (λ (ts : List (List ℕ)). b.before ++ ts) (line_in_front stage text rest next f) ∙ sym (append_assoc b.before (text ∷ []) (parts newline rest));
@@ -38,7 +38,7 @@ begun_more bytes text rest n stage next b f = record {
   lead = lead_more Version b.before stage text next b.lead f;
 }
 
-pub begun_stops : (bytes rest : List ℕ) (n m : ℕ) (stage : Stage) (why : Why) → Begun bytes rest n stage → m ≡ n + 1 → cause_of stage (parts newline rest) ≡ Some why → StopsAt bytes m why
+pub begun_stops : (bytes rest : List ℕ) (n m : ℕ) (stage : LineStage) (why : Why) → Begun bytes rest n stage → m ≡ n + 1 → cause_of stage (parts newline rest) ≡ Some why → StopsAt bytes m why
 begun_stops bytes rest n m stage why b e cause = record {
   before = b.before;
   from_it = parts newline rest;

@@ -6,8 +6,8 @@ use Rattle.std.specs.Cmp.Lexicographic.{same_text}
 use Rattle.std.proofs.lemmas.Bool.{eqb-true}
 use Rattle.trace_grammar.specs.declared.kind.CommandKind.{CommandKind}
 use Rattle.trace_grammar.specs.declared.kind.CommandKind.TheVariants.{New}
-use Rattle.trace_grammar.specs.Kinds.{kinds, word, limits, command_from, AreWithin}
-use Rattle.trace_grammar.specs.Spelling.{TraceLine, IsLine, line, newline, numbers, word_of, numbers_of}
+use Rattle.trace_grammar.specs.Kinds.{kinds, word, limits, command_from, AreWithinLimits}
+use Rattle.trace_grammar.specs.Spelling.{TraceLine, IsLine, line, newline, numbers, command_word, numbers_of}
 use Rattle.trace_grammar.specs.declared.why.Why.TheVariants.{Command}
 use Rattle.trace_grammar.proofs.Numbers.{AreSmall, same_some}
 use Rattle.trace_grammar.proofs.Lines.{limits_small, kind_of, made_numbers, made_word, made_valid, valid_within, word_again}
@@ -43,13 +43,13 @@ small_up_to : (bounds : List ℕ) → AreSmall bounds → AreSmallRanges (up_to 
 small_up_to [] small = tt
 small_up_to (b ∷ bounds) small = (small.0, small_up_to bounds small.1)
 
-within_limits : (bounds ns : List ℕ) → AreBetween (up_to bounds) ns → AreWithin bounds ns
+within_limits : (bounds ns : List ℕ) → AreBetween (up_to bounds) ns → AreWithinLimits bounds ns
 within_limits [] [] between = tt
 within_limits [] (n ∷ ns) between = absurd between
 within_limits (b ∷ bounds) [] between = absurd between
 within_limits (b ∷ bounds) (n ∷ ns) between = (between.1, within_limits bounds ns between.2)
 
-between_limits : (bounds ns : List ℕ) → AreWithin bounds ns → AreBetween (up_to bounds) ns
+between_limits : (bounds ns : List ℕ) → AreWithinLimits bounds ns → AreBetween (up_to bounds) ns
 between_limits [] [] within = tt
 between_limits [] (n ∷ ns) within = absurd within
 between_limits (b ∷ bounds) [] within = absurd within
@@ -62,13 +62,13 @@ small_ranges threads k small = (small, small_up_to (limits k) (limits_small k))
 
 -- the words of a line
 abbrev pub line_words : TraceLine → List (List ℕ)
-line_words l = decimal l.thread ∷ word_of l.command ∷ map decimal (numbers_of l.command)
+line_words l = decimal l.thread ∷ command_word l.command ∷ map decimal (numbers_of l.command)
 
 pub line_is : (l : TraceLine) → join_with_byte 32 (line_words l) ++ newline ∷ [] ≡ line l
 line_is l =
-    append_assoc (decimal l.thread) (32 ∷ join_with_byte 32 (word_of l.command ∷ map decimal (numbers_of l.command))) (newline ∷ [])
-    ∙ ap (λ (t : List ℕ). decimal l.thread ++ 32 ∷ (t ++ newline ∷ [])) (join_numbers (word_of l.command) (numbers_of l.command))
-    ∙ ap (λ (t : List ℕ). decimal l.thread ++ 32 ∷ t) (append_assoc (word_of l.command) (numbers (numbers_of l.command)) (newline ∷ []))
+    append_assoc (decimal l.thread) (32 ∷ join_with_byte 32 (command_word l.command ∷ map decimal (numbers_of l.command))) (newline ∷ [])
+    ∙ ap (λ (t : List ℕ). decimal l.thread ++ 32 ∷ (t ++ newline ∷ [])) (join_numbers (command_word l.command) (numbers_of l.command))
+    ∙ ap (λ (t : List ℕ). decimal l.thread ++ 32 ∷ t) (append_assoc (command_word l.command) (numbers (numbers_of l.command)) (newline ∷ []))
 
 -- the numbers of a line: the thread, and those of the command
 fits_ranges : (threads : ℕ) (l : TraceLine) → IsLine threads l → AreBetween (ranges_of threads (limits (kind_of l.command))) (l.thread ∷ numbers_of l.command)
@@ -80,13 +80,13 @@ line_clean threads l small fits =
     (all.0, (subst IsWord (word_again l.command) (kind_word (kind_of l.command)), all.1))
 
 -- the words of a line have no cause
-pub line_fine : (threads : ℕ) (l : TraceLine) → threads < 2 ^ 64 → IsLine threads l → command_cause threads (decimal l.thread) (word_of l.command ∷ map decimal (numbers_of l.command)) ≡ None
+pub line_fine : (threads : ℕ) (l : TraceLine) → threads < 2 ^ 64 → IsLine threads l → command_cause threads (decimal l.thread) (command_word l.command ∷ map decimal (numbers_of l.command)) ≡ None
 line_fine threads l small fits =
     let k = kind_of l.command in
     let ranges = ranges_of threads (limits k) in
     let between = fits_ranges threads l fits in
     let size : length (map decimal (numbers_of l.command)) ≡ length (limits k) = lengths ranges (l.thread ∷ numbers_of l.command) between in
-    kind_known threads (decimal l.thread) (word_of l.command ∷ map decimal (numbers_of l.command)) (word_of l.command) (map decimal (numbers_of l.command)) k refl
+    kind_known threads (decimal l.thread) (command_word l.command ∷ map decimal (numbers_of l.command)) (command_word l.command) (map decimal (numbers_of l.command)) k refl
     (ap (kind_named kinds) (sym (word_again l.command)) ∙ kind_again k)
     ∙ rw (agrees (length (map decimal (numbers_of l.command))) (length (limits k)) size) (numbers_again ranges (l.thread ∷ numbers_of l.command) (small_ranges threads k small) between)
   where
@@ -110,7 +110,7 @@ line_spelled threads thread (w ∷ ws) small e = by_kind (kind_named kinds w) re
           l,
           record { from_one = between.0; to_last = between.1; valid = valid.0; fits = valid.1 },
           ap (λ (t : List ℕ). t ∷ w ∷ ws) first ∙ ap (λ (t : List ℕ). decimal n ∷ t ∷ ws) (same ∙ sym (made_word k ns))
-              ∙ ap (λ (ts : List (List ℕ)). decimal n ∷ word_of (command_from k ns) ∷ ts) (others ∙ ap (map decimal) (sym (made_numbers k ns within))),
+              ∙ ap (λ (ts : List (List ℕ)). decimal n ∷ command_word (command_from k ns) ∷ ts) (others ∙ ap (map decimal) (sym (made_numbers k ns within))),
         )
 
     by_count : (k : CommandKind) → w ≡ word k → (test : Bool) → eqb (length ws) (length (limits k)) ≡ test → cond test (numbers_cause (ranges_of threads (limits k)) (thread ∷ ws)) (Some Command) ≡ None → (l : TraceLine) × IsLine threads l × (thread ∷ w ∷ ws ≡ line_words l)

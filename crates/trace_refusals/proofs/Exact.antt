@@ -13,10 +13,10 @@ use Rattle.trace_grammar.specs.Grammar.{Reads}
 use Rattle.trace_grammar.specs.declared.why.Why.{Why}
 use Rattle.trace_grammar.proofs.Numbers.{own, same_some}
 use Rattle.trace_grammar.proofs.Once.{same_config}
-use Rattle.trace_refusals.specs.Refused.{Stage, Version, Heap, Threads, Commands, Turns, body_stage, cause_of, Follows, IsCommandLine, IsTurn, Lead, StopsAt}
+use Rattle.trace_refusals.specs.Refused.{LineStage, Version, Heap, Threads, Commands, Turns, body_stage, cause_of, LineFollows, IsCommandLine, IsTurnItem, Lead, StopsAt}
 use Rattle.trace_refusals.proofs.Heads.{heap_again, threads_again}
 use Rattle.trace_refusals.proofs.Commands.{line_words}
-use Rattle.trace_refusals.proofs.Turns.{words_of_turn}
+use Rattle.trace_refusals.proofs.ScheduleWords.{words_of_turn}
 use Rattle.trace_refusals.proofs.Leads.{few_threads, line_text, turn_text, no_number, fine}
 use Rattle.trace_refusals.proofs.Begins.{Begun, begun_head, begun_lines, begun_turns}
 
@@ -47,7 +47,7 @@ same_threads r w e c d c1 c2 c3 d1 d2 d3 same =
     same_config c d (c1 ∙ sym d1) (c2 ∙ sym d2) m h (c3 ∙ sym d3)
 
 -- a line of a command is no line of the schedule
-not_both : (c : Config) (text : List ℕ) → IsCommandLine c text → IsTurn c text → ⊥
+not_both : (c : Config) (text : List ℕ) → IsCommandLine c text → IsTurnItem c text → ⊥
 not_both c text it other =
     let l = it.0 in
     let one = (line_text c.mutators text l (few_threads c) it.1 it.2).0 in
@@ -56,7 +56,7 @@ not_both c text it other =
     let first : decimal l.thread ≡ 33 ∷ [] = same_words (line_words l) (words_of_turn other.0) 0 (sym one ∙ two) in
     no_number l.thread small first
 
-same_next : (stage : Stage) (text : List ℕ) (a b : Stage) → Follows stage text a → Follows stage text b → a ≡ b
+same_next : (stage : LineStage) (text : List ℕ) (a b : LineStage) → LineFollows stage text a → LineFollows stage text b → a ≡ b
 same_next Version text a b f g = f.1 ∙ sym g.1
 same_next Heap text a b f g = f.2 ∙ same_heap f.0 g.0 (sym (heap_again f.0 text f.1).2 ∙ (heap_again g.0 text g.1).2) ∙ sym g.2
 same_next (Threads r w e) text a b f g =
@@ -70,37 +70,37 @@ same_next (Turns c) text a b f g = f.1 ∙ sym g.1
 -- ---- lines lead to one end
 
 -- a line with a cause is the first of these, or they are the empty text behind the last end of a line
-abbrev IsEnding : Stage → List (List ℕ) → Type 0
+abbrev IsEnding : LineStage → List (List ℕ) → Type 0
 IsEnding stage texts = ((why : Why) × (cause_of stage texts ≡ Some why)) ⊎ ((texts ≡ [] ∷ []) × (cause_of stage texts ≡ None))
 
-no_ending : (stage : Stage) → IsEnding stage [] → ⊥
+no_ending : (stage : LineStage) → IsEnding stage [] → ⊥
 unfolding cause_of
 no_ending stage (inl it) = let e = it.1 in cc
 no_ending stage (inr it) = let e = it.0 in cc
 
-goes_on : (stage next : Stage) (text : List ℕ) (others : List (List ℕ)) → Follows stage text next → (others ≡ [] → ⊥) → IsEnding stage (text ∷ others) → ⊥
+goes_on : (stage next : LineStage) (text : List ℕ) (others : List (List ℕ)) → LineFollows stage text next → (others ≡ [] → ⊥) → IsEnding stage (text ∷ others) → ⊥
 unfolding cause_of
 goes_on stage next text [] f some ending = some refl
 goes_on stage next text (t ∷ others) f some (inl it) = let none = (fine stage text next f).0 in let e = it.1 in cc
 goes_on stage next text (t ∷ others) f some (inr it) = let e = it.0 in cc
 
-not_empty : (stage : Stage) (xs ys : List (List ℕ)) → IsEnding stage ys → xs ++ ys ≡ [] → ⊥
+not_empty : (stage : LineStage) (xs ys : List (List ℕ)) → IsEnding stage ys → xs ++ ys ≡ [] → ⊥
 not_empty stage [] ys ending e = no_ending stage (subst (IsEnding stage) e ending)
 not_empty stage (x ∷ xs) ys ending e = absurd cc
 
 heads : (x y : List ℕ) (xs ys : List (List ℕ)) → x ∷ xs ≡ y ∷ ys → (x ≡ y) × (xs ≡ ys)
 heads x y xs ys e = (cc, cc)
 
-pub one_end : (stage : Stage) (xs ys : List (List ℕ)) (a b : Stage) (p q : List (List ℕ)) → Lead stage xs a → Lead stage ys b → xs ++ p ≡ ys ++ q → IsEnding a p → IsEnding b q → (length xs ≡ length ys) × (cause_of a p ≡ cause_of b q)
-one_end stage [] [] a b p q l m e f g = (refl, ap (λ (s : Stage). cause_of s p) (sym l ∙ m) ∙ ap (cause_of b) e)
+pub one_end : (stage : LineStage) (xs ys : List (List ℕ)) (a b : LineStage) (p q : List (List ℕ)) → Lead stage xs a → Lead stage ys b → xs ++ p ≡ ys ++ q → IsEnding a p → IsEnding b q → (length xs ≡ length ys) × (cause_of a p ≡ cause_of b q)
+one_end stage [] [] a b p q l m e f g = (refl, ap (λ (s : LineStage). cause_of s p) (sym l ∙ m) ∙ ap (cause_of b) e)
 one_end stage [] (y ∷ ys) a b p q l m e f g =
-    absurd (goes_on stage m.0 y (ys ++ q) m.1 (not_empty b ys q g) (subst (IsEnding stage) e (subst (λ (s : Stage). IsEnding s p) (sym l) f)))
+    absurd (goes_on stage m.0 y (ys ++ q) m.1 (not_empty b ys q g) (subst (IsEnding stage) e (subst (λ (s : LineStage). IsEnding s p) (sym l) f)))
 one_end stage (x ∷ xs) [] a b p q l m e f g =
-    absurd (goes_on stage l.0 x (xs ++ p) l.1 (not_empty a xs p f) (subst (IsEnding stage) (sym e) (subst (λ (s : Stage). IsEnding s q) (sym m) g)))
+    absurd (goes_on stage l.0 x (xs ++ p) l.1 (not_empty a xs p f) (subst (IsEnding stage) (sym e) (subst (λ (s : LineStage). IsEnding s q) (sym m) g)))
 one_end stage (x ∷ xs) (y ∷ ys) a b p q l m e f g =
     let first = heads x y (xs ++ p) (ys ++ q) e in
-    let same : l.0 ≡ m.0 = same_next stage x l.0 m.0 l.1 (subst (λ (t : List ℕ). Follows stage t m.0) (sym first.0) m.1) in
-    let others = one_end m.0 xs ys a b p q (subst (λ (s : Stage). Lead s xs a) same l.2) m.2 first.1 f g in
+    let same : l.0 ≡ m.0 = same_next stage x l.0 m.0 l.1 (subst (λ (t : List ℕ). LineFollows stage t m.0) (sym first.0) m.1) in
+    let others = one_end m.0 xs ys a b p q (subst (λ (s : LineStage). Lead s xs a) same l.2) m.2 first.1 f g in
     (ap suc others.0, others.1)
 
 -- bytes are refused once

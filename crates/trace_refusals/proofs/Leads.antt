@@ -8,17 +8,17 @@ use Rattle.std.proofs.lemmas.Fmt.{digits_decimal}
 use Rattle.std.proofs.lemmas.List.Splits.{join_with_byte-slice_split}
 use Rattle.heap_words.specs.declared.config.Config.{Config}
 use Rattle.heap_words.specs.declared.schedule.Item.{Item}
-use Rattle.trace_grammar.specs.Spelling.{TraceLine, IsLine, line, newline, item, schedule_line, IsScheduleLine, word_of, numbers_of}
+use Rattle.trace_grammar.specs.Spelling.{TraceLine, IsLine, line, newline, item, schedule_line, IsScheduleLine, command_word, numbers_of}
 use Rattle.trace_grammar.specs.declared.why.Why.TheVariants.{EndOfLine}
 use Rattle.trace_grammar.proofs.Numbers.{own}
 use Rattle.trace_refusals.specs.Causes.{parts, parts_behind, is_same, schedule_cause, command_cause}
-use Rattle.trace_refusals.specs.Refused.{Stage, Version, Heap, Threads, Commands, Turns, body_stage, words_cause, end_cause, cause_of, Follows, IsCommandLine, IsTurn}
+use Rattle.trace_refusals.specs.Refused.{LineStage, Version, Heap, Threads, Commands, Turns, body_stage, words_cause, end_cause, cause_of, LineFollows, IsCommandLine, IsTurnItem}
 use Rattle.trace_refusals.proofs.Cuts.{count_before, cut_parts}
 use Rattle.trace_refusals.proofs.Lines.{whole_line, cut_line, turn_words, late_words, command_words}
 use Rattle.trace_refusals.proofs.Free.{is_free, parts_at, parts_again, joined_free}
 use Rattle.trace_refusals.proofs.Heads.{joined, same_before_end, version_spelled, version_again, heap_spelled, heap_again, threads_spelled, threads_again}
 use Rattle.trace_refusals.proofs.Commands.{line_words, line_is, line_clean, line_fine, line_spelled}
-use Rattle.trace_refusals.proofs.Turns.{words_of_turn, turn_is, turn_clean, schedule_spelled, schedule_again}
+use Rattle.trace_refusals.proofs.ScheduleWords.{words_of_turn, turn_is, turn_clean, schedule_spelled, schedule_again}
 
 pub few_threads : (c : Config) → c.mutators < 2 ^ 64
 few_threads c = omega (arith, c.in_range.most_mutators)
@@ -29,7 +29,7 @@ pub line_text : (threads : ℕ) (text : List ℕ) (l : TraceLine) → threads < 
 line_text threads text l small fits e =
     let same : text ≡ join_with_byte 32 (line_words l) = same_before_end text (join_with_byte 32 (line_words l)) newline (e ∙ sym (line_is l)) in
     let clean = line_clean threads l small fits in
-    let others = word_of l.command ∷ map decimal (numbers_of l.command) in
+    let others = command_word l.command ∷ map decimal (numbers_of l.command) in
     (ap (parts 32) same ∙ parts_again (decimal l.thread) others clean, ap (is_free 10) same ∙ joined_free (decimal l.thread) others clean)
 
 pub turn_text : (c : Config) (text : List ℕ) (items : List Item) → IsScheduleLine c items → text ++ newline ∷ [] ≡ schedule_line items → (parts 32 text ≡ words_of_turn items) × (is_free 10 text ≡ true)
@@ -54,14 +54,14 @@ command_fine c text it =
     let l = it.0 in
     let read = line_text c.mutators text l (few_threads c) it.1 it.2 in
     let small : l.thread < 2 ^ 64 = omega (arith, it.1.to_last, few_threads c) in
-    (command_words c false (parts 32 text) (decimal l.thread) (word_of l.command ∷ map decimal (numbers_of l.command)) read.0 (no_mark l.thread small) refl ∙ line_fine c.mutators l (few_threads c) it.1, read.1)
+    (command_words c false (parts 32 text) (decimal l.thread) (command_word l.command ∷ map decimal (numbers_of l.command)) read.0 (no_mark l.thread small) refl ∙ line_fine c.mutators l (few_threads c) it.1, read.1)
 
-turn_fine : (c : Config) (behind : Bool) (text : List ℕ) → IsTurn c text → (words_cause (body_stage c behind) (parts 32 text) ≡ None) × (is_free 10 text ≡ true)
+turn_fine : (c : Config) (behind : Bool) (text : List ℕ) → IsTurnItem c text → (words_cause (body_stage c behind) (parts 32 text) ≡ None) × (is_free 10 text ≡ true)
 turn_fine c behind text it =
     let read = turn_text c text it.0 it.1 it.2 in
     (turn_words c behind (parts 32 text) (33 ∷ []) (map item it.0) read.0 refl ∙ schedule_again c it.0 it.1, read.1)
 
-pub fine : (stage : Stage) (text : List ℕ) (next : Stage) → Follows stage text next → (words_cause stage (parts 32 text) ≡ None) × (is_free 10 text ≡ true)
+pub fine : (stage : LineStage) (text : List ℕ) (next : LineStage) → LineFollows stage text next → (words_cause stage (parts 32 text) ≡ None) × (is_free 10 text ≡ true)
 fine Version text next f = version_again text f.0
 fine Heap text next f = let read = heap_again f.0 text f.1 in (read.0, read.1)
 fine (Threads r w e) text next f = let read = threads_again r w e f.0 text f.4 in (read.0, read.1)
@@ -72,14 +72,14 @@ fine (Turns c) text next f = turn_fine c true text f.0
 -- ---- a text without a cause is a line of the grammar
 
 -- the sizes behind which the threads are wanted are those of a configuration
-abbrev pub Fits : Stage → Type 0
+abbrev pub Fits : LineStage → Type 0
 Fits Version = Unit {0}
 Fits Heap = Unit {0}
 Fits (Threads r w e) = (h : Config) × (h.regions ≡ r) × (h.region_words ≡ w) × (h.reserve ≡ e)
 Fits (Commands c) = Unit {0}
 Fits (Turns c) = Unit {0}
 
-body_turn : (c : Config) (text w : List ℕ) (more : List (List ℕ)) → parts 32 text ≡ w ∷ more → true ≡ is_same w (33 ∷ []) → schedule_cause c more ≡ None → IsTurn c text
+body_turn : (c : Config) (text w : List ℕ) (more : List (List ℕ)) → parts 32 text ≡ w ∷ more → true ≡ is_same w (33 ∷ []) → schedule_cause c more ≡ None → IsTurnItem c text
 body_turn c text w more e same none =
     let made = schedule_spelled c more none in
     let words : parts 32 text ≡ words_of_turn made.0 = e ∙ ap (λ (v : List ℕ). v ∷ more) (same_text w (33 ∷ []) same) ∙ ap (λ (vs : List (List ℕ)). (33 ∷ []) ∷ vs) made.2 in
@@ -90,21 +90,21 @@ body_command c text w more e none =
     let made = line_spelled c.mutators w more (few_threads c) none in
     (made.0, made.1, ap (λ (t : List ℕ). t ++ newline ∷ []) (joined text (line_words made.0) (e ∙ made.2)) ∙ line_is made.0)
 
-pub commands_follow : (c : Config) (text : List ℕ) → words_cause (Commands c) (parts 32 text) ≡ None → IsCommandLine c text ⊎ IsTurn c text
+pub commands_follow : (c : Config) (text : List ℕ) → words_cause (Commands c) (parts 32 text) ≡ None → IsCommandLine c text ⊎ IsTurnItem c text
 commands_follow c text none = by_test (is_same (take (count_before 32 text) text) (33 ∷ [])) refl
   where
-    by_test : (test : Bool) → is_same (take (count_before 32 text) text) (33 ∷ []) ≡ test → IsCommandLine c text ⊎ IsTurn c text
+    by_test : (test : Bool) → is_same (take (count_before 32 text) text) (33 ∷ []) ≡ test → IsCommandLine c text ⊎ IsTurnItem c text
     by_test true same = inr (body_turn c text _ _ (cut_parts 32 text) (sym same) (sym (turn_words c false (parts 32 text) _ _ (cut_parts 32 text) (sym same)) ∙ none))
     by_test false other = inl (body_command c text _ _ (cut_parts 32 text) (sym (command_words c false (parts 32 text) _ _ (cut_parts 32 text) (sym other) refl) ∙ none))
 
-pub turns_follow : (c : Config) (text : List ℕ) → words_cause (Turns c) (parts 32 text) ≡ None → IsTurn c text
+pub turns_follow : (c : Config) (text : List ℕ) → words_cause (Turns c) (parts 32 text) ≡ None → IsTurnItem c text
 turns_follow c text none = by_test (is_same (take (count_before 32 text) text) (33 ∷ [])) refl
   where
-    by_test : (test : Bool) → is_same (take (count_before 32 text) text) (33 ∷ []) ≡ test → IsTurn c text
+    by_test : (test : Bool) → is_same (take (count_before 32 text) text) (33 ∷ []) ≡ test → IsTurnItem c text
     by_test true same = body_turn c text _ _ (cut_parts 32 text) (sym same) (sym (turn_words c true (parts 32 text) _ _ (cut_parts 32 text) (sym same)) ∙ none)
     by_test false other = absurd (let late = late_words c true (parts 32 text) _ _ (cut_parts 32 text) (sym other) refl in cc)
 
-pub follows : (stage : Stage) (text : List ℕ) → Fits stage → words_cause stage (parts 32 text) ≡ None → (next : Stage) × Follows stage text next × Fits next
+pub follows : (stage : LineStage) (text : List ℕ) → Fits stage → words_cause stage (parts 32 text) ≡ None → (next : LineStage) × LineFollows stage text next × Fits next
 follows Version text fits none = (Heap, (version_spelled text none, refl), tt)
 follows Heap text fits none =
     let made = heap_spelled text none in
@@ -114,7 +114,7 @@ follows (Threads r w e) text fits none =
     (Commands made.0, (made.0, made.1, made.2, made.3, made.4, refl), tt)
 follows (Commands c) text fits none = by_kind (commands_follow c text none)
   where
-    by_kind : IsCommandLine c text ⊎ IsTurn c text → (next : Stage) × Follows (Commands c) text next × Fits next
+    by_kind : IsCommandLine c text ⊎ IsTurnItem c text → (next : LineStage) × LineFollows (Commands c) text next × Fits next
     by_kind (inl it) = (Commands c, inl (it, refl), tt)
     by_kind (inr it) = (Turns c, inr (it, refl), tt)
 follows (Turns c) text fits none = (Turns c, (turns_follow c text none, refl), tt)
@@ -138,11 +138,11 @@ pub bytes_of_last : (bytes text : List ℕ) → parts 10 bytes ≡ text ∷ [] �
 bytes_of_last bytes text e = sym (join_with_byte-slice_split 10 bytes) ∙ ap (join_with_byte 10) e
 
 -- a line that ends, and has no cause
-pub line_of : (stage : Stage) (bytes rest text : List ℕ) → (parts 10 bytes ≡ text ∷ []) ⊎ (parts 10 bytes ≡ text ∷ parts 10 rest) → end_cause stage text ≡ Some EndOfLine → cause_of stage (parts 10 bytes) ≡ None
+pub line_of : (stage : LineStage) (bytes rest text : List ℕ) → (parts 10 bytes ≡ text ∷ []) ⊎ (parts 10 bytes ≡ text ∷ parts 10 rest) → end_cause stage text ≡ Some EndOfLine → cause_of stage (parts 10 bytes) ≡ None
     → (parts 10 bytes ≡ text ∷ parts 10 rest) × (words_cause stage (parts 32 text) ≡ None)
 line_of stage bytes rest text (inl last) ends none = absurd (let cut = cut_line stage bytes text last in cc)
 line_of stage bytes rest text (inr e) ends none = (e, sym (whole_line stage bytes text rest e) ∙ none)
 
 -- a line of the grammar at the front
-pub line_in_front : (stage : Stage) (text rest : List ℕ) (next : Stage) → Follows stage text next → parts 10 (text ++ 10 ∷ rest) ≡ text ∷ parts 10 rest
+pub line_in_front : (stage : LineStage) (text rest : List ℕ) (next : LineStage) → LineFollows stage text next → parts 10 (text ++ 10 ∷ rest) ≡ text ∷ parts 10 rest
 line_in_front stage text rest next f = parts_at 10 text rest (fine stage text next f).1

@@ -6,7 +6,7 @@ pub mod Free
 pub mod Numerals
 pub mod Heads
 pub mod Commands
-pub mod Turns
+pub mod ScheduleWords
 pub mod Leads
 pub mod Begins
 pub mod Spells

@@ -6,21 +6,21 @@ use Rattle.std.proofs.lemmas.Bool.Decides.{nat_tests}
 use Rattle.heap_words.specs.declared.config.Config.{Config}
 use Rattle.trace_grammar.specs.declared.why.Why.{Why}
 use Rattle.trace_grammar.specs.declared.why.Why.TheVariants.{EndOfLine, Header, ScheduleLast}
-use Rattle.trace_refusals.specs.Causes.{parts, parts_behind, or_else, is_same, number_cause, numbers_cause, title_cause, heap_ranges, schedule_cause, command_cause}
-use Rattle.trace_refusals.specs.Refused.{Stage, Version, Heap, Threads, Commands, Turns, body_stage, words_cause, end_cause, cause_of}
+use Rattle.trace_refusals.specs.Causes.{parts, parts_behind, first_cause, is_same, number_cause, numbers_cause, title_cause, heap_ranges, schedule_cause, command_cause}
+use Rattle.trace_refusals.specs.Refused.{LineStage, Version, Heap, Threads, Commands, Turns, body_stage, words_cause, end_cause, cause_of}
 use Rattle.trace_refusals.proofs.Cuts.{cut_parts}
 
 -- a line with an end is judged by its words
-pub whole_line : (stage : Stage) (bytes text rest : List ℕ) → parts 10 bytes ≡ text ∷ parts 10 rest → cause_of stage (parts 10 bytes) ≡ words_cause stage (parts 32 text)
+pub whole_line : (stage : LineStage) (bytes text rest : List ℕ) → parts 10 bytes ≡ text ∷ parts 10 rest → cause_of stage (parts 10 bytes) ≡ words_cause stage (parts 32 text)
 unfolding cause_of
 whole_line stage bytes text rest e = rw (e, cut_parts 10 rest) refl
 
 -- a line without one
-pub cut_line : (stage : Stage) (bytes text : List ℕ) → parts 10 bytes ≡ text ∷ [] → cause_of stage (parts 10 bytes) ≡ end_cause stage text
+pub cut_line : (stage : LineStage) (bytes text : List ℕ) → parts 10 bytes ≡ text ∷ [] → cause_of stage (parts 10 bytes) ≡ end_cause stage text
 unfolding cause_of
 cut_line stage bytes text e = rw e refl
 
-by_cause : (cause : Option Why) (fits : Bool) (others : ℕ → Option Why) (m n : ℕ) → (cause ≡ None → m ≡ n) → cond fits (or_else cause (others m)) (Some Header) ≡ cond fits (or_else cause (others n)) (Some Header)
+by_cause : (cause : Option Why) (fits : Bool) (others : ℕ → Option Why) (m n : ℕ) → (cause ≡ None → m ≡ n) → cond fits (first_cause cause (others m)) (Some Header) ≡ cond fits (first_cause cause (others n)) (Some Header)
 by_cause None fits others m n given = ap (λ (k : ℕ). cond fits (others k) (Some Header)) (given refl)
 by_cause (Some why) fits others m n given = refl
 
@@ -64,11 +64,11 @@ unfolding words_cause
 command_words c true words w more e other early = absurd cc
 command_words c false words w more e other early = rw (e, ← other) refl
 
-pub ended : (stage : Stage) (bytes text end : List ℕ) → parts 10 bytes ≡ text ∷ parts_behind 10 end → false ≡ eqb (length end) 0 → cause_of stage (parts 10 bytes) ≡ words_cause stage (parts 32 text)
+pub ended : (stage : LineStage) (bytes text end : List ℕ) → parts 10 bytes ≡ text ∷ parts_behind 10 end → false ≡ eqb (length end) 0 → cause_of stage (parts 10 bytes) ≡ words_cause stage (parts 32 text)
 ended stage bytes text [] e some = absurd cc
 ended stage bytes text (b ∷ rest) e some = whole_line stage bytes text rest e
 
-not_ended : (stage : Stage) (bytes text end : List ℕ) → parts 10 bytes ≡ text ∷ parts_behind 10 end → true ≡ eqb (length end) 0 → cause_of stage (parts 10 bytes) ≡ end_cause stage text
+not_ended : (stage : LineStage) (bytes text end : List ℕ) → parts 10 bytes ≡ text ∷ parts_behind 10 end → true ≡ eqb (length end) 0 → cause_of stage (parts 10 bytes) ≡ end_cause stage text
 not_ended stage bytes text [] e none = cut_line stage bytes text e
 not_ended stage bytes text (b ∷ rest) e none = absurd (grind (arith, nat_tests))
 

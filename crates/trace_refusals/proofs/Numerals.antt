@@ -8,18 +8,18 @@ use Rattle.std.proofs.lemmas.Fmt.{decimal-digits_value, digits_decimal, digits_v
 use Rattle.trace_grammar.specs.Scanning.{digit_count, is_numeral}
 use Rattle.trace_grammar.proofs.Numbers.{own, numeral_parts, numeral_made, lone_zero, digit_count-append, same_test}
 use Rattle.trace_grammar.specs.declared.why.Why.{Why}
-use Rattle.trace_refusals.specs.Causes.{or_else, is_number, range_cause, number_cause, numbers_cause}
+use Rattle.trace_refusals.specs.Causes.{first_cause, is_plain_number, range_cause, number_cause, numbers_cause}
 use Rattle.trace_refusals.proofs.Words.{both, number_digits, number_fine}
 use Rattle.trace_refusals.proofs.Free.{IsWord, free_digits}
 
 -- ---- one number
 
-pub number_spelled : (w : List ℕ) → is_number w ≡ true → digits_value 10 w < 2 ^ 64 → w ≡ decimal (digits_value 10 w)
+pub number_spelled : (w : List ℕ) → is_plain_number w ≡ true → digits_value 10 w < 2 ^ 64 → w ≡ decimal (digits_value 10 w)
 number_spelled w is small =
     let parts = numeral_parts w (both (eqb (digit_count w) (length w)) (is_numeral w) is).1 in
     sym (decimal-digits_value own w (number_digits w is) parts.0 parts.1 small)
 
-pub decimal_is_number : (n : ℕ) → n < 2 ^ 64 → is_number (decimal n) ≡ true
+pub decimal_is_number : (n : ℕ) → n < 2 ^ 64 → is_plain_number (decimal n) ≡ true
 decimal_is_number n small =
     let count : digit_count (decimal n) ≡ length (decimal n) = ap digit_count (sym (append-nil (decimal n))) ∙ digit_count-append (decimal n) [] (digits_decimal own n small) tt in
     rw (count, same_test (length (decimal n)), numeral_made (decimal n) (decimal_nonempty n small) (lone_zero n small)) refl
@@ -54,7 +54,7 @@ AreBetween [] (n ∷ ns) = ⊥
 AreBetween (range ∷ ranges) [] = ⊥
 AreBetween (range ∷ ranges) (n ∷ ns) = (range.0 ≤ n) × (n ≤ range.1) × AreBetween ranges ns
 
-pub none_first : (one other : Option Why) → or_else one other ≡ None → (one ≡ None) × (other ≡ None)
+pub none_first : (one other : Option Why) → first_cause one other ≡ None → (one ≡ None) × (other ≡ None)
 none_first None other e = (refl, e)
 none_first (Some why) other e = absurd cc
 

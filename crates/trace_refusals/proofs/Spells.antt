@@ -4,7 +4,7 @@ use Rattle.heap_words.specs.declared.config.Config.{Config}
 use Rattle.heap_words.specs.declared.schedule.Item.{Item}
 use Rattle.trace_grammar.specs.Spelling.{TraceLine, IsLine, line, schedule_line, IsScheduleLine}
 use Rattle.trace_refusals.specs.Causes.{parts}
-use Rattle.trace_refusals.specs.Refused.{Commands, Turns, IsCommandLine, IsTurn, cause_of}
+use Rattle.trace_refusals.specs.Refused.{Commands, Turns, IsCommandLine, IsTurnItem, cause_of}
 use Rattle.trace_refusals.proofs.Lines.{whole_line, cut_line}
 use Rattle.trace_refusals.proofs.Leads.{commands_follow, turns_follow, first_line, bytes_of_line, bytes_of_last}
 
@@ -21,13 +21,13 @@ front text whole rest bytes e f = f ∙ sym (append_assoc text (10 ∷ []) rest)
 command_front : (c : Config) (bytes text rest : List ℕ) → parts 10 bytes ≡ text ∷ parts 10 rest → IsCommandLine c text → BeginsWithCommand c bytes
 command_front c bytes text rest e it = (it.0, rest, it.1, front text (line it.0) rest bytes it.2 (bytes_of_line bytes text rest e))
 
-turn_front : (c : Config) (bytes text rest : List ℕ) → parts 10 bytes ≡ text ∷ parts 10 rest → IsTurn c text → BeginsWithTurn c bytes
+turn_front : (c : Config) (bytes text rest : List ℕ) → parts 10 bytes ≡ text ∷ parts 10 rest → IsTurnItem c text → BeginsWithTurn c bytes
 turn_front c bytes text rest e it = (it.0, rest, it.1, front text (schedule_line it.0) rest bytes it.2 (bytes_of_line bytes text rest e))
 
 pub commands_spell : (c : Config) (bytes : List ℕ) → 1 ≤ length bytes → cause_of (Commands c) (parts 10 bytes) ≡ None → BeginsWithCommand c bytes ⊎ BeginsWithTurn c bytes
 commands_spell c bytes some none = by_first (first_line bytes).0 (first_line bytes).1 (first_line bytes).2
   where
-    by_kind : (text rest : List ℕ) → parts 10 bytes ≡ text ∷ parts 10 rest → IsCommandLine c text ⊎ IsTurn c text → BeginsWithCommand c bytes ⊎ BeginsWithTurn c bytes
+    by_kind : (text rest : List ℕ) → parts 10 bytes ≡ text ∷ parts 10 rest → IsCommandLine c text ⊎ IsTurnItem c text → BeginsWithCommand c bytes ⊎ BeginsWithTurn c bytes
     by_kind text rest e (inl it) = inl (command_front c bytes text rest e it)
     by_kind text rest e (inr it) = inr (turn_front c bytes text rest e it)
 

@@ -12,7 +12,7 @@ use Rattle.trace_grammar.specs.Kinds.{kinds, word, limits}
 use Rattle.trace_grammar.specs.declared.why.Why.{Why}
 use Rattle.trace_grammar.specs.declared.why.Why.TheVariants.{Header, Command, Number, Range}
 use Rattle.trace_grammar.proofs.Digits.{digits_are_digits}
-use Rattle.trace_refusals.specs.Causes.{or_else, is_same, parts_behind, is_number, range_cause, number_cause, numbers_cause, title_cause, kind_named, ranges_of, command_cause, item_cause, items_cause, schedule_cause}
+use Rattle.trace_refusals.specs.Causes.{first_cause, is_same, parts_behind, is_plain_number, range_cause, number_cause, numbers_cause, title_cause, kind_named, ranges_of, command_cause, item_cause, items_cause, schedule_cause}
 use Rattle.trace_refusals.proofs.Cuts.{cut_parts}
 
 pub both : (a b : Bool) → (a && b) ≡ true → (a ≡ true) × (b ≡ true)
@@ -20,7 +20,7 @@ both true b e = (refl, e)
 both false b e = absurd cc
 
 -- a number is digits
-pub number_digits : (w : List ℕ) → is_number w ≡ true → AllDigits 10 w
+pub number_digits : (w : List ℕ) → is_plain_number w ≡ true → AllDigits 10 w
 number_digits w e =
     let count : digit_count w ≡ length w = eqb-true _ _ (both (eqb (digit_count w) (length w)) (is_numeral w) e).0 in
     subst (AllDigits 10) (ap (λ (n : ℕ). take n w) count ∙ take_all (length w) w (omega arith)) (digits_are_digits w)
@@ -34,11 +34,11 @@ range_fine least most w e = by_tests (ltb (digits_value 10 w) least) (ltb most (
     by_tests false true a b e = absurd cc
     by_tests true high a b e = absurd cc
 
-pub number_fine : (least most : ℕ) (w : List ℕ) → number_cause least most w ≡ None → (is_number w ≡ true) × (least ≤ digits_value 10 w) × (digits_value 10 w ≤ most)
+pub number_fine : (least most : ℕ) (w : List ℕ) → number_cause least most w ≡ None → (is_plain_number w ≡ true) × (least ≤ digits_value 10 w) × (digits_value 10 w ≤ most)
 unfolding number_cause
-number_fine least most w e = by_test (is_number w) refl e
+number_fine least most w e = by_test (is_plain_number w) refl e
   where
-    by_test : (test : Bool) → is_number w ≡ test → cond test (range_cause least most w) (Some Number) ≡ None → (is_number w ≡ true) × (least ≤ digits_value 10 w) × (digits_value 10 w ≤ most)
+    by_test : (test : Bool) → is_plain_number w ≡ test → cond test (range_cause least most w) (Some Number) ≡ None → (is_plain_number w ≡ true) × (least ≤ digits_value 10 w) × (digits_value 10 w ≤ most)
     by_test true is e = let fine = range_fine least most w e in (is, fine.0, fine.1)
     by_test false is e = absurd cc
 
@@ -50,11 +50,11 @@ pub no_second_word : (words : List (List ℕ)) (w : List ℕ) (behind : List (Li
 no_second_word words w behind e f fine =
     let none : get_or words 1 [] ≡ [] = rw (e, f) refl in
     let bad = (number_fine 4 64 (get_or words 1 []) fine).0 in
-    let not : is_number (get_or words 1 []) ≡ false = rw none refl in
+    let not : is_plain_number (get_or words 1 []) ≡ false = rw none refl in
     absurd cc
 
-pub not_regions : (words : List (List ℕ)) (r : List ℕ) → get_or words 1 [] ≡ r → number_cause 4 64 (get_or words 1 []) ≡ None → false ≡ is_number r → ⊥
-not_regions words r second fine none = let is = (number_fine 4 64 (get_or words 1 []) fine).0 in let not : is_number (get_or words 1 []) ≡ false = ap is_number second ∙ sym none in cc
+pub not_regions : (words : List (List ℕ)) (r : List ℕ) → get_or words 1 [] ≡ r → number_cause 4 64 (get_or words 1 []) ≡ None → false ≡ is_plain_number r → ⊥
+not_regions words r second fine none = let is = (number_fine 4 64 (get_or words 1 []) fine).0 in let not : is_plain_number (get_or words 1 []) ≡ false = ap is_plain_number second ∙ sym none in cc
 
 pub regions_small : (words : List (List ℕ)) (r : List ℕ) → get_or words 1 [] ≡ r → number_cause 4 64 (get_or words 1 []) ≡ None → 2 ^ 64 ≤ digits_value 10 r → ⊥
 regions_small words r second fine large =
@@ -182,7 +182,7 @@ pub kind_known : (threads : ℕ) (thread : List ℕ) (words : List (List ℕ)) (
 unfolding command_cause
 kind_known threads thread words w more k e known = rw (e, known) refl
 
-pub thread_first : (threads : ℕ) (thread : List ℕ) (bounds : List ℕ) (more : List (List ℕ)) → numbers_cause (ranges_of threads bounds) (thread ∷ more) ≡ or_else (number_cause 1 threads thread) (numbers_cause (map (λ limit. (0, limit)) bounds) more)
+pub thread_first : (threads : ℕ) (thread : List ℕ) (bounds : List ℕ) (more : List (List ℕ)) → numbers_cause (ranges_of threads bounds) (thread ∷ more) ≡ first_cause (number_cause 1 threads thread) (numbers_cause (map (λ limit. (0, limit)) bounds) more)
 unfolding numbers_cause
 thread_first threads thread bounds more = refl
 
@@ -197,7 +197,7 @@ pub other_numbers : (threads : ℕ) (thread : List ℕ) (words : List (List ℕ)
 other_numbers threads thread words w more k e known other = kind_known threads thread words w more k e known ∙ rw (differs (length more) (length (limits k)) other) refl
 
 pub command_numbers : (threads : ℕ) (thread : List ℕ) (words : List (List ℕ)) (w : List ℕ) (more : List (List ℕ)) (k : CommandKind) → words ≡ w ∷ more → kind_named kinds w ≡ Some k → length more ≡ length (limits k)
-    → command_cause threads thread words ≡ or_else (number_cause 1 threads thread) (numbers_cause (map (λ limit. (0, limit)) (limits k)) more)
+    → command_cause threads thread words ≡ first_cause (number_cause 1 threads thread) (numbers_cause (map (λ limit. (0, limit)) (limits k)) more)
 command_numbers threads thread words w more k e known same =
     kind_known threads thread words w more k e known ∙ rw (agrees (length more) (length (limits k)) same) (thread_first threads thread (limits k) more)
 

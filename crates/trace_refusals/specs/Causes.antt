@@ -25,15 +25,15 @@ abbrev pub is_same : List ℕ → List ℕ → Bool
 is_same x y = pointwise nat_eq x y
 
 -- the first of two causes, if there is one
-abbrev pub or_else : Option Why → Option Why → Option Why
-or_else (Some why) other = Some why
-or_else None other = other
+abbrev pub first_cause : Option Why → Option Why → Option Why
+first_cause (Some why) other = Some why
+first_cause None other = other
 
 -- ---- numbers
 
 -- digits with no needless zero in front
-abbrev pub is_number : List ℕ → Bool
-is_number w = (digit_count w == length w) && is_numeral w
+abbrev pub is_plain_number : List ℕ → Bool
+is_plain_number w = (digit_count w == length w) && is_numeral w
 
 -- the number that is written here is outside its range
 unfoldable pub range_cause : ℕ → ℕ → List ℕ → Option Why
@@ -41,13 +41,13 @@ range_cause least most w = if nat_lt (digits_value 10 w) least then Some Range e
 
 -- a word where a number of a range is to stand
 unfoldable pub number_cause : ℕ → ℕ → List ℕ → Option Why
-number_cause least most w = if is_number w then range_cause least most w else Some Number
+number_cause least most w = if is_plain_number w then range_cause least most w else Some Number
 
 -- words where numbers of these ranges are to stand, from left to right
 unfoldable pub numbers_cause : List (ℕ × ℕ) → List (List ℕ) → Option Why
 numbers_cause [] ws = None
 numbers_cause (range ∷ ranges) [] = None
-numbers_cause (range ∷ ranges) (w ∷ ws) = or_else (number_cause range.0 range.1 w) (numbers_cause ranges ws)
+numbers_cause (range ∷ ranges) (w ∷ ws) = first_cause (number_cause range.0 range.1 w) (numbers_cause ranges ws)
 
 -- ---- the head
 
@@ -90,11 +90,11 @@ command_cause threads thread (w ∷ ws) = numbers_of_kind threads thread (kind_n
 
 -- a machine and a count
 unfoldable pub counted_cause : ℕ → List ℕ → List ℕ → Option Why
-counted_cause most machine count = if is_number machine && is_number count then or_else (range_cause 1 most machine) (range_cause 1 4000000000 count) else Some Item
+counted_cause most machine count = if is_plain_number machine && is_plain_number count then first_cause (range_cause 1 most machine) (range_cause 1 4000000000 count) else Some Item
 
 -- a machine and the code of a place
 unfoldable pub until_cause : ℕ → List ℕ → List ℕ → Option Why
-until_cause most machine code = if is_number machine && is_code code then range_cause 1 most machine else Some Item
+until_cause most machine code = if is_plain_number machine && is_code code then range_cause 1 most machine else Some Item
 
 -- a machine and how far it goes: behind a colon, an equals sign or an at sign
 abbrev pub aim_cause : Config → List ℕ → List ℕ → Option Why
@@ -111,7 +111,7 @@ item_cause c w = aim_cause c (take (digit_count w) w) (drop (digit_count w) w)
 -- words where items are to stand, from left to right: each for its form and then its ranges
 unfoldable pub items_cause : Config → List (List ℕ) → Option Why
 items_cause c [] = None
-items_cause c (w ∷ ws) = or_else (item_cause c w) (items_cause c ws)
+items_cause c (w ∷ ws) = first_cause (item_cause c w) (items_cause c ws)
 
 -- a line of the schedule behind its mark
 abbrev pub schedule_cause : Config → List (List ℕ) → Option Why

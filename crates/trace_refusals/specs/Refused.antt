@@ -9,18 +9,18 @@ use Rattle.trace_grammar.specs.declared.why.Why.TheVariants.{EndOfLine, Schedule
 use Rattle.trace_refusals.specs.Causes.{parts, is_same, title_cause, version_ranges, heap_ranges, threads_ranges, command_cause, schedule_cause}
 
 -- what is to stand on a line
-pub data Stage : Type 0 where
+pub data LineStage : Type 0 where
   -- the version, the heap, and the threads behind a heap of these sizes
-  Version : Stage
-  Heap : Stage
-  Threads : (regions region_words reserve : ℕ) → Stage
+  Version : LineStage
+  Heap : LineStage
+  Threads : (regions region_words reserve : ℕ) → LineStage
   -- a command, or a line of the schedule
-  Commands : Config → Stage
+  Commands : Config → LineStage
   -- a line of the schedule
-  Turns : Config → Stage
+  Turns : Config → LineStage
 
 -- behind the head, where a line of the schedule stands before it or not
-abbrev pub body_stage : Config → Bool → Stage
+abbrev pub body_stage : Config → Bool → LineStage
 body_stage c false = Commands c
 body_stage c true = Turns c
 
@@ -29,21 +29,21 @@ body_stage c true = Turns c
 abbrev pub IsCommandLine : Config → List ℕ → Type 0
 IsCommandLine c text = (l : TraceLine) × IsLine c.mutators l × (text ++ newline ∷ [] ≡ line l)
 
-abbrev pub IsTurn : Config → List ℕ → Type 0
-IsTurn c text = (items : List Item) × IsScheduleLine c items × (text ++ newline ∷ [] ≡ schedule_line items)
+abbrev pub IsTurnItem : Config → List ℕ → Type 0
+IsTurnItem c text = (items : List Item) × IsScheduleLine c items × (text ++ newline ∷ [] ≡ schedule_line items)
 
 -- this text, with the end of its line, is a line of the grammar there, and what is to stand on the next
-abbrev pub Follows : Stage → List ℕ → Stage → Type 0
-Follows Version text next = (text ++ newline ∷ [] ≡ titled (codes "shen") (1 ∷ [])) × (next ≡ Heap)
-Follows Heap text next = (c : Config) × (text ++ newline ∷ [] ≡ titled (codes "heap") (c.regions ∷ c.region_words ∷ c.reserve ∷ [])) × (next ≡ Threads c.regions c.region_words c.reserve)
-Follows (Threads r w e) text next = (c : Config) × (c.regions ≡ r) × (c.region_words ≡ w) × (c.reserve ≡ e) × (text ++ newline ∷ [] ≡ titled (codes "threads") (c.mutators ∷ c.helpers ∷ [])) × (next ≡ Commands c)
-Follows (Commands c) text next = (IsCommandLine c text × (next ≡ Commands c)) ⊎ (IsTurn c text × (next ≡ Turns c))
-Follows (Turns c) text next = IsTurn c text × (next ≡ Turns c)
+abbrev pub LineFollows : LineStage → List ℕ → LineStage → Type 0
+LineFollows Version text next = (text ++ newline ∷ [] ≡ titled (codes "shen") (1 ∷ [])) × (next ≡ Heap)
+LineFollows Heap text next = (c : Config) × (text ++ newline ∷ [] ≡ titled (codes "heap") (c.regions ∷ c.region_words ∷ c.reserve ∷ [])) × (next ≡ Threads c.regions c.region_words c.reserve)
+LineFollows (Threads r w e) text next = (c : Config) × (c.regions ≡ r) × (c.region_words ≡ w) × (c.reserve ≡ e) × (text ++ newline ∷ [] ≡ titled (codes "threads") (c.mutators ∷ c.helpers ∷ [])) × (next ≡ Commands c)
+LineFollows (Commands c) text next = (IsCommandLine c text × (next ≡ Commands c)) ⊎ (IsTurnItem c text × (next ≡ Turns c))
+LineFollows (Turns c) text next = IsTurnItem c text × (next ≡ Turns c)
 
 -- these lines follow one on the other
-abbrev pub Lead : Stage → List (List ℕ) → Stage → Type 0
+abbrev pub Lead : LineStage → List (List ℕ) → LineStage → Type 0
 Lead stage [] end = stage ≡ end
-Lead stage (text ∷ texts) end = (next : Stage) × Follows stage text next × Lead next texts end
+Lead stage (text ∷ texts) end = (next : LineStage) × LineFollows stage text next × Lead next texts end
 
 -- ---- the first line that is none
 
@@ -58,7 +58,7 @@ command_line_cause c [] = None
 command_line_cause c (w ∷ ws) = command_cause c.mutators w ws
 
 -- the first cause that holds for a line with these words
-unfoldable pub words_cause : Stage → List (List ℕ) → Option Why
+unfoldable pub words_cause : LineStage → List (List ℕ) → Option Why
 words_cause Version ws = title_cause (codes "shen") version_ranges ws
 words_cause Heap ws = title_cause (codes "heap") (heap_ranges ws) ws
 words_cause (Threads r w e) ws = title_cause (codes "threads") threads_ranges ws
@@ -66,13 +66,13 @@ words_cause (Commands c) ws = body_cause c (command_line_cause c ws) ws
 words_cause (Turns c) ws = body_cause c (Some ScheduleLast) ws
 
 -- the bytes end here, with this text behind the last end of a line
-abbrev pub end_cause : Stage → List ℕ → Option Why
+abbrev pub end_cause : LineStage → List ℕ → Option Why
 end_cause (Commands c) [] = None
 end_cause (Turns c) [] = None
 end_cause _ text = Some EndOfLine
 
 -- the first cause that holds for the first of these lines; the last of them has no end
-unfoldable pub cause_of : Stage → List (List ℕ) → Option Why
+unfoldable pub cause_of : LineStage → List (List ℕ) → Option Why
 cause_of stage [] = None
 cause_of stage (text ∷ []) = end_cause stage text
 cause_of stage (text ∷ next ∷ more) = words_cause stage (parts space text)
@@ -83,7 +83,7 @@ pub record StopsAt (bytes : List ℕ) (n : ℕ) (why : Why) : Type 0 where
   pub from_it : List (List ℕ)
   pub lines : parts newline bytes ≡ before ++ from_it
   pub number : n ≡ length before + 1
-  pub stage : Stage
+  pub stage : LineStage
   pub lead : Lead Version before stage
   pub cause : cause_of stage from_it ≡ Some why
 

@@ -1,14 +1,14 @@
 //! Words where numbers are to stand.
 ghost use Rattle.std.specs.Prelude.{◌≡◌};
 ghost use Rattle.std.specs.Str.Parse.{AllDigits};
-ghost use Rattle.trace_refusals.specs.Causes.{is_number, range_cause, number_cause, numbers_cause, parts_behind};
+ghost use Rattle.trace_refusals.specs.Causes.{is_plain_number, range_cause, number_cause, numbers_cause, parts_behind};
 
 use crate::parts::next_word;
 use trace_grammar::{Why, digits_at, is_numeral, value_of};
 
 /// Digits with no needless zero in front.
 pub(crate) fn is_number(word: &[u8]) -> bool
-    ensures { result ≡ is_number word.now }
+    ensures { result ≡ is_plain_number word.now }
 {
     digits_at(word) == word.len() && is_numeral(word)
 }

@@ -85,7 +85,7 @@ module _ (seed count : ℕ) (c : Config) (scripts : Scripts) (jobs : Jobs) (end 
   abbrev pub entries : List Entry
   entries = come_past c scripts jobs end done
 
-  pub churn_run : churn.IsRun seed count entries
+  pub churn_run : churn.IsWorkloadRun seed count entries
   churn_run =
       let whole : IsWhole c scripts done.reached.events = come_whole c scripts jobs end done three in
       record {
@@ -95,7 +95,7 @@ module _ (seed count : ℕ) (c : Config) (scripts : Scripts) (jobs : Jobs) (end 
             (subst (λ (n : ℕ). IsLegalHistory n c.region_words scripts entries) sizes.regions whole.legal));
       }
 
-  pub churn_tells : (text : Text) → texts.ShowsGraph text c.mutators (after (first_graph c) entries) → churn.Tells entries jobs text.rows
+  pub churn_tells : (text : Text) → texts.ShowsGraph text c.mutators (after (first_graph c) entries) → churn.TellsRun entries jobs text.rows
   churn_tells text shown =
       let shows : texts.ShowsGraph text 3 (after (opening 3) entries) =
       subst (λ (n : ℕ). texts.ShowsGraph text n (after (opening n) entries)) sizes.mutators shown in

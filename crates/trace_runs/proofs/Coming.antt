@@ -14,9 +14,9 @@ use Rattle.shen_graph.specs.History as history
 use Rattle.shen_graph.specs.Work as work
 use Rattle.heap_graph.specs.Shows as texts
 use Rattle.heap_machines.specs.Pause.{pause_image}
-use Rattle.shared_steps.specs.Views.{machine_of, whole}
-use Rattle.shared_steps.proofs.Kept.{kept_some}
-use Rattle.shared_steps.proofs.Shown.{machine_of-whole}
+use Rattle.shared_table.specs.Views.{machine_of, whole}
+use Rattle.shared_table.proofs.Kept.{kept_some}
+use Rattle.shared_table.proofs.ViewsShow.{machine_of-whole}
 use Rattle.step_core.specs.Actor.{Actor}
 use Rattle.step_core.specs.Machines.{is_resting}
 use Rattle.heap_machines.specs.Roles.{is_mutating}
@@ -35,7 +35,7 @@ use Rattle.table_heap.proofs.Running.{role_at}
 use Rattle.trace_grammar.specs.Grammar.{Reads}
 use Rattle.trace_writing.specs.Answer.{answer_text}
 use Rattle.trace_runs.specs.declared.parts.Part.{Part}
-use Rattle.trace_runs.specs.Parts.{IsDone}
+use Rattle.trace_runs.specs.DealtParts.{IsDone}
 use Rattle.trace_runs.specs.Replayed.{IsWhole, IsRun}
 use Rattle.trace_runs.specs.Running.{HasCome}
 use Rattle.trace_runs.proofs.Whole as ends

@@ -14,7 +14,7 @@ use Rattle.trace_writing.specs.declared.message.Line.TheVariants.{TooLong}
 use Rattle.trace_runs.specs.declared.status.Status.{Status}
 use Rattle.trace_runs.specs.declared.status.Status.TheVariants.{Ok, BadWords, BadTrace, Unfinished, ReadFault, WriteFault, NoMemory}
 use Rattle.trace_runs.specs.Words.{AskTrace, AskChurn}
-use Rattle.trace_runs.specs.Answered.{Input, Output, IsRefused, IsTooLong, IsAnswered, IsAnswer}
+use Rattle.trace_runs.specs.Answered.{Input, Output, IsRefused, IsTooLong, StatusFits, IsReplayStatus}
 use Rattle.trace_runs.proofs.Words.{churn_reads_none}
 
 -- what came from known bytes to their end is these bytes
@@ -40,9 +40,9 @@ no_bad_trace input out bytes config scripts items told reads (inl refused) =
 no_bad_trace input out bytes config scripts items told reads (inr long) =
     absurd (omega (arith, came_short bytes long.0.0 input.before input.after told long.0.1, long.0.2, reads.short))
 
-pub complete : (words : List (List ℕ)) (input : Input) (output : Output) (status : Status) → IsAnswered words input output status
+pub complete : (words : List (List ℕ)) (input : Input) (output : Output) (status : Status) → StatusFits words input output status
     → (bytes : List ℕ) (config : Config) (scripts : List (List Command)) (items : List Item) → AskTrace words → input.before ≡ Some bytes → Reads bytes config scripts items
-    → (Rose input.faults_before input.faults_after → ⊥) → (Rose output.before.faults output.after.faults → ⊥) → IsAnswer words status
+    → (Rose input.faults_before input.faults_after → ⊥) → (Rose output.before.faults output.after.faults → ⊥) → IsReplayStatus words status
 complete words input output Ok answered bytes config scripts items asked told reads read_fine written_fine = tt
 complete words input output BadWords answered bytes config scripts items asked told reads read_fine written_fine = answered.1.0 (inl asked)
 complete words input output BadTrace answered bytes config scripts items asked told reads read_fine written_fine = no_bad_trace input answered.0 bytes config scripts items told reads answered.1.1
@@ -51,7 +51,7 @@ complete words input output ReadFault answered bytes config scripts items asked 
 complete words input output WriteFault answered bytes config scripts items asked told reads read_fine written_fine = written_fine answered.0
 complete words input output NoMemory answered bytes config scripts items asked told reads read_fine written_fine = tt
 
-pub churned : (words : List (List ℕ)) (input : Input) (output : Output) (status : Status) → IsAnswered words input output status → AskChurn words → (Rose output.before.faults output.after.faults → ⊥)
+pub churned : (words : List (List ℕ)) (input : Input) (output : Output) (status : Status) → StatusFits words input output status → AskChurn words → (Rose output.before.faults output.after.faults → ⊥)
     → (status ≡ Ok) ⊎ (status ≡ NoMemory)
 churned words input output Ok answered asked written_fine = inl refl
 churned words input output BadWords answered asked written_fine = absurd (answered.1.0 (inr asked))

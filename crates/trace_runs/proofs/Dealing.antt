@@ -11,8 +11,8 @@ use Rattle.heap_words.specs.Ranges.{seat_count}
 use Rattle.shen_graph.specs.declared.command.Command.{Command}
 use Rattle.shen_graph.specs.Work.{Progress, progress_of, begun, opened, picked, parted, left_over, is_in_part}
 use Rattle.shen_graph.proofs.Parts.{same_work, progress_of-picked, progress_of-parted, progress_of-left_over, progress_of-opened}
-use Rattle.shared_steps.specs.Views.{machine_of, whole, is_dealt_to, dealt_to}
-use Rattle.shared_steps.proofs.Shown.{machine_of-whole, machine_of-picked}
+use Rattle.shared_table.specs.Views.{machine_of, whole, is_dealt_to, dealt_to}
+use Rattle.shared_table.proofs.ViewsShow.{machine_of-whole, machine_of-picked}
 use Rattle.step_core.specs.Schedule.{Scripts}
 use Rattle.step_core.specs.Schedule as schedule
 use Rattle.shen_core.specs.Progress.{IsRunnable}
@@ -23,7 +23,7 @@ use Rattle.table_heap.specs.State.{config_of, IsFresh}
 use Rattle.table_heap.specs.Running.{Jobs}
 use Rattle.heap_machines.proofs.Openings.{first_count}
 use Rattle.table_heap.proofs.Starting.{fresh_can_start}
-use Rattle.trace_runs.specs.Parts.{IsReady, CanBeDealt}
+use Rattle.trace_runs.specs.DealtParts.{PartIsReady, CanBeDealt}
 
 -- ---- tests and options
 
@@ -96,7 +96,7 @@ module _ (h : Heap) (scripts : Scripts) (first : Jobs) (bundles : List Bundle) (
   some_begun None = refl
   some_begun (Some x) = refl
 
-  pub ready_part : IsReady h scripts workers k (k + 1) (record { bundle = b; work = parted workers k now })
+  pub ready_part : PartIsReady h scripts workers k (k + 1) (record { bundle = b; work = parted workers k now })
   ready_part = record {
     has = record {
       of = fresh.of;

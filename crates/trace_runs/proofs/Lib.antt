@@ -1,4 +1,4 @@
-pub mod Ends
+pub mod CallEnds
 pub mod Words
 pub mod Scripts
 pub mod Ran

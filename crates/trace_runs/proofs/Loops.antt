@@ -8,7 +8,7 @@ use Rattle.table_heap.specs.declared.heap.Heap.{Heap}
 use Rattle.trace_runs.specs.declared.parts.Part.{Part}
 use Rattle.trace_runs.specs.declared.parts.Returned.{Returned}
 use Rattle.trace_runs.specs.declared.threads.Thread.{Thread}
-use Rattle.trace_runs.specs.Parts.{HasEnded, IsGivenBack, IsReady, IsDone, AreReady}
+use Rattle.trace_runs.specs.DealtParts.{PartHasEnded, IsGivenBack, PartIsReady, IsDone, AreReady}
 use Rattle.trace_runs.specs.Started.{IsThread, AreThreads, AreSplit}
 use Rattle.trace_runs.proofs.PartLaws.{ended_done}
 
@@ -39,15 +39,15 @@ module _ (h : Heap) (scripts : Scripts) (w : ℕ) where
   pub others_ready : (old new : List Part) (p : Part) → old ≡ new ++ p ∷ [] → AreReady h scripts w old → AreReady h scripts w new
   others_ready old new p is ready k q here = ready k q (ap (λ ps. slice_get ps k) is ∙ still_there new (p ∷ []) k q here)
 
-  pub last_ready : (old new : List Part) (p : Part) → old ≡ new ++ p ∷ [] → AreReady h scripts w old → IsReady h scripts w (length new) (length new + 1) p
+  pub last_ready : (old new : List Part) (p : Part) → old ≡ new ++ p ∷ [] → AreReady h scripts w old → PartIsReady h scripts w (length new) (length new + 1) p
   last_ready old new p is ready = ready (length new) p (ap (λ ps. slice_get ps (length new)) is ∙ last_there new p)
 
   -- and comes
-  pub more_ready : (old new : List Part) (p : Part) → new ≡ old ++ p ∷ [] → AreReady h scripts w old → IsReady h scripts w (length old) (length old + 1) p → AreReady h scripts w new
-  more_ready old new p is ready last k q here = or_last (λ n x. IsReady h scripts w n (n + 1) x) old p ready last k q (ap (λ ps. slice_get ps k) (sym is) ∙ here)
+  pub more_ready : (old new : List Part) (p : Part) → new ≡ old ++ p ∷ [] → AreReady h scripts w old → PartIsReady h scripts w (length old) (length old + 1) p → AreReady h scripts w new
+  more_ready old new p is ready last k q here = or_last (λ n x. PartIsReady h scripts w n (n + 1) x) old p ready last k q (ap (λ ps. slice_get ps k) (sym is) ∙ here)
 
-  pub to_length : (old new : List Part) (p : Part) → old ≡ new ++ p ∷ [] → IsReady h scripts w (length new) (length new + 1) p → IsReady h scripts w (length new) (length old) p
-  to_length old new p is ready = subst (λ n. IsReady h scripts w (length new) n p) (sym (ap length is ∙ longer new p)) ready
+  pub to_length : (old new : List Part) (p : Part) → old ≡ new ++ p ∷ [] → PartIsReady h scripts w (length new) (length new + 1) p → PartIsReady h scripts w (length new) (length old) p
+  to_length old new p is ready = subst (λ n. PartIsReady h scripts w (length new) n p) (sym (ap length is ∙ longer new p)) ready
 
   -- ---- threads
 
@@ -64,17 +64,17 @@ module _ (h : Heap) (scripts : Scripts) (w : ℕ) where
 
 -- ---- what comes back
 
-pub ran_already : (h : Heap) (scripts : Scripts) (w a b : ℕ) (given : Part) (back : Returned) → IsReady h scripts w a b given → IsGivenBack given back → back.ran ≡ true → IsDone h scripts w a b back.part
+pub ran_already : (h : Heap) (scripts : Scripts) (w a b : ℕ) (given : Part) (back : Returned) → PartIsReady h scripts w a b given → IsGivenBack given back → back.ran ≡ true → IsDone h scripts w a b back.part
 ran_already h scripts w a b given back ready kept ran = ended_done h scripts w a b given back.part ready (by_ran back.ran ran kept)
   where
-    by_ran : (r : Bool) → r ≡ true → MatchBool r (HasEnded given back.part) (back.part ≡ given) → HasEnded given back.part
+    by_ran : (r : Bool) → r ≡ true → MatchBool r (PartHasEnded given back.part) (back.part ≡ given) → PartHasEnded given back.part
     by_ran true e kept = kept
     by_ran false e kept = absurd cc
 
 pub as_given : (given : Part) (back : Returned) → IsGivenBack given back → back.ran ≡ false → back.part ≡ given
 as_given given back kept ran = by_ran back.ran ran kept
   where
-    by_ran : (r : Bool) → r ≡ false → MatchBool r (HasEnded given back.part) (back.part ≡ given) → back.part ≡ given
+    by_ran : (r : Bool) → r ≡ false → MatchBool r (PartHasEnded given back.part) (back.part ≡ given) → back.part ≡ given
     by_ran true e kept = absurd cc
     by_ran false e kept = kept
 

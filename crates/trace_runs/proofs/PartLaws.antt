@@ -12,10 +12,10 @@ use Rattle.shen_graph.specs.declared.order.Order.{Order}
 use Rattle.shen_graph.specs.declared.order.Order.TheVariants.{Nothing}
 use Rattle.shen_graph.specs.Valid.{IsValid}
 use Rattle.shen_graph.specs.Work.{Progress, progress_of, replies_of, begun, one_of, joined}
-use Rattle.shared_steps.specs.Views as views
-use Rattle.shared_steps.specs.Views.{View, machine_of, merged}
-use Rattle.shared_steps.proofs.Kept.{kept_here, machine_of-kept}
-use Rattle.shared_steps.proofs.Shown.{machine_of-merged}
+use Rattle.shared_table.specs.Views as views
+use Rattle.shared_table.specs.Views.{View, machine_of, merged}
+use Rattle.shared_table.proofs.Kept.{kept_here, machine_of-kept}
+use Rattle.shared_table.proofs.ViewsShow.{machine_of-merged}
 use Rattle.step_core.specs.Actor.{Actor}
 use Rattle.step_core.specs.Schedule.{Scripts}
 use Rattle.step_core.specs.Schedule as schedule
@@ -24,10 +24,10 @@ use Rattle.heap_machines.specs.Shown.{shown}
 use Rattle.table_heap.specs.declared.bundle.Bundle.{Bundle}
 use Rattle.table_heap.specs.declared.heap.Heap.{Heap}
 use Rattle.table_heap.specs.Core.{machine_in}
-use Rattle.table_heap.specs.State.{config_of, view_of, orders_of, IsOf}
+use Rattle.table_heap.specs.State.{config_of, view_of, orders_of, IsBundleOf}
 use Rattle.table_heap.specs.Running.{Jobs, CanStart, CanStartOn, IsIdleForGood, HasDone}
 use Rattle.trace_runs.specs.declared.parts.Part.{Part}
-use Rattle.trace_runs.specs.Parts.{HasEnded, AreApart, is_dealt, IsPart, IsReady, IsDone}
+use Rattle.trace_runs.specs.DealtParts.{PartHasEnded, ArePartsApart, is_dealt, IsPart, PartIsReady, IsDone}
 
 -- ---- tests and options
 
@@ -50,7 +50,7 @@ first_of : (o : Option Progress) → one_of o None ≡ o
 first_of None = refl
 first_of (Some x) = refl
 
-some_of : {R : Type 0} (x y : Option R) → is_some (views.one_of x y) ≡ (is_some x || is_some y)
+some_of : {R : Type 0} (x y : Option R) → is_some (views.whichever_is_there x y) ≡ (is_some x || is_some y)
 some_of None y = refl
 some_of (Some r) y = refl
 
@@ -92,15 +92,15 @@ start_by v w number a same can = record {
 }
 
 -- parts of different bundles have no script in common
-pub apart : (h : Heap) (scripts : Scripts) (w a b c : ℕ) (p q : Part) → IsPart h scripts w a b p → IsPart h scripts w b c q → AreApart p q
+pub apart : (h : Heap) (scripts : Scripts) (w a b c : ℕ) (p q : Part) → IsPart h scripts w a b p → IsPart h scripts w b c q → ArePartsApart p q
 apart h scripts w a b c p q is other t here there =
     false≢true (sym (never_both (nat_lt t (config_of h).mutators) (nat_lt t (config_of h).mutators) (t % w) a b c (sym (is.jobs t) ∙ here)) ∙ sym (other.jobs t) ∙ there)
 
 -- ---- two parts joined
 
-module _ (h : Heap) (scripts : Scripts) (w a b c : ℕ) (p q r : Part) (of : IsOf r.bundle h) (view : view_of r.bundle ≡ merged (view_of p.bundle) (view_of q.bundle))
+module _ (h : Heap) (scripts : Scripts) (w a b c : ℕ) (p q r : Part) (of : IsBundleOf r.bundle h) (view : view_of r.bundle ≡ merged (view_of p.bundle) (view_of q.bundle))
     (jobs : r.work ≡ joined p.work q.work) (low : a ≤ b) (high : b ≤ c) (is : IsPart h scripts w a b p) (other : IsPart h scripts w b c q) where
-  machine_here : (n : ℕ) → machine_of (view_of r.bundle) n ≡ views.one_of (machine_of (view_of p.bundle) n) (machine_of (view_of q.bundle) n)
+  machine_here : (n : ℕ) → machine_of (view_of r.bundle) n ≡ views.whichever_is_there (machine_of (view_of p.bundle) n) (machine_of (view_of q.bundle) n)
   machine_here n = ap (λ v. machine_of v n) view ∙ machine_of-merged (view_of p.bundle) (view_of q.bundle) n
 
   job_here : (n : ℕ) → progress_of r.work n ≡ one_of (progress_of p.work n) (progress_of q.work n)
@@ -138,18 +138,18 @@ module _ (h : Heap) (scripts : Scripts) (w a b c : ℕ) (p q r : Part) (of : IsO
           let none : progress_of p.work n ≡ None =
           none_from (progress_of p.work n) (is.jobs n ∙ is_seat n (config_of h).mutators (config_of h).helpers (is_dealt w a b n) (sym (is.machines n) ∙ ap is_some e)) in
           inr (
-            sym (ap (λ o. views.one_of o (machine_of (view_of q.bundle) n)) e) ∙ sym (machine_here n) ∙ here,
+            sym (ap (λ o. views.whichever_is_there o (machine_of (view_of q.bundle) n)) e) ∙ sym (machine_here n) ∙ here,
             sym (job_here n ∙ ap (λ o. one_of o (progress_of q.work n)) none),
           )
       by_machine (Some y) e =
           let none : progress_of q.work n ≡ None =
           none_from (progress_of q.work n) (other.jobs n ∙ never_both (nat_lt n (seat_count (config_of h).mutators (config_of h).helpers)) (nat_lt n (config_of h).mutators) (n % w) a b c (sym (is.machines n) ∙ ap is_some e)) in
           inl (
-            e ∙ sym (ap (λ o. views.one_of o (machine_of (view_of q.bundle) n)) e) ∙ sym (machine_here n) ∙ here,
+            e ∙ sym (ap (λ o. views.whichever_is_there o (machine_of (view_of q.bundle) n)) e) ∙ sym (machine_here n) ∙ here,
             sym (job_here n ∙ ap (one_of (progress_of p.work n)) none ∙ first_of (progress_of p.work n)),
           )
 
-  pub joined_ready : orders_of r.bundle ≡ merged (orders_of p.bundle) (orders_of q.bundle) → CanStart p.bundle p.work → CanStart q.bundle q.work → IsReady h scripts w a c r
+  pub joined_ready : orders_of r.bundle ≡ merged (orders_of p.bundle) (orders_of q.bundle) → CanStart p.bundle p.work → CanStart q.bundle q.work → PartIsReady h scripts w a c r
   joined_ready orders mine others = record {
     has = joined_part;
     start = record {
@@ -159,9 +159,9 @@ module _ (h : Heap) (scripts : Scripts) (w a b c : ℕ) (p q r : Part) (of : IsO
     };
   }
     where
-      by_order : (n : ℕ) (order : Order) (o : Option Order) → machine_of (orders_of p.bundle) n ≡ o → views.one_of (machine_of (orders_of p.bundle) n) (machine_of (orders_of q.bundle) n) ≡ Some order → order ≡ Nothing
-      by_order n order None e here = others.orders n order (sym (ap (λ o. views.one_of o (machine_of (orders_of q.bundle) n)) e) ∙ here)
-      by_order n order (Some x) e here = mine.orders n order (e ∙ sym (ap (λ o. views.one_of o (machine_of (orders_of q.bundle) n)) e) ∙ here)
+      by_order : (n : ℕ) (order : Order) (o : Option Order) → machine_of (orders_of p.bundle) n ≡ o → views.whichever_is_there (machine_of (orders_of p.bundle) n) (machine_of (orders_of q.bundle) n) ≡ Some order → order ≡ Nothing
+      by_order n order None e here = others.orders n order (sym (ap (λ o. views.whichever_is_there o (machine_of (orders_of q.bundle) n)) e) ∙ here)
+      by_order n order (Some x) e here = mine.orders n order (e ∙ sym (ap (λ o. views.whichever_is_there o (machine_of (orders_of q.bundle) n)) e) ∙ here)
 
       by_start : (n : ℕ) (x : Actor) → is_mutating x.machine ≡ true → ((machine_of (view_of p.bundle) n ≡ Some x) × (progress_of p.work n ≡ progress_of r.work n)) ⊎ ((machine_of (view_of q.bundle) n ≡ Some x) × (progress_of q.work n ≡ progress_of r.work n)) → CanStartOn r.work n x
       by_start n x role (inl side) = start_by p.work r.work n x side.1 (mine.mutators n x side.0 role)
@@ -188,12 +188,12 @@ module _ (h : Heap) (scripts : Scripts) (w a b c : ℕ) (p q r : Part) (of : IsO
 -- a machine of a bundle is a mutator by its number
 role_of : (b : Bundle) (n : ℕ) (x : Actor) → machine_of (view_of b) n ≡ Some x → is_mutating x.machine ≡ nat_lt n b.config.mutators
 role_of b n x here =
-    let there : machine_of (views.kept_of shown b.machines.items) n ≡ Some x.machine =
+    let there : machine_of (views.kept_in_view shown b.machines.items) n ≡ Some x.machine =
     ap (λ v. machine_of v n) (sym b.kept) ∙ machine_of-kept machine_in (view_of b) n ∙ ap (views.kept_one machine_in) here in
     let found = kept_here shown b.machines.items n x.machine there in
     ap is_mutating (sym found.2) ∙ (b.of_heap n found.0 found.1).role
 
-pub ended_done : (h : Heap) (scripts : Scripts) (w a b : ℕ) (p q : Part) → IsReady h scripts w a b p → HasEnded p q → IsDone h scripts w a b q
+pub ended_done : (h : Heap) (scripts : Scripts) (w a b : ℕ) (p q : Part) → PartIsReady h scripts w a b p → PartHasEnded p q → IsDone h scripts w a b q
 ended_done h scripts w a b p q ready ended = record {
   has = record {
     of = record { table = ended.same.table ∙ ready.has.of.table; config = config };

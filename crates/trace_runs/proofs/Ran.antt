@@ -11,7 +11,7 @@ use Rattle.shen_core.specs.declared.run.Ran.{Ran}
 use Rattle.shen_core.specs.declared.run.Ran.TheVariants.{Finished, Unfinished}
 use Rattle.shen_core.specs.State.{config_of, orders_of, Shows}
 use Rattle.shen_core.specs.Progress.{Jobs, Tells, CanRun, IsRunnable}
-use Rattle.shen_core.specs.Ending.{HasRun, RunsSchedule}
+use Rattle.shen_core.specs.WholeRun.{HasRun, RunsSchedule}
 use Rattle.shen_core.proofs.Calls.{all_call_first}
 use Rattle.shen_core.proofs.Fresh.{can_run_first, tells_first}
 use Rattle.trace_grammar.specs.Grammar.{Reads}

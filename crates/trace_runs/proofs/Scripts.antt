@@ -12,7 +12,7 @@ use Rattle.heap_words.specs.declared.config.Config.{Config}
 use Rattle.heap_words.specs.declared.schedule.Item.{Item}
 use Rattle.heap_words.specs.declared.schedule.Item.TheVariants.{Steps, Until, Replies}
 use Rattle.shen_core.specs.Progress.{IsInSeats, IsRunnable}
-use Rattle.trace_grammar.specs.Spelling.{TraceLine, IsLine, line, space, newline, word_of, numbers, numbers_of, header, IsItem, IsScheduleLine, schedule_line}
+use Rattle.trace_grammar.specs.Spelling.{TraceLine, IsLine, line, space, newline, command_word, numbers, numbers_of, header, IsItem, IsScheduleLine, schedule_line}
 use Rattle.trace_grammar.specs.Grammar.{Reads, scripts_of, items_of}
 use Rattle.trace_grammar.specs.Grammar as grammar
 
@@ -40,7 +40,7 @@ valid_scripts bytes c scripts items reads = All-from_get_or (All IsValid) script
 
 -- a trace has fewer commands than there are names
 some_bytes : (l : TraceLine) → 1 ≤ length (line l)
-some_bytes l = omega (arith, length-append (decimal l.thread) (space ∷ (word_of l.command ++ (numbers (numbers_of l.command) ++ newline ∷ []))))
+some_bytes l = omega (arith, length-append (decimal l.thread) (space ∷ (command_word l.command ++ (numbers (numbers_of l.command) ++ newline ∷ []))))
 
 few_lines : (lines : List TraceLine) → length lines ≤ length (flat_map line lines)
 few_lines [] = omega arith

@@ -23,23 +23,23 @@ use Rattle.shen_graph.specs.declared.command.Command.{Command}
 use Rattle.shen_graph.specs.declared.command.Command.TheVariants.{Gc}
 use Rattle.shen_graph.specs.declared.order.Order.{Order}
 use Rattle.shen_graph.specs.declared.order.Order.TheVariants.{Nothing}
-use Rattle.control_steps.specs.declared.spot.ControlSpot.{ControlSpot}
-use Rattle.control_steps.specs.declared.spot.ControlSpot.TheVariants.{StoreWord}
-use Rattle.control_steps.specs.Rows.{is_gone}
+use Rattle.control_rows.specs.declared.spot.ControlSpot.{ControlSpot}
+use Rattle.control_rows.specs.declared.spot.ControlSpot.TheVariants.{StoreWord}
+use Rattle.control_rows.specs.Rows.{is_gone}
 use Rattle.heap_machines.specs.Pause.{pause_image}
 use Rattle.heap_machines.proofs.Pauses.{heap_pauses}
 use Rattle.heap_machines.specs.Shown.{no_machine}
 use Rattle.heap_machines.specs.Scripts.{HasDoneScript}
-use Rattle.heap_machines.proofs.Standing.{entries_at_rest}
+use Rattle.heap_machines.proofs.RestedGraph.{entries_at_rest}
 use Rattle.step_core.specs.Actor.{Machine, controlling, Actor}
 use Rattle.step_core.specs.Schedule.{Scripts, nth_script, turn_of}
-use Rattle.step_core.specs.Begun.{begun_by, begun}
-use Rattle.step_core.specs.Settled.{control_number, stored_image, image_in}
+use Rattle.step_core.specs.Begun.{begun_by, scripts_begun}
+use Rattle.step_core.specs.Settled.{control_number, stored_image, image_read}
 use Rattle.step_core.specs.Sound.{IsSound}
 use Rattle.step_core.specs.Begins.{first_graph, reached, past}
-use Rattle.step_core.proofs.FirstFacts.{opening_run}
-use Rattle.step_core.proofs.Growing.{begun_many, begun_is}
-use Rattle.step_core.proofs.Theorem.{every_list}
+use Rattle.step_core.proofs.Theorem.FirstFacts.{opening_run}
+use Rattle.step_core.proofs.History.Growing.{begun_many, begun_is}
+use Rattle.step_core.proofs.Theorem.EveryList.{every_list}
 use Rattle.step_core.specs.Threads.{IsSettled}
 use Rattle.heap_graph.specs.Shows as texts
 use Rattle.heap_graph.specs.Rows.{root_rows}
@@ -81,10 +81,10 @@ begun_script script a done =
     ap (λ (rests : Bool). commands_of a.calls ++ (if rests then [] else a.command ∷ [])) done.rest ∙ append-nil (commands_of a.calls) ∙ done.commands
 
 -- where all have, the commands that were begun are the scripts
-begun_scripts : (c : Config) (scripts : Scripts) (s : Stage Actor) → length scripts ≡ c.mutators → length s.machines ≡ seat_count c.mutators c.helpers → AllHaveCalled c scripts s → begun c s ≡ scripts
+begun_scripts : (c : Config) (scripts : Scripts) (s : Stage Actor) → length scripts ≡ c.mutators → length s.machines ≡ seat_count c.mutators c.helpers → AllHaveCalled c scripts s → scripts_begun c s ≡ scripts
 begun_scripts c scripts s count seats all_called =
-    let many : length (begun c s) ≡ c.mutators = begun_many c s seats in
-    ext_get_or [] (begun c s) scripts (many ∙ sym count) (λ t within.
+    let many : length (scripts_begun c s) ≡ c.mutators = begun_many c s seats in
+    ext_get_or [] (scripts_begun c s) scripts (many ∙ sym count) (λ t within.
     let below : t < c.mutators = omega (arith, within, many) in
     let called = all_called t below in
     begun_is c s seats t called.actor below called.here ∙ begun_script (get_or scripts t []) called.actor called.called)
@@ -129,7 +129,7 @@ gone_stores_none (StoreWord index) image idle = absurd cc
 gone_stores_none _ image idle = refl
 
 -- a machine that is idle stores no image
-idle_stores_none : (script : List Command) (calls : List Entry) (machine : Machine) → order_by script calls machine ≡ None → image_in machine ≡ None
+idle_stores_none : (script : List Command) (calls : List Entry) (machine : Machine) → order_by script calls machine ≡ None → image_read machine ≡ None
 idle_stores_none script calls (controlling k) idle = gone_stores_none k.spot k.image idle
 idle_stores_none script calls _ idle = refl
 
@@ -138,12 +138,12 @@ nothing_of f None h = refl
 nothing_of f (Some x) h = absurd cc
 
 -- in the end no image is stored
-none_stored : (c : Config) (scripts : Scripts) (s : Stage Actor) (p : Plain) → length s.machines ≡ seat_count c.mutators c.helpers → AreIdle c scripts s → Shows p s → image_in (machine_at p (control_number c)) ≡ None
+none_stored : (c : Config) (scripts : Scripts) (s : Stage Actor) (p : Plain) → length s.machines ≡ seat_count c.mutators c.helpers → AreIdle c scripts s → Shows p s → image_read (machine_at p (control_number c)) ≡ None
 none_stored c scripts s p seats idle shows =
     let a : Actor = get_or s.machines (control_number c) other in
     let here : slice_get s.machines (control_number c) ≡ Some a = slice_get-get_or s.machines (control_number c) other (omega (arith, seats)) in
     let no_turn = ap (turn_of scripts (control_number c)) (sym here) ∙ idle (control_number c) (omega arith) in
-    ap image_in (machine_shown p s (control_number c) a shows here)
+    ap image_read (machine_shown p s (control_number c) a shows here)
     ∙ idle_stores_none (nth_script scripts (control_number c)) a.calls a.machine (nothing_of _ (order_by (nth_script scripts (control_number c)) a.calls a.machine) no_turn)
   where
     other : Actor
@@ -154,7 +154,7 @@ all_rest c scripts items limit jobs p done = record {
   mutators = λ t below.
       let called = done.called t (subst (λ (e : Config). t < e.mutators) done.config below) in
       ap is_resting (machine_shown p (end_of c scripts items limit) t called.actor done.shows called.here) ∙ called.called.rest;
-  control = subst (λ (e : Config). image_in (machine_at p (control_number e)) ≡ None) (sym done.config)
+  control = subst (λ (e : Config). image_read (machine_at p (control_number e)) ≡ None) (sym done.config)
       (none_stored c scripts (end_of c scripts items limit) p (end_sound c (events_of c scripts items limit)).of_heap.machines done.idle done.shows);
 }
 

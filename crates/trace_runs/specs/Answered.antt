@@ -57,23 +57,23 @@ IsWritten words input output status =
 -- The status fits the words, what came and what was written. After a write fault a front of a text was written that
 -- goes with another status: by at most one call for each byte that was written and the one that failed, and at most one for
 -- each byte of that text.
-abbrev pub IsAnswered : List (List ℕ) → Input → Output → Status → Type 0
-IsAnswered words input output WriteFault =
+abbrev pub StatusFits : List (List ℕ) → Input → Output → Status → Type 0
+StatusFits words input output WriteFault =
     Rose output.before.faults output.after.faults
     × ((status : Status) × (out : List ℕ) × Allows words input status out × WritesFront output.before output.after out × CalledAtMost (length out) output.before.calls output.after.calls)
-IsAnswered words input output Ok = IsWritten words input output Ok
-IsAnswered words input output BadWords = IsWritten words input output BadWords
-IsAnswered words input output BadTrace = IsWritten words input output BadTrace
-IsAnswered words input output Unfinished = IsWritten words input output Unfinished
-IsAnswered words input output ReadFault = IsWritten words input output ReadFault
-IsAnswered words input output NoMemory = IsWritten words input output NoMemory
+StatusFits words input output Ok = IsWritten words input output Ok
+StatusFits words input output BadWords = IsWritten words input output BadWords
+StatusFits words input output BadTrace = IsWritten words input output BadTrace
+StatusFits words input output Unfinished = IsWritten words input output Unfinished
+StatusFits words input output ReadFault = IsWritten words input output ReadFault
+StatusFits words input output NoMemory = IsWritten words input output NoMemory
 
 -- The statuses that are left where the words ask for a replay or for a run, a trace comes, and nothing fails.
-abbrev pub IsAnswer : List (List ℕ) → Status → Type 0
-IsAnswer words Ok = Unit {0}
-IsAnswer words BadWords = ⊥
-IsAnswer words BadTrace = ⊥
-IsAnswer words Unfinished = AskReplay words
-IsAnswer words ReadFault = ⊥
-IsAnswer words WriteFault = ⊥
-IsAnswer words NoMemory = Unit {0}
+abbrev pub IsReplayStatus : List (List ℕ) → Status → Type 0
+IsReplayStatus words Ok = Unit {0}
+IsReplayStatus words BadWords = ⊥
+IsReplayStatus words BadTrace = ⊥
+IsReplayStatus words Unfinished = AskReplay words
+IsReplayStatus words ReadFault = ⊥
+IsReplayStatus words WriteFault = ⊥
+IsReplayStatus words NoMemory = Unit {0}

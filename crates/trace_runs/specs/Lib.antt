@@ -4,6 +4,6 @@ pub mod Churned
 pub mod Running
 pub mod Answered
 pub mod Number
-pub mod Ends
-pub mod Parts
+pub mod CallEnds
+pub mod DealtParts
 pub mod Started

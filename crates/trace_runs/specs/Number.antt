@@ -3,11 +3,11 @@ use Rattle.std.specs.Prelude.{ℕ}
 use Rattle.trace_runs.specs.declared.status.Status.{Status}
 use Rattle.trace_runs.specs.declared.status.Status.TheVariants.{Ok, BadWords, BadTrace, Unfinished, ReadFault, WriteFault, NoMemory}
 
-abbrev pub number_of : Status → ℕ
-number_of Ok = 0
-number_of BadWords = 2
-number_of BadTrace = 3
-number_of Unfinished = 4
-number_of ReadFault = 5
-number_of WriteFault = 6
-number_of NoMemory = 7
+abbrev pub status_number : Status → ℕ
+status_number Ok = 0
+status_number BadWords = 2
+status_number BadTrace = 3
+status_number Unfinished = 4
+status_number ReadFault = 5
+status_number WriteFault = 6
+status_number NoMemory = 7

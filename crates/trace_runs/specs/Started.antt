@@ -5,11 +5,11 @@ use Rattle.table_heap.specs.declared.heap.Heap.{Heap}
 use Rattle.trace_runs.specs.declared.parts.Part.{Part}
 use Rattle.trace_runs.specs.declared.threads.Thread.{Thread}
 use Rattle.trace_runs.specs.declared.threads.Thread.TheVariants.{Running, Over}
-use Rattle.trace_runs.specs.Parts.{IsReady, IsDone, AreReady}
+use Rattle.trace_runs.specs.DealtParts.{PartIsReady, IsDone, AreReady}
 
 -- a thread has the part of one bundle, or that part has run
 abbrev pub IsThread : Heap → Scripts → ℕ → ℕ → Thread → Type 0
-IsThread h scripts workers k (Running handle) = IsReady h scripts workers k (k + 1) handle.promise.0.value
+IsThread h scripts workers k (Running handle) = PartIsReady h scripts workers k (k + 1) handle.promise.0.value
 IsThread h scripts workers k (Over part) = IsDone h scripts workers k (k + 1) part
 
 -- the parts of the last bundles, the last one first

@@ -6,7 +6,7 @@ ghost use Rattle.churn.specs.Laws.{SumsUpTurns};
 ghost use Rattle.text_writer.specs.Sending.{outlet};
 ghost use Rattle.trace_runs.specs.Words.{most_seed, most_rounds, IsChurn, AskChurn};
 ghost use Rattle.trace_runs.specs.Churned.{IsChurnHeap};
-ghost use Rattle.trace_runs.specs.Answered.{Input, IsAnswered};
+ghost use Rattle.trace_runs.specs.Answered.{Input, StatusFits};
 
 use crate::lines::say;
 use crate::runs::{MOST_MACHINES, graph_of, run_scripts};
@@ -103,7 +103,7 @@ pub fn churn<R: Threads + Wait + Sync, K: Sink, G: Gate>(
 ) -> Status
     requires seed { workload.seed ≤ most_seed }
     requires count { workload.count ≤ most_rounds }
-    ensures { (words : List (List ℕ)) (input : Input) → IsChurn words workload.seed workload.count → IsAnswered words input
+    ensures { (words : List (List ℕ)) (input : Input) → IsChurn words workload.seed workload.count → StatusFits words input
         (record { before = outlet (K.written sink.old) (K.faults sink.old) (K.calls sink.old); after = outlet (K.written sink.new) (K.faults sink.new) (K.calls sink.new) }) result }
 {
     match summary_of(rt, alloc, workload, gate) {

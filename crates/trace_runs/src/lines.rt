@@ -4,10 +4,10 @@ ghost use Rattle.shen_graph.specs.Work.{HasScript};
 ghost use Rattle.text_writer.specs.Sending.{outlet};
 ghost use Rattle.trace_grammar.specs.Grammar.{Came, Reads};
 ghost use Rattle.trace_writing.specs.Message.{line_text};
-ghost use Rattle.trace_writing.specs.Answer.{text_of};
-ghost use Rattle.trace_runs.specs.Ends.{EndsWith};
+ghost use Rattle.trace_writing.specs.Answer.{spelled_answer};
+ghost use Rattle.trace_runs.specs.CallEnds.{EndsWith};
 ghost use Rattle.trace_runs.specs.Words.{AskTrace};
-ghost use Rattle.trace_runs.specs.Answered.{IsAnswered};
+ghost use Rattle.trace_runs.specs.Answered.{StatusFits};
 
 use crate::status::Status;
 use shen_base::{Sink, Source};
@@ -30,7 +30,7 @@ pub fn say<K: Sink>(sink: &mut K, line: Line, status: Status) -> Status
 /// Writes an answer.
 pub fn give<K: Sink>(sink: &mut K, answer: &Answer) -> Status
     requires { (mutator : ℕ) → mutator < length answer.now.graph.roots → HasScript answer.now.replies mutator }
-    ensures { EndsWith (text_of answer.now) Status.Ok result (outlet (K.written sink.old) (K.faults sink.old) (K.calls sink.old))
+    ensures { EndsWith (spelled_answer answer.now) Status.Ok result (outlet (K.written sink.old) (K.faults sink.old) (K.calls sink.old))
         (outlet (K.written sink.new) (K.faults sink.new) (K.calls sink.new)) }
 {
     match write_answer(sink, answer) {
@@ -47,7 +47,7 @@ pub fn taken<S: Source, K: Sink>(
 ) -> Result<Trace, Status>
     ensures ok { IfOk result (λ trace. (bytes : List ℕ) × Came (S.left source.old) (S.left source.new) bytes × Reads bytes trace.config trace.scripts trace.schedule) }
     ensures unused { OnOk result (sink.new ≡ sink.old) }
-    ensures refused { IfErr result (λ status. (words : List (List ℕ)) → AskTrace words → IsAnswered words
+    ensures refused { IfErr result (λ status. (words : List (List ℕ)) → AskTrace words → StatusFits words
         (record { before = S.left source.old; after = S.left source.new; faults_before = S.faults source.old; faults_after = S.faults source.new })
         (record { before = outlet (K.written sink.old) (K.faults sink.old) (K.calls sink.old); after = outlet (K.written sink.new) (K.faults sink.new) (K.calls sink.new) }) status) }
 {

@@ -1,8 +1,8 @@
 //! Parts of a heap's machines, each with the work for its mutators.
 ghost use Rattle.std.specs.Prelude.{◌≡◌, ◌<◌, ◌≤◌, ℕ, IfOk, length};
 ghost use Rattle.step_core.specs.Schedule.{Scripts};
-ghost use Rattle.table_heap.specs.State.{IsOf};
-ghost use Rattle.trace_runs.specs.Parts.{CanRun, HasEnded, AreApart, IsReady, IsDone, AreReady, CanBeDealt};
+ghost use Rattle.table_heap.specs.State.{IsBundleOf};
+ghost use Rattle.trace_runs.specs.DealtParts.{PartCanRun, PartHasEnded, ArePartsApart, PartIsReady, IsDone, AreReady, CanBeDealt};
 
 use heap_words::NoMemory;
 use shen_graph::Work;
@@ -28,18 +28,18 @@ pub struct Returned {
 impl Part {
     /// Runs the scripts until all machines of the part are idle.
     pub fn run<R: Wait, G: Gate>(&mut self, rt: &R, heap: &Heap, gate: &G)
-        requires { CanRun heap.now self.old }
-        ensures { HasEnded self.old self.new }
+        requires { PartCanRun heap.now self.old }
+        ensures { PartHasEnded self.old self.new }
     {
         self.bundle.run(rt, heap, &mut self.work, gate);
     }
 
     /// The machines and the scripts of both.
     pub fn join(self, heap: &Heap, other: Part) -> Part
-        requires this { IsOf self.bundle heap.now }
-        requires other { IsOf other.bundle heap.now }
-        requires apart { AreApart self other }
-        ensures ready { (scripts : Scripts) (workers first between beyond : ℕ) → IsReady heap.now scripts workers first between self → IsReady heap.now scripts workers between beyond other → first ≤ between → between ≤ beyond → IsReady heap.now scripts workers first beyond result }
+        requires this { IsBundleOf self.bundle heap.now }
+        requires other { IsBundleOf other.bundle heap.now }
+        requires apart { ArePartsApart self other }
+        ensures ready { (scripts : Scripts) (workers first between beyond : ℕ) → PartIsReady heap.now scripts workers first between self → PartIsReady heap.now scripts workers between beyond other → first ≤ between → between ≤ beyond → PartIsReady heap.now scripts workers first beyond result }
         ensures done { (scripts : Scripts) (workers first between beyond : ℕ) → IsDone heap.now scripts workers first between self → IsDone heap.now scripts workers between beyond other → first ≤ between → between ≤ beyond → IsDone heap.now scripts workers first beyond result }
     {
         let Part { bundle, mut work } = self;
@@ -80,7 +80,7 @@ pub fn dealt(
 pub fn together(heap: &Heap, mut parts: Vec<Part>) -> Part
     requires some { 0 < length parts.items }
     requires ready { (scripts : Scripts) × (workers : ℕ) × AreReady heap.now scripts workers parts.items }
-    ensures { (scripts : Scripts) (workers : ℕ) → AreReady heap.now scripts workers parts.items → IsReady heap.now scripts workers 0 (length parts.items) result }
+    ensures { (scripts : Scripts) (workers : ℕ) → AreReady heap.now scripts workers parts.items → PartIsReady heap.now scripts workers 0 (length parts.items) result }
 {
     let Some(mut own) = parts.pop() else {
         unreachable!()

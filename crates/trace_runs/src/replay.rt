@@ -15,11 +15,11 @@ ghost use Rattle.shen_core.specs.State.{config_of};
 ghost use Rattle.shen_core.specs.Progress.{AllRest};
 ghost use Rattle.text_writer.specs.Sending.{outlet};
 ghost use Rattle.trace_grammar.specs.Grammar.{Came, Reads};
-ghost use Rattle.trace_writing.specs.Answer.{text_of};
+ghost use Rattle.trace_writing.specs.Answer.{spelled_answer};
 ghost use Rattle.trace_runs.specs.Words.{IsReplay, AskReplay, AskTrace, BeginWith};
 ghost use Rattle.trace_runs.specs.Replayed.{IsReplayed, IsUnfinished};
 ghost use Rattle.trace_runs.specs.Running.{HasFinished};
-ghost use Rattle.trace_runs.specs.Answered.{IsAnswered, IsAnswer};
+ghost use Rattle.trace_runs.specs.Answered.{StatusFits, IsReplayStatus};
 
 use crate::lines::{give, say, taken};
 use crate::numbered::number_of;
@@ -89,7 +89,7 @@ fn graph_of(alloc: Global, config: Config, plain: &mut Plain) -> Result<GraphTex
 /// The answer to a trace.
 fn answer_to(alloc: Global, trace: Trace, steps: u64) -> Result<Answer, Refusal>
     requires { (bytes : List ℕ) × Reads bytes trace.config trace.scripts trace.schedule }
-    ensures ok { IfOk result (λ answer. (bytes : List ℕ) → Reads bytes trace.config trace.scripts trace.schedule → IsReplayed bytes steps (text_of answer)) }
+    ensures ok { IfOk result (λ answer. (bytes : List ℕ) → Reads bytes trace.config trace.scripts trace.schedule → IsReplayed bytes steps (spelled_answer answer)) }
     ensures scripts { IfOk result (λ answer. (mutator : ℕ) → mutator < length answer.graph.roots → HasScript answer.replies mutator) }
     ensures unfinished { result ≡ Err Refusal.Unfinished → (bytes : List ℕ) → Reads bytes trace.config trace.scripts trace.schedule → IsUnfinished bytes steps }
 {
@@ -101,7 +101,7 @@ fn answer_to(alloc: Global, trace: Trace, steps: u64) -> Result<Answer, Refusal>
 
 /// Reads a trace, runs it with so many steps at most, and writes its answer, or the one line that says why there is none.
 fn replay<S: Source, K: Sink>(alloc: Global, steps: u64, source: &mut S, sink: &mut K) -> Status
-    ensures { (words : List (List ℕ)) → IsReplay words steps → IsAnswered words
+    ensures { (words : List (List ℕ)) → IsReplay words steps → StatusFits words
         (record { before = S.left source.old; after = S.left source.new; faults_before = S.faults source.old; faults_after = S.faults source.new })
         (record { before = outlet (K.written sink.old) (K.faults sink.old) (K.calls sink.old); after = outlet (K.written sink.new) (K.faults sink.new) (K.calls sink.new) }) result }
 {
@@ -143,7 +143,7 @@ pub fn alone<S: Source, K: Sink>(
 
     // What each status says of the words, of what came and of what was written; and that the sink was called at most once for
     // each byte of the text.
-    ensures answered { IsAnswered (map string_bytes words.now)
+    ensures answered { StatusFits (map string_bytes words.now)
         (record { before = S.left source.old; after = S.left source.new; faults_before = S.faults source.old; faults_after = S.faults source.new })
         (record { before = outlet (K.written sink.old) (K.faults sink.old) (K.calls sink.old); after = outlet (K.written sink.new) (K.faults sink.new) (K.calls sink.new) }) result }
 
@@ -151,7 +151,7 @@ pub fn alone<S: Source, K: Sink>(
     // is refused.
     ensures complete { (bytes : List ℕ) (config : Sizes) (scripts : List (List Command)) (items : List Item) → AskTrace (map string_bytes words.now)
         → S.left source.old ≡ Some bytes → Reads bytes config scripts items
-        → (Rose (S.faults source.old) (S.faults source.new) → ⊥) → (Rose (K.faults sink.old) (K.faults sink.new) → ⊥) → IsAnswer (map string_bytes words.now) result }
+        → (Rose (S.faults source.old) (S.faults source.new) → ⊥) → (Rose (K.faults sink.old) (K.faults sink.new) → ⊥) → IsReplayStatus (map string_bytes words.now) result }
 
     // Other words are refused before anything is read.
     ensures unread { (AskTrace (map string_bytes words.now) → ⊥) → source.new ≡ source.old }

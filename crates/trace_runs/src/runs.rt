@@ -10,12 +10,12 @@ ghost use Rattle.shen_core.specs.Progress.{IsRunnable};
 ghost use Rattle.step_core.specs.Begins.{Run, ending, graph_after};
 ghost use Rattle.text_writer.specs.Sending.{outlet};
 ghost use Rattle.trace_grammar.specs.Grammar.{Reads};
-ghost use Rattle.trace_writing.specs.Answer.{text_of};
+ghost use Rattle.trace_writing.specs.Answer.{spelled_answer};
 ghost use Rattle.table_heap.specs.Closed.{config_of, stage_of, AllRest};
 ghost use Rattle.trace_runs.specs.Words.{AskRun, IsRunBy};
 ghost use Rattle.trace_runs.specs.Replayed.{IsRun};
 ghost use Rattle.trace_runs.specs.Running.{HasCome};
-ghost use Rattle.trace_runs.specs.Answered.{IsAnswered};
+ghost use Rattle.trace_runs.specs.Answered.{StatusFits};
 
 use crate::lines::{give, say, taken};
 use crate::numbered::number_of;
@@ -90,7 +90,7 @@ fn answer_to<R: Threads + Wait + Sync, G: Gate>(
 ) -> Result<Answer, NoMemory>
     requires workers { 1 ≤ workers }
     requires reads { (bytes : List ℕ) × Reads bytes trace.config trace.scripts trace.schedule }
-    ensures ok { IfOk result (λ answer. (bytes : List ℕ) → Reads bytes trace.config trace.scripts trace.schedule → IsRun bytes (text_of answer)) }
+    ensures ok { IfOk result (λ answer. (bytes : List ℕ) → Reads bytes trace.config trace.scripts trace.schedule → IsRun bytes (spelled_answer answer)) }
     ensures scripts { IfOk result (λ answer. (mutator : ℕ) → mutator < length answer.graph.roots → HasScript answer.replies mutator) }
 {
     let config = trace.config;
@@ -110,7 +110,7 @@ pub fn run<R: Threads + Wait + Sync, S: Source, K: Sink, G: Gate>(
     gate: &G,
 ) -> Status
     requires { 1 ≤ workers }
-    ensures { (words : List (List ℕ)) → IsRunBy words workers → IsAnswered words
+    ensures { (words : List (List ℕ)) → IsRunBy words workers → StatusFits words
         (record { before = S.left source.old; after = S.left source.new; faults_before = S.faults source.old; faults_after = S.faults source.new })
         (record { before = outlet (K.written sink.old) (K.faults sink.old) (K.calls sink.old); after = outlet (K.written sink.new) (K.faults sink.new) (K.calls sink.new) }) result }
 {

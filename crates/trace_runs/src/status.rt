@@ -1,5 +1,5 @@
 ghost use Rattle.std.specs.Prelude.{◌≡◌};
-ghost use Rattle.trace_runs.specs.Number.{number_of};
+ghost use Rattle.trace_runs.specs.Number.{status_number};
 
 /// How a call of the program ended.
 #[derive(Clone, Copy, Debug, PartialEq, Eq)]
@@ -23,7 +23,7 @@ pub enum Status {
 impl Status {
     /// The number with which the program ends: 0, and 2 to 7 in the order in which the statuses are listed.
     pub fn number(self) -> u8
-        ensures { result ≡ number_of self }
+        ensures { result ≡ status_number self }
     {
         match self {
             Status::Ok => 0,

@@ -1,7 +1,7 @@
 //! Runs of a heap's machines in threads: each part in a thread of its own, but those that the caller keeps.
 ghost use Rattle.std.specs.Prelude.{◌≡◌, ◌+◌, ◌≤◌, ◌<◌, ℕ, [], IfOk, IfErr, length, vec_capacity};
 ghost use Rattle.step_core.specs.Schedule.{Scripts};
-ghost use Rattle.trace_runs.specs.Parts.{CanRun, IsGivenBack, IsReady, IsDone, AreReady};
+ghost use Rattle.trace_runs.specs.DealtParts.{PartCanRun, IsGivenBack, PartIsReady, IsDone, AreReady};
 ghost use Rattle.trace_runs.specs.Started.{IsThread, AreThreads, AreSplit};
 
 use crate::parts::{Part, Returned, together};
@@ -39,7 +39,7 @@ fn run_unless<R: Wait, G: Gate>(
     stays: &AtomicBool,
     mut part: Part,
 ) -> Returned
-    requires { CanRun heap.now part }
+    requires { PartCanRun heap.now part }
     ensures { IsGivenBack part result }
 {
     if stays.load(Ordering::SeqCst) {
@@ -58,15 +58,15 @@ fn start<'s, E, R: Wait + Sync, G: Gate>(
     stays: &'s AtomicBool,
     part: Part,
 ) -> Result<Thread, Part>
-    requires { CanRun heap.now part }
-    ensures ok { IfOk result (λ thread. (scripts : Scripts) (workers k : ℕ) → IsReady heap.now scripts workers k (k + 1) part → IsThread heap.now scripts workers k thread) }
+    requires { PartCanRun heap.now part }
+    ensures ok { IfOk result (λ thread. (scripts : Scripts) (workers k : ℕ) → PartIsReady heap.now scripts workers k (k + 1) part → IsThread heap.now scripts workers k thread) }
     ensures err { IfErr result (λ back. back ≡ part) }
 {
     let given = Given(Snapshot::of(&part));
     let started = scope.spawn_with(
         given,
         move || -> Returned
-            requires { CanRun heap.now part }
+            requires { PartCanRun heap.now part }
             ensures { IsGivenBack part result }
         { run_unless(rt, heap, gate, stays, part) },
     );

@@ -10,10 +10,10 @@ use Rattle.shen_graph.specs.declared.name.Name.{Name}
 use Rattle.shen_graph.specs.declared.command.Reply.{Reply}
 use Rattle.shen_graph.specs.Graph.{Reference}
 use Rattle.shen_graph.specs.GraphText.{Row}
-use Rattle.text_writer.specs.Sending.{Stage, Puts}
+use Rattle.text_writer.specs.Sending.{SinkStage, Puts}
 use Rattle.text_writer.proofs.Stages.{puts_both, puts_same}
 use Rattle.trace_grammar.specs.Spelling.{space, newline}
-use Rattle.trace_writing.specs.Answer.{line_of, name_word, reference_word, reply_line, object_line, roots_line, root_words, answer_text}
+use Rattle.trace_writing.specs.Answer.{line_of, name_word, reference_word, reply_line, object_line, roots_line, root_spellings, answer_text}
 
 -- Loops over a list.
 
@@ -27,13 +27,13 @@ flat_map-take_more f xs i d h =
     ∙ sym (ap (flat_map f) (take_more xs i d h))
 
 -- the text of the next element was put
-pub puts_next : {X : Type 0} {a b c : Stage} (f : X → List ℕ) (xs : List X) (i : ℕ) (x d : X) → i < length xs → x ≡ get_or xs i d
+pub puts_next : {X : Type 0} {a b c : SinkStage} (f : X → List ℕ) (xs : List X) (i : ℕ) (x d : X) → i < length xs → x ≡ get_or xs i d
     → Puts a b (flat_map f (take i xs)) → Puts b c (f x) → Puts a c (flat_map f (take (i + 1) xs))
 puts_next f xs i x d h e p q =
     puts_same (ap (λ y. flat_map f (take i xs) ++ f y) e ∙ flat_map-take_more f xs i d h) (puts_both p q)
 
 -- the texts of all elements were put
-pub puts_all : {X : Type 0} {a b : Stage} (f : X → List ℕ) (xs : List X) (i : ℕ) → length xs ≤ i → Puts a b (flat_map f (take i xs)) → Puts a b (flat_map f xs)
+pub puts_all : {X : Type 0} {a b : SinkStage} (f : X → List ℕ) (xs : List X) (i : ℕ) → length xs ≤ i → Puts a b (flat_map f (take i xs)) → Puts a b (flat_map f xs)
 puts_all f xs i h p = puts_same (ap (flat_map f) (take_all i xs h)) p
 
 -- Loops over numbers.
@@ -50,12 +50,12 @@ flat_map-range_more f from n next e =
     ∙ sym (ap (flat_map f) longer)
 
 -- the text of the next number was put
-pub puts_next_number : {a b c : Stage} (f : ℕ → List ℕ) (from n next : ℕ) → from + n ≡ next
+pub puts_next_number : {a b c : SinkStage} (f : ℕ → List ℕ) (from n next : ℕ) → from + n ≡ next
     → Puts a b (flat_map f (range_with_len from n)) → Puts b c (f next) → Puts a c (flat_map f (range_with_len from (n + 1)))
 puts_next_number f from n next e p q = puts_same (flat_map-range_more f from n next e) (puts_both p q)
 
 -- the texts of all numbers were put
-pub puts_each_number : {a b : Stage} (f : ℕ → List ℕ) (from n m : ℕ) → n ≡ m → Puts a b (flat_map f (range_with_len from n)) → Puts a b (flat_map f (range_with_len from m))
+pub puts_each_number : {a b : SinkStage} (f : ℕ → List ℕ) (from n m : ℕ) → n ≡ m → Puts a b (flat_map f (range_with_len from n)) → Puts a b (flat_map f (range_with_len from m))
 puts_each_number f from n m e p = puts_same (ap (λ k. flat_map f (range_with_len from k)) e) p
 
 -- Words.
@@ -90,15 +90,15 @@ object_line_is r name e =
 
 -- the line of a thread's roots, as it is put
 pub roots_line_is : (thread : ℕ) (root : ℕ → Reference)
-    → ((codes "roots " ++ decimal thread) ++ flat_map (λ w. space ∷ w) (root_words root)) ++ newline ∷ [] ≡ roots_line thread root
+    → ((codes "roots " ++ decimal thread) ++ flat_map (λ w. space ∷ w) (root_spellings root)) ++ newline ∷ [] ≡ roots_line thread root
 roots_line_is thread root =
-    let words = root_words root in
+    let words = root_spellings root in
     ap (λ t. t ++ newline ∷ [])
     (append_assoc (codes "roots ") (decimal thread) (flat_map (λ w. space ∷ w) words) ∙ sym (joined (codes "roots") (decimal thread ∷ words)))
 
 -- the words of 16 roots, each after a space
-pub root_words_are : (root : ℕ → Reference) (n : ℕ) → n ≡ 16 → flat_map (λ i. space ∷ reference_word (root i)) (range_with_len 0 n) ≡ flat_map (λ w. space ∷ w) (root_words root)
-unfolding root_words
+pub root_words_are : (root : ℕ → Reference) (n : ℕ) → n ≡ 16 → flat_map (λ i. space ∷ reference_word (root i)) (range_with_len 0 n) ≡ flat_map (λ w. space ∷ w) (root_spellings root)
+unfolding root_spellings
 root_words_are root n e =
     ap (λ k. flat_map (λ i. space ∷ reference_word (root i)) (range_with_len 0 k)) e
     ∙ sym (flat_map-map (λ w. space ∷ w) (λ i. reference_word (root i)) (range_with_len 0 16))
@@ -124,8 +124,8 @@ map-range_same f h from (suc n) same =
     ∙ ap (λ t. h from ∷ t) (map-range_same f h (from + 1) n others)
 
 -- the words of equal roots
-root_words_same : (root other : ℕ → Reference) → ((i : ℕ) → i < 16 → root i ≡ other i) → root_words root ≡ root_words other
-unfolding root_words
+root_words_same : (root other : ℕ → Reference) → ((i : ℕ) → i < 16 → root i ≡ other i) → root_spellings root ≡ root_spellings other
+unfolding root_spellings
 root_words_same root other same =
     map-range_same (λ i. reference_word (root i)) (λ i. reference_word (other i)) 0 16 (λ k low high. ap reference_word (same k (omega arith)))
 
@@ -146,5 +146,5 @@ answer_text_same threads replies others rows root other same_replies same_roots 
     ∙ ap (λ t. flat_map (λ t. flat_map (reply_line t) (others t)) (range_with_len 1 threads) ++ (graph ++ (objects ++ t))) held
 
 -- a label and its number were put, and then the others
-pub puts_told : {a b c : Stage} (label number others : List ℕ) → Puts a b (label ++ number) → Puts b c others → Puts a c (label ++ (number ++ others))
+pub puts_told : {a b c : SinkStage} (label number others : List ℕ) → Puts a b (label ++ number) → Puts b c others → Puts a c (label ++ (number ++ others))
 puts_told label number others p q = puts_same (append_assoc label number others) (puts_both p q)

@@ -46,26 +46,26 @@ abbrev pub object_line : Row → List ℕ
 object_line r = line_of (codes "object" ∷ name_word r.name ∷ (map reference_word r.refs ++ codes "/" ∷ map decimal r.nums))
 
 -- the words of 16 roots
-unfoldable pub root_words : (ℕ → Reference) → List (List ℕ)
-root_words root = map (λ i. reference_word (root i)) (range_with_len 0 16)
+unfoldable pub root_spellings : (ℕ → Reference) → List (List ℕ)
+root_spellings root = map (λ i. reference_word (root i)) (range_with_len 0 16)
 
 -- the roots of a thread
 abbrev pub roots_line : ℕ → (ℕ → Reference) → List ℕ
-roots_line thread root = line_of (codes "roots" ∷ decimal thread ∷ root_words root)
+roots_line thread root = line_of (codes "roots" ∷ decimal thread ∷ root_spellings root)
 
 -- the threads, counted from 1
-abbrev pub threads_of : ℕ → List ℕ
-threads_of threads = range_with_len 1 threads
+abbrev pub thread_numbers : ℕ → List ℕ
+thread_numbers threads = range_with_len 1 threads
 
 -- the answer of so many threads: the replies of each, the objects, and the roots of each
 abbrev pub answer_text : (threads : ℕ) (replies : ℕ → List Reply) (rows : List Row) (root : ℕ → ℕ → Reference) → List ℕ
 answer_text threads replies rows root =
-    flat_map (λ t. flat_map (reply_line t) (replies t)) (threads_of threads)
-    ++ (line_of (codes "graph" ∷ []) ++ (flat_map object_line rows ++ flat_map (λ t. roots_line t (root t)) (threads_of threads)))
+    flat_map (λ t. flat_map (reply_line t) (replies t)) (thread_numbers threads)
+    ++ (line_of (codes "graph" ∷ []) ++ (flat_map object_line rows ++ flat_map (λ t. roots_line t (root t)) (thread_numbers threads)))
 
 -- the text of an answer in memory
-abbrev pub text_of : Answer → List ℕ
-text_of a = answer_text (length a.graph.roots) (λ t. replies_of a.replies (t - 1)) a.graph.rows (root_of a.graph)
+abbrev pub spelled_answer : Answer → List ℕ
+spelled_answer a = answer_text (length a.graph.roots) (λ t. replies_of a.replies (t - 1)) a.graph.rows (root_of a.graph)
 
 -- The text that answers a history of so many threads: what its entries were answered, and the graph after them, with the
 -- objects that can be reached in the order of their names.

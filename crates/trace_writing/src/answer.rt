@@ -5,7 +5,7 @@ ghost use Rattle.shen_graph.specs.Work.{HasScript, replies_of};
 ghost use Rattle.shen_graph.specs.GraphText.{row_of, root_of};
 ghost use Rattle.text_writer.specs.Sending.{Puts, Writes, outlet, stage};
 ghost use Rattle.trace_grammar.specs.Spelling.{space};
-ghost use Rattle.trace_writing.specs.Answer.{name_word, reference_word, reply_word, reply_line, object_line, roots_line, root_words, threads_of, text_of};
+ghost use Rattle.trace_writing.specs.Answer.{name_word, reference_word, reply_word, reply_line, object_line, roots_line, root_spellings, thread_numbers, spelled_answer};
 
 use shen_base::Sink;
 use shen_graph::{Command, GraphText, Name, Reply, Work};
@@ -29,7 +29,7 @@ pub struct Answer {
 pub fn write_answer<K: Sink>(sink: &mut K, answer: &Answer) -> Result<(), WriteFault>
     requires { (mutator : ℕ) → mutator < length answer.now.graph.roots → HasScript answer.now.replies mutator }
     ensures { Writes result (outlet (K.written sink.old) (K.faults sink.old) (K.calls sink.old))
-        (outlet (K.written sink.new) (K.faults sink.new) (K.calls sink.new)) (text_of answer.now) }
+        (outlet (K.written sink.new) (K.faults sink.new) (K.calls sink.new)) (spelled_answer answer.now) }
 {
     let mut block = Block::new();
     put_replies(&mut block, sink, &answer.replies, answer.graph.mutators());
@@ -44,7 +44,7 @@ fn put_replies<K: Sink>(block: &mut Block, sink: &mut K, work: &Work, mutators: 
     requires { (mutator : ℕ) → mutator < mutators → HasScript work.now mutator }
     ensures put { Puts (stage (K.written sink.old) (K.faults sink.old) (K.calls sink.old) block.old)
         (stage (K.written sink.new) (K.faults sink.new) (K.calls sink.new) block.new)
-        (flat_map (λ t. flat_map (reply_line t) (replies_of work.now (t - 1))) (threads_of mutators)) }
+        (flat_map (λ t. flat_map (reply_line t) (replies_of work.now (t - 1))) (thread_numbers mutators)) }
     ensures few { mutators ≤ 8 }
 {
     for mutator in 0..mutators {
@@ -177,7 +177,7 @@ fn put_roots<K: Sink>(block: &mut Block, sink: &mut K, graph: &GraphText)
     requires { length graph.now.roots ≤ 8 }
     ensures { Puts (stage (K.written sink.old) (K.faults sink.old) (K.calls sink.old) block.old)
         (stage (K.written sink.new) (K.faults sink.new) (K.calls sink.new) block.new)
-        (flat_map (λ t. roots_line t (root_of graph.now t)) (threads_of (length graph.now.roots))) }
+        (flat_map (λ t. roots_line t (root_of graph.now t)) (thread_numbers (length graph.now.roots))) }
 {
     for mutator in 0..graph.mutators() {
         put_roots_of(block, sink, graph, mutator as u32 + 1);
@@ -202,7 +202,7 @@ fn put_root_words<K: Sink>(block: &mut Block, sink: &mut K, graph: &GraphText, t
     requires thread { (1 ≤ thread) × (thread ≤ length graph.now.roots) }
     ensures { Puts (stage (K.written sink.old) (K.faults sink.old) (K.calls sink.old) block.old)
         (stage (K.written sink.new) (K.faults sink.new) (K.calls sink.new) block.new)
-        (flat_map (λ w. space ∷ w) (root_words (root_of graph.now thread))) }
+        (flat_map (λ w. space ∷ w) (root_spellings (root_of graph.now thread))) }
 {
     for index in 0..ROOTS {
         put_reference(block, sink, graph.root_at(thread, index));

@@ -5,7 +5,7 @@ ghost use Rattle.shen_graph.specs.declared.command.Command.{Command as Asked};
 ghost use Rattle.heap_words.specs.declared.config.Config.{Config as Sizes};
 ghost use Rattle.heap_words.specs.declared.schedule.Item.{Item as Turn};
 ghost use Rattle.text_writer.specs.Sending.{Puts, Writes, outlet, stage};
-ghost use Rattle.trace_grammar.specs.Spelling.{numbers, word_of, numbers_of, line, titled, header, number_of, aim, spaced_item, schedule_line, IsItem};
+ghost use Rattle.trace_grammar.specs.Spelling.{numbers, command_word, numbers_of, line, titled, header, number_of, aim, spaced_item, schedule_line, IsItem};
 ghost use Rattle.trace_grammar.specs.Grammar.{Reads};
 ghost use Rattle.trace_writing.specs.Canonical.{lines_of, lines_from, turns_of, spelling_of, IsWritable};
 
@@ -117,7 +117,7 @@ fn put_line<K: Sink>(block: &mut Block, sink: &mut K, thread: u64, command: Comm
 pub(crate) fn put_command<K: Sink>(block: &mut Block, sink: &mut K, command: Command)
     ensures { Puts (stage (K.written sink.old) (K.faults sink.old) (K.calls sink.old) block.old)
         (stage (K.written sink.new) (K.faults sink.new) (K.calls sink.new) block.new)
-        (word_of command ++ numbers (numbers_of command)) }
+        (command_word command ++ numbers (numbers_of command)) }
 {
     let (values, count) = numbers_of(command);
     put_word(block, sink, word_of(command), &values[..count]);
@@ -125,7 +125,7 @@ pub(crate) fn put_command<K: Sink>(block: &mut Block, sink: &mut K, command: Com
 
 // The word of a command.
 fn word_of(command: Command) -> &'static [u8]
-    ensures { result.now ≡ word_of command }
+    ensures { result.now ≡ command_word command }
 {
     match command {
         Command::New { .. } => b"new",

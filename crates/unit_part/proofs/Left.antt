@@ -6,23 +6,23 @@ use Rattle.std.proofs.lemmas.Bool.{and_parts, ltb-false, le-ltb}
 use Rattle.heap_words.specs.declared.config.Config.{Config}
 use Rattle.heap_words.specs.declared.access.Unit.TheVariants.{Worked, NoneLeft}
 use Rattle.heap_words.specs.Encoding.{refs_in, is_forwarded, forwardee_in}
-use Rattle.mark_bits.specs.Marks.{mark_word, mark_bit, lowest_address}
-use Rattle.scan_steps.specs.declared.spot.ScanSpot.{ScanSpot}
-use Rattle.scan_steps.specs.declared.spot.ScanSpot.TheVariants as scan
-use Rattle.scan_steps.specs.Rows as scans
-use Rattle.scan_steps.specs.Ends as scan_ends
+use Rattle.regions.specs.Marks.{mark_word, mark_bit, lowest_address}
+use Rattle.scan_part.specs.declared.spot.ScanSpot.{ScanSpot}
+use Rattle.scan_part.specs.declared.spot.ScanSpot.TheVariants as scan
+use Rattle.scan_part.specs.Rows as scans
+use Rattle.scan_part.specs.Ends as scan_ends
 use Rattle.load_barrier.specs.declared.spot.ResolveSpot.{ResolveSpot}
 use Rattle.load_barrier.specs.declared.spot.ResolveSpot.TheVariants as resolve
 use Rattle.load_barrier.specs.declared.evac_spot.EvacSpot.{EvacSpot}
 use Rattle.load_barrier.specs.declared.evac_spot.EvacSpot.TheVariants as evac
 use Rattle.load_barrier.specs.UnitRows as evacs
 use Rattle.load_barrier.specs.UnitEnds as evac_ends
-use Rattle.update_refs.specs.declared.spot.Walk.{Walk}
-use Rattle.update_refs.specs.declared.spot.Visit.{Visit}
-use Rattle.update_refs.specs.declared.spot.UpdateSpot.{UpdateSpot}
-use Rattle.update_refs.specs.declared.spot.UpdateSpot.TheVariants as update
-use Rattle.update_refs.specs.Rows as updates
-use Rattle.update_refs.specs.Ends as update_ends
+use Rattle.update_part.specs.declared.spot.Walk.{Walk}
+use Rattle.update_part.specs.declared.spot.Visit.{Visit}
+use Rattle.update_part.specs.declared.spot.UpdateSpot.{UpdateSpot}
+use Rattle.update_part.specs.declared.spot.UpdateSpot.TheVariants as update
+use Rattle.update_part.specs.Rows as updates
+use Rattle.update_part.specs.Ends as update_ends
 use Rattle.unit_part.specs.declared.spot.UnitSpot.{UnitSpot}
 use Rattle.unit_part.specs.declared.spot.UnitSpot.TheVariants.{Scanning, Evacuating, Updating, Ended}
 use Rattle.unit_part.specs.Rows.{begins, scanned, evacuated, updated, next_at}
@@ -114,12 +114,12 @@ module _ (c : Config) where
 
   not_field : (at : Visit) (field : ℕ) → IsUpdateLeft (updates.next_field c at field) → ⊥
   not_field at field =
-      by_test (λ spot. IsUpdateLeft spot → ⊥) (nat_lt field (refs_in at.shape)) (update.LoadField at field) (updates.next_object c at.walk (updates.end_of at)) (λ on is. cc) (λ off. not_object at.walk (updates.end_of at))
+      by_test (λ spot. IsUpdateLeft spot → ⊥) (nat_lt field (refs_in at.shape)) (update.LoadField at field) (updates.next_object c at.walk (updates.visit_end at)) (λ on is. cc) (λ off. not_object at.walk (updates.visit_end at))
 
   not_shape : (at : Visit) → IsUpdateLeft (updates.after_shape c at) → ⊥
   not_shape at =
-      by_test (λ spot. IsUpdateLeft spot → ⊥) (refs_in at.shape == 0) (updates.next_object c at.walk (updates.end_of at)) (if nat_lt at.address (updates.tams_of c at.walk) then update.LoadBlack at else update.LoadField at 0)
-      (λ on. not_object at.walk (updates.end_of at))
+      by_test (λ spot. IsUpdateLeft spot → ⊥) (refs_in at.shape == 0) (updates.next_object c at.walk (updates.visit_end at)) (if nat_lt at.address (updates.tams_of c at.walk) then update.LoadBlack at else update.LoadField at 0)
+      (λ on. not_object at.walk (updates.visit_end at))
       (λ off. by_test (λ spot. IsUpdateLeft spot → ⊥) (nat_lt at.address (updates.tams_of c at.walk)) (update.LoadBlack at) (update.LoadField at 0) (λ low is. cc) (λ high is. cc))
 
   not_in_set : (cset unit : ℕ) → IsUpdateLeft (if bit_at cset unit == 1 then update.Ended Worked else update.LoadLimit unit) → ⊥
@@ -133,7 +133,7 @@ module _ (c : Config) where
   update_left cset (update.LoadTams region limit) got going = never (λ is. cc)
   update_left cset (update.LoadShape walk address) got going = never (not_shape _)
   update_left cset (update.LoadBlack at) got going =
-      never (by_test (λ spot. IsUpdateLeft spot → ⊥) (bit_at got (mark_bit c at.address) == 1) (update.LoadField at 0) (updates.next_object c at.walk (updates.end_of at)) (λ on is. cc) (λ off. not_object at.walk (updates.end_of at)))
+      never (by_test (λ spot. IsUpdateLeft spot → ⊥) (bit_at got (mark_bit c at.address) == 1) (update.LoadField at 0) (updates.next_object c at.walk (updates.visit_end at)) (λ on is. cc) (λ off. not_object at.walk (updates.visit_end at)))
   update_left cset (update.LoadField at field) got going =
       never (by_test (λ spot. IsUpdateLeft spot → ⊥) (updates.names_set c cset got) (update.LoadHeader at field got) (updates.next_field c at (field + 1)) (λ on is. cc) (λ off. not_field at (field + 1)))
   update_left cset (update.LoadHeader at field found) got going =

@@ -4,12 +4,12 @@ use Rattle.heap_words.specs.declared.config.Config.{Config}
 use Rattle.heap_words.specs.Access.{table_index}
 use Rattle.heap_words.specs.Words.{table_words}
 use Rattle.steps_base.specs.Touch.{placed}
-use Rattle.scan_steps.specs.Rows as scans
-use Rattle.scan_steps.specs.Seen as scan
+use Rattle.scan_part.specs.Rows as scans
+use Rattle.scan_part.specs.Seen as scan
 use Rattle.load_barrier.specs.UnitRows as evacs
 use Rattle.load_barrier.specs.UnitFit as evac
-use Rattle.update_refs.specs.Rows as updates
-use Rattle.update_refs.specs.Seen as update
+use Rattle.update_part.specs.Rows as updates
+use Rattle.update_part.specs.Seen as update
 use Rattle.unit_part.specs.declared.spot.UnitSpot.{UnitSpot}
 use Rattle.unit_part.specs.declared.spot.UnitSpot.TheVariants.{Scanning, Evacuating, Updating}
 use Rattle.unit_part.specs.Rows.{touch_at, next_at}

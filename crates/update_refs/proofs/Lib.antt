@@ -1,2 +1,2 @@
-pub mod Endings
-pub mod Inside
+pub mod UpdatingBegun
+pub mod UpdatingEnded

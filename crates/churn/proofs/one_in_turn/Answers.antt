@@ -1,4 +1,4 @@
-use Rattle.churn.proofs.Turns.{one_in_turn}
+use Rattle.churn.proofs.OneAfterAnother.{one_in_turn}
 use Rattle.churn.proofs.one_in_turn.Goals as goal
 
 pub returns : goal.returns

@@ -1,4 +1,4 @@
-use Rattle.churn.proofs.Turns.{runs_are_in_turn}
+use Rattle.churn.proofs.OneAfterAnother.{runs_are_in_turn}
 use Rattle.churn.proofs.runs_are_in_turn.Goals as goal
 
 pub returns : goal.returns

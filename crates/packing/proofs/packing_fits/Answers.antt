@@ -1,4 +1,4 @@
-use Rattle.packing.proofs.Places.{each_fits}
+use Rattle.packing.proofs.Placed.{each_fits}
 use Rattle.packing.proofs.packing_fits.Goals as goal
 
 pub returns : goal.returns

@@ -1,4 +1,4 @@
-use Rattle.step_core.proofs.Theorem.{found_fit}
+use Rattle.step_core.proofs.Theorem.EveryList.{found_fit}
 use Rattle.step_core.proofs.found_words_are_fit.Goals as goal
 
 pub returns : goal.returns

@@ -1,4 +1,4 @@
-use Rattle.step_core.proofs.FirstFacts.{opening_begins}
+use Rattle.step_core.proofs.Theorem.FirstFacts.{opening_begins}
 use Rattle.step_core.proofs.opening_begins.Goals as goal
 
 pub returns : goal.returns

@@ -1,4 +1,4 @@
-use Rattle.step_core.proofs.Theorem.{run_pauses}
+use Rattle.step_core.proofs.Theorem.EveryList.{run_pauses}
 use Rattle.step_core.proofs.pauses_are_empty.Goals as goal
 
 pub returns : goal.returns

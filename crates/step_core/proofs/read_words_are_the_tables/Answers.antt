@@ -1,4 +1,4 @@
-use Rattle.step_core.proofs.Theorem.{run_aims}
+use Rattle.step_core.proofs.Theorem.EveryList.{run_aims}
 use Rattle.step_core.proofs.read_words_are_the_tables.Goals as goal
 
 pub returns : goal.returns

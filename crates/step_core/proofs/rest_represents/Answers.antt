@@ -1,4 +1,4 @@
-use Rattle.step_core.proofs.Theorem.{run_rests}
+use Rattle.step_core.proofs.Theorem.EveryList.{run_rests}
 use Rattle.step_core.proofs.rest_represents.Goals as goal
 
 pub returns : goal.returns

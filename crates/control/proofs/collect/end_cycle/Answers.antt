@@ -2,10 +2,10 @@ use Rattle.std.proofs.Common.{◌≡◌, ℕ, true, false, ⊎_elim, sym, ap, �
 use Rattle.std.proofs.lemmas.Bool.{cases_Bool}
 use Rattle.heap_words.specs.Words.{Word}
 use Rattle.heap_words.specs.declared.config.Config.{Config}
-use Rattle.image_laws.specs.Full.{full}
+use Rattle.full_words.specs.Full.{full}
 use Rattle.image_graph.specs.Holds.{HoldsSome}
 use Rattle.image_graph.specs.State.{config_of, memory_of}
-use Rattle.finish_laws.specs.Finish.{finished, is_whole}
+use Rattle.cycle_words.specs.Finishing.Finish.{finished, is_whole}
 use Rattle.degenerated.specs.declared.cycle.Finished.{Finished}
 use Rattle.control.proofs.Collecting.{of-same, whole-ended, short-ended}
 use Rattle.control.proofs.collect.end_cycle.Goals as goal

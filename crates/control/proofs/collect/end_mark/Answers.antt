@@ -3,9 +3,9 @@ use Rattle.heap_words.specs.declared.config.Config.{Config}
 use Rattle.heap_words.specs.Words.{Word}
 use Rattle.image_graph.specs.declared.image.Image.{Image}
 use Rattle.image_graph.specs.State.{config_of, memory_of}
-use Rattle.mark_laws.specs.Final.{final_marked}
-use Rattle.cset_laws.specs.Choice.{chosen}
-use Rattle.cset_laws.specs.Begun.{CanBegin, evac_begun}
+use Rattle.cycle_words.specs.Marking.Final.{final_marked}
+use Rattle.cycle_words.specs.Evacuation.Choice.{chosen}
+use Rattle.cycle_words.specs.Evacuation.Begun.{CanBegin, evac_begun}
 use Rattle.control.proofs.collect.end_mark.Goals as goal
 
 -- evacuation can begin from the image in which marking has ended

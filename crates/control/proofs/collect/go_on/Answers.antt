@@ -1,6 +1,6 @@
 use Rattle.std.proofs.Common.{◌≡◌, sym, ◌∙◌, arith}
 use Rattle.image_graph.specs.State.{config_of, words_of, memory_of}
-use Rattle.mark_core.proofs.Ending.{no_more_seats}
+use Rattle.mark_core.proofs.MarkingEnded.{no_more_seats}
 use Rattle.cycle_pauses.proofs.Pauses.{ended_can_begin}
 use Rattle.control.proofs.Collecting.{can_hold, can_calm, can_end, init_mark-next, end_mark-next, init_update-next, final_update-next}
 use Rattle.control.proofs.collect.go_on.Goals as goal

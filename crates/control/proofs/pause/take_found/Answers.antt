@@ -1,5 +1,5 @@
 use Rattle.std.proofs.Common.{subst}
-use Rattle.control_steps.specs.declared.spot.ControlSpot.{ControlSpot}
+use Rattle.control_rows.specs.declared.spot.ControlSpot.{ControlSpot}
 use Rattle.image_graph.specs.State.{config_of}
 use Rattle.control.specs.Image.{image_in, words_seen}
 use Rattle.control.specs.Fit.{fits_with}

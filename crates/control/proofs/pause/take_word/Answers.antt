@@ -1,7 +1,7 @@
 use Rattle.std.proofs.Common.{◌≡◌, ℕ, ◌+◌, false, ltb, ◌∙◌, ap, arith}
 use Rattle.std.proofs.lemmas.Bool.{le-ltb}
 use Rattle.heap_words.specs.Words.{Word, Phase, Cset}
-use Rattle.control_steps.specs.Rows.{seen_after}
+use Rattle.control_rows.specs.Rows.{seen_after}
 use Rattle.image_graph.specs.State.{config_of}
 use Rattle.heap_world.specs.Change.{image_words}
 use Rattle.control.proofs.Images.{can-last, image-last, memory-last}

@@ -3,12 +3,12 @@ use Rattle.std.specs.List.{range_with_len}
 use Rattle.heap_words.specs.declared.config.Config.{Config}
 use Rattle.heap_words.specs.Words.{Word, Cset, Answer}
 use Rattle.image_graph.specs.State.{config_of, memory_of}
-use Rattle.image_graph.proofs.Steps.{stored}
-use Rattle.cset_laws.specs.Choice.{chosen}
-use Rattle.cset_laws.specs.Begun.{CanClearInTurn, with_set, cleared_in_turn, root_places, evac_started}
-use Rattle.cset_laws.proofs.Clearing.{can_clear_in_turn}
-use Rattle.cset_choice.proofs.Turns.{can_front, can_back, turn_both}
-use Rattle.cset_choice.proofs.Beginning.{set_stored, begun, not_begun}
+use Rattle.image_graph.proofs.NamedStores.{stored}
+use Rattle.cycle_words.specs.Evacuation.Choice.{chosen}
+use Rattle.cycle_words.specs.Evacuation.Begun.{CanClearInTurn, with_set, cleared_in_turn, root_places, evac_started}
+use Rattle.cycle_words.proofs.Evacuation.Clearing.{can_clear_in_turn}
+use Rattle.cset_choice.proofs.ClearedInTurn.{can_front, can_back, turn_both}
+use Rattle.cset_choice.proofs.EvacuationBegun.{set_stored, begun, not_begun}
 use Rattle.cset_choice.proofs.begin.begin_evac.Goals as goal
 
 abbrev answers : Config → List Word

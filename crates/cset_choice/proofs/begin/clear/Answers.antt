@@ -1,10 +1,10 @@
 use Rattle.std.proofs.Common.{◌≡◌, ℕ, true, sym, ap, ◌∙◌}
 use Rattle.heap_words.specs.Words.{Word, write}
-use Rattle.image_laws.specs.Full.{now_in}
+use Rattle.full_words.specs.Full.{now_in}
 use Rattle.image_graph.specs.State.{config_of, memory_of}
-use Rattle.image_graph.proofs.Steps.{stored}
-use Rattle.cset_laws.specs.Begun.{is_collected, moved_out}
-use Rattle.cset_choice.proofs.Beginning.{not_cleared, cleared}
+use Rattle.image_graph.proofs.NamedStores.{stored}
+use Rattle.cycle_words.specs.Evacuation.Begun.{is_collected, moved_out}
+use Rattle.cset_choice.proofs.EvacuationBegun.{not_cleared, cleared}
 use Rattle.cset_choice.proofs.begin.clear.Goals as goal
 
 pub returns-then-not-is_collected-clause-words : goal.returns-then-not-is_collected-clause-words

@@ -3,8 +3,8 @@ use Rattle.std.specs.List.{range_with_len}
 use Rattle.heap_words.specs.declared.config.Config.{Config}
 use Rattle.heap_words.specs.Words.{Word, Root}
 use Rattle.image_graph.specs.State.{config_of, memory_of}
-use Rattle.cset_laws.specs.Begun.{CanClearInTurn, cleared_in_turn}
-use Rattle.cset_choice.proofs.Turns.{rows_none, rows_next, rows_can}
+use Rattle.cycle_words.specs.Evacuation.Begun.{CanClearInTurn, cleared_in_turn}
+use Rattle.cset_choice.proofs.ClearedInTurn.{rows_none, rows_next, rows_can}
 use Rattle.cset_choice.proofs.begin.clear_all_roots.Goals as goal
 
 pub loop-mutator-init : goal.loop-mutator-init

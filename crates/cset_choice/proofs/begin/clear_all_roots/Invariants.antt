@@ -1,6 +1,6 @@
 use Rattle.std.proofs.Common.{◌≡◌}
 use Rattle.image_graph.specs.State.{config_of, memory_of}
-use Rattle.cset_laws.specs.Begun.{cleared_in_turn, root_places}
+use Rattle.cycle_words.specs.Evacuation.Begun.{cleared_in_turn, root_places}
 use Rattle.cset_choice.proofs.begin.clear_all_roots.Given as goal
 
 abbrev pub invariant-loop-mutator : goal.invariant-loop-mutator

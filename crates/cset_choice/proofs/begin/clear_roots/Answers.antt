@@ -3,8 +3,8 @@ use Rattle.heap_words.specs.declared.config.Config.{Config}
 use Rattle.heap_words.specs.Words.{Word, Root, IsWord, word_at}
 use Rattle.heap_words.proofs.Stores.{view_word}
 use Rattle.image_graph.specs.State.{config_of, words_of, memory_of}
-use Rattle.cset_laws.specs.Begun.{CanClear, cleared_at}
-use Rattle.cset_choice.proofs.Turns.{row, row_none, row_next, row_can}
+use Rattle.cycle_words.specs.Evacuation.Begun.{CanClear, cleared_at}
+use Rattle.cset_choice.proofs.ClearedInTurn.{row, row_none, row_next, row_can}
 use Rattle.cset_choice.proofs.begin.clear_roots.Goals as goal
 
 pub loop-index-init : goal.loop-index-init

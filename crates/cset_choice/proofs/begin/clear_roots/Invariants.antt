@@ -1,7 +1,7 @@
 use Rattle.std.proofs.Common.{◌≡◌}
 use Rattle.heap_words.specs.Words.{Root}
 use Rattle.image_graph.specs.State.{config_of, memory_of}
-use Rattle.cset_choice.proofs.Turns.{row}
+use Rattle.cset_choice.proofs.ClearedInTurn.{row}
 use Rattle.cset_choice.proofs.begin.clear_roots.Given as goal
 
 abbrev pub invariant-loop-index : goal.invariant-loop-index

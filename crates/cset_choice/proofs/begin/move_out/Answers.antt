@@ -1,16 +1,16 @@
 use Rattle.std.proofs.Common.{◌≡◌, ℕ, true, false, Option, IsSome, refl, sym, ap, ◌∙◌, subst}
 use Rattle.std.proofs.lemmas.Bool.{cond-true}
-use Rattle.cset_laws.specs.Copied.{copy_room}
+use Rattle.cycle_words.specs.Evacuation.Copied.{copy_room}
 use Rattle.heap_words.specs.declared.config.Config.{Config}
 use Rattle.heap_words.specs.Words.{Word, Heap, IsWord, word_at}
 use Rattle.heap_words.specs.Encoding.{is_forwarded, forwardee_in}
-use Rattle.image_laws.specs.Full.{now_in}
+use Rattle.full_words.specs.Full.{now_in}
 use Rattle.image_graph.specs.State.{config_of, memory_of}
-use Rattle.image_graph.proofs.Steps.{placed_inside}
+use Rattle.image_graph.proofs.NamedStores.{placed_inside}
 use Rattle.cset_choice.proofs.Objects.{collected_of_heap}
-use Rattle.cset_choice.proofs.Copying.{copy_is_now}
+use Rattle.cset_choice.proofs.CopyStores.{copy_is_now}
 use Rattle.cset_choice.proofs.Reading.{read}
-use Rattle.cset_choice.proofs.Beginning.{moved_now, moved_before, some_copy}
+use Rattle.cset_choice.proofs.EvacuationBegun.{moved_now, moved_before, some_copy}
 use Rattle.cset_choice.proofs.begin.move_out.Goals as goal
 
 pub word-header-requires : goal.word-header-requires

@@ -1,8 +1,8 @@
 use Rattle.std.proofs.Common.{◌≡◌, sym, ap, ◌∙◌}
 use Rattle.heap_words.specs.Words.{Phase, Cset, Claim, write}
 use Rattle.image_graph.specs.State.{config_of, memory_of}
-use Rattle.image_graph.proofs.Steps.{stored}
-use Rattle.cset_choice.proofs.Beginning.{spared}
+use Rattle.image_graph.proofs.NamedStores.{stored}
+use Rattle.cset_choice.proofs.EvacuationBegun.{spared}
 use Rattle.cset_choice.proofs.begin.spare.Goals as goal
 
 pub returns-clause-words : goal.returns-clause-words

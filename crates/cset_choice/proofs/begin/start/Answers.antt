@@ -1,8 +1,8 @@
 use Rattle.std.proofs.Common.{◌≡◌, sym, ap, ◌∙◌}
 use Rattle.heap_words.specs.Words.{Phase, Evac, Claim, write}
 use Rattle.image_graph.specs.State.{config_of, memory_of}
-use Rattle.image_graph.proofs.Steps.{stored}
-use Rattle.cset_choice.proofs.Beginning.{started}
+use Rattle.image_graph.proofs.NamedStores.{stored}
+use Rattle.cset_choice.proofs.EvacuationBegun.{started}
 use Rattle.cset_choice.proofs.begin.start.Goals as goal
 
 pub returns-clause-words : goal.returns-clause-words

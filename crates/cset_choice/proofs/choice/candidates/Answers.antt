@@ -1,7 +1,7 @@
 use Rattle.std.proofs.Common.{arith}
 use Rattle.image_graph.specs.State.{config_of, memory_of}
-use Rattle.mark_laws.proofs.Bits.{bits_small}
-use Rattle.cset_laws.specs.Live.{is_candidate}
+use Rattle.cycle_words.proofs.Marking.Bits.{bits_small}
+use Rattle.cycle_words.specs.Evacuation.Live.{is_candidate}
 use Rattle.cset_choice.proofs.Choosing.{bits_none_yet, bits_next}
 use Rattle.cset_choice.proofs.choice.candidates.Goals as goal
 

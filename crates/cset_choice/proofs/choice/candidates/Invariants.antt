@@ -1,7 +1,7 @@
 use Rattle.std.proofs.Common.{◌≡◌}
 use Rattle.image_graph.specs.State.{config_of, memory_of}
-use Rattle.mark_laws.specs.Marks.{bits_of}
-use Rattle.cset_laws.specs.Live.{is_candidate}
+use Rattle.cycle_words.specs.Marking.Marks.{bits_of}
+use Rattle.cycle_words.specs.Evacuation.Live.{is_candidate}
 use Rattle.cset_choice.proofs.choice.candidates.Given as goal
 
 abbrev pub invariant-loop-region : goal.invariant-loop-region

@@ -3,12 +3,12 @@ use Rattle.std.specs.Int.{bit_at}
 use Rattle.heap_words.specs.declared.config.Config.{Config}
 use Rattle.heap_words.specs.Words.{Word}
 use Rattle.image_graph.specs.State.{config_of, memory_of}
-use Rattle.mark_laws.specs.Marks.{bits_of}
-use Rattle.mark_laws.proofs.Bits.{bits_small}
-use Rattle.cset_laws.specs.Live.{live_words, is_candidate}
-use Rattle.cset_laws.specs.Choice.{copy_limit, IsChoice, chosen}
-use Rattle.cset_laws.specs.Front.{is_in_front}
-use Rattle.cset_laws.proofs.Front.{front_is_longest}
+use Rattle.cycle_words.specs.Marking.Marks.{bits_of}
+use Rattle.cycle_words.proofs.Marking.Bits.{bits_small}
+use Rattle.cycle_words.specs.Evacuation.Live.{live_words, is_candidate}
+use Rattle.cycle_words.specs.Evacuation.Choice.{copy_limit, IsChoice, chosen}
+use Rattle.cycle_words.specs.Evacuation.Front.{is_in_front}
+use Rattle.cycle_words.proofs.Evacuation.Front.{front_is_longest}
 use Rattle.cset_choice.specs.Tables.{up_to}
 use Rattle.cset_choice.proofs.Choosing.{bits_none_yet, bits_next, fits_is}
 use Rattle.cset_choice.proofs.choice.choose.Goals as goal

@@ -1,9 +1,9 @@
 use Rattle.std.proofs.Common.{◌≡◌}
 use Rattle.image_graph.specs.State.{config_of, memory_of}
-use Rattle.mark_laws.specs.Marks.{bits_of}
-use Rattle.cset_laws.specs.Live.{live_words, is_candidate}
-use Rattle.cset_laws.specs.Choice.{copy_limit}
-use Rattle.cset_laws.specs.Front.{is_in_front}
+use Rattle.cycle_words.specs.Marking.Marks.{bits_of}
+use Rattle.cycle_words.specs.Evacuation.Live.{live_words, is_candidate}
+use Rattle.cycle_words.specs.Evacuation.Choice.{copy_limit}
+use Rattle.cycle_words.specs.Evacuation.Front.{is_in_front}
 use Rattle.cset_choice.proofs.choice.choose.Given as goal
 
 abbrev pub invariant-loop-region : goal.invariant-loop-region

@@ -5,10 +5,10 @@ use Rattle.std.proofs.lemmas.Nat.Bits.{bit_at-lt}
 use Rattle.heap_words.specs.declared.config.Config.{Config}
 use Rattle.heap_words.specs.Words.{Word, Free, Top, Tams, word_at}
 use Rattle.image_graph.specs.State.{config_of, memory_of}
-use Rattle.mark_laws.specs.Final.{is_current}
-use Rattle.mark_laws.proofs.Dead.{current_is}
-use Rattle.cset_laws.specs.Live.{garbage, is_candidate}
-use Rattle.cset_laws.proofs.Candidate.{candidate_is_candidate}
+use Rattle.cycle_words.specs.Marking.Final.{is_current}
+use Rattle.cycle_words.proofs.Marking.Dead.{current_is}
+use Rattle.cycle_words.specs.Evacuation.Live.{garbage, is_candidate}
+use Rattle.cycle_words.proofs.Evacuation.Candidate.{candidate_is_candidate}
 use Rattle.cset_choice.proofs.Choosing.{garbage_decides}
 use Rattle.cset_choice.proofs.choice.is_candidate.Goals as goal
 use Rattle.cset_choice.proofs.choice.is_candidate.Goals.{then-is_in-via-then-is_in, then-is_in-via-else-is_in+then-is_current}

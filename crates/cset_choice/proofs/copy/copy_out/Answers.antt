@@ -4,12 +4,12 @@ use Rattle.heap_words.specs.Words.{Word, Cset, Top, Heap, IsWord, word_at}
 use Rattle.heap_words.specs.Encoding.{object_words}
 use Rattle.packing.specs.Rooms.{lowest_room}
 use Rattle.image_graph.specs.State.{config_of, memory_of}
-use Rattle.cset_laws.specs.Live.{words_at}
-use Rattle.cset_laws.specs.Copying.{tops_outside}
-use Rattle.cset_laws.specs.Copied.{CanCopyOut, copy_room, copy_in, copied_in}
-use Rattle.cset_laws.proofs.CopiedOut.{copied_as}
+use Rattle.cycle_words.specs.Evacuation.Live.{words_at}
+use Rattle.cycle_words.specs.Evacuation.Copying.{tops_outside}
+use Rattle.cycle_words.specs.Evacuation.Copied.{CanCopyOut, copy_room, copy_in, copied_in}
+use Rattle.cycle_words.proofs.Evacuation.CopiedOut.{copied_as}
 use Rattle.cset_choice.proofs.Objects.{object_in_heap, word_of_heap}
-use Rattle.cset_choice.proofs.Copying.{found_room}
+use Rattle.cset_choice.proofs.CopyStores.{found_room}
 use Rattle.cset_choice.proofs.copy.copy_out.Goals as goal
 
 -- the room that was found is that of the object's words

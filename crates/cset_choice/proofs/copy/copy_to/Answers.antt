@@ -6,12 +6,12 @@ use Rattle.regions.specs.Place.{base_of}
 use Rattle.image_graph.specs.State.{config_of, memory_of}
 use Rattle.image_graph.specs.Make.{AreInHeap}
 use Rattle.image_graph.proofs.Room.{room_in_heap}
-use Rattle.image_graph.proofs.Steps.{stored, placed_inside}
-use Rattle.cset_laws.specs.Live.{words_at}
-use Rattle.cset_laws.specs.Copied.{top_address}
+use Rattle.image_graph.proofs.NamedStores.{stored, placed_inside}
+use Rattle.cycle_words.specs.Evacuation.Live.{words_at}
+use Rattle.cycle_words.specs.Evacuation.Copied.{top_address}
 use Rattle.cset_choice.proofs.Objects.{object_in_heap, word_of_heap}
 use Rattle.cset_choice.proofs.Reading.{word_in, first_in, low_in}
-use Rattle.cset_choice.proofs.Copying.{copies_apart, copied_stores}
+use Rattle.cset_choice.proofs.CopyStores.{copies_apart, copied_stores}
 use Rattle.cset_choice.proofs.copy.copy_to.Goals as goal
 
 pub copy_words-requires-clause-from : goal.copy_words-requires-clause-from

@@ -3,10 +3,10 @@ use Rattle.std.proofs.Common.{◌≡◌, ◌+◌, ℕ, sym, ap, ◌∙◌, subst
 use Rattle.heap_words.specs.declared.config.Config.{Config}
 use Rattle.heap_words.specs.Words.{Word, Heap, IsWord, word_at, write}
 use Rattle.image_graph.specs.State.{config_of, memory_of}
-use Rattle.image_graph.proofs.Steps.{stored, placed_inside}
+use Rattle.image_graph.proofs.NamedStores.{stored, placed_inside}
 use Rattle.cset_choice.specs.Steps.{words_copied}
 use Rattle.cset_choice.proofs.Objects.{word_of_heap}
-use Rattle.cset_choice.proofs.Copying.{none_copied, still_there, copied_next}
+use Rattle.cset_choice.proofs.CopyStores.{none_copied, still_there, copied_next}
 use Rattle.cset_choice.proofs.copy.copy_words.Goals as goal
 
 pub loop-index-init : goal.loop-index-init

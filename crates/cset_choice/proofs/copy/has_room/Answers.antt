@@ -1,7 +1,7 @@
 use Rattle.std.proofs.Common.{sym, arith}
 use Rattle.heap_words.specs.Words.{Cset}
 use Rattle.image_graph.specs.State.{config_of}
-use Rattle.image_graph.proofs.Steps.{placed_inside}
+use Rattle.image_graph.proofs.NamedStores.{placed_inside}
 use Rattle.cset_choice.proofs.copy.has_room.Goals as goal
 
 pub word-requires : goal.word-requires

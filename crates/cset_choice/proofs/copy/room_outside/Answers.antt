@@ -4,7 +4,7 @@ use Rattle.heap_words.specs.declared.config.Config.{Config}
 use Rattle.heap_words.specs.Words.{Word, Cset, Top}
 use Rattle.packing.proofs.Rooms.{lowest_is, all_full}
 use Rattle.image_graph.specs.State.{config_of, memory_of}
-use Rattle.cset_laws.specs.Copying.{tops_outside}
+use Rattle.cycle_words.specs.Evacuation.Copying.{tops_outside}
 use Rattle.cset_choice.proofs.copy.room_outside.Goals as goal
 
 pub returns-then-has_room : goal.returns-then-has_room

@@ -1,7 +1,7 @@
 use Rattle.std.proofs.Common.{ℕ, ◌+◌, ◌<◌}
 use Rattle.heap_words.specs.Words.{Cset, Top}
 use Rattle.image_graph.specs.State.{config_of, memory_of}
-use Rattle.cset_laws.specs.Copying.{tops_outside}
+use Rattle.cycle_words.specs.Evacuation.Copying.{tops_outside}
 use Rattle.cset_choice.proofs.copy.room_outside.Given as goal
 
 abbrev pub invariant-loop-region : goal.invariant-loop-region

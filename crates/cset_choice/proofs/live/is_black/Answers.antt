@@ -3,9 +3,9 @@ use Rattle.std.specs.Int.{bit_at}
 use Rattle.std.proofs.lemmas.Bool.{le-leb}
 use Rattle.heap_words.specs.declared.config.Config.{Config}
 use Rattle.heap_words.specs.Words.{Word, Heap, Black, IsWord, bit_words}
-use Rattle.mark_bits.specs.Marks.{mark_word, mark_bit}
+use Rattle.regions.specs.Marks.{mark_word, mark_bit}
 use Rattle.image_graph.specs.State.{config_of, memory_of}
-use Rattle.image_graph.proofs.Steps.{placed_inside}
+use Rattle.image_graph.proofs.NamedStores.{placed_inside}
 use Rattle.cset_choice.proofs.Reading.{read}
 use Rattle.cset_choice.proofs.live.is_black.Goals as goal
 

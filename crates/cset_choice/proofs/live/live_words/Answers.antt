@@ -4,7 +4,7 @@ use Rattle.heap_words.specs.Words.{Word}
 use Rattle.packing.proofs.Sums.{sum_none}
 use Rattle.regions.specs.Place.{base_of}
 use Rattle.image_graph.specs.State.{config_of, memory_of}
-use Rattle.cset_laws.specs.Live.{marked_words}
+use Rattle.cycle_words.specs.Evacuation.Live.{marked_words}
 use Rattle.cset_choice.proofs.Objects.{sum_more}
 use Rattle.cset_choice.proofs.live.live_words.Goals as goal
 

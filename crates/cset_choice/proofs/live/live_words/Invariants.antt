@@ -2,7 +2,7 @@ use Rattle.std.proofs.Common.{◌≡◌, ◌+◌, ◌*◌, ◌≤◌}
 use Rattle.packing.specs.Tops.{sum_below}
 use Rattle.regions.specs.Place.{base_of}
 use Rattle.image_graph.specs.State.{config_of, memory_of}
-use Rattle.cset_laws.specs.Live.{marked_words}
+use Rattle.cycle_words.specs.Evacuation.Live.{marked_words}
 use Rattle.cset_choice.proofs.live.live_words.Given as goal
 
 abbrev pub invariant-loop-index : goal.invariant-loop-index

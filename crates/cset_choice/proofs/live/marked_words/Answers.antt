@@ -3,10 +3,10 @@ use Rattle.std.proofs.lemmas.Bool.{cond-true}
 use Rattle.heap_words.specs.declared.config.Config.{Config}
 use Rattle.heap_words.specs.Words.{Word, Heap, IsWord}
 use Rattle.image_graph.specs.State.{config_of, memory_of}
-use Rattle.image_graph.proofs.Steps.{placed_inside}
+use Rattle.image_graph.proofs.NamedStores.{placed_inside}
 use Rattle.heap_words.specs.Encoding.{object_words}
-use Rattle.mark_laws.specs.Marks.{is_black}
-use Rattle.cset_laws.specs.Live.{words_at}
+use Rattle.cycle_words.specs.Marking.Marks.{is_black}
+use Rattle.cycle_words.specs.Evacuation.Live.{words_at}
 use Rattle.cset_choice.proofs.Reading.{read, low_word}
 use Rattle.cset_choice.proofs.Objects.{shape_in_heap}
 use Rattle.cset_choice.proofs.live.marked_words.Goals as goal

@@ -1,6 +1,6 @@
 use Rattle.std.proofs.Common.{sym, ◌∙◌}
 use Rattle.image_graph.specs.State.{config_of, memory_of}
-use Rattle.degenerated.proofs.Copying.{object_taken}
+use Rattle.degenerated.proofs.CopyingOut.{object_taken}
 use Rattle.degenerated.proofs.copies.copy_if_left.Goals as goal
 
 pub returns-clause-words : goal.returns-clause-words

@@ -2,11 +2,11 @@ use Rattle.std.proofs.Common.{◌≡◌, ◌+◌, ◌-◌, ◌*◌, ◌<◌, ℕ
 use Rattle.heap_words.specs.declared.config.Config.{Config}
 use Rattle.heap_words.specs.Words.{Word}
 use Rattle.image_graph.specs.State.{config_of, memory_of}
-use Rattle.cset_laws.specs.Copied.{CanCopyOut}
-use Rattle.finish_laws.specs.Copies.{is_left, CanCopyFrom, copied_from, is_room_from}
-use Rattle.finish_laws.proofs.Copies.{copied_none}
+use Rattle.cycle_words.specs.Evacuation.Copied.{CanCopyOut}
+use Rattle.cycle_words.specs.Finishing.Copies.{is_left, CanCopyFrom, copied_from, is_room_from}
+use Rattle.cycle_words.proofs.Finishing.Copies.{copied_none}
 use Rattle.degenerated.specs.Steps.{turn_taken, has_turn_room}
-use Rattle.degenerated.proofs.Copying.{can_here, goes_on, room_goes_on, can_go_on, ends_here, no_room_here, room_for_none}
+use Rattle.degenerated.proofs.CopyingOut.{can_here, goes_on, room_goes_on, can_go_on, ends_here, no_room_here, room_for_none}
 use Rattle.degenerated.proofs.copies.copy_set.Goals as goal
 
 pub loop-index-init : goal.loop-index-init

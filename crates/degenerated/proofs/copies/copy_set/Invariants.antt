@@ -1,6 +1,6 @@
 use Rattle.std.proofs.Common.{◌≡◌, ◌+◌, ◌-◌, ◌*◌}
 use Rattle.image_graph.specs.State.{config_of, memory_of}
-use Rattle.finish_laws.specs.Copies.{CanCopyFrom, copied_from, is_room_from}
+use Rattle.cycle_words.specs.Finishing.Copies.{CanCopyFrom, copied_from, is_room_from}
 use Rattle.degenerated.proofs.copies.copy_set.Given as goal
 
 abbrev pub invariant-loop-index : goal.invariant-loop-index

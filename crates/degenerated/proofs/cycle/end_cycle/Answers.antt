@@ -1,7 +1,7 @@
 use Rattle.std.proofs.Common.{◌≡◌, sym, ap, ◌∙◌}
 use Rattle.heap_words.specs.Words.{Evac, Ask, write}
 use Rattle.image_graph.specs.State.{config_of, memory_of}
-use Rattle.image_graph.proofs.Steps.{stored}
+use Rattle.image_graph.proofs.NamedStores.{stored}
 use Rattle.degenerated.proofs.Finishing.{ended}
 use Rattle.degenerated.proofs.cycle.end_cycle.Goals as goal
 

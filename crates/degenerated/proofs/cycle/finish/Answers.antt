@@ -2,13 +2,13 @@ use Rattle.std.proofs.Common.{◌≡◌, ℕ, true, false, refl, sym, ap, ◌∙
 use Rattle.std.proofs.lemmas.Bool.{true≢false}
 use Rattle.heap_words.specs.declared.config.Config.{Config}
 use Rattle.heap_words.specs.Words.{Word}
-use Rattle.image_laws.specs.Full.{served}
+use Rattle.full_words.specs.Full.{served}
 use Rattle.image_graph.specs.State.{config_of, memory_of}
 use Rattle.image_graph.specs.Left.{IsLeft}
 use Rattle.image_graph.specs.Make.{AreWithin}
-use Rattle.finish_laws.specs.Updated.{all_updated}
-use Rattle.finish_laws.specs.Copies.{is_room_for_all, all_copied}
-use Rattle.finish_laws.specs.Finish.{set_freed, cycle_finished, is_whole}
+use Rattle.cycle_words.specs.Finishing.Updated.{all_updated}
+use Rattle.cycle_words.specs.Finishing.Copies.{is_room_for_all, all_copied}
+use Rattle.cycle_words.specs.Finishing.Finish.{set_freed, cycle_finished, is_whole}
 use Rattle.degenerated.proofs.Finishing.{stops_short, goes_through, all_served, not_all_served, whole_is, within_still}
 use Rattle.degenerated.proofs.cycle.finish.Goals as goal
 

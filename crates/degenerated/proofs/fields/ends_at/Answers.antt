@@ -3,7 +3,7 @@ use Rattle.heap_words.specs.declared.config.Config.{Config}
 use Rattle.heap_words.specs.Words.{Word, Heap, IsWord}
 use Rattle.heap_words.specs.Encoding.{object_words}
 use Rattle.image_graph.specs.State.{config_of, memory_of}
-use Rattle.image_graph.proofs.Steps.{placed_inside}
+use Rattle.image_graph.proofs.NamedStores.{placed_inside}
 use Rattle.degenerated.proofs.Reading.{read, low_word}
 use Rattle.degenerated.proofs.fields.ends_at.Goals as goal
 

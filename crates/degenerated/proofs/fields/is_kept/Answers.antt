@@ -2,7 +2,7 @@ use Rattle.std.proofs.Common.{sym, subst}
 use Rattle.heap_words.specs.declared.config.Config.{Config}
 use Rattle.heap_words.specs.Words.{Tams, Heap, IsWord}
 use Rattle.image_graph.specs.State.{config_of}
-use Rattle.image_graph.proofs.Steps.{placed_inside}
+use Rattle.image_graph.proofs.NamedStores.{placed_inside}
 use Rattle.degenerated.proofs.fields.is_kept.Goals as goal
 
 pub is_black-requires : goal.is_black-requires

@@ -2,9 +2,9 @@ use Rattle.std.proofs.Common.{◌≡◌, ◌+◌, ℕ, refl, sym, ap, ◌∙◌,
 use Rattle.heap_words.specs.declared.config.Config.{Config}
 use Rattle.heap_words.specs.Words.{Word}
 use Rattle.image_graph.specs.State.{config_of, memory_of}
-use Rattle.finish_laws.specs.Updated.{CanUpdateAll}
+use Rattle.cycle_words.specs.Finishing.Updated.{CanUpdateAll}
 use Rattle.degenerated.specs.Steps.{fields_updated, is_of, is_of_first}
-use Rattle.degenerated.proofs.Updating.{can_still, no_fields, then_updated, none_of_first, one_region_more, regions_apart}
+use Rattle.degenerated.proofs.UpdatedFields.{can_still, no_fields, then_updated, none_of_first, one_region_more, regions_apart}
 use Rattle.degenerated.proofs.fields.update_fields.Goals as goal
 
 pub loop-region-init : goal.loop-region-init

@@ -5,7 +5,7 @@ use Rattle.heap_words.specs.Words.{Word, Cset, word_at}
 use Rattle.regions.specs.Sets.{IsIn}
 use Rattle.image_graph.specs.State.{config_of, memory_of}
 use Rattle.degenerated.specs.Steps.{is_of}
-use Rattle.degenerated.proofs.Updating.{no_fields, none_of_set}
+use Rattle.degenerated.proofs.UpdatedFields.{no_fields, none_of_set}
 use Rattle.degenerated.proofs.fields.update_if_outside.Goals as goal
 
 pub returns-then-is_in-clause-words : goal.returns-then-is_in-clause-words

@@ -4,11 +4,11 @@ use Rattle.heap_words.specs.Words.{Word, Cset, Top, Heap, IsWord}
 use Rattle.regions.specs.Place.{base_of}
 use Rattle.regions.specs.Sets.{IsOutside}
 use Rattle.image_graph.specs.State.{config_of, memory_of}
-use Rattle.cset_laws.specs.Live.{words_at}
-use Rattle.finish_laws.specs.Updated.{start_of, object_of, is_outside, CanUpdateAll}
-use Rattle.finish_laws.proofs.Starts.{start_first}
+use Rattle.cycle_words.specs.Evacuation.Live.{words_at}
+use Rattle.cycle_words.specs.Finishing.Updated.{start_of, object_of, is_outside, CanUpdateAll}
+use Rattle.cycle_words.proofs.Finishing.Starts.{start_first}
 use Rattle.degenerated.specs.Steps.{fields_updated, is_at, is_below, is_of}
-use Rattle.degenerated.proofs.Updating.{outside_told, object_in, same_fields, no_fields, can_still, same_object, then_updated, last_in_heap, here, still, none_below, addresses_apart, one_address_more, fields_below}
+use Rattle.degenerated.proofs.UpdatedFields.{outside_told, object_in, same_fields, no_fields, can_still, same_object, then_updated, last_in_heap, here, still, none_below, addresses_apart, one_address_more, fields_below}
 use Rattle.degenerated.proofs.fields.update_region.Goals as goal
 use Rattle.degenerated.proofs.fields.update_region.Goals.{then-ends_at, else-ends_at}
 

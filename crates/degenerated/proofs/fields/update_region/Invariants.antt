@@ -2,7 +2,7 @@ use Rattle.std.proofs.Common.{◌≡◌, ◌+◌, ◌-◌}
 use Rattle.heap_words.specs.Words.{Heap}
 use Rattle.regions.specs.Place.{base_of}
 use Rattle.image_graph.specs.State.{config_of, memory_of}
-use Rattle.finish_laws.specs.Updated.{start_of}
+use Rattle.cycle_words.specs.Finishing.Updated.{start_of}
 use Rattle.degenerated.specs.Steps.{fields_updated, is_below}
 use Rattle.degenerated.proofs.fields.update_region.Given as goal
 

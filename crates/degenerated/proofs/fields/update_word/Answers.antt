@@ -2,9 +2,9 @@ use Rattle.std.proofs.Common.{◌≡◌, ◌+◌, ℕ, sym, ap, ◌∙◌, subst
 use Rattle.heap_words.specs.declared.config.Config.{Config}
 use Rattle.heap_words.specs.Words.{Word, Heap, IsWord, word_at, write}
 use Rattle.image_graph.specs.State.{config_of, memory_of}
-use Rattle.image_graph.proofs.Steps.{placed_inside}
-use Rattle.finish_laws.specs.Updated.{updated_word}
-use Rattle.degenerated.proofs.Updating.{object_inside, address_inside, no_reference, not_kept, kept_reference, left, set_one}
+use Rattle.image_graph.proofs.NamedStores.{placed_inside}
+use Rattle.cycle_words.specs.Finishing.Updated.{updated_word}
+use Rattle.degenerated.proofs.UpdatedFields.{object_inside, address_inside, no_reference, not_kept, kept_reference, left, set_one}
 use Rattle.degenerated.proofs.fields.update_word.Goals as goal
 
 pub is_reference-requires : goal.is_reference-requires

@@ -1,7 +1,7 @@
 use Rattle.std.proofs.Common.{◌≡◌, ℕ, ap, ◌∙◌}
 use Rattle.heap_words.specs.Words.{Word, write}
 use Rattle.image_graph.specs.State.{config_of, memory_of}
-use Rattle.finish_laws.specs.Updated.{updated_word}
+use Rattle.cycle_words.specs.Finishing.Updated.{updated_word}
 use Rattle.degenerated.proofs.update.update_place.Goals as goal
 
 pub returns-clause-words : goal.returns-clause-words

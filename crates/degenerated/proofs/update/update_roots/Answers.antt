@@ -2,7 +2,7 @@ use Rattle.std.proofs.Common.{◌≡◌, ◌^◌, ◌<◌, ℕ, refl, sym, ap, �
 use Rattle.heap_words.specs.declared.config.Config.{Config}
 use Rattle.heap_words.specs.Words.{Word, Cset, Root, IsWord, word_at, write}
 use Rattle.image_graph.specs.State.{config_of, memory_of}
-use Rattle.finish_laws.specs.Updated.{updated_word}
+use Rattle.cycle_words.specs.Finishing.Updated.{updated_word}
 use Rattle.degenerated.specs.Steps.{row_updated}
 use Rattle.degenerated.proofs.Naming.{none_of_row, row_next, row_still}
 use Rattle.degenerated.proofs.update.update_roots.Goals as goal

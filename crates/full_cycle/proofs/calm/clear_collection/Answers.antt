@@ -2,8 +2,8 @@ use Rattle.std.proofs.Common.{◌≡◌, ℕ, ap, ◌∙◌}
 use Rattle.heap_words.specs.declared.config.Config.{Config}
 use Rattle.heap_words.specs.Words.{Phase, Free, Evac, Top, Tams, Root, Count, Buffer, Grey, word_at, view, heap_start}
 use Rattle.image_graph.specs.State.{config_of, words_of}
-use Rattle.full_cycle.proofs.Steps.{calmed}
-use Rattle.full_cycle.proofs.Places.{changed_to}
+use Rattle.full_cycle.proofs.TableRows.{calmed}
+use Rattle.full_cycle.proofs.RangeWords.{changed_to}
 use Rattle.full_cycle.proofs.calm.clear_collection.Goals as goal
 
 pub returns-clause-words : goal.returns-clause-words

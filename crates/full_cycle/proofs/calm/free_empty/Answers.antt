@@ -2,11 +2,11 @@ use Rattle.std.proofs.Common.{◌≡◌, ◌≤◌, ◌+◌, ◌^◌, ℕ, sym, 
 use Rattle.std.proofs.Math.Nat.{pow-le-pow_right}
 use Rattle.heap_words.specs.declared.config.Config.{Config}
 use Rattle.heap_words.specs.Words.{Top, Free, write}
-use Rattle.image_laws.specs.Full.{empty_regions}
-use Rattle.image_laws.proofs.FreeWord.{empty_small}
+use Rattle.full_words.specs.Full.{empty_regions}
+use Rattle.full_words.proofs.FreeWord.{empty_small}
 use Rattle.image_graph.specs.State.{config_of, memory_of}
-use Rattle.image_graph.proofs.Steps.{stored}
-use Rattle.full_cycle.proofs.Places.{empty_none, empty_more}
+use Rattle.image_graph.proofs.NamedStores.{stored}
+use Rattle.full_cycle.proofs.RangeWords.{empty_none, empty_more}
 use Rattle.full_cycle.proofs.calm.free_empty.Goals as goal
 
 pub loop-region-init : goal.loop-region-init

@@ -1,7 +1,7 @@
 use Rattle.std.proofs.Common.{◌≡◌, ℕ, sym, ap, ◌∙◌, subst}
 use Rattle.heap_words.specs.declared.config.Config.{Config}
 use Rattle.heap_words.specs.Words.{Word}
-use Rattle.image_laws.specs.Full.{served, refused}
+use Rattle.full_words.specs.Full.{served, refused}
 use Rattle.image_graph.specs.State.{config_of, memory_of}
 use Rattle.full_cycle.specs.Collect.{CanCollect}
 use Rattle.image_graph.proofs.Same.{carried}

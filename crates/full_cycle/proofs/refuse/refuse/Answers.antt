@@ -3,7 +3,7 @@ use Rattle.heap_words.specs.declared.config.Config.{Config}
 use Rattle.image_graph.specs.State.{config_of, words_of, memory_of}
 use Rattle.full_cycle.specs.Steps.{refused_below}
 use Rattle.full_cycle.proofs.Refused.{refused_more, refused_all}
-use Rattle.full_cycle.proofs.Places.{nobody_waits}
+use Rattle.full_cycle.proofs.RangeWords.{nobody_waits}
 use Rattle.full_cycle.proofs.refuse.refuse.Goals as goal
 
 pub loop-mutator-preserved : goal.loop-mutator-preserved

@@ -2,7 +2,7 @@ use Rattle.std.proofs.Common.{◌<◌, sym, ap, ◌∙◌, subst}
 use Rattle.heap_words.specs.declared.config.Config.{Config}
 use Rattle.heap_words.specs.Words.{Wait, Answer, write}
 use Rattle.image_graph.specs.State.{config_of, memory_of}
-use Rattle.image_graph.proofs.Steps.{stored}
+use Rattle.image_graph.proofs.NamedStores.{stored}
 use Rattle.full_cycle.proofs.refuse.refuse_one.Goals as goal
 
 pub returns-clause-waits : goal.returns-clause-waits

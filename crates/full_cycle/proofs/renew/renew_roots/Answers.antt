@@ -1,11 +1,11 @@
 use Rattle.std.proofs.Common.{◌≡◌, ◌<◌, ℕ, get_or, sym, ap, ◌∙◌, subst, arith}
 use Rattle.heap_words.specs.declared.config.Config.{Config}
 use Rattle.heap_words.specs.Words.{Root, Count, Answer, Grey, word_at, view}
-use Rattle.sliding.specs.Table.{IsInTable}
+use Rattle.packing.specs.Table.{IsInTable}
 use Rattle.image_graph.specs.State.{config_of, words_of, places_of}
 use Rattle.full_cycle.specs.Steps.{renewed_by, IsChanged}
-use Rattle.full_cycle.proofs.Steps.{roots_are_renewed}
-use Rattle.full_cycle.proofs.Places.{changed_to, roots_row, answers_row, behind_range}
+use Rattle.full_cycle.proofs.TableRows.{roots_are_renewed}
+use Rattle.full_cycle.proofs.RangeWords.{changed_to, roots_row, answers_row, behind_range}
 use Rattle.full_cycle.proofs.renew.renew_roots.Goals as goal
 
 pub renew_words-requires-clause-table : goal.renew_words-requires-clause-table

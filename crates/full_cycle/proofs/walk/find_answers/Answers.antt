@@ -3,7 +3,7 @@ use Rattle.std.proofs.lemmas.Bool.{cases_lt}
 use Rattle.heap_words.specs.Words.{Word, Answer}
 use Rattle.heap_graph.specs.Walk.{with_address}
 use Rattle.image_graph.specs.State.{memory_of, found_of}
-use Rattle.full_cycle.specs.Collect.{copy_in}
+use Rattle.full_cycle.specs.Collect.{current_address}
 use Rattle.image_graph.proofs.Same.{memory_same, both}
 use Rattle.full_cycle.proofs.Listed.{answer_more, answer_none}
 use Rattle.full_cycle.proofs.walk.find_answers.Goals as goal
@@ -24,8 +24,8 @@ loop-mutator-preserved c =
       noted = ⊎_elim
           (λ (some : 1 < m (Answer t)).
           c.find_answer.ensures.noted (omega (arith, some, answer))
-          ∙ ap (λ (k : Word → ℕ). with_address (found_of now) (copy_in k (k (Answer t)))) m_is
-          ∙ ap (λ xs. with_address xs (copy_in m (m (Answer t)))) c.loop-mutator.invariant.noted
+          ∙ ap (λ (k : Word → ℕ). with_address (found_of now) (current_address k (k (Answer t)))) m_is
+          ∙ ap (λ xs. with_address xs (current_address m (m (Answer t)))) c.loop-mutator.invariant.noted
           ∙ answer_more m t (found_of old) some)
           (λ (none : m (Answer t) ≤ 1).
           c.find_answer.ensures.none (omega (arith, none, answer)) ∙ c.loop-mutator.invariant.noted ∙ answer_none m t (found_of old) none)

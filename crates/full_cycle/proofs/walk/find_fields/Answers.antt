@@ -4,9 +4,9 @@ use Rattle.heap_words.specs.declared.config.Config.{Config}
 use Rattle.heap_words.specs.Words.{Word, Heap, IsWord, word_at}
 use Rattle.heap_words.specs.Encoding.{refs_in}
 use Rattle.heap_graph.specs.Walk.{with_addresses}
-use Rattle.image_laws.specs.Full.{copies_of}
+use Rattle.full_words.specs.Full.{copies_of}
 use Rattle.image_graph.specs.State.{config_of, memory_of, found_of}
-use Rattle.image_graph.proofs.Steps.{placed_inside}
+use Rattle.image_graph.proofs.NamedStores.{placed_inside}
 use Rattle.full_cycle.specs.Collect.{LeadsToHeld}
 use Rattle.image_graph.proofs.Same.{memory_same, carried, both}
 use Rattle.full_cycle.proofs.Kept.{field_word, noted_step}

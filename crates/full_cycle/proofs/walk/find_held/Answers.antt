@@ -4,11 +4,11 @@ use Rattle.heap_words.specs.declared.config.Config.{Config}
 use Rattle.heap_words.specs.Words.{Word, heap_size}
 use Rattle.heap_graph.specs.Walk.{with_addresses}
 use Rattle.heap_graph.proofs.Marks as marks
-use Rattle.image_laws.specs.Full.{copies_of, roots_below, answers_below, field_words, kept_in}
+use Rattle.full_words.specs.Full.{copies_of, roots_below, answers_below, field_words, kept_in}
 use Rattle.image_graph.specs.State.{config_of, memory_of, found_of, marks_of}
-use Rattle.full_cycle.specs.Collect.{found_by}
+use Rattle.full_cycle.specs.Collect.{found_in_turns}
 use Rattle.image_graph.proofs.Same.{memory_same, carried, both}
-use Rattle.image_laws.proofs.Turns.{is_none, none_left}
+use Rattle.full_words.proofs.FoundInTurn.{is_none, none_left}
 use Rattle.full_cycle.proofs.Listed.{no_turn, next_turn, last_turn}
 use Rattle.full_cycle.proofs.walk.find_held.Goals as goal
 
@@ -45,7 +45,7 @@ find_fields-requires-clause-kept c =
     let now = c.loop-address.image in
     let a = c.in-Some.address in
     let n = c.loop-address.turn in
-    let at : slice_get (found_by (config_of old) (memory_of old) n) n ≡ Some a =
+    let at : slice_get (found_in_turns (config_of old) (memory_of old) n) n ≡ Some a =
     sym (ap (λ xs. slice_get xs n) c.loop-address.invariant.turns) ∙ sym c.in-Some.ensures in
     carried (λ k m. 0 < kept_in k m a) old now c.loop-address.invariant.unchanged (c.requires.found n a at)
 
@@ -64,7 +64,7 @@ loop-address-preserved c =
     let n = c.loop-address.turn in
     let m : Word → ℕ = memory_of old in
     let same = c.loop-address.invariant.unchanged in
-    let at : slice_get (found_by (config_of old) m n) n ≡ Some a = sym (ap (λ xs. slice_get xs n) c.loop-address.invariant.turns) ∙ sym c.in-Some.ensures in
+    let at : slice_get (found_in_turns (config_of old) m n) n ≡ Some a = sym (ap (λ xs. slice_get xs n) c.loop-address.invariant.turns) ∙ sym c.in-Some.ensures in
     let within = slice_get_within (found_of now) n a (sym c.in-Some.ensures) in
     let few = marks.few (config_of now).region_words (marks_of now) (found_of now) c.loop-address.invariant.found in
     record {
@@ -84,4 +84,4 @@ returns-clause-held c =
     let n = c.loop-address.turn in
     let turns = c.loop-address.invariant.turns in
     let none : slice_get (found_of c.loop-address.image) n ≡ None = sym c.found_at.ensures ∙ is_none c.found_at.result c.in_default.not-Some in
-    turns ∙ last_turn (config_of old) m n (none_left (found_by (config_of old) m n) n (ap (λ xs. slice_get xs n) (sym turns) ∙ none)) c.loop-address.invariant.few
+    turns ∙ last_turn (config_of old) m n (none_left (found_in_turns (config_of old) m n) n (ap (λ xs. slice_get xs n) (sym turns) ∙ none)) c.loop-address.invariant.few

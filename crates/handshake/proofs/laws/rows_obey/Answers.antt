@@ -1,4 +1,4 @@
-use Rattle.handshake.proofs.Parts.{rows_obey}
+use Rattle.handshake.proofs.Obeying.{rows_obey}
 use Rattle.handshake.proofs.laws.rows_obey.Goals as goal
 
 pub returns : goal.returns

@@ -1,8 +1,8 @@
 use Rattle.std.proofs.Common.{◌+◌, ◌-◌, ◌≤◌, [], ◌∷◌, length, map, arith, ap, ◌∙◌, length-append}
 use Rattle.std.proofs.lemmas.List.{length-map}
 use Rattle.shen_graph.specs.GraphText.{bare, with_row}
-use Rattle.heap_graph.specs.Walk.{refs_at, nums_at, words_at}
-use Rattle.heap_graph.specs.Rows.{name_at, reference_in, with_references, with_numbers}
+use Rattle.heap_graph.specs.Walk.{refs_at, nums_at, size_at}
+use Rattle.heap_graph.specs.Rows.{name_in_heap, reference_in, with_references, with_numbers}
 use Rattle.heap_graph.proofs.Objects.{length-refs_at, length-nums_at}
 use Rattle.heap_graph.proofs.Texts.{whole, rows_left, spare_left}
 use Rattle.heap_graph.proofs.rows.add_object.Goals as goal
@@ -25,7 +25,7 @@ add_numbers-requires-clause-room c =
     let k = c.args.address - c.args.first in
     let words = c.references.result.now in
     let refs = map (reference_in c.args.first heap) words in
-    let within : k + words_at heap k ≤ length heap = omega arith in
+    let within : k + size_at heap k ≤ length heap = omega arith in
     omega (
       arith,
       ap (λ t. t.spare) c.add_references.ensures,
@@ -48,4 +48,4 @@ returns c =
     ∙ ap (λ t. with_numbers t (nums_at heap k))
     (c.add_references.ensures ∙ ap (λ ws. with_references c.object.new.self (shown ws)) c.references.ensures
     ∙ ap (λ t. with_references t (shown (refs_at heap k))) (c.object.ensures ∙ ap (with_row c.args.text.now) c.name.ensures))
-    ∙ whole c.args.text.now (name_at heap k) (shown (refs_at heap k)) (nums_at heap k)
+    ∙ whole c.args.text.now (name_in_heap heap k) (shown (refs_at heap k)) (nums_at heap k)

@@ -1,12 +1,12 @@
 use Rattle.std.proofs.Common.{◌≡◌, ◌+◌, ◌-◌, ◌++◌, map, take, sum_by}
-use Rattle.heap_graph.specs.Walk.{words_at}
-use Rattle.heap_graph.specs.Rows.{row_at}
+use Rattle.heap_graph.specs.Walk.{size_at}
+use Rattle.heap_graph.specs.Rows.{row_in_heap}
 use Rattle.heap_graph.proofs.rows.add_objects.Given as goal
 
 abbrev pub invariant-loop-address : goal.invariant-loop-address
 invariant-loop-address l = record {
-  rows : l.text.rows ≡ l.initial.text.rows ++ map (row_at l.first l.heap) (take l.address-index l.order);
+  rows : l.text.rows ≡ l.initial.text.rows ++ map (row_in_heap l.first l.heap) (take l.address-index l.order);
   roots : l.text.roots ≡ l.initial.text.roots;
   room : l.text.room ≡ l.initial.text.room;
-  spare : l.text.spare + sum_by (λ a. words_at l.heap (a - l.first)) (take l.address-index l.order) ≡ l.initial.text.spare;
+  spare : l.text.spare + sum_by (λ a. size_at l.heap (a - l.first)) (take l.address-index l.order) ≡ l.initial.text.spare;
 }

@@ -9,8 +9,8 @@ use Rattle.std.proofs.lemmas.List.FromFn.{length-map-range_with_len}
 use Rattle.shen_graph.specs.GraphText.{names_of}
 use Rattle.shen_graph.specs.Reach.{InOrder}
 use Rattle.shen_graph.specs.Graph.{Reference, same_name}
-use Rattle.heap_graph.specs.Walk.{words_at}
-use Rattle.heap_graph.specs.Rows.{row_at, reference_in, root_word, root_rows}
+use Rattle.heap_graph.specs.Walk.{size_at}
+use Rattle.heap_graph.specs.Rows.{row_in_heap, reference_in, root_word, root_rows}
 use Rattle.heap_graph.proofs.Merely.{sound_some}
 use Rattle.heap_graph.proofs.Shown.{roots_named, all_above, all_below, all_named, all_fit, names_differ, shows}
 use Rattle.heap_graph.proofs.write.write_graph.Goals as goal
@@ -37,7 +37,7 @@ pub write_objects-requires-clause-room : goal.write_objects-requires-clause-room
 write_objects-requires-clause-room c =
     let sound' = sound_some c.args.first c.args.heap.now c.args.roots.now c.requires.first c.requires.stand in
     let order = c.find_reachable.new.order.items in
-    let words = λ (a : ℕ). words_at c.args.heap.now (a - c.args.first) in
+    let words = λ (a : ℕ). size_at c.args.heap.now (a - c.args.first) in
     let fit : sum_by words order ≤ length c.args.heap.now =
     all_fit c.args.first c.args.heap.now c.args.roots.now sound' order c.find_reachable.ensures.walk in
     let spare : c.clear.new.self.spare ≡ c.args.text.now.room = ap (λ t. t.spare) c.clear.ensures in
@@ -46,7 +46,7 @@ write_objects-requires-clause-room c =
 
 pub write_objects-requires-clause-differ : goal.write_objects-requires-clause-differ
 write_objects-requires-clause-differ c =
-    let row = row_at c.args.first c.args.heap.now in
+    let row = row_in_heap c.args.first c.args.heap.now in
     let order = c.find_reachable.new.order.items in
     let differ : IsDistinct same_name (map (λ r. r.name) (map row order)) =
     ∥∥₁_elim c.requires.stand (IsDistinct-prop same_name (map (λ r. r.name) (map row order)))
@@ -64,7 +64,7 @@ pub returns-clause-shows : goal.returns-clause-shows
 returns-clause-shows c at g stand =
     let order = c.find_reachable.new.order.items in
     let text = c.set_roots.new.text in
-    let row = row_at c.args.first c.args.heap.now in
+    let row = row_in_heap c.args.first c.args.heap.now in
     let rows : c.clear.new.self.rows ++ map row c.deref.result.now ≡ map row order =
     ap (λ t. t.rows ++ map row c.deref.result.now) c.clear.ensures ∙ ap (map row) c.deref.ensures.value in
     let same = sym c.set_roots.ensures.rows in

@@ -2,7 +2,7 @@ use Rattle.std.proofs.Common.{◌+◌, ◌<◌, length, take, [], ◌∷◌, ◌
 use Rattle.std.proofs.lemmas.List.{take_more, take_more_set, take_all}
 use Rattle.heap_words.specs.Words.{table_words}
 use Rattle.image_graph.specs.State.{words_of}
-use Rattle.step_core.proofs.OpeningStands.{length-opening}
+use Rattle.step_core.proofs.Theorem.OpeningStands.{length-opening}
 use Rattle.heap_tests.proofs.calls_step_by_step.opening_image.Goals as goal
 
 pub loop-at-init : goal.loop-at-init

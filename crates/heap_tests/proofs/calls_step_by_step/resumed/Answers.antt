@@ -14,13 +14,13 @@ use Rattle.image_graph.specs.State as images
 use Rattle.step_core.specs.Opening.{opening, opening_words}
 use Rattle.step_core.specs.Begins.{first_graph}
 use Rattle.step_core.specs.Machines.{may_begin, made_of_machine}
-use Rattle.step_core.proofs.FirstFacts.{opening_begins}
-use Rattle.shen_core.specs.FromImage.{CanBegin, control_from, machine_from, actor_from, stage_from}
+use Rattle.step_core.proofs.Theorem.FirstFacts.{opening_begins}
+use Rattle.shen_core.specs.FromImage.{CanBeginFrom, control_from, machine_from, actor_from, stage_from}
 use Rattle.shen_core.specs.State.{machines_of}
 use Rattle.heap_tests.proofs.calls_step_by_step.resumed.Goals as goal
 
 -- the words of the opening can begin its graph
-opening_can_begin : (c : Config) → c.mutators ≡ 1 → CanBegin c (view c (opening_words c)) (0 ∷ []) (first_graph c)
+opening_can_begin : (c : Config) → c.mutators ≡ 1 → CanBeginFrom c (view c (opening_words c)) (0 ∷ []) (first_graph c)
 unfolding opening
 opening_can_begin c one =
     let begins = opening_begins c in
@@ -48,8 +48,8 @@ open_from-requires-clause-begins c =
     let config_is : c.args.config ≡ images.config_of c.in_ok-image.image = sym c.in_ok-image.ensures.config in
     ∣ (
       first_graph c.args.config,
-      subst (λ k. CanBegin k (view k (images.words_of c.in_ok-image.image)) (0 ∷ []) (first_graph c.args.config)) config_is
-          (subst (λ ws. CanBegin c.args.config (view c.args.config ws) (0 ∷ []) (first_graph c.args.config)) (sym c.in_ok-image.ensures.words) (opening_can_begin c.args.config c.requires)),
+      subst (λ k. CanBeginFrom k (view k (images.words_of c.in_ok-image.image)) (0 ∷ []) (first_graph c.args.config)) config_is
+          (subst (λ ws. CanBeginFrom c.args.config (view c.args.config ws) (0 ∷ []) (first_graph c.args.config)) (sym c.in_ok-image.ensures.words) (opening_can_begin c.args.config c.requires)),
     ) ∣₁
 
 pub returns-clause-rest : goal.returns-clause-rest

@@ -2,7 +2,7 @@ use Rattle.std.proofs.Common.{sym, subst}
 use Rattle.heap_words.specs.declared.config.Config.{Config}
 use Rattle.image_graph.specs.State.{memory_of}
 use Rattle.mark_core.specs.Result.{MarksSome}
-use Rattle.cset_choice.proofs.Ready.{begins_after}
+use Rattle.cset_choice.proofs.CanBegin.{begins_after}
 use Rattle.heap_tests.proofs.collections.marks_what_lives_and_evacuates_what_costs_least.Goals as goal
 
 pub final_mark-requires : goal.final_mark-requires

@@ -2,7 +2,7 @@ use Rattle.std.proofs.Common.{◌≡◌, ℕ, ◌+◌, ◌-◌, ◌<◌, ◌≤�
 use Rattle.heap_words.specs.Words.{Word, Heap}
 use Rattle.heap_words.specs.Encoding.{object_words}
 use Rattle.image_graph.specs.State.{config_of, memory_of}
-use Rattle.image_check.specs.Laid.{words_in}
+use Rattle.image_check.specs.Laid.{laid_words}
 use Rattle.image_check.proofs.Reading.{read, placed, head, low, more}
 use Rattle.image_check.proofs.objects.are_in_order.Goals as goal
 
@@ -64,10 +64,10 @@ loop-index-preserved c =
     read k _ m (Heap (at (i - 1) + 2)) _ _ c.config-config.ensures (head _ k _ _ _ 2 refl before (omega arith)) c.heap_at-else-behind-here.ensures c.word-else-behind-here.ensures.named in
     let two : c.word-else-behind-here-2.result ≡ m (Heap (at i + 2)) =
     read k _ m (Heap (at i + 2)) _ _ c.config-config.ensures (head _ k _ _ _ 2 refl here (omega arith)) c.heap_at-else-behind-here-2.ensures c.word-else-behind-here-2.ensures.named in
-    let long : c.words_of.result ≡ words_in m (at (i - 1)) = c.words_of.ensures ∙ ap object_words shape in
+    let long : c.words_of.result ≡ laid_words m (at (i - 1)) = c.words_of.ensures ∙ ap object_words shape in
     let some : 1 ≤ i = c.loop-index.auto.index in
     record {
-      apart = more (λ (j l : ℕ). at j + words_in m (at j) ≤ at l) i some c.loop-index.invariant.apart
+      apart = more (λ (j l : ℕ). at j + laid_words m (at j) ≤ at l) i some c.loop-index.invariant.apart
           (subst (λ (n : ℕ). at (i - 1) + n ≤ at i) long c.if-behind-here.false);
       named = more (λ (j l : ℕ). m (Heap (at j + 2)) < m (Heap (at l + 2))) i some c.loop-index.invariant.named
           (subst (λ (n : ℕ). n < m (Heap (at i + 2))) one (subst (λ (n : ℕ). c.word-else-behind-here.result < n) two c.if-word.false));

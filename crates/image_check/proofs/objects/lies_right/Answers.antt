@@ -5,7 +5,7 @@ use Rattle.heap_words.specs.Words.{Word, Heap, Top, IsWord}
 use Rattle.regions.specs.Place.{base_of}
 use Rattle.heap_words.specs.Encoding.{object_words}
 use Rattle.image_graph.specs.State.{config_of, memory_of}
-use Rattle.image_check.specs.Laid.{words_in}
+use Rattle.image_check.specs.Laid.{laid_words}
 use Rattle.image_check.proofs.Reading.{read, placed, between, between_first, small_end, lies_by}
 use Rattle.image_check.proofs.objects.lies_right.Goals as goal
 
@@ -61,7 +61,7 @@ returns-then-behind-end-2 c =
     let top : c.word-2.result ≡ m (Top r) = read k _ m (Top r) _ _ c.config-config.ensures below c.top_at.ensures c.word-2.ensures.named in
     let word : IsWord k (Heap (a + 1)) = subst (λ (j : Config). IsWord j (Heap (a + 1))) c.config-config.ensures
     (between c.config-config.result _ _ _ 1 c.region_words-first.ensures c.heap_size.ensures.value c.if-address-first.false c.if-last-address-lt3.false (omega arith)) in
-    let long : c.words_of.result ≡ words_in m a = c.words_of.ensures ∙ ap object_words (read k _ m (Heap (a + 1)) _ _ c.config-config.ensures word c.heap_at.ensures c.word.ensures.named) in
+    let long : c.words_of.result ≡ laid_words m a = c.words_of.ensures ∙ ap object_words (read k _ m (Heap (a + 1)) _ _ c.config-config.ensures word c.heap_at.ensures c.word.ensures.named) in
     λ _. lies_by k c.config-config.result m c.args.objects.now a _ _ _ r _ _ c.config-config.ensures c.region_words-first.ensures c.heap_size.ensures.value c.if-address-first.false
     c.if-last-address-lt3.false long c.region_of-region.ensures.value c.base.ensures top c.if-behind-end.true (λ other. absurd (other c.if-behind-end-2.true))
 
@@ -75,7 +75,7 @@ returns-else-behind-end-2 c =
     let top : c.word-2.result ≡ m (Top r) = read k _ m (Top r) _ _ c.config-config.ensures below c.top_at.ensures c.word-2.ensures.named in
     let word : IsWord k (Heap (a + 1)) = subst (λ (j : Config). IsWord j (Heap (a + 1))) c.config-config.ensures
     (between c.config-config.result _ _ _ 1 c.region_words-first.ensures c.heap_size.ensures.value c.if-address-first.false c.if-last-address-lt3.false (omega arith)) in
-    let long : c.words_of.result ≡ words_in m a = c.words_of.ensures ∙ ap object_words (read k _ m (Heap (a + 1)) _ _ c.config-config.ensures word c.heap_at.ensures c.word.ensures.named) in
+    let long : c.words_of.result ≡ laid_words m a = c.words_of.ensures ∙ ap object_words (read k _ m (Heap (a + 1)) _ _ c.config-config.ensures word c.heap_at.ensures c.word.ensures.named) in
     λ yes. lies_by k c.config-config.result m c.args.objects.now a _ _ _ r _ _ c.config-config.ensures c.region_words-first.ensures c.heap_size.ensures.value c.if-address-first.false
     c.if-last-address-lt3.false long c.region_of-region.ensures.value c.base.ensures top c.if-behind-end.true (λ _. sym c.is_among.ensures ∙ yes)
 

@@ -1,7 +1,7 @@
 use Rattle.std.proofs.Common.{ℕ, List, ◌≡◌, ◌+◌, ◌-◌, ◌++◌, take, drop, length, arith, sym, ap, ◌∙◌, subst}
 use borrow.Rule.Slice.PartMut.{put_mid}
 use Rattle.heap_words.specs.Words.{Top, word_at, heap_size, heap_in}
-use Rattle.sliding.specs.Table.{CanCompact}
+use Rattle.packing.specs.Table.{CanCompact}
 use Rattle.image_graph.specs.Pack.{IsPacked}
 use Rattle.image_graph.proofs.Packed.{packed_from, heap_behind}
 use Rattle.image_graph.proofs.pack.pack_words.Goals as goal

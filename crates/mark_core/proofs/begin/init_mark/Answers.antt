@@ -2,14 +2,14 @@ use Rattle.std.proofs.Common.{◌≡◌, ℕ, [], sym, ap, ◌∙◌, subst}
 use Rattle.heap_words.specs.declared.config.Config.{Config}
 use Rattle.heap_words.specs.Words.{Word, Phase, Claim, Ask, bit_words, word_at, write}
 use Rattle.heap_graph.specs.Walk.{has, with_addresses}
-use Rattle.image_laws.specs.Full.{root_words}
+use Rattle.full_words.specs.Full.{root_words}
 use Rattle.image_graph.specs.State.{config_of, words_of, memory_of, found_of}
-use Rattle.image_graph.proofs.Steps.{stored}
-use Rattle.mark_laws.specs.Laws.{BeginsMarking}
-use Rattle.mark_laws.proofs.Begun.{init_marks}
+use Rattle.image_graph.proofs.NamedStores.{stored}
+use Rattle.cycle_words.specs.Marking.Laws.{BeginsMarking}
+use Rattle.cycle_words.proofs.Marking.Begun.{init_marks}
 use Rattle.mark_core.specs.Steps.{greyed, noted, emptied}
 use Rattle.image_graph.proofs.Same.{memory_same}
-use Rattle.mark_core.proofs.Beginning.{roots_inside_some, all_inside, begun}
+use Rattle.mark_core.proofs.MarkingBegun.{roots_inside_some, all_inside, begun}
 use Rattle.mark_core.proofs.Some.{marks_after}
 use Rattle.mark_core.proofs.begin.init_mark.Goals as goal
 

@@ -2,9 +2,9 @@ use Rattle.std.proofs.Common.{◌≡◌, ◌<◌, ap, ◌∙◌, arith}
 use Rattle.heap_words.specs.declared.config.Config.{Config}
 use Rattle.heap_words.specs.Words.{Top, Tams, word_at, write}
 use Rattle.image_graph.specs.State.{config_of, memory_of}
-use Rattle.image_graph.proofs.Steps.{stored}
+use Rattle.image_graph.proofs.NamedStores.{stored}
 use Rattle.mark_core.specs.Steps.{noted}
-use Rattle.mark_core.proofs.Steps.{noted_next}
+use Rattle.mark_core.proofs.LoopTurns.{noted_next}
 use Rattle.mark_core.proofs.begin.note_tops.Goals as goal
 
 pub loop-region-preserved : goal.loop-region-preserved

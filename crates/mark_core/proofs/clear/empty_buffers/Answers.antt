@@ -2,9 +2,9 @@ use Rattle.std.proofs.Common.{◌≡◌, ◌<◌, ap, ◌∙◌, arith}
 use Rattle.heap_words.specs.declared.config.Config.{Config}
 use Rattle.heap_words.specs.Words.{Count, word_at, write}
 use Rattle.image_graph.specs.State.{config_of, memory_of}
-use Rattle.image_graph.proofs.Steps.{stored}
+use Rattle.image_graph.proofs.NamedStores.{stored}
 use Rattle.mark_core.specs.Steps.{emptied}
-use Rattle.mark_core.proofs.Steps.{emptied_next}
+use Rattle.mark_core.proofs.LoopTurns.{emptied_next}
 use Rattle.mark_core.proofs.clear.empty_buffers.Goals as goal
 
 pub loop-mutator-preserved : goal.loop-mutator-preserved

@@ -4,10 +4,10 @@ use Rattle.heap_words.specs.Words.{Word, bit_words}
 use Rattle.heap_graph.specs.Walk.{has}
 use Rattle.image_graph.specs.State.{config_of, words_of, memory_of, found_of}
 use Rattle.image_graph.specs.Holds.{HoldsBy}
-use Rattle.mark_laws.specs.Close.{traced_in}
-use Rattle.mark_laws.specs.Facts.{IsMarkedThrough}
-use Rattle.mark_laws.specs.Laws.{AreClosed}
-use Rattle.mark_laws.proofs.Closed.{are_closed, closed_holds, closed_through}
+use Rattle.cycle_words.specs.Marking.Close.{traced_in}
+use Rattle.cycle_words.specs.Marking.WhileMarking.{IsMarkedThrough}
+use Rattle.cycle_words.specs.Marking.Laws.{AreClosed}
+use Rattle.cycle_words.proofs.Marking.Closed.{are_closed, closed_holds, closed_through}
 use Rattle.mark_core.specs.Steps.{marked, emptied}
 use Rattle.image_graph.proofs.Same.{memory_same}
 use Rattle.mark_core.proofs.Closing.{can_trace_some, closed_is}

@@ -1,7 +1,7 @@
 use Rattle.std.proofs.Common.{◌≡◌}
 use Rattle.heap_graph.specs.Walk.{has}
 use Rattle.image_graph.specs.State.{found_of}
-use Rattle.mark_laws.specs.Marks.{bits_of}
+use Rattle.cycle_words.specs.Marking.Marks.{bits_of}
 use Rattle.mark_core.proofs.colour.found_bits.Given as goal
 
 abbrev pub invariant-loop-bit : goal.invariant-loop-bit

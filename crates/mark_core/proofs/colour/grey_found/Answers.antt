@@ -3,11 +3,11 @@ use Rattle.heap_words.specs.declared.config.Config.{Config}
 use Rattle.heap_words.specs.Words.{Word, Grey, Black, word_at, write, bit_words}
 use Rattle.heap_graph.specs.Walk.{has}
 use Rattle.image_graph.specs.State.{config_of, memory_of, found_of}
-use Rattle.image_graph.proofs.Steps.{stored}
-use Rattle.mark_laws.specs.Marks.{mark_bits}
+use Rattle.image_graph.proofs.NamedStores.{stored}
+use Rattle.cycle_words.specs.Marking.Marks.{mark_bits}
 use Rattle.mark_core.specs.Steps.{greyed}
-use Rattle.mark_core.proofs.State.{still_found}
-use Rattle.mark_core.proofs.Steps.{greyed_none, greyed_next}
+use Rattle.mark_core.proofs.FoundStays.{still_found}
+use Rattle.mark_core.proofs.LoopTurns.{greyed_none, greyed_next}
 use Rattle.mark_core.proofs.colour.grey_found.Goals as goal
 
 pub loop-word-init : goal.loop-word-init

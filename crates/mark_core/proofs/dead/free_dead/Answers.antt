@@ -3,7 +3,7 @@ use Rattle.std.proofs.lemmas.Bool.{cases_Bool}
 use Rattle.heap_words.specs.declared.config.Config.{Config}
 use Rattle.heap_words.specs.Words.{Word}
 use Rattle.image_graph.specs.State.{config_of, memory_of}
-use Rattle.mark_laws.specs.Final.{is_dead}
+use Rattle.cycle_words.specs.Marking.Final.{is_dead}
 use Rattle.mark_core.specs.Steps.{freed_one, freed_below}
 use Rattle.mark_core.proofs.Freeing.{freed_none, freed_next, left_next, dead_still}
 use Rattle.mark_core.proofs.dead.free_dead.Goals as goal

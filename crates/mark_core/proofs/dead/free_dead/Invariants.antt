@@ -1,6 +1,6 @@
 use Rattle.std.proofs.Common.{◌≡◌}
 use Rattle.image_graph.specs.State.{config_of, memory_of}
-use Rattle.mark_laws.specs.Final.{is_dead}
+use Rattle.cycle_words.specs.Marking.Final.{is_dead}
 use Rattle.mark_core.specs.Steps.{freed_below}
 use Rattle.mark_core.proofs.dead.free_dead.Given as goal
 

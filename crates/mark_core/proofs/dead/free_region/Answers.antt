@@ -3,7 +3,7 @@ use Rattle.std.specs.Int.RustNames.{bit_or}
 use Rattle.heap_words.specs.declared.config.Config.{Config}
 use Rattle.heap_words.specs.Words.{Word, Free, Top, Tams, Limit, word_at, write}
 use Rattle.image_graph.specs.State.{config_of, memory_of}
-use Rattle.image_graph.proofs.Steps.{stored}
+use Rattle.image_graph.proofs.NamedStores.{stored}
 use Rattle.mark_core.proofs.Freeing.{freed_by_stores}
 use Rattle.mark_core.proofs.dead.free_region.Goals as goal
 

@@ -6,8 +6,8 @@ use Rattle.regions.specs.Place.{base_of}
 use Rattle.image_graph.specs.State.{config_of, memory_of}
 use Rattle.heap_words.proofs.Bounds.{heap_size_le}
 use Rattle.image_graph.proofs.Room.{room_in_heap}
-use Rattle.mark_laws.specs.Marks.{is_black}
-use Rattle.mark_laws.proofs.Ranges.{any_at, any_none}
+use Rattle.cycle_words.specs.Marking.Marks.{is_black}
+use Rattle.cycle_words.proofs.Marking.Ranges.{any_at, any_none}
 use Rattle.mark_core.proofs.dead.has_black.Goals as goal
 
 pub returns-then-is_black : goal.returns-then-is_black

@@ -5,8 +5,8 @@ use Rattle.std.proofs.lemmas.Nat.Bits.{bit_at-lt}
 use Rattle.heap_words.specs.declared.config.Config.{Config}
 use Rattle.heap_words.specs.Words.{Word, Free, Top, Tams, word_at}
 use Rattle.image_graph.specs.State.{config_of, memory_of}
-use Rattle.mark_laws.specs.Final.{is_current, is_dead}
-use Rattle.mark_laws.proofs.Dead.{current_is, dead_is_dead, marks_decide}
+use Rattle.cycle_words.specs.Marking.Final.{is_current, is_dead}
+use Rattle.cycle_words.proofs.Marking.Dead.{current_is, dead_is_dead, marks_decide}
 use Rattle.mark_core.proofs.dead.is_dead.Goals as goal
 use Rattle.mark_core.proofs.dead.is_dead.Goals.{then-is_in-via-then-is_in, then-is_in-via-else-is_in+then-is_current}
 

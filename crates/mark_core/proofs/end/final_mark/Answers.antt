@@ -3,13 +3,13 @@ use Rattle.heap_words.specs.Words.{Word, Free}
 use Rattle.regions.specs.Sets.{IsIn}
 use Rattle.image_graph.specs.State.{config_of, words_of, memory_of}
 use Rattle.image_graph.specs.Holds.{HoldsBy}
-use Rattle.mark_laws.specs.Close.{closed}
-use Rattle.mark_laws.specs.Facts.{IsMarkedThrough}
-use Rattle.mark_laws.specs.Final.{IsDead, dead_in, freed_block, freed_owner}
-use Rattle.mark_laws.proofs.Dead.{dead_is_dead}
-use Rattle.mark_laws.proofs.Freed.{free_was, free_is}
-use Rattle.mark_laws.proofs.Ended.{ended_holds, ended_through}
-use Rattle.mark_core.proofs.Ending.{no_more_seats, final_words}
+use Rattle.cycle_words.specs.Marking.Close.{closed}
+use Rattle.cycle_words.specs.Marking.WhileMarking.{IsMarkedThrough}
+use Rattle.cycle_words.specs.Marking.Final.{IsDead, dead_in, freed_block, freed_owner}
+use Rattle.cycle_words.proofs.Marking.Dead.{dead_is_dead}
+use Rattle.cycle_words.proofs.Marking.Freed.{free_was, free_is}
+use Rattle.cycle_words.proofs.Marking.Ended.{ended_holds, ended_through}
+use Rattle.mark_core.proofs.MarkingEnded.{no_more_seats, final_words}
 use Rattle.mark_core.proofs.Some.{holds_ended}
 use Rattle.mark_core.proofs.end.final_mark.Goals as goal
 

@@ -4,8 +4,8 @@ use Rattle.heap_words.specs.declared.config.Config.{Config}
 use Rattle.heap_words.specs.Words.{Word, heap_size}
 use Rattle.heap_graph.specs.Walk.{with_address, with_addresses}
 use Rattle.image_graph.specs.State.{config_of, memory_of, found_of}
-use Rattle.mark_laws.specs.Marks.{is_grey}
-use Rattle.mark_laws.specs.Close.{greys_below}
+use Rattle.cycle_words.specs.Marking.Marks.{is_grey}
+use Rattle.cycle_words.specs.Marking.Close.{greys_below}
 use Rattle.image_graph.proofs.Same.{memory_same, both}
 use Rattle.mark_core.proofs.Listed.{grey_more, grey_none}
 use Rattle.mark_core.proofs.trace.find_greys.Goals as goal

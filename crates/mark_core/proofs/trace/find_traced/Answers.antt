@@ -4,11 +4,11 @@ use Rattle.heap_words.specs.declared.config.Config.{Config}
 use Rattle.heap_words.specs.Words.{Word, heap_size}
 use Rattle.heap_graph.specs.Walk.{with_addresses}
 use Rattle.heap_graph.proofs.Marks as marks
-use Rattle.image_laws.proofs.Found.{has_at}
-use Rattle.image_laws.proofs.Turns.{noted_both, no_turn, next_turn, last_turn, is_none, none_left}
+use Rattle.full_words.proofs.Found.{has_at}
+use Rattle.full_words.proofs.FoundInTurn.{noted_both, no_turn, next_turn, last_turn, is_none, none_left}
 use Rattle.image_graph.specs.State.{config_of, memory_of, found_of, marks_of}
-use Rattle.mark_laws.specs.Close.{IsTraced, greys_below, entries_below, starts_in, open_fields, traced_by}
-use Rattle.mark_laws.proofs.Traced.{listed_traced}
+use Rattle.cycle_words.specs.Marking.Close.{IsTraced, greys_below, entries_below, starts_in, open_fields, traced_by}
+use Rattle.cycle_words.proofs.Marking.Traced.{listed_traced}
 use Rattle.mark_core.specs.Trace.{CanTrace}
 use Rattle.image_graph.proofs.Same.{memory_same, carried, both}
 use Rattle.mark_core.proofs.trace.find_traced.Goals as goal

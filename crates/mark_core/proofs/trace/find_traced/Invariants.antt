@@ -1,7 +1,7 @@
 use Rattle.std.proofs.Common.{◌≡◌, ◌≤◌, ◌-◌}
 use Rattle.heap_words.specs.Words.{heap_size}
 use Rattle.image_graph.specs.State.{config_of, memory_of, found_of, AreFound, IsUnchanged}
-use Rattle.mark_laws.specs.Close.{traced_by}
+use Rattle.cycle_words.specs.Marking.Close.{traced_by}
 use Rattle.mark_core.proofs.trace.find_traced.Given as goal
 
 abbrev pub invariant-loop-address : goal.invariant-loop-address

@@ -5,7 +5,7 @@ use Rattle.trace_writing.specs.declared.message.Line.TheVariants as line
 use Rattle.text_writer.specs.Sending.{outlet}
 use Rattle.trace_runs.specs.declared.status.Status.TheVariants.{BadWords}
 use Rattle.trace_runs.specs.Answered.{Input, Output}
-use Rattle.trace_runs.proofs.Ends.{said, row_of_ok}
+use Rattle.trace_runs.proofs.CallEnds.{said, row_of_ok}
 use Rattle.trace_runs.proofs.Complete.{complete, churned}
 use Rattle.trace_runs.proofs.Words.{asks_none, replay_is_no_run, replay_is_no_churn}
 use Rattle.trace_runs.specs.Words.{AskReplay}

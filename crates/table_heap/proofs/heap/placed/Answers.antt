@@ -2,7 +2,7 @@ use Rattle.std.proofs.Common.{◌≡◌, ◌≤◌, List, [], ◌∷◌, ◌++�
 use mathlib.Core.List.{reverse}
 use Rattle.std.proofs.lemmas.Grind.{common_steps}
 use Rattle.std.proofs.lemmas.List.{append-nil, append_assoc, reverse-append, reverse-reverse}
-use Rattle.shared_steps.specs.Views.{View, whole}
+use Rattle.shared_table.specs.Views.{View, whole}
 use Rattle.heap_machines.specs.declared.machine.Machine.{Machine}
 use Rattle.table_heap.proofs.heap.placed.Goals as goal
 

@@ -1,6 +1,6 @@
 use Rattle.std.proofs.Common.{◌≡◌, ◌++◌, vec_len}
 use mathlib.Core.List.{reverse}
-use Rattle.shared_steps.specs.Views.{whole}
+use Rattle.shared_table.specs.Views.{whole}
 use Rattle.table_heap.proofs.heap.placed.Given as goal
 
 -- those that are left come behind those that are placed, the last one first

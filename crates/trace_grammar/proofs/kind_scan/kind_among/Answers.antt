@@ -1,5 +1,5 @@
 use Rattle.std.proofs.Common.{sym}
-use Rattle.trace_grammar.proofs.Turns.{kind_found, kind_goes_on, kinds_end}
+use Rattle.trace_grammar.proofs.LoopReading.{kind_found, kind_goes_on, kinds_end}
 use Rattle.trace_grammar.proofs.kind_scan.kind_among.Goals as goal
 
 pub loop-kind-preserved : goal.loop-kind-preserved

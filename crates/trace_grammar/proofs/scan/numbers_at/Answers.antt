@@ -1,7 +1,7 @@
 use Rattle.std.proofs.Common.{◌≡◌, ℕ, Some, length, take, subst, sym, arith}
 use Rattle.std.proofs.lemmas.List.{length-set, take_more_set}
 use Rattle.trace_grammar.specs.Scanning.{numbers_at}
-use Rattle.trace_grammar.proofs.Turns.{number_goes_on, number_fails, numbers_end}
+use Rattle.trace_grammar.proofs.LoopReading.{number_goes_on, number_fails, numbers_end}
 use Rattle.trace_grammar.proofs.scan.numbers_at.Goals as goal
 
 pub loop-i-preserved : goal.loop-i-preserved

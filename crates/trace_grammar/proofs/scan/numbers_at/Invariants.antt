@@ -1,6 +1,6 @@
 use Rattle.std.proofs.Common.{◌≡◌, length, take, drop}
 use Rattle.trace_grammar.specs.Scanning.{numbers_at}
-use Rattle.trace_grammar.proofs.Turns.{with_front}
+use Rattle.trace_grammar.proofs.LoopReading.{with_front}
 use Rattle.trace_grammar.proofs.scan.numbers_at.Given as goal
 
 abbrev pub invariant-loop-i : goal.invariant-loop-i

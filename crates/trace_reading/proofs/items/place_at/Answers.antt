@@ -1,4 +1,4 @@
-use Rattle.trace_reading.proofs.Places.{too_short, no_place, place_read}
+use Rattle.trace_reading.proofs.PlaceCodes.{too_short, no_place, place_read}
 use Rattle.trace_reading.proofs.items.place_at.Goals as goal
 
 pub returns-in_default : goal.returns-in_default

@@ -3,7 +3,7 @@ use Rattle.trace_writing.specs.Message.{line_text}
 use Rattle.trace_writing.specs.declared.message.Line.TheVariants as line
 use Rattle.trace_runs.specs.declared.status.Status.TheVariants.{Ok, NoMemory}
 use Rattle.trace_runs.specs.Churned.{IsChurned}
-use Rattle.trace_runs.proofs.Ends.{said}
+use Rattle.trace_runs.proofs.CallEnds.{said}
 use Rattle.trace_runs.proofs.churns.churn.Goals as goal
 
 pub returns-in-Ok : goal.returns-in-Ok

@@ -1,5 +1,5 @@
 use Rattle.std.proofs.Common.{All, sym, subst, arith}
-use Rattle.step_core.proofs.FirstFacts.{opening_run}
+use Rattle.step_core.proofs.Theorem.FirstFacts.{opening_run}
 use Rattle.step_core.specs.Schedule.{Scripts}
 use Rattle.shen_core.specs.Progress.{IsRunnable}
 use Rattle.trace_runs.proofs.Coming.{come_rest}

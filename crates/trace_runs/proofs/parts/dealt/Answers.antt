@@ -1,7 +1,7 @@
 use Rattle.std.proofs.Common.{rules, ◌≡◌, suc, ◌+◌, length, ap, sym, ◌∙◌, subst, arith, Some}
 use Rattle.std.specs.Prelude.{slice_get}
 use Rattle.shen_graph.specs.Work.{left_over, parted}
-use Rattle.trace_runs.specs.Parts.{IsReady, AreReady}
+use Rattle.trace_runs.specs.DealtParts.{PartIsReady, AreReady}
 use Rattle.trace_runs.proofs.Dealing.{ready_part, left_after, one_less}
 use Rattle.trace_runs.proofs.Loops.{more_ready, longer}
 use Rattle.trace_runs.proofs.parts.dealt.Goals as goal
@@ -31,7 +31,7 @@ loop-bundle-preserved c =
           ∙ one_less workers (length old) scripts ∙ ap (λ n. left_after workers n scripts) (sym count);
       ready = λ scripts can.
           more_ready h scripts workers old c.push.new.self.items _ grown (was.ready scripts can)
-          (subst (λ w. IsReady h scripts workers (length old) (length old + 1) (record { bundle = b; work = w })) (sym (c.part-work.ensures.parted ∙ ap (λ n. parted workers n now) place))
+          (subst (λ w. PartIsReady h scripts workers (length old) (length old + 1) (record { bundle = b; work = w })) (sym (c.part-work.ensures.parted ∙ ap (λ n. parted workers n now) place))
           (ready_part h scripts c.args.work c.args.bundles.items can workers (length old) b now was.workers_are here (was.work_left scripts can)));
     }
 

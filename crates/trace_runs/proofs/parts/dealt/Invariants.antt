@@ -4,7 +4,7 @@ use Rattle.std.specs.Vec.Iter.{into_iter_items, into_iter_len}
 use Rattle.step_core.specs.Schedule.{Scripts}
 use Rattle.shen_graph.specs.Work.{picked, opened}
 use Rattle.table_heap.specs.declared.bundle.Bundle.{Bundle}
-use Rattle.trace_runs.specs.Parts.{AreReady, CanBeDealt}
+use Rattle.trace_runs.specs.DealtParts.{AreReady, CanBeDealt}
 use Rattle.trace_runs.proofs.parts.dealt.Given as goal
 
 -- the bundles that are left are the last ones, and so is the work

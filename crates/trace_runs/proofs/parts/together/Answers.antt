@@ -1,5 +1,5 @@
 use Rattle.std.proofs.Common.{rules, ◌≡◌, ◌+◌, length, ap, ◌∙◌, subst, arith}
-use Rattle.trace_runs.specs.Parts.{IsReady}
+use Rattle.trace_runs.specs.DealtParts.{PartIsReady}
 use Rattle.trace_runs.proofs.PartLaws.{apart}
 use Rattle.trace_runs.proofs.Loops.{others_ready, last_ready, to_length, longer}
 use Rattle.trace_runs.proofs.parts.together.Goals as goal
@@ -54,4 +54,4 @@ loop-part-preserved c =
 pub returns : goal.returns
 returns c = λ scripts workers ready.
     let none : length c.loop-part.parts.items ≡ 0 = search rules in
-    subst (λ n. IsReady c.args.heap.now scripts workers n (length c.args.parts.items) c.loop-part.own) none (c.loop-part.invariant.ready scripts workers ready)
+    subst (λ n. PartIsReady c.args.heap.now scripts workers n (length c.args.parts.items) c.loop-part.own) none (c.loop-part.invariant.ready scripts workers ready)

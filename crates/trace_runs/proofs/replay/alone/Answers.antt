@@ -5,7 +5,7 @@ use Rattle.trace_writing.specs.declared.message.Line.TheVariants as line
 use Rattle.text_writer.specs.Sending.{outlet}
 use Rattle.trace_runs.specs.declared.status.Status.TheVariants.{BadWords}
 use Rattle.trace_runs.specs.Answered.{Input, Output}
-use Rattle.trace_runs.proofs.Ends.{said, row_of_replay}
+use Rattle.trace_runs.proofs.CallEnds.{said, row_of_replay}
 use Rattle.trace_runs.proofs.Complete.{complete}
 use Rattle.trace_runs.proofs.Words.{run_begins, churn_begins, asks_none}
 use Rattle.trace_runs.proofs.replay.alone.Goals as goal

@@ -1,7 +1,7 @@
 use Rattle.std.proofs.Common.{arith}
 use Rattle.trace_runs.proofs.Scripts.{count_scripts}
 use Rattle.trace_runs.proofs.Whole.{all_rest, replayed}
-use Rattle.step_core.proofs.FirstFacts.{opening_run}
+use Rattle.step_core.proofs.Theorem.FirstFacts.{opening_run}
 use Rattle.trace_runs.specs.Replayed.{events_of}
 use Rattle.trace_runs.proofs.replay.answer_to.Goals as goal
 

@@ -1,5 +1,5 @@
 use Rattle.std.proofs.Common.{ap, subst, sym, ◌∙◌, length, All}
-use Rattle.step_core.proofs.FirstFacts.{opening_run}
+use Rattle.step_core.proofs.Theorem.FirstFacts.{opening_run}
 use Rattle.step_core.specs.Schedule.{Scripts}
 use Rattle.shen_core.specs.Progress.{IsRunnable}
 use Rattle.trace_runs.specs.Running.{HasCome}

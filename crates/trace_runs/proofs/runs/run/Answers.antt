@@ -1,12 +1,12 @@
 use Rattle.std.proofs.Common.{inl, inr, refl, subst}
 use Rattle.trace_writing.specs.Message.{line_text}
 use Rattle.trace_writing.specs.declared.message.Line.TheVariants as line
-use Rattle.trace_writing.specs.Answer.{text_of}
+use Rattle.trace_writing.specs.Answer.{spelled_answer}
 use Rattle.text_writer.specs.Sending.{outlet}
 use Rattle.trace_runs.specs.Answered.{Input, Output}
-use Rattle.trace_runs.specs.Ends.{EndsWith}
+use Rattle.trace_runs.specs.CallEnds.{EndsWith}
 use Rattle.trace_runs.specs.declared.status.Status.TheVariants.{Ok, NoMemory}
-use Rattle.trace_runs.proofs.Ends.{said}
+use Rattle.trace_runs.proofs.CallEnds.{said}
 use Rattle.trace_runs.proofs.runs.run.Goals as goal
 
 pub returns-in-Err-answer_to : goal.returns-in-Err-answer_to
@@ -27,8 +27,8 @@ returns-in-Ok-answer_to g c = λ words asked.
       before = outlet (g.K.Sink.written c.args.sink.now) (g.K.Sink.faults c.args.sink.now) (g.K.Sink.calls c.args.sink.now);
       after = outlet (g.K.Sink.written c.give.new.sink) (g.K.Sink.faults c.give.new.sink) (g.K.Sink.calls c.give.new.sink);
     } in
-    said words input output (text_of c.in-Ok-answer_to.answer) Ok c.give.result (inr (inl ((c.args.workers, asked), (read.0, read.1, c.in-Ok-answer_to.ensures.ok read.0 read.2))))
-    (subst (λ s. EndsWith (text_of c.in-Ok-answer_to.answer) Ok c.give.result (outlet (g.K.Sink.written s) (g.K.Sink.faults s) (g.K.Sink.calls s)) output.after) c.in-Ok.ensures.unused c.give.ensures)
+    said words input output (spelled_answer c.in-Ok-answer_to.answer) Ok c.give.result (inr (inl ((c.args.workers, asked), (read.0, read.1, c.in-Ok-answer_to.ensures.ok read.0 read.2))))
+    (subst (λ s. EndsWith (spelled_answer c.in-Ok-answer_to.answer) Ok c.give.result (outlet (g.K.Sink.written s) (g.K.Sink.faults s) (g.K.Sink.calls s)) output.after) c.in-Ok.ensures.unused c.give.ensures)
 
 pub returns-in-Err : goal.returns-in-Err
 returns-in-Err g c = λ words asked. c.in-Err.ensures.refused words (inr (c.args.workers, asked))

@@ -2,7 +2,7 @@ use Rattle.std.proofs.Common.{rules, ◌<◌, ◌≤◌, length, sym, subst, ari
 use Rattle.heap_words.specs.declared.config.Config.{Config}
 use Rattle.step_core.specs.Schedule.{Scripts}
 use Rattle.trace_runs.specs.declared.parts.Part.{Part}
-use Rattle.trace_runs.specs.Parts.{AreReady, IsDone}
+use Rattle.trace_runs.specs.DealtParts.{AreReady, IsDone}
 use Rattle.trace_runs.specs.Running.{HasCome}
 use Rattle.trace_runs.proofs.Dealing.{can_be_dealt}
 use Rattle.trace_runs.proofs.Coming.{has_all, control_idle, come}

@@ -1,5 +1,5 @@
 use Rattle.std.proofs.Common.{rules, ◌≡◌, ◌+◌, true, false, sym, subst}
-use Rattle.trace_runs.specs.Parts.{CanRun, IsReady, IsDone}
+use Rattle.trace_runs.specs.DealtParts.{PartCanRun, PartIsReady, IsDone}
 use Rattle.trace_runs.specs.Started.{IsThread}
 use Rattle.trace_runs.proofs.PartLaws.{ended_done}
 use Rattle.trace_runs.proofs.Loops.{ran_already, as_given}
@@ -8,15 +8,15 @@ use Rattle.trace_runs.proofs.threads.ended.Goals as goal
 pub returns-then-not-ran : goal.returns-then-not-ran
 returns-then-not-ran g c = λ scripts workers k is.
     let h = c.args.heap.now in
-    let ready : IsReady h scripts workers k (k + 1) c.in-Running.handle.promise.0.value = subst (IsThread h scripts workers k) c.in-Running.is is in
+    let ready : PartIsReady h scripts workers k (k + 1) c.in-Running.handle.promise.0.value = subst (IsThread h scripts workers k) c.in-Running.is is in
     let unran : c.join-part.result.ran ≡ false = search rules in
     ended_done h scripts workers k (k + 1) c.join-part.result.part c.run.new.self
-    (subst (IsReady h scripts workers k (k + 1)) (sym (as_given c.in-Running.handle.promise.0.value c.join-part.result c.join-part.ensures unran)) ready) c.run.ensures
+    (subst (PartIsReady h scripts workers k (k + 1)) (sym (as_given c.in-Running.handle.promise.0.value c.join-part.result c.join-part.ensures unran)) ready) c.run.ensures
 
 pub returns-else-not-ran : goal.returns-else-not-ran
 returns-else-not-ran g c = λ scripts workers k is.
     let h = c.args.heap.now in
-    let ready : IsReady h scripts workers k (k + 1) c.in-Running.handle.promise.0.value = subst (IsThread h scripts workers k) c.in-Running.is is in
+    let ready : PartIsReady h scripts workers k (k + 1) c.in-Running.handle.promise.0.value = subst (IsThread h scripts workers k) c.in-Running.is is in
     let ran : c.join-part.result.ran ≡ true = search rules in
     ran_already h scripts workers k (k + 1) c.in-Running.handle.promise.0.value c.join-part.result ready c.join-part.ensures ran
 
@@ -24,8 +24,8 @@ pub run-requires-after_bounds : goal.run-requires-after_bounds
 run-requires-after_bounds g c κs within =
     let h = c.args.heap.now in
     let r = c.requires in
-    let ready : IsReady h r.0 r.1 r.2 (r.2 + 1) c.in-Running.handle.promise.0.value = subst (IsThread h r.0 r.1 r.2) c.in-Running.is r.3 in
-    subst (CanRun h) (sym (as_given c.in-Running.handle.promise.0.value c.join-part.result c.join-part.ensures c.if-not-ran.true)) (record { of = ready.has.of; start = ready.start })
+    let ready : PartIsReady h r.0 r.1 r.2 (r.2 + 1) c.in-Running.handle.promise.0.value = subst (IsThread h r.0 r.1 r.2) c.in-Running.is r.3 in
+    subst (PartCanRun h) (sym (as_given c.in-Running.handle.promise.0.value c.join-part.result c.join-part.ensures c.if-not-ran.true)) (record { of = ready.has.of; start = ready.start })
 
 pub returns-in-Over : goal.returns-in-Over
 returns-in-Over g c = λ scripts workers k is.

@@ -1,6 +1,6 @@
 use Rattle.std.proofs.Common.{rules, ◌≡◌, ℕ, ◌+◌, ◌-◌, length, ap, ◌∙◌, subst, arith}
 use Rattle.step_core.specs.Schedule.{Scripts}
-use Rattle.trace_runs.specs.Parts.{IsDone}
+use Rattle.trace_runs.specs.DealtParts.{IsDone}
 use Rattle.trace_runs.specs.Started.{IsThread}
 use Rattle.trace_runs.proofs.PartLaws.{apart}
 use Rattle.trace_runs.proofs.Loops.{others_run, last_runs, longer}

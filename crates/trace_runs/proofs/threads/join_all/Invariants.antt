@@ -1,6 +1,6 @@
 use Rattle.std.proofs.Common.{ℕ, ◌+◌, ◌-◌, ◌≤◌, length, vec_len}
 use Rattle.step_core.specs.Schedule.{Scripts}
-use Rattle.trace_runs.specs.Parts.{IsDone}
+use Rattle.trace_runs.specs.DealtParts.{IsDone}
 use Rattle.trace_runs.specs.Started.{AreThreads}
 use Rattle.trace_runs.proofs.threads.join_all.Given as goal
 

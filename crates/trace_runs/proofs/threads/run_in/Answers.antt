@@ -1,6 +1,6 @@
 use Rattle.std.proofs.Common.{ℕ, ◌+◌, length, sym, subst}
 use Rattle.step_core.specs.Schedule.{Scripts}
-use Rattle.trace_runs.specs.Parts.{CanRun, IsDone}
+use Rattle.trace_runs.specs.DealtParts.{PartCanRun, IsDone}
 use Rattle.trace_runs.specs.Started.{AreThreads}
 use Rattle.trace_runs.proofs.PartLaws.{ended_done}
 use Rattle.trace_runs.proofs.threads.run_in.Goals as goal
@@ -15,7 +15,7 @@ run-requires-after_bounds g c κs within =
     let r = c.requires.ready in
     let w = length c.args.parts.items in
     let ready = c.together-own.ensures r.0 w (c.start_all.ensures r.0 r.1).here in
-    let can : CanRun c.args.heap.now c.together-own.result = record { of = ready.has.of; start = ready.start } in
+    let can : PartCanRun c.args.heap.now c.together-own.result = record { of = ready.has.of; start = ready.start } in
     can
 
 pub join_all-requires-after_bounds : goal.join_all-requires-after_bounds

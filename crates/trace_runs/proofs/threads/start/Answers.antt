@@ -1,5 +1,5 @@
 use Rattle.std.proofs.Common.{rules, ◌+◌, sym, subst}
-use Rattle.trace_runs.specs.Parts.{IsGivenBack}
+use Rattle.trace_runs.specs.DealtParts.{IsGivenBack}
 use Rattle.trace_runs.specs.declared.parts.Part.{Part}
 use Rattle.trace_runs.proofs.Loops.{ran_already}
 use Rattle.trace_runs.proofs.threads.start.Goals as goal

@@ -1,5 +1,5 @@
 use Rattle.std.proofs.Common.{rules, ◌≡◌, ◌+◌, ◌<◌, length, ap, ◌∙◌, arith}
-use Rattle.trace_runs.specs.Parts.{CanRun}
+use Rattle.trace_runs.specs.DealtParts.{PartCanRun}
 use Rattle.trace_runs.proofs.Loops.{last_ready, next_split, same_split, longer}
 use Rattle.trace_runs.proofs.threads.start_all.Goals as goal
 
@@ -8,7 +8,7 @@ start-requires-after_bounds g c κs within =
     let r = c.requires.ready in
     let w = length c.args.parts.now.items in
     let ready = last_ready c.args.heap.now r.0 w c.loop-parts.parts.items c.pop.new.self.items c.in-Some.part c.in-Some.ensures.items (c.loop-parts.invariant.split r.0 r.1).here in
-    let can : CanRun c.args.heap.now c.in-Some.part = record { of = ready.has.of; start = ready.start } in
+    let can : PartCanRun c.args.heap.now c.in-Some.part = record { of = ready.has.of; start = ready.start } in
     can
 
 pub loop-parts-preserved : goal.loop-parts-preserved

@@ -1,7 +1,7 @@
 use Rattle.std.proofs.Common.{◌≡◌, ◌+◌, ◌≤◌, ◌<◌, length, vec_len}
 use Rattle.std.specs.Prelude.{vec_capacity}
 use Rattle.step_core.specs.Schedule.{Scripts}
-use Rattle.trace_runs.specs.Parts.{AreReady}
+use Rattle.trace_runs.specs.DealtParts.{AreReady}
 use Rattle.trace_runs.specs.Started.{AreSplit}
 use Rattle.trace_runs.proofs.threads.start_all.Given as goal
 

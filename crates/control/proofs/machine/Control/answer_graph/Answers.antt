@@ -4,7 +4,7 @@ use Rattle.heap_words.specs.Words.{image_start}
 use Rattle.image_graph.specs.declared.image.Image.{Image}
 use Rattle.image_graph.specs.Left.{StandsForSome, ShowsTheGraph}
 use Rattle.image_graph.specs.State.{config_of, words_of}
-use Rattle.image_graph.proofs.Parts.{stands_same, shows_same}
+use Rattle.image_graph.proofs.SameWords.{stands_same, shows_same}
 use Rattle.control.specs.Seen.{config_in}
 use Rattle.control.specs.Image.{image_in, image_from}
 use Rattle.control.proofs.machine.Control.answer_graph.Goals as goal

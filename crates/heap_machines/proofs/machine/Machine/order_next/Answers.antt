@@ -4,7 +4,7 @@ use Rattle.shen_graph.specs.declared.order.Order.{Order}
 use Rattle.shen_graph.specs.declared.order.Order.TheVariants.{Nothing}
 use Rattle.step_core.specs.Machines.{takes_of, may_begin}
 use Rattle.heap_machines.specs.Shown.{shown}
-use Rattle.step_core.proofs.Roles.{turn_in_call}
+use Rattle.step_core.proofs.Machines.Roles.{turn_in_call}
 use Rattle.heap_machines.proofs.machine.Machine.order_next.Goals as goal
 
 pub returns-then-not-may_begin-clause-turn : goal.returns-then-not-may_begin-clause-turn

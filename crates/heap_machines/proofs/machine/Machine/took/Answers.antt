@@ -12,7 +12,7 @@ use Rattle.heap_machines.specs.Pause.{pause_image}
 use Rattle.heap_machines.specs.Roles.{is_mutating}
 use Rattle.heap_machines.specs.Shown.{shown, order_of, heap_of}
 use Rattle.heap_machines.proofs.Fit.{fit_for_control}
-use Rattle.step_core.proofs.GoOn.{goes_on, helps_on}
+use Rattle.step_core.proofs.Helpers.GoOn.{goes_on, helps_on}
 use Rattle.heap_machines.proofs.machine.Machine.took.Goals as goal
 
 pub took-requires-in-Control-clause-fit : goal.took-requires-in-Control-clause-fit

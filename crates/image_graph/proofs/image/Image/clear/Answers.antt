@@ -1,8 +1,8 @@
 use Rattle.std.proofs.Common.{◌≡◌, ◌+◌, sym, ap, ◌∙◌, subst, arith}
 use Rattle.heap_words.specs.Words.{Heap, IsWord, write}
 use Rattle.image_graph.specs.State.{config_of, memory_of}
-use Rattle.image_graph.specs.Make.{cleared}
-use Rattle.image_graph.proofs.Steps.{stored, placed_inside, cleared_none, cleared_next}
+use Rattle.image_graph.specs.Make.{heap_cleared}
+use Rattle.image_graph.proofs.NamedStores.{stored, placed_inside, cleared_none, cleared_next}
 use Rattle.image_graph.proofs.image.Image.clear.Goals as goal
 
 pub set_word-requires : goal.set_word-requires
@@ -33,4 +33,4 @@ loop-index-preserved c =
 pub returns-clause-words : goal.returns-clause-words
 returns-clause-words c =
     let all : c.loop-index.index ≡ c.args.words = omega (arith, c.loop-index-test.false, c.loop-index.auto.index-end) in
-    c.loop-index.invariant.words ∙ ap (λ n. cleared c.args.address n (memory_of c.args.self.now)) all
+    c.loop-index.invariant.words ∙ ap (λ n. heap_cleared c.args.address n (memory_of c.args.self.now)) all

@@ -3,8 +3,8 @@ use Rattle.std.proofs.lemmas.Bool.{true≢false}
 use Rattle.heap_words.specs.declared.config.Config.{Config}
 use Rattle.heap_words.specs.Words.{Word, Top, Wait}
 use Rattle.heap_words.specs.Encoding.{object_words, request_shape_in}
-use Rattle.packing.specs.Rooms.{HasNoRoom}
-use Rattle.image_laws.specs.Full.{served, served_in, room_for}
+use Rattle.packing.specs.Rooms.{NoneHasRoom}
+use Rattle.full_words.specs.Full.{served, served_in, room_for}
 use Rattle.image_graph.specs.State.{config_of, memory_of}
 use Rattle.image_graph.proofs.Turns.{served_none, turned, left_at, left_from, IsTold, told_left, told_served}
 use Rattle.image_graph.proofs.image.Image.give_turns.Goals as goal
@@ -38,14 +38,14 @@ loop-mutator-preserved c =
     ∙ ap (λ (k : Config). served_in k before t (room_for k before t)) same
     ∙ ap (λ k. served_in g k t (room_for g k t)) so_far) in
     -- what a turn without room says, over the words by the definition
-    let no_room : (before (Wait t) ≢ 0) × HasNoRoom (config_of c.loop-mutator.self).region_words (λ r. before (Top r)) (object_words (request_shape_in (before (Wait t)))) (config_of c.loop-mutator.self).regions
-    → (served g m t (Wait t) ≢ 0) × HasNoRoom g.region_words (λ r. served g m t (Top r)) (object_words (request_shape_in (served g m t (Wait t)))) g.regions =
-    λ h. subst (λ (k : Word → ℕ). (k (Wait t) ≢ 0) × HasNoRoom g.region_words (λ r. k (Top r)) (object_words (request_shape_in (k (Wait t)))) g.regions) so_far
-    (subst (λ (k : Config). (before (Wait t) ≢ 0) × HasNoRoom k.region_words (λ r. before (Top r)) (object_words (request_shape_in (before (Wait t)))) k.regions) same h) in
-    let and_back : (served g m t (Wait t) ≢ 0) × HasNoRoom g.region_words (λ r. served g m t (Top r)) (object_words (request_shape_in (served g m t (Wait t)))) g.regions
-    → (before (Wait t) ≢ 0) × HasNoRoom (config_of c.loop-mutator.self).region_words (λ r. before (Top r)) (object_words (request_shape_in (before (Wait t)))) (config_of c.loop-mutator.self).regions =
-    λ h. subst (λ (k : Config). (before (Wait t) ≢ 0) × HasNoRoom k.region_words (λ r. before (Top r)) (object_words (request_shape_in (before (Wait t)))) k.regions) (sym same)
-    (subst (λ (k : Word → ℕ). (k (Wait t) ≢ 0) × HasNoRoom g.region_words (λ r. k (Top r)) (object_words (request_shape_in (k (Wait t)))) g.regions) (sym so_far) h) in
+    let no_room : (before (Wait t) ≢ 0) × NoneHasRoom (config_of c.loop-mutator.self).region_words (λ r. before (Top r)) (object_words (request_shape_in (before (Wait t)))) (config_of c.loop-mutator.self).regions
+    → (served g m t (Wait t) ≢ 0) × NoneHasRoom g.region_words (λ r. served g m t (Top r)) (object_words (request_shape_in (served g m t (Wait t)))) g.regions =
+    λ h. subst (λ (k : Word → ℕ). (k (Wait t) ≢ 0) × NoneHasRoom g.region_words (λ r. k (Top r)) (object_words (request_shape_in (k (Wait t)))) g.regions) so_far
+    (subst (λ (k : Config). (before (Wait t) ≢ 0) × NoneHasRoom k.region_words (λ r. before (Top r)) (object_words (request_shape_in (before (Wait t)))) k.regions) same h) in
+    let and_back : (served g m t (Wait t) ≢ 0) × NoneHasRoom g.region_words (λ r. served g m t (Top r)) (object_words (request_shape_in (served g m t (Wait t)))) g.regions
+    → (before (Wait t) ≢ 0) × NoneHasRoom (config_of c.loop-mutator.self).region_words (λ r. before (Top r)) (object_words (request_shape_in (before (Wait t)))) (config_of c.loop-mutator.self).regions =
+    λ h. subst (λ (k : Config). (before (Wait t) ≢ 0) × NoneHasRoom k.region_words (λ r. before (Top r)) (object_words (request_shape_in (before (Wait t)))) k.regions) (sym same)
+    (subst (λ (k : Word → ℕ). (k (Wait t) ≢ 0) × NoneHasRoom g.region_words (λ r. k (Top r)) (object_words (request_shape_in (k (Wait t)))) g.regions) (sym so_far) h) in
     record {
       config = c.serve_one.ensures.config ∙ same;
       words = after;

@@ -4,10 +4,10 @@ use Rattle.heap_words.specs.Words.{Word, Free, Top, Wait, Answer, Heap, IsWord, 
 use Rattle.heap_words.specs.Encoding.{object_words, request_shape_in, request_count_in, name_code}
 use Rattle.regions.specs.Place.{base_of}
 use Rattle.image_graph.specs.State.{config_of, memory_of}
-use Rattle.image_graph.specs.Make.{cleared, AreInHeap}
+use Rattle.image_graph.specs.Make.{heap_cleared, AreInHeap}
 use Rattle.image_graph.proofs.Room.{room_in_heap}
 use Rattle.image_graph.proofs.Read.{read, word_in, first_in, low_in, low_region, made_inside}
-use Rattle.image_graph.proofs.Steps.{stored, placed_inside, made_steps}
+use Rattle.image_graph.proofs.NamedStores.{stored, placed_inside, made_steps}
 use Rattle.image_graph.proofs.image.Image.make_object.Goals as goal
 
 pub returns-clause-words : goal.returns-clause-words
@@ -47,7 +47,7 @@ returns-clause-words c =
     let s5 = stored (config_of c.set_word-4.new.self) g _ _ Free c.free_at-2.result (bit_and c.word-free.result c.all_but.result) e4 tt c.free_at-2.ensures c.set_word-5.ensures.named in
     let s6 = stored (config_of c.set_word-5.new.self) g _ _ (Answer t) c.answer_at.result a e5 (subst (λ (k : Config). t < k.mutators) (sym same) c.requires.mutator) c.answer_at.ensures c.set_word-6.ensures.named in
     let s7 = stored (config_of c.set_word-6.new.self) g _ _ (Wait t) c.wait_at-2.result 0 e6 (subst (λ (k : Config). t < k.mutators) (sym same) c.requires.mutator) c.wait_at-2.ensures c.set_word-7.ensures.named in
-    let cleared_is : memory_of c.clear.new.self ≡ cleared a (object_words c.request_shape-shape.result) old = c.clear.ensures.words ∙ ap (λ n. cleared a n old) words in
+    let cleared_is : memory_of c.clear.new.self ≡ heap_cleared a (object_words c.request_shape-shape.result) old = c.clear.ensures.words ∙ ap (λ n. heap_cleared a n old) words in
     s7 ∙ ap (λ m. write m (Wait t) 0)
     (s6 ∙ ap (λ m. write m (Answer t) a)
     (s5 ∙ ap (λ m. write m Free (bit_and c.word-free.result c.all_but.result))

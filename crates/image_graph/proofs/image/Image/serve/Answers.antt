@@ -1,8 +1,8 @@
 use Rattle.std.proofs.Common.{ℕ, sym, subst, arith}
 use Rattle.heap_words.specs.Words.{Word}
-use Rattle.image_laws.specs.Image.{ImageStands}
-use Rattle.image_laws.specs.Serving.{served_block, served_promises}
-use Rattle.image_laws.proofs.Serving.{served_stands}
+use Rattle.full_words.specs.Image.{ImageStands}
+use Rattle.full_words.specs.Serving.{served_block, served_promises}
+use Rattle.full_words.proofs.Serving.{served_stands}
 use Rattle.image_graph.specs.State.{config_of, memory_of}
 use Rattle.image_graph.proofs.Turns.{holds_within}
 use Rattle.image_graph.proofs.image.Image.serve.Goals as goal

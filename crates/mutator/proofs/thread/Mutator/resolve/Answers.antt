@@ -1,6 +1,6 @@
 use Rattle.std.proofs.Common.{sym, ap, ◌∙◌}
 use Rattle.mutator.specs.WaitRows.{call_says}
-use Rattle.mutator.proofs.Parts.{says_again, part_ready, part_goes}
+use Rattle.mutator.proofs.CallKnows.{says_again, part_ready, part_goes}
 use Rattle.mutator.proofs.thread.Mutator.resolve.Goals as goal
 
 pub after-at-requires-clause-ready : goal.after-at-requires-clause-ready

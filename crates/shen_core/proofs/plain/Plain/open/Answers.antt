@@ -2,7 +2,7 @@ use Rattle.std.proofs.Common.{◌≡◌, ap, ◌∙◌, length, map}
 use Rattle.step_core.specs.Opening.{opening}
 use Rattle.shen_core.proofs.FromImage.{opened_shows, opened_orders}
 use Rattle.shen_graph.specs.declared.order.Order.TheVariants.{Nothing}
-use Rattle.step_core.proofs.OpeningStands.{length-opening}
+use Rattle.step_core.proofs.Theorem.OpeningStands.{length-opening}
 use Rattle.heap_machines.specs.Shown.{shown, order_of}
 use Rattle.std.proofs.lemmas.List.Elements.{All-map}
 use Rattle.shen_core.proofs.Memory.{shows_opening, shown_by_none, machines_count}

@@ -1,7 +1,7 @@
 use Rattle.std.proofs.Common.{length, not, sym, ap, ◌∙◌, subst}
-use Rattle.shared_steps.specs.Views.{is_dealt_to, dealt_to, left_over, kept_of}
-use Rattle.shared_steps.proofs.Dealing.{length-picked}
-use Rattle.shared_steps.proofs.Kept.{kept-picked}
+use Rattle.shared_table.specs.Views.{is_dealt_to, dealt_to, machines_left, kept_in_view}
+use Rattle.shared_table.proofs.Dealing.{length-picked}
+use Rattle.shared_table.proofs.Kept.{kept-picked}
 use Rattle.heap_machines.specs.Shown.{shown, order_of}
 use Rattle.table_heap.specs.Core.{machine_in}
 use Rattle.table_heap.specs.Known.{AreOfHeap}
@@ -14,7 +14,7 @@ invariant_of-self c =
     let same = ap (λ v. v.items) c.in_default.ensures.refused in
     record {
       seats = ap length same ∙ b.seats;
-      kept = b.kept ∙ ap (kept_of shown) (sym same);
+      kept = b.kept ∙ ap (kept_in_view shown) (sym same);
       slots = b.slots;
       of_heap = subst (AreOfHeap b.config) (sym same) b.of_heap;
     }
@@ -25,10 +25,10 @@ invariant_of-self-2 c =
     let left = c.in-Ok.ensures.left in
     record {
       seats = ap length left ∙ length-picked (λ number. not (is_dealt_to c.args.bundles c.args.bundle number)) b.machines.items ∙ b.seats;
-      kept = ap (λ me. kept_of machine_in me.0) c.deal_bundle-seat.ensures.kept.1
+      kept = ap (λ me. kept_in_view machine_in me.0) c.deal_bundle-seat.ensures.kept.1
           ∙ kept-picked machine_in (λ number. not (is_dealt_to c.args.bundles c.args.bundle number)) b.seat.me.0
-          ∙ ap (left_over (is_dealt_to c.args.bundles c.args.bundle)) b.kept
-          ∙ sym (ap (kept_of shown) left ∙ kept-picked shown (λ number. not (is_dealt_to c.args.bundles c.args.bundle number)) b.machines.items);
+          ∙ ap (machines_left (is_dealt_to c.args.bundles c.args.bundle)) b.kept
+          ∙ sym (ap (kept_in_view shown) left ∙ kept-picked shown (λ number. not (is_dealt_to c.args.bundles c.args.bundle number)) b.machines.items);
       slots = ap (λ me. me.1) c.deal_bundle-seat.ensures.kept.1 ∙ b.slots;
       of_heap = subst (AreOfHeap b.config) (sym left) (heap_picked b.config (λ number. not (is_dealt_to c.args.bundles c.args.bundle number)) b.machines.items b.of_heap);
     }
@@ -39,10 +39,10 @@ invariant_of-result c =
     let dealt = c.in-Ok.ensures.dealt in
     record {
       seats = ap length dealt ∙ length-picked (is_dealt_to c.args.bundles c.args.bundle) b.machines.items ∙ b.seats;
-      kept = ap (λ me. kept_of machine_in me.0) c.deal_bundle-seat.ensures.dealt.1
+      kept = ap (λ me. kept_in_view machine_in me.0) c.deal_bundle-seat.ensures.dealt.1
           ∙ kept-picked machine_in (is_dealt_to c.args.bundles c.args.bundle) b.seat.me.0
           ∙ ap (dealt_to c.args.bundles c.args.bundle) b.kept
-          ∙ sym (ap (kept_of shown) dealt ∙ kept-picked shown (is_dealt_to c.args.bundles c.args.bundle) b.machines.items);
+          ∙ sym (ap (kept_in_view shown) dealt ∙ kept-picked shown (is_dealt_to c.args.bundles c.args.bundle) b.machines.items);
       slots = ap (λ me. me.1) c.deal_bundle-seat.ensures.dealt.1;
       of_heap = subst (AreOfHeap b.config) (sym dealt) (heap_picked b.config (is_dealt_to c.args.bundles c.args.bundle) b.machines.items b.of_heap);
     }
@@ -51,11 +51,11 @@ pub returns-clause-dealt : goal.returns-clause-dealt
 returns-clause-dealt c = (
   record { table = c.deal_bundle-seat.ensures.dealt.0 ∙ c.requires.heap.table; config = c.requires.heap.config },
   ap (λ me. me.0) c.deal_bundle-seat.ensures.dealt.1,
-  ap (kept_of order_of) c.in-Ok.ensures.dealt ∙ kept-picked order_of (is_dealt_to c.args.bundles c.args.bundle) c.args.self.now.machines.items,
+  ap (kept_in_view order_of) c.in-Ok.ensures.dealt ∙ kept-picked order_of (is_dealt_to c.args.bundles c.args.bundle) c.args.self.now.machines.items,
 )
 
 pub returns-clause-left : goal.returns-clause-left
 returns-clause-left c = (
   ap (λ me. me.0) c.deal_bundle-seat.ensures.kept.1,
-  ap (kept_of order_of) c.in-Ok.ensures.left ∙ kept-picked order_of (λ number. not (is_dealt_to c.args.bundles c.args.bundle number)) c.args.self.now.machines.items,
+  ap (kept_in_view order_of) c.in-Ok.ensures.left ∙ kept-picked order_of (λ number. not (is_dealt_to c.args.bundles c.args.bundle number)) c.args.self.now.machines.items,
 )

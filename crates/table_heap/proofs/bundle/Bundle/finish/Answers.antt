@@ -1,15 +1,15 @@
 use Rattle.std.proofs.Common.{refl, Some, sym, ap, ◌∙◌, arith}
 use Rattle.std.specs.Prelude.{slice_set}
 use Rattle.std.proofs.lemmas.List.{length-set}
-use Rattle.shared_steps.specs.Views.{kept_of}
-use Rattle.shared_steps.proofs.Kept.{kept-set}
-use Rattle.shared_steps.proofs.Numbers.{same_none}
+use Rattle.shared_table.specs.Views.{kept_in_view}
+use Rattle.shared_table.proofs.Kept.{kept-set}
+use Rattle.shared_table.proofs.Numbers.{same_none}
 use Rattle.heap_machines.specs.Shown.{shown, order_of, no_machine}
 use Rattle.std.specs.Option.{option_copied_mut}
 use Rattle.shen_graph.specs.declared.order.Order.TheVariants.{End}
 use Rattle.heap_machines.specs.Roles.{is_mutating}
 use Rattle.step_core.specs.Machines.{takes_of, may_begin}
-use Rattle.table_heap.proofs.Places.{within, read_here, never_none, shows_as, put_same}
+use Rattle.table_heap.proofs.MachineUnder.{within, read_here, never_none, shows_as, put_same}
 use Rattle.table_heap.proofs.Stepping.{heap_put}
 use Rattle.table_heap.proofs.bundle.Bundle.finish.Goals as goal
 
@@ -45,7 +45,7 @@ invariant_of-self c =
 
 pub returns-clause-order : goal.returns-clause-order
 returns-clause-order c =
-    kept-set order_of c.args.self.now.machines.items c.args.number (Some c.finish.new.self) ∙ ap (λ o. slice_set (kept_of order_of c.args.self.now.machines.items) c.args.number (Some o)) c.finish.ensures.order
+    kept-set order_of c.args.self.now.machines.items c.args.number (Some c.finish.new.self) ∙ ap (λ o. slice_set (kept_in_view order_of c.args.self.now.machines.items) c.args.number (Some o)) c.finish.ensures.order
 
 pub returns-clause-takes : goal.returns-clause-takes
 returns-clause-takes c =

@@ -1,11 +1,11 @@
 use Rattle.std.proofs.Common.{◌≡◌, false, nat_lt, sym, ap, ◌∙◌, arith}
 use Rattle.std.specs.Option.{is_some}
 use Rattle.std.proofs.lemmas.Bool.Decides.{nat_tests}
-use Rattle.shared_steps.specs.Views.{machine_of}
-use Rattle.shared_steps.proofs.Kept.{kept_some}
+use Rattle.shared_table.specs.Views.{machine_of}
+use Rattle.shared_table.proofs.Kept.{kept_some}
 use Rattle.heap_machines.specs.Shown.{shown}
 use Rattle.table_heap.specs.Core.{machine_in}
-use Rattle.table_heap.proofs.Places.{some_read, some_past}
+use Rattle.table_heap.proofs.MachineUnder.{some_read, some_past}
 use Rattle.table_heap.proofs.bundle.Bundle.has.Goals as goal
 
 pub returns-then-number-len-clause-machine : goal.returns-then-number-len-clause-machine

@@ -2,9 +2,9 @@ use Rattle.std.proofs.Common.{◌<◌, Some, None, refl, sym, ap, ◌∙◌, sub
 use Rattle.std.specs.Prelude.{IfSome, slice_set, unwrap_or, if◌then◌else◌}
 use Rattle.std.specs.Option.{option_copied_mut}
 use Rattle.std.proofs.lemmas.List.{length-set}
-use Rattle.shared_steps.specs.Views.{machine_of, kept_of}
-use Rattle.shared_steps.proofs.Kept.{kept-set}
-use Rattle.shared_steps.proofs.Numbers.{same_none}
+use Rattle.shared_table.specs.Views.{machine_of, kept_in_view}
+use Rattle.shared_table.proofs.Kept.{kept-set}
+use Rattle.shared_table.proofs.Numbers.{same_none}
 use Rattle.shen_graph.specs.Valid.{IsValid}
 use Rattle.shen_graph.specs.declared.order.Order.TheVariants.{Nothing}
 use Rattle.heap_machines.specs.Shown.{no_machine, shown, order_of}
@@ -13,7 +13,7 @@ use Rattle.heap_machines.specs.Roles.{is_mutating}
 use Rattle.heap_machines.specs.Turn.{order_for}
 use Rattle.table_heap.specs.State.{machine_at}
 use Rattle.table_heap.specs.Running.{next_for}
-use Rattle.table_heap.proofs.Places.{within, read_here, never_none, shows_here, shows_as, put_same, put_there}
+use Rattle.table_heap.proofs.MachineUnder.{within, read_here, never_none, shows_here, shows_as, put_same, put_there}
 use Rattle.table_heap.proofs.Running.{command_fits}
 use Rattle.table_heap.proofs.Stepping.{heap_put}
 use Rattle.table_heap.proofs.bundle.Bundle.order_next.Goals as goal
@@ -82,7 +82,7 @@ returns-clause-has c =
     let there = put_there shown b.machines.items c.args.number m n here in
     let at = shows_as shown items c.args.number n no_machine there in
     let given = shows_as order_of items c.args.number n Nothing there in
-    ap (λ machine. takes_of machine (unwrap_or (machine_of (kept_of order_of items) c.args.number) Nothing)) at ∙ ap (takes_of (shown n)) given ∙ ap (λ machine. takes_of machine (order_of n)) c.order_next.ensures.shown ∙ c.order_next.ensures.takes
+    ap (λ machine. takes_of machine (unwrap_or (machine_of (kept_in_view order_of items) c.args.number) Nothing)) at ∙ ap (takes_of (shown n)) given ∙ ap (λ machine. takes_of machine (order_of n)) c.order_next.ensures.shown ∙ c.order_next.ensures.takes
 
 pub returns-clause-orders : goal.returns-clause-orders
 returns-clause-orders c =
@@ -92,7 +92,7 @@ returns-clause-orders c =
     let here = read_here shown b.machines.items c.args.number c.index_mut.result.now m inside c.index_mut.ensures.value (sym c.as_mut.ensures.value ∙ ap option_copied_mut c.in-Some.is) in
     let n = c.order_next.new.self in
     let given = shows_as order_of (slice_set b.machines.items c.args.number (Some n)) c.args.number n Nothing (put_there order_of b.machines.items c.args.number m n here) in
-    kept-set order_of b.machines.items c.args.number (Some n) ∙ ap (λ o. slice_set (kept_of order_of b.machines.items) c.args.number (Some o)) (sym given)
+    kept-set order_of b.machines.items c.args.number (Some n) ∙ ap (λ o. slice_set (kept_in_view order_of b.machines.items) c.args.number (Some o)) (sym given)
 
 pub returns-clause-unchanged : goal.returns-clause-unchanged
 returns-clause-unchanged c = λ none.

@@ -1,7 +1,7 @@
 use Rattle.std.proofs.Common.{◌≢◌, None, ap, ◌∙◌, subst, arith}
 use Rattle.heap_machines.specs.Shown.{shown, no_machine}
 use Rattle.step_core.specs.Machines.{reply_in}
-use Rattle.table_heap.proofs.Places.{within, read_here, never_none, shows_as}
+use Rattle.table_heap.proofs.MachineUnder.{within, read_here, never_none, shows_as}
 use Rattle.table_heap.proofs.bundle.Bundle.reply.Goals as goal
 
 pub index-requires : goal.index-requires

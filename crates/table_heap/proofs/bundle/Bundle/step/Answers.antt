@@ -6,16 +6,16 @@ use Rattle.std.proofs.lemmas.List.{length-set}
 use Rattle.heap_words.specs.Access.{table_index}
 use Rattle.heap_words.specs.Words.{table_words}
 use Rattle.shen_graph.specs.declared.order.Order.TheVariants.{Nothing}
-use Rattle.shared_steps.specs.Views.{kept_of}
-use Rattle.shared_steps.proofs.Kept.{kept-set}
-use Rattle.shared_steps.proofs.Numbers.{same_none}
+use Rattle.shared_table.specs.Views.{kept_in_view}
+use Rattle.shared_table.proofs.Kept.{kept-set}
+use Rattle.shared_table.proofs.Numbers.{same_none}
 use Rattle.heap_machines.specs.Answer.{stepped_of, stepped_by, says}
 use Rattle.heap_machines.specs.Shown.{shown, order_of, heap_of, no_machine}
 use Rattle.heap_machines.specs.Roles.{is_mutating}
 use Rattle.step_core.specs.Machines.{takes_of, place_in, reply_in}
 use Rattle.table_heap.specs.State as State
 use Rattle.table_heap.specs.State.{order_at}
-use Rattle.table_heap.proofs.Places.{within, read_here, never_none, shows_as, put_same, put_there}
+use Rattle.table_heap.proofs.MachineUnder.{within, read_here, never_none, shows_as, put_same, put_there}
 use Rattle.table_heap.proofs.Said.{never_idle, done_only}
 use Rattle.table_heap.proofs.Stepping.{can, can_as, took_as, fits, numbers_stay, kept_after, role_after, heap_put}
 use Rattle.table_heap.proofs.bundle.Bundle.step.Goals as goal
@@ -160,7 +160,7 @@ returns-clause-event c = λ _.
       got = c.make_step-got.result;
       took = took_as c.args.heap.now.table.shared.key b.config c.args.number c.order.result (order_at b c.args.number) b.seat.me c.make_step-got.result c.make_step-got.new.seat.me key (c.order.ensures ∙ sym given) c.make_step-got.ensures.took;
       said_is = c.of.ensures ∙ ap stepped_by (sym c.took.ensures.answer) ∙ ap (λ k. says k (shown m) c.make_step-got.result) heap ∙ ap (λ x. says b.config x c.make_step-got.result) (sym at);
-      orders = kept-set order_of b.machines.items c.args.number (Some n) ∙ ap (λ o. slice_set (kept_of order_of b.machines.items) c.args.number (Some o)) c.took.ensures.order;
+      orders = kept-set order_of b.machines.items c.args.number (Some n) ∙ ap (λ o. slice_set (kept_in_view order_of b.machines.items) c.args.number (Some o)) c.took.ensures.order;
     }
 
 pub returns-clause-same : goal.returns-clause-same

@@ -1,8 +1,8 @@
 use Rattle.std.proofs.Common.{◌≡◌, length, sym, ap, ◌∙◌, subst}
 use Rattle.std.specs.Slots.{slots_items, slots_counts}
 use Rattle.heap_words.specs.declared.config.Config.{Config}
-use Rattle.shared_steps.specs.Views.{View, machines_of, whole, kept_of, IsWhole}
-use Rattle.shared_steps.proofs.Kept.{length-kept}
+use Rattle.shared_table.specs.Views.{View, machines_of, whole, kept_in_view, HasAllMachines}
+use Rattle.shared_table.proofs.Kept.{length-kept}
 use Rattle.heap_machines.specs.Shown.{shown}
 use Rattle.step_core.specs.Actor.{Actor}
 use Rattle.step_core.specs.Settled.{image_of, control_number}
@@ -15,8 +15,8 @@ pub close_table-rows-requires-clause-all : goal.close_table-rows-requires-clause
 close_table-rows-requires-clause-all c =
     let b = c.args.bundle in
     let same : b.config ≡ c.args.self.table.shared.key = c.requires.heap.config ∙ sym c.args.self.key in
-    subst (λ (k : Config). IsWhole {R = Actor} (length (heap_opening k).machines) b.seat.me.0) same
-    (view_is_whole b.config b.seat.me.0 (kept_of shown b.machines.items) b.kept (length-kept shown b.machines.items ∙ b.seats) c.requires.all)
+    subst (λ (k : Config). HasAllMachines {R = Actor} (length (heap_opening k).machines) b.seat.me.0) same
+    (view_is_whole b.config b.seat.me.0 (kept_in_view shown b.machines.items) b.kept (length-kept shown b.machines.items ∙ b.seats) c.requires.all)
 
 pub invariant_of-result : goal.invariant_of-result
 invariant_of-result c =
@@ -25,7 +25,7 @@ invariant_of-result c =
     let view : View Actor = b.seat.me.0 in
     let last : View Actor = c.of-last.result.value.me.0 in
     let seen : view ≡ last = sym (ap (λ s. s.me.0) c.of-last.ensures) in
-    let all = view_is_whole b.config view (kept_of shown b.machines.items) b.kept (length-kept shown b.machines.items ∙ b.seats) c.requires.all in
+    let all = view_is_whole b.config view (kept_in_view shown b.machines.items) b.kept (length-kept shown b.machines.items ∙ b.seats) c.requires.all in
     record {
       all_words = ap length c.read_words.ensures ∙ sym (slots_counts c.close_table-rows.result.words).0 ∙ c.close_table-rows.ensures.words.1 ∙ h.all_words;
       all_marks = h.all_marks;
@@ -42,4 +42,4 @@ returns-clause-machines c =
     let b = c.args.bundle in
     let view : View Actor = b.seat.me.0 in
     let seen : view ≡ c.of-last.result.value.me.0 = sym (ap (λ s. s.me.0) c.of-last.ensures) in
-    (view_is_whole b.config view (kept_of shown b.machines.items) b.kept (length-kept shown b.machines.items ∙ b.seats) c.requires.all).all ∙ ap (λ (v : View Actor). whole (machines_of v)) seen
+    (view_is_whole b.config view (kept_in_view shown b.machines.items) b.kept (length-kept shown b.machines.items ∙ b.seats) c.requires.all).all ∙ ap (λ (v : View Actor). whole (machines_of v)) seen

@@ -1,7 +1,7 @@
 use Rattle.std.proofs.Common.{◌+◌, not, [], ◌∷◌, length, sym, ap, ◌∙◌, arith}
 use Rattle.std.specs.Prelude.{slice_get}
 use Rattle.std.proofs.lemmas.List.{length-append}
-use Rattle.shared_steps.specs.Views.{View, machine_of, whole, left_over, is_dealt_to, dealt_to}
+use Rattle.shared_table.specs.Views.{View, machine_of, whole, machines_left, is_dealt_to, dealt_to}
 use Rattle.step_core.specs.Actor.{Actor}
 use Rattle.table_heap.specs.Core.{heap_opening}
 use Rattle.table_heap.specs.State.{IsFresh, orders_of}
@@ -29,7 +29,7 @@ loop-bundle-preserved c =
     let all : View Actor = whole (heap_opening c.args.config).machines in
     record {
       of = dealt.heap;
-      view = dealt.left.0 ∙ ap (left_over (is_dealt_to c.args.workers l.bundle)) l.invariant.view ∙ left_next c.args.workers all l.bundle;
+      view = dealt.left.0 ∙ ap (machines_left (is_dealt_to c.args.workers l.bundle)) l.invariant.view ∙ left_next c.args.workers all l.bundle;
       orders = λ number order there.
           l.invariant.orders number order (picked_some (λ k. not (is_dealt_to c.args.workers l.bundle k)) (orders_of l.all) number order (ap (λ v. machine_of v number) (sym dealt.left.1) ∙ there));
       count = ap length c.in-Ok-push.ensures.items ∙ length-append l.bundles.items (c.in_ok-dealt.dealt ∷ []) ∙ ap (λ n. n + 1) l.invariant.count;

@@ -1,6 +1,6 @@
 use Rattle.std.proofs.Common.{length, refl, sym, ap, ◌∙◌, subst}
-use Rattle.shared_steps.specs.Views.{machine_of, kept_of}
-use Rattle.step_core.proofs.OpeningStands.{length-opening}
+use Rattle.shared_table.specs.Views.{machine_of, kept_in_view}
+use Rattle.step_core.proofs.Theorem.OpeningStands.{length-opening}
 use Rattle.heap_machines.specs.Shown.{shown, order_of}
 use Rattle.table_heap.specs.Core.{machine_in}
 use Rattle.table_heap.specs.Known.{AreOfHeap}
@@ -23,7 +23,7 @@ invariant_of-bundle c =
     let places = c.in_ok-machines.ensures in
     record {
       seats = ap length places ∙ opened_count c.args.config machines c.in_ok-open_machines.ensures.machines;
-      kept = ap (λ me. kept_of machine_in me.0) c.in-Ok-open_table.ensures.4 ∙ opened_kept c.args.config machines c.in_ok-open_machines.ensures.machines ∙ ap (kept_of shown) (sym places);
+      kept = ap (λ me. kept_in_view machine_in me.0) c.in-Ok-open_table.ensures.4 ∙ opened_kept c.args.config machines c.in_ok-open_machines.ensures.machines ∙ ap (kept_in_view shown) (sym places);
       slots = ap (λ me. me.1) c.in-Ok-open_table.ensures.4;
       of_heap = subst (AreOfHeap c.args.config) (sym places) (opened_of_heap c.args.config machines c.in_ok-open_machines.ensures.machines c.in_ok-open_machines.ensures.heap);
     }
@@ -34,5 +34,5 @@ returns-clause-bundle c =
     record {
       of = record { table = c.in-Ok-open_table.ensures.3; config = refl };
       machines = ap (λ me. me.0) c.in-Ok-open_table.ensures.4;
-      orders = λ number order there. opened_orders machines c.in_ok-open_machines.ensures.orders number order (ap (λ v. machine_of (kept_of order_of v) number) (sym c.in_ok-machines.ensures) ∙ there);
+      orders = λ number order there. opened_orders machines c.in_ok-open_machines.ensures.orders number order (ap (λ v. machine_of (kept_in_view order_of v) number) (sym c.in_ok-machines.ensures) ∙ there);
     }

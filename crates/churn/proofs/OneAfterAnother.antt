@@ -1,0 +1,245 @@
+-- Each history of the workload tells the same as the one in which the threads run one after the other.
+use Rattle.std.proofs.Common.{ℕ, zero, suc, ◌≡◌, Bool, true, false, eqb, List, [], ◌∷◌, ◌++◌, Some, None, refl, ap, ◌∙◌, sym, subst, inl, inr, arith}
+use Rattle.std.specs.Prelude.{◌≢◌, ◌==◌, if◌then◌else◌, slice_get}
+use Rattle.std.specs.List.{AllByRecursion}
+use Rattle.std.proofs.lemmas.Bool.Decides.{eqb_tells}
+use Rattle.std.proofs.lemmas.List.{append-nil, ext_get_or}
+use Rattle.std.proofs.lemmas.List.Elements.{filter-append, All-nil, All-cons}
+use Rattle.shen_graph.specs.declared.name.Name.{Name}
+use Rattle.shen_graph.specs.Graph.{Graph, Reference, named, hub, opening, same_name}
+use Rattle.shen_graph.specs.Step.{Outcome, IsLegal, outcome}
+use Rattle.shen_graph.specs.History.{Entry, after_entry, after, EachIsLegal, of_thread, commands_of, IsWithoutFull}
+use Rattle.shen_graph.proofs.PlainLemmas.{fun_ext, same_name-true}
+use Rattle.churn.specs.Laws.{IsWorkloadRun, in_turn, NoneIsFull, RunsAreInTurn, OneInTurn}
+use Rattle.churn.proofs.Belongings.{IsThread, fields_of, field_of, IsLink, Same, Tidy, Same-itself, Same-join}
+use Rattle.churn.proofs.Moves.{eqb_itself, eqb_apart}
+use Rattle.churn.proofs.BelowTheHub.{IsGiven, Going, solo, thread_or_not}
+use Rattle.churn.proofs.Opening.{tidy_opening, going_opening, thread_cases}
+use Rattle.churn.proofs.Refusals.{none_from, after-append, legal-append}
+
+-- graphs that are the same to each thread are one
+
+out_link : (f : ℕ) (r : Reference) → IsLink f r → (IsThread f → ⊥) → r ≡ None
+out_link f None link out = refl
+out_link f (Some m) link out = absurd (out link.2)
+
+same_hub : (g h : Graph) → Tidy g → Tidy h → ((t : ℕ) → IsThread t → Same t g h) → named g (Some hub) ≡ named h (Some hub)
+same_hub g h tidy other same =
+    let refs : fields_of g hub ≡ fields_of h hub = ext_get_or None (fields_of g hub) (fields_of h hub) (tidy.hub_size ∙ sym other.hub_size) (λ f _. field f) in
+    let nums : (named g (Some hub)).nums ≡ (named h (Some hub)).nums = tidy.hub_nums ∙ sym other.hub_nums in
+    λ i. record { refs = refs i; nums = nums i }
+  where
+    field : (f : ℕ) → field_of g hub f ≡ field_of h hub f
+    field f = elim (thread_or_not f) [
+      | inl is ↦ (same f is).link
+      | inr out ↦ out_link f (field_of g hub f) (tidy.links f) out ∙ sym (out_link f (field_of h hub f) (other.links f) out)
+    ]
+
+pub same_graph : (g h : Graph) → Tidy g → Tidy h → ((t : ℕ) → IsThread t → Same t g h) → g ≡ h
+same_graph g h tidy other same =
+    let object = fun_ext g.object h.object object_at in
+    let root = fun_ext g.root h.root (λ t. fun_ext (g.root t) (h.root t) (root_at t)) in
+    let count = fun_ext g.count h.count count_at in
+    λ i. record { object = object i; root = root i; count = count i }
+  where
+    object_at : (m : Name) → g.object m ≡ h.object m
+    object_at m = elim (thread_or_not m.thread) [
+      | inl is ↦ (same m.thread is).object m.count
+      | inr out ↦ by_name m out (same_name m hub) refl
+    ] where
+      by_name : (m : Name) → (IsThread m.thread → ⊥) → (b : Bool) → same_name m hub ≡ b → g.object m ≡ h.object m
+      by_name m out true is =
+          let e : g.object hub ≡ h.object hub = tidy.hub_is ∙ ap Some (same_hub g h tidy other same) ∙ sym other.hub_is in
+          subst (λ (n : Name). g.object n ≡ h.object n) (sym (same_name-true m hub is)) e
+      by_name m out false is = tidy.no_object m out is ∙ sym (other.no_object m out is)
+
+    root_at : (t r : ℕ) → g.root t r ≡ h.root t r
+    root_at t r = elim (thread_or_not t) [ inl is ↦ (same t is).root r | inr out ↦ tidy.no_root t r out ∙ sym (other.no_root t r out) ]
+
+    count_at : (t : ℕ) → g.count t ≡ h.count t
+    count_at t = elim (thread_or_not t) [ inl is ↦ (same t is).count | inr out ↦ tidy.no_count t out ∙ sym (other.no_count t out) ]
+
+-- a fact of each entry
+
+all_given : (es : List Entry) → AllByRecursion IsGiven es → IsWithoutFull es
+all_given [] h = All-nil IsGiven
+all_given (e ∷ es) h = All-cons IsGiven e es h.0 (all_given es h.1)
+
+pub given_append : (xs ys : List Entry) → AllByRecursion IsGiven xs → AllByRecursion IsGiven ys → AllByRecursion IsGiven (xs ++ ys)
+given_append [] ys h k = k
+given_append (x ∷ xs) ys h k = (h.0, given_append xs ys h.1 k)
+
+pub given_of : (t : ℕ) (es : List Entry) → AllByRecursion IsGiven es → AllByRecursion IsGiven (of_thread es t)
+given_of t [] h = tt
+given_of t (e ∷ es) h =
+    elim (e.thread == t) as (λ b. AllByRecursion IsGiven (if b then e ∷ of_thread es t else of_thread es t))
+    [ true ↦ (h.0, given_of t es h.1) | false ↦ given_of t es h.1 ]
+
+pub run_given : (seed count : ℕ) (es : List Entry) → IsWorkloadRun seed count es → AllByRecursion IsGiven es
+run_given seed count es run =
+    none_from seed count es [] run.legal.crowded tidy_opening (going_opening seed count es run.follows) run.legal.each
+
+pub none_is_full : NoneIsFull
+none_is_full seed count es run = all_given es (run_given seed count es run)
+
+pub given_at : (es : List Entry) (k : ℕ) (e : Entry) → AllByRecursion IsGiven es → slice_get es k ≡ Some e → IsGiven e
+given_at [] k e h is = cc
+given_at (x ∷ es) zero e h is = let same : x ≡ e = cc in subst IsGiven same h.0
+given_at (x ∷ es) (suc k) e h is = given_at es k e h.1 is
+
+-- the entries of one thread, and then of another
+
+abbrev pub AreOf : ℕ → List Entry → Type 0
+AreOf t es = AllByRecursion (λ e. e.thread ≡ t) es
+
+pub of_thread-are : (t : ℕ) (es : List Entry) → AreOf t (of_thread es t)
+of_thread-are t [] = tt
+of_thread-are t (e ∷ es) =
+    elim (eqb_tells e.thread t) as (λ _. AreOf t (of_thread (e ∷ es) t)) [
+      | inl w ↦ rw w.0 (w.1, of_thread-are t es)
+      | inr w ↦ rw w.0 (of_thread-are t es)
+    ]
+
+pub all_of : (t : ℕ) (es : List Entry) → AreOf t es → of_thread es t ≡ es
+all_of t [] h = refl
+all_of t (e ∷ es) h =
+    let here : eqb e.thread t ≡ true = ap (λ u. eqb u t) h.0 ∙ eqb_itself t in
+    rw here (ap (λ l. e ∷ l) (all_of t es h.1))
+
+pub none_of : (t u : ℕ) (es : List Entry) → u ≢ t → AreOf t es → of_thread es u ≡ []
+none_of t u [] apart h = refl
+none_of t u (e ∷ es) apart h =
+    let there : eqb e.thread u ≡ false = ap (λ v. eqb v u) h.0 ∙ eqb_apart t u (λ is. apart (sym is)) in
+    rw there (none_of t u es apart h.1)
+
+-- what stands in one of the three parts
+parts : (es : List Entry) (t : ℕ) → of_thread (in_turn es) t ≡ of_thread (of_thread es 1) t ++ (of_thread (of_thread es 2) t ++ of_thread (of_thread es 3) t)
+parts es t =
+    filter-append (λ (e : Entry). e.thread == t) (of_thread es 1) (of_thread es 2 ++ of_thread es 3)
+    ∙ ap (λ l. of_thread (of_thread es 1) t ++ l) (filter-append (λ (e : Entry). e.thread == t) (of_thread es 2) (of_thread es 3))
+
+own_part : (es : List Entry) (t : ℕ) → of_thread (of_thread es t) t ≡ of_thread es t
+own_part es t = all_of t (of_thread es t) (of_thread-are t es)
+
+other_part : (es : List Entry) (t u : ℕ) → u ≢ t → of_thread (of_thread es t) u ≡ []
+other_part es t u apart = none_of t u (of_thread es t) apart (of_thread-are t es)
+
+pub in_turn-thread : (g : Graph) (es : List Entry) → Going g es → (t : ℕ) → of_thread (in_turn es) t ≡ of_thread es t
+in_turn-thread g es going t =
+    parts es t ∙ elim (thread_or_not t) as (λ _. of_thread (of_thread es 1) t ++ (of_thread (of_thread es 2) t ++ of_thread (of_thread es 3) t) ≡ of_thread es t) [
+      | inl is ↦ elim (thread_cases t is) as (λ _. of_thread (of_thread es 1) t ++ (of_thread (of_thread es 2) t ++ of_thread (of_thread es 3) t) ≡ of_thread es t) [
+        | inl one ↦ rw (one, own_part es 1, other_part es 2 1 (λ e. omega arith), other_part es 3 1 (λ e. omega arith)) (append-nil (of_thread es 1))
+        | inr more ↦ elim more as (λ _. of_thread (of_thread es 1) t ++ (of_thread (of_thread es 2) t ++ of_thread (of_thread es 3) t) ≡ of_thread es t) [
+          | inl two ↦ rw (two, other_part es 1 2 (λ e. omega arith), own_part es 2, other_part es 3 2 (λ e. omega arith)) (append-nil (of_thread es 2))
+          | inr three ↦ rw (three, other_part es 1 3 (λ e. omega arith), other_part es 2 3 (λ e. omega arith), own_part es 3) refl
+        ]
+      ]
+      | inr out ↦
+          rw (other_part es 1 t (λ e. out (omega arith, omega arith)), other_part es 2 t (λ e. out (omega arith, omega arith)), other_part es 3 t (λ e. out (omega arith, omega arith)))
+          (sym (going.others t out))
+    ]
+
+-- The three parts, one after the other.
+pub record InTurn (es : List Entry) : Type 0 where
+  pub legal : EachIsLegal (opening 3) (in_turn es)
+  pub graph : after (opening 3) es ≡ after (opening 3) (in_turn es)
+
+pub turns : (es : List Entry) → Going (opening 3) es → EachIsLegal (opening 3) es → AllByRecursion IsGiven es → InTurn es
+turns es going legal given =
+    let g = opening 3 in
+    let is_one : IsThread 1 = (omega arith, omega arith) in
+    let is_two : IsThread 2 = (omega arith, omega arith) in
+    let is_three : IsThread 3 = (omega arith, omega arith) in
+    let first = solo 1 is_one es g g tidy_opening tidy_opening (Same-itself 1 g) going legal given in
+    let g1 = after g (of_thread es 1) in
+    let second = solo 2 is_two es g g1 tidy_opening first.other (first.frame 2 is_two (λ e. omega arith)) going legal given in
+    let g2 = after g1 (of_thread es 2) in
+    let third = solo 3 is_three es g g2 tidy_opening second.other (Same-join (first.frame 3 is_three (λ e. omega arith)) (second.frame 3 is_three (λ e. omega arith))) going legal given in
+    let g3 = after g2 (of_thread es 3) in
+    let one : Same 1 (after g es) g3 = Same-join first.same (Same-join (second.frame 1 is_one (λ e. omega arith)) (third.frame 1 is_one (λ e. omega arith))) in
+    let two : Same 2 (after g es) g3 = Same-join second.same (third.frame 2 is_two (λ e. omega arith)) in
+    let three : Same 3 (after g es) g3 = third.same in
+    let whole : after g (in_turn es) ≡ g3 = after-append g (of_thread es 1) (of_thread es 2 ++ of_thread es 3) ∙ after-append g1 (of_thread es 2) (of_thread es 3) in
+    record {
+      legal = legal-append g (of_thread es 1) (of_thread es 2 ++ of_thread es 3) first.legal (legal-append g1 (of_thread es 2) (of_thread es 3) second.legal third.legal);
+      graph = same_graph (after g es) g3 first.tidy third.other (each es g3 one two three) ∙ sym whole;
+    }
+  where
+    each : (es : List Entry) (k : Graph) → Same 1 (after (opening 3) es) k → Same 2 (after (opening 3) es) k → Same 3 (after (opening 3) es) k → (t : ℕ) → IsThread t → Same t (after (opening 3) es) k
+    each es k one two three t is =
+        elim (thread_cases t is) [
+          | inl at ↦ subst (λ (u : ℕ). Same u (after (opening 3) es) k) (sym at) one
+          | inr more ↦ elim more [
+            | inl at ↦ subst (λ (u : ℕ). Same u (after (opening 3) es) k) (sym at) two
+            | inr at ↦ subst (λ (u : ℕ). Same u (after (opening 3) es) k) (sym at) three
+          ]
+        ]
+
+pub runs_are_in_turn : RunsAreInTurn
+runs_are_in_turn seed count es run =
+    let going = going_opening seed count es run.follows in
+    let given = run_given seed count es run in
+    let t = turns es going run.legal.each given in
+    let thread = in_turn-thread (opening 3) es going in
+    let given_too : AllByRecursion IsGiven (in_turn es) =
+    given_append (of_thread es 1) (of_thread es 2 ++ of_thread es 3) (given_of 1 es given) (given_append (of_thread es 2) (of_thread es 3) (given_of 2 es given) (given_of 3 es given)) in (
+      record {
+        run = record {
+          follows = λ u. ap commands_of (thread u) ∙ run.follows u;
+          legal = record { each = t.legal; crowded = λ k e at full. absurd (given_at (in_turn es) k e given_too at full) };
+        };
+        turns = sym (ap (λ l. l ++ (of_thread (in_turn es) 2 ++ of_thread (in_turn es) 3)) (thread 1)
+            ∙ ap (λ l. of_thread es 1 ++ (l ++ of_thread (in_turn es) 3)) (thread 2) ∙ ap (λ l. of_thread es 1 ++ (of_thread es 2 ++ l)) (thread 3));
+        no_full = all_given (in_turn es) given_too;
+      },
+      record { threads = λ u. sym (thread u); graph = t.graph },
+    )
+
+-- There is one history for the commands of all threads in one order.
+
+abbrev pub AskTheSame : List Entry → List Entry → Type 0
+AskTheSame [] [] = Unit {0}
+AskTheSame [] (y ∷ ys) = ⊥
+AskTheSame (x ∷ xs) [] = ⊥
+AskTheSame (x ∷ xs) (y ∷ ys) = (x.thread ≡ y.thread) × (x.command ≡ y.command) × AskTheSame xs ys
+
+ask_append : (xs ys vs ws : List Entry) → AskTheSame xs ys → AskTheSame vs ws → AskTheSame (xs ++ vs) (ys ++ ws)
+ask_append [] [] vs ws h k = k
+ask_append [] (y ∷ ys) vs ws h k = absurd h
+ask_append (x ∷ xs) [] vs ws h k = absurd h
+ask_append (x ∷ xs) (y ∷ ys) vs ws h k = (h.0, h.1, ask_append xs ys vs ws h.2 k)
+
+ask_one : (t : ℕ) (xs ys : List Entry) → AreOf t xs → AreOf t ys → commands_of xs ≡ commands_of ys → AskTheSame xs ys
+ask_one t [] [] h k same = tt
+ask_one t [] (y ∷ ys) h k same = cc
+ask_one t (x ∷ xs) [] h k same = cc
+ask_one t (x ∷ xs) (y ∷ ys) h k same =
+    let head : x.command ≡ y.command = cc in
+    let rest : commands_of xs ≡ commands_of ys = cc in
+    (h.0 ∙ sym k.0, head, ask_one t xs ys h.1 k.1 rest)
+
+pub replied : (g h : Graph) (e : Entry) → IsLegal g e.thread e.command e.reply h → IsGiven e → e.reply ≡ (outcome g e.thread e.command).reply
+replied g h e legal given = elim legal [ inl done ↦ ap (λ (o : Outcome). o.reply) done | inr full ↦ absurd (given full.1) ]
+
+one_answer : (g : Graph) (xs ys : List Entry) → AskTheSame xs ys → EachIsLegal g xs → EachIsLegal g ys → AllByRecursion IsGiven xs → AllByRecursion IsGiven ys → xs ≡ ys
+one_answer g [] [] ask a b c d = refl
+one_answer g [] (y ∷ ys) ask a b c d = absurd ask
+one_answer g (x ∷ xs) [] ask a b c d = absurd ask
+one_answer g (x ∷ xs) (y ∷ ys) ask a b c d =
+    let outcomes : (outcome g x.thread x.command).reply ≡ (outcome g y.thread y.command).reply =
+    ap (λ t. (outcome g t x.command).reply) ask.0 ∙ ap (λ k. (outcome g y.thread k).reply) ask.1 in
+    let reply : x.reply ≡ y.reply = replied g (after_entry g x) x a.0 c.0 ∙ outcomes ∙ sym (replied g (after_entry g y) y b.0 d.0) in
+    let same : x ≡ y = λ i. record { thread = ask.0 i; command = ask.1 i; reply = reply i } in
+    let legal : EachIsLegal (after_entry g x) ys = subst (λ (e : Entry). EachIsLegal (after_entry g e) ys) (sym same) b.1 in
+    let rest = one_answer (after_entry g x) xs ys ask.2 a.1 legal c.1 d.1 in
+    ap (λ e. e ∷ xs) same ∙ ap (λ l. y ∷ l) rest
+
+pub one_in_turn : OneInTurn
+one_in_turn seed count a b first second =
+    let ask : (t : ℕ) → AskTheSame (of_thread a t) (of_thread b t) =
+    λ t. ask_one t (of_thread a t) (of_thread b t) (of_thread-are t a) (of_thread-are t b) (first.run.follows t ∙ sym (second.run.follows t)) in
+    let all : AskTheSame (in_turn a) (in_turn b) =
+    ask_append (of_thread a 1) (of_thread b 1) (of_thread a 2 ++ of_thread a 3) (of_thread b 2 ++ of_thread b 3) (ask 1)
+    (ask_append (of_thread a 2) (of_thread b 2) (of_thread a 3) (of_thread b 3) (ask 2) (ask 3)) in
+    let whole : AskTheSame a b = subst (λ (l : List Entry). AskTheSame l b) (sym first.turns) (subst (λ (l : List Entry). AskTheSame (in_turn a) l) (sym second.turns) all) in
+    one_answer (opening 3) a b whole first.run.legal.each second.run.legal.each (run_given seed count a first.run) (run_given seed count b second.run)

@@ -1,0 +1,65 @@
+-- A cycle that is ended in its pause is what a pause owes.
+use Rattle.std.proofs.Common.{◌≡◌, ℕ, ◌+◌, ◌*◌, true, false, zero, suc, ⊎_elim, sym, ◌∙◌, subst}
+use Rattle.std.proofs.Math.Bridge.{le_prop}
+use Rattle.std.proofs.Math.Nat.{ℕ_set}
+use Rattle.std.proofs.Math.Path.{fun_ext}
+use Rattle.std.proofs.lemmas.Bool.{cases_Bool, cond-true, cond-false, and_parts}
+use Rattle.heap_words.specs.declared.config.Config.{Config}
+use Rattle.heap_words.specs.Words.{Word}
+use Rattle.shen_graph.specs.Graph.{Graph}
+use Rattle.heap_world.specs.Asking.{Asking}
+use Rattle.heap_world.specs.Represents.{Represents}
+use Rattle.heap_world.specs.Change.{IsPaused}
+use Rattle.full_words.specs.Full.{served, full}
+use Rattle.cycle_words.specs.Evacuation.Copied.{CanCopyOut, copied_out}
+use Rattle.cycle_words.specs.Finishing.Updated.{CanUpdateAll}
+use Rattle.cycle_words.specs.Finishing.Copies.{CanCopyFrom, all_copied, is_room_for_all}
+use Rattle.cycle_words.specs.Finishing.Finish.{cycle_finished, finished, nobody_waits, is_whole}
+use Rattle.cycle_pauses.proofs.Finishing.Finished.{whole_is_pause, short_is_pause, set_is_free}
+use Rattle.cycle_pauses.proofs.Finishing.CanFinish.{representing_can_finish}
+use Rattle.cycle_pauses.specs.Ended.{CanEnd}
+use Rattle.cycle_pauses.specs.Laws.{EndedIsPaused, SetIsFreedFirst}
+
+-- What a pause owes says nothing of the words before it but that they stand for the graph.
+pub paused_from : (c : Config) (before other after : Word → ℕ) (g : Graph) (asking : ℕ → Asking) → IsPaused c before after g asking → IsPaused c other after g asking
+paused_from c before other after g asking p = record { asked_then = p.asked_then; stands = p.stands; answers = p.answers; crowded = p.crowded }
+
+pub ended_is_paused : EndedIsPaused
+ended_is_paused c m g asking r = ⊎_elim
+    (λ (whole : is_whole c m ≡ true).
+    subst (λ w. IsPaused c m w g asking) (sym (fun_ext (λ word. cond-true (is_whole c m) (finished c m word) (full c (finished c m) word) whole)))
+    (whole_is_pause c m g asking r whole).paused)
+    (λ (short : is_whole c m ≡ false).
+    subst (λ w. IsPaused c m w g asking) (sym (fun_ext (λ word. cond-false (is_whole c m) (finished c m word) (full c (finished c m) word) short)))
+    (short_is_pause c m g asking r short).paused)
+    (cases_Bool (is_whole c m))
+
+-- where finishing it is enough, the collection set is freed first
+pub set_is_freed_first : SetIsFreedFirst
+set_is_freed_first c m g asking r whole =
+    let room = (and_parts (is_room_for_all c m) (nobody_waits c (finished c m)) whole).0 in
+    record {
+      freed = set_is_free c m g asking r room;
+      served_then = fun_ext (λ word.
+          cond-true (is_whole c m) (finished c m word) (full c (finished c m) word) whole
+          ∙ cond-true (is_room_for_all c m) (served c (cycle_finished c m) c.mutators word) (all_copied c m word) room);
+    }
+
+-- words that represent a graph are such that a cycle can be ended
+pub can_end : (c : Config) (m : Word → ℕ) (g : Graph) (asking : ℕ → Asking) → Represents c m g asking → CanEnd c m
+can_end c m g asking r = record { finishes = representing_can_finish c m g asking r; holds = λ short. (short_is_pause c m g asking r short).holds }
+
+-- That a cycle can be ended is one fact.
+can_copy_out_prop : (c : Config) (m : Word → ℕ) (a : ℕ) → IsProp (CanCopyOut c m a)
+can_copy_out_prop c m a = hlevel (le_prop, ℕ_set)
+
+can_copy_from_prop : (c : Config) (n : ℕ) (m : Word → ℕ) (a : ℕ) → IsProp (CanCopyFrom c m a n)
+unfolding CanCopyFrom
+can_copy_from_prop c zero m a = hlevel
+can_copy_from_prop c (suc n) m a = hlevel (can_copy_out_prop c m a, can_copy_from_prop c n (copied_out c m a) (a + 1), can_copy_from_prop c n m (a + 1))
+
+can_update_prop : (c : Config) (m : Word → ℕ) → IsProp (CanUpdateAll c m)
+can_update_prop c m = hlevel (le_prop, ℕ_set)
+
+pub can_end_prop : (c : Config) (m : Word → ℕ) → IsProp (CanEnd c m)
+can_end_prop c m = hlevel (can_copy_from_prop c (c.regions * c.region_words) m c.region_words, can_update_prop c (all_copied c m))

@@ -1,0 +1,10 @@
+pub mod Replaced
+pub mod Copied
+pub mod Between
+pub mod CopiedOut
+pub mod Asked
+pub mod NamingPlaces
+pub mod ClearingInTurn
+pub mod Started
+pub mod Outside
+pub mod Begun

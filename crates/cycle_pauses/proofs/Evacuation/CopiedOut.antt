@@ -1,0 +1,551 @@
+-- An object is copied out of the collection set: what holds between two turns holds again, with the object at its new place and an
+-- old copy where it was.
+use Rattle.std.proofs.Common.{◌≡◌, ◌≢◌, ℕ, ◌+◌, ◌<◌, ◌≤◌, ◌⊎◌, Option, Some, inl, inr, ⊎_elim, refl, sym, ap, ◌∙◌, subst, arith}
+use Rattle.std.specs.Prelude.{bit_and}
+use Rattle.std.specs.Int.{bit_at}
+use Rattle.std.proofs.Math.Path.{fun_ext}
+use Rattle.std.proofs.lemmas.Bool.{cases_eq}
+use Rattle.std.proofs.lemmas.Nat.{and_le_l}
+use Rattle.heap_words.specs.declared.config.Config.{Config}
+use Rattle.heap_words.specs.Words.{Word, Cset, Free, Top, Tams, Current, Black, Heap}
+use Rattle.heap_words.specs.Encoding.{plain_header, header_word, shape_word, object_words}
+use Rattle.regions.specs.Place.{base_of, region_with}
+use Rattle.regions.specs.Sets.{IsIn, all_but}
+use Rattle.regions.proofs.PlaceLemmas.{regions_tile}
+use Rattle.shen_graph.specs.declared.name.Name.{Name}
+use Rattle.shen_graph.specs.Graph.{Graph}
+use Rattle.regions.specs.Marks.{HasMark}
+use Rattle.heap_world.specs.World.{Block, thing, moved, spent, hand, promised, filler, words_of, Plot, name_at, IsCollected, IsPlotted, IsFilled, IsThing, IsParsable, AreObjects, IsFreeWord, AreCurrent, IsBlank, AreUnwritten, IsMoved, IsSpent, IsMarkable, IsYoung, HasCopy, body_at}
+use Rattle.heap_world.proofs.Updates.{updated, updated_same, updated_there, updated_else}
+use Rattle.heap_world.proofs.Pointing.{named_piece}
+use Rattle.heap_world.proofs.Pieces.{some_words, beside, piece_cases, object_reads}
+use Rattle.heap_world.proofs.Apart.{far}
+use Rattle.heap_world.proofs.Joined as joined
+use Rattle.heap_world.proofs.Joined.{CanJoin}
+use Rattle.cycle_words.specs.Evacuation.Live.{words_at}
+use Rattle.cycle_words.specs.Evacuation.Copied.{MayChange, top_address, copied_to, copied_out, IsCopiedOut}
+use Rattle.cycle_words.proofs.Evacuation.CopiedOut.{copied_as}
+use Rattle.cycle_pauses.proofs.Evacuation.Replaced.{plotted_still, filled_still}
+use Rattle.cycle_pauses.proofs.Evacuation.Copied.{object_copied, blank_copied}
+use Rattle.cycle_pauses.proofs.Evacuation.Between.{AreBetween, IsLive, old_of, old_words, old_name, old_is_old, was_thing, was_promised, live_is_live, live_markable, old_has_copy}
+
+-- What holds once a piece was copied from an address to another one: what held between two turns, and what of it is where.
+pub record HasCopied (c : Config) (m n : Word → ℕ) (block plot : Plot) (owner : ℕ → Option ℕ) (g : Graph) (a to : ℕ) (x : Block) : Type 0 where
+  pub between : AreBetween c n plot owner g
+  pub header : n (Heap a) ≡ header_word to
+  pub there : plot to ≡ Some x
+  pub outside : IsCollected c (n Cset) to → ⊥
+  pub copied : (k : ℕ) → k < words_of x → n (Heap (to + k)) ≡ m (Heap (a + k))
+  pub stays : (p : ℕ) (z : Block) → p ≢ a → block p ≡ Some z → plot p ≡ Some z
+  pub kept : (p k : ℕ) (z : Block) → p ≢ a → block p ≡ Some z → k < words_of z → n (Heap (p + k)) ≡ m (Heap (p + k))
+  pub names : (p : ℕ) (name : Name) → name_at (block p) ≡ Some name → name_at (plot p) ≡ Some name
+  pub promises : (p seat words : ℕ) → plot p ≡ Some (promised seat words) → ((p ≡ to) × (x ≡ promised seat words)) ⊎ ((p ≢ a) × (block p ≡ Some (promised seat words)))
+  pub same : (word : Word) → (MayChange word → ⊥) → n word ≡ m word
+
+module _ (c : Config) (m : Word → ℕ) (block : Plot) (owner : ℕ → Option ℕ) (g : Graph) (b : AreBetween c m block owner g)
+    (a : ℕ) (x : Block) (here : block a ≡ Some x) (live : IsLive x) (inside : IsCollected c (m Cset) a) (plain : m (Heap a) ≡ plain_header) (words_are : words_at m a ≡ words_of x)
+    (out : IsCopiedOut c m (copied_out c m a) a) where
+  abbrev n : Word → ℕ
+  n = copied_out c m a
+
+  abbrev r : ℕ
+  r = out.region
+
+  -- where the copy lies
+  abbrev to : ℕ
+  to = top_address c m out.region
+
+  abbrev old : Block
+  old = old_of x to
+
+  abbrev top : ℕ → ℕ
+  top q = m (Top q)
+
+  abbrev heap : ℕ → ℕ
+  heap y = m (Heap y)
+
+  abbrev after : ℕ → ℕ
+  after y = n (Heap y)
+
+  -- a piece has a word at least
+  long : (p : ℕ) (z : Block) → block p ≡ Some z → 1 ≤ words_of z
+  long p z is = some_words c top (λ s. m (Current s)) block b.parsable b.owned.rooms p z is
+
+  joins : CanJoin c top block r (m (Top r)) x
+  joins = record {
+    plotted = b.parsable.plotted;
+    long = long;
+    within = out.below;
+    top_is = refl;
+    room = (let room = out.room in omega (arith, room, words_are));
+    some = long a x here;
+  }
+
+  -- nothing stood where the copy lies
+  none_there : (z : Block) → block to ≡ Some z → ⊥
+  none_there z is =
+      let some = long to z is in
+      let where_is = beside c top block b.parsable.plotted r to z is in
+      let small = long a x here in
+      let room = out.room in
+      omega (arith, some, where_is, small, room, words_are)
+
+  elsewhere : to ≢ a
+  elsewhere same = none_there x (ap block same ∙ here)
+
+  abbrev mid : Plot
+  mid = updated block to (Some x)
+
+  abbrev plot : Plot
+  plot = updated mid a (Some old)
+
+  mid_stays : (p : ℕ) (z : Block) → block p ≡ Some z → mid p ≡ Some z
+  mid_stays = joined.stays c top block r (m (Top r)) x joins
+
+  -- what stood somewhere else stands there
+  stays : (p : ℕ) (z : Block) → p ≢ a → block p ≡ Some z → plot p ≡ Some z
+  stays p z other is = updated_else mid a (Some old) p (λ e. other (sym e)) ∙ mid_stays p z is
+
+  new_there : plot to ≡ Some x
+  new_there = updated_else mid a (Some old) to (λ e. elsewhere (sym e)) ∙ updated_there block to (Some x)
+
+  old_there : plot a ≡ Some old
+  old_there = updated_there mid a (Some old)
+
+  same_plot : (p : ℕ) → p ≢ a → p ≢ to → plot p ≡ block p
+  same_plot p other differs = updated_else mid a (Some old) p (λ e. other (sym e)) ∙ updated_else block to (Some x) p (λ e. differs (sym e))
+
+  -- a piece is the old copy, or the new one, or stood there
+  plot_cases : (p : ℕ) (z : Block) → plot p ≡ Some z → ((p ≡ a) × (old ≡ z)) ⊎ (((p ≡ to) × (x ≡ z)) ⊎ ((p ≢ a) × (block p ≡ Some z)))
+  plot_cases p z is = ⊎_elim
+      (λ (gone : (p ≡ a) × (old ≡ z)). inl gone)
+      (λ (rest : (p ≢ a) × (mid p ≡ Some z)). ⊎_elim
+      (λ (new : (p ≡ to) × (x ≡ z)). inr (inl new))
+      (λ (stood : (p ≢ to) × (block p ≡ Some z)). inr (inr (rest.0, stood.1)))
+      (piece_cases block to x p z rest.1))
+      (piece_cases mid a old p z is)
+
+  -- what stood for an object does so still
+  names_stay : (p : ℕ) (name : Name) → name_at (block p) ≡ Some name → name_at (plot p) ≡ Some name
+  names_stay p name is = ⊎_elim
+      (λ (same : p ≡ a). ap name_at (ap plot same ∙ old_there) ∙ old_name x to live ∙ sym (ap name_at (ap block same ∙ here)) ∙ is)
+      (λ (other : p ≢ a). let piece = named_piece (block p) name is in ap name_at (stays p piece.0 other piece.1) ∙ piece.2)
+      (cases_eq p a)
+
+  -- words of pieces stay, but for the header
+  word_stays : (p k : ℕ) (z : Block) → block p ≡ Some z → k < words_of z → p + k ≢ a → n (Heap (p + k)) ≡ m (Heap (p + k))
+  word_stays p k z is below other =
+      let room = out.room in
+      out.copied.elsewhere (p + k) other
+      (⊎_elim
+      (λ (before : p + words_of z ≤ base_of c r). inl (omega (arith, before, below)))
+      (λ (rest : ((base_of c r ≤ p) × (p + words_of z ≤ base_of c r + top r)) ⊎ (base_of c r + c.region_words ≤ p)). ⊎_elim
+      (λ (within : (base_of c r ≤ p) × (p + words_of z ≤ base_of c r + top r)). inl (omega (arith, within.1, below)))
+      (λ (behind : base_of c r + c.region_words ≤ p). inr (omega (arith, behind, room)))
+      rest)
+      (beside c top block b.parsable.plotted r p z is))
+
+  kept : (p k : ℕ) (z : Block) → p ≢ a → block p ≡ Some z → k < words_of z → n (Heap (p + k)) ≡ m (Heap (p + k))
+  kept p k z other is below =
+      let apart : p + k ≢ a + 0 = far c top block b.parsable.plotted p a k 0 z x is here other below (let some = long a x here in omega (arith, some)) in
+      word_stays p k z is below (λ same. apart (omega (arith, same)))
+
+  left : (k : ℕ) → 1 ≤ k → k < words_of x → n (Heap (a + k)) ≡ m (Heap (a + k))
+  left k some below = word_stays a k x here below (λ same. omega (arith, same, some))
+
+  -- the copy has the object's words
+  copied : (k : ℕ) → k < words_of x → n (Heap (to + k)) ≡ m (Heap (a + k))
+  copied k below = ⊎_elim
+      (λ (none : k ≡ 0).
+      let new : to + k ≡ to = omega (arith, none) in
+      let was : a ≡ a + k = omega (arith, none) in
+      ap after new ∙ out.copied.header ∙ sym plain ∙ ap heap was)
+      (λ (some : k ≢ 0). out.copied.words k (omega (arith, some)) (omega (arith, below, words_are)))
+      (cases_eq k 0)
+
+  -- other words stay
+  word_same : (word : Word) → (MayChange word → ⊥) → n word ≡ m word
+  word_same word = out.copied.others word
+
+  set_same : n Cset ≡ m Cset
+  set_same = word_same Cset (λ never. never)
+
+  top_same : (q : ℕ) → q ≢ r → n (Top q) ≡ m (Top q)
+  top_same = out.copied.other_tops
+
+  tops_are : (λ q. n (Top q)) ≡ updated top r (m (Top r) + words_of x)
+  tops_are = fun_ext (λ q. ⊎_elim
+      (λ (same : r ≡ q).
+      ap (λ k. n (Top k)) (sym same) ∙ out.copied.top ∙ ap (λ w. m (Top r) + w) words_are ∙ sym (updated_same top r (m (Top r) + words_of x) q same))
+      (λ (other : r ≢ q). top_same q (λ e. other (sym e)) ∙ sym (updated_else top r (m (Top r) + words_of x) q other))
+      (cases_eq r q))
+
+  -- the copy lies outside the set
+  region_is : region_with c to ≡ r
+  region_is =
+      let some = long a x here in
+      let room = out.room in
+      regions_tile.of_no_other c r to (record { from = omega arith; before = omega (arith, some, room, words_are) })
+
+  outside : IsCollected c (m Cset) to → ⊥
+  outside is =
+      let member : bit_at (m Cset) r ≡ 1 = subst (IsIn (m Cset)) region_is is in
+      let not_in = out.outside in
+      omega (arith, member, not_in)
+
+  inside_now : IsCollected c (n Cset) a
+  inside_now = subst (λ s. IsCollected c s a) (sym set_same) inside
+
+  outside_now : IsCollected c (n Cset) to → ⊥
+  outside_now is = outside (subst (λ s. IsCollected c s to) set_same is)
+
+  -- so nothing outside is the old copy
+  not_old : (p : ℕ) → (IsCollected c (m Cset) p → ⊥) → p ≢ a
+  not_old p away same = away (subst (IsCollected c (m Cset)) (sym same) inside)
+
+  parsable_again : IsParsable c (λ q. n (Top q)) plot
+  parsable_again = record {
+    plotted = subst (λ t. IsPlotted c t plot) (sym tops_are)
+        (plotted_still c (updated top r (m (Top r) + words_of x)) mid a x old (mid_stays a x here) (old_words x to) (joined.plotted_more c top block r (m (Top r)) x joins));
+    filled = subst (λ t. IsFilled c t plot) (sym tops_are)
+        (filled_still c (updated top r (m (Top r) + words_of x)) mid a x old (mid_stays a x here) (old_words x to)
+        (joined.filled_more c top block r (m (Top r)) x joins b.parsable.filled));
+    promises = λ p seat words is. let at = was_promise p seat words is in b.parsable.promises at.0 seat words at.1;
+    fillers = λ p words is. b.parsable.fillers p words (was_filler p words is).1;
+    spents = λ p words at is. ⊎_elim
+        (λ (gone : (p ≡ a) × (old ≡ spent words at)).
+        let was = was_promised x to live words at gone.1 in
+        b.parsable.promises a was.0 words (here ∙ ap Some was.1))
+        (λ rest. ⊎_elim
+        (λ (new : (p ≡ to) × (x ≡ spent words at)). absurd ((live_is_live x live).1 words at new.1))
+        (λ (stood : (p ≢ a) × (block p ≡ Some (spent words at))). b.parsable.spents p words at stood.1)
+        rest)
+        (plot_cases p (spent words at) is);
+  }
+    where
+      was_promise : (p seat words : ℕ) → plot p ≡ Some (promised seat words) → (q : ℕ) × (block q ≡ Some (promised seat words))
+      was_promise p seat words is = ⊎_elim
+          (λ (gone : (p ≡ a) × (old ≡ promised seat words)). absurd ((old_is_old x to).1 seat words gone.1))
+          (λ rest. ⊎_elim
+          (λ (new : (p ≡ to) × (x ≡ promised seat words)). (a, here ∙ ap Some new.1))
+          (λ (stood : (p ≢ a) × (block p ≡ Some (promised seat words))). (p, stood.1))
+          rest)
+          (plot_cases p (promised seat words) is)
+
+      was_filler : (p words : ℕ) → plot p ≡ Some (filler words) → (p ≢ a) × (block p ≡ Some (filler words))
+      was_filler p words is = ⊎_elim
+          (λ (gone : (p ≡ a) × (old ≡ filler words)). absurd ((old_is_old x to).3 words gone.1))
+          (λ rest. ⊎_elim
+          (λ (new : (p ≡ to) × (x ≡ filler words)). absurd ((live_is_live x live).3 words new.1))
+          (λ (stood : (p ≢ a) × (block p ≡ Some (filler words))). stood)
+          rest)
+          (plot_cases p (filler words) is)
+
+  -- an object stood there, or where it was copied from
+  thing_from : (p refs nums : ℕ) (name : Name) → plot p ≡ Some (thing name refs nums)
+      → ((p ≡ to) × (x ≡ thing name refs nums)) ⊎ ((p ≢ a) × (block p ≡ Some (thing name refs nums)))
+  thing_from p refs nums name is = ⊎_elim
+      (λ (gone : (p ≡ a) × (old ≡ thing name refs nums)). absurd ((old_is_old x to).0 name refs nums gone.1))
+      (λ rest. rest)
+      (plot_cases p (thing name refs nums) is)
+
+  promised_from : (p seat words : ℕ) → plot p ≡ Some (promised seat words)
+      → ((p ≡ to) × (x ≡ promised seat words)) ⊎ ((p ≢ a) × (block p ≡ Some (promised seat words)))
+  promised_from p seat words is = ⊎_elim
+      (λ (gone : (p ≡ a) × (old ≡ promised seat words)). absurd ((old_is_old x to).1 seat words gone.1))
+      (λ rest. rest)
+      (plot_cases p (promised seat words) is)
+
+  filler_from : (p words : ℕ) → plot p ≡ Some (filler words) → (p ≢ a) × (block p ≡ Some (filler words))
+  filler_from p words is = ⊎_elim
+      (λ (gone : (p ≡ a) × (old ≡ filler words)). absurd ((old_is_old x to).3 words gone.1))
+      (λ rest. ⊎_elim
+      (λ (new : (p ≡ to) × (x ≡ filler words)). absurd ((live_is_live x live).3 words new.1))
+      (λ (stood : (p ≢ a) × (block p ≡ Some (filler words))). stood)
+      rest)
+      (plot_cases p (filler words) is)
+
+  no_hand : (p seat words : ℕ) → plot p ≡ Some (hand seat words) → ⊥
+  no_hand p seat words is = ⊎_elim
+      (λ (gone : (p ≡ a) × (old ≡ hand seat words)). (old_is_old x to).2 seat words gone.1)
+      (λ rest. ⊎_elim
+      (λ (new : (p ≡ to) × (x ≡ hand seat words)). (live_is_live x live).2 seat words new.1)
+      (λ (stood : (p ≢ a) × (block p ≡ Some (hand seat words))). b.no_hands p seat words stood.1)
+      rest)
+      (plot_cases p (hand seat words) is)
+
+  objects_again : AreObjects after plot g.object
+  objects_again = record {
+    each = λ p refs nums name is. ⊎_elim
+        (λ (new : (p ≡ to) × (x ≡ thing name refs nums)).
+        let o = b.contents.objects.each a refs nums name (here ∙ ap Some new.1) in
+        let size : words_of x ≡ 3 + refs + nums = ap words_of new.1 in
+        let copy = object_copied heap after block plot a to refs nums name o.0 (λ k below. copied k (omega (arith, below, size))) names_stay o.2 in
+        (o.0, o.1, subst (λ q. IsThing after plot q refs nums name o.0) (sym new.0) copy))
+        (λ (stood : (p ≢ a) × (block p ≡ Some (thing name refs nums))).
+        let o = b.contents.objects.each p refs nums name stood.1 in
+        (o.0, o.1, object_reads heap after block plot p refs nums name o.0 (λ k below. kept p k (thing name refs nums) stood.0 stood.1 below) names_stay o.2))
+        (thing_from p refs nums name is);
+    once = λ p q refs nums more_refs more_nums name is_p is_q. ⊎_elim
+        (λ (new_p : (p ≡ to) × (x ≡ thing name refs nums)). ⊎_elim
+        (λ (new_q : (q ≡ to) × (x ≡ thing name more_refs more_nums)). new_p.0 ∙ sym new_q.0)
+        (λ (stood_q : (q ≢ a) × (block q ≡ Some (thing name more_refs more_nums))).
+        absurd (stood_q.0 (sym (b.contents.objects.once a q refs nums more_refs more_nums name (here ∙ ap Some new_p.1) stood_q.1))))
+        (thing_from q more_refs more_nums name is_q))
+        (λ (stood_p : (p ≢ a) × (block p ≡ Some (thing name refs nums))). ⊎_elim
+        (λ (new_q : (q ≡ to) × (x ≡ thing name more_refs more_nums)).
+        absurd (stood_p.0 (b.contents.objects.once p a refs nums more_refs more_nums name stood_p.1 (here ∙ ap Some new_q.1))))
+        (λ (stood_q : (q ≢ a) × (block q ≡ Some (thing name more_refs more_nums))).
+        b.contents.objects.once p q refs nums more_refs more_nums name stood_p.1 stood_q.1)
+        (thing_from q more_refs more_nums name is_q))
+        (thing_from p refs nums name is_p);
+  }
+
+  -- a region that is free was, and is another
+  free_was : (q : ℕ) → q < c.regions → IsIn (n Free) q → (q ≢ r) × IsIn (m Free) q
+  free_was q below is =
+      let differs : q ≢ r = λ same. (let member : bit_at (n Free) r ≡ 1 = subst (IsIn (n Free)) same is in let used = out.copied.in_use in omega (arith, member, used)) in
+      (differs, sym (out.copied.others_free q below differs) ∙ is)
+
+  free_is : n Free ≡ bit_and (m Free) (all_but r)
+  unfolding copied_to
+  free_is = ap (λ (f : Word → ℕ). f Free) (copied_as c m a r out.found)
+
+  free_again : IsFreeWord c (n Free) (λ q. n (Top q)) owner
+  free_again = record {
+    no_more = (let was = b.owned.free_word.no_more in let less = and_le_l (m Free) (all_but r) in let is = free_is in omega (arith, was, less, is));
+    empty = λ q below is. let was = free_was q below is in top_same q was.0 ∙ b.owned.free_word.empty q below was.1;
+    nobodys = λ q below is. b.owned.free_word.nobodys q below (free_was q below is).1;
+  }
+
+  currents_again : AreCurrent c (λ s. n (Current s)) owner
+  currents_again = record {
+    within = λ seat q is. b.owned.currents.within seat q (sym (word_same (Current seat) (λ never. never)) ∙ is);
+    own = λ seat q is. b.owned.currents.own seat q (sym (word_same (Current seat) (λ never. never)) ∙ is);
+  }
+
+  unwritten_again : AreUnwritten after plot
+  unwritten_again = record {
+    blanks = λ p seat words is. ⊎_elim
+        (λ (new : (p ≡ to) × (x ≡ promised seat words)).
+        let size : words_of x ≡ words = ap words_of new.1 in
+        subst (λ q. IsBlank after q words) (sym new.0)
+        (blank_copied heap after a to words (λ k below. copied k (omega (arith, below, size))) (b.unwritten.blanks a seat words (here ∙ ap Some new.1))))
+        (λ (stood : (p ≢ a) × (block p ≡ Some (promised seat words))).
+        blank_copied heap after p p words (λ k below. kept p k (promised seat words) stood.0 stood.1 below) (b.unwritten.blanks p seat words stood.1))
+        (promised_from p seat words is);
+    headers = λ p words is.
+        let was = filler_from p words is in
+        let some = long p (filler words) was.1 in
+        let first : p + 0 ≡ p = omega arith in
+        sym (ap after first) ∙ kept p 0 (filler words) was.0 was.1 some ∙ ap heap first ∙ b.unwritten.headers p words was.1;
+    lengths = λ p words is.
+        let was = filler_from p words is in
+        let some = b.parsable.fillers p words was.1 in
+        ap object_words (kept p 1 (filler words) was.0 was.1 (omega (arith, some))) ∙ b.unwritten.lengths p words was.1;
+  }
+
+  -- an object that is not the one that is copied is where it was
+  markable_stays : (p : ℕ) → p ≢ a → IsMarkable block p → IsMarkable plot p
+  markable_stays p other (IsMarkable.object name refs nums is) = IsMarkable.object name refs nums (stays p (thing name refs nums) other is)
+  markable_stays p other (IsMarkable.to_come seat words is) = IsMarkable.to_come seat words (stays p (promised seat words) other is)
+
+  moved_again : (p refs nums at : ℕ) (name : Name) → plot p ≡ Some (moved name refs nums at) → IsMoved c (n Cset) after plot p refs nums at name
+  moved_again p refs nums at name is = ⊎_elim
+      (λ (gone : (p ≡ a) × (old ≡ moved name refs nums at)).
+      let was = was_thing x to live name refs nums at gone.1 in
+      let o = b.contents.objects.each a refs nums name (here ∙ ap Some was.0) in
+      let size : words_of x ≡ 3 + refs + nums = ap words_of was.0 in
+      subst (λ q. IsMoved c (n Cset) after plot q refs nums at name) (sym gone.0)
+      (subst (λ k. IsMoved c (n Cset) after plot a refs nums k name) (sym was.1)
+      (record {
+        header = out.copied.forwarded;
+        shape = left 1 (omega arith) (omega (arith, size)) ∙ o.2.shape;
+        name_word = left 2 (omega arith) (omega (arith, size)) ∙ o.2.name_word;
+        few_refs = o.2.few_refs;
+        few_nums = o.2.few_nums;
+        inside = inside_now;
+        copy = new_there ∙ ap Some was.0;
+        outside = outside_now;
+      })))
+      (λ rest. ⊎_elim
+      (λ (new : (p ≡ to) × (x ≡ moved name refs nums at)). absurd ((live_is_live x live).0 name refs nums at new.1))
+      (λ (stood : (p ≢ a) × (block p ≡ Some (moved name refs nums at))).
+      let was = b.moves.moveds p refs nums at name stood.1 in
+      let first : p + 0 ≡ p = omega arith in
+      record {
+        header = sym (ap after first) ∙ kept p 0 (moved name refs nums at) stood.0 stood.1 (omega arith) ∙ ap heap first ∙ was.header;
+        shape = kept p 1 (moved name refs nums at) stood.0 stood.1 (omega arith) ∙ was.shape;
+        name_word = kept p 2 (moved name refs nums at) stood.0 stood.1 (omega arith) ∙ was.name_word;
+        few_refs = was.few_refs;
+        few_nums = was.few_nums;
+        inside = subst (λ s. IsCollected c s p) (sym set_same) was.inside;
+        copy = stays at (thing name refs nums) (not_old at was.outside) was.copy;
+        outside = λ member. was.outside (subst (λ s. IsCollected c s at) set_same member);
+      })
+      rest)
+      (plot_cases p (moved name refs nums at) is)
+
+  spent_again : (p words at : ℕ) → plot p ≡ Some (spent words at) → IsSpent c (n Cset) after plot p words at
+  spent_again p words at is = ⊎_elim
+      (λ (gone : (p ≡ a) × (old ≡ spent words at)).
+      let was = was_promised x to live words at gone.1 in
+      let blank = b.unwritten.blanks a was.0 words (here ∙ ap Some was.1) in
+      let size : words_of x ≡ words = ap words_of was.1 in
+      let three = blank.long in
+      let refs = blank.few_refs in
+      let nums = blank.few_nums in
+      subst (λ q. IsSpent c (n Cset) after plot q words at) (sym gone.0)
+      (subst (λ k. IsSpent c (n Cset) after plot a words k) (sym was.2)
+      (record {
+        header = out.copied.forwarded;
+        shape = ap object_words (left 1 (omega arith) (omega (arith, size, three)) ∙ blank.shape) ∙ shape_words blank.refs blank.nums refs nums ∙ sym three;
+        inside = inside_now;
+        copy = live_markable plot to x live new_there;
+        piece = x;
+        there = new_there;
+        long = size;
+        outside = outside_now;
+      })))
+      (λ rest. ⊎_elim
+      (λ (new : (p ≡ to) × (x ≡ spent words at)). absurd ((live_is_live x live).1 words at new.1))
+      (λ (stood : (p ≢ a) × (block p ≡ Some (spent words at))).
+      let was = b.moves.spents p words at stood.1 in
+      let some = b.parsable.spents p words at stood.1 in
+      let first : p + 0 ≡ p = omega arith in
+      let away = not_old at was.outside in
+      record {
+        header = sym (ap after first) ∙ kept p 0 (spent words at) stood.0 stood.1 (omega (arith, some)) ∙ ap heap first ∙ was.header;
+        shape = ap object_words (kept p 1 (spent words at) stood.0 stood.1 (omega (arith, some))) ∙ was.shape;
+        inside = subst (λ s. IsCollected c s p) (sym set_same) was.inside;
+        copy = markable_stays at away was.copy;
+        piece = was.piece;
+        there = stays at was.piece away was.there;
+        long = was.long;
+        outside = λ member. was.outside (subst (λ s. IsCollected c s at) set_same member);
+      })
+      rest)
+      (plot_cases p (spent words at) is)
+    where
+      shape_words : (refs nums : ℕ) → refs ≤ 16 → nums ≤ 16 → object_words (shape_word refs nums) ≡ 3 + refs + nums
+      shape_words refs nums few less = omega (arith, few, less)
+
+  abbrev marks : ℕ → ℕ
+  marks k = n (Black k)
+
+  abbrev marks_were : ℕ → ℕ
+  marks_were k = m (Black k)
+
+  abbrev tams : ℕ → ℕ
+  tams q = n (Tams q)
+
+  abbrev tams_were : ℕ → ℕ
+  tams_were q = m (Tams q)
+
+  -- the copy is young
+  young_there : IsYoung c tams to
+  young_there =
+      let floor = b.floors r out.below in
+      let same : n (Tams r) ≡ m (Tams r) = word_same (Tams r) (λ never. never) in
+      subst (λ q. base_of c q + n (Tams q) ≤ to) (sym region_is) (omega (arith, floor, same))
+
+  marks_same : marks ≡ marks_were
+  marks_same = fun_ext (λ k. word_same (Black k) (λ never. never))
+
+  tams_same : tams ≡ tams_were
+  tams_same = fun_ext (λ q. word_same (Tams q) (λ never. never))
+
+  -- so what stood and is marked or young is so still
+  marked_still : (p : ℕ) → HasMark c marks_were p ⊎ IsYoung c tams_were p → HasMark c marks p ⊎ IsYoung c tams p
+  marked_still p is = subst (λ bits. HasMark c bits p ⊎ IsYoung c tams p) (sym marks_same) (subst (λ floor. HasMark c marks_were p ⊎ IsYoung c floor p) (sym tams_same) is)
+
+  marked_again : (p : ℕ) → IsMarkable plot p → HasMark c marks p ⊎ IsYoung c tams p
+  marked_again p (IsMarkable.object name refs nums is) = ⊎_elim
+      (λ (new : (p ≡ to) × (x ≡ thing name refs nums)). inr (subst (IsYoung c tams) (sym new.0) young_there))
+      (λ (stood : (p ≢ a) × (block p ≡ Some (thing name refs nums))). marked_still p (b.marked p (IsMarkable.object name refs nums stood.1)))
+      (thing_from p refs nums name is)
+  marked_again p (IsMarkable.to_come seat words is) = ⊎_elim
+      (λ (new : (p ≡ to) × (x ≡ promised seat words)). inr (subst (IsYoung c tams) (sym new.0) young_there))
+      (λ (stood : (p ≢ a) × (block p ≡ Some (promised seat words))). marked_still p (b.marked p (IsMarkable.to_come seat words stood.1)))
+      (promised_from p seat words is)
+
+  -- what has a copy in the set has one still
+  copy_stays : (p : ℕ) → p ≢ a → p ≢ to → HasCopy block p → HasCopy plot p
+  copy_stays p other differs (HasCopy.copy body is) = HasCopy.copy body (ap body_at (same_plot p other differs) ∙ is)
+  copy_stays p other differs (HasCopy.spent_copy words at is) = HasCopy.spent_copy words at (same_plot p other differs ∙ is)
+
+  only_again : (p : ℕ) → c.region_words ≤ p → HasMark c marks p → IsCollected c (n Cset) p → IsMarkable plot p ⊎ HasCopy plot p
+  only_again p above mark member = ⊎_elim
+      (λ (same : p ≡ a). inr (subst (HasCopy plot) (sym same) (old_has_copy plot a to x live old_there)))
+      (λ (other : p ≢ a).
+      let was_in : IsCollected c (m Cset) p = subst (λ s. IsCollected c s p) set_same member in
+      let differs : p ≢ to = λ same. outside (subst (IsCollected c (m Cset)) same was_in) in
+      ⊎_elim
+      (λ (markable : IsMarkable block p). inl (markable_stays p other markable))
+      (λ (copy : HasCopy block p). inr (copy_stays p other differs copy))
+      (b.only p above (subst (λ bits. HasMark c bits p) marks_same mark) was_in))
+      (cases_eq p a)
+
+  in_set_was : (q : ℕ) → IsIn (n Cset) q → IsIn (m Cset) q
+  in_set_was q is = subst (λ s. IsIn s q) set_same is
+
+  -- a region of the set is not the one that has grown
+  not_grown : (q : ℕ) → IsIn (m Cset) q → q ≢ r
+  not_grown q member same =
+      let there : bit_at (m Cset) r ≡ 1 = subst (IsIn (m Cset)) same member in
+      let not_in = out.outside in
+      omega (arith, there, not_in)
+
+  -- all of it holds again
+  copied_between : AreBetween c n plot owner g
+  copied_between = record {
+    parsable = parsable_again;
+    contents = record { objects = objects_again; given = b.contents.given };
+    owned = record { free_word = free_again; currents = currents_again; rooms = λ p seat words is. absurd (no_hand p seat words is) };
+    unwritten = unwritten_again;
+    moves = record { moveds = moved_again; spents = spent_again };
+    no_hands = no_hand;
+    promised_to = λ p seat words is. ⊎_elim
+        (λ (new : (p ≡ to) × (x ≡ promised seat words)). b.promised_to a seat words (here ∙ ap Some new.1))
+        (λ (stood : (p ≢ a) × (block p ≡ Some (promised seat words))). b.promised_to p seat words stood.1)
+        (promised_from p seat words is);
+    in_heap = λ q is. b.in_heap q (in_set_was q is);
+    used = λ q free is. let was = in_set_was q is in b.used q (free_was q (b.in_heap q was) free).1 was;
+    nobodys = λ q seat own is. b.nobodys q seat own (in_set_was q is);
+    no_new = λ q is. let was = in_set_was q is in top_same q (not_grown q was) ∙ b.no_new q was ∙ sym (word_same (Tams q) (λ never. never));
+    marked = marked_again;
+    floors = λ q below. ⊎_elim
+        (λ (same : q ≡ r).
+        let floor = b.floors r out.below in
+        let grown = out.copied.top in
+        let tams : n (Tams r) ≡ m (Tams r) = word_same (Tams r) (λ never. never) in
+        subst (λ k. n (Tams k) ≤ n (Top k)) (sym same) (omega (arith, floor, grown, tams)))
+        (λ (other : q ≢ r).
+        let floor = b.floors q below in
+        let same = top_same q other in
+        let tams : n (Tams q) ≡ m (Tams q) = word_same (Tams q) (λ never. never) in
+        omega (arith, floor, same, tams))
+        (cases_eq q r);
+    unmarked = λ p words is mark. let stood = filler_from p words is in b.unmarked p words stood.1 (subst (λ bits. HasMark c bits p) marks_same mark);
+    fillers = λ p words is young. let stood = filler_from p words is in b.fillers p words stood.1 (subst (λ floor. IsYoung c floor p) tams_same young);
+    only = only_again;
+  }
+
+  -- and that is where the copy is
+  pub copied_out_of : (to' : ℕ) × (plot' : Plot) × HasCopied c m (copied_out c m a) block plot' owner g a to' x
+  copied_out_of = (
+    to,
+    plot,
+    record {
+      between = copied_between;
+      header = out.copied.forwarded;
+      there = new_there;
+      outside = outside_now;
+      copied = copied;
+      stays = stays;
+      kept = kept;
+      names = names_stay;
+      promises = promised_from;
+      same = word_same;
+    },
+  )

@@ -1,0 +1,204 @@
+-- The words that the pause leaves stand for the same graph: where a region was chosen evacuation runs, and else nothing does.
+use Rattle.std.proofs.Common.{◌≡◌, ℕ, ◌+◌, ◌<◌, ◌≤◌, ◌⊎◌, ◌==◌, nat_le, false, Some, None, inl, inr, ⊎_elim, refl, sym, ap, ◌∙◌, subst, arith}
+use Rattle.std.specs.Int.{bit_at}
+use Rattle.std.proofs.lemmas.Bool.{true≢false, and_from, le-leb, eq-eqb}
+use Rattle.heap_words.specs.declared.config.Config.{Config}
+use Rattle.heap_words.specs.Words.{Word, Cset, Evac, Ask, Free, Top, Tams, Root, Count, Buffer, Answer, Grey, Black, Heap}
+use Rattle.regions.specs.Place.{region_with}
+use Rattle.regions.specs.Sets.{IsIn}
+use Rattle.shen_graph.specs.Graph.{Graph, Reference}
+use Rattle.heap_world.specs.World.{Block, thing, moved, promised, filler, Plot, Ghost, no_snapshot, Points, body_of, IsUsable, IsCollected, IsMarkable, HasCopy, IsEvacuating, body_at}
+use Rattle.heap_world.specs.Asking.{Asking, nothing, asks, refused, given, IsAsked}
+use Rattle.heap_world.specs.Represents.{Represents}
+use Rattle.heap_world.proofs.Pointing.{named_body, copy_cases, piece_inside}
+use Rattle.heap_world.proofs.Keeping.{usable_now}
+use Rattle.heap_world.proofs.Copies.{counted_none, none_evacuated}
+use Rattle.heap_world.proofs.Unmarked.{none_marked_in}
+use Rattle.cycle_pauses.specs.Marking.MarkedOut.{IsMarkedOut}
+use Rattle.cycle_words.specs.Evacuation.Live.{IsCandidate}
+use Rattle.cycle_words.specs.Evacuation.Begun.{is_collected, with_set, evac_started, evac_spared}
+use Rattle.cycle_pauses.proofs.Evacuation.Asked.{asked_stays}
+use Rattle.cycle_pauses.proofs.Evacuation.NamingPlaces.{IsPlace}
+use Rattle.cycle_pauses.proofs.Evacuation.ClearingInTurn.{IsClearing}
+
+-- whoever is promised an object was given it, and its answer says where it is
+promise_is_answer : (m : Word → ℕ) (block : Plot) (count : ℕ → ℕ) (t : ℕ) (x : Asking) → IsAsked m block count t x → (a words : ℕ) → block a ≡ Some (promised t words) → a ≡ m (Answer t)
+promise_is_answer m block count t nothing asked a words is = absurd (asked.2 a words is)
+promise_is_answer m block count t (asks refs nums) asked a words is = absurd (asked.2 a words is)
+promise_is_answer m block count t refused asked a words is = absurd (asked.2 a words is)
+promise_is_answer m block count t (given refs nums) asked a words is = asked.2.only a words is
+
+-- words that only fill are nothing that is marked
+no_filler : (block : Plot) (a words : ℕ) → block a ≡ Some (filler words) → IsMarkable block a → ⊥
+no_filler block a words is (IsMarkable.object name refs nums here) = let differ = sym is ∙ here in cc
+no_filler block a words is (IsMarkable.to_come seat more here) = let differ = sym is ∙ here in cc
+
+module _ (c : Config) (memory : Word → ℕ) (block : Plot) (ghost : Ghost) (g : Graph) (asking : ℕ → Asking) (out : IsMarkedOut c memory block ghost g asking) where
+  -- the ghost state, without a snapshot
+  abbrev bare : Ghost
+  bare = record {
+    owner = ghost.owner;
+    snapshot = no_snapshot;
+    recording = ghost.recording;
+    scanning = ghost.scanning;
+    copying = ghost.copying;
+    working = ghost.working;
+  }
+
+  -- Before the first turn, with a set of candidates.
+  pub clearing_begins : (set : ℕ) → ((r : ℕ) → IsIn set r → (r < c.regions) × IsCandidate c memory r)
+      → IsClearing c (with_set memory set) (with_set memory set) block ghost.owner g asking
+  clearing_begins set candidates = record {
+    between = record {
+      parsable = out.parsable;
+      contents = out.contents;
+      owned = out.owned;
+      unwritten = out.unwritten;
+      moves = record {
+        moveds = λ a refs nums to name is. absurd (out.unmoved.no_moved a refs nums to name is);
+        spents = λ a words to is. absurd (out.unmoved.no_spent a words to is);
+      };
+      no_hands = out.unmoved.no_hand;
+      promised_to = out.promised_to;
+      in_heap = λ r is. (candidates r is).0;
+      used = λ r free is. let in_use = (candidates r is).1.in_use in omega (arith, free, in_use);
+      nobodys = λ r seat own is. (candidates r is).1.nobodys (out.seats r seat own);
+      no_new = λ r is. (candidates r is).1.no_new;
+      marked = out.marked.objects;
+      floors = out.marked.floors;
+      unmarked = λ a words is mark.
+          let above = piece_inside c (λ r. memory (Top r)) block out.parsable.plotted a (filler words) is in
+          no_filler block a words is (out.marked.only a above.0 mark);
+      fillers = out.marked.fillers;
+      only = λ a above mark inside. inl (out.marked.only a above mark);
+    };
+    roots = out.roots;
+    asked = λ t inside. asked_stays memory (with_set memory set) block block g.count t refl refl (λ a words k is below. refl) (λ a words is. is) (λ a words is. is) (asking t) (out.asked t inside);
+    same = λ word fixed other. refl;
+  }
+
+  -- After the last one, where roots and answers name nothing in the set.
+  module _ (set : ℕ) (e : Word → ℕ) (plot : Plot) (s : IsClearing c (with_set memory set) e plot ghost.owner g asking)
+      (cleared : (place : Word) → IsPlace c place → is_collected c (with_set memory set) (e place) ≡ false) where
+    abbrev n : Word → ℕ
+    n = evac_started e
+
+    set_is : e Cset ≡ set
+    set_is = s.same Cset (λ never. never) (λ never. never)
+
+    -- so no piece that one of them names lies there
+    away : (place : Word) → IsPlace c place → c.region_words ≤ e place → IsCollected c (e Cset) (e place) → ⊥
+    away place at above inside =
+        let member : bit_at set (region_with c (e place)) ≡ 1 = subst (λ x. IsCollected c x (e place)) set_is inside in
+        true≢false
+        (sym (and_from (nat_le c.region_words (e place)) (bit_at set (region_with c (e place)) == 1) (le-leb c.region_words (e place) above)
+        (eq-eqb (bit_at set (region_with c (e place))) 1 member))
+        ∙ cleared place at)
+
+    no_promises : (a seat words : ℕ) → plot a ≡ Some (promised seat words) → IsCollected c (e Cset) a → ⊥
+    no_promises a seat words is inside =
+        let mutator = s.between.promised_to a seat words is in
+        let here : a ≡ e (Answer seat) = promise_is_answer e plot g.count seat (asking seat) (s.asked seat mutator) a words is in
+        let above = piece_inside c (λ r. e (Top r)) plot s.between.parsable.plotted a (promised seat words) is in
+        away (Answer seat) mutator (omega (arith, above.0, here)) (subst (IsCollected c (e Cset)) here inside)
+
+    usable : (t i : ℕ) → t < c.mutators → i < 16 → IsUsable c (e Cset) 0 plot (e (Root t i))
+    usable t i inside few = of_reference (g.root (t + 1) i) (s.roots t i inside few)
+      where
+        outside : (b : Block) → plot (e (Root t i)) ≡ Some b → IsCollected c (e Cset) (e (Root t i)) → ⊥
+        outside b is = (let above = piece_inside c (λ r. e (Top r)) plot s.between.parsable.plotted (e (Root t i)) b is in away (Root t i) (inside, few) above.0)
+
+        of_reference : (reference : Reference) → Points plot (e (Root t i)) reference → IsUsable c (e Cset) 0 plot (e (Root t i))
+        of_reference None none = inl none
+        of_reference (Some name) points =
+            let body = named_body (plot (e (Root t i))) name points in
+            ⊎_elim
+            (λ (current : plot (e (Root t i)) ≡ Some (thing name body.0 body.1)).
+            inr (name, body.0, body.1, record { piece = current; safe = λ collected. absurd (outside (thing name body.0 body.1) current collected) }))
+            (λ (old : (to : ℕ) × (plot (e (Root t i)) ≡ Some (moved name body.0 body.1 to))).
+            absurd (outside (moved name body.0 body.1 old.0) old.1 (s.between.moves.moveds (e (Root t i)) body.0 body.1 old.0 name old.1).inside))
+            (copy_cases (plot (e (Root t i))) (body_of name body.0 body.1) body.2)
+
+    has_copy : (a : ℕ) → IsCollected c (e Cset) a → IsMarkable plot a ⊎ HasCopy plot a → HasCopy plot a
+    has_copy a inside (inl (IsMarkable.object name refs nums is)) = HasCopy.copy (body_of name refs nums) (ap body_at is)
+    has_copy a inside (inl (IsMarkable.to_come seat words is)) = absurd (no_promises a seat words is inside)
+    has_copy a inside (inr kept) = kept
+
+    pub evacuation_starts : Represents c n g asking
+    evacuation_starts = record {
+      block = plot;
+      ghost = bare;
+      shared = record {
+        parsable = s.between.parsable;
+        contents = s.between.contents;
+        owned = s.between.owned;
+        phased = record { phase_is = omega arith; cset_is = λ low. absurd (omega (arith, low)); evac_is = λ other. refl };
+        unwritten = s.between.unwritten;
+        marked = none_marked_in c 2 (λ q. n (Grey q)) (λ q. n (Black q)) (λ t. n (Count t)) (λ t k. n (Buffer t k)) (λ q. n (Top q)) (λ q. n (Tams q)) (λ a. n (Heap a)) plot
+            ghost.recording ghost.scanning (λ is. omega (arith, is));
+        evacuated = record {
+          moved = s.between.moves;
+          counted = counted_none c ghost.copying out.uncopying.copies_none;
+          aside = record {
+            in_heap = s.between.in_heap;
+            in_use = s.between.used;
+            nobodys = s.between.nobodys;
+            no_new = s.between.no_new;
+            no_promises = no_promises;
+          };
+          kept = record {
+            objects = λ on. s.between.marked;
+            young = λ on a seat words is. absurd (s.between.no_hands a seat words is);
+            floors = λ on. s.between.floors;
+            unmarked = λ on. s.between.unmarked;
+            fillers = λ on. s.between.fillers;
+            only = λ on a above mark inside. has_copy a inside (s.between.only a above mark inside);
+          };
+          units = λ on r below. absurd (omega (arith, below));
+        };
+        updated = λ on. absurd (omega (arith, on));
+      };
+      roots = s.roots;
+      usable = usable;
+      none = s.between.no_hands;
+      asked = λ t inside. asked_stays e n plot plot g.count t refl refl (λ a words k is below. refl) (λ a words is. is) (λ a words is. is) (asking t) (s.asked t inside);
+      heard = λ t refs nums inside is. ap (λ k. bit_at k 1) (s.same Ask (λ never. never) (λ never. never)) ∙ out.heard t refs nums inside is;
+      promised_to = s.between.promised_to;
+      unmarking = record { records_none = out.unmarking.records_none; scans_none = out.unmarking.scans_none };
+      uncopying = record { copies_none = out.uncopying.copies_none; works_none = out.uncopying.works_none };
+      no_more = out.no_more;
+    }
+
+  -- Where no region is chosen.
+  abbrev idle : Word → ℕ
+  idle = evac_spared memory
+
+  pub cycle_ends : Represents c idle g asking
+  cycle_ends = record {
+    block = block;
+    ghost = bare;
+    shared = record {
+      parsable = out.parsable;
+      contents = out.contents;
+      owned = out.owned;
+      phased = record { phase_is = omega arith; cset_is = λ other. refl; evac_is = λ other. out.evac_is };
+      unwritten = out.unwritten;
+      marked = none_marked_in c 0 (λ q. idle (Grey q)) (λ q. idle (Black q)) (λ t. idle (Count t)) (λ t k. idle (Buffer t k)) (λ q. idle (Top q)) (λ q. idle (Tams q)) (λ a. idle (Heap a)) block
+          ghost.recording ghost.scanning (λ is. omega (arith, is));
+      evacuated = subst
+          (λ evac. IsEvacuating c 0 0 evac 0 (idle Free) (λ q. idle (Top q)) (λ q. idle (Tams q)) (λ a. idle (Heap a)) (λ q. idle (Black q)) block ghost.owner ghost.copying ghost.working)
+          (sym out.evac_is)
+          (none_evacuated c 0 0 (idle Free) (λ q. idle (Top q)) (λ q. idle (Tams q)) (λ a. idle (Heap a)) (λ q. idle (Black q)) block ghost.owner ghost.copying ghost.working (λ is. omega (arith, is))
+          out.unmoved.no_moved out.unmoved.no_spent out.uncopying.copies_none);
+      updated = λ on. absurd (omega (arith, on));
+    };
+    roots = out.roots;
+    usable = λ t i inside few. usable_now c (memory Evac) block (λ a refs nums to name. out.unmoved.no_moved a refs nums to name) (memory (Root t i)) (g.root (t + 1) i) (out.roots t i inside few);
+    none = out.unmoved.no_hand;
+    asked = λ t inside. asked_stays memory idle block block g.count t refl refl (λ a words k is below. refl) (λ a words is. is) (λ a words is. is) (asking t) (out.asked t inside);
+    heard = out.heard;
+    promised_to = out.promised_to;
+    unmarking = record { records_none = out.unmarking.records_none; scans_none = out.unmarking.scans_none };
+    uncopying = record { copies_none = out.uncopying.copies_none; works_none = out.uncopying.works_none };
+    no_more = out.no_more;
+  }

@@ -1,0 +1,206 @@
+-- Words that represent a graph do so by copies once all that is left in the collection set was copied out, or what found room.
+use Rattle.std.proofs.Common.{◌≡◌, ◌≢◌, ℕ, ◌+◌, ◌*◌, ◌≤◌, ◌==◌, ◌⊎◌, Bool, true, Some, inl, inr, ⊎_elim, refl, sym, ap, ◌∙◌, subst, arith}
+use Rattle.std.specs.Int.{bit_at}
+use Rattle.std.proofs.Math.Path.{fun_ext}
+use Rattle.std.proofs.lemmas.Option.{none-some}
+use Rattle.std.proofs.lemmas.Bool.{cases_eq, cond-true, cond-false, eq-eqb, ne_eqb}
+use Rattle.heap_words.specs.declared.config.Config.{Config}
+use Rattle.heap_words.specs.Words.{Word, Phase, Cset, Free, Evac, Claim, Ask, Top, Tams, Count, Buffer, Grey, Black, Heap}
+use Rattle.regions.specs.Place.{base_of}
+use Rattle.shen_graph.specs.declared.name.Name.{Name}
+use Rattle.shen_graph.specs.Graph.{Graph}
+use Rattle.heap_world.specs.World.{thing, Plot, Ghost, no_snapshot, body_of, body_at, IsCollected, IsMarkable, HasCopy, IsCounted, IsSweptTo, IsCaredFor, IsEvacuating}
+use Rattle.heap_world.specs.Asking.{Asking}
+use Rattle.heap_world.specs.Represents.{Represents, RepresentsByCopies}
+use Rattle.heap_world.proofs.Pointing.{piece_inside}
+use Rattle.heap_world.proofs.Copies.{none_in_0}
+use Rattle.heap_world.proofs.Unmarked.{none_marked_in}
+use Rattle.cycle_words.specs.Evacuation.Copied.{MayChange}
+use Rattle.cycle_pauses.proofs.Full.ByCopies.{by_copies}
+use Rattle.cycle_words.specs.Finishing.Copies.{CanCopyFrom, copied_from, is_room_from, all_copied, is_room_for_all}
+use Rattle.cycle_pauses.specs.Finishing.Copying.{CopyingKeeps, LeftCanBeCopied}
+use Rattle.cycle_pauses.proofs.Finishing.Copying.{IsCopying, all_passed, can_copy_from}
+
+-- What is shown of words after copying, and of whether all found room.
+record StandsByCopies (c : Config) (m after : Word → ℕ) (room : Bool) (g : Graph) (asking : ℕ → Asking) : Type 0 where
+  stands : RepresentsByCopies c after g asking
+  none_left : room ≡ true → (a refs nums : ℕ) (name : Name) → stands.block a ≡ Some (thing name refs nums) → IsCollected c (after Cset) a → ⊥
+  same : (word : Word) → (MayChange word → ⊥) → after word ≡ m word
+
+-- Words that represent a graph by copies, in phases 2 and 3, are as before the first object is copied.
+module _ (c : Config) (m : Word → ℕ) (g : Graph) (asking : ℕ → Asking) (r : RepresentsByCopies c m g asking) (two : 2 ≤ m Phase) where
+  abbrev evacuated : IsEvacuating c (m Phase) (m Cset) (m Evac) (m Claim) (m Free) (λ q. m (Top q)) (λ q. m (Tams q)) (λ a. m (Heap a)) (λ q. m (Black q)) r.block r.ghost.owner r.ghost.copying r.ghost.working
+  evacuated = r.shared.evacuated
+
+  -- nobody works, so a unit that is cared for is swept
+  swept_of : (q : ℕ) → IsCaredFor c (m Evac) r.block r.ghost.working q → IsSweptTo c (m Evac) r.block q (base_of c (q + 1))
+  swept_of q (inl swept) = swept
+  swept_of q (inr works) = absurd (none-some q (sym (r.uncopying.works_none works.0 works.1) ∙ works.2))
+
+  pub copying_begins : IsCopying c m m r.block r.ghost.owner g asking c.region_words
+  copying_begins = record {
+    between = record {
+      parsable = r.shared.parsable;
+      contents = r.shared.contents;
+      owned = r.shared.owned;
+      unwritten = r.shared.unwritten;
+      moves = evacuated.moved;
+      no_hands = r.none;
+      promised_to = r.promised_to;
+      in_heap = evacuated.aside.in_heap;
+      used = evacuated.aside.in_use;
+      nobodys = evacuated.aside.nobodys;
+      no_new = evacuated.aside.no_new;
+      marked = evacuated.kept.objects two;
+      floors = evacuated.kept.floors two;
+      unmarked = evacuated.kept.unmarked two;
+      fillers = evacuated.kept.fillers two;
+      only = λ a above mark inside. inr (evacuated.kept.only two a above mark inside);
+    };
+    roots = r.roots;
+    asked = r.asked;
+    same = λ word fixed. refl;
+    no_promises = evacuated.aside.no_promises;
+    swept = λ a refs nums name is member. (piece_inside c (λ q. m (Top q)) r.block r.shared.parsable.plotted a (thing name refs nums) is).0;
+    units = λ on q below member. swept_of q (evacuated.units on q below member);
+  }
+
+module _ (c : Config) (m : Word → ℕ) (g : Graph) (asking : ℕ → Asking) (r : Represents c m g asking) where
+  -- While objects are evacuated, what is left is copied.
+  module _ (on : m Phase ≡ 2) where
+    begins : IsCopying c m m r.block r.ghost.owner g asking c.region_words
+    begins = copying_begins c m g asking (by_copies c m g asking r) (omega (arith, on))
+
+    abbrev room : Bool
+    room = is_room_from c m c.region_words (c.regions * c.region_words)
+
+    abbrev n : Word → ℕ
+    n = copied_from c m c.region_words (c.regions * c.region_words)
+
+    outcome : (plot : Plot) × (passed : ℕ) × IsCopying c m n plot r.ghost.owner g asking passed × (room ≡ true → passed ≡ c.region_words + c.regions * c.region_words)
+    outcome = all_passed c m r.ghost.owner g asking (c.regions * c.region_words) m r.block c.region_words begins
+
+    abbrev plot : Plot
+    plot = outcome.0
+
+    abbrev s : IsCopying c m n plot r.ghost.owner g asking outcome.1
+    s = outcome.2
+
+    -- the ghost state, without a snapshot
+    abbrev bare : Ghost
+    bare = record {
+      owner = r.ghost.owner;
+      snapshot = no_snapshot;
+      recording = r.ghost.recording;
+      scanning = r.ghost.scanning;
+      copying = r.ghost.copying;
+      working = r.ghost.working;
+    }
+
+    on_still : n Phase ≡ 2
+    on_still = s.same Phase (λ never. never) ∙ on
+
+    has_copy : (a : ℕ) → IsCollected c (n Cset) a → IsMarkable plot a ⊎ HasCopy plot a → HasCopy plot a
+    has_copy a inside (inl (IsMarkable.object name refs nums is)) = HasCopy.copy (body_of name refs nums) (ap body_at is)
+    has_copy a inside (inl (IsMarkable.to_come seat words is)) = absurd (s.no_promises a seat words is inside)
+    has_copy a inside (inr kept) = kept
+
+    evacuated_still : IsEvacuating c (n Phase) (n Cset) (n Evac) (n Claim) (n Free) (λ q. n (Top q)) (λ q. n (Tams q)) (λ a. n (Heap a)) (λ q. n (Black q)) plot r.ghost.owner r.ghost.copying r.ghost.working
+    evacuated_still = record {
+      moved = s.between.moves;
+      counted = subst (λ evac. IsCounted c evac r.ghost.copying) (sym (s.same Evac (λ never. never))) r.shared.evacuated.counted;
+      aside = record {
+        in_heap = s.between.in_heap;
+        in_use = s.between.used;
+        nobodys = s.between.nobodys;
+        no_new = s.between.no_new;
+        no_promises = s.no_promises;
+      };
+      kept = record {
+        objects = λ high. s.between.marked;
+        young = λ high a seat words is. absurd (s.between.no_hands a seat words is);
+        floors = λ high. s.between.floors;
+        unmarked = λ high. s.between.unmarked;
+        fillers = λ high. s.between.fillers;
+        only = λ high a above mark inside. has_copy a inside (s.between.only a above mark inside);
+      };
+      units = λ high q below member. inl (s.units on_still q below member);
+    }
+
+    stands_by_copies : RepresentsByCopies c n g asking
+    stands_by_copies = record {
+      block = plot;
+      ghost = bare;
+      shared = record {
+        parsable = s.between.parsable;
+        contents = s.between.contents;
+        owned = s.between.owned;
+        phased = record { phase_is = omega (arith, on_still); cset_is = λ low. absurd (omega (arith, low, on_still)); evac_is = λ other. absurd (other on_still) };
+        unwritten = s.between.unwritten;
+        marked = none_marked_in c (n Phase) (λ q. n (Grey q)) (λ q. n (Black q)) (λ t. n (Count t)) (λ t k. n (Buffer t k)) (λ q. n (Top q)) (λ q. n (Tams q)) (λ a. n (Heap a)) plot
+            r.ghost.recording r.ghost.scanning (λ is. omega (arith, is, on_still));
+        evacuated = evacuated_still;
+        updated = λ high. absurd (omega (arith, high, on_still));
+      };
+      roots = s.roots;
+      usable = tt;
+      none = s.between.no_hands;
+      asked = s.asked;
+      heard = λ t refs nums inside is. ap (λ k. bit_at k 1) (s.same Ask (λ never. never)) ∙ r.heard t refs nums inside is;
+      promised_to = s.between.promised_to;
+      unmarking = record { records_none = r.unmarking.records_none; scans_none = r.unmarking.scans_none };
+      uncopying = record { copies_none = r.uncopying.copies_none; works_none = r.uncopying.works_none };
+      no_more = r.no_more;
+    }
+
+    copied_then : StandsByCopies c m n room g asking
+    unfolding stands_by_copies
+    copied_then = record {
+      stands = stands_by_copies;
+      none_left = λ all a refs nums name is member.
+          let inside = piece_inside c (λ q. n (Top q)) plot s.between.parsable.plotted a (thing name refs nums) is in
+          let least = s.swept a refs nums name is member in
+          let end = outcome.3 all in
+          absurd (omega (arith, inside.1, least, end));
+      same = s.same;
+    }
+
+    -- and it can be
+    can_be_copied : CanCopyFrom c m c.region_words (c.regions * c.region_words)
+    can_be_copied = can_copy_from c m r.ghost.owner g asking (c.regions * c.region_words) m r.block c.region_words begins
+
+  -- In other phases nothing is left.
+  none_in_set : m Phase ≢ 2 → (a refs nums : ℕ) (name : Name) → r.block a ≡ Some (thing name refs nums) → IsCollected c (m Cset) a → ⊥
+  none_in_set other a refs nums name is member = ⊎_elim
+      (λ (on : m Phase ≡ 3). (r.shared.updated on).outside a refs nums name is member)
+      (λ (differs : m Phase ≢ 3).
+      let most = r.shared.phased.phase_is in
+      none_in_0 c a (subst (λ set. IsCollected c set a) (r.shared.phased.cset_is (omega (arith, other, differs, most))) member))
+      (cases_eq (m Phase) 3)
+
+  nothing_copied : m Phase ≢ 2 → StandsByCopies c m m true g asking
+  nothing_copied other = record {
+    stands = by_copies c m g asking r;
+    none_left = λ all. none_in_set other;
+    same = λ word fixed. refl;
+  }
+
+  copied_in_phase : StandsByCopies c m (all_copied c m) (is_room_for_all c m) g asking
+  copied_in_phase = ⊎_elim
+      (λ (on : m Phase ≡ 2).
+      let is = eq-eqb (m Phase) 2 on in
+      let words : all_copied c m ≡ n on = fun_ext (λ word. cond-true (m Phase == 2) (n on word) (m word) is) in
+      subst (λ w. StandsByCopies c m w (is_room_for_all c m) g asking) (sym words)
+      (subst (λ b. StandsByCopies c m (n on) b g asking) (sym (cond-true (m Phase == 2) (room on) true is)) (copied_then on)))
+      (λ (other : m Phase ≢ 2).
+      let is = ne_eqb (m Phase) 2 other in
+      let words : all_copied c m ≡ m = fun_ext (λ word. cond-false (m Phase == 2) (copied_from c m c.region_words (c.regions * c.region_words) word) (m word) is) in
+      subst (λ w. StandsByCopies c m w (is_room_for_all c m) g asking) (sym words)
+      (subst (λ b. StandsByCopies c m m b g asking) (sym (cond-false (m Phase == 2) (is_room_from c m c.region_words (c.regions * c.region_words)) true is)) (nothing_copied other)))
+      (cases_eq (m Phase) 2)
+
+pub copying_keeps : CopyingKeeps
+copying_keeps c m g asking r = let to = copied_in_phase c m g asking r in record { stands = to.stands; none_left = to.none_left; same = to.same }
+
+pub left_can_be_copied : LeftCanBeCopied
+left_can_be_copied = can_be_copied

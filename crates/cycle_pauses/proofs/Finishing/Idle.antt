@@ -1,0 +1,194 @@
+-- The words once a cycle is over: they stand for the graph while no cycle runs.
+use Rattle.std.proofs.Common.{◌≡◌, ◌≢◌, ℕ, ◌+◌, ◌*◌, ◌<◌, ◌≤◌, ◌==◌, Bool, true, false, Option, zero, suc, cond, ⊎_elim, refl, sym, ap, ◌∙◌, subst, arith}
+use Rattle.std.specs.Int.{bit_at}
+use Rattle.std.specs.Int.Bits.{or_zero_r}
+use Rattle.std.proofs.Math.Path.{fun_ext}
+use Rattle.std.proofs.lemmas.Bool.{cond-false, cases_lt, ne_eqb}
+use Rattle.std.specs.Prelude.{bit_or}
+use Rattle.heap_words.specs.declared.config.Config.{Config}
+use Rattle.heap_words.specs.Words.{Word, Pause, Left, End, State, Phase, Cset, Free, Evac, Claim, Ask, Top, Tams, Limit, Current, Root, Count, Buffer, Wait, Answer, Grey, Black, Heap}
+use Rattle.shen_graph.specs.Graph.{Graph}
+use Rattle.heap_world.specs.World.{Plot, no_ghost, with_owner, IsCollected, IsEvacuating, IsUsable}
+use Rattle.heap_world.specs.Asking.{Asking, asks}
+use Rattle.heap_world.specs.Roots.{HasNoMore}
+use Rattle.heap_world.specs.Represents.{Represents}
+use Rattle.heap_world.proofs.Copies.{none_in_0, none_is_in, none_evacuated}
+use Rattle.heap_world.proofs.Keeping.{usable_now}
+use Rattle.heap_world.proofs.Unmarked.{none_marked_in}
+use Rattle.cycle_words.specs.Marking.Marks.{bits_of}
+use Rattle.cycle_pauses.proofs.Evacuation.Asked.{asked_stays}
+use Rattle.cycle_words.specs.Updating.Changes.{is_chosen, final_updated}
+use Rattle.cycle_pauses.proofs.Updating.Ending.{updating_ends}
+use Rattle.cycle_words.specs.Finishing.Updated.{updated_word, is_kept_field, all_updated}
+use Rattle.cycle_words.specs.Finishing.Copies.{copied_from, all_copied, is_room_for_all}
+use Rattle.cycle_words.specs.Finishing.Finish.{set_freed, cycle_finished}
+use Rattle.cycle_words.proofs.Finishing.Fields.{collected_none, word_spared}
+use Rattle.cycle_pauses.specs.Finishing.Copying.{IsCopiedAll}
+use Rattle.cycle_pauses.proofs.Finishing.CopyingKeeps.{copying_begins, copying_keeps}
+use Rattle.cycle_pauses.proofs.Finishing.Updating.{as_updated, updated_represents}
+use Rattle.cycle_pauses.proofs.Finishing.Serving.{IsIdle}
+
+-- Such words represent the graph.
+pub idle_represents : (c : Config) (m : Word → ℕ) (block : Plot) (owner : ℕ → Option ℕ) (g : Graph) (asking : ℕ → Asking) → IsIdle c m block owner g asking
+    → m Phase ≡ 0 → m Cset ≡ 0 → m Evac ≡ 0 → ((t refs nums : ℕ) → t < c.mutators → asking t ≡ asks refs nums → bit_at (m Ask) 1 ≡ 1) → HasNoMore c.mutators g → Represents c m g asking
+idle_represents c m block owner g asking s no_phase no_cset no_evac heard no_more = record {
+  block = block;
+  ghost = with_owner no_ghost owner;
+  shared = record {
+    parsable = s.parsable;
+    contents = s.contents;
+    owned = s.owned;
+    phased = record { phase_is = omega (arith, no_phase); cset_is = λ low. no_cset; evac_is = λ other. no_evac };
+    unwritten = s.unwritten;
+    marked = none_marked_in c (m Phase) (λ q. m (Grey q)) (λ q. m (Black q)) (λ t. m (Count t)) (λ t k. m (Buffer t k)) (λ q. m (Top q)) (λ q. m (Tams q)) (λ a. m (Heap a)) block
+        no_ghost.recording no_ghost.scanning (λ is. omega (arith, is, no_phase));
+    evacuated =
+        subst (λ set. IsEvacuating c (m Phase) set (m Evac) (m Claim) (m Free) (λ q. m (Top q)) (λ q. m (Tams q)) (λ a. m (Heap a)) (λ q. m (Black q)) block owner no_ghost.copying no_ghost.working) (sym no_cset)
+        (subst (λ evac. IsEvacuating c (m Phase) 0 evac (m Claim) (m Free) (λ q. m (Top q)) (λ q. m (Tams q)) (λ a. m (Heap a)) (λ q. m (Black q)) block owner no_ghost.copying no_ghost.working) (sym no_evac)
+        (none_evacuated c (m Phase) (m Claim) (m Free) (λ q. m (Top q)) (λ q. m (Tams q)) (λ a. m (Heap a)) (λ q. m (Black q)) block owner no_ghost.copying no_ghost.working
+        (λ is. omega (arith, is, no_phase)) s.unmoved.no_moved s.unmoved.no_spent (λ seat seated. refl)));
+    updated = λ on. absurd (omega (arith, on, no_phase));
+  };
+  roots = s.roots;
+  usable = λ t i inside few.
+      subst (λ set. IsUsable c set (m Evac) block (m (Root t i))) (sym no_cset) (usable_now c (m Evac) block s.unmoved.no_moved (m (Root t i)) (g.root (t + 1) i) (s.roots t i inside few));
+  none = s.unmoved.no_hand;
+  asked = s.asked;
+  heard = heard;
+  promised_to = s.promised_to;
+  unmarking = record { records_none = λ seat seated. refl; scans_none = λ seat seated. refl };
+  uncopying = record { copies_none = λ seat seated. refl; works_none = λ seat seated. refl };
+  no_more = no_more;
+}
+
+-- where all references are updated, and the set is freed
+freed_idle : (c : Config) (n : Word → ℕ) (g : Graph) (asking : ℕ → Asking) (r : Represents c (final_updated c (as_updated c n)) g asking) → IsIdle c (set_freed c n) r.block r.ghost.owner g asking
+freed_idle c n g asking r = record {
+  parsable = r.shared.parsable;
+  contents = r.shared.contents;
+  owned = r.shared.owned;
+  unwritten = r.shared.unwritten;
+  unmoved = record {
+    no_moved = λ a refs nums to name is. none_in_0 c a (r.shared.evacuated.moved.moveds a refs nums to name is).inside;
+    no_spent = λ a words to is. none_in_0 c a (r.shared.evacuated.moved.spents a words to is).inside;
+    no_hand = r.none;
+  };
+  roots = r.roots;
+  asked = λ t inside.
+      asked_stays (final_updated c (as_updated c n)) (set_freed c n) r.block r.block g.count t refl refl (λ a words k is below. refl) (λ a words is. is) (λ a words is. is) (asking t) (r.asked t inside);
+  promised_to = r.promised_to;
+}
+
+-- one of two that are the same
+either_way : (b : Bool) (x y z : ℕ) → x ≡ z → y ≡ z → cond b x y ≡ z
+either_way true x y z one other = one
+either_way false x y z one other = other
+
+-- Where there is no collection set nothing is updated, and nothing freed.
+module _ (c : Config) (m : Word → ℕ) (none : m Cset ≡ 0) where
+  -- what is left of the cycle is taken away
+  abbrev pub settled : Word → ℕ
+  settled Phase = 0
+  settled Cset = 0
+  settled Claim = 0
+  settled Evac = 0
+  settled Ask = 0
+  settled word = m word
+
+  word_still : (v : ℕ) → updated_word c m v ≡ v
+  word_still v = word_spared c m v (collected_none c m v (λ inside. none_in_0 c v (subst (λ set. IsCollected c set v) none inside)))
+
+  unchosen : (r : ℕ) → is_chosen m r ≡ false
+  unchosen r = ne_eqb (bit_at (m Cset) r) 1 (λ is. none_is_in r (subst (λ set. bit_at set r ≡ 1) none is))
+
+  no_bits : (first n : ℕ) → bits_of (is_chosen (all_updated c m)) first n ≡ 0
+  unfolding bits_of
+  no_bits first zero = refl
+  no_bits first (suc n) =
+      let rest = no_bits first n in
+      rw (unchosen (first + n), rest) (omega arith)
+
+  free_still : bit_or (m Free) (bits_of (is_chosen (all_updated c m)) 0 c.regions) ≡ m Free
+  free_still = ap (bit_or (m Free)) (no_bits 0 c.regions) ∙ or_zero_r (m Free)
+
+  kept_word : (r k : ℕ) → cond (is_chosen m r) 0 k ≡ k
+  kept_word r k = cond-false (is_chosen m r) 0 k (unchosen r)
+
+  pub settled_is : (word : Word) → set_freed c (all_updated c m) word ≡ settled word
+  settled_is Phase = refl
+  settled_is Cset = refl
+  settled_is Claim = refl
+  settled_is Evac = refl
+  settled_is Ask = refl
+  settled_is Free = free_still
+  settled_is (Top r) = kept_word r (m (Top r))
+  settled_is (Tams r) = kept_word r (m (Tams r))
+  settled_is (Limit r) = kept_word r (m (Limit r))
+  settled_is (Heap x) = either_way (is_kept_field c m x) (updated_word c m (m (Heap x))) (m (Heap x)) (m (Heap x)) (word_still (m (Heap x))) refl
+  settled_is (Root t i) = word_still (m (Root t i))
+  settled_is (Answer t) = word_still (m (Answer t))
+  settled_is Pause = refl
+  settled_is Left = refl
+  settled_is End = refl
+  settled_is (State seat) = refl
+  settled_is (Current seat) = refl
+  settled_is (Count t) = refl
+  settled_is (Buffer t i) = refl
+  settled_is (Wait t) = refl
+  settled_is (Grey n) = refl
+  settled_is (Black n) = refl
+
+  pub settled_idle : (g : Graph) (asking : ℕ → Asking) (r : Represents c m g asking) → IsIdle c (set_freed c (all_updated c m)) r.block r.ghost.owner g asking
+  settled_idle g asking r = subst (λ w. IsIdle c w r.block r.ghost.owner g asking) (sym (fun_ext settled_is)) (record {
+    parsable = r.shared.parsable;
+    contents = r.shared.contents;
+    owned = r.shared.owned;
+    unwritten = r.shared.unwritten;
+    unmoved = record {
+      no_moved = λ a refs nums to name is. none_in_0 c a (subst (λ set. IsCollected c set a) none (r.shared.evacuated.moved.moveds a refs nums to name is).inside);
+      no_spent = λ a words to is. none_in_0 c a (subst (λ set. IsCollected c set a) none (r.shared.evacuated.moved.spents a words to is).inside);
+      no_hand = r.none;
+    };
+    roots = r.roots;
+    asked = λ t inside. asked_stays m settled r.block r.block g.count t refl refl (λ a words k is below. refl) (λ a words is. is) (λ a words is. is) (asking t) (r.asked t inside);
+    promised_to = r.promised_to;
+  })
+
+-- Where all that was left found room, the words stand for the graph while no cycle runs.
+module _ (c : Config) (m : Word → ℕ) (g : Graph) (asking : ℕ → Asking) (r : Represents c m g asking) where
+  copied_all : IsCopiedAll c m g asking
+  copied_all = copying_keeps c m g asking r
+
+  abbrev w : Word → ℕ
+  w = all_copied c m
+
+  abbrev Idle : Type 0
+  Idle = (plot : Plot) × (owner : ℕ → Option ℕ) × IsIdle c (cycle_finished c m) plot owner g asking
+
+  -- while objects are evacuated or references updated
+  in_cycle : 2 ≤ m Phase → is_room_for_all c m ≡ true → Idle
+  in_cycle on room =
+      let phase = copied_all.same Phase (λ never. never) in
+      let stands = copied_all.stands in
+      let copies = copying_begins c (all_copied c m) g asking stands (omega (arith, on, phase)) in
+      let updated = updated_represents c (all_copied c m) (all_copied c m) stands.block stands.ghost.owner g asking c.region_words copies (copied_all.none_left room) stands.heard stands.no_more in
+      let ended = updating_ends c (as_updated c (all_updated c (all_copied c m))) g asking updated refl (omega arith) in
+      (ended.block, ended.ghost.owner, freed_idle c (all_updated c (all_copied c m)) g asking ended)
+
+  -- where there is no collection set
+  copied_else : m Phase ≢ 2 → all_copied c m ≡ m
+  copied_else other = fun_ext (λ word. cond-false (m Phase == 2) (copied_from c m c.region_words (c.regions * c.region_words) word) (m word) (ne_eqb (m Phase) 2 other))
+
+  out_of_cycle : m Phase < 2 → Idle
+  out_of_cycle low =
+      let none = r.shared.phased.cset_is low in (
+        r.block,
+        r.ghost.owner,
+        subst (λ v. IsIdle c (set_freed c (all_updated c v)) r.block r.ghost.owner g asking) (sym (copied_else (λ two. omega (arith, two, low)))) (settled_idle c m none g asking r),
+      )
+
+  pub finished_idle : is_room_for_all c m ≡ true → (plot : Plot) × (owner : ℕ → Option ℕ) × IsIdle c (cycle_finished c m) plot owner g asking
+  finished_idle room = ⊎_elim
+      (λ (low : m Phase < 2). out_of_cycle low)
+      (λ (on : 2 ≤ m Phase). in_cycle on room)
+      (cases_lt (m Phase) 2)

@@ -1,0 +1,385 @@
+-- Who waits is given an object where there is room, while no cycle runs: the words stand for the same graph, with one promise more.
+use Rattle.std.proofs.Common.{◌≡◌, ◌≢◌, ℕ, ◌+◌, ◌*◌, ◌<◌, ◌≤◌, ◌⊎◌, ◌==◌, Option, Some, None, zero, suc, inl, inr, ⊎_elim, refl, sym, ap, ◌∙◌, subst, arith, w64}
+use Rattle.std.specs.Prelude.{bit_and}
+use Rattle.std.specs.Int.{bit_at}
+use Rattle.std.proofs.Math.Nat.{mul-le-mul_right}
+use Rattle.std.proofs.Math.Path.{fun_ext}
+use Rattle.std.proofs.lemmas.Bool.{cond-true, cond-false, cases_eq, eq-eqb, ne_eqb}
+use Rattle.std.proofs.lemmas.Bool.Decides.{nat_tests}
+use Rattle.std.proofs.lemmas.Nat.{and_le_l}
+use Rattle.std.proofs.lemmas.Nat.Bits.{bit_at_clear_same}
+use Rattle.heap_words.specs.declared.config.Config.{Config}
+use Rattle.heap_words.specs.Words.{Word, Free, Top, Current, Root, Wait, Answer, Heap}
+use Rattle.heap_words.specs.Encoding.{object_words, request_shape_in, request_count_in, shape_word, name_code}
+use Rattle.heap_words.specs.Encoding as encoding
+use Rattle.packing.specs.Rooms.{IsLowestRoom}
+use Rattle.packing.proofs.Rooms.{has_room}
+use Rattle.regions.specs.Place.{base_of}
+use Rattle.regions.specs.Sets.{all_but}
+use Rattle.shen_graph.specs.declared.name.Name.{Name}
+use Rattle.shen_graph.specs.Graph.{Graph}
+use Rattle.heap_world.specs.World.{Block, thing, moved, spent, hand, promised, filler, words_of, Plot, name_at, Points, IsPlotted, IsFilled, IsParsable, HasContents, AreOwned, AreUnwritten, AreObjects, IsFreeWord, IsBlank}
+use Rattle.heap_world.specs.Asking.{Asking, nothing, asks, refused, given, IsRequest, IsPromise, IsAsked}
+use Rattle.heap_world.proofs.Updates.{updated, updated_same, updated_there, updated_else}
+use Rattle.heap_world.proofs.Keeping.{points_stay}
+use Rattle.heap_world.proofs.Pieces.{some_words, beside, piece_cases, object_reads}
+use Rattle.heap_world.proofs.FreeRegions.{free_before}
+use Rattle.heap_world.proofs.Joined as joined
+use Rattle.heap_world.proofs.Joined.{CanJoin}
+use Rattle.full_words.specs.Full.{made_word, made_in, served_in, room_for, served}
+use Rattle.full_words.proofs.Made.{outside_fresh}
+use Rattle.full_words.proofs.Served.{served_first, turn_idle, turn_waits}
+use Rattle.cycle_pauses.proofs.Full.Holding.{request_reads}
+use Rattle.cycle_pauses.specs.Marking.MarkedOut.{AreUnmoved}
+use Rattle.cycle_pauses.proofs.Evacuation.Asked.{asked_stays}
+
+-- The words stand for a graph, with what mutators have asked for, while no cycle runs: nothing has moved, and nobody has room in hand.
+pub record IsIdle (c : Config) (m : Word → ℕ) (block : Plot) (owner : ℕ → Option ℕ) (g : Graph) (asking : ℕ → Asking) : Type 0 where
+  pub parsable : IsParsable c (λ q. m (Top q)) block
+  pub contents : HasContents c (λ a. m (Heap a)) block g.object g.count
+  pub owned : AreOwned c (λ q. m (Top q)) (m Free) (λ s. m (Current s)) block owner
+  pub unwritten : AreUnwritten (λ a. m (Heap a)) block
+  pub unmoved : AreUnmoved block
+  pub roots : (t i : ℕ) → t < c.mutators → i < 16 → Points block (m (Root t i)) (g.root (t + 1) i)
+  pub asked : (t : ℕ) → t < c.mutators → IsAsked m block g.count t (asking t)
+  pub promised_to : (a seat words : ℕ) → block a ≡ Some (promised seat words) → seat < c.mutators
+
+-- what a mutator has been given in place of what it asked for
+pub data IsServedSo : Asking → Asking → Type 0 where
+  as_before : (x : Asking) → IsServedSo x x
+  with_object : (refs nums : ℕ) → IsServedSo (asks refs nums) (given refs nums)
+
+-- who waits has asked
+pub asked_for : (m : Word → ℕ) (block : Plot) (count : ℕ → ℕ) (t : ℕ) (x : Asking) → IsAsked m block count t x → m (Wait t) ≢ 0
+    → (refs : ℕ) × (nums : ℕ) × (x ≡ asks refs nums) × IsRequest m count t refs nums × ((a words : ℕ) → block a ≡ Some (promised t words) → ⊥)
+asked_for m block count t nothing asked waits = absurd (waits asked.0)
+asked_for m block count t (asks refs nums) asked waits = (refs, nums, refl, asked.0, asked.2)
+asked_for m block count t refused asked waits = absurd (waits asked.0)
+asked_for m block count t (given refs nums) asked waits = absurd (waits asked.0)
+
+-- the words of a new object, in order
+fresh_at : (a t made refs nums shape before k : ℕ) → shape ≡ shape_word refs nums → k < object_words shape → made_word a shape (name_code (t + 1) (made + 1)) before (a + k) ≡ encoding.fresh_word t made refs nums k
+fresh_at a t made refs nums shape before k is below = grind (arith, nat_tests)
+
+module _ (c : Config) (m : Word → ℕ) (block : Plot) (owner : ℕ → Option ℕ) (g : Graph) (asking : ℕ → Asking) (s : IsIdle c m block owner g asking) (t r : ℕ) (inside : t < c.mutators)
+    (waits : m (Wait t) ≢ 0) (lowest : IsLowestRoom c.region_words (λ q. m (Top q)) (object_words (request_shape_in (m (Wait t)))) c.regions r) where
+  abbrev n : Word → ℕ
+  n = made_in c m t r
+
+  abbrev top : ℕ → ℕ
+  top q = m (Top q)
+
+  abbrev heap : ℕ → ℕ
+  heap x = m (Heap x)
+
+  abbrev after : ℕ → ℕ
+  after x = n (Heap x)
+
+  abbrev to : ℕ
+  to = base_of c r + m (Top r)
+
+  abbrev shape : ℕ
+  shape = request_shape_in (m (Wait t))
+
+  -- what it asks for
+  asked_so : (refs : ℕ) × (nums : ℕ) × (asking t ≡ asks refs nums) × IsRequest m g.count t refs nums × ((a words : ℕ) → block a ≡ Some (promised t words) → ⊥)
+  asked_so = asked_for m block g.count t (asking t) (s.asked t inside) waits
+
+  abbrev refs : ℕ
+  refs = asked_so.0
+
+  abbrev nums : ℕ
+  nums = asked_so.1
+
+  abbrev x : Block
+  x = promised t (3 + refs + nums)
+
+  request : IsRequest m g.count t refs nums
+  request = asked_so.3
+
+  shape_is : shape ≡ shape_word refs nums
+  shape_is = (request_reads m g.count t refs nums request).shaped
+
+  words_are : object_words shape ≡ 3 + refs + nums
+  words_are = let few_refs = request.few_refs in let few_nums = request.few_nums in ap object_words shape_is ∙ omega (arith, few_refs, few_nums)
+
+  count_is : request_count_in (m (Wait t)) ≡ g.count (t + 1) + 1
+  count_is = (request_reads m g.count t refs nums request).counted
+
+  long : (p : ℕ) (z : Block) → block p ≡ Some z → 1 ≤ words_of z
+  long p z is = some_words c top (λ q. m (Current q)) block s.parsable s.owned.rooms p z is
+
+  joins : CanJoin c top block r (m (Top r)) x
+  joins = record {
+    plotted = s.parsable.plotted;
+    long = long;
+    within = lowest.below;
+    top_is = refl;
+    room = (let room = lowest.room in omega (arith, room, words_are));
+    some = omega arith;
+  }
+
+  abbrev plot : Plot
+  plot = updated block to (Some x)
+
+  stays : (p : ℕ) (z : Block) → block p ≡ Some z → plot p ≡ Some z
+  stays = joined.stays c top block r (m (Top r)) x joins
+
+  new_there : plot to ≡ Some x
+  new_there = updated_there block to (Some x)
+
+  names : (p : ℕ) (name : Name) → name_at (block p) ≡ Some name → name_at (plot p) ≡ Some name
+  names = joined.names_stay c top block r (m (Top r)) x joins
+
+  cases : (p : ℕ) (z : Block) → plot p ≡ Some z → ((p ≡ to) × (x ≡ z)) ⊎ ((p ≢ to) × (block p ≡ Some z))
+  cases p z is = piece_cases block to x p z is
+
+  -- an object of the graph stood there, and so did what is no promise
+  thing_was : (p rs ns : ℕ) (name : Name) → plot p ≡ Some (thing name rs ns) → block p ≡ Some (thing name rs ns)
+  thing_was p rs ns name is = ⊎_elim (λ (new : (p ≡ to) × (x ≡ thing name rs ns)). let differ = new.1 in cc) (λ old. old.1) (cases p (thing name rs ns) is)
+
+  filler_was : (p words : ℕ) → plot p ≡ Some (filler words) → block p ≡ Some (filler words)
+  filler_was p words is = ⊎_elim (λ (new : (p ≡ to) × (x ≡ filler words)). let differ = new.1 in cc) (λ old. old.1) (cases p (filler words) is)
+
+  -- the words of what stood there stay
+  kept : (p k : ℕ) (z : Block) → block p ≡ Some z → k < words_of z → after (p + k) ≡ heap (p + k)
+  unfolding made_in
+  kept p k z is below =
+      let room = lowest.room in
+      outside_fresh to shape (name_code (t + 1) (request_count_in (m (Wait t)))) (heap (p + k)) (p + k)
+      (⊎_elim
+      (λ (before : p + words_of z ≤ base_of c r). inl (omega (arith, before, below)))
+      (λ (rest : ((base_of c r ≤ p) × (p + words_of z ≤ to)) ⊎ (base_of c r + c.region_words ≤ p)). ⊎_elim
+      (λ (within : (base_of c r ≤ p) × (p + words_of z ≤ to)). inl (omega (arith, within.1, below)))
+      (λ (behind : base_of c r + c.region_words ≤ p). inr (omega (arith, behind, room)))
+      rest)
+      (beside c top block s.parsable.plotted r p z is))
+
+  -- the new ones are those of a new object
+  new_word : (k : ℕ) → k < 3 + refs + nums → after (to + k) ≡ encoding.fresh_word t (g.count (t + 1)) refs nums k
+  unfolding made_in
+  new_word k below =
+      ap (λ j. made_word to shape (name_code (t + 1) j) (heap (to + k)) (to + k)) count_is
+      ∙ fresh_at to t (g.count (t + 1)) refs nums shape (heap (to + k)) k shape_is (omega (arith, below, words_are))
+
+  same_current : (q : ℕ) → n (Current q) ≡ m (Current q)
+  unfolding made_in
+  same_current q = refl
+
+  same_root : (u i : ℕ) → n (Root u i) ≡ m (Root u i)
+  unfolding made_in
+  same_root u i = refl
+
+  own_wait : n (Wait t) ≡ 0
+  unfolding made_in
+  own_wait = cond-true (t == t) 0 (m (Wait t)) (eq-eqb t t refl)
+
+  own_answer : n (Answer t) ≡ to
+  unfolding made_in
+  own_answer = cond-true (t == t) to (m (Answer t)) (eq-eqb t t refl)
+
+  other_wait : (u : ℕ) → t ≢ u → n (Wait u) ≡ m (Wait u)
+  unfolding made_in
+  other_wait u other = cond-false (t == u) 0 (m (Wait u)) (ne_eqb t u other)
+
+  other_answer : (u : ℕ) → t ≢ u → n (Answer u) ≡ m (Answer u)
+  unfolding made_in
+  other_answer u other = cond-false (t == u) to (m (Answer u)) (ne_eqb t u other)
+
+  free_is : n Free ≡ bit_and (m Free) (all_but r)
+  unfolding made_in
+  free_is = refl
+
+  tops_are : (λ q. n (Top q)) ≡ updated top r (m (Top r) + words_of x)
+  unfolding made_in
+  tops_are = fun_ext (λ q. ap (λ w. updated top r (m (Top r) + w) q) words_are)
+
+  other_top : (q : ℕ) → q ≢ r → n (Top q) ≡ m (Top q)
+  other_top q other = ap (λ (f : ℕ → ℕ). f q) tops_are ∙ updated_else top r (m (Top r) + words_of x) q (λ same. other (sym same))
+
+  free_again : IsFreeWord c (n Free) (λ q. n (Top q)) owner
+  free_again = subst (λ f. IsFreeWord c f (λ q. n (Top q)) owner) (sym free_is) (record {
+    no_more = (let was = s.owned.free_word.no_more in let less = and_le_l (m Free) (all_but r) in omega (arith, was, less));
+    empty = λ q below is.
+        let other : q ≢ r = λ same.
+        let gone = bit_at_clear_same w64 (m Free) r (let few = c.in_range.most_regions in let within = lowest.below in omega (arith, few, within)) in
+        let here : bit_at (bit_and (m Free) (all_but r)) r ≡ 1 = subst (λ k. bit_at (bit_and (m Free) (all_but r)) k ≡ 1) same is in
+        omega (arith, gone, here)
+        in
+        other_top q other ∙ s.owned.free_word.empty q below (free_before c (m Free) r lowest.below q below is);
+    nobodys = λ q below is. s.owned.free_word.nobodys q below (free_before c (m Free) r lowest.below q below is);
+  })
+
+  abbrev asking_then : ℕ → Asking
+  asking_then = updated asking t (given refs nums)
+
+  promised_here : IsAsked n plot g.count t (given refs nums)
+  promised_here =
+      let low : 1 * c.region_words ≤ (r + 1) * c.region_words = mul-le-mul_right c.region_words (omega arith) in
+      let least = c.in_range.least_words in (
+        own_wait,
+        subst (λ k. 1 < k) (sym own_answer) (omega (arith, low, least)),
+        subst (IsPromise n plot g.count t refs nums) (sym own_answer)
+            (record {
+              here = new_there;
+              words = new_word;
+              only = λ p more is. ⊎_elim (λ (new : (p ≡ to) × (x ≡ promised t more)). new.0) (λ (old : (p ≢ to) × (block p ≡ Some (promised t more))). absurd (asked_so.4 p more old.1)) (cases p (promised t more) is);
+              few_refs = request.few_refs;
+              few_nums = request.few_nums;
+              few = request.few;
+            }),
+      )
+
+  asked_again : (u : ℕ) → u < c.mutators → IsAsked n plot g.count u (asking_then u)
+  asked_again u below = ⊎_elim
+      (λ (own : t ≡ u).
+      subst (IsAsked n plot g.count u) (sym (updated_same asking t (given refs nums) u own)) (subst (λ k. IsAsked n plot g.count k (given refs nums)) own promised_here))
+      (λ (other : t ≢ u).
+      subst (IsAsked n plot g.count u) (sym (updated_else asking t (given refs nums) u other))
+      (asked_stays m n block plot g.count u (other_wait u other) (other_answer u other) (λ p words k is few. kept p k (promised u words) is few)
+      (λ p words is. stays p (promised u words) is)
+      (λ p words is. ⊎_elim
+      (λ (new : (p ≡ to) × (x ≡ promised u words)). let both = new.1 in let seats : t ≡ u = cc in absurd (other seats))
+      (λ old. old.1)
+      (cases p (promised u words) is))
+      (asking u) (s.asked u below)))
+      (cases_eq t u)
+
+  objects_again : AreObjects after plot g.object
+  objects_again = record {
+    each = λ p rs ns name is.
+        let was = thing_was p rs ns name is in
+        let o = s.contents.objects.each p rs ns name was in
+        (o.0, o.1, object_reads heap after block plot p rs ns name o.0 (λ k below. kept p k (thing name rs ns) was below) names o.2);
+    once = λ p q rs ns more less name is_p is_q. s.contents.objects.once p q rs ns more less name (thing_was p rs ns name is_p) (thing_was q more less name is_q);
+  }
+
+  null_word : (k : ℕ) → 3 ≤ k → encoding.fresh_word t (g.count (t + 1)) refs nums k ≡ 0
+  null_word k past = grind (arith, nat_tests)
+
+  unwritten_again : AreUnwritten after plot
+  unwritten_again = record {
+    blanks = λ p seat words is. ⊎_elim
+        (λ (new : (p ≡ to) × (x ≡ promised seat words)). subst (λ k. IsBlank after k words) (sym new.0) (record {
+          refs = refs;
+          nums = nums;
+          long = sym (ap words_of new.1);
+          few_refs = request.few_refs;
+          few_nums = request.few_nums;
+          shape = new_word 1 (omega arith);
+          nulls = λ i below.
+              let place : to + (3 + i) ≡ to + 3 + i = omega arith in
+              sym (ap after place) ∙ new_word (3 + i) (omega (arith, below)) ∙ null_word (3 + i) (omega arith);
+        }))
+        (λ (old : (p ≢ to) × (block p ≡ Some (promised seat words))).
+        let blank = s.unwritten.blanks p seat words old.1 in
+        let size = blank.long in
+        record {
+          refs = blank.refs;
+          nums = blank.nums;
+          long = blank.long;
+          few_refs = blank.few_refs;
+          few_nums = blank.few_nums;
+          shape = kept p 1 (promised seat words) old.1 (omega (arith, size)) ∙ blank.shape;
+          nulls = λ i below.
+              let place : p + (3 + i) ≡ p + 3 + i = omega arith in
+              sym (ap after place) ∙ kept p (3 + i) (promised seat words) old.1 (omega (arith, size, below)) ∙ ap heap place ∙ blank.nulls i below;
+        })
+        (cases p (promised seat words) is);
+    headers = λ p words is.
+        let was = filler_was p words is in
+        let first_word : p + 0 ≡ p = omega arith in
+        sym (ap after first_word) ∙ kept p 0 (filler words) was (let size = s.parsable.fillers p words was in omega (arith, size)) ∙ ap heap first_word ∙ s.unwritten.headers p words was;
+    lengths = λ p words is.
+        let was = filler_was p words is in
+        ap object_words (kept p 1 (filler words) was (let size = s.parsable.fillers p words was in omega (arith, size))) ∙ s.unwritten.lengths p words was;
+  }
+
+  unmoved_again : AreUnmoved plot
+  unmoved_again = record {
+    no_moved = λ p rs ns at name is. ⊎_elim (λ (new : (p ≡ to) × (x ≡ moved name rs ns at)). let differ = new.1 in cc) (λ old. s.unmoved.no_moved p rs ns at name old.1) (cases p (moved name rs ns at) is);
+    no_spent = λ p words at is. ⊎_elim (λ (new : (p ≡ to) × (x ≡ spent words at)). let differ = new.1 in cc) (λ old. s.unmoved.no_spent p words at old.1) (cases p (spent words at) is);
+    no_hand = λ p seat words is. ⊎_elim (λ (new : (p ≡ to) × (x ≡ hand seat words)). let differ = new.1 in cc) (λ old. s.unmoved.no_hand p seat words old.1) (cases p (hand seat words) is);
+  }
+
+  one_made : IsIdle c (made_in c m t r) plot owner g asking_then
+  one_made = record {
+    parsable = record {
+      plotted = subst (λ f. IsPlotted c f plot) (sym tops_are) (joined.plotted_more c top block r (m (Top r)) x joins);
+      filled = subst (λ f. IsFilled c f plot) (sym tops_are) (joined.filled_more c top block r (m (Top r)) x joins s.parsable.filled);
+      promises = λ p seat words is. ⊎_elim
+          (λ (new : (p ≡ to) × (x ≡ promised seat words)). (let size = ap words_of new.1 in omega (arith, size)))
+          (λ old. s.parsable.promises p seat words old.1)
+          (cases p (promised seat words) is);
+      fillers = λ p words is. s.parsable.fillers p words (filler_was p words is);
+      spents = λ p words at is. absurd (unmoved_again.no_spent p words at is);
+    };
+    contents = record { objects = objects_again; given = s.contents.given };
+    owned = record {
+      free_word = free_again;
+      currents = record {
+        within = λ seat q is. s.owned.currents.within seat q (sym (same_current seat) ∙ is);
+        own = λ seat q is. s.owned.currents.own seat q (sym (same_current seat) ∙ is);
+      };
+      rooms = λ p seat words is. absurd (unmoved_again.no_hand p seat words is);
+    };
+    unwritten = unwritten_again;
+    unmoved = unmoved_again;
+    roots = λ u i below few. subst (λ v. Points plot v (g.root (u + 1) i)) (sym (same_root u i)) (points_stay block plot names (m (Root u i)) (g.root (u + 1) i) (s.roots u i below few));
+    asked = asked_again;
+    promised_to = λ p seat words is. ⊎_elim
+        (λ (new : (p ≡ to) × (x ≡ promised seat words)). let both = new.1 in let seats : t ≡ seat = cc in subst (λ k. k < c.mutators) seats inside)
+        (λ old. s.promised_to p seat words old.1)
+        (cases p (promised seat words) is);
+  }
+
+  served_one : (u : ℕ) → IsServedSo (asking u) (asking_then u)
+  served_one u = ⊎_elim
+      (λ (own : t ≡ u).
+      subst (IsServedSo (asking u)) (sym (updated_same asking t (given refs nums) u own))
+      (subst (λ y. IsServedSo y (given refs nums)) (sym (ap asking (sym own) ∙ asked_so.2)) (IsServedSo.with_object refs nums)))
+      (λ (other : t ≢ u). subst (IsServedSo (asking u)) (sym (updated_else asking t (given refs nums) u other)) (IsServedSo.as_before (asking u)))
+      (cases_eq t u)
+
+  pub given_one : (plot' : Plot) × (then : ℕ → Asking) × IsIdle c (made_in c m t r) plot' owner g then × ((u : ℕ) → IsServedSo (asking u) (then u))
+  given_one = (plot, asking_then, one_made, served_one)
+
+-- served again
+served_twice : (x y z : Asking) → IsServedSo x y → IsServedSo y z → IsServedSo x z
+served_twice x y z (IsServedSo.as_before w) later = later
+served_twice x y z (IsServedSo.with_object refs nums) later = by_later z later
+  where
+    by_later : (w : Asking) → IsServedSo (given refs nums) w → IsServedSo (asks refs nums) w
+    by_later w (IsServedSo.as_before v) = IsServedSo.with_object refs nums
+
+-- After so many turns.
+pub turns_idle : (c : Config) (m : Word → ℕ) (block : Plot) (owner : ℕ → Option ℕ) (g : Graph) (asking : ℕ → Asking) → IsIdle c m block owner g asking → (n : ℕ) → n ≤ c.mutators
+    → (plot : Plot) × (then : ℕ → Asking) × IsIdle c (served c m n) plot owner g then × ((t : ℕ) → IsServedSo (asking t) (then t))
+turns_idle c m block owner g asking s zero few =
+    (block, asking, subst (λ w. IsIdle c w block owner g asking) (sym (fun_ext (served_first c m))) s, λ t. IsServedSo.as_before (asking t))
+turns_idle c m block owner g asking s (suc n) few =
+    let rest = turns_idle c m block owner g asking s n (omega (arith, few)) in
+    let w : Word → ℕ = served c m n in
+    ⊎_elim
+    (λ (none : served c m n (Wait n) ≡ 0).
+    (rest.0, rest.1, subst (λ v. IsIdle c v rest.0 owner g rest.1) (sym (fun_ext (λ word. turn_idle c m n word none))) rest.2, rest.3))
+    (λ (waits : served c m n (Wait n) ≢ 0). by_room rest waits (room_for c (served c m n) n) refl)
+    (cases_eq (served c m n (Wait n)) 0)
+  where
+    by_room : ((plot : Plot) × (then : ℕ → Asking) × IsIdle c (served c m n) plot owner g then × ((t : ℕ) → IsServedSo (asking t) (then t))) → served c m n (Wait n) ≢ 0
+        → (o : Option ℕ) → room_for c (served c m n) n ≡ o
+        → (plot : Plot) × (then : ℕ → Asking) × IsIdle c (served c m (suc n)) plot owner g then × ((t : ℕ) → IsServedSo (asking t) (then t))
+    by_room rest waits None none = (
+      rest.0,
+      rest.1,
+      subst (λ v. IsIdle c v rest.0 owner g rest.1) (sym (fun_ext (λ word. turn_waits c m n word waits ∙ ap (λ o. served_in c (served c m n) n o word) none))) rest.2,
+      rest.3,
+    )
+    by_room rest waits (Some r) found =
+        let lowest = has_room c.region_words (λ q. served c m n (Top q)) (object_words (request_shape_in (served c m n (Wait n)))) c.regions r found in
+        let one = given_one c (served c m n) rest.0 owner g rest.1 rest.2 n r (omega (arith, few)) waits lowest in (
+          one.0,
+          one.1,
+          subst (λ v. IsIdle c v one.0 owner g one.1) (sym (fun_ext (λ word. turn_waits c m n word waits ∙ ap (λ o. served_in c (served c m n) n o word) found))) one.2,
+          λ t. served_twice (asking t) (rest.1 t) (one.1 t) (rest.3 t) (one.3 t),
+        )

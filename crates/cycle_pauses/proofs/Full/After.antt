@@ -1,0 +1,282 @@
+-- Words that stand for a graph with promised objects represent it: the promised objects are no objects of the graph any more.
+use Rattle.std.proofs.Common.{zero, suc, length, replicate, subst, ◌≡◌, ℕ, ◌+◌, ◌-◌, ◌<◌, ◌⊎◌, Bool, true, false, slice_get, Some, None, inl, inr, ⊎_elim, refl, sym, ap, ◌∙◌, arith}
+use Rattle.std.specs.Prelude.{if◌then◌else◌}
+use Rattle.std.proofs.lemmas.Bool.{cond-true, cond-false, cases_Bool}
+use Rattle.std.proofs.lemmas.List.{length-replicate}
+use Rattle.std.proofs.lemmas.Option.{same_Some}
+use Rattle.heap_words.specs.declared.config.Config.{Config}
+use Rattle.heap_words.specs.Words.{Word, Free, Top, Root, Heap}
+use Rattle.shen_graph.specs.declared.name.Name.{Name}
+use Rattle.shen_graph.specs.Graph.{Graph, Object, Reference, blank, fresh, same_reference}
+use Rattle.shen_graph.proofs.PlainLemmas.{same_name-itself}
+use Rattle.heap_world.specs.World.{Block, thing, moved, spent, hand, promised, filler, no_ghost, words_of, Plot, name_at, Points, IsGiven, IsThing, AreObjects, IsBlank, IsEvacuating, IsUsable, AreUsable, SharedFacts}
+use Rattle.heap_world.proofs.Keeping.{usable_now}
+use Rattle.heap_world.proofs.Copies.{none_evacuated}
+use Rattle.heap_world.proofs.Unmarked.{none_marked}
+use Rattle.full_words.specs.Promised.{Promises, with_promised}
+use Rattle.full_words.specs.Image.{ImageStands}
+use Rattle.full_words.proofs.Named.{thing_at, no_moved, no_spent, no_hand, no_promised, no_filler}
+use Rattle.full_words.proofs.Promised.{same_reference-true}
+use Rattle.cycle_pauses.proofs.Full.Mapped.{mapped, mapped_at, mapped_from, plotted_alike, filled_alike}
+
+-- an element of a list of equal ones
+pub replicate_at : {A : Type 0} (n i : ℕ) (x : A) → i < n → slice_get (replicate n x) i ≡ Some x
+replicate_at zero i x below = absurd (omega (arith, below))
+replicate_at (suc n) zero x below = refl
+replicate_at (suc n) (suc i) x below = replicate_at n i x (omega (arith, below))
+
+-- whether a name is that of a promised object
+abbrev pub is_promised : Promises → Name → Bool
+is_promised p n = same_reference (p.ref n.thread) (Some n)
+
+-- an object of the larger graph as a piece: a promised one is of no graph
+abbrev pub as_promised : Promises → Block → Block
+as_promised p (thing name refs nums) = if is_promised p name then promised (name.thread - 1) (3 + refs + nums) else thing name refs nums
+as_promised p (moved name refs nums to) = moved name refs nums to
+as_promised p (spent words to) = spent words to
+as_promised p (hand seat words) = hand seat words
+as_promised p (promised seat words) = promised seat words
+as_promised p (filler words) = filler words
+
+-- a name has an object
+abbrev pub IsKnown : Graph → Name → Type 0
+IsKnown g n = (o : Object) × (g.object n ≡ Some o)
+
+-- What is taken of such words: what is promised are next objects, names were given, and what roots and pieces lead to has an
+-- object.
+pub record IsAfter (c : Config) (m : Word → ℕ) (block : Plot) (g : Graph) (p : Promises) : Type 0 where
+  pub stands : ImageStands c m block g p
+  pub next : (t : ℕ) (n : Name) → p.ref t ≡ Some n → n ≡ fresh g t
+  pub given : (n : Name) (o : Object) → g.object n ≡ Some o → IsGiven c g.count n
+  pub fields : (a refs nums i : ℕ) (n f : Name) (o : Object) → block a ≡ Some (thing n refs nums) → g.object n ≡ Some o → slice_get o.refs i ≡ Some (Some f) → IsKnown g f
+  pub roots : (t i : ℕ) (n : Name) → g.root t i ≡ Some n → IsKnown g n
+
+-- an object at an address, that is no promised one
+abbrev pub IsOld : Plot → Promises → ℕ → ℕ → ℕ → Name → Type 0
+IsOld block p a refs nums n = (block a ≡ Some (thing n refs nums)) × (is_promised p n ≡ false)
+
+-- and a promised one
+pub record IsPromisedThing (block : Plot) (p : Promises) (a seat words : ℕ) : Type 0 where
+  pub name : Name
+  pub refs : ℕ
+  pub nums : ℕ
+  pub here : block a ≡ Some (thing name refs nums)
+  pub named : p.ref name.thread ≡ Some name
+  pub seat_is : name.thread - 1 ≡ seat
+  pub words_are : 3 + refs + nums ≡ words
+
+module _ (c : Config) (m : Word → ℕ) (block : Plot) (g : Graph) (p : Promises) (is_after : IsAfter c m block g p) where
+  abbrev heap : ℕ → ℕ
+  heap a = m (Heap a)
+
+  abbrev stands : ImageStands c m block g p
+  stands = is_after.stands
+
+  abbrev pub taken : Plot
+  taken = mapped (as_promised p) block
+
+  -- a piece keeps its words
+  pub same_words : (a : ℕ) (b : Block) → block a ≡ Some b → words_of (as_promised p b) ≡ words_of b
+  same_words a (thing name refs nums) is = ⊎_elim
+      (λ (yes : is_promised p name ≡ true). ap words_of (cond-true (is_promised p name) (promised (name.thread - 1) (3 + refs + nums)) (thing name refs nums) yes))
+      (λ (no : is_promised p name ≡ false). ap words_of (cond-false (is_promised p name) (promised (name.thread - 1) (3 + refs + nums)) (thing name refs nums) no))
+      (cases_Bool (is_promised p name))
+  same_words a (moved name refs nums to) is = refl
+  same_words a (spent words to) is = refl
+  same_words a (hand seat words) is = refl
+  same_words a (promised seat words) is = refl
+  same_words a (filler words) is = refl
+
+  -- a name that has an object is no promised one
+  pub not_promised : (n : Name) → IsKnown g n → is_promised p n ≡ false
+  not_promised n known = ⊎_elim
+      (λ (yes : is_promised p n ≡ true).
+      let ref = same_reference-true (p.ref n.thread) n yes in
+      let count : n.count ≡ g.count n.thread + 1 = ap (λ (k : Name). k.count) (is_after.next n.thread n ref) in
+      let thread = stands.rooted.no_more_promised n.thread n ref in
+      absurd (let made = is_after.given n known.0 known.1 in omega (arith, made.by_thread (omega (arith, thread.2)), count)))
+      (λ (no : is_promised p n ≡ false). no)
+      (cases_Bool (is_promised p n))
+
+  -- it stands where it stood
+  pub known_stays : (a : ℕ) (n : Name) → IsKnown g n → name_at (block a) ≡ Some n → name_at (taken a) ≡ Some n
+  known_stays a n known is =
+      let was = thing_at block stands.things a n is in
+      ap name_at (mapped_at (as_promised p) block a (thing n was.0 was.1) was.2)
+      ∙ ap (λ b. name_at (Some b)) (cond-false (is_promised p n) (promised (n.thread - 1) (3 + was.0 + was.1)) (thing n was.0 was.1) (not_promised n known))
+
+  -- and so does what a word stands for
+  pub points_on : (word : ℕ) (r : Reference) → ((n : Name) → r ≡ Some n → IsKnown g n) → Points block word r → Points taken word r
+  points_on word None known points = points
+  points_on word (Some n) known points = known_stays word n (known n refl) points
+
+  -- an object that is left is an old one
+  left_of : (a refs nums : ℕ) (n : Name) (b : Block) → block a ≡ Some b → as_promised p b ≡ thing n refs nums → IsOld block p a refs nums n
+  left_of a refs nums n (thing name more_refs more_nums) is same = ⊎_elim
+      (λ (yes : is_promised p name ≡ true).
+      let gone : promised (name.thread - 1) (3 + more_refs + more_nums) ≡ thing n refs nums =
+      sym (cond-true (is_promised p name) (promised (name.thread - 1) (3 + more_refs + more_nums)) (thing name more_refs more_nums) yes) ∙ same in
+      cc)
+      (λ (no : is_promised p name ≡ false).
+      let stays : thing name more_refs more_nums ≡ thing n refs nums =
+      sym (cond-false (is_promised p name) (promised (name.thread - 1) (3 + more_refs + more_nums)) (thing name more_refs more_nums) no) ∙ same in
+      let name_is : name ≡ n = same_Some name n (ap (λ b. name_at (Some b)) stays) in
+      (is ∙ ap Some stays, ap (is_promised p) (sym name_is) ∙ no))
+      (cases_Bool (is_promised p name))
+  left_of a refs nums n (moved name more_refs more_nums to) is same = absurd (no_moved block stands.things a more_refs more_nums to name is)
+  left_of a refs nums n (spent words to) is same = absurd (no_spent block stands.things a words to is)
+  left_of a refs nums n (hand seat words) is same = absurd (no_hand block stands.things a seat words is)
+  left_of a refs nums n (promised seat words) is same = absurd (no_promised block stands.things a seat words is)
+  left_of a refs nums n (filler words) is same = absurd (no_filler block stands.things a words is)
+
+  pub left : (a refs nums : ℕ) (n : Name) → taken a ≡ Some (thing n refs nums) → IsOld block p a refs nums n
+  left a refs nums n is = let was = mapped_from (as_promised p) block a (thing n refs nums) is in left_of a refs nums n was.0 was.1 was.2
+
+  -- a promised piece is a promised object
+  gone_of : (a seat words : ℕ) (b : Block) → block a ≡ Some b → as_promised p b ≡ promised seat words → IsPromisedThing block p a seat words
+  gone_of a seat words (thing name refs nums) is same = ⊎_elim
+      (λ (yes : is_promised p name ≡ true).
+      let gone : promised (name.thread - 1) (3 + refs + nums) ≡ promised seat words =
+      sym (cond-true (is_promised p name) (promised (name.thread - 1) (3 + refs + nums)) (thing name refs nums) yes) ∙ same in
+      record { name = name; refs = refs; nums = nums; here = is; named = same_reference-true (p.ref name.thread) name yes; seat_is = cc; words_are = cc })
+      (λ (no : is_promised p name ≡ false).
+      let stays : thing name refs nums ≡ promised seat words =
+      sym (cond-false (is_promised p name) (promised (name.thread - 1) (3 + refs + nums)) (thing name refs nums) no) ∙ same in
+      cc)
+      (cases_Bool (is_promised p name))
+  gone_of a seat words (moved name more_refs more_nums to) is same = absurd (no_moved block stands.things a more_refs more_nums to name is)
+  gone_of a seat words (spent more to) is same = absurd (no_spent block stands.things a more to is)
+  gone_of a seat words (hand other more) is same = absurd (no_hand block stands.things a other more is)
+  gone_of a seat words (promised other more) is same = absurd (no_promised block stands.things a other more is)
+  gone_of a seat words (filler more) is same = absurd (no_filler block stands.things a more is)
+
+  pub gone : (a seat words : ℕ) → taken a ≡ Some (promised seat words) → IsPromisedThing block p a seat words
+  gone a seat words is = let was = mapped_from (as_promised p) block a (promised seat words) is in gone_of a seat words was.0 was.1 was.2
+
+  -- each piece is an object, or promised
+  either : (a : ℕ) (b x : Block) → block a ≡ Some b → as_promised p b ≡ x → ((name : Name) × (refs : ℕ) × (nums : ℕ) × (x ≡ thing name refs nums)) ⊎ ((seat : ℕ) × (words : ℕ) × (x ≡ promised seat words))
+  either a b x is same =
+      let found = stands.things a b is in
+      let here : as_promised p (thing found.0 found.1 found.2) ≡ x = ap (as_promised p) (sym found.3) ∙ same in
+      ⊎_elim
+      (λ (yes : is_promised p found.0 ≡ true).
+      inr (found.0.thread - 1, 3 + found.1 + found.2, sym here ∙ cond-true (is_promised p found.0) (promised (found.0.thread - 1) (3 + found.1 + found.2)) (thing found.0 found.1 found.2) yes))
+      (λ (no : is_promised p found.0 ≡ false).
+      inl (found.0, found.1, found.2, sym here ∙ cond-false (is_promised p found.0) (promised (found.0.thread - 1) (3 + found.1 + found.2)) (thing found.0 found.1 found.2) no))
+      (cases_Bool (is_promised p found.0))
+
+  -- and of no other kind
+  no_other : (a : ℕ) (x : Block) → ((name : Name) (refs nums : ℕ) → x ≡ thing name refs nums → ⊥) → ((seat words : ℕ) → x ≡ promised seat words → ⊥) → taken a ≡ Some x → ⊥
+  no_other a x unlike unpromised is =
+      let was = mapped_from (as_promised p) block a x is in
+      ⊎_elim
+      (λ (one : (name : Name) × (refs : ℕ) × (nums : ℕ) × (x ≡ thing name refs nums)). unlike one.0 one.1 one.2 one.3)
+      (λ (one : (seat : ℕ) × (words : ℕ) × (x ≡ promised seat words)). unpromised one.0 one.1 one.2)
+      (either a was.0 x was.1 was.2)
+
+  pub no_hands : (a seat words : ℕ) → taken a ≡ Some (hand seat words) → ⊥
+  no_hands a seat words = no_other a (hand seat words) (λ name refs nums wrong. (let differ = wrong in cc)) (λ other more wrong. (let differ = wrong in cc))
+
+  no_fillers : (a words : ℕ) → taken a ≡ Some (filler words) → ⊥
+  no_fillers a words = no_other a (filler words) (λ name refs nums wrong. (let differ = wrong in cc)) (λ other more wrong. (let differ = wrong in cc))
+
+  no_moveds : (a refs nums to : ℕ) (n : Name) → taken a ≡ Some (moved n refs nums to) → ⊥
+  no_moveds a refs nums to n = no_other a (moved n refs nums to) (λ name more less wrong. (let differ = wrong in cc)) (λ other more wrong. (let differ = wrong in cc))
+
+  no_spents : (a words to : ℕ) → taken a ≡ Some (spent words to) → ⊥
+  no_spents a words to = no_other a (spent words to) (λ name refs nums wrong. (let differ = wrong in cc)) (λ other more wrong. (let differ = wrong in cc))
+
+  -- the object of an old name
+  old_object : (n : Name) (o : Object) → is_promised p n ≡ false → (with_promised g p).object n ≡ Some o → g.object n ≡ Some o
+  old_object n o other is = sym (cond-false (is_promised p n) (Some (blank (p.refs n.thread) (p.nums n.thread))) (g.object n) other) ∙ is
+
+  -- objects that are left are the graph's
+  objects_left : AreObjects heap taken g.object
+  objects_left = record {
+    each = λ a refs nums n is.
+        let old = left a refs nums n is in
+        let o = stands.objects.each a refs nums n old.0 in
+        let object : g.object n ≡ Some o.0 = old_object n o.0 old.1 o.1 in (
+          o.0,
+          object,
+          record {
+            header = o.2.header;
+            shape = o.2.shape;
+            name_word = o.2.name_word;
+            few_refs = o.2.few_refs;
+            few_nums = o.2.few_nums;
+            refs_are = o.2.refs_are;
+            nums_are = o.2.nums_are;
+            references = λ i reference there.
+                points_on (heap (a + 3 + i)) reference (λ f same. is_after.fields a refs nums i n f o.0 old.0 object (there ∙ ap Some same)) (o.2.references i reference there);
+            numbers = o.2.numbers;
+          },
+        );
+    once = λ a b refs nums more_refs more_nums n is_a is_b.
+        stands.objects.once a b refs nums more_refs more_nums n (left a refs nums n is_a).0 (left b more_refs more_nums n is_b).0;
+  }
+
+  -- a promised piece is a new object
+  blank_of : (a refs nums more less : ℕ) (n : Name) (o : Object) → IsThing heap block a refs nums n o → o ≡ blank more less → IsBlank heap a (3 + refs + nums)
+  blank_of a refs nums more less n o is same =
+      let null : Reference = None in
+      let long : more ≡ refs = sym (length-replicate more null) ∙ ap (λ (x : Object). length x.refs) (sym same) ∙ is.refs_are in
+      record {
+        refs = refs;
+        nums = nums;
+        long = refl;
+        few_refs = is.few_refs;
+        few_nums = is.few_nums;
+        shape = is.shape;
+        nulls = λ i below.
+            is.references i null (ap (λ (x : Object). slice_get x.refs i) same ∙ replicate_at more i null (omega (arith, below, long)));
+      }
+
+  blank_at : (a seat words : ℕ) → taken a ≡ Some (promised seat words) → IsBlank heap a words
+  blank_at a seat words is =
+      let x = gone a seat words is in
+      let o = stands.objects.each a x.refs x.nums x.name x.here in
+      let test : is_promised p x.name ≡ true = ap (λ k. same_reference k (Some x.name)) x.named ∙ same_name-itself x.name in
+      let new : Some o.0 ≡ Some (blank (p.refs x.name.thread) (p.nums x.name.thread)) =
+      sym o.1 ∙ cond-true (is_promised p x.name) (Some (blank (p.refs x.name.thread) (p.nums x.name.thread))) (g.object x.name) test in
+      subst (IsBlank heap a) x.words_are
+      (blank_of a x.refs x.nums (p.refs x.name.thread) (p.nums x.name.thread) x.name o.0 o.2 (same_Some o.0 (blank (p.refs x.name.thread) (p.nums x.name.thread)) new))
+
+  -- what all machines share holds, where nothing is collected and no seat has a region
+  pub shared_facts : (phase cset evac claim : ℕ) (current grey black entries : ℕ → ℕ) (buffer : ℕ → ℕ → ℕ) (tams limit : ℕ → ℕ)
+      → phase ≡ 0 → cset ≡ 0 → evac ≡ 0 → ((seat : ℕ) → current seat ≡ 0)
+      → SharedFacts c (λ q. m (Top q)) heap taken no_ghost g.object g.count phase cset evac (m Free) current grey black entries buffer tams claim limit
+  shared_facts phase cset evac claim current grey black entries buffer tams limit no_phase no_cset no_evac none = record {
+    parsable = record {
+      plotted = plotted_alike c (λ q. m (Top q)) block (as_promised p) same_words stands.plotted;
+      filled = filled_alike c (λ q. m (Top q)) block (as_promised p) same_words stands.filled;
+      promises = λ a seat words is. (let at = gone a seat words is in omega (arith, at.words_are));
+      fillers = λ a words is. absurd (no_fillers a words is);
+      spents = λ a words to is. absurd (no_spents a words to is);
+    };
+    contents = record { objects = objects_left; given = is_after.given };
+    owned = record {
+      free_word = stands.free_word;
+      currents = record {
+        within = λ seat q is. absurd (omega (arith, is, none seat));
+        own = λ seat q is. absurd (omega (arith, is, none seat));
+      };
+      rooms = λ a seat words is. absurd (no_hands a seat words is);
+    };
+    phased = record { phase_is = omega (arith, no_phase); cset_is = λ other. no_cset; evac_is = λ other. no_evac };
+    unwritten = record { blanks = blank_at; headers = λ a words is. absurd (no_fillers a words is); lengths = λ a words is. absurd (no_fillers a words is) };
+    marked = none_marked c phase grey black entries buffer (λ q. m (Top q)) tams heap taken no_ghost.recording no_ghost.scanning no_phase;
+    evacuated =
+        subst (λ set. IsEvacuating c phase set evac claim (m Free) (λ q. m (Top q)) tams heap black taken no_ghost.owner no_ghost.copying no_ghost.working) (sym no_cset)
+        (subst (λ count. IsEvacuating c phase 0 count claim (m Free) (λ q. m (Top q)) tams heap black taken no_ghost.owner no_ghost.copying no_ghost.working) (sym no_evac)
+        (none_evacuated c phase claim (m Free) (λ q. m (Top q)) tams heap black taken no_ghost.owner no_ghost.copying no_ghost.working (λ on. omega (arith, on, no_phase)) no_moveds no_spents (λ seat inside. refl)));
+    updated = λ on. absurd (omega (arith, on, no_phase));
+  }
+
+  pub roots_left : (t i : ℕ) → t < c.mutators → i < 16 → Points taken (m (Root t i)) (g.root (t + 1) i)
+  roots_left t i inside few = points_on (m (Root t i)) (g.root (t + 1) i) (is_after.roots (t + 1) i) (stands.rooted.roots t i inside few)
+
+  -- each root may be used
+  pub roots_usable : (cset evac : ℕ) → cset ≡ 0 → AreUsable c cset evac taken (λ t i. m (Root t i))
+  roots_usable cset evac no_cset t i inside few =
+      subst (λ set. IsUsable c set evac taken (m (Root t i))) (sym no_cset) (usable_now c evac taken no_moveds (m (Root t i)) (g.root (t + 1) i) (roots_left t i inside few))

@@ -1,0 +1,179 @@
+-- The words of an image before a pause: old copies lead to current ones, only these are held, and so the words hold the graph with the
+-- promised objects.
+use Rattle.std.proofs.Common.{◌≡◌, ◌≢◌, ℕ, ◌+◌, ◌%◌, ◌<◌, get_or, slice_get, Some, None, ⊎_elim, sym, ap, ◌∙◌, subst, arith}
+use Rattle.std.proofs.lemmas.Bool.{cond-true, eq-eqb}
+use Rattle.std.proofs.lemmas.Option.{none-some, same_Some, slice_get-get_or}
+use Rattle.heap_words.specs.declared.config.Config.{Config}
+use Rattle.heap_words.specs.Words.{Word, Cset, Top, Root, Heap}
+use Rattle.heap_words.specs.Encoding.{plain_header, header_word, is_forwarded, forwardee_in, refs_in}
+use Rattle.shen_graph.specs.declared.name.Name.{Name}
+use Rattle.shen_graph.specs.Graph.{Graph, Object, Reference}
+use Rattle.shen_graph.specs.Reach.{IsReachable}
+use Rattle.shen_graph.specs.Reach as reach
+use Rattle.heap_world.specs.World.{Block, thing, moved, spent, hand, promised, filler, Plot, name_at, body_of, Points, IsCollected, IsMarkable}
+use Rattle.heap_world.specs.Asking.{Asking}
+use Rattle.heap_world.specs.Represents.{RepresentsByCopies}
+use Rattle.heap_world.proofs.Pointing.{named_body, named_piece, named_if_not_0, copy_cases}
+use Rattle.full_words.specs.Held.{IsLedTo, from_root, from_field, IsAmong, IsCopy, HoldsGraph}
+use Rattle.full_words.specs.Full.{now_in, root_words}
+use Rattle.full_words.specs.Promised.{Promises, with_promised}
+use Rattle.full_words.proofs.Reached.{named_object, refs_read}
+use Rattle.full_words.proofs.Roots.{root_named, root_held}
+use Rattle.full_words.proofs.ImagesStand.{own_copy}
+use Rattle.cycle_pauses.proofs.Full.Promises.{promises_of}
+use Rattle.cycle_pauses.proofs.Full.Mapped.{mapped_from}
+use Rattle.cycle_pauses.proofs.Full.Before.{as_current, as_object, live, live_at, pieces_are, names_stay, promised_at, object_at, once_each, live_rooted, live_plotted}
+
+-- where a header leads to an address, the current copy is there
+pub led_to : (memory : Word → ℕ) (a to : ℕ) → memory (Heap a) ≡ header_word to → now_in memory a ≡ to
+led_to memory a to is =
+    let moved_on : memory (Heap a) % 4 ≡ 3 = omega (arith, is) in
+    cond-true (is_forwarded (memory (Heap a))) (forwardee_in (memory (Heap a))) a (eq-eqb (memory (Heap a) % 4) 3 moved_on) ∙ omega (arith, is)
+
+module _ (c : Config) (m : Word → ℕ) (g : Graph) (asking : ℕ → Asking) (r : RepresentsByCopies c m g asking) where
+  abbrev heap : ℕ → ℕ
+  heap a = m (Heap a)
+
+  abbrev p : Promises
+  p = promises_of c g asking
+
+  abbrev old : Plot
+  old = live c m g asking r
+
+  abbrev IsRoot : ℕ → Type 0
+  IsRoot = IsAmong (root_words c m)
+
+  abbrev Current : ℕ → Type 0
+  Current = IsMarkable r.block
+
+  -- a current copy has the header of an object that has not moved
+  pub header_of : (a : ℕ) → Current a → heap a ≡ plain_header
+  header_of a (IsMarkable.object name refs nums is) = (r.shared.contents.objects.each a refs nums name is).2.header
+  header_of a (IsMarkable.to_come seat words is) = ap heap (omega arith) ∙ (promised_at c m g asking r a seat words is).promise.words 0 (omega arith)
+
+  -- An old copy: its header leads to the current one outside the collection set, which is the same object.
+  pub record IsOld (a refs nums to : ℕ) (name : Name) : Type 0 where
+    pub header : heap a ≡ header_word to
+    pub inside : IsCollected c (m Cset) a
+    pub copy : Current to
+    pub outside : IsCollected c (m Cset) to → ⊥
+    pub same : old to ≡ Some (thing name refs nums)
+
+  -- what stands at the current copy of an object that was promised
+  spent_same : (words to : ℕ) → Current to → old to ≡ Some (as_current g asking (r.block to) (filler words))
+  spent_same words to (IsMarkable.object name refs nums is) = live_at c m g asking r to (thing name refs nums) is ∙ ap (λ o. Some (as_current g asking o (filler words))) (sym is)
+  spent_same words to (IsMarkable.to_come seat more is) = live_at c m g asking r to (promised seat more) is ∙ ap (λ o. Some (as_current g asking o (filler words))) (sym is)
+
+  -- an object of the larger graph is a current copy, or an old one
+  pub data Kind (a refs nums : ℕ) (name : Name) : Type 0 where
+    is_current : Current a → Kind a refs nums name
+    is_old : (to : ℕ) → IsOld a refs nums to name → Kind a refs nums name
+
+  kind_of : (a refs nums : ℕ) (name : Name) (b : Block) → r.block a ≡ Some b → as_object g asking r.block b ≡ thing name refs nums → Kind a refs nums name
+  kind_of a refs nums name (thing n more less) is same = is_current (IsMarkable.object n more less is)
+  kind_of a refs nums name (moved n more less to) is same =
+      let was = r.shared.evacuated.moved.moveds a more less to n is in
+      is_old to (record {
+        header = was.header;
+        inside = was.inside;
+        copy = IsMarkable.object n more less was.copy;
+        outside = was.outside;
+        same = live_at c m g asking r to (thing n more less) was.copy ∙ ap Some same;
+      })
+  kind_of a refs nums name (spent words to) is same =
+      let was = r.shared.evacuated.moved.spents a words to is in
+      is_old to (record { header = was.header; inside = was.inside; copy = was.copy; outside = was.outside; same = spent_same words to was.copy ∙ ap Some same })
+  kind_of a refs nums name (hand seat words) is same = absurd (r.none a seat words is)
+  kind_of a refs nums name (filler words) is same = cc
+  kind_of a refs nums name (promised seat words) is same = is_current (IsMarkable.to_come seat words is)
+
+  pub kind_at : (a refs nums : ℕ) (name : Name) → old a ≡ Some (thing name refs nums) → Kind a refs nums name
+  kind_at a refs nums name is =
+      let was = mapped_from (as_object g asking r.block) r.block a (thing name refs nums) is in
+      kind_of a refs nums name was.0 was.1 was.2
+
+  -- so the current copy is a current one, and the same object
+  now_of : (a refs nums : ℕ) (name : Name) → old a ≡ Some (thing name refs nums) → Kind a refs nums name → Current (now_in m a) × (old (now_in m a) ≡ Some (thing name refs nums))
+  now_of a refs nums name is (is_current here) =
+      let own = own_copy m a (header_of a here) in
+      (subst Current (sym own) here, ap old own ∙ is)
+  now_of a refs nums name is (is_old to was) =
+      let there = led_to m a to was.header in
+      (subst Current (sym there) was.copy, ap old there ∙ was.same)
+
+  pub now_is : (a refs nums : ℕ) (name : Name) → old a ≡ Some (thing name refs nums) → Current (now_in m a) × (old (now_in m a) ≡ Some (thing name refs nums))
+  now_is a refs nums name is = now_of a refs nums name is (kind_at a refs nums name is)
+
+  -- what stands for a name is an object of that name
+  old_thing : (word : ℕ) (name : Name) → name_at (old word) ≡ Some name → (refs : ℕ) × (nums : ℕ) × (old word ≡ Some (thing name refs nums))
+  old_thing word name is =
+      let piece = named_piece (old word) name is in
+      let was = mapped_from (as_object g asking r.block) r.block word piece.0 piece.1 in
+      ⊎_elim
+      (λ (one : (n : Name) × (refs : ℕ) × (nums : ℕ) × (as_object g asking r.block was.0 ≡ thing n refs nums)).
+      let here : piece.0 ≡ thing one.0 one.1 one.2 = sym was.2 ∙ one.3 in
+      let same : one.0 ≡ name = same_Some one.0 name (ap (λ x. name_at (Some x)) (sym here) ∙ piece.2) in
+      (one.1, one.2, piece.1 ∙ ap Some here ∙ ap (λ n. Some (thing n one.1 one.2)) same))
+      (λ (other : (words : ℕ) × (was.0 ≡ filler words)).
+      absurd (none-some name (sym (ap (λ b. name_at (Some (as_object g asking r.block b))) other.1) ∙ ap (λ x. name_at (Some x)) was.2 ∙ piece.2)))
+      (pieces_are c m g asking r word was.0 was.1)
+
+  now_named : (word : ℕ) (name : Name) → name_at (old word) ≡ Some name → Current (now_in m word) × IsCopy old (now_in m word) name
+  now_named word name is =
+      let at = old_thing word name is in
+      let now = now_is word at.0 at.1 name at.2 in
+      (now.0, (at.0, at.1, now.1))
+
+  -- what is held is a current copy
+  field_current : (a i : ℕ) → Current a → i < refs_in (heap (a + 1)) → heap (a + 3 + i) ≢ 0 → Current (now_in m (heap (a + 3 + i)))
+  field_current a i (IsMarkable.object name refs nums is) few some =
+      let o = r.shared.contents.objects.each a refs nums name is in
+      let shape : refs_in (heap (a + 1)) ≡ refs = ap refs_in o.2.shape ∙ refs_read refs nums o.2.few_refs o.2.few_nums in
+      let reference : Reference = get_or o.0.refs i None in
+      let there : slice_get o.0.refs i ≡ Some reference = slice_get-get_or o.0.refs i None (omega (arith, few, shape, o.2.refs_are)) in
+      let to = named_if_not_0 c (λ q. m (Top q)) r.block r.shared.parsable.plotted (heap (a + 3 + i)) reference (o.2.references i reference there) some in
+      (now_named (heap (a + 3 + i)) to.0 (names_stay c m g asking r (heap (a + 3 + i)) to.0 to.2)).0
+  field_current a i (IsMarkable.to_come seat words is) few some =
+      let blank = r.shared.unwritten.blanks a seat words is in
+      let shape : refs_in (heap (a + 1)) ≡ blank.refs = ap refs_in blank.shape ∙ refs_read blank.refs blank.nums blank.few_refs blank.few_nums in
+      absurd (some (blank.nulls i (omega (arith, few, shape))))
+
+  pub held_current : (a : ℕ) → IsLedTo (now_in m) heap IsRoot a → Current a
+  held_current _ (from_root word is some) =
+      let root = root_named c (λ q. m (Top q)) m old g p (live_plotted c m g asking r) (live_rooted c m g asking r) word is some in
+      (now_named word root.2 root.4).0
+  held_current _ (from_field a i held few some) = field_current a i (held_current a held) few some
+
+  -- so the words hold the graph with the promised objects
+  pub live_holds : HoldsGraph c (λ q. m (Top q)) heap old (now_in m) IsRoot (with_promised g p)
+  live_holds = record {
+    plotted = live_plotted c m g asking r;
+    current = λ word name is. (now_named word name is).1;
+    each = λ a refs nums name held is. object_at c m g asking r a refs nums name (held_current a held) is;
+    once = λ a b refs nums more_refs more_nums name held_a held_b is_a is_b.
+        once_each c m g asking r a b refs nums more_refs more_nums name (held_current a held_a) (held_current b held_b) is_a is_b;
+    root_named = root_named c (λ q. m (Top q)) m old g p (live_plotted c m g asking r) (live_rooted c m g asking r);
+    root_held = root_held c (λ q. m (Top q)) m old g p (live_plotted c m g asking r) (live_rooted c m g asking r);
+  }
+
+  -- what stands for an object has a current copy
+  pub has_current : (word : ℕ) (n : Name) → name_at (r.block word) ≡ Some n → (a : ℕ) × (refs : ℕ) × (nums : ℕ) × (r.block a ≡ Some (thing n refs nums))
+  has_current word n is =
+      let body = named_body (r.block word) n is in
+      ⊎_elim
+      (λ (now : r.block word ≡ Some (thing n body.0 body.1)). (word, body.0, body.1, now))
+      (λ (was : (to : ℕ) × (r.block word ≡ Some (moved n body.0 body.1 to))). (was.0, body.0, body.1, (r.shared.evacuated.moved.moveds word body.0 body.1 was.0 n was.1).copy))
+      (copy_cases (r.block word) (body_of n body.0 body.1) body.2)
+
+  -- An object that the graph reaches has an address.
+  pub reached_at : (n : Name) → IsReachable g n → (a : ℕ) × (refs : ℕ) × (nums : ℕ) × (r.block a ≡ Some (thing n refs nums))
+  reached_at n (reach.from_root t i _ is) =
+      let at = (live_rooted c m g asking r).no_more_roots t i n is in
+      let points : name_at (r.block (m (Root at.0 i))) ≡ Some n =
+      subst (Points r.block (m (Root at.0 i))) (ap (λ k. g.root k i) (sym at.2) ∙ is) (r.roots at.0 i at.1 at.3) in
+      has_current (m (Root at.0 i)) n points
+  reached_at n (reach.from_field k _ field reached is) =
+      let at = reached_at k reached in
+      let o = r.shared.contents.objects.each at.0 at.1 at.2 k at.3 in
+      let there : slice_get o.0.refs field ≡ Some (Some n) = sym (ap (λ (x : Object). slice_get x.refs field) (named_object g k o.0 o.1)) ∙ is in
+      has_current (heap (at.0 + 3 + field)) n (o.2.references field (Some n) there)

@@ -1,0 +1,274 @@
+-- The end of marking: each object is marked or new, so none lies in a dead region, and the words stand for the same graph.
+use Rattle.std.proofs.Common.{◌≡◌, ℕ, ◌+◌, ◌<◌, ◌≤◌, ◌⊎◌, Bool, true, false, Option, Some, None, inl, inr, ⊎_elim, refl, sym, ap, ◌∙◌, arith}
+use Rattle.std.specs.Prelude.{if◌then◌else◌}
+use Rattle.std.proofs.lemmas.Bool.{cond-true, cond-false, cases_Bool, cases_lt, true≢false}
+use Rattle.std.proofs.lemmas.Option.{none-some}
+use Rattle.heap_words.specs.declared.config.Config.{Config}
+use Rattle.heap_words.specs.Ranges.{seat_count}
+use Rattle.heap_words.specs.Words.{Word, Phase, Cset, Free, Top, Tams, Current, Root, Black, Heap}
+use Rattle.regions.specs.Place.{region_with}
+use Rattle.shen_graph.specs.declared.name.Name.{Name}
+use Rattle.shen_graph.specs.Graph.{Graph}
+use Rattle.heap_world.specs.World.{Block, thing, moved, spent, hand, promised, filler, Plot, Ghost, no_snapshot, name_at, AreObjects, IsFreeWord, AreCurrent, AreRooms, IsMarkable, IsYoung}
+use Rattle.heap_world.specs.Asking.{Asking, IsAsked}
+use Rattle.heap_world.specs.Represents.{Represents, RepresentsByCopies}
+use Rattle.heap_world.proofs.Pieces.{object_reads}
+use Rattle.heap_world.proofs.Keeping.{points_stay}
+use Rattle.regions.specs.Marks.{HasMark}
+use Rattle.full_words.specs.Promised.{Promises}
+use Rattle.image_graph.specs.Holds.{HoldsBy}
+use Rattle.image_graph.specs.State.{IsSomeSeats}
+use Rattle.cycle_pauses.proofs.Full.ByCopies.{by_copies}
+use Rattle.cycle_pauses.proofs.Full.Promises.{promises_of}
+use Rattle.cycle_pauses.proofs.Full.Dead.{plain}
+use Rattle.cycle_pauses.proofs.Full.Holding.{holds_by}
+use Rattle.cycle_words.specs.Marking.Marks.{is_black, IsNew, IsKept}
+use Rattle.cycle_words.specs.Marking.Close.{IsTraced, closed}
+use Rattle.cycle_words.specs.Marking.Final.{is_current, IsDead, dead_in, freed_block, freed_owner, final_marked}
+use Rattle.cycle_words.specs.Marking.WhileMarking.{IsMarking}
+use Rattle.cycle_words.specs.Marking.Laws.{HasNoMoreSeats}
+use Rattle.cycle_words.proofs.Marking.Closed.{are_closed, followed as traced_followed, safe_kept}
+use Rattle.cycle_words.proofs.Marking.Dead.{current_is, is_current_of, dead_is_dead}
+use Rattle.cycle_pauses.proofs.Marking.Asked.{asked_stays}
+use Rattle.cycle_pauses.proofs.Marking.Freed as freed
+use Rattle.cycle_pauses.proofs.Marking.Chains.{mark_is, is_mark, no_moved, no_spent, thing_at, piece_below, markable_piece, black_markable, markable_safe, followed, is_marking}
+use Rattle.cycle_pauses.specs.Marking.MarkedOut.{IsMarkedOut}
+
+-- nothing, if a test holds or not
+none_if : (b : Bool) (o : Option ℕ) → o ≡ None → (if b then o else None) ≡ None
+none_if true o is = is
+none_if false o is = refl
+
+module _ (c : Config) (m : Word → ℕ) (g : Graph) (asking : ℕ → Asking) (r : Represents c m g asking) (on : m Phase ≡ 1) where
+  -- the same words by copies
+  abbrev copies : RepresentsByCopies c m g asking
+  copies = by_copies c m g asking r
+
+  abbrev n : Word → ℕ
+  n = final_marked c m
+
+  calm : m Cset ≡ 0
+  calm = r.shared.phased.cset_is (omega (arith, on))
+
+  abbrev p : Promises
+  p = promises_of c g asking
+
+  abbrev old : Plot
+  old = plain c m g asking copies
+
+  holds : HoldsBy c m old r.ghost.owner p g
+  holds = holds_by c m g asking copies
+
+  marking : IsMarking c m old
+  marking = is_marking c m g asking r calm on
+
+  abbrev out : ℕ → Bool
+  out = dead_in c m
+
+  abbrev pub plot : Plot
+  plot = freed_block c out r.block
+
+  -- once the marks are closed, an object is marked or new
+  kept : (a : ℕ) → IsMarkable r.block a → IsKept c (closed c m) a
+  kept a is = safe_kept c m old r.ghost.owner p g holds marking a (markable_safe c m g asking r calm on a is)
+
+  -- so its region is not dead
+  alive : (a : ℕ) → IsMarkable r.block a → out (region_with c a) ≡ false
+  alive a is = ⊎_elim
+      (λ (dead : out (region_with c a) ≡ true).
+      let facts : IsDead c (closed c m) (region_with c a) = (dead_is_dead c (closed c m) (region_with c a)).0 dead in
+      let piece = markable_piece c m g asking r calm a is in
+      let at = piece_below c m g asking r calm a piece.0 piece.1 in
+      let most = r.shared.parsable.plotted.tops (region_with c a) at.0 in
+      absurd (⊎_elim
+      (λ (black : is_black c (closed c m) a ≡ true). true≢false (sym black ∙ facts.unmarked a (record { from = at.1; before = omega (arith, at.2, most) })))
+      (λ (fresh : IsNew c (closed c m) a). let same = facts.no_new in omega (arith, fresh, same, at.1, at.2))
+      (kept a is)))
+      (λ (other : out (region_with c a) ≡ false). other)
+      (cases_Bool (out (region_with c a)))
+
+  -- the dead regions are freed of pieces that lie apart
+  rooms : AreRooms c (λ q. m (Top q)) (λ s. m (Current s)) r.block
+  rooms = r.shared.owned.rooms
+
+  -- a piece that is left, and one of a region that is not dead
+  left : (a : ℕ) (b : Block) → plot a ≡ Some b → (out (region_with c a) ≡ false) × (r.block a ≡ Some b)
+  left = freed.left c out (closed c m) r.block r.shared.parsable rooms
+
+  stays : (a : ℕ) → out (region_with c a) ≡ false → plot a ≡ r.block a
+  stays = freed.stays c out (closed c m) r.block r.shared.parsable rooms
+
+  thing_stays : (a refs nums : ℕ) (name : Name) → r.block a ≡ Some (thing name refs nums) → plot a ≡ Some (thing name refs nums)
+  thing_stays a refs nums name is = stays a (alive a (IsMarkable.object name refs nums is)) ∙ is
+
+  promised_stays : (a seat words : ℕ) → r.block a ≡ Some (promised seat words) → plot a ≡ Some (promised seat words)
+  promised_stays a seat words is = stays a (alive a (IsMarkable.to_come seat words is)) ∙ is
+
+  names_stay : (a : ℕ) (name : Name) → name_at (r.block a) ≡ Some name → name_at (plot a) ≡ Some name
+  names_stay a name is = let piece = thing_at c m g asking r calm a name is in ap name_at (thing_stays a piece.0 piece.1 name piece.2)
+
+  top_stays : (q : ℕ) → out q ≡ false → n (Top q) ≡ m (Top q)
+  top_stays = freed.top_stays c out (closed c m)
+
+  objects_again : AreObjects (λ a. m (Heap a)) plot g.object
+  objects_again = record {
+    each = λ a refs nums name is.
+        let o = r.shared.contents.objects.each a refs nums name (left a (thing name refs nums) is).1 in
+        (o.0, o.1, object_reads (λ x. m (Heap x)) (λ x. m (Heap x)) r.block plot a refs nums name o.0 (λ k below. refl) names_stay o.2);
+    once = λ a b refs nums more_refs more_nums name is_a is_b.
+        r.shared.contents.objects.once a b refs nums more_refs more_nums name (left a (thing name refs nums) is_a).1 (left b (thing name more_refs more_nums) is_b).1;
+  }
+
+  -- a region is owned where it is some seat's current one
+  abbrev owner : ℕ → Option ℕ
+  owner q = if is_current c m q then freed_owner out r.ghost.owner q else None
+
+  owner_out : (q : ℕ) → out q ≡ true → freed_owner out r.ghost.owner q ≡ None
+  owner_out q dead = let none : Option ℕ = None in cond-true (out q) none (r.ghost.owner q) dead
+
+  owner_stays : (q : ℕ) → out q ≡ false → freed_owner out r.ghost.owner q ≡ r.ghost.owner q
+  owner_stays q other = let none : Option ℕ = None in cond-false (out q) none (r.ghost.owner q) other
+
+  owner_none : (q : ℕ) → r.ghost.owner q ≡ None → freed_owner out r.ghost.owner q ≡ None
+  owner_none q none = ⊎_elim
+      (λ (dead : out q ≡ true). owner_out q dead)
+      (λ (other : out q ≡ false). owner_stays q other ∙ none)
+      (cases_Bool (out q))
+
+  none_owns : (q : ℕ) → freed_owner out r.ghost.owner q ≡ None → owner q ≡ None
+  none_owns q none = none_if (is_current c m q) (freed_owner out r.ghost.owner q) none
+
+  free_again : IsFreeWord c (n Free) (λ q. n (Top q)) owner
+  free_again =
+      freed.free_again c out (closed c m) r.block r.shared.parsable rooms r.ghost.owner owner r.shared.owned.free_word (λ q dead. none_owns q (owner_out q dead)) (λ q none. none_owns q (owner_none q none))
+
+  -- nobody's current region is dead
+  module _ (no_more : HasNoMoreSeats c m) where
+    seated : (seat q : ℕ) → m (Current seat) ≡ q + 1 → IsSomeSeats c m q
+    seated seat q is = ⊎_elim
+        (λ (inside : seat < seat_count c.mutators c.helpers). (seat, inside, is))
+        (λ (past : seat_count c.mutators c.helpers ≤ seat). absurd (let none = no_more seat past in omega (arith, none, is)))
+        (cases_lt seat (seat_count c.mutators c.helpers))
+
+    current_alive : (seat q : ℕ) → m (Current seat) ≡ q + 1 → out q ≡ false
+    current_alive seat q is = ⊎_elim
+        (λ (dead : out q ≡ true).
+        let facts : IsDead c (closed c m) q = (dead_is_dead c (closed c m) q).0 dead in
+        absurd (facts.nobodys (seated seat q is)))
+        (λ (other : out q ≡ false). other)
+        (cases_Bool (out q))
+
+    owns : (seat q : ℕ) → m (Current seat) ≡ q + 1 → owner q ≡ Some seat
+    owns seat q is =
+        let none : Option ℕ = None in
+        cond-true (is_current c m q) (freed_owner out r.ghost.owner q) none (is_current_of c m q (seated seat q is))
+        ∙ owner_stays q (current_alive seat q is) ∙ r.shared.owned.currents.own seat q is
+
+    currents_again : AreCurrent c (λ s. m (Current s)) owner
+    currents_again = record { within = r.shared.owned.currents.within; own = owns }
+
+  seats_own : (q seat : ℕ) → owner q ≡ Some seat → IsSomeSeats c m q
+  seats_own q seat is = ⊎_elim
+      (λ (some : is_current c m q ≡ true). current_is c m q some)
+      (λ (other : is_current c m q ≡ false).
+      let none : Option ℕ = None in
+      absurd (none-some seat (sym (cond-false (is_current c m q) (freed_owner out r.ghost.owner q) none other) ∙ is)))
+      (cases_Bool (is_current c m q))
+
+  -- What is marked then is an object, and each object is marked or new.
+  tams_stays : (q : ℕ) → out q ≡ false → n (Tams q) ≡ m (Tams q)
+  tams_stays = freed.tams_stays c out (closed c m)
+
+  was_markable : (a : ℕ) → IsMarkable plot a → IsMarkable r.block a
+  was_markable a (IsMarkable.object name refs nums is) = IsMarkable.object name refs nums (left a (thing name refs nums) is).1
+  was_markable a (IsMarkable.to_come seat words is) = IsMarkable.to_come seat words (left a (promised seat words) is).1
+
+  still_markable : (a : ℕ) → IsMarkable r.block a → IsMarkable plot a
+  still_markable a (IsMarkable.object name refs nums is) = IsMarkable.object name refs nums (thing_stays a refs nums name is)
+  still_markable a (IsMarkable.to_come seat words is) = IsMarkable.to_come seat words (promised_stays a seat words is)
+
+  black_or_young : (a : ℕ) → IsMarkable r.block a → HasMark c (λ k. n (Black k)) a ⊎ IsYoung c (λ q. n (Tams q)) a
+  black_or_young a is = ⊎_elim
+      (λ (black : is_black c (closed c m) a ≡ true). inl (mark_is c (λ k. n (Black k)) a black).1)
+      (λ (fresh : IsNew c (closed c m) a).
+      let piece = markable_piece c m g asking r calm a is in
+      let at = piece_below c m g asking r calm a piece.0 piece.1 in
+      let same = tams_stays (region_with c a) (alive a is) in
+      inr (omega (arith, fresh, same, at.1)))
+      (kept a is)
+
+  black_object : (a : ℕ) → is_black c (closed c m) a ≡ true → IsMarkable r.block a
+  black_object a is = ⊎_elim
+      (λ (was : is_black c m a ≡ true). black_markable c m g asking r calm on a was)
+      (λ (traced : IsTraced c m a). followed c m g asking r calm on a (traced_followed c m old r.ghost.owner p g holds marking a traced))
+      (((are_closed c m old r.ghost.owner p g holds marking).black a).0 is)
+
+  floors_again : (q : ℕ) → q < c.regions → n (Tams q) ≤ n (Top q)
+  floors_again q inside = ⊎_elim
+      (λ (dead : out q ≡ true). (let none = freed.tams_out c out (closed c m) q dead in omega (arith, none)))
+      (λ (other : out q ≡ false).
+      let top = top_stays q other in
+      let tams = tams_stays q other in
+      let same = r.shared.marked.tams_are on q inside in
+      let floor = r.shared.marked.floors q inside in
+      omega (arith, top, tams, same, floor))
+      (cases_Bool (out q))
+
+  -- words that only fill lie below the tops at mark start
+  fillers_again : (a words : ℕ) → plot a ≡ Some (filler words) → IsYoung c (λ q. n (Tams q)) a → ⊥
+  fillers_again a words is young =
+      let was = left a (filler words) is in
+      let at = piece_below c m g asking r calm a (filler words) was.1 in
+      let tams = tams_stays (region_with c a) was.0 in
+      let same = r.shared.marked.tams_are on (region_with c a) at.0 in
+      r.shared.marked.fillers on a words was.1 (omega (arith, young, tams, same))
+
+  -- what is asked and promised stays
+  asked_again : (t : ℕ) → IsAsked m r.block g.count t (asking t) → IsAsked n plot g.count t (asking t)
+  asked_again t asked = asked_stays m n r.block plot g.count t refl refl (λ a. refl) (λ a words is. promised_stays a t words is) (λ a words is. (left a (promised t words) is).1) (asking t) asked
+
+  abbrev pub ghost : Ghost
+  ghost = record {
+    owner = owner;
+    snapshot = no_snapshot;
+    recording = r.ghost.recording;
+    scanning = r.ghost.scanning;
+    copying = r.ghost.copying;
+    working = r.ghost.working;
+  }
+
+  -- so marking has ended
+  pub marked_out : HasNoMoreSeats c m → IsMarkedOut c n plot ghost g asking
+  marked_out no_more = record {
+    phase_is = on;
+    cset_is = calm;
+    evac_is = r.shared.phased.evac_is (λ evacuates. omega (arith, on, evacuates));
+    parsable = freed.parsable_again c out (closed c m) r.block r.shared.parsable rooms;
+    contents = record { objects = objects_again; given = r.shared.contents.given };
+    owned = record {
+      free_word = free_again;
+      currents = currents_again no_more;
+      rooms = λ a seat words is. absurd (r.none a seat words (left a (hand seat words) is).1);
+    };
+    seats = seats_own;
+    unwritten = freed.unwritten_again c out (closed c m) r.block r.shared.parsable rooms r.shared.unwritten;
+    unmoved = record {
+      no_moved = λ a refs nums to name is. no_moved c m g asking r calm a refs nums to name (left a (moved name refs nums to) is).1;
+      no_spent = λ a words to is. no_spent c m g asking r calm a words to (left a (spent words to) is).1;
+      no_hand = λ a seat words is. r.none a seat words (left a (hand seat words) is).1;
+    };
+    marked = record {
+      objects = λ a is. black_or_young a (was_markable a is);
+      only = λ a high mark. still_markable a (black_object a (is_mark c (λ k. n (Black k)) a high mark));
+      floors = floors_again;
+      fillers = fillers_again;
+    };
+    snapshot_is = refl;
+    unmarking = record { records_none = r.unmarking.records_none; scans_none = r.unmarking.scans_none };
+    uncopying = record { copies_none = r.uncopying.copies_none; works_none = r.uncopying.works_none };
+    roots = λ t i inside few. points_stay r.block plot names_stay (m (Root t i)) (g.root (t + 1) i) (r.roots t i inside few);
+    asked = λ t inside. asked_again t (r.asked t inside);
+    heard = r.heard;
+    promised_to = λ a seat words is. r.promised_to a seat words (left a (promised seat words) is).1;
+    no_more = r.no_more;
+  }

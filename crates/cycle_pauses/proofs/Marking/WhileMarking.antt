@@ -1,0 +1,40 @@
+-- Words that represent a graph while objects are marked: marking comes to each object, and what the pauses of marking leave.
+use Rattle.std.proofs.Common.{◌≡◌, ℕ, arith}
+use Rattle.heap_words.specs.declared.config.Config.{Config}
+use Rattle.heap_words.specs.Words.{Word, Phase, Cset}
+use Rattle.shen_graph.specs.Graph.{Graph}
+use Rattle.heap_world.specs.World.{Plot}
+use Rattle.heap_world.specs.Asking.{Asking}
+use Rattle.heap_world.specs.Represents.{Represents}
+use Rattle.full_words.specs.Promised.{Promises}
+use Rattle.cycle_pauses.proofs.Full.ByCopies.{by_copies}
+use Rattle.cycle_pauses.proofs.Full.Promises.{promises_of}
+use Rattle.cycle_pauses.proofs.Full.Dead.{plain}
+use Rattle.cycle_pauses.proofs.Full.Holding.{holds_by}
+use Rattle.cycle_words.proofs.Marking.Closed.{closed_holds, closed_through}
+use Rattle.cycle_pauses.specs.Marking.Laws.{MarkingStands, ReachableAreMarked, BeginningRepresents, EndGives}
+use Rattle.cycle_pauses.proofs.Marking.Chains.{is_marking}
+use Rattle.cycle_pauses.proofs.Marking.Beginning.{begun}
+use Rattle.cycle_pauses.proofs.Marking.Ending.{plot, ghost, marked_out}
+
+-- there is no collection set while objects are marked
+calm_at : (c : Config) (m : Word → ℕ) (g : Graph) (asking : ℕ → Asking) (r : Represents c m g asking) → m Phase ≡ 1 → m Cset ≡ 0
+calm_at c m g asking r on = r.shared.phased.cset_is (omega (arith, on))
+
+pub marking_stands : MarkingStands
+marking_stands c m g asking r on =
+    (plain c m g asking (by_copies c m g asking r), r.ghost.owner, promises_of c g asking, holds_by c m g asking (by_copies c m g asking r), is_marking c m g asking r (calm_at c m g asking r on) on)
+
+pub reachable_are_marked : ReachableAreMarked
+reachable_are_marked c m g asking r on =
+    let block : Plot = plain c m g asking (by_copies c m g asking r) in
+    let p : Promises = promises_of c g asking in
+    let holds = holds_by c m g asking (by_copies c m g asking r) in
+    let marking = is_marking c m g asking r (calm_at c m g asking r on) on in
+    (block, r.ghost.owner, p, closed_holds c m block r.ghost.owner p g holds marking, closed_through c m block r.ghost.owner p g holds marking)
+
+pub beginning_represents : BeginningRepresents
+beginning_represents = begun
+
+pub end_gives : EndGives
+end_gives c m g asking r on no_more = (plot c m g asking r on, ghost c m g asking r on, marked_out c m g asking r on no_more)

@@ -1,0 +1,115 @@
+-- The beginning of updating: the words represent the same graph. Nothing has its current copy in the collection set any more, and each
+-- field is still to be updated.
+use Rattle.std.proofs.Common.{◌≡◌, ℕ, ◌≤◌, true, false, Some, inl, inr, ⊎_elim, refl, arith}
+use Rattle.std.specs.Int.{bit_at}
+use Rattle.std.proofs.lemmas.Bool.{cond-true, cond-false, cases_Bool, ne_eqb}
+use Rattle.heap_words.specs.declared.config.Config.{Config}
+use Rattle.heap_words.specs.Words.{Word, Phase, Cset, Free, Evac, Claim, Top, Tams, Limit, Root, Count, Buffer, Grey, Black, Heap}
+use Rattle.regions.specs.Place.{region_with}
+use Rattle.regions.specs.Sets.{IsIn}
+use Rattle.heap_words.specs.Counter.{is_out_of_room}
+use Rattle.shen_graph.specs.declared.name.Name.{Name}
+use Rattle.shen_graph.specs.Graph.{Graph}
+use Rattle.heap_world.specs.World.{thing, Ghost, no_snapshot, IsCollected, IsYoung, IsToUpdate, IsEvacuating, IsUpdating, IsUsable}
+use Rattle.heap_world.specs.Asking.{Asking}
+use Rattle.heap_world.specs.Represents.{Represents}
+use Rattle.heap_world.proofs.Copies.{counted_none}
+use Rattle.heap_world.proofs.Unmarked.{none_marked_in}
+use Rattle.heap_world.proofs.Units.{none_is_left}
+use Rattle.cycle_words.proofs.Marking.Plain.{below_top}
+use Rattle.cycle_pauses.proofs.Marking.Asked.{asked_stays}
+use Rattle.cycle_words.specs.Updating.Changes.{is_chosen, init_updated}
+use Rattle.cycle_pauses.specs.Updating.Laws.{UpdatingBegins}
+
+module _ (c : Config) (m : Word → ℕ) (g : Graph) (asking : ℕ → Asking) (r : Represents c m g asking) (on : m Phase ≡ 2) (room : is_out_of_room (m Evac) ≡ false) (claimed : c.regions ≤ m Claim) where
+  abbrev n : Word → ℕ
+  n = init_updated m
+
+  -- the ghost state, without a snapshot
+  abbrev bare : Ghost
+  bare = record { owner = r.ghost.owner; snapshot = no_snapshot; recording = r.ghost.recording; scanning = r.ghost.scanning; copying = r.ghost.copying; working = r.ghost.working }
+
+  -- no object has its current copy in the set
+  outside : (a refs nums : ℕ) (name : Name) → r.block a ≡ Some (thing name refs nums) → IsCollected c (m Cset) a → ⊥
+  outside = none_is_left c (record { memory = m; block = r.block; ghost = r.ghost; graph = g }) r.shared on r.uncopying.works_none claimed room
+
+  -- the limit of a region outside of the set is its top
+  limit_spared : (q : ℕ) → (IsIn (m Cset) q → ⊥) → n (Limit q) ≡ m (Top q)
+  limit_spared q away = cond-false (is_chosen m q) 0 (m (Top q)) (ne_eqb (bit_at (m Cset) q) 1 away)
+
+  -- so objects lie below it
+  below_limit : (a refs nums : ℕ) (name : Name) → r.block a ≡ Some (thing name refs nums) → IsYoung c (λ q. n (Limit q)) a → ⊥
+  below_limit a refs nums name is young =
+      let at = below_top c (λ q. m (Top q)) r.block r.shared.parsable.plotted a (thing name refs nums) is (omega arith) in
+      let limit = limit_spared (region_with c a) (outside a refs nums name is) in
+      omega (arith, young, limit, at.2)
+
+  no_higher : (q : ℕ) → n (Limit q) ≤ m (Top q)
+  no_higher q = ⊎_elim
+      (λ (chosen : is_chosen m q ≡ true). (let none = cond-true (is_chosen m q) 0 (m (Top q)) chosen in omega (arith, none)))
+      (λ (spared : is_chosen m q ≡ false). (let same = cond-false (is_chosen m q) 0 (m (Top q)) spared in omega (arith, same)))
+      (cases_Bool (is_chosen m q))
+
+  are_updating : IsUpdating c (m Cset) 0 (λ q. m (Top q)) (λ q. n (Limit q)) (λ a. m (Heap a)) r.block r.ghost.scanning
+  are_updating = record {
+    outside = outside;
+    renewed = λ a refs nums k name is below. inr (IsToUpdate.unclaimed (below_limit a refs nums name is) (omega arith));
+    young = λ a seat words is. absurd (r.none a seat words is);
+    limits = λ q inside. no_higher q;
+  }
+
+  -- copies stay copies, and what was kept is
+  on_still : 2 ≤ m Phase
+  on_still = omega (arith, on)
+
+  still_evacuated : IsEvacuating c 3 (m Cset) 0 0 (m Free) (λ q. m (Top q)) (λ q. m (Tams q)) (λ a. m (Heap a)) (λ q. m (Black q)) r.block r.ghost.owner r.ghost.copying r.ghost.working
+  still_evacuated =
+      let kept = r.shared.evacuated.kept in
+      record {
+        moved = r.shared.evacuated.moved;
+        counted = counted_none c r.ghost.copying r.uncopying.copies_none;
+        aside = r.shared.evacuated.aside;
+        kept = record {
+          objects = λ later. kept.objects on_still;
+          young = λ later. kept.young on_still;
+          floors = λ later. kept.floors on_still;
+          unmarked = λ later. kept.unmarked on_still;
+          fillers = λ later. kept.fillers on_still;
+          only = λ later. kept.only on_still;
+        };
+        units = λ two. absurd (omega (arith, two));
+      }
+
+  -- what could be used can be
+  usable_still : (word : ℕ) → IsUsable c (m Cset) (m Evac) r.block word → IsUsable c (m Cset) 0 r.block word
+  usable_still word (inl null) = inl null
+  usable_still word (inr at) = inr (at.0, at.1, at.2, record { piece = at.3.piece; safe = λ inside. absurd (outside word at.1 at.2 at.0 at.3.piece inside) })
+
+  pub begun : Represents c n g asking
+  begun = record {
+    block = r.block;
+    ghost = bare;
+    shared = record {
+      parsable = r.shared.parsable;
+      contents = r.shared.contents;
+      owned = r.shared.owned;
+      phased = record { phase_is = omega arith; cset_is = λ low. absurd (omega (arith, low)); evac_is = λ other. refl };
+      unwritten = r.shared.unwritten;
+      marked = none_marked_in c 3 (λ q. m (Grey q)) (λ q. m (Black q)) (λ t. m (Count t)) (λ t k. m (Buffer t k)) (λ q. m (Top q)) (λ q. m (Tams q)) (λ a. m (Heap a)) r.block r.ghost.recording
+          r.ghost.scanning (λ is. omega (arith, is));
+      evacuated = still_evacuated;
+      updated = λ later. are_updating;
+    };
+    roots = r.roots;
+    usable = λ t i inside few. usable_still (m (Root t i)) (r.usable t i inside few);
+    none = r.none;
+    asked = λ t inside. asked_stays m n r.block r.block g.count t refl refl (λ a. refl) (λ a words is. is) (λ a words is. is) (asking t) (r.asked t inside);
+    heard = r.heard;
+    promised_to = r.promised_to;
+    unmarking = record { records_none = r.unmarking.records_none; scans_none = r.unmarking.scans_none };
+    uncopying = record { copies_none = r.uncopying.copies_none; works_none = r.uncopying.works_none };
+    no_more = r.no_more;
+  }
+
+pub updating_begins : UpdatingBegins
+updating_begins c m g asking r on room claimed = begun c m g asking r on room claimed

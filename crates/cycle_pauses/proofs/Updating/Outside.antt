@@ -1,0 +1,25 @@
+-- Where a memory reads 0 at all that is no word of the table, so does what the beginning and the end of updating make of it.
+use Rattle.std.proofs.Common.{ℕ, refl}
+use Rattle.std.proofs.lemmas.Bool.{true≢false}
+use Rattle.heap_words.specs.declared.config.Config.{Config}
+use Rattle.heap_words.specs.Words.{Word, Phase, Cset, Evac, Claim, Top, Limit}
+use Rattle.cycle_pauses.proofs.Full.Outside.{IsZeroOutside}
+use Rattle.cycle_words.specs.Marking.Final.{freed}
+use Rattle.cycle_pauses.proofs.Marking.Outside.{if_zero, freed_outside}
+use Rattle.cycle_words.specs.Updating.Changes.{is_chosen, init_updated, cycle_ended, final_updated}
+
+pub init_outside : (c : Config) (m : Word → ℕ) → IsZeroOutside c m → IsZeroOutside c (init_updated m)
+init_outside c m nothing (Limit q) other = if_zero (is_chosen m q) (m (Top q)) (nothing (Top q) other)
+init_outside c m nothing Phase other = absurd (true≢false other)
+init_outside c m nothing Evac other = refl
+init_outside c m nothing Claim other = refl
+init_outside c m nothing word other = nothing word other
+
+ended_outside : (c : Config) (m : Word → ℕ) → IsZeroOutside c m → IsZeroOutside c (cycle_ended m)
+ended_outside c m nothing Phase other = refl
+ended_outside c m nothing Cset other = refl
+ended_outside c m nothing Claim other = refl
+ended_outside c m nothing word other = nothing word other
+
+pub final_outside : (c : Config) (m : Word → ℕ) → IsZeroOutside c m → IsZeroOutside c (final_updated c m)
+final_outside c m nothing = ended_outside c (freed c (is_chosen m) m) (freed_outside c (is_chosen m) m nothing)

@@ -1,0 +1,21 @@
+-- What the pause that ends marking and begins evacuation leaves of the words.
+use Rattle.std.specs.Prelude.{ℕ, ◌≡◌}
+use Rattle.std.specs.Int.{bit_at}
+use Rattle.heap_words.specs.declared.config.Config.{Config}
+use Rattle.heap_words.specs.Words.{Word, Phase, Ask}
+use Rattle.shen_graph.specs.Graph.{Graph}
+use Rattle.heap_world.specs.Asking.{Asking}
+use Rattle.heap_world.specs.Represents.{Represents}
+use Rattle.heap_world.specs.Change.{IsPaused}
+use Rattle.cycle_words.specs.Marking.Laws.{HasNoMoreSeats}
+use Rattle.cycle_pauses.specs.Evacuation.Collect.{evac_next}
+
+-- The words that it leaves represent the same graph, with what mutators have asked for, also where one of them waits.
+abbrev pub EvacuationRepresents : Type 0
+EvacuationRepresents = (c : Config) (memory : Word → ℕ) (g : Graph) (asking : ℕ → Asking) → Represents c memory g asking → memory Phase ≡ 1 → HasNoMoreSeats c memory
+    → Represents c (evac_next c memory) g asking
+
+-- So it is what a pause owes, where no mutator waits.
+abbrev pub EvacuationBegins : Type 0
+EvacuationBegins = (c : Config) (memory : Word → ℕ) (g : Graph) (asking : ℕ → Asking) → Represents c memory g asking → memory Phase ≡ 1 → bit_at (memory Ask) 1 ≡ 0
+    → HasNoMoreSeats c memory → IsPaused c memory (evac_next c memory) g asking

@@ -1,0 +1,42 @@
+-- What finishing a cycle in one pause leaves: the graph, who asked answered, and the collection set free.
+use Rattle.std.specs.Prelude.{ℕ, ◌≡◌, ◌<◌, true, false}
+use Rattle.heap_words.specs.declared.config.Config.{Config}
+use Rattle.heap_words.specs.Words.{Word, Cset}
+use Rattle.regions.specs.Sets.{IsIn}
+use Rattle.shen_graph.specs.Graph.{Graph}
+use Rattle.heap_world.specs.Asking.{Asking, asks, given}
+use Rattle.heap_world.specs.Represents.{Represents}
+use Rattle.heap_world.specs.Change.{IsPaused}
+use Rattle.full_words.specs.Full.{full}
+use Rattle.image_graph.specs.Holds.{HoldsSome}
+use Rattle.cycle_pauses.specs.Updating.Freed.{IsFreed}
+use Rattle.cycle_words.specs.Finishing.Copies.{is_room_for_all}
+use Rattle.cycle_words.specs.Finishing.Finish.{cycle_finished, finished, is_whole, CanFinish}
+
+-- The pause did what it owes, and whoever asks is given what it asks for.
+pub record IsWholePause (c : Config) (before after : Word → ℕ) (g : Graph) (asking : ℕ → Asking) : Type 0 where
+  pub paused : IsPaused c before after g asking
+  pub given_all : (t refs nums : ℕ) → t < c.mutators → asking t ≡ asks refs nums → paused.asked_then t ≡ given refs nums
+
+-- Where each object that was left found room, and each request, finishing the cycle is such a pause, in whatever phase.
+abbrev pub WholeIsPause : Type 0
+WholeIsPause = (c : Config) (memory : Word → ℕ) (g : Graph) (asking : ℕ → Asking) → Represents c memory g asking → is_whole c memory ≡ true
+    → IsWholePause c memory (finished c memory) g asking
+
+-- Else a full collection of the words that it leaves does what the pause owes: they still hold the graph.
+pub record ShortHolds (c : Config) (memory : Word → ℕ) (g : Graph) (asking : ℕ → Asking) : Type 0 where
+  pub holds : HoldsSome c (finished c memory)
+  pub paused : IsPaused c memory (full c (finished c memory)) g asking
+
+abbrev pub ShortIsPause : Type 0
+ShortIsPause = (c : Config) (memory : Word → ℕ) (g : Graph) (asking : ℕ → Asking) → Represents c memory g asking → is_whole c memory ≡ false
+    → ShortHolds c memory g asking
+
+-- Before requests are served each region of the collection set is free, where each object that was left found room.
+abbrev pub SetIsFree : Type 0
+SetIsFree = (c : Config) (memory : Word → ℕ) (g : Graph) (asking : ℕ → Asking) → Represents c memory g asking → is_room_for_all c memory ≡ true
+    → (r : ℕ) → r < c.regions → IsIn (memory Cset) r → IsFreed (cycle_finished c memory) r
+
+-- Words that represent a graph are such that a cycle can be finished.
+abbrev pub RepresentingCanFinish : Type 0
+RepresentingCanFinish = (c : Config) (memory : Word → ℕ) (g : Graph) (asking : ℕ → Asking) → Represents c memory g asking → CanFinish c memory

@@ -1,0 +1,16 @@
+-- A full collection as what a pause makes of the words of an image.
+use Rattle.std.specs.Prelude.{ℕ, ◌+◌, List, map}
+use Rattle.std.specs.List.{range_with_len}
+use Rattle.heap_words.specs.declared.config.Config.{Config}
+use Rattle.heap_words.specs.Words.{Word, image_start}
+use Rattle.heap_words.specs.Rows.{name_of}
+use Rattle.heap_world.specs.Change.{Change, image_words, image_view}
+use Rattle.full_words.specs.Full.{full}
+
+-- the words of the image in a memory, in the order of their places
+abbrev pub words_of_image : Config → (Word → ℕ) → List ℕ
+words_of_image c memory = map (λ k. memory (name_of c (image_start c + k))) (range_with_len 0 (image_words c))
+
+-- and those after a full collection
+abbrev pub full_image : Change
+full_image c image = words_of_image c (full c (image_view c image))

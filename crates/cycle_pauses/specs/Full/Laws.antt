@@ -1,0 +1,33 @@
+-- That a full collection does what a pause owes.
+use Rattle.std.specs.Prelude.{ℕ, ◌≡◌, ◌++◌, List, length, replicate}
+use Rattle.heap_words.specs.declared.config.Config.{Config}
+use Rattle.heap_words.specs.Words.{Word, image_start, table_words, view}
+use Rattle.shen_graph.specs.Graph.{Graph}
+use Rattle.heap_world.specs.Asking.{Asking}
+use Rattle.heap_world.specs.Represents.{Represents, RepresentsByCopies}
+use Rattle.heap_world.specs.Change.{image_words, image_view, IsPaused, IsPause}
+use Rattle.full_words.specs.Full.{full}
+use Rattle.image_graph.specs.Holds.{HoldsSome}
+use Rattle.cycle_pauses.specs.Full.Image.{full_image}
+
+-- Words that represent a graph, with what mutators have asked for, hold a graph in the sense of the full collection.
+abbrev pub RepresentingHolds : Type 0
+RepresentingHolds = (c : Config) (memory : Word → ℕ) (g : Graph) (asking : ℕ → Asking) → Represents c memory g asking → HoldsSome c memory
+
+-- By their names the words of an image after a full collection are those that a full collection makes of its words.
+abbrev pub ImageIsFull : Type 0
+ImageIsFull = (c : Config) (image : List ℕ) → length image ≡ image_words c → HoldsSome c (image_view c image) → image_view c (full_image c image) ≡ full c (image_view c image)
+
+-- So a table that reads as a full collection makes of an image is that image after it, behind words that are 0.
+abbrev pub TableIsFull : Type 0
+TableIsFull = (c : Config) (image table : List ℕ) → length image ≡ image_words c → length table ≡ table_words c → HoldsSome c (image_view c image)
+    → view c table ≡ full c (image_view c image) → table ≡ replicate (image_start c) 0 ++ full_image c image
+
+-- A full collection does what a pause owes also where roots name old copies: it needs no root that may be used.
+abbrev pub FullFromCopies : Type 0
+FullFromCopies = (c : Config) (memory : Word → ℕ) (g : Graph) (asking : ℕ → Asking) → RepresentsByCopies c memory g asking → IsPaused c memory (full c memory) g asking
+
+-- A full collection is a pause: it keeps the length of the image, and where the words represent a graph it keeps the graph,
+-- answers each mutator that asks, and refuses an object only where the heap is crowded.
+abbrev pub FullIsPause : Type 0
+FullIsPause = IsPause full_image

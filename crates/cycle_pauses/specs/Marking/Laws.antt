@@ -1,0 +1,40 @@
+-- What the pauses that begin and end marking leave of the words.
+use Rattle.std.specs.Prelude.{ℕ, ◌≡◌, ◌<◌, Option}
+use Rattle.heap_words.specs.declared.config.Config.{Config}
+use Rattle.heap_words.specs.Words.{Word, Phase}
+use Rattle.shen_graph.specs.Graph.{Graph}
+use Rattle.heap_world.specs.World.{Plot, Ghost}
+use Rattle.heap_world.specs.Asking.{Asking, asks}
+use Rattle.heap_world.specs.Represents.{Represents}
+use Rattle.full_words.specs.Promised.{Promises}
+use Rattle.image_graph.specs.Holds.{HoldsBy}
+use Rattle.cycle_words.specs.Marking.Init.{init_marked}
+use Rattle.cycle_words.specs.Marking.Close.{closed}
+use Rattle.cycle_words.specs.Marking.Final.{final_marked}
+use Rattle.cycle_words.specs.Marking.Laws.{HasNoMoreSeats}
+use Rattle.cycle_words.specs.Marking.WhileMarking.{IsMarking, IsMarkedThrough}
+use Rattle.cycle_pauses.specs.Marking.MarkedOut.{IsMarkedOut}
+
+-- Words that represent a graph while objects are marked hold it, and marking comes to each object that can be reached.
+abbrev pub MarkingStands : Type 0
+MarkingStands = (c : Config) (memory : Word → ℕ) (g : Graph) (asking : ℕ → Asking) → Represents c memory g asking → memory Phase ≡ 1
+    → (block : Plot) × (owner : ℕ → Option ℕ) × (p : Promises) × HoldsBy c memory block owner p g × IsMarking c memory block
+
+-- So once the marks are closed, each object that can be reached is marked or has been allocated since mark start.
+abbrev pub ReachableAreMarked : Type 0
+ReachableAreMarked = (c : Config) (memory : Word → ℕ) (g : Graph) (asking : ℕ → Asking) → Represents c memory g asking → memory Phase ≡ 1
+    → (block : Plot) × (owner : ℕ → Option ℕ) × (p : Promises) × HoldsBy c (closed c memory) block owner p g × IsMarkedThrough c (closed c memory) block
+
+-- no mutator asks for an object
+abbrev pub NobodyAsks : Config → (ℕ → Asking) → Type 0
+NobodyAsks c asking = (t refs nums : ℕ) → t < c.mutators → asking t ≡ asks refs nums → ⊥
+
+-- Where nothing runs and nobody asks, the beginning of marking keeps the graph.
+abbrev pub BeginningRepresents : Type 0
+BeginningRepresents = (c : Config) (memory : Word → ℕ) (g : Graph) (asking : ℕ → Asking) → Represents c memory g asking → memory Phase ≡ 0 → NobodyAsks c asking
+    → Represents c (init_marked c memory) g asking
+
+-- The end of marking keeps the graph too, and each object is marked then, or was allocated since mark start.
+abbrev pub EndGives : Type 0
+EndGives = (c : Config) (memory : Word → ℕ) (g : Graph) (asking : ℕ → Asking) → Represents c memory g asking → memory Phase ≡ 1 → HasNoMoreSeats c memory
+    → (block : Plot) × (ghost : Ghost) × IsMarkedOut c (final_marked c memory) block ghost g asking

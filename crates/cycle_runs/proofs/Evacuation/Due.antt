@@ -1,0 +1,113 @@
+-- A pause begins only where it is due, and then all has been copied, or updated.
+use Rattle.std.proofs.Common.{◌≡◌, ◌≢◌, ℕ, ◌+◌, ◌<◌, ◌≤◌, true, List, Some, ap, subst, arith}
+use Rattle.std.specs.Prelude.{slice_get}
+use Rattle.heap_words.specs.declared.config.Config.{Config}
+use Rattle.heap_words.specs.Words.{Phase, Cset, Evac, Claim, Root, Answer, Heap}
+use Rattle.steps_base.specs.Steps.{Stage, go}
+use Rattle.shen_graph.specs.Graph.{Graph}
+use Rattle.shen_graph.specs.History.{Entry, after, of_thread}
+use Rattle.handshake.specs.Standing.{is_pausing}
+use Rattle.heap_world.specs.World.{World, promised, IsCollected, IsUsable, IsCurrent}
+use Rattle.heap_world.specs.Asking.{Asking, nothing, asks, refused, given, IsAsked}
+use Rattle.heap_world.specs.Change.{IsDue}
+use Rattle.heap_world.proofs.Updated.{usable_current}
+use Rattle.move_steps.proofs.Updating.Done.{units_are_updated, all_is_updated}
+use Rattle.mutator.specs.Rows.{Mutating}
+use Rattle.control_rows.specs.declared.spot.ControlSpot.{ControlSpot}
+use Rattle.control_rows.specs.declared.spot.ControlSpot.TheVariants as control
+use Rattle.control_rows.specs.Rows.{Controlling}
+use Rattle.step_core.specs.Actor.{mutating, Actor}
+use Rattle.step_core.specs.History.{history}
+use Rattle.step_core.specs.Machines.{kind}
+use Rattle.step_core.specs.Pausing.{IsInPause, IsEmpty}
+use Rattle.step_core.specs.Settled.{settled, control_number}
+use Rattle.step_core.specs.Standing.{control_standing}
+use Rattle.step_core.proofs.Control.Asked.{asking_at}
+use Rattle.step_core.proofs.Machines.Owed.{IsMachine, IsThread, ControlFacts}
+use Rattle.step_core.proofs.Theorem.Induction.{Goes}
+use Rattle.step_core.proofs.Control.Paused.{asked_outside}
+use Rattle.step_core.proofs.Machines.Roles.{mutator_there}
+use Rattle.step_core.proofs.Theorem.EveryList.{run_pauses}
+use Rattle.cycle_runs.specs.Evacuation.Due.{has_begun, HasControl, PausesComeWhenDue, EvacuationIsWhole, NamesNoSet, AreUpdated, UpdatingIsWhole}
+use Rattle.cycle_runs.proofs.Evacuation.Runs.{the_world, stands, idle, stage_goes, all_is_forwarded_in_runs}
+
+-- where the control has begun a pause, that is due
+begun_due : (c : Config) (w : World) (number : ℕ) (spot : ControlSpot) → has_begun spot ≡ true → ControlFacts c w number spot → IsDue c w.memory
+begun_due c w number (control.Stopping at) on facts = facts.1
+begun_due c w number (control.LoadWord index) on facts = facts.1
+begun_due c w number _ on facts = absurd (cc (on))
+
+module _ (c : Config) (g : Graph) (s : Stage Actor) (h : List Entry) (goes : Goes c g s h) where
+  -- what the control knows
+  control_facts : (k : Controlling) → HasControl c s k → ControlFacts c (the_world c g s h goes) (control_number c) k.spot
+  control_facts k has =
+      (subst (λ m. IsMachine c s.words (the_world c g s h goes) (of_thread h (control_number c + 1)) (control_number c) has.actor m) has.is (goes.follows.machines (control_number c) has.actor has.here)).facts
+
+  -- the pause is due that it has begun
+  pause_due : (k : Controlling) → HasControl c s k → has_begun k.spot ≡ true → IsDue c (settled c s)
+  pause_due k has on = begun_due c (the_world c g s h goes) (control_number c) k.spot on (control_facts k has)
+
+  -- An answer that is an address is that of an object that is promised.
+  promised_there : (t : ℕ) (x : Asking) → IsAsked (settled c s) goes.follows.block (after g h).count t x → 1 < settled c s (Answer t) → (words : ℕ) × (goes.follows.block (settled c s (Answer t)) ≡ Some (promised t words))
+  promised_there t nothing asked more = absurd (let none = asked.1 in omega (arith, none, more))
+  promised_there t (asks refs nums) asked more = absurd (let none = asked.1 in omega (arith, none, more))
+  promised_there t refused asked more = absurd (let one = asked.1 in omega (arith, one, more))
+  promised_there t (given refs nums) asked more = (3 + refs + nums, asked.2.here)
+
+  -- In phase 3, with all regions claimed and all machines outside, all is updated.
+  module _ (pause : IsInPause c s) (empty : IsEmpty c s) (on : settled c s Phase ≡ 3) (all : c.regions ≤ settled c s Claim) where
+    -- what is current does not lie in the set
+    current_outside : (v : ℕ) → IsCurrent goes.follows.block v → v ≢ 0 → IsCollected c (settled c s Cset) v → ⊥
+    current_outside v current some inside = units_are_updated.outside c (the_world c g s h goes) v goes.follows.shared on current some inside
+
+    -- the roots of a mutator may be used
+    thread_there : (t : ℕ) → t < c.mutators → (a : Actor) × (m : Mutating) × (slice_get s.machines t ≡ Some a) × (a.machine ≡ mutating m) × IsThread c s.words (the_world c g s h goes) (of_thread h (t + 1)) t a m
+    thread_there t below = mutator_there c s.words (the_world c g s h goes) h s.machines goes.follows.seats goes.follows.machines t below
+
+    root_outside : (t i : ℕ) → t < c.mutators → i < 16 → NamesNoSet c (settled c s) (Root t i)
+    root_outside t i below small some inside =
+        let thread = (thread_there t below).4 in
+        current_outside (settled c s (Root t i))
+        (usable_current c (settled c s Cset) (settled c s Evac) goes.follows.block (settled c s (Root t i))
+        (subst (λ j. IsUsable c (settled c s Cset) (settled c s Evac) goes.follows.block (settled c s (Root j i))) thread.number_is (thread.mine.seated.usable i small)))
+        some inside
+
+    -- an answer is that of an object that is promised, which does not lie in the set
+    answer_outside : (t : ℕ) → t < c.mutators → 1 < settled c s (Answer t) → NamesNoSet c (settled c s) (Answer t)
+    answer_outside t below more some inside =
+        let there = thread_there t below in
+        let m = there.1 in
+        let thread = there.4 in
+        let out = empty.nobody t there.0 m (record { here = there.2; is = there.3 }) in
+        let asked = asked_outside c (the_world c g s h goes) m.seat m.made m.kept m.spot there.0.command thread.fixed out thread.mine in
+        let piece = promised_there t (asking_at m.spot (settled c s (Answer t)) m.kept.command)
+        (subst (λ j. IsAsked (settled c s) goes.follows.block (after g h).count j (asking_at m.spot (settled c s (Answer j)) m.kept.command)) thread.number_is asked) more in
+        goes.follows.shared.evacuated.aside.no_promises (settled c s (Answer t)) t piece.0 piece.1 inside
+
+    are_updated : AreUpdated c s (after g h)
+    are_updated = record {
+      stands = stands c g s h goes;
+      roots = root_outside;
+      answers = answer_outside;
+      fields = λ a refs nums k name is below some inside.
+          current_outside (settled c s (Heap (a + 3 + k)))
+          (all_is_updated c (the_world c g s h goes) goes.follows.shared on (λ seat seated. (idle c g s h goes pause seat seated).1) all a refs nums k name is below) some inside;
+    }
+
+pub pauses_come_when_due : PausesComeWhenDue
+pauses_come_when_due change law c s g begins events k has on = pause_due c g (go (kind change c) s events) (history change c s events) (stage_goes change law c s g begins events) k has on
+
+-- the control that reads the image is in a pause
+reads_in_pause : (c : Config) (s : Stage Actor) (k : Controlling) → HasControl c s k → (index : ℕ) → k.spot ≡ control.LoadWord index → IsInPause c s
+reads_in_pause c s k has index is = record { actor = has.actor; control = k; here = has.here; is = has.is; pausing = ap (λ spot. is_pausing (control_standing spot)) is }
+
+pub evacuation_is_whole : EvacuationIsWhole
+evacuation_is_whole change law c s g begins events k has index is two quiet room =
+    all_is_forwarded_in_runs change law c s g begins events (reads_in_pause c (go (kind change c) s events) k has index is) two
+    (pauses_come_when_due change law c s g begins events k has (ap has_begun is) (omega (arith, two)) quiet) room
+
+pub updating_is_whole : UpdatingIsWhole
+updating_is_whole change law c s g begins events k has index is three quiet =
+    let pause : IsInPause c (go (kind change c) s events) = reads_in_pause c (go (kind change c) s events) k has index is in
+    are_updated c g (go (kind change c) s events) (history change c s events) (stage_goes change law c s g begins events) pause (run_pauses change law c s g begins events pause) three
+    (pauses_come_when_due change law c s g begins events k has (ap has_begun is) (omega (arith, three)) quiet)

@@ -1,0 +1,5 @@
+pub mod Free
+pub mod PartHands
+pub mod Mutators
+pub mod Runs
+pub mod Taken

@@ -1,0 +1,139 @@
+-- In each stage that events lead to no region that is free is held.
+use Rattle.std.proofs.Common.{◌≡◌, ℕ, ◌+◌, ◌<◌, ◌≤◌, ⊎_elim, List, [], Option, Some, None, get_or, refl, subst, arith}
+use Rattle.std.proofs.lemmas.Option.{slice_get-get_or}
+use Rattle.heap_words.specs.declared.config.Config.{Config}
+use Rattle.heap_words.specs.Words.{Free, Answer, Heap}
+use Rattle.regions.specs.Place.{IsOf}
+use Rattle.regions.specs.Sets.{IsIn}
+use Rattle.steps_base.specs.Steps.{Stage, go}
+use Rattle.shen_graph.specs.declared.name.Name.{Name}
+use Rattle.shen_graph.specs.declared.command.Command.{Command}
+use Rattle.shen_graph.specs.declared.command.Reply.{Reply}
+use Rattle.shen_graph.specs.Graph.{Graph}
+use Rattle.shen_graph.specs.History.{Entry, after, of_thread}
+use Rattle.heap_world.specs.World.{World, thing, Shared}
+use Rattle.heap_world.specs.Asking.{Asking, nothing, asks, refused, given, IsAsked}
+use Rattle.unit_part.specs.declared.spot.UnitSpot.{UnitSpot}
+use Rattle.unit_part.specs.declared.spot.UnitSpot.TheVariants as unit
+use Rattle.helper.specs.declared.spot.HelpSpot.{HelpSpot}
+use Rattle.helper.specs.declared.spot.HelpSpot.TheVariants as help
+use Rattle.control_rows.specs.declared.spot.ControlSpot.{ControlSpot}
+use Rattle.control_rows.specs.declared.spot.ControlSpot.TheVariants as control
+use Rattle.mutator.specs.declared.spot.Kept.{Kept}
+use Rattle.mutator.specs.declared.spot.Spot.{Spot}
+use Rattle.mutator.specs.declared.spot.Spot.TheVariants.{Waiting}
+use Rattle.mutator.specs.declared.waits.WaitSpot.TheVariants as wait
+use Rattle.mutator.specs.Rows.{Mutating}
+use Rattle.step_core.specs.Actor.{Machine, mutating, helping, controlling, Actor}
+use Rattle.step_core.specs.History.{history}
+use Rattle.step_core.specs.Machines.{kind}
+use Rattle.step_core.specs.Own.{root_now}
+use Rattle.step_core.specs.Settled.{settled}
+use Rattle.step_core.specs.Sound.{world_of, IsMutator, StandsFor}
+use Rattle.step_core.proofs.Machines.Stepped.{Mine}
+use Rattle.step_core.proofs.Theorem.Beginning.{goes_begins}
+use Rattle.step_core.proofs.Machines.Owed.{CanWork, HelpFacts, ControlFacts, IsMachine, IsThread}
+use Rattle.step_core.proofs.Theorem.Induction.{Goes, goes_run}
+use Rattle.step_core.proofs.Machines.Requests.{has_asked}
+use Rattle.step_core.proofs.Machines.Roles.{mutator_there}
+use Rattle.step_core.proofs.Mutators.Spots.{mutator_at}
+use Rattle.cycle_runs.specs.Recycling.InHand.{IsUnitHand, IsHelpHand, IsControlHand, IsInHandOf}
+use Rattle.cycle_runs.specs.Recycling.Held.{IsHeld, FreeIsNotHeld, FreeIsNotHeldInRuns}
+use Rattle.cycle_runs.proofs.Recycling.Free.{IsElsewhere, piece_elsewhere, named_elsewhere, points_elsewhere}
+use Rattle.cycle_runs.proofs.Recycling.PartHands.{scan_hand, evac_hand, update_hand}
+use Rattle.cycle_runs.proofs.Recycling.Mutators.{mutator_hand}
+
+module _ (c : Config) (w : World) (shared : Shared c w) (r : ℕ) (inside : r < c.regions) (free : IsIn (w.memory Free) r) where
+  -- an address does not lie there
+  abbrev IsApart : ℕ → Type 0
+  IsApart a = IsElsewhere c w shared r inside free a
+
+  -- what a helper and the control have in hand does not
+  unit_hand : (seat : ℕ) (at : UnitSpot) → CanWork c w seat at → (a : ℕ) → IsUnitHand c at a → IsApart a
+  unit_hand seat (unit.Scanning at) can a is = scan_hand c w shared r inside free seat at can.0 a is
+  unit_hand seat (unit.Evacuating cset at) can a is = evac_hand c w shared r inside free seat cset at can a is
+  unit_hand seat (unit.Updating cset at) can a is = update_hand c w shared r inside free seat cset at can a is
+  unit_hand seat (unit.Ended ended) can a is = absurd is
+
+  help_hand : (seat : ℕ) (spot : HelpSpot) → HelpFacts c w seat spot → (a : ℕ) → IsHelpHand c spot a → IsApart a
+  help_hand seat (help.Working at) facts a is = unit_hand seat at facts a is
+  help_hand seat _ facts a is = absurd is
+
+  control_hand : (seat : ℕ) (spot : ControlSpot) → ControlFacts c w seat spot → (a : ℕ) → IsControlHand c spot a → IsApart a
+  control_hand seat (control.Working at) facts a is = unit_hand seat at facts a is
+  control_hand seat _ facts a is = absurd is
+
+  -- nor does what any machine has
+  pub machine_hand : (words : List ℕ) (entries : List Entry) (number : ℕ) (x : Actor) (machine : Machine) → IsMachine c words w entries number x machine → (a : ℕ) → IsInHandOf c machine a → IsApart a
+  machine_hand words entries number x (mutating m) facts a is = mutator_hand c w shared r inside free m.seat m.made m.kept x.command facts.fixed m.spot facts.mine.facts a is
+  machine_hand words entries number x (helping h) facts a is = help_hand number h.spot facts.facts a is
+  machine_hand words entries number x (controlling k) facts a is = control_hand number k.spot facts.facts a is
+
+  -- where an answer leads
+  pub answer_apart : (t : ℕ) (asking : Asking) → IsAsked w.memory w.block w.graph.count t asking → 1 < w.memory (Answer t) → IsApart (w.memory (Answer t))
+  answer_apart t nothing is some = absurd (omega (arith, is.1, some))
+  answer_apart t (asks refs nums) is some = absurd (omega (arith, is.1, some))
+  answer_apart t refused is some = absurd (omega (arith, is.1, some))
+  answer_apart t (given refs nums) is some = piece_elsewhere c w shared r inside free (w.memory (Answer t)) _ is.2.here
+
+  -- also while the mutator is about to clear it
+  pub answered_apart : (seat made : ℕ) (kept : Kept) (command : Command) (fixed : Option Reply) (spot : Spot) → Mine c w (mutator_at seat made kept spot) command fixed → 1 < w.memory (Answer seat)
+      → IsApart (w.memory (Answer seat))
+  answered_apart seat made kept command fixed (Waiting (wait.ClearAnswer reply)) mine some = ⊎_elim
+      (λ (none : w.memory (Answer seat) ≤ 1). absurd (omega (arith, none, some)))
+      (λ named. named_elsewhere c w shared r inside free (w.memory (Answer seat)) named.0 named.1)
+      mine.facts.3
+  answered_apart seat made kept command fixed spot mine some =
+      let asked = has_asked c w seat made kept command fixed spot refl mine in
+      answer_apart seat asked.asking asked.is some
+
+  -- what a field of a current copy names
+  pub field_apart : (a refs nums k : ℕ) (name : Name) → w.block a ≡ Some (thing name refs nums) → k < refs → IsApart (w.memory (Heap (a + 3 + k)))
+  field_apart a refs nums k name is below =
+      let object = shared.contents.objects.each a refs nums name is in
+      let there = slice_get-get_or object.0.refs k None (let long = object.2.refs_are in omega (arith, below, long)) in
+      points_elsewhere c w shared r inside free (w.memory (Heap (a + 3 + k))) (get_or object.0.refs k None) (object.2.references k (get_or object.0.refs k None) there)
+
+-- What a stage says in which all goes as it should.
+module _ (c : Config) (g : Graph) (s : Stage Actor) (h : List Entry) (goes : Goes c g s h) where
+  abbrev the_world : World
+  the_world = world_of c s goes.follows.block goes.follows.ghost (after g h)
+
+  -- of a mutator
+  thread_of : (number : ℕ) (a : Actor) (m : Mutating) → IsMutator s number a m → IsThread c s.words the_world (of_thread h (number + 1)) number a m
+  thread_of number a m here = subst (λ machine. IsMachine c s.words the_world (of_thread h (number + 1)) number a machine) here.is (goes.follows.machines number a here.here)
+
+  -- words and machines stand for the graph
+  abbrev stands : StandsFor c s (after g h)
+  stands = record {
+    block = goes.follows.block;
+    ghost = goes.follows.ghost;
+    shared = goes.follows.shared;
+    in_hand = λ a seat words is. (goes.follows.shared.owned.rooms a seat words is).seated;
+    promised_to = goes.follows.promised_to;
+    mutators = λ number a m here. let mine = (thread_of number a m here).mine in record { made = mine.seated.counted; roots = mine.roots; hands = mine.hands };
+    asked = λ number a m here going. let thread = thread_of number a m here in has_asked c the_world m.seat m.made m.kept a.command thread.fixed m.spot going thread.mine;
+  }
+
+  -- no free region is held
+  not_held : (r : ℕ) → r < c.regions → IsIn (settled c s Free) r → IsHeld c the_world s.machines r → ⊥
+  not_held r inside free (IsHeld.by_root number index x m here is below of) =
+      let thread = thread_of number x m (record { here = here; is = is }) in
+      points_elsewhere c the_world goes.follows.shared r inside free (root_now the_world m.seat m.kept m.spot index) (the_world.graph.root (m.seat + 1) index) (thread.mine.roots index below) of
+  not_held r inside free (IsHeld.by_answer t below some of) =
+      let there = mutator_there c s.words the_world h s.machines goes.follows.seats goes.follows.machines t below in
+      let thread = there.4 in
+      let m = there.1 in
+      subst (λ seat. 1 < the_world.memory (Answer seat) → IsOf c r (the_world.memory (Answer seat)) → ⊥) thread.number_is
+      (answered_apart c the_world goes.follows.shared r inside free m.seat m.made m.kept there.0.command thread.fixed m.spot thread.mine) some of
+  not_held r inside free (IsHeld.by_field a refs nums k name is below of) = field_apart c the_world goes.follows.shared r inside free a refs nums k name is below of
+  not_held r inside free (IsHeld.by_hand number a x here hand_is of) =
+      machine_hand c the_world goes.follows.shared r inside free s.words (of_thread h (number + 1)) number x x.machine (goes.follows.machines number x here) a hand_is of
+  not_held r inside free (IsHeld.by_piece a x is of) = piece_elsewhere c the_world goes.follows.shared r inside free a x is of
+
+  pub free_is_not_held : FreeIsNotHeld c s (after g h)
+  free_is_not_held = record { stands = stands; not_held = not_held }
+
+pub free_is_not_held_in_runs : FreeIsNotHeldInRuns
+free_is_not_held_in_runs change law c s g begins events =
+    free_is_not_held c g (go (kind change c) s events) (history change c s events) (goes_run change law c g s [] events (goes_begins c s g begins))

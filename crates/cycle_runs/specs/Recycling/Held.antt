@@ -1,0 +1,55 @@
+-- A region is held while something names it; one that is free is not, so that it can be given again.
+use Rattle.std.specs.Prelude.{ℕ, ◌≡◌, ◌+◌, ◌<◌, List, Some, None, slice_get}
+use Rattle.heap_words.specs.declared.config.Config.{Config}
+use Rattle.heap_words.specs.Words.{Free, Answer, Heap, view}
+use Rattle.regions.specs.Place.{IsOf}
+use Rattle.regions.specs.Sets.{IsIn}
+use Rattle.steps_base.specs.Steps.{Stage, Event, IsEvent, act, go}
+use Rattle.shen_graph.specs.declared.name.Name.{Name}
+use Rattle.shen_graph.specs.declared.order.Order.{Order}
+use Rattle.shen_graph.specs.Graph.{Graph}
+use Rattle.shen_graph.specs.History.{after}
+use Rattle.heap_world.specs.World.{World, Block, thing}
+use Rattle.heap_world.specs.Change.{Change, IsPause}
+use Rattle.mutator.specs.Rows.{Mutating}
+use Rattle.step_core.specs.Actor.{mutating, Actor}
+use Rattle.step_core.specs.Begins.{Begins}
+use Rattle.step_core.specs.History.{history}
+use Rattle.step_core.specs.Machines.{kind}
+use Rattle.step_core.specs.Own.{root_now}
+use Rattle.step_core.specs.Settled.{image_read, settled}
+use Rattle.step_core.specs.Sound.{world_of, StandsFor}
+use Rattle.cycle_runs.specs.Recycling.InHand.{IsInHandOf}
+
+-- A region is held: in it lies what counts as a root, where an answer leads, what a field of a current copy names, what a machine has
+-- in hand, or the beginning of a piece at all.
+pub data IsHeld (c : Config) (w : World) (machines : List Actor) (r : ℕ) : Type 0 where
+  by_root : (number index : ℕ) (x : Actor) (m : Mutating) → slice_get machines number ≡ Some x → x.machine ≡ mutating m → index < 16 → IsOf c r (root_now w m.seat m.kept m.spot index)
+      → IsHeld c w machines r
+  by_answer : (t : ℕ) → t < c.mutators → 1 < w.memory (Answer t) → IsOf c r (w.memory (Answer t)) → IsHeld c w machines r
+  by_field : (a refs nums k : ℕ) (name : Name) → w.block a ≡ Some (thing name refs nums) → k < refs → IsOf c r (w.memory (Heap (a + 3 + k))) → IsHeld c w machines r
+  by_hand : (number a : ℕ) (x : Actor) → slice_get machines number ≡ Some x → IsInHandOf c x.machine a → IsOf c r a → IsHeld c w machines r
+  by_piece : (a : ℕ) (x : Block) → w.block a ≡ Some x → IsOf c r a → IsHeld c w machines r
+
+-- Words and machines stand for a graph by some plot, in which no region that is free by the words that count is held.
+pub record FreeIsNotHeld (c : Config) (s : Stage Actor) (g : Graph) : Type 0 where
+  pub stands : StandsFor c s g
+  pub not_held : (r : ℕ) → r < c.regions → IsIn (settled c s Free) r → IsHeld c (world_of c s stands.block stands.ghost g) s.machines r → ⊥
+
+-- so it is after every list of events
+abbrev pub FreeIsNotHeldInRuns : Type 0
+FreeIsNotHeldInRuns = (change : Change) → IsPause change → (c : Config) (s : Stage Actor) (g : Graph) → Begins c s g → (events : List (Event Order))
+    → FreeIsNotHeld c (go (kind change c) s events) (after g (history change c s events))
+
+-- a machine of which no image counts takes a region: by its step the bit of the region in the table is 1 no more
+pub record TakesRegion (change : Change) (c : Config) (s : Stage Actor) (e : Event Order) (x : Actor) (r : ℕ) : Type 0 where
+  pub event : IsEvent (kind change c) s e x
+  pub no_image : image_read x.machine ≡ None
+  pub free : IsIn (view c s.words Free) r
+  pub taken : IsIn (view c (act (kind change c) s e).words Free) r → ⊥
+
+-- The words of the table are those that count then, so that the region is free by them.
+abbrev pub TakenRegionsWereFree : Type 0
+TakenRegionsWereFree = (change : Change) → IsPause change → (c : Config) (s : Stage Actor) (g : Graph) → Begins c s g → (events : List (Event Order))
+    → (e : Event Order) (x : Actor) (r : ℕ) → r < c.regions → TakesRegion change c (go (kind change c) s events) e x r
+    → (settled c (go (kind change c) s events) ≡ view c (go (kind change c) s events).words) × IsIn (settled c (go (kind change c) s events) Free) r

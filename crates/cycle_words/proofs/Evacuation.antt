@@ -1,0 +1,14 @@
+pub mod Sums
+pub mod RegionAddresses
+pub mod Candidate
+pub mod Order
+pub mod Front
+pub mod Taken
+pub mod Room
+pub mod Fits
+pub mod CopiedOut
+pub mod CopiedInTurn
+pub mod Naming
+pub mod Copies
+pub mod Clearing
+pub mod CanBegin

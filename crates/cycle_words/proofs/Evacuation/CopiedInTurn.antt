@@ -1,0 +1,161 @@
+-- Objects that are copied out one after the other: each finds the room that it finds in numbers.
+use Rattle.std.proofs.Common.{◌≡◌, ◌≢◌, ℕ, ◌+◌, ◌<◌, ◌≤◌, ◌⊎◌, ◌==◌, if◌then◌else◌, zero, suc, List, length, get_or, Some, refl, sym, ap, ◌∙◌, subst, ⊎_elim, arith}
+use Rattle.std.specs.Prelude.{Contains}
+use Rattle.std.specs.Int.{bit_at}
+use Rattle.std.proofs.lemmas.Bool.{cases_eq, cond-true}
+use Rattle.std.proofs.lemmas.List.Elements.{Contains-get_or}
+use Rattle.heap_words.specs.declared.config.Config.{Config}
+use Rattle.heap_words.specs.Words.{Word, Cset, Top, Heap}
+use Rattle.heap_words.specs.Encoding.{object_words}
+use Rattle.packing.specs.Places.{LieApart}
+use Rattle.packing.specs.Rooms.{lowest_room, taken_in, room_at_turn}
+use Rattle.packing.proofs.Rooms.{same_room, served_next, served_none, taken_here, taken_elsewhere}
+use Rattle.regions.specs.Place.{region_with}
+use Rattle.regions.specs.Sets.{IsIn, IsOutside}
+use Rattle.cycle_words.specs.Marking.Marks.{is_black}
+use Rattle.cycle_words.specs.Evacuation.Live.{words_at, marked_words}
+use Rattle.cycle_words.specs.Evacuation.Choice.{chosen}
+use Rattle.cycle_words.specs.Evacuation.Copying.{tops_outside, AreToCopy, words_by_turn, tops_after_copies, FindsRoom}
+use Rattle.cycle_words.specs.Evacuation.Copied.{copy_room, top_address, copied_out, copied_by, IsCopiedOut}
+use Rattle.cycle_words.specs.Evacuation.Begun.{FreeAreEmpty}
+use Rattle.cycle_words.specs.Evacuation.Laws.{EachIsCopied}
+use Rattle.cycle_words.proofs.Evacuation.RegionAddresses.{of_its_region, regions_apart}
+use Rattle.cycle_words.proofs.Evacuation.Fits.{above_first, room_is_found}
+use Rattle.cycle_words.proofs.Evacuation.CopiedOut.{own_top, copying_copies}
+
+module _ (c : Config) (memory : Word → ℕ) (objects : List ℕ) (empty : FreeAreEmpty c memory) (lie : LieApart c.region_words (marked_words c memory))
+    (set_is : memory Cset ≡ chosen c memory) (to_copy : AreToCopy c memory (chosen c memory) objects) where
+  abbrev w : ℕ
+  w = c.region_words
+
+  abbrev set : ℕ
+  set = chosen c memory
+
+  abbrev now : ℕ → Word → ℕ
+  now = copied_by c memory objects
+
+  abbrev asked : ℕ → ℕ
+  asked = words_by_turn memory objects
+
+  abbrev start : ℕ → ℕ
+  start = tops_outside w set (λ r. memory (Top r))
+
+  now_next : (k : ℕ) → now (suc k) ≡ copied_out c (now k) (get_or objects k 0)
+  unfolding copied_by
+  now_next k = refl
+
+  now_first : now 0 ≡ memory
+  unfolding copied_by
+  now_first = refl
+
+  -- How the words are after so many turns: the tops are those of the numbers, and the words of the objects, headers aside,
+  -- are as before.
+  record AreAt (k : ℕ) (m : Word → ℕ) : Type 0 where
+    same_set : m Cset ≡ set
+    tops : (r : ℕ) → tops_outside w set (λ q. m (Top q)) r ≡ tops_after_copies c memory set objects k r
+    words : (a i : ℕ) → Contains objects a → 0 < i → i < words_at memory a → m (Heap (a + i)) ≡ memory (Heap (a + i))
+
+  at_first : AreAt 0 (now 0)
+  at_first = subst (AreAt 0) (sym now_first) (record { same_set = set_is; tops = λ r. sym (served_none w c.regions asked start r); words = λ a i _ _ _. refl })
+
+  -- what is known of each object
+  first_is : (a : ℕ) → Contains objects a → w ≤ a
+  first_is a has = above_first c memory set objects to_copy a (to_copy.marked a has)
+
+  all_marked : (a : ℕ) → Contains objects a → marked_words c memory a ≡ words_at memory a
+  all_marked a has = cond-true (is_black c memory a) (words_at memory a) 0 (to_copy.marked a has)
+
+  -- no word of an object but its first is where another object begins
+  never_begins : (a b i : ℕ) → Contains objects a → Contains objects b → 0 < i → i < words_at memory a → a + i ≢ b
+  never_begins a b i has_a has_b some inside same =
+      let size = all_marked a has_a in
+      let other_size = all_marked b has_b in
+      let here : 0 < marked_words c memory a = omega (arith, size) in
+      let there : 0 < marked_words c memory b = omega (arith, other_size) in
+      let apart = lie.apart a b here there (omega (arith, same, some)) in
+      omega (arith, apart, size, same, inside)
+
+  module _ (k : ℕ) (m : Word → ℕ) (inside : k < length objects) (at : AreAt k m) where
+    abbrev o : ℕ
+    o = get_or objects k 0
+
+    has : Contains objects o
+    has = Contains-get_or objects k 0 inside
+
+    turn : FindsRoom c memory set objects k
+    turn = room_is_found c memory objects empty to_copy k inside
+
+    same_size : words_at m o ≡ words_at memory o
+    same_size = ap object_words (at.words o 1 has (omega arith) (omega arith))
+
+    -- the region by words is the region by numbers
+    same_region : copy_room c m o ≡ room_at_turn w c.regions asked start k
+    same_region =
+        ap (λ s. lowest_room w (tops_outside w s (λ q. m (Top q))) (words_at m o) c.regions) at.same_set
+        ∙ ap (λ n. lowest_room w (tops_outside w set (λ q. m (Top q))) n c.regions) same_size
+        ∙ same_room w (tops_outside w set (λ q. m (Top q))) (tops_after_copies c memory set objects k) (asked k) c.regions (λ r _. at.tops r)
+
+    copied : IsCopiedOut c m (copied_out c m o) o
+    copied = copying_copies c m o turn.region (first_is o has) (subst (λ s. IsIn s (region_with c o)) (sym at.same_set) (to_copy.in_set o has)) (same_region ∙ turn.found)
+
+    found_here : room_at_turn w c.regions asked start k ≡ Some copied.region
+    found_here = sym same_region ∙ copied.found
+
+    outside : IsOutside set copied.region
+    outside = ap (λ s. bit_at s copied.region) (sym at.same_set) ∙ copied.outside
+
+    -- the tops in numbers at the next turn
+    next_top : (q : ℕ) → tops_after_copies c memory set objects (suc k) q ≡ taken_in (tops_after_copies c memory set objects k) (asked k) (Some copied.region) q
+    next_top q = served_next w c.regions asked start k q ∙ ap (λ found. taken_in (tops_after_copies c memory set objects k) (asked k) found q) found_here
+
+    top_here : tops_outside w set (λ q. copied_out c m o (Top q)) copied.region ≡ tops_after_copies c memory set objects (suc k) copied.region
+    top_here =
+        own_top w set (λ q. copied_out c m o (Top q)) copied.region outside
+        ∙ copied.copied.top
+        ∙ ap (λ t. t + words_at m o) (sym (own_top w set (λ q. m (Top q)) copied.region outside) ∙ at.tops copied.region)
+        ∙ ap (λ n. tops_after_copies c memory set objects k copied.region + n) same_size
+        ∙ sym (taken_here (tops_after_copies c memory set objects k) (asked k) copied.region)
+        ∙ sym (next_top copied.region)
+
+    top_elsewhere : (q : ℕ) → q ≢ copied.region → tops_outside w set (λ r. copied_out c m o (Top r)) q ≡ tops_after_copies c memory set objects (suc k) q
+    top_elsewhere q other =
+        ap (λ t. if bit_at set q == 1 then w else t) (copied.copied.other_tops q other)
+        ∙ at.tops q
+        ∙ sym (taken_elsewhere (tops_after_copies c memory set objects k) (asked k) copied.region q other)
+        ∙ sym (next_top q)
+
+    -- the words of objects lie in regions of the set, where nothing is copied to
+    never_overwritten : (a i : ℕ) → Contains objects a → i < words_at memory a
+        → (a + i < top_address c m copied.region) ⊎ (top_address c m copied.region + words_at m o ≤ a + i)
+    never_overwritten a i has_a less =
+        let size = all_marked a has_a in
+        let within = lie.within a (omega (arith, size)) in
+        let differ : region_with c a ≢ copied.region = λ same. (let member : bit_at set copied.region ≡ 1 = subst (IsIn set) same (to_copy.in_set a has_a) in omega (arith, member, outside)) in
+        regions_apart c (region_with c a) copied.region (a + i) (top_address c m copied.region) (words_at m o) differ
+        (of_its_region c a i (first_is a has_a) (omega (arith, within, size, less))) (omega arith) (omega (arith, copied.room))
+
+    at_next : AreAt (suc k) (copied_out c m o)
+    at_next = record {
+      same_set = copied.copied.others Cset (λ never. never) ∙ at.same_set;
+      tops = λ q. ⊎_elim
+          (λ (here : q ≡ copied.region). subst (λ r. tops_outside w set (λ p. copied_out c m o (Top p)) r ≡ tops_after_copies c memory set objects (suc k) r) (sym here) top_here)
+          (λ (other : q ≢ copied.region). top_elsewhere q other)
+          (cases_eq q copied.region);
+      words = λ a i has_a some less.
+          copied.copied.elsewhere (a + i) (never_begins a o i has_a has some less) (never_overwritten a i has_a less) ∙ at.words a i has_a some less;
+    }
+
+  at_turn : (k : ℕ) → k ≤ length objects → AreAt k (now k)
+  at_turn zero most = at_first
+  at_turn (suc k) most =
+      let inside : k < length objects = omega (arith, most) in
+      subst (AreAt (suc k)) (sym (now_next k)) (at_next k (now k) inside (at_turn k (omega (arith, most))))
+
+  pub copied_at_turn : (k : ℕ) → k < length objects → IsCopiedOut c (now k) (now (k + 1)) (get_or objects k 0)
+  copied_at_turn k inside =
+      let next : suc k ≡ k + 1 = omega arith in
+      let copied_next = subst (λ after. IsCopiedOut c (now k) after (get_or objects k 0)) (sym (now_next k)) (copied k (now k) inside (at_turn k (omega (arith, inside)))) in
+      subst (λ j. IsCopiedOut c (now k) (now j) (get_or objects k 0)) next copied_next
+
+pub each_is_copied : EachIsCopied
+each_is_copied c memory objects empty lie set_is to_copy turn inside = copied_at_turn c memory objects empty lie set_is to_copy turn inside

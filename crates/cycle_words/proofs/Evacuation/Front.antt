@@ -1,0 +1,138 @@
+-- The longest front of the candidates is what it is said to be, and there is no other.
+use Rattle.std.proofs.Common.{◌≡◌, ℕ, ◌+◌, ◌<◌, ◌≤◌, ◌⊎◌, ◌==◌, ◌&&◌, nat_le, not, if◌then◌else◌, Bool, true, false, refl, sym, ap, ◌∙◌, subst, ⊎_elim, arith}
+use Rattle.std.specs.Int.{bit_at}
+use Rattle.std.proofs.lemmas.Bool.{and_parts, and_from, cases_lt, cases_eq, leb-true, le-leb, eq-eqb, eqb-true, not-true, not_from_false, false_from_ne_true, both_ways, cond-false, ne_eqb}
+use Rattle.std.proofs.lemmas.Nat.Bits.{bit_at-lt, bit_at_above, same_from_bits_below}
+use Rattle.packing.proofs.Sums.{sum_of_none}
+use Rattle.regions.specs.Sets.{IsIn}
+use Rattle.cycle_words.proofs.Marking.Bits.{one, bits_small, bits_at}
+use Rattle.cycle_words.specs.Evacuation.Front.{ComesBefore, comes_before, live_in, live_up_to, IsFront, IsLongestFront, is_in_front, longest_front}
+use Rattle.cycle_words.proofs.Evacuation.Sums.{sum_at_most, picked_at_most}
+use Rattle.cycle_words.proofs.Evacuation.Order.{before_told, before_is, before_through, one_before, IsLast, last_or_none}
+
+-- two digits of which both are 1 or none is
+same_digit : (m n : ℕ) → m < 2 → n < 2 → (m ≡ 1 → n ≡ 1) → (n ≡ 1 → m ≡ 1) → m ≡ n
+same_digit m n low small to back = ⊎_elim
+    (λ (is : m ≡ 1). let there = to is in omega (arith, is, there))
+    (λ (other : m ≡ 1 → ⊥). ⊎_elim
+    (λ (is : n ≡ 1). absurd (other (back is)))
+    (λ (neither : n ≡ 1 → ⊥). omega (arith, low, small, other, neither))
+    (cases_eq n 1))
+    (cases_eq m 1)
+
+module _ (regions limit : ℕ) (live : ℕ → ℕ) (candidate : ℕ → Bool) where
+  abbrev front : ℕ
+  front = longest_front regions limit live candidate
+
+  abbrev in_front : ℕ → Bool
+  in_front = is_in_front regions limit live candidate
+
+  abbrev up_to : ℕ → ℕ
+  up_to = live_up_to regions live candidate
+
+  -- a region counts among those up to another
+  abbrev counts : ℕ → ℕ → Bool
+  counts r q = candidate q && not (comes_before live r q)
+
+  -- a candidate counts unless the other comes before it
+  counted : (r q : ℕ) → candidate q ≡ true → (ComesBefore live r q → ⊥) → counts r q ≡ true
+  counted r q is not_behind =
+      and_from (candidate q) (not (comes_before live r q)) is
+      (not_from_false (comes_before live r q) (false_from_ne_true (comes_before live r q) (λ behind. not_behind (before_is live r q behind))))
+
+  counted_is : (r q : ℕ) → counts r q ≡ true → (candidate q ≡ true) × (ComesBefore live r q → ⊥)
+  counted_is r q is =
+      let parts = and_parts (candidate q) (not (comes_before live r q)) is in
+      (parts.0, λ behind. both_ways (comes_before live r q) (not-true (comes_before live r q) parts.1) (before_told live r q behind))
+
+  -- up to a later one lives as much or more
+  up_to_grows : (q r : ℕ) → ComesBefore live q r → up_to q ≤ up_to r
+  up_to_grows q r before =
+      sum_at_most (λ k. if counts q k then live k else 0) (λ k. if counts r k then live k else 0) regions
+      (λ k _. picked_at_most (counts q k) (counts r k) (live k) (λ is.
+      let was = counted_is q k is in
+      counted r k was.0 (λ behind. was.1 (before_through live q r k before behind))))
+
+  -- the members of the front
+  pub put_in_front : (r : ℕ) → r < regions → in_front r ≡ true → IsIn front r
+  put_in_front r below is =
+      let plain : 0 + r ≡ r = omega arith in
+      bits_at in_front 0 regions r below ∙ ap (λ k. one (in_front k)) plain ∙ ap one is
+
+  pub from_front : (r : ℕ) → IsIn front r → (r < regions) × (in_front r ≡ true)
+  from_front r is = ⊎_elim
+      (λ (below : r < regions).
+      let plain : 0 + r ≡ r = omega arith in
+      (below, told (in_front r) (sym (ap (λ k. one (in_front k)) plain) ∙ sym (bits_at in_front 0 regions r below) ∙ is)))
+      (λ (above : regions ≤ r). absurd (omega (arith, is, bit_at_above front regions r (bits_small in_front 0 regions) above)))
+      (cases_lt r regions)
+    where
+      told : (b : Bool) → one b ≡ 1 → b ≡ true
+      told true same = refl
+      told false same = absurd (omega (arith, same))
+
+  -- a member of the front is a candidate up to which all fits
+  pub member_is : (r : ℕ) → IsIn front r → (r < regions) × (candidate r ≡ true) × (up_to r ≤ limit)
+  member_is r is =
+      let there = from_front r is in
+      let parts = and_parts (candidate r) (nat_le (up_to r) limit) there.1 in
+      (there.0, parts.0, leb-true (up_to r) limit parts.1)
+
+  member_from : (r : ℕ) → r < regions → candidate r ≡ true → up_to r ≤ limit → IsIn front r
+  member_from r below is fits = put_in_front r below (and_from (candidate r) (nat_le (up_to r) limit) is (le-leb (up_to r) limit fits))
+
+  -- what lives in the front is what lives up to its last member
+  front_fits : live_in regions live front ≤ limit
+  front_fits = ⊎_elim
+      (λ (none : (k : ℕ) → k < regions → in_front k ≡ false).
+      let empty = sum_of_none (λ k. if bit_at front k == 1 then live k else 0) regions
+      (λ k below. cond-false (bit_at front k == 1) (live k) 0
+      (ne_eqb (bit_at front k) 1 (λ is. both_ways (in_front k) (none k below) (from_front k is).1))) in
+      omega (arith, empty))
+      (λ (found : (m : ℕ) × IsLast live in_front regions m).
+      let m = found.0 in
+      let most = sum_at_most (λ k. if bit_at front k == 1 then live k else 0) (λ k. if counts m k then live k else 0) regions
+      (λ k below. picked_at_most (bit_at front k == 1) (counts m k) (live k) (λ is.
+      let there = from_front k (eqb-true (bit_at front k) 1 is) in
+      counted m k (and_parts (candidate k) (nat_le (up_to k) limit) there.1).0 (λ behind. found.1.last k below there.1 behind))) in
+      let within = leb-true (up_to m) limit (and_parts (candidate m) (nat_le (up_to m) limit) found.1.is).1 in
+      omega (arith, most, within))
+      (last_or_none live in_front regions)
+
+  pub front_is : IsFront regions limit live candidate front
+  front_is = record {
+    in_heap = bits_small in_front 0 regions;
+    candidates = λ r is. (member_is r is).1;
+    from_front = λ q r below is before member.
+        member_from q below is (let grows = up_to_grows q r before in let fits = (member_is r member).2 in omega (arith, grows, fits));
+    fits = front_fits;
+  }
+
+  -- each member of a front lies in the longest one: the front has all that counts up to it
+  pub longest : (other : ℕ) → IsFront regions limit live candidate other → (r : ℕ) → IsIn other r → IsIn front r
+  longest other is r member = ⊎_elim
+      (λ (below : r < regions).
+      let least = sum_at_most (λ k. if counts r k then live k else 0) (λ k. if bit_at other k == 1 then live k else 0) regions
+      (λ k inside. picked_at_most (counts r k) (bit_at other k == 1) (live k) (λ counts_here.
+      let was = counted_is r k counts_here in
+      eq-eqb (bit_at other k) 1 (⊎_elim
+      (λ (same : r ≡ k). subst (IsIn other) same member)
+      (λ (order : ComesBefore live r k ⊎ ComesBefore live k r). ⊎_elim
+      (λ (behind : ComesBefore live r k). absurd (was.1 behind))
+      (λ (ahead : ComesBefore live k r). is.from_front k r inside was.0 ahead member)
+      order)
+      (one_before live r k)))) in
+      member_from r below (is.candidates r member) (omega (arith, least, is.fits)))
+      (λ (above : regions ≤ r). absurd (omega (arith, member, bit_at_above other regions r is.in_heap above)))
+      (cases_lt r regions)
+
+  pub front_is_longest : IsLongestFront regions limit live candidate front
+  front_is_longest = record { front = front_is; longest = longest }
+
+  -- there is no other
+  pub only_front : (set : ℕ) → IsLongestFront regions limit live candidate set → set ≡ front
+  only_front set is =
+      same_from_bits_below regions set front is.front.in_heap front_is.in_heap (λ r below.
+      let to : bit_at set r ≡ 1 → bit_at front r ≡ 1 = longest set is.front r in
+      let back : bit_at front r ≡ 1 → bit_at set r ≡ 1 = is.longest front front_is r in
+      same_digit (bit_at set r) (bit_at front r) (bit_at-lt set r) (bit_at-lt front r) to back)

@@ -1,0 +1,53 @@
+-- Copying all that is left, address by address.
+use Rattle.std.proofs.Common.{◌≡◌, ◌≢◌, ℕ, ◌+◌, ◌&&◌, Bool, true, false, None, zero, suc, refl, sym, ap, ◌∙◌}
+use Rattle.std.specs.Prelude.{if◌then◌else◌}
+use Rattle.std.proofs.Math.Path.{fun_ext}
+use Rattle.std.proofs.lemmas.Bool.{cond-true, cond-false, and_parts, true≢false}
+use Rattle.heap_words.specs.declared.config.Config.{Config}
+use Rattle.heap_words.specs.Words.{Word}
+use Rattle.cycle_words.specs.Evacuation.Copied.{copy_room, copied_out}
+use Rattle.cycle_words.specs.Finishing.Copies.{is_left, is_found, has_copy_room, copied_from, is_room_from}
+
+-- where there is room, a region has it
+pub room_found : (c : Config) (m : Word → ℕ) (a : ℕ) → has_copy_room c m a ≡ true → copy_room c m a ≢ None
+room_found c m a room none = true≢false (sym room ∙ ap is_found none)
+
+module _ (c : Config) (m : Word → ℕ) (a n : ℕ) where
+  abbrev next : Word → ℕ
+  next = copied_from c (copied_out c m a) (a + 1) n
+
+  abbrev tried : Word → ℕ
+  tried word = if has_copy_room c m a then next word else m word
+
+  pub copied_none : copied_from c m a zero ≡ m
+  unfolding copied_from
+  copied_none = refl
+
+  pub copied_next : is_left c m a ≡ true → has_copy_room c m a ≡ true → copied_from c m a (suc n) ≡ copied_from c (copied_out c m a) (a + 1) n
+  unfolding copied_from
+  copied_next left room = fun_ext (λ word.
+      cond-true (is_left c m a) (tried word) (copied_from c m (a + 1) n word) left
+      ∙ cond-true (has_copy_room c m a) (next word) (m word) room)
+
+  pub copied_stuck : is_left c m a ≡ true → has_copy_room c m a ≡ false → copied_from c m a (suc n) ≡ m
+  unfolding copied_from
+  copied_stuck left full = fun_ext (λ word.
+      cond-true (is_left c m a) (tried word) (copied_from c m (a + 1) n word) left
+      ∙ cond-false (has_copy_room c m a) (next word) (m word) full)
+
+  pub copied_skips : is_left c m a ≡ false → copied_from c m a (suc n) ≡ copied_from c m (a + 1) n
+  unfolding copied_from
+  copied_skips other = fun_ext (λ word. cond-false (is_left c m a) (tried word) (copied_from c m (a + 1) n word) other)
+
+  abbrev room_next : Bool
+  room_next = has_copy_room c m a && is_room_from c (copied_out c m a) (a + 1) n
+
+  pub room_if : is_left c m a ≡ true → is_room_from c m a (suc n) ≡ true → (has_copy_room c m a ≡ true) × (is_room_from c (copied_out c m a) (a + 1) n ≡ true)
+  unfolding is_room_from
+  room_if left room =
+      and_parts (has_copy_room c m a) (is_room_from c (copied_out c m a) (a + 1) n)
+      (sym (cond-true (is_left c m a) room_next (is_room_from c m (a + 1) n) left) ∙ room)
+
+  pub room_skips : is_left c m a ≡ false → is_room_from c m a (suc n) ≡ true → is_room_from c m (a + 1) n ≡ true
+  unfolding is_room_from
+  room_skips other room = sym (cond-false (is_left c m a) room_next (is_room_from c m (a + 1) n) other) ∙ room

@@ -1,0 +1,4 @@
+pub mod Marking
+pub mod Evacuation
+pub mod Updating
+pub mod Finishing

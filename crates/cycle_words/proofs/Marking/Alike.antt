@@ -1,0 +1,115 @@
+-- Words that agree in all that a graph stands on, so that they hold the same graph.
+use Rattle.std.proofs.Common.{◌≡◌, ℕ, ◌+◌, ◌≤◌, ◌++◌, ◌∷◌, [], zero, suc, cond, nat_le, map, None, Option, refl, sym, ap, ◌∙◌, subst}
+use Rattle.std.specs.List.{range_with_len}
+use Rattle.std.proofs.Math.Path.{fun_ext}
+use Rattle.heap_words.specs.declared.config.Config.{Config}
+use Rattle.heap_words.specs.Words.{Word, Cset, Free, Top, Current, Root, Wait, Answer, Heap}
+use Rattle.heap_words.specs.Encoding.{is_forwarded, refs_in, nums_in, shape_word, request_count_in, request_shape_in}
+use Rattle.regions.specs.Sets.{IsIn, IsOutside}
+use Rattle.regions.specs.Place.{region_with}
+use Rattle.shen_graph.specs.Graph.{Graph}
+use Rattle.heap_world.specs.World.{Plot, Points, IsFilled, IsFreeWord, AreCurrent}
+use Rattle.full_words.specs.Held.{IsAmong, HoldsGraph}
+use Rattle.full_words.specs.Full.{now_in, roots_below, answers_below, root_words}
+use Rattle.full_words.specs.Promised.{Promises, with_promised}
+use Rattle.full_words.specs.Image.{AnswerStands, RootsStand}
+use Rattle.full_words.specs.Serving.{asked_shape, AreAsking}
+use Rattle.image_graph.specs.Holds.{HoldsBy}
+
+-- n has the words of m on which a graph stands
+pub record AreAlike (m n : Word → ℕ) : Type 0 where
+  pub heap : (a : ℕ) → n (Heap a) ≡ m (Heap a)
+  pub top : (r : ℕ) → n (Top r) ≡ m (Top r)
+  pub root : (t i : ℕ) → n (Root t i) ≡ m (Root t i)
+  pub answer : (t : ℕ) → n (Answer t) ≡ m (Answer t)
+  pub wait : (t : ℕ) → n (Wait t) ≡ m (Wait t)
+  pub current : (s : ℕ) → n (Current s) ≡ m (Current s)
+  pub free : n Free ≡ m Free
+  pub cset : n Cset ≡ m Cset
+
+-- the words that hold objects, where roots and answers are the same
+module _ (m n : Word → ℕ) (root : (t i : ℕ) → n (Root t i) ≡ m (Root t i)) (answer : (t : ℕ) → n (Answer t) ≡ m (Answer t)) where
+  roots_same : (t : ℕ) → roots_below n t ≡ roots_below m t
+  roots_same zero = refl
+  roots_same (suc t) =
+      ap (λ xs. xs ++ map (λ i. n (Root t i)) (range_with_len 0 16)) (roots_same t)
+      ∙ ap (λ (f : ℕ → ℕ). roots_below m t ++ map f (range_with_len 0 16)) (fun_ext (root t))
+
+  answers_same : (t : ℕ) → answers_below n t ≡ answers_below m t
+  answers_same zero = refl
+  answers_same (suc t) =
+      ap (λ xs. xs ++ cond (nat_le (n (Answer t)) 1) [] (n (Answer t) ∷ [])) (answers_same t)
+      ∙ ap (λ k. answers_below m t ++ cond (nat_le k 1) [] (k ∷ [])) (answer t)
+
+  pub same_root_words : (c : Config) → root_words c n ≡ root_words c m
+  same_root_words c = ap (λ xs. xs ++ answers_below n c.mutators) (roots_same c.mutators) ∙ ap (λ ys. roots_below m c.mutators ++ ys) (answers_same c.mutators)
+
+module _ (m n : Word → ℕ) (alike : AreAlike m n) where
+  heap_is : ◌≡◌ {A = ℕ → ℕ} (λ a. n (Heap a)) (λ a. m (Heap a))
+  heap_is = fun_ext alike.heap
+
+  top_is : ◌≡◌ {A = ℕ → ℕ} (λ r. n (Top r)) (λ r. m (Top r))
+  top_is = fun_ext alike.top
+
+  pub now_same : (a : ℕ) → now_in n a ≡ now_in m a
+  now_same a = ap (λ h. now_in (λ w. h) a) (alike.heap a)
+
+  pub now_is : now_in n ≡ now_in m
+  now_is = fun_ext now_same
+
+  pub root_words_same : (c : Config) → root_words c n ≡ root_words c m
+  root_words_same = same_root_words m n alike.root alike.answer
+
+  module _ (c : Config) (block : Plot) (owner : ℕ → Option ℕ) (p : Promises) (g : Graph) (holds : HoldsBy c m block owner p g) where
+    objects_again : HoldsGraph c (λ r. n (Top r)) (λ a. n (Heap a)) block (now_in n) (IsAmong (root_words c n)) (with_promised g p)
+    objects_again =
+        subst (λ xs. HoldsGraph c (λ r. n (Top r)) (λ a. n (Heap a)) block (now_in n) (IsAmong xs) (with_promised g p)) (sym (root_words_same c))
+        (subst (λ f. HoldsGraph c (λ r. n (Top r)) (λ a. n (Heap a)) block f (IsAmong (root_words c m)) (with_promised g p)) (sym now_is)
+        (subst (λ f. HoldsGraph c (λ r. n (Top r)) f block (now_in m) (IsAmong (root_words c m)) (with_promised g p)) (sym heap_is)
+        (subst (λ f. HoldsGraph c f (λ a. m (Heap a)) block (now_in m) (IsAmong (root_words c m)) (with_promised g p)) (sym top_is) holds.objects)))
+
+    rooted_again : RootsStand c n block g p
+    rooted_again = record {
+      roots = λ t i inside few. subst (λ w. Points block w (g.root (t + 1) i)) (sym (alike.root t i)) (holds.rooted.roots t i inside few);
+      answers = λ t inside. subst (λ w. AnswerStands block w (p.ref (t + 1))) (sym (alike.answer t)) (holds.rooted.answers t inside);
+      no_more_roots = holds.rooted.no_more_roots;
+      no_more_promised = holds.rooted.no_more_promised;
+    }
+
+    asking_again : AreAsking c n g p 0
+    asking_again t from below some =
+        let wait = alike.wait t in
+        let was = holds.asking t from below (λ none. some (wait ∙ none)) in
+        let shape : asked_shape n t ≡ asked_shape m t = ap request_shape_in wait in
+        record {
+          shape = subst (λ k. k ≡ shape_word (refs_in k) (nums_in k)) (sym shape) was.shape;
+          few_refs = subst (λ k. refs_in k ≤ 16) (sym shape) was.few_refs;
+          few_nums = subst (λ k. nums_in k ≤ 16) (sym shape) was.few_nums;
+          unanswered = alike.answer t ∙ was.unanswered;
+          new = subst (λ k. (with_promised g p).object (record { thread = t + 1; count = request_count_in k }) ≡ None) (sym wait) was.new;
+        }
+
+    pub holds_alike : HoldsBy c n block owner p g
+    holds_alike = record {
+      objects = objects_again;
+      rooted = rooted_again;
+      moved = λ a refs nums name is forwarded.
+          let was = holds.moved a refs nums name is (ap is_forwarded (sym (alike.heap a)) ∙ forwarded) in
+          record {
+            in_set = subst (λ k. IsIn k (region_with c a)) (sym alike.cset) was.in_set;
+            copy = ap block (now_same a) ∙ was.copy;
+            outside = subst (λ b. IsOutside (n Cset) (region_with c b)) (sym (now_same a)) (subst (λ k. IsOutside k (region_with c (now_in m a))) (sym alike.cset) was.outside);
+            current = ap is_forwarded (ap (λ b. n (Heap b)) (now_same a) ∙ alike.heap (now_in m a)) ∙ was.current;
+          };
+      filled = subst (λ f. IsFilled c f block) (sym top_is) holds.filled;
+      things = holds.things;
+      free_word = subst (λ f. IsFreeWord c (n Free) f owner) (sym top_is) (subst (λ k. IsFreeWord c k (λ r. m (Top r)) owner) (sym alike.free) holds.free_word);
+      currents = subst (λ f. AreCurrent c f owner) (sym (fun_ext alike.current)) holds.currents;
+      asking = asking_again;
+      next = record {
+        asked = λ t below some. ap request_count_in (alike.wait t) ∙ holds.next.asked t below (λ none. some (alike.wait t ∙ none));
+        promised = holds.next.promised;
+        given = holds.next.given;
+      };
+      unreached = holds.unreached;
+    }

@@ -1,0 +1,122 @@
+-- What the beginning of evacuation makes of the words of an image: what roots and answers name is copied out of the collection
+-- set, so that they name nothing there, and the rest is left to be evacuated beside the threads.
+use Rattle.std.specs.Prelude.{ℕ, ◌≡◌, ◌≢◌, ◌^◌, ◌<◌, ◌≤◌, ◌==◌, ◌&&◌, None, nat_le, if◌then◌else◌, Bool, true, false, List, [], ◌∷◌, ◌++◌, map, length, Contains, ⊤, zero, suc}
+use Rattle.std.specs.List.{range_with_len}
+use Rattle.std.specs.Int.{bit_at}
+use Rattle.heap_words.specs.declared.config.Config.{Config}
+use Rattle.heap_words.specs.Words.{Word, Phase, Cset, Free, Evac, Claim, Top, Root, Answer, Heap, same_word}
+use Rattle.heap_words.specs.Encoding.{is_forwarded}
+use Rattle.regions.specs.Place.{region_with}
+use Rattle.regions.specs.Sets.{IsIn}
+use Rattle.packing.specs.Places.{LieApart}
+use Rattle.full_words.specs.Full.{now_in}
+use Rattle.image_graph.specs.Make.{AreWithin}
+use Rattle.cycle_words.specs.Marking.Marks.{is_black}
+use Rattle.cycle_words.specs.Evacuation.Live.{words_at, marked_words}
+use Rattle.cycle_words.specs.Evacuation.Choice.{chosen}
+use Rattle.cycle_words.specs.Evacuation.Copying.{AreToCopy}
+use Rattle.cycle_words.specs.Evacuation.Copied.{CanCopyOut, copy_room, copied_out, copied_by}
+
+-- the roots of so many mutators, and then their answers: the words that name objects, in the order in which they are cleared
+abbrev pub root_places : (mutators : ℕ) → List Word
+root_places zero = []
+root_places (suc t) = root_places t ++ map (Root t) (range_with_len 0 16)
+
+abbrev pub naming_places : Config → List Word
+naming_places c = root_places c.mutators ++ map Answer (range_with_len 0 c.mutators)
+
+abbrev pub IsNaming : Word → Type 0
+IsNaming (Root t i) = ⊤
+IsNaming (Answer t) = ⊤
+IsNaming word = ⊥
+
+-- a word is the address of something in the collection set
+abbrev pub is_collected : Config → (Word → ℕ) → ℕ → Bool
+is_collected c memory a = nat_le c.region_words a && (bit_at (memory Cset) (region_with c a) == 1)
+
+-- the words after an object of the collection set was copied out, unless it had been before
+abbrev pub moved_out : Config → (Word → ℕ) → ℕ → Word → ℕ
+moved_out c memory a word = if is_forwarded (memory (Heap a)) then memory word else copied_out c memory a word
+
+-- the words after one place was cleared: what it named in the collection set has a copy, and it names that
+unfoldable pub cleared_at : Config → (Word → ℕ) → (place : Word) → Word → ℕ
+cleared_at c memory place word = if is_collected c memory (memory place) then
+    (if same_word place word then now_in (moved_out c memory (memory place)) (memory place) else moved_out c memory (memory place) word)
+    else memory word
+
+-- the words after these places were cleared, one after the other
+unfoldable pub cleared_in_turn : Config → (Word → ℕ) → List Word → Word → ℕ
+cleared_in_turn c memory [] word = memory word
+cleared_in_turn c memory (place ∷ places) word = cleared_in_turn c (cleared_at c memory place) places word
+
+-- the words with a collection set
+abbrev pub with_set : (Word → ℕ) → (set : ℕ) → Word → ℕ
+with_set memory set Cset = set
+with_set memory set word = memory word
+
+-- the words with a collection set that no root and no answer names
+abbrev pub roots_cleared : Config → (Word → ℕ) → (set : ℕ) → Word → ℕ
+roots_cleared c memory set = cleared_in_turn c (with_set memory set) (naming_places c)
+
+-- evacuation runs: no copier is counted, and no unit is claimed
+abbrev pub evac_started : (Word → ℕ) → Word → ℕ
+evac_started memory Phase = 2
+evac_started memory Evac = 0
+evac_started memory Claim = 0
+evac_started memory word = memory word
+
+-- without a region to evacuate the cycle ends
+abbrev pub evac_spared : (Word → ℕ) → Word → ℕ
+evac_spared memory Phase = 0
+evac_spared memory Cset = 0
+evac_spared memory Claim = 0
+evac_spared memory word = memory word
+
+abbrev pub evac_begun : Config → (Word → ℕ) → (set : ℕ) → Word → ℕ
+evac_begun c memory set word = if set == 0 then evac_spared memory word else evac_started (roots_cleared c memory set) word
+
+-- What roots and answers name in the collection set can be copied: it is marked, of a region of the heap, and has at most 35
+-- words.
+pub record IsCopyable (c : Config) (memory : Word → ℕ) (a : ℕ) : Type 0 where
+  pub marked : is_black c memory a ≡ true
+  pub of_region : region_with c a < c.regions
+  pub short : words_at memory a ≤ 35
+
+-- no word of a free region is in use
+abbrev pub FreeAreEmpty : Config → (Word → ℕ) → Type 0
+FreeAreEmpty c memory = (r : ℕ) → r < c.regions → IsIn (memory Free) r → memory (Top r) ≡ 0
+
+-- Evacuation can begin: only regions of the heap are free, and they are empty; no region uses more words than it has; marked
+-- objects lie apart, each in one region, and none has moved; and what roots and answers name in the chosen regions can be
+-- copied.
+pub record CanBegin (c : Config) (memory : Word → ℕ) : Type 0 where
+  pub free : memory Free < 2 ^ c.regions
+  pub empty : FreeAreEmpty c memory
+  pub within : AreWithin c memory
+  pub apart : LieApart c.region_words (marked_words c memory)
+  pub unmoved : (a : ℕ) → is_black c memory a ≡ true → is_forwarded (memory (Heap a)) ≡ false
+  pub copyable : (place : Word) → Contains (naming_places c) place → is_collected c (with_set memory (chosen c memory)) (memory place) ≡ true
+      → IsCopyable c memory (memory place)
+
+-- Roots and answers were cleared, and for that these objects were copied out.
+pub record AreCleared (c : Config) (before after : Word → ℕ) (objects : List ℕ) : Type 0 where
+  pub to_copy : AreToCopy c before (before Cset) objects
+  -- each of them was named
+  pub named : (a : ℕ) → Contains objects a → (place : Word) × Contains (naming_places c) place × (before place ≡ a)
+  -- other words are as copying them leaves them
+  pub copied : (word : Word) → (IsNaming word → ⊥) → after word ≡ copied_by c before objects (length objects) word
+  -- what named something in the collection set names its copy, which is outside; else it is as it was
+  pub renewed : (place : Word) → Contains (naming_places c) place → after place ≡ (if is_collected c before (before place) then now_in after (before place) else before place)
+  pub cleared : (place : Word) → Contains (naming_places c) place → is_collected c before (after place) ≡ false
+
+-- what an address names can be cleared: if it is an object of the collection set that has not moved, it can be copied out, and
+-- some region has room for it
+pub record CanClear (c : Config) (memory : Word → ℕ) (a : ℕ) : Type 0 where
+  pub set : memory Cset < 2 ^ c.regions
+  pub object : is_collected c memory a ≡ true → is_forwarded (memory (Heap a)) ≡ false → CanCopyOut c memory a
+  pub room : is_collected c memory a ≡ true → is_forwarded (memory (Heap a)) ≡ false → copy_room c memory a ≢ None
+
+-- what these places name can be cleared, one after the other
+unfoldable pub CanClearInTurn : Config → (Word → ℕ) → List Word → Type 0
+CanClearInTurn c memory [] = ⊤
+CanClearInTurn c memory (place ∷ places) = CanClear c memory (memory place) × CanClearInTurn c (cleared_at c memory place) places

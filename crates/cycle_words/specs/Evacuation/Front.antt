@@ -1,0 +1,66 @@
+-- Candidates in the order of what lives in them, and the longest front of these that fits: what is evacuated first is what
+-- costs least to copy. `live` says how much lives in a region.
+use Rattle.std.specs.Prelude.{ℕ, ◌≡◌, ◌≢◌, ◌+◌, ◌^◌, ◌<◌, ◌≤◌, ◌⊎◌, ◌==◌, ◌&&◌, ◌||◌, nat_lt, nat_le, not, if◌then◌else◌, Bool, true}
+use Rattle.std.specs.Int.{bit_at}
+use Rattle.regions.specs.Sets.{IsIn, IsOutside}
+use Rattle.packing.specs.Tops.{sum_below}
+use Rattle.cycle_words.specs.Marking.Marks.{bits_of}
+
+-- a region comes before another: less lives in it, or as much, and its number is lower
+abbrev pub ComesBefore : (live : ℕ → ℕ) → ℕ → ℕ → Type 0
+ComesBefore live q r = (live q < live r) ⊎ ((live q ≡ live r) × (q < r))
+
+-- the same, as a test
+abbrev pub comes_before : (live : ℕ → ℕ) → ℕ → ℕ → Bool
+comes_before live q r = nat_lt (live q) (live r) || ((live q == live r) && nat_lt q r)
+
+-- what lives in the regions of a set
+abbrev pub live_in : (regions : ℕ) (live : ℕ → ℕ) (set : ℕ) → ℕ
+live_in regions live set = sum_below (λ r. if bit_at set r == 1 then live r else 0) regions
+
+-- A set of so many regions is a front of the candidates that fits: with a candidate it has each one that comes before, and
+-- what lives in it is within a limit.
+pub record IsFront (regions limit : ℕ) (live : ℕ → ℕ) (candidate : ℕ → Bool) (set : ℕ) : Type 0 where
+  pub in_heap : set < 2 ^ regions
+  pub candidates : (r : ℕ) → IsIn set r → candidate r ≡ true
+  pub from_front : (q r : ℕ) → q < regions → candidate q ≡ true → ComesBefore live q r → IsIn set r → IsIn set q
+  pub fits : live_in regions live set ≤ limit
+
+-- it is the longest one: each other one lies in it
+pub record IsLongestFront (regions limit : ℕ) (live : ℕ → ℕ) (candidate : ℕ → Bool) (set : ℕ) : Type 0 where
+  pub front : IsFront regions limit live candidate set
+  pub longest : (other : ℕ) → IsFront regions limit live candidate other → (r : ℕ) → IsIn other r → IsIn set r
+
+-- what lives in all candidates up to a region, in their order
+abbrev pub live_up_to : (regions : ℕ) (live : ℕ → ℕ) (candidate : ℕ → Bool) → ℕ → ℕ
+live_up_to regions live candidate r = sum_below (λ q. if candidate q && not (comes_before live r q) then live q else 0) regions
+
+-- a candidate is in the longest front: up to it all fits
+abbrev pub is_in_front : (regions limit : ℕ) (live : ℕ → ℕ) (candidate : ℕ → Bool) → ℕ → Bool
+is_in_front regions limit live candidate r = candidate r && nat_le (live_up_to regions live candidate r) limit
+
+-- the longest front
+abbrev pub longest_front : (regions limit : ℕ) (live : ℕ → ℕ) (candidate : ℕ → Bool) → ℕ
+longest_front regions limit live candidate = bits_of (is_in_front regions limit live candidate) 0 regions
+
+-- A region is the next one of the candidates outside a set: none of these comes before it.
+pub record IsNext (regions : ℕ) (live : ℕ → ℕ) (candidate : ℕ → Bool) (set r : ℕ) : Type 0 where
+  pub below : r < regions
+  pub is : candidate r ≡ true
+  pub outside : IsOutside set r
+  pub none_before : (q : ℕ) → q < regions → candidate q ≡ true → IsOutside set q → ComesBefore live q r → ⊥
+
+-- a set has one region more than another
+pub record HasOneMore (set r more : ℕ) : Type 0 where
+  pub member : IsIn more r
+  pub others : (q : ℕ) → q ≢ r → bit_at more q ≡ bit_at set q
+
+-- The longest front is taken candidate by candidate, in their order, while what lives in them fits.
+pub record FrontsAreTaken (regions limit : ℕ) (live : ℕ → ℕ) (candidate : ℕ → Bool) : Type 0 where
+  pub begins : IsFront regions limit live candidate 0
+  pub goes_on : (set r more : ℕ) → IsFront regions limit live candidate set → IsNext regions live candidate set r → HasOneMore set r more
+      → live_in regions live set + live r ≤ limit → IsFront regions limit live candidate more
+  pub is_full : (set r : ℕ) → IsFront regions limit live candidate set → IsNext regions live candidate set r
+      → limit < live_in regions live set + live r → IsLongestFront regions limit live candidate set
+  pub has_all : (set : ℕ) → IsFront regions limit live candidate set → ((r : ℕ) → r < regions → candidate r ≡ true → IsIn set r)
+      → IsLongestFront regions limit live candidate set

@@ -1,0 +1,63 @@
+-- That the choice is exactly the longest front of the candidates that fits, and that what it has can be copied.
+use Rattle.std.specs.Prelude.{ℕ, ◌≡◌, ◌+◌, ◌<◌, ◌≤◌, ◌↔◌, Option, true, Bool, List, length, slice_index, Some}
+use Rattle.heap_words.specs.declared.config.Config.{Config}
+use Rattle.heap_words.specs.Words.{Word, Cset}
+use Rattle.packing.specs.Places.{LieApart}
+use Rattle.shen_graph.specs.Graph.{Graph}
+use Rattle.heap_world.specs.World.{Plot}
+use Rattle.full_words.specs.Promised.{Promises}
+use Rattle.image_graph.specs.Holds.{HoldsBy}
+use Rattle.cycle_words.specs.Marking.WhileMarking.{IsMarking}
+use Rattle.cycle_words.specs.Marking.Final.{final_marked}
+use Rattle.cycle_words.specs.Marking.Laws.{HasNoMoreSeats}
+use Rattle.regions.specs.Place.{region_with}
+use Rattle.regions.specs.Sets.{IsIn}
+use Rattle.cycle_words.specs.Evacuation.Live.{marked_words, is_candidate, IsCandidate}
+use Rattle.cycle_words.specs.Evacuation.Front.{FrontsAreTaken}
+use Rattle.cycle_words.specs.Evacuation.Choice.{IsChoice, chosen}
+use Rattle.cycle_words.specs.Evacuation.Copying.{AreToCopy, FindsRoom}
+use Rattle.cycle_words.specs.Evacuation.Copied.{copy_room, copied_out, copied_by, IsCopiedOut}
+use Rattle.cycle_words.specs.Evacuation.Begun.{with_set, roots_cleared, FreeAreEmpty, CanBegin, AreCleared}
+
+-- The test of a candidate says what it is to be one.
+abbrev pub CandidateIsCandidate : Type 0
+CandidateIsCandidate = (c : Config) (memory : Word → ℕ) (r : ℕ) → (is_candidate c memory r ≡ true) ↔ IsCandidate c memory r
+
+-- What is chosen is the choice, and there is no other.
+pub record ChosenIsTheChoice : Type 0 where
+  pub is : (c : Config) (memory : Word → ℕ) → IsChoice c memory (chosen c memory)
+  pub only : (c : Config) (memory : Word → ℕ) (set : ℕ) → IsChoice c memory set → set ≡ chosen c memory
+
+-- It is what is taken candidate by candidate while it fits.
+abbrev pub ChoiceIsTaken : Type 0
+ChoiceIsTaken = (regions limit : ℕ) (live : ℕ → ℕ) (candidate : ℕ → Bool) → FrontsAreTaken regions limit live candidate
+
+-- Whichever marked objects of the chosen regions are copied, and in whatever order: each finds room at its turn. Else each
+-- region that was free would hold more than may be copied to it.
+abbrev pub RoomIsFound : Type 0
+RoomIsFound = (c : Config) (memory : Word → ℕ) (objects : List ℕ) → FreeAreEmpty c memory → AreToCopy c memory (chosen c memory) objects
+    → (turn : ℕ) → turn < length objects → FindsRoom c memory (chosen c memory) objects turn
+
+-- Copying an object of the collection set to a region that has room for it, outside of the set, does what it is said to do.
+abbrev pub CopyingCopies : Type 0
+CopyingCopies = (c : Config) (memory : Word → ℕ) (a r : ℕ) → c.region_words ≤ a → IsIn (memory Cset) (region_with c a) → copy_room c memory a ≡ Some r
+    → IsCopiedOut c memory (copied_out c memory a) a
+
+-- Whichever marked objects of the chosen regions are copied out, one after the other, where marked objects lie apart and each
+-- in one region: none is left where it is.
+abbrev pub EachIsCopied : Type 0
+EachIsCopied = (c : Config) (memory : Word → ℕ) (objects : List ℕ) → FreeAreEmpty c memory → LieApart c.region_words (marked_words c memory)
+    → memory Cset ≡ chosen c memory → AreToCopy c memory (chosen c memory) objects
+    → (turn : ℕ) → turn < length objects
+    → IsCopiedOut c (copied_by c memory objects turn) (copied_by c memory objects (turn + 1)) (slice_index objects turn)
+
+-- In the beginning of evacuation roots and answers are cleared.
+abbrev pub RootsAreCleared : Type 0
+RootsAreCleared = (c : Config) (memory : Word → ℕ) → CanBegin c memory
+    → (objects : List ℕ) × AreCleared c (with_set memory (chosen c memory)) (roots_cleared c memory (chosen c memory)) objects
+
+-- Where marking has run, evacuation can begin once it is ended: what is marked are objects, and what roots and answers name is
+-- marked, or new, and no chosen region has a new object.
+abbrev pub EvacuationCanBegin : Type 0
+EvacuationCanBegin = (c : Config) (memory : Word → ℕ) (block : Plot) (owner : ℕ → Option ℕ) (p : Promises) (g : Graph)
+    → HoldsBy c memory block owner p g → IsMarking c memory block → HasNoMoreSeats c memory → CanBegin c (final_marked c memory)

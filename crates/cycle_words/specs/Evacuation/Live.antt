@@ -1,0 +1,41 @@
+-- How much of a region lives once the marks are closed, and which regions are candidates for evacuation.
+use Rattle.std.specs.Prelude.{ℕ, ◌≡◌, ◌+◌, ◌-◌, ◌/◌, ◌≤◌, ◌==◌, ◌&&◌, nat_le, not, if◌then◌else◌, Bool}
+use Rattle.std.specs.Int.{bit_at}
+use Rattle.heap_words.specs.declared.config.Config.{Config}
+use Rattle.heap_words.specs.Words.{Word, Free, Top, Tams, Heap}
+use Rattle.heap_words.specs.Encoding.{object_words}
+use Rattle.regions.specs.Place.{base_of}
+use Rattle.regions.specs.Sets.{IsOutside}
+use Rattle.packing.specs.Tops.{sum_below}
+use Rattle.image_graph.specs.State.{IsSomeSeats}
+use Rattle.cycle_words.specs.Marking.Marks.{is_black}
+use Rattle.cycle_words.specs.Marking.Final.{is_current}
+
+-- the words of the object at an address
+abbrev pub words_at : (Word → ℕ) → ℕ → ℕ
+words_at memory a = object_words (memory (Heap (a + 1)))
+
+-- the same if the object is marked, and 0 else
+abbrev pub marked_words : Config → (Word → ℕ) → ℕ → ℕ
+marked_words c memory a = if is_black c memory a then words_at memory a else 0
+
+-- the words of the marked objects of a region
+abbrev pub live_words : Config → (Word → ℕ) → ℕ → ℕ
+live_words c memory r = sum_below (λ k. marked_words c memory (base_of c r + k)) c.region_words
+
+-- the words of a region that are in use and not live
+abbrev pub garbage : Config → (Word → ℕ) → ℕ → ℕ
+garbage c memory r = memory (Top r) - live_words c memory r
+
+-- A region is a candidate: it is in use, nobody's current one, nothing was allocated in it since marking began, and a quarter
+-- of a region in it is garbage.
+abbrev pub is_candidate : Config → (Word → ℕ) → ℕ → Bool
+is_candidate c memory r =
+    (bit_at (memory Free) r == 0) && not (is_current c memory r) && (memory (Top r) == memory (Tams r)) && nat_le (c.region_words / 4) (garbage c memory r)
+
+-- the same, as a relation
+pub record IsCandidate (c : Config) (memory : Word → ℕ) (r : ℕ) : Type 0 where
+  pub in_use : IsOutside (memory Free) r
+  pub nobodys : IsSomeSeats c memory r → ⊥
+  pub no_new : memory (Top r) ≡ memory (Tams r)
+  pub quarter : c.region_words / 4 ≤ garbage c memory r

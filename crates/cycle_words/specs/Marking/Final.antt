@@ -1,0 +1,57 @@
+-- What the end of marking makes of the words of an image: the marks are closed, and regions without a live object are freed.
+use Rattle.std.specs.Prelude.{ℕ, ◌≡◌, ◌+◌, ◌==◌, ◌&&◌, if◌then◌else◌, Bool, false, not, Option, None}
+use Rattle.std.specs.List.{range_with_len, list_any}
+use Rattle.std.specs.Int.{bit_at}
+use Rattle.std.specs.Int.RustNames.{bit_or}
+use Rattle.heap_words.specs.declared.config.Config.{Config}
+use Rattle.heap_words.specs.Words.{Word, Free, Top, Tams, Limit, Current}
+use Rattle.heap_words.specs.Ranges.{seat_count}
+use Rattle.regions.specs.Place.{base_of, region_with, IsOf}
+use Rattle.regions.specs.Sets.{IsOutside}
+use Rattle.heap_world.specs.World.{Plot}
+use Rattle.image_graph.specs.State.{IsSomeSeats}
+use Rattle.cycle_words.specs.Marking.Marks.{is_black, bits_of}
+use Rattle.cycle_words.specs.Marking.Close.{closed}
+
+-- some seat has a region as its current one
+abbrev pub is_current : Config → (Word → ℕ) → ℕ → Bool
+is_current c memory r = list_any (λ seat. memory (Current seat) == r + 1) (range_with_len 0 (seat_count c.mutators c.helpers))
+
+-- some address of a region is black
+abbrev pub has_black : Config → (Word → ℕ) → ℕ → Bool
+has_black c memory r = list_any (is_black c memory) (range_with_len (base_of c r) c.region_words)
+
+-- A region is dead: it is in use, nobody's current one, nothing was allocated in it since marking began, and nothing in it is
+-- marked.
+abbrev pub is_dead : Config → (Word → ℕ) → ℕ → Bool
+is_dead c memory r = (bit_at (memory Free) r == 0) && not (is_current c memory r) && (memory (Top r) == memory (Tams r)) && not (has_black c memory r)
+
+-- the same, as a relation
+pub record IsDead (c : Config) (memory : Word → ℕ) (r : ℕ) : Type 0 where
+  pub in_use : IsOutside (memory Free) r
+  pub nobodys : IsSomeSeats c memory r → ⊥
+  pub no_new : memory (Top r) ≡ memory (Tams r)
+  pub unmarked : (a : ℕ) → IsOf c r a → is_black c memory a ≡ false
+
+-- Regions are freed: they are in the set of free regions besides, and no word of them is in use. All other words stay.
+abbrev pub freed : Config → (ℕ → Bool) → (Word → ℕ) → Word → ℕ
+freed c out memory Free = bit_or (memory Free) (bits_of out 0 c.regions)
+freed c out memory (Top r) = if out r then 0 else memory (Top r)
+freed c out memory (Tams r) = if out r then 0 else memory (Tams r)
+freed c out memory (Limit r) = if out r then 0 else memory (Limit r)
+freed c out memory word = memory word
+
+-- the pieces that are left, and whose a region then is
+abbrev pub freed_block : Config → (ℕ → Bool) → Plot → Plot
+freed_block c out block a = if out (region_with c a) then None else block a
+
+abbrev pub freed_owner : (ℕ → Bool) → (ℕ → Option ℕ) → ℕ → Option ℕ
+freed_owner out owner r = if out r then None else owner r
+
+-- the regions that the end of marking frees: those that are dead once the marks are closed
+abbrev pub dead_in : Config → (Word → ℕ) → ℕ → Bool
+dead_in c memory = is_dead c (closed c memory)
+
+-- The marks are closed, and the dead regions freed.
+abbrev pub final_marked : Config → (Word → ℕ) → Word → ℕ
+final_marked c memory = freed c (dead_in c memory) (closed c memory)

@@ -1,0 +1,19 @@
+-- What the beginning of marking makes of the words of an image.
+use Rattle.std.specs.Prelude.{ℕ}
+use Rattle.heap_words.specs.declared.config.Config.{Config}
+use Rattle.heap_words.specs.Words.{Word, Phase, Claim, Ask, Top, Tams, Count, Grey, Black}
+use Rattle.heap_graph.specs.Walk.{has}
+use Rattle.full_words.specs.Full.{root_words}
+use Rattle.cycle_words.specs.Marking.Marks.{mark_bits}
+
+-- Nothing is black, and exactly what roots and answers name is grey. The tops are noted, no buffer has an entry, no unit is
+-- claimed and nothing is asked for. All other words stay.
+abbrev pub init_marked : Config → (Word → ℕ) → Word → ℕ
+init_marked c memory (Grey n) = mark_bits c (has (root_words c memory)) n
+init_marked c memory (Black n) = 0
+init_marked c memory (Tams r) = memory (Top r)
+init_marked c memory (Count t) = 0
+init_marked c memory Claim = 0
+init_marked c memory Ask = 0
+init_marked c memory Phase = 1
+init_marked c memory word = memory word

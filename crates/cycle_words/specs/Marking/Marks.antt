@@ -1,0 +1,32 @@
+-- The mark bits of addresses: what is grey, what is black, and what marking keeps.
+use Rattle.std.specs.Prelude.{ℕ, ◌≡◌, ◌+◌, ◌-◌, ◌*◌, ◌^◌, ◌≤◌, ◌⊎◌, ◌==◌, ◌&&◌, nat_le, if◌then◌else◌, Bool, true, zero, suc}
+use Rattle.std.specs.Int.{bit_at}
+use Rattle.heap_words.specs.declared.config.Config.{Config}
+use Rattle.heap_words.specs.Words.{Word, Tams, Grey, Black}
+use Rattle.regions.specs.Place.{base_of, region_with}
+use Rattle.regions.specs.Marks.{mark_word, mark_bit}
+
+-- an address is grey: it was found by marking. Grey and not black, it has still to be scanned.
+abbrev pub is_grey : Config → (Word → ℕ) → ℕ → Bool
+is_grey c memory a = nat_le c.region_words a && (bit_at (memory (Grey (mark_word c a))) (mark_bit c a) == 1)
+
+-- an address is black: what begins there is marked
+abbrev pub is_black : Config → (Word → ℕ) → ℕ → Bool
+is_black c memory a = nat_le c.region_words a && (bit_at (memory (Black (mark_word c a))) (mark_bit c a) == 1)
+
+-- an address is at or above the top at mark start of its region: what begins there was allocated since
+abbrev pub IsNew : Config → (Word → ℕ) → ℕ → Type 0
+IsNew c memory a = memory (Tams (region_with c a)) ≤ a - base_of c (region_with c a)
+
+-- marking keeps what is marked and what is new
+abbrev pub IsKept : Config → (Word → ℕ) → ℕ → Type 0
+IsKept c memory a = (is_black c memory a ≡ true) ⊎ IsNew c memory a
+
+-- the number whose bits below a number are 1 where a test holds of their addresses, which are counted from a first one on
+unfoldable pub bits_of : (ℕ → Bool) → (first : ℕ) → ℕ → ℕ
+bits_of test first zero = 0
+bits_of test first (suc k) = (if test (first + k) then 1 else 0) * 2 ^ k + bits_of test first k
+
+-- the mark bits of a set of addresses, by the number of the word
+abbrev pub mark_bits : Config → (ℕ → Bool) → ℕ → ℕ
+mark_bits c set n = bits_of set (c.region_words + 64 * n) 64

@@ -1,0 +1,30 @@
+-- What the pauses that begin and end the updating of references make of the words of an image.
+use Rattle.std.specs.Prelude.{ℕ, ◌==◌, if◌then◌else◌, Bool}
+use Rattle.std.specs.Int.{bit_at}
+use Rattle.heap_words.specs.declared.config.Config.{Config}
+use Rattle.heap_words.specs.Words.{Word, Phase, Cset, Evac, Claim, Top, Limit}
+use Rattle.cycle_words.specs.Marking.Final.{freed}
+
+-- a region is in the collection set
+abbrev pub is_chosen : (Word → ℕ) → ℕ → Bool
+is_chosen memory r = bit_at (memory Cset) r == 1
+
+-- Updating begins: the limit of each region outside of the collection set is its top, and that of each region of the set is 0. No
+-- copier is counted, and no unit is claimed. All other words stay.
+abbrev pub init_updated : (Word → ℕ) → Word → ℕ
+init_updated memory Phase = 3
+init_updated memory Evac = 0
+init_updated memory Claim = 0
+init_updated memory (Limit r) = if is_chosen memory r then 0 else memory (Top r)
+init_updated memory word = memory word
+
+-- no cycle runs: the collection set is empty, and no unit is claimed
+abbrev pub cycle_ended : (Word → ℕ) → Word → ℕ
+cycle_ended memory Phase = 0
+cycle_ended memory Cset = 0
+cycle_ended memory Claim = 0
+cycle_ended memory word = memory word
+
+-- Updating ends, and the cycle with it: the regions of the collection set are freed.
+abbrev pub final_updated : Config → (Word → ℕ) → Word → ℕ
+final_updated c memory = cycle_ended (freed c (is_chosen memory) memory)

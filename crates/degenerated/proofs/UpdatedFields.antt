@@ -1,0 +1,381 @@
+-- Fields that are updated one after the other: what was updated before does not matter to the others.
+use Rattle.std.proofs.Common.{◌≡◌, ◌≢◌, ℕ, ◌+◌, ◌-◌, ◌%◌, ◌<◌, ◌≤◌, ◌==◌, ◌&&◌, ◌||◌, nat_le, nat_lt, cond, Bool, true, false, refl, sym, ap, ◌∙◌, subst, ⊎_elim, arith}
+use Rattle.std.specs.Int.{bit_at}
+use Rattle.std.proofs.lemmas.Bool.{cases_Bool, cases_eq, cond-false, true≢false, and_left, and_right, and_parts, eq-eqb, ne_eqb, eqb-true, leb-true, ltb-true, le-leb, lt-ltb, false_from_ne_true}
+use Rattle.std.proofs.lemmas.Nat.{mod_below}
+use Rattle.std.proofs.lemmas.Bool.Decides.{nat_tests}
+use Rattle.std.proofs.Math.Path.{fun_ext}
+use Rattle.heap_words.specs.declared.config.Config.{Config}
+use Rattle.heap_words.specs.Words.{Word, Cset, Top, Heap, IsWord, write}
+use Rattle.heap_words.specs.Encoding.{refs_in, object_words, is_forwarded, forwardee_in}
+use Rattle.regions.specs.Place.{base_of, region_with}
+use Rattle.regions.specs.Sets.{IsIn, IsOutside}
+use Rattle.regions.proofs.PlaceLemmas.{regions_tile}
+use Rattle.full_words.specs.Full.{now_in}
+use Rattle.image_graph.specs.Make.{AreInHeap}
+use Rattle.image_graph.proofs.Room.{room_in_heap}
+use Rattle.cycle_words.specs.Evacuation.Live.{words_at}
+use Rattle.cycle_words.specs.Evacuation.Begun.{is_collected}
+use Rattle.cycle_words.specs.Finishing.Updated.{updated_word, start_of, object_of, is_kept, is_reference, is_outside, is_kept_field, CanUpdateAll}
+use Rattle.degenerated.specs.Steps.{fields_updated, is_at, is_below, is_of, is_of_first}
+use Rattle.cycle_words.proofs.Evacuation.RegionAddresses.{some_words}
+use Rattle.cset_choice.proofs.Objects.{object_in_heap}
+use Rattle.cycle_words.proofs.Finishing.Starts.{starts_within}
+use Rattle.degenerated.proofs.Starts.{words, from, begins, next_ends, next_goes_on, same_starts}
+
+-- an address of a region, from its base on
+pub region_of_base : (c : Config) (r k : ℕ) → k < c.region_words → region_with c (base_of c r + k) ≡ r
+region_of_base c r k below = regions_tile.of_no_other c r (base_of c r + k) (record { from = omega arith; before = omega (arith, below) })
+
+-- an address is of the heap if its region is
+pub in_heap_by_region : (c : Config) (x : ℕ) → c.region_words ≤ x → region_with c x < c.regions → IsWord c (Heap x)
+in_heap_by_region c x above below =
+    let are = object_in_heap c x 1 above below (mod_fits x) in
+    (are.from, omega (arith, are.to))
+  where
+    mod_fits : (y : ℕ) → y % c.region_words + 1 ≤ c.region_words
+    mod_fits y = omega (arith, mod_below y c.region_words (some_words c))
+
+both_true : (a b : Bool) → a ≡ true → b ≡ true → (a && b) ≡ true
+both_true a b is too = ap (λ x. x && b) is ∙ too
+
+-- what lies outside the collection set
+pub record LiesOutside (c : Config) (m : Word → ℕ) (x : ℕ) : Type 0 where
+  pub above : c.region_words ≤ x
+  pub of_region : region_with c x < c.regions
+  pub outside : IsOutside (m Cset) (region_with c x)
+  pub below : x - base_of c (region_with c x) < m (Top (region_with c x))
+
+module _ (c : Config) (m : Word → ℕ) where
+  pub lies_outside : (x : ℕ) → is_outside c m x ≡ true → LiesOutside c m x
+  lies_outside x is =
+      let r = region_with c x in
+      let one = and_parts (nat_le c.region_words x && nat_lt r c.regions && (bit_at (m Cset) r == 0)) (nat_lt (x - base_of c r) (m (Top r))) is in
+      let two = and_parts (nat_le c.region_words x && nat_lt r c.regions) (bit_at (m Cset) r == 0) one.0 in
+      let three = and_parts (nat_le c.region_words x) (nat_lt r c.regions) two.0 in
+      record {
+        above = leb-true c.region_words x three.0;
+        of_region = ltb-true r c.regions three.1;
+        outside = eqb-true (bit_at (m Cset) r) 0 two.1;
+        below = ltb-true (x - base_of c r) (m (Top r)) one.1;
+      }
+
+  pub outside_told : (r k : ℕ) → r < c.regions → IsOutside (m Cset) r → m (Top r) ≤ c.region_words → k < m (Top r) → is_outside c m (base_of c r + k) ≡ true
+  outside_told r k below outside within some =
+      let x = base_of c r + k in
+      let of = region_of_base c r k (omega (arith, within, some)) in
+      let back : base_of c r + k - base_of c r ≡ k = omega arith in
+      both_true (nat_le c.region_words x && nat_lt (region_with c x) c.regions && (bit_at (m Cset) (region_with c x) == 0)) (nat_lt (x - base_of c (region_with c x)) (m (Top (region_with c x))))
+      (both_true (nat_le c.region_words x && nat_lt (region_with c x) c.regions) (bit_at (m Cset) (region_with c x) == 0)
+      (both_true (nat_le c.region_words x) (nat_lt (region_with c x) c.regions)
+      (le-leb c.region_words x (omega arith)) (lt-ltb (region_with c x) c.regions (omega (arith, of, below))))
+      (eq-eqb (bit_at (m Cset) (region_with c x)) 0 (ap (bit_at (m Cset)) of ∙ outside)))
+      (lt-ltb (x - base_of c (region_with c x)) (m (Top (region_with c x))) (subst (λ q. x - base_of c q < m (Top q)) (sym of) (omega (arith, back, some))))
+
+  -- the object that has an address of a region
+  pub object_in : (r k : ℕ) → k < c.region_words → object_of c m (base_of c r + k) ≡ base_of c r + start_of (λ a. m (Heap a)) (base_of c r) k
+  object_in r k below =
+      let back : base_of c r + k - base_of c r ≡ k = omega arith in
+      ap (λ q. base_of c q + start_of (λ a. m (Heap a)) (base_of c q) (base_of c r + k - base_of c q)) (region_of_base c r k below)
+      ∙ ap (λ d. base_of c r + start_of (λ a. m (Heap a)) (base_of c r) d) back
+
+  -- what is of the set is not outside
+  pub collected_inside : (v : ℕ) → is_collected c m v ≡ true → is_outside c m v ≡ false
+  collected_inside v collected =
+      let r = region_with c v in
+      let member = eqb-true (bit_at (m Cset) r) 1 (and_parts (nat_le c.region_words v) (bit_at (m Cset) r == 1) collected).1 in
+      ⊎_elim
+      (λ (is : is_outside c m v ≡ true). absurd (let no = (lies_outside v is).outside in omega (arith, member, no)))
+      (λ (not : is_outside c m v ≡ false). not)
+      (cases_Bool (is_outside c m v))
+
+  -- a field of a kept object
+  module _ (x : ℕ) where
+    abbrev object : ℕ
+    object = object_of c m x
+
+    pub field_outside : is_kept_field c m x ≡ true → is_outside c m x ≡ true
+    field_outside field = (and_parts (is_outside c m x) (is_kept c m object) (and_parts (is_outside c m x && is_kept c m object) (is_reference m object x) field).0).0
+
+    pub not_outside : is_outside c m x ≡ false → is_kept_field c m x ≡ false
+    not_outside is = ap (λ b. b && is_kept c m object && is_reference m object x) is
+
+    pub no_reference : (o : ℕ) → o ≡ object → is_reference m o x ≡ false → is_kept_field c m x ≡ false
+    no_reference o is none = and_right (is_outside c m x && is_kept c m object) (is_reference m object x) (ap (λ a. is_reference m a x) (sym is) ∙ none)
+
+    pub not_kept : (o : ℕ) → o ≡ object → is_kept c m o ≡ false → is_kept_field c m x ≡ false
+    not_kept o is none =
+        and_left (is_outside c m x && is_kept c m object) (is_reference m object x) (and_right (is_outside c m x) (is_kept c m object) (ap (is_kept c m) (sym is) ∙ none))
+
+    pub kept_reference : (o : ℕ) → is_outside c m x ≡ true → o ≡ object → is_kept c m o ≡ true → is_reference m o x ≡ true → is_kept_field c m x ≡ true
+    kept_reference o outside is kept reference =
+        both_true (is_outside c m x && is_kept c m object) (is_reference m object x)
+        (both_true (is_outside c m x) (is_kept c m object) outside (ap (is_kept c m) (sym is) ∙ kept)) (ap (λ a. is_reference m a x) (sym is) ∙ reference)
+
+  -- one address
+  module _ (x : ℕ) where
+    one_left : (b : Bool) (y v u : ℕ) → (x ≡ y → b ≡ false) → u ≡ cond ((x == y) && b) v u
+    one_left b y v u none = grind (arith, nat_tests)
+
+    left_at : is_kept_field c m x ≡ false → (w : Word) → m w ≡ fields_updated c (is_at x) m w
+    left_at none (Heap y) = one_left (is_kept_field c m y) y (updated_word c m (m (Heap y))) (m (Heap y)) (λ e. ap (is_kept_field c m) (sym e) ∙ none)
+    left_at none _ = refl
+
+    pub left : is_kept_field c m x ≡ false → m ≡ fields_updated c (is_at x) m
+    left none = fun_ext (left_at none)
+
+    one_set : (b : Bool) (y : ℕ) (v u : ℕ → ℕ) → (x ≡ y → b ≡ true) → cond (x == y) (v x) (u y) ≡ cond ((x == y) && b) (v y) (u y)
+    one_set b y v u is = grind (arith, nat_tests)
+
+    set_at : is_kept_field c m x ≡ true → (w : Word) → write m (Heap x) (updated_word c m (m (Heap x))) w ≡ fields_updated c (is_at x) m w
+    set_at is (Heap y) = one_set (is_kept_field c m y) y (λ z. updated_word c m (m (Heap z))) (λ z. m (Heap z)) (λ e. ap (is_kept_field c m) (sym e) ∙ is)
+    set_at is _ = refl
+
+    pub set_one : is_kept_field c m x ≡ true → write m (Heap x) (updated_word c m (m (Heap x))) ≡ fields_updated c (is_at x) m
+    set_one is = fun_ext (set_at is)
+
+  -- sets that have the same fields
+  pub same_fields : (p q : ℕ → Bool) → ((x : ℕ) → is_kept_field c m x ≡ true → p x ≡ q x) → fields_updated c p m ≡ fields_updated c q m
+  same_fields p q same = fun_ext at
+    where
+      by_field : (a b f : Bool) (v u : ℕ) → (f ≡ true → a ≡ b) → cond (a && f) v u ≡ cond (b && f) v u
+      by_field a b true v u is = ap (λ z. cond (z && true) v u) (is refl)
+      by_field a b false v u is = ap (λ z. cond z v u) (and_right a false refl ∙ sym (and_right b false refl))
+
+      at : (w : Word) → fields_updated c p m w ≡ fields_updated c q m w
+      at (Heap x) = by_field (p x) (q x) (is_kept_field c m x) (updated_word c m (m (Heap x))) (m (Heap x)) (same x)
+      at _ = refl
+
+  pub no_fields : (p : ℕ → Bool) → ((x : ℕ) → is_kept_field c m x ≡ true → p x ≡ false) → m ≡ fields_updated c p m
+  no_fields p none = fun_ext at
+    where
+      by_field : (a f : Bool) (v u : ℕ) → (f ≡ true → a ≡ false) → u ≡ cond (a && f) v u
+      by_field a true v u is = sym (ap (λ z. cond (z && true) v u) (is refl))
+      by_field a false v u is = sym (ap (λ z. cond z v u) (and_right a false refl))
+
+      at : (w : Word) → m w ≡ fields_updated c p m w
+      at (Heap x) = by_field (p x) (is_kept_field c m x) (updated_word c m (m (Heap x))) (m (Heap x)) (none x)
+      at _ = refl
+
+-- References can be updated, and some were.
+module _ (c : Config) (m : Word → ℕ) (can : CanUpdateAll c m) (p : ℕ → Bool) where
+  abbrev n : Word → ℕ
+  n = fields_updated c p m
+
+  -- a word that is no field stays
+  stays : (x : ℕ) → is_kept_field c m x ≡ false → n (Heap x) ≡ m (Heap x)
+  stays x none = cond-false (p x && is_kept_field c m x) (updated_word c m (m (Heap x))) (m (Heap x)) (and_right (p x) (is_kept_field c m x) none)
+
+  -- so words of the set stay, ..
+  pub same_now : (v : ℕ) → is_collected c m v ≡ true → now_in n v ≡ now_in m v
+  same_now v collected = ap (λ h. cond (is_forwarded h) (forwardee_in h) v) (stays v (not_outside c m v (collected_inside c m v collected)))
+
+  pub same_word : (v : ℕ) → updated_word c n v ≡ updated_word c m v
+  same_word v = ⊎_elim
+      (λ (is : is_collected c m v ≡ true). ap (λ y. cond (is_collected c m v) y v) (same_now v is))
+      (λ (no : is_collected c m v ≡ false). cond-false (is_collected c m v) (now_in n v) v no ∙ sym (cond-false (is_collected c m v) (now_in m v) v no))
+      (cases_Bool (is_collected c m v))
+
+  -- .. and shapes outside of it
+  module _ (r : ℕ) (below : r < c.regions) (outside : IsOutside (m Cset) r) where
+    abbrev base : ℕ
+    base = base_of c r
+
+    abbrev heap : ℕ → ℕ
+    heap a = m (Heap a)
+
+    top_within : m (Top r) ≤ c.region_words
+    top_within = can.within r below
+
+    pub same_shape : (s : ℕ) → start_of heap base s ≡ s → s < m (Top r) → n (Heap (base + s + 1)) ≡ m (Heap (base + s + 1))
+    same_shape s is some =
+        let size = can.objects r s below outside some is in
+        let at : base + (s + 1) ≡ base + s + 1 = omega arith in
+        let begun : start_of heap base (s + 1) ≡ s = starts_within heap base s 1 is (omega arith) in
+        let object : object_of c m (base + s + 1) ≡ base + s =
+        ap (object_of c m) (sym at) ∙ object_in c m r (s + 1) (omega (arith, size, top_within)) ∙ ap (λ k. base + k) begun in
+        stays (base + s + 1) (no_reference c m (base + s + 1) (base + s) (sym object) (header_first (base + s) (refs_in (m (Heap (base + s + 1))))))
+      where
+        header_first : (a refs : ℕ) → (nat_le (a + 3) (a + 1) && nat_lt (a + 1) (a + 3 + refs)) ≡ false
+        header_first a refs = grind (arith, nat_tests)
+
+    -- an object where its words are looked up
+    module _ (i : ℕ) (some : i < m (Top r)) where
+      abbrev s : ℕ
+      s = start_of heap base (i - 1)
+
+      s_begins : start_of heap base s ≡ s
+      s_begins = begins heap base (i - 1)
+
+      s_below : s < m (Top r)
+      s_below = omega (arith, from heap base (i - 1), some)
+
+      pub last_in_heap : AreInHeap c (base + s) (words_at m (base + s))
+      last_in_heap = room_in_heap c r s (words_at m (base + s)) below (omega (arith, can.objects r s below outside s_below s_begins, top_within))
+
+      same_size : words_at n (base + s) ≡ words heap base s
+      same_size = ap object_words (same_shape s s_begins s_below)
+
+      -- it ends there, or it goes on
+      module _ (object first : ℕ) (at : object ≡ base + s) (from_base : first ≡ base) where
+        size_is : object + words_at n object ≡ base + s + words heap base s
+        size_is = ap (λ a. a + words_at n a) at ∙ ap (λ k. base + s + k) same_size
+
+        pub here : (object + words_at n object == first + i) ≡ true → first + i ≡ base + start_of heap base i
+        here is =
+            let ends : object + words_at n object ≡ first + i = eqb-true (object + words_at n object) (first + i) is in
+            let begun : start_of heap base i ≡ i = next_ends heap base i (omega (arith, ends, size_is, from_base)) in
+            omega (arith, begun, from_base)
+
+        pub still : (object + words_at n object == first + i) ≡ false → object ≡ base + start_of heap base i
+        still is =
+            let begun : start_of heap base i ≡ s = next_goes_on heap base i
+            (λ ends. true≢false (sym (eq-eqb (object + words_at n object) (first + i) (omega (arith, ends, size_is, from_base))) ∙ is)) in
+            omega (arith, begun, at)
+
+    pub same_start : (k : ℕ) → k < m (Top r) → start_of (λ a. n (Heap a)) base k ≡ start_of heap base k
+    same_start = same_starts heap (λ a. n (Heap a)) base (m (Top r)) same_shape
+
+  -- so references can be updated still
+  pub can_still : CanUpdateAll c n
+  can_still = record {
+    set = can.set;
+    within = can.within;
+    objects = λ r k below outside some begins.
+        let begun : start_of (λ a. m (Heap a)) (base_of c r) k ≡ k = sym (same_start r below outside k some) ∙ begins in
+        let size = can.objects r k below outside some begun in
+        let shape : words_at n (base_of c r + k) ≡ words_at m (base_of c r + k) = ap object_words (same_shape r below outside k begun some) in
+        omega (arith, size, shape);
+  }
+
+  -- and each of them is the same
+  pub same_object : (x : ℕ) → is_outside c m x ≡ true → object_of c n x ≡ object_of c m x
+  same_object x is =
+      let lies = lies_outside c m x is in
+      ap (λ k. base_of c (region_with c x) + k) (same_start (region_with c x) lies.of_region lies.outside (x - base_of c (region_with c x)) lies.below)
+
+  pub same_reference : (x : ℕ) → is_outside c m x ≡ true → is_reference n (object_of c m x) x ≡ is_reference m (object_of c m x) x
+  same_reference x is =
+      let lies = lies_outside c m x is in
+      let r = region_with c x in
+      let k = x - base_of c r in
+      let s = start_of (λ a. m (Heap a)) (base_of c r) k in
+      let shape = same_shape r lies.of_region lies.outside s (begins (λ a. m (Heap a)) (base_of c r) k) (omega (arith, from (λ a. m (Heap a)) (base_of c r) k, lies.below)) in
+      ap (λ h. nat_le (object_of c m x + 3) x && nat_lt x (object_of c m x + 3 + refs_in h)) shape
+
+  pub same_field : (x : ℕ) → is_kept_field c n x ≡ is_kept_field c m x
+  same_field x = ⊎_elim
+      (λ (is : is_outside c m x ≡ true).
+      ap (λ o. is_outside c m x && is_kept c m o && is_reference n o x) (same_object x is)
+      ∙ ap (λ b. is_outside c m x && is_kept c m (object_of c m x) && b) (same_reference x is))
+      (λ (no : is_outside c m x ≡ false). ap (λ b. b && is_kept c n (object_of c n x) && is_reference n (object_of c n x) x) no ∙ sym (not_outside c m x no))
+      (cases_Bool (is_outside c m x))
+
+  -- some more are updated
+  module _ (q s : ℕ → Bool) (apart : (x : ℕ) → is_kept_field c m x ≡ true → p x ≡ true → q x ≡ false) (joined : (x : ℕ) → is_kept_field c m x ≡ true → s x ≡ (p x || q x)) where
+    by_sets : (a b d f : Bool) (v u : ℕ) (w : ℕ → ℕ) → (f ≡ true → a ≡ true → b ≡ false) → (f ≡ true → d ≡ (a || b)) → w u ≡ v
+        → cond (b && f) (w (cond (a && f) v u)) (cond (a && f) v u) ≡ cond (d && f) v u
+    by_sets true b d true v u w one other is =
+        ap (λ z. cond (z && true) (w v) v) (one refl refl) ∙ sym (ap (λ z. cond (z && true) v u) (other refl))
+    by_sets false true d true v u w one other is = is ∙ sym (ap (λ z. cond (z && true) v u) (other refl))
+    by_sets false false d true v u w one other is = sym (ap (λ z. cond (z && true) v u) (other refl))
+    by_sets a b d false v u w one other is =
+        ap (λ z. cond z (w (cond (a && false) v u)) (cond (a && false) v u)) (and_right b false refl)
+        ∙ ap (λ z. cond z v u) (and_right a false refl)
+        ∙ sym (ap (λ z. cond z v u) (and_right d false refl))
+
+    then_at : (w : Word) → fields_updated c q n w ≡ fields_updated c s m w
+    then_at (Heap x) =
+        ap (λ b. cond (q x && b) (updated_word c n (n (Heap x))) (n (Heap x))) (same_field x)
+        ∙ ap (λ y. cond (q x && is_kept_field c m x) y (n (Heap x))) (same_word (n (Heap x)))
+        ∙ by_sets (p x) (q x) (s x) (is_kept_field c m x) (updated_word c m (m (Heap x))) (m (Heap x)) (updated_word c m) (apart x) (joined x) refl
+    then_at _ = refl
+
+    pub then_updated : fields_updated c q n ≡ fields_updated c s m
+    then_updated = fun_ext then_at
+
+-- the object that has an address outside the set lies in the heap
+pub object_inside : (c : Config) (m : Word → ℕ) → CanUpdateAll c m → (x : ℕ) → is_outside c m x ≡ true → AreInHeap c (object_of c m x) (words_at m (object_of c m x))
+object_inside c m can x is =
+    let lies = lies_outside c m x is in
+    let r = region_with c x in
+    let k = x - base_of c r in
+    let heap : ℕ → ℕ = λ a. m (Heap a) in
+    let s = start_of heap (base_of c r) k in
+    let some : s < m (Top r) = omega (arith, from heap (base_of c r) k, lies.below) in
+    room_in_heap c r s (words_at m (base_of c r + s)) lies.of_region (omega (arith, can.objects r s lies.of_region lies.outside some (begins heap (base_of c r) k), can.within r lies.of_region))
+
+pub address_inside : (c : Config) (m : Word → ℕ) (x : ℕ) → is_outside c m x ≡ true → IsWord c (Heap x)
+address_inside c m x is = (let lies = lies_outside c m x is in in_heap_by_region c x lies.above lies.of_region)
+
+-- Sets of addresses, one region or one address more.
+module _ (c : Config) where
+  pub none_of_first : (x : ℕ) → is_of_first c 0 x ≡ false
+  none_of_first x = none (region_with c x)
+    where
+      none : (q : ℕ) → nat_lt q 0 ≡ false
+      none q = grind (arith, nat_tests)
+
+  pub regions_apart : (r x : ℕ) → is_of_first c r x ≡ true → is_of c r x ≡ false
+  regions_apart r x is = apart (region_with c x) is
+    where
+      apart : (q : ℕ) → nat_lt q r ≡ true → (q == r) ≡ false
+      apart q below = grind (arith, nat_tests)
+
+  pub one_region_more : (r x : ℕ) → is_of_first c (r + 1) x ≡ (is_of_first c r x || is_of c r x)
+  one_region_more r x = more (region_with c x)
+    where
+      more : (q : ℕ) → nat_lt q (r + 1) ≡ (nat_lt q r || (q == r))
+      more q = grind (arith, nat_tests)
+
+  pub none_below : (r x : ℕ) → is_below c r 0 x ≡ false
+  none_below r x = none (base_of c r)
+    where
+      none : (b : ℕ) → (nat_le b x && nat_lt x (b + 0)) ≡ false
+      none b = grind (arith, nat_tests)
+
+  pub addresses_apart : (r k x : ℕ) → is_below c r k x ≡ true → is_at (base_of c r + k) x ≡ false
+  addresses_apart r k x is = apart (base_of c r) is
+    where
+      apart : (b : ℕ) → (nat_le b x && nat_lt x (b + k)) ≡ true → (b + k == x) ≡ false
+      apart b below = grind (arith, nat_tests)
+
+  pub one_address_more : (r k x : ℕ) → is_below c r (k + 1) x ≡ (is_below c r k x || is_at (base_of c r + k) x)
+  one_address_more r k x = more (base_of c r)
+    where
+      more : (b : ℕ) → (nat_le b x && nat_lt x (b + (k + 1))) ≡ (nat_le b x && nat_lt x (b + k) || (b + k == x))
+      more b = grind (arith, nat_tests)
+
+  -- a region of the set has no field to be updated
+  pub none_of_set : (m : Word → ℕ) (r : ℕ) → IsIn (m Cset) r → (x : ℕ) → is_kept_field c m x ≡ true → is_of c r x ≡ false
+  none_of_set m r member x field =
+      let outside = (lies_outside c m x (field_outside c m x field)).outside in
+      ne_eqb (region_with c x) r (λ same. (let here : bit_at (m Cset) r ≡ 0 = subst (λ q. bit_at (m Cset) q ≡ 0) same outside in omega (arith, here, member)))
+
+  -- the fields of a region lie below its top
+  pub fields_below : (m : Word → ℕ) (r : ℕ) → r < c.regions → m (Top r) ≤ c.region_words → (x : ℕ) → is_kept_field c m x ≡ true → is_below c r (m (Top r)) x ≡ is_of c r x
+  fields_below m r below within x field =
+      let lies = lies_outside c m x (field_outside c m x field) in
+      let q = region_with c x in
+      let again = regions_tile.of_one c x (x_is_word lies) in
+      ⊎_elim
+      (λ (same : q ≡ r).
+      let base : base_of c q ≡ base_of c r = ap (base_of c) same in
+      let top : m (Top q) ≡ m (Top r) = ap (λ k. m (Top k)) same in
+      let inside : x < base_of c r + m (Top r) = omega (arith, lies.below, base, top, again.from) in
+      let from_base : base_of c r ≤ x = omega (arith, again.from, base) in
+      told from_base inside ∙ sym (eq-eqb q r same))
+      (λ (other : q ≢ r).
+      untold (λ from_base inside. other (regions_tile.of_no_other c r x (record { from = from_base; before = omega (arith, inside, within) }))) ∙ sym (ne_eqb q r other))
+      (cases_eq q r)
+    where
+      x_is_word : LiesOutside c m x → IsWord c (Heap x)
+      x_is_word lies = in_heap_by_region c x lies.above lies.of_region
+
+      told : base_of c r ≤ x → x < base_of c r + m (Top r) → is_below c r (m (Top r)) x ≡ true
+      told low high = both_true (nat_le (base_of c r) x) (nat_lt x (base_of c r + m (Top r))) (le-leb (base_of c r) x low) (lt-ltb x (base_of c r + m (Top r)) high)
+
+      untold : (base_of c r ≤ x → x < base_of c r + m (Top r) → ⊥) → is_below c r (m (Top r)) x ≡ false
+      untold none = false_from_ne_true (is_below c r (m (Top r)) x) (λ is.
+          let parts = and_parts (nat_le (base_of c r) x) (nat_lt x (base_of c r + m (Top r))) is in
+          none (leb-true (base_of c r) x parts.0) (ltb-true x (base_of c r + m (Top r)) parts.1))

@@ -1,2 +1,0 @@
-pub mod Evacuating
-pub mod Laws

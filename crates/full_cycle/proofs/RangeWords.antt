@@ -1,0 +1,58 @@
+-- The words at a range of places, by their names; and sets of empty regions.
+use Rattle.std.proofs.Common.{◌≡◌, ℕ, ◌+◌, ◌-◌, ◌*◌, ◌/◌, ◌%◌, ◌^◌, ◌<◌, ◌≤◌, ◌==◌, ◌&&◌, nat_le, nat_lt, cond, suc, List, get_or, refl, ap, ◌∙◌, subst, arith}
+use Rattle.std.proofs.lemmas.Bool.Decides.{nat_tests}
+use Rattle.heap_words.specs.declared.config.Config.{Config}
+use Rattle.heap_words.specs.Words.{Root, Count, Answer, Grey, Wait, word_at, view}
+use Rattle.heap_words.proofs.Stores.{view_word, view_none}
+use Rattle.full_words.specs.Full.{empty_regions}
+use Rattle.full_cycle.specs.Steps.{IsChanged}
+
+pub changed_to : (f g t u : ℕ) (change : ℕ → ℕ) (before after : List ℕ) → f ≡ g → t ≡ u → IsChanged f t change before after → IsChanged g u change before after
+changed_to f g t u change before after from to is =
+    subst (λ k. IsChanged k u change before after) from (subst (λ k. IsChanged f k change before after) to is)
+
+-- what holds of all roots holds of the words of their row
+pub roots_row : (c : Config) (words : List ℕ) (P : ℕ → Type 0) → ((t i : ℕ) → t < c.mutators → i < 16 → P (view c words (Root t i)))
+    → (k : ℕ) → word_at c (Root 0 0) ≤ k → k < word_at c (Count 0) → P (get_or words k 0)
+roots_row c words P each k low high =
+    let x : ℕ = k - word_at c (Root 0 0) in
+    let x_is : word_at c (Root 0 0) + x ≡ k = omega (arith, low) in
+    let few : x / 16 < c.mutators = omega (arith, high, x_is) in
+    let index : x % 16 < 16 = omega arith in
+    let at : word_at c (Root (x / 16) (x % 16)) ≡ k = omega (arith, x_is) in
+    subst P (view_word c words (Root (x / 16) (x % 16)) (few, index) ∙ ap (λ j. get_or words j 0) at) (each (x / 16) (x % 16) few index)
+
+-- and of all answers
+pub answers_row : (c : Config) (words : List ℕ) (P : ℕ → Type 0) → ((t : ℕ) → t < c.mutators → P (view c words (Answer t)))
+    → (k : ℕ) → word_at c (Answer 0) ≤ k → k < word_at c (Grey 0) → P (get_or words k 0)
+answers_row c words P each k low high =
+    let x : ℕ = k - word_at c (Answer 0) in
+    let x_is : word_at c (Answer 0) + x ≡ k = omega (arith, low) in
+    let few : x < c.mutators = omega (arith, high, x_is) in
+    let at : word_at c (Answer x) ≡ k = omega (arith, x_is) in
+    subst P (view_word c words (Answer x) few ∙ ap (λ j. get_or words j 0) at) (each x few)
+
+-- no word behind a range is changed
+pub behind_range : (from to k : ℕ) (change : ℕ → ℕ) (before after : List ℕ) → IsChanged from to change before after → to ≤ k → get_or after k 0 ≡ get_or before k 0
+behind_range from to k change before after is past = is k ∙ outside (change (get_or before k 0)) (get_or before k 0)
+  where
+    outside : (x y : ℕ) → cond (nat_le from k && nat_lt k to) x y ≡ y
+    outside x y = grind (arith, nat_tests)
+
+pub nobody_waits : (c : Config) (words : List ℕ) (t : ℕ) → c.mutators ≤ t → view c words (Wait t) ≡ 0
+nobody_waits c words t past = view_none c words (Wait t) (grind (arith, nat_tests))
+
+-- Empty regions.
+
+pub empty_none : (top : ℕ → ℕ) → 0 ≡ empty_regions top 0
+unfolding empty_regions
+empty_none top = refl
+
+pub empty_more : (top : ℕ → ℕ) (r set free edge : ℕ) → edge ≡ top r → set ≡ cond (edge == 0) 1 0 * 2 ^ r → free ≡ empty_regions top r → free + set ≡ empty_regions top (r + 1)
+unfolding empty_regions
+empty_more top r set free edge edge_is set_is free_is =
+    let next : suc r ≡ r + 1 = omega arith in
+    let one : set ≡ cond (top r == 0) 1 0 * 2 ^ r = set_is ∙ ap (λ e. cond (e == 0) 1 0 * 2 ^ r) edge_is in
+    let step : empty_regions top (suc r) ≡ cond (top r == 0) 1 0 * 2 ^ r + empty_regions top r = refl in
+    let sum : free + set ≡ empty_regions top (suc r) = omega (arith, one, free_is, step) in
+    sum ∙ ap (empty_regions top) next

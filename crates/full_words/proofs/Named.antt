@@ -1,0 +1,32 @@
+-- Where each piece is an object, whatever stands for a name is one.
+use Rattle.std.proofs.Common.{◌≡◌, ℕ, Some, sym, ap, ◌∙◌}
+use Rattle.std.proofs.lemmas.Option.{same_Some}
+use Rattle.shen_graph.specs.declared.name.Name.{Name}
+use Rattle.heap_world.specs.World.{thing, moved, spent, hand, promised, filler, Plot, name_at}
+use Rattle.heap_world.proofs.Pointing.{named_piece}
+use Rattle.full_words.specs.Plot.{AreThings}
+
+module _ (block : Plot) (things : AreThings block) where
+  -- what stands for a name is the object of that name
+  pub thing_at : (word : ℕ) (name : Name) → name_at (block word) ≡ Some name → (refs : ℕ) × (nums : ℕ) × (block word ≡ Some (thing name refs nums))
+  thing_at word name is =
+      let piece = named_piece (block word) name is in
+      let found = things word piece.0 piece.1 in
+      let same : found.0 ≡ name = same_Some found.0 name (ap (λ x. name_at (Some x)) (sym found.3) ∙ piece.2) in
+      (found.1, found.2, piece.1 ∙ ap Some found.3 ∙ ap (λ n. Some (thing n found.1 found.2)) same)
+
+  -- other kinds of pieces there are none
+  pub no_moved : (a refs nums to : ℕ) (name : Name) → block a ≡ Some (moved name refs nums to) → ⊥
+  no_moved a refs nums to name is = let found = (things a (moved name refs nums to) is).3 in cc
+
+  pub no_spent : (a words to : ℕ) → block a ≡ Some (spent words to) → ⊥
+  no_spent a words to is = let found = (things a (spent words to) is).3 in cc
+
+  pub no_hand : (a seat words : ℕ) → block a ≡ Some (hand seat words) → ⊥
+  no_hand a seat words is = let found = (things a (hand seat words) is).3 in cc
+
+  pub no_promised : (a seat words : ℕ) → block a ≡ Some (promised seat words) → ⊥
+  no_promised a seat words is = let found = (things a (promised seat words) is).3 in cc
+
+  pub no_filler : (a words : ℕ) → block a ≡ Some (filler words) → ⊥
+  no_filler a words is = let found = (things a (filler words) is).3 in cc

@@ -1,0 +1,5 @@
+use Rattle.full_words.proofs.Image.{keeps_graph}
+use Rattle.full_words.proofs.packing_keeps_graph.Goals as goal
+
+pub returns : goal.returns
+returns c = λ config memory block g now kept roots before. keeps_graph config memory block g now kept roots before

@@ -1,0 +1,49 @@
+-- Which objects of a heap are held: those that root words lead to, by current copies.
+use Rattle.std.specs.Prelude.{ℕ, true, ◌≡◌, ◌≢◌, ◌+◌, ◌<◌, Option, Some, None, List, [], zero, suc, slice_get}
+use Rattle.heap_words.specs.declared.config.Config.{Config}
+use Rattle.heap_words.specs.Encoding.{refs_in, object_words}
+use Rattle.shen_graph.specs.declared.name.Name.{Name}
+use Rattle.shen_graph.specs.Graph.{Graph, Object}
+use Rattle.heap_graph.specs.Walk.{has, with_addresses}
+use Rattle.heap_world.specs.World.{Plot, thing, name_at, IsPlotted, IsThing}
+
+-- The addresses of the objects that some words lead to. `now` gives the address of an object's current copy.
+pub data IsLedTo (now heap : ℕ → ℕ) (IsRoot : ℕ → Type 0) : ℕ → Type 0 where
+  from_root : (word : ℕ) → IsRoot word → word ≢ 0 → IsLedTo now heap IsRoot (now word)
+  from_field : (a i : ℕ) → IsLedTo now heap IsRoot a → i < refs_in (heap (a + 1)) → heap (a + 3 + i) ≢ 0 → IsLedTo now heap IsRoot (now (heap (a + 3 + i)))
+
+-- a word is one of a list
+abbrev pub IsAmong : List ℕ → ℕ → Type 0
+IsAmong roots word = has roots word ≡ true
+
+-- how many words each held object has, and 0 for each other address
+pub record AreHeldKept (heap : ℕ → ℕ) (Held : ℕ → Type 0) (kept : ℕ → ℕ) : Type 0 where
+  pub words : (a : ℕ) → Held a → kept a ≡ object_words (heap (a + 1))
+  pub only : (a : ℕ) → 0 < kept a → Held a
+
+-- the list with the fields of an object at its end, if there is one
+abbrev pub with_fields : (ℕ → List ℕ) → List ℕ → Option ℕ → List ℕ
+with_fields fields order None = order
+with_fields fields order (Some a) = with_addresses order (fields a)
+
+-- the addresses that are found in so many turns, each of which takes the next address of the list and adds its fields
+unfoldable pub found_in : (fields : ℕ → List ℕ) (roots : List ℕ) → ℕ → List ℕ
+found_in fields roots zero = with_addresses [] roots
+found_in fields roots (suc n) = with_fields fields (found_in fields roots n) (slice_get (found_in fields roots n) n)
+
+-- an object of a name is at an address, and is its current copy
+abbrev pub IsCopy : Plot → ℕ → Name → Type 0
+IsCopy block a name = (refs : ℕ) × (nums : ℕ) × (block a ≡ Some (thing name refs nums))
+
+-- The words of a heap stand for a graph, where objects may have old copies: whatever stands for a name has its current
+-- copy, each object that is held is one of the graph, and root words stand for the roots. Nothing is asked of objects
+-- that are not held.
+pub record HoldsGraph (c : Config) (top heap : ℕ → ℕ) (block : Plot) (now : ℕ → ℕ) (IsRoot : ℕ → Type 0) (g : Graph) : Type 0 where
+  pub plotted : IsPlotted c top block
+  pub current : (word : ℕ) (name : Name) → name_at (block word) ≡ Some name → IsCopy block (now word) name
+  pub each : (a refs nums : ℕ) (name : Name) → IsLedTo now heap IsRoot a → block a ≡ Some (thing name refs nums)
+      → (o : Object) × (g.object name ≡ Some o) × IsThing heap block a refs nums name o
+  pub once : (a b refs nums more_refs more_nums : ℕ) (name : Name) → IsLedTo now heap IsRoot a → IsLedTo now heap IsRoot b
+      → block a ≡ Some (thing name refs nums) → block b ≡ Some (thing name more_refs more_nums) → a ≡ b
+  pub root_named : (word : ℕ) → IsRoot word → word ≢ 0 → (t : ℕ) × (i : ℕ) × (name : Name) × (g.root t i ≡ Some name) × (name_at (block word) ≡ Some name)
+  pub root_held : (t i : ℕ) (name : Name) → g.root t i ≡ Some name → (word : ℕ) × IsRoot word × (name_at (block word) ≡ Some name)

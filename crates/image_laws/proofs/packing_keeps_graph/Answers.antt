@@ -1,5 +1,0 @@
-use Rattle.image_laws.proofs.Image.{keeps_graph}
-use Rattle.image_laws.proofs.packing_keeps_graph.Goals as goal
-
-pub returns : goal.returns
-returns c = λ config memory block g now kept roots before. keeps_graph config memory block g now kept roots before

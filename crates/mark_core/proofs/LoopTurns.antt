@@ -1,0 +1,74 @@
+-- What one turn more of a loop makes of the words.
+use Rattle.std.proofs.Common.{◌≡◌, ℕ, ◌+◌, ◌==◌, nat_lt, cond, Bool, refl, arith}
+use Rattle.std.specs.Int.RustNames.{bit_or}
+use Rattle.std.proofs.lemmas.Bool.Decides.{nat_tests}
+use Rattle.std.proofs.Math.Path.{fun_ext}
+use Rattle.heap_words.specs.declared.config.Config.{Config}
+use Rattle.heap_words.specs.Words.{Word, Top, Tams, Count, Grey, Black, write}
+use Rattle.cycle_words.specs.Marking.Marks.{mark_bits}
+use Rattle.mark_core.specs.Steps.{greyed, marked, noted, emptied}
+
+-- one number more below a bound
+one_more : (before value : ℕ → ℕ) (k j : ℕ) → cond (k == j) (value k) (cond (nat_lt j k) (value j) (before j)) ≡ cond (nat_lt j (k + 1)) (value j) (before j)
+one_more before value k j = grind (arith, nat_tests)
+
+none_yet : (x y j : ℕ) → y ≡ cond (nat_lt j 0) x y
+none_yet x y j = grind (arith, nat_tests)
+
+pub not_yet : (x y k : ℕ) → cond (nat_lt k k) x y ≡ y
+not_yet x y k = grind (arith, nat_tests)
+
+-- buffers
+
+emptied_next_at : (t : ℕ) (m : Word → ℕ) (w : Word) → write (emptied t m) (Count t) 0 w ≡ emptied (t + 1) m w
+emptied_next_at t m (Count u) = one_more (λ x. m (Count x)) (λ x. 0) t u
+emptied_next_at t m _ = refl
+
+pub emptied_next : (t : ℕ) (m : Word → ℕ) → write (emptied t m) (Count t) 0 ≡ emptied (t + 1) m
+emptied_next t m = fun_ext (λ w. emptied_next_at t m w)
+
+-- tops
+
+noted_next_at : (r : ℕ) (m : Word → ℕ) (w : Word) → write (noted r m) (Tams r) (m (Top r)) w ≡ noted (r + 1) m w
+noted_next_at r m (Tams q) = one_more (λ x. m (Tams x)) (λ x. m (Top x)) r q
+noted_next_at r m _ = refl
+
+pub noted_next : (r : ℕ) (m : Word → ℕ) → write (noted r m) (Tams r) (m (Top r)) ≡ noted (r + 1) m
+noted_next r m = fun_ext (λ w. noted_next_at r m w)
+
+-- marks
+
+module _ (c : Config) (set : ℕ → Bool) where
+  greyed_none_at : (m : Word → ℕ) (w : Word) → m w ≡ greyed c set 0 m w
+  greyed_none_at m (Grey n) = none_yet (mark_bits c set n) (m (Grey n)) n
+  greyed_none_at m (Black n) = none_yet 0 (m (Black n)) n
+  greyed_none_at m _ = refl
+
+  pub greyed_none : (m : Word → ℕ) → m ≡ greyed c set 0 m
+  greyed_none m = fun_ext (λ w. greyed_none_at m w)
+
+  greyed_next_at : (k : ℕ) (m : Word → ℕ) (w : Word) → write (write (greyed c set k m) (Grey k) (mark_bits c set k)) (Black k) 0 w ≡ greyed c set (k + 1) m w
+  greyed_next_at k m (Grey n) = one_more (λ x. m (Grey x)) (mark_bits c set) k n
+  greyed_next_at k m (Black n) = one_more (λ x. m (Black x)) (λ x. 0) k n
+  greyed_next_at k m _ = refl
+
+  pub greyed_next : (k : ℕ) (m : Word → ℕ) → write (write (greyed c set k m) (Grey k) (mark_bits c set k)) (Black k) 0 ≡ greyed c set (k + 1) m
+  greyed_next k m = fun_ext (λ w. greyed_next_at k m w)
+
+  marked_none_at : (m : Word → ℕ) (w : Word) → m w ≡ marked c set 0 m w
+  marked_none_at m (Grey n) = none_yet (bit_or (m (Grey n)) (mark_bits c set n)) (m (Grey n)) n
+  marked_none_at m (Black n) = none_yet (bit_or (m (Black n)) (mark_bits c set n)) (m (Black n)) n
+  marked_none_at m _ = refl
+
+  pub marked_none : (m : Word → ℕ) → m ≡ marked c set 0 m
+  marked_none m = fun_ext (λ w. marked_none_at m w)
+
+  marked_next_at : (k : ℕ) (m : Word → ℕ) (w : Word)
+      → write (write (marked c set k m) (Grey k) (bit_or (m (Grey k)) (mark_bits c set k))) (Black k) (bit_or (m (Black k)) (mark_bits c set k)) w ≡ marked c set (k + 1) m w
+  marked_next_at k m (Grey n) = one_more (λ x. m (Grey x)) (λ x. bit_or (m (Grey x)) (mark_bits c set x)) k n
+  marked_next_at k m (Black n) = one_more (λ x. m (Black x)) (λ x. bit_or (m (Black x)) (mark_bits c set x)) k n
+  marked_next_at k m _ = refl
+
+  pub marked_next : (k : ℕ) (m : Word → ℕ)
+      → write (write (marked c set k m) (Grey k) (bit_or (m (Grey k)) (mark_bits c set k))) (Black k) (bit_or (m (Black k)) (mark_bits c set k)) ≡ marked c set (k + 1) m
+  marked_next k m = fun_ext (λ w. marked_next_at k m w)

@@ -1,5 +1,0 @@
-use Rattle.mark_laws.proofs.Closed.{closed_holds, closed_through}
-use Rattle.mark_laws.proofs.closing_keeps.Goals as goal
-
-pub returns : goal.returns
-returns c = λ config memory block owner p g holds marking. (closed_holds config memory block owner p g holds marking, closed_through config memory block owner p g holds marking)

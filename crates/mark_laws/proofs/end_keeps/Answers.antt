@@ -1,6 +1,0 @@
-use Rattle.mark_laws.proofs.Ended.{ended_holds, ended_through}
-use Rattle.mark_laws.proofs.end_keeps.Goals as goal
-
-pub returns : goal.returns
-returns c = λ config memory block owner p g holds marking seats.
-    (ended_holds config memory block owner p g holds marking seats, ended_through config memory block owner p g holds marking seats)

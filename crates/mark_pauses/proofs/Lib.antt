@@ -1,8 +1,0 @@
-pub mod Chains
-pub mod Asked
-pub mod Pruned
-pub mod Beginning
-pub mod Freed
-pub mod Ending
-pub mod Standing
-pub mod Outside

@@ -1,0 +1,13 @@
+pub mod Changes
+pub mod Bodies
+pub mod Counts
+pub mod Worded
+pub mod Forwarded
+pub mod GivenBack
+pub mod Stays
+pub mod Headers
+pub mod Common
+pub mod Entering
+pub mod Copying
+pub mod Leaving
+pub mod Parts

@@ -1,0 +1,9 @@
+pub mod Passes
+pub mod Changes
+pub mod Facts
+pub mod Pieces
+pub mod Stored
+pub mod UnitSteps
+pub mod Parts
+pub mod Following
+pub mod Done

@@ -1,5 +1,0 @@
-use Rattle.shared_steps.proofs.Dealing.{dealing}
-use Rattle.shared_steps.proofs.laws.bundles_are_all.Goals as goal
-
-pub returns : goal.returns
-returns g c = λ bundles view. dealing bundles view

@@ -1,5 +1,0 @@
-use Rattle.shared_steps.proofs.Reached.{reach_laws}
-use Rattle.shared_steps.proofs.laws.bundles_are_reached.Goals as goal
-
-pub returns : goal.returns
-returns g c = λ kind start. reach_laws kind start

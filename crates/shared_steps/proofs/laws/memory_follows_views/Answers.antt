@@ -1,5 +1,0 @@
-use Rattle.shared_steps.proofs.Kept.{kept_laws}
-use Rattle.shared_steps.proofs.laws.memory_follows_views.Goals as goal
-
-pub returns : goal.returns
-returns g c = λ kept. kept_laws kept

@@ -1,5 +1,0 @@
-use Rattle.shared_steps.proofs.Rules.{laws}
-use Rattle.shared_steps.proofs.laws.steps_keep_the_rule.Goals as goal
-
-pub returns : goal.returns
-returns g c = λ kind start. laws kind start

@@ -1,0 +1,64 @@
+-- The numbers under which a view has machines.
+use Rattle.std.proofs.Common.{◌≡◌, ℕ, zero, suc, Bool, true, false, List, [], ◌∷◌, length, Option, Some, None, refl, sym, ap, ◌∙◌, ◌<◌, ◌||◌, arith}
+use Rattle.std.specs.Prelude.{slice_set, ◌==◌, if◌then◌else◌}
+use Rattle.std.specs.Option.{is_some}
+use Rattle.std.proofs.lemmas.List.{length-set}
+use Rattle.std.proofs.lemmas.Bool.Decides.{nat_tests}
+use Rattle.shared_table.specs.Views.{View, machine_of, whole, machines_of, HasAllMachines, merged, whichever_is_there, SameNumbers}
+use Rattle.shared_table.specs.Laws.{NumberLaws}
+use Rattle.shared_table.proofs.ViewsShow.{machine_of-set, machine_of-merged}
+use Rattle.shared_table.proofs.Closing.{length-whole}
+use Rattle.shared_table.proofs.Dealing.{length-merged}
+
+module _ {R : Type 0} where
+  pub same_none : (v : View R) → SameNumbers v v
+  same_none v = record { long = refl; here = λ k. refl }
+
+  pub same_more : (v w x : View R) → SameNumbers v w → SameNumbers w x → SameNumbers v x
+  same_more v w x a b = record { long = b.long ∙ a.long; here = λ k. b.here k ∙ a.here k }
+
+  -- a machine goes on
+  pub same_step : (v : View R) (number : ℕ) (r next : R) → machine_of v number ≡ Some r → SameNumbers v (slice_set v number (Some next))
+  same_step v number r next here = record {
+    long = length-set _ _ _;
+    here = λ k. ap is_some (machine_of-set v number r (Some next) here k) ∙ by_number k (k == number) refl;
+  }
+    where
+      by_number : (k : ℕ) (b : Bool) → (k == number) ≡ b → is_some (if k == number then Some next else machine_of v k) ≡ is_some (machine_of v k)
+      by_number k true is = let same : k ≡ number = grind (arith, nat_tests) in rw is (sym (ap is_some (ap (machine_of v) same ∙ here)))
+      by_number k false is = rw is refl
+
+  some_of : (x y : Option R) → is_some (whichever_is_there x y) ≡ (is_some x || is_some y)
+  some_of None y = refl
+  some_of (Some r) y = refl
+
+  -- bundles are joined
+  pub same_merged : (v w x y : View R) → length v ≡ length x → SameNumbers v w → SameNumbers x y → SameNumbers (merged v x) (merged w y)
+  same_merged v w x y long a b = record {
+    long = length-merged w y (a.long ∙ long ∙ sym b.long) ∙ a.long ∙ sym (length-merged v x long);
+    here = λ k.
+        ap is_some (machine_of-merged w y k) ∙ some_of (machine_of w k) (machine_of y k)
+        ∙ ap (λ p. p || is_some (machine_of y k)) (a.here k) ∙ ap (λ p. is_some (machine_of v k) || p) (b.here k)
+        ∙ sym (ap is_some (machine_of-merged v x k) ∙ some_of (machine_of v k) (machine_of x k));
+  }
+
+  -- where each number has its machine, the view has all
+  pub all_here : (v : View R) → ((k : ℕ) → k < length v → is_some (machine_of v k) ≡ true) → v ≡ whole (machines_of v)
+  all_here [] each = refl
+  all_here (None ∷ xs) each = absurd (let a = each 0 (omega arith) in cc)
+  all_here (Some r ∷ xs) each = ap (λ (ys : View R). Some r ∷ ys) (all_here xs (λ k within. each (suc k) (omega arith)))
+
+  whole_here : (machines : List R) (k : ℕ) → k < length machines → is_some (machine_of (whole machines) k) ≡ true
+  whole_here [] k within = absurd (omega arith)
+  whole_here (r ∷ rs) zero within = refl
+  whole_here (r ∷ rs) (suc k) within = whole_here rs k (omega arith)
+
+  -- the machines of the opening have gone on
+  pub same_whole : (machines : List R) (v : View R) → SameNumbers (whole machines) v → HasAllMachines (length machines) v
+  same_whole machines v same = record {
+    all = all_here v (λ k within. same.here k ∙ whole_here machines k (let a : length v ≡ length machines = same.long ∙ length-whole machines in omega arith));
+    counts = same.long ∙ length-whole machines;
+  }
+
+  pub number_laws : NumberLaws R
+  number_laws = record { none = same_none; more = same_more; step = same_step; joined = same_merged; whole = same_whole }

@@ -1,0 +1,5 @@
+use Rattle.shared_table.proofs.Kept.{kept_laws}
+use Rattle.shared_table.proofs.laws.memory_follows_views.Goals as goal
+
+pub returns : goal.returns
+returns g c = λ kept. kept_laws kept

@@ -1,2 +1,0 @@
-pub mod Slide
-pub mod Table

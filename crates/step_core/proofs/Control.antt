@@ -1,0 +1,10 @@
+pub mod Aims
+pub mod Events
+pub mod Images
+pub mod Held
+pub mod Paused
+pub mod Pauses
+pub mod Loaded
+pub mod Storing
+pub mod Due
+pub mod Asked

@@ -1,0 +1,275 @@
+-- An event of the control leads from a stage that follows its history to one that does.
+use Rattle.std.proofs.Common.{◌≡◌, ◌≢◌, ℕ, ◌+◌, ◌<◌, Bool, true, false, List, [], ◌∷◌, ◌++◌, length, Option, Some, None, refl, sym, ap, ◌∙◌, subst, arith}
+use Rattle.std.specs.Prelude.{nat_lt, slice_get, slice_set, slice_index, if◌then◌else◌}
+use Rattle.std.proofs.lemmas.List.{length-set, set-get_or, length-append}
+use Rattle.std.proofs.lemmas.Option.{same_Some, slice_get_within}
+use Rattle.std.proofs.lemmas.Bool.{and_parts, ltb-true, ltb-false}
+use Rattle.heap_words.specs.declared.config.Config.{Config}
+use Rattle.heap_words.specs.Access.{table_index}
+use Rattle.heap_words.specs.Ranges.{seat_count}
+use Rattle.heap_words.specs.Words.{Ask, Phase, Cset, image_start, view}
+use Rattle.heap_words.proofs.Stores.{is_word_from}
+use Rattle.steps_base.specs.Steps.{Stage, accessed, moved}
+use Rattle.steps_base.proofs.Places.{slice_get-set_same}
+use Rattle.shen_graph.specs.declared.command.Command.{Command}
+use Rattle.shen_graph.specs.declared.order.Order.TheVariants.{Nothing}
+use Rattle.shen_graph.specs.Graph.{Graph}
+use Rattle.shen_graph.specs.History.{Entry, after, of_thread}
+use Rattle.handshake.specs.declared.stop_spot.StopSpot.TheVariants as stop
+use Rattle.handshake.specs.Standing.{is_within, is_pausing}
+use Rattle.handshake.proofs.Still.{pause_empty}
+use Rattle.heap_world.specs.World.{World, Shared}
+use Rattle.unit_part.specs.declared.spot.UnitSpot.{UnitSpot}
+use Rattle.unit_part.specs.Rows as units
+use Rattle.unit_part.specs.Ready as unit
+use Rattle.unit_part.proofs.Inside.{unit_inside}
+use Rattle.heap_world.specs.Change.{Change, IsDue, IsPause, image_view, image_words}
+use Rattle.steps_base.specs.Touch.{touch, loads}
+use Rattle.control_rows.specs.declared.spot.ControlSpot.{ControlSpot}
+use Rattle.control_rows.specs.declared.spot.ControlSpot.TheVariants.{LookLeft, StoreEnd, LookAsked, LookFree, Working, Stopping, LoadWord, StoreWord, Go, Gone}
+use Rattle.control_rows.specs.Rows.{Controlling, control_access, seen_after, is_gone}
+use Rattle.control_rows.specs.Ready.{is_ready}
+use Rattle.step_core.specs.Actor.{controlling, Actor}
+use Rattle.step_core.specs.Machines.{took_of, kind, told_storing, standing_of}
+use Rattle.step_core.specs.Settled.{stored_image, settled_by, image_read, image_of, control_number}
+use Rattle.step_core.specs.Sound.{world_of}
+use Rattle.step_core.specs.Fit.{IsImageOfSome}
+use Rattle.step_core.proofs.Machines.Owed.{IsResting, IsControl, IsMachine, Follows, Owes, AreRead}
+use Rattle.step_core.proofs.Control.Images.{words_after, found-placed, image_grows}
+use Rattle.step_core.proofs.Helpers.Units.{work_fits}
+use Rattle.step_core.proofs.History.Owing.{follows_owes}
+use Rattle.step_core.proofs.Control.Paused.{asking, image_stands, paused_owes}
+use Rattle.step_core.proofs.Control.Pauses as pauses
+use Rattle.step_core.proofs.Control.Loaded.{read_owes}
+use Rattle.step_core.proofs.Control.Storing.{stored_owes}
+use Rattle.step_core.proofs.Control.Held.{IsKept, held_image}
+
+-- a list with one more at its end
+length-snoc : (xs : List ℕ) (x : ℕ) → length (xs ++ x ∷ []) ≡ length xs + 1
+length-snoc xs x = length-append xs (x ∷ [])
+
+-- A step of the control.
+module _ (change : Change) (law : IsPause change) (c : Config) (g : Graph) (s : Stage Actor) (past : List Entry) (number : ℕ) (k : Controlling) (command : Command) (calls : List Entry)
+    (follows : Follows c g s past) (shaken : IsKept c s) (here : slice_get s.machines number ≡ Some (record { machine = controlling k; command = command; calls = calls })) where
+  abbrev control_before : Actor
+  control_before = record { machine = controlling k; command = command; calls = calls }
+
+  facts : IsControl c s.words (world_of c s follows.block follows.ghost (after g past)) number k
+  facts = follows.machines number control_before here
+
+  -- the image that counts is its
+  held_is : held_image c s ≡ stored_image k.spot k.image
+  held_is = ap (λ n. image_of (slice_get s.machines n)) (sym facts.number_is) ∙ ap image_of here
+
+  abbrev words_after_access : List ℕ
+  words_after_access = accessed (control_access c k) s.words
+
+  abbrev control_after : Actor
+  control_after = took_of change c control_before Nothing (slice_index s.words (table_index (control_access c k))) (controlling k)
+
+  -- the world in which an image counts, or none
+  abbrev world_held : Option (List ℕ) → World
+  world_held o = record { memory = settled_by c s.words o; block = follows.block; ghost = follows.ghost; graph = after g past }
+
+  world_is : world_of c s follows.block follows.ghost (after g past) ≡ world_held (stored_image k.spot k.image)
+  world_is = ap world_held held_is
+
+  -- what the control owes is owed as an event
+  from_owes : (settles : List Entry) → Owes c s.words words_after_access (world_held (stored_image k.spot k.image)) past (control_number c) s.machines
+      (settled_by c words_after_access (image_read control_after.machine)) settles control_after → Follows c g (moved (kind change c) s number control_before Nothing) (past ++ settles)
+  unfolding kind
+  from_owes settles owes =
+      let there : image_of (slice_get (slice_set s.machines number control_after) (control_number c)) ≡ image_read control_after.machine =
+      ap (λ n. image_of (slice_get (slice_set s.machines number control_after) n)) (sym facts.number_is) ∙ ap image_of (slice_get-set_same s.machines number control_before control_after here) in
+      follows_owes c g s past number control_before control_after words_after_access settles follows
+      (subst (λ memory. Owes c s.words words_after_access (world_of c s follows.block follows.ghost (after g past)) past number s.machines memory settles control_after) (ap (settled_by c words_after_access) (sym there))
+      (subst (λ w. Owes c s.words words_after_access w past number s.machines (settled_by c words_after_access (image_read control_after.machine)) settles control_after) (sym world_is)
+      (subst (λ n. Owes c s.words words_after_access (world_held (stored_image k.spot k.image)) past n s.machines (settled_by c words_after_access (image_read control_after.machine)) settles control_after) (sym facts.number_is) owes)))
+      here (length-set s.words _ _ ∙ follows.words)
+
+  -- what holds of the control, in that world
+  control_held : IsControl c s.words (world_held (stored_image k.spot k.image)) (control_number c) k
+  control_held = subst (λ n. IsControl c s.words (world_held (stored_image k.spot k.image)) n k) facts.number_is (subst (λ w. IsControl c s.words w number k) world_is facts)
+
+  -- and of all machines
+  shared_held : Shared c (world_held (stored_image k.spot k.image))
+  shared_held = subst (λ w. Shared c w) world_is follows.shared
+
+  known_held : (j : ℕ) (b : Actor) → slice_get s.machines j ≡ Some b → IsMachine c s.words (world_held (stored_image k.spot k.image)) (of_thread past (j + 1)) j b b.machine
+  known_held j b there = subst (λ w. IsMachine c s.words w (of_thread past (j + 1)) j b b.machine) world_is (follows.machines j b there)
+
+  -- in a pause every other machine is outside
+  all_outside : is_pausing (standing_of (controlling k)) ≡ true → (j : ℕ) (b : Actor) → slice_get s.machines j ≡ Some b → j ≢ control_number c → is_within (standing_of b.machine) ≡ false
+  all_outside pausing j b there other =
+      let same : control_before ≡ shaken.control = same_Some control_before shaken.control (sym here ∙ ap (slice_get s.machines) facts.number_is ∙ shaken.there) in
+      let less : j < seat_count c.mutators c.helpers = (let within = slice_get_within s.machines j b there in let seats = follows.seats in omega (arith, within, seats)) in
+      pause_empty c (λ a. standing_of a.machine) s shaken (ap (λ a. is_pausing (standing_of a.machine)) (sym same) ∙ pausing) j b (omega (arith, less, other)) there
+
+-- by its spot
+module _ (change : Change) (law : IsPause change) (c : Config) (g : Graph) (s : Stage Actor) (past : List Entry) (number seen phase cset : ℕ) (image : List ℕ) (command : Command) (calls : List Entry)
+    (follows : Follows c g s past) (shaken : IsKept c s) where
+  abbrev control_at : ControlSpot → Controlling
+  control_at spot = record { spot = spot; seen = seen; phase = phase; cset = cset; image = image }
+
+  abbrev Here : ControlSpot → Type 0
+  Here spot = slice_get s.machines number ≡ Some (record { machine = controlling (control_at spot); command = command; calls = calls })
+
+  abbrev ControlGoal : ControlSpot → Type 0
+  ControlGoal spot = Follows c g (moved (kind change c) s number (record { machine = controlling (control_at spot); command = command; calls = calls }) Nothing)
+      (past ++ told_storing c s spot image)
+
+  ready_at : (spot : ControlSpot) → Here spot → is_ready c spot ≡ true
+  ready_at spot here = (facts change law c g s past number (control_at spot) command calls follows shaken here).ready
+
+  -- the word that it finds
+  abbrev got : ControlSpot → ℕ
+  got spot = slice_index s.words (table_index (control_access c (control_at spot)))
+
+  -- a spot outside the image
+  quiet : (spot : ControlSpot) (here : Here spot) → stored_image spot image ≡ None → told_storing c s spot image ≡ []
+      → (Shared c (pauses.open_world c s.words follows.block follows.ghost (after g past)) → IsControl c s.words (pauses.open_world c s.words follows.block follows.ghost (after g past)) (control_number c) (control_at spot)
+      → Owes c s.words (accessed (control_access c (control_at spot)) s.words) (pauses.open_world c s.words follows.block follows.ghost (after g past)) past (control_number c) s.machines
+      (settled_by c (accessed (control_access c (control_at spot)) s.words) (image_read (control_after change law c g s past number (control_at spot) command calls follows shaken here).machine)) []
+      (control_after change law c g s past number (control_at spot) command calls follows shaken here))
+      → ControlGoal spot
+  quiet spot here none told_none owes =
+      let k = control_at spot in
+      let world_open : world_held change law c g s past number k command calls follows shaken here (stored_image spot image) ≡ pauses.open_world c s.words follows.block follows.ghost (after g past) =
+      ap (world_held change law c g s past number k command calls follows shaken here) none in
+      subst (λ es. Follows c g (moved (kind change c) s number (record { machine = controlling k; command = command; calls = calls }) Nothing) (past ++ es)) (sym told_none)
+      (from_owes change law c g s past number k command calls follows shaken here []
+      (subst (λ w. Owes c s.words (accessed (control_access c k) s.words) w past (control_number c) s.machines
+      (settled_by c (accessed (control_access c k) s.words) (image_read (control_after change law c g s past number k command calls follows shaken here).machine)) []
+      (control_after change law c g s past number k command calls follows shaken here)) (sym world_open)
+      (owes (subst (λ w. Shared c w) world_open (shared_held change law c g s past number k command calls follows shaken here))
+      (subst (λ w. IsControl c s.words w (control_number c) k) world_open (control_held change law c g s past number k command calls follows shaken here)))))
+
+  -- the world while no image counts
+  abbrev open_now : World
+  open_now = pauses.open_world c s.words follows.block follows.ghost (after g past)
+
+  -- the word of the image that is loaded
+  abbrev loaded : ℕ → ℕ
+  loaded index = slice_index s.words (image_start c + index)
+
+  -- while it loads the image it rests
+  idle_at : (index : ℕ) → Here (LoadWord index) → IsResting open_now (control_number c)
+  idle_at index here = (control_held change law c g s past number (control_at (LoadWord index)) command calls follows shaken here).facts.0
+
+  -- and the pause is due
+  due_at : (index : ℕ) → Here (LoadWord index) → IsDue c open_now.memory
+  due_at index here = (control_held change law c g s past number (control_at (LoadWord index)) command calls follows shaken here).facts.1
+
+  -- The last word of the image is loaded: the image stands for the graph.
+  pub whole_stands : (index : ℕ) → Here (LoadWord index) → index + 1 ≡ image_words c → IsImageOfSome c (image ++ loaded index ∷ [])
+  whole_stands index here last =
+      let known = facts change law c g s past number (control_at (LoadWord index)) command calls follows shaken here in
+      let read : AreRead c s.words (image ++ loaded index ∷ []) (image_words c) = λ i below. image_grows c s.words image index known.aims.0 known.aims.1 i (omega (arith, below, last)) in
+      ∣ (
+        after g past,
+        asking c s.words follows.block follows.ghost (after g past) past s.machines follows.seats (idle_at index here),
+        image_stands c s.words follows.block follows.ghost (after g past) past s.machines follows.seats (idle_at index here) (image ++ loaded index ∷ []) read
+            (shared_held change law c g s past number (control_at (LoadWord index)) command calls follows shaken here) follows.promised_to follows.no_more
+            (known_held change law c g s past number (control_at (LoadWord index)) command calls follows shaken here)
+            (all_outside change law c g s past number (control_at (LoadWord index)) command calls follows shaken here refl),
+      ) ∣₁
+
+  -- the control after it loaded a word: it loads the next one, or it was the last one
+  abbrev after_word : ℕ → Bool → Actor
+  after_word index more = record {
+    machine = controlling (record {
+      spot = if more then LoadWord (index + 1) else StoreWord 0;
+      seen = if more then seen else seen_after seen (image_view c (change c (image ++ loaded index ∷ [])));
+      phase = if more then phase else image_view c (change c (image ++ loaded index ∷ [])) Phase;
+      cset = if more then cset else image_view c (change c (image ++ loaded index ∷ [])) Cset;
+      image = if more then image ++ loaded index ∷ [] else change c (image ++ loaded index ∷ []);
+    });
+    command = command;
+    calls = calls ++ [];
+  }
+
+  -- what it owes then
+  loaded_owes : (index : ℕ) → Here (LoadWord index) → Shared c open_now → IsControl c s.words open_now (control_number c) (control_at (LoadWord index)) → (more : Bool) → nat_lt (index + 1) (image_words c) ≡ more
+      → Owes c s.words s.words open_now past (control_number c) s.machines (settled_by c s.words (image_read (after_word index more).machine)) [] (after_word index more)
+  loaded_owes index here shared known true more =
+      read_owes c s.words follows.block follows.ghost (after g past) past s.machines command calls
+      (record { spot = LoadWord (index + 1); seen = seen; phase = phase; cset = cset; image = image ++ loaded index ∷ [] }) shared follows.promised_to
+      (record {
+        number_is = refl;
+        ready = more;
+        phase_is = known.phase_is;
+        set_is = known.set_is;
+        facts = known.facts;
+        aims = (length-snoc image (loaded index) ∙ ap (λ n. n + 1) known.aims.0, image_grows c s.words image index known.aims.0 known.aims.1);
+      }) refl
+  loaded_owes index here shared known false all =
+      let less : index + 1 ≡ image_words c = (let last = ltb-false _ _ all in let ready = ltb-true _ _ (ready_at (LoadWord index) here) in omega (arith, last, ready)) in
+      paused_owes c s.words follows.block follows.ghost (after g past) past s.machines follows.seats (idle_at index here) (image ++ loaded index ∷ [])
+      (λ i below. image_grows c s.words image index known.aims.0 known.aims.1 i (omega (arith, below, less))) change law (due_at index here)
+      (length-snoc image (loaded index) ∙ ap (λ n. n + 1) known.aims.0 ∙ less) shared follows.promised_to follows.no_more
+      (known_held change law c g s past number (control_at (LoadWord index)) command calls follows shaken here)
+      (all_outside change law c g s past number (control_at (LoadWord index)) command calls follows shaken here refl)
+      (seen_after seen (image_view c (change c (image ++ loaded index ∷ [])))) command calls
+
+  -- a word of the image that is loaded
+  load_word : (index : ℕ) → Here (LoadWord index) → ControlGoal (LoadWord index)
+  load_word index here =
+      let same_words : accessed (control_access c (control_at (LoadWord index))) s.words ≡ s.words = set-get_or s.words (image_start c + index) 0 in
+      quiet (LoadWord index) here refl refl (λ shared known.
+      subst (λ ws. Owes c s.words ws open_now past (control_number c) s.machines
+      (settled_by c ws (image_read (control_after change law c g s past number (control_at (LoadWord index)) command calls follows shaken here).machine)) []
+      (control_after change law c g s past number (control_at (LoadWord index)) command calls follows shaken here)) (sym same_words)
+      (loaded_owes index here shared known (nat_lt (index + 1) (image_words c)) refl))
+
+  -- a word of the new image that is stored
+  store_word : (index : ℕ) → Here (StoreWord index) → ControlGoal (StoreWord index)
+  store_word index here =
+      let k = control_at (StoreWord index) in
+      let known = facts change law c g s past number k command calls follows shaken here in
+      from_owes change law c g s past number k command calls follows shaken here (told_storing c s (StoreWord index) image)
+      (stored_owes change c s.words follows.block follows.ghost (after g past) past s.machines image index seen phase cset command calls known.ready follows.words known.aims.0 known.aims.1 follows.seats
+      (shared_held change law c g s past number k command calls follows shaken here) follows.promised_to (control_held change law c g s past number k command calls follows shaken here)
+      (known_held change law c g s past number k command calls follows shaken here))
+
+  -- a word that it finds in a unit is fit
+  work_ready : (at : UnitSpot) → Here (Working at) → unit.is_ready c (control_number c) at ≡ true
+  work_ready at here = (and_parts _ _ (ready_at (Working at) here)).0
+
+  work_found : (at : UnitSpot) → Here (Working at) → got (Working at) ≡ view c s.words (units.touch_at c (control_number c) at).word
+  work_found at here = found-placed c s.words (units.touch_at c (control_number c) at) (is_word_from c _ (unit_inside c (control_number c) at (work_ready at here)))
+
+  pub work_fit : (at : UnitSpot) → Here (Working at) → unit.IsFit c (control_number c) at (got (Working at))
+  work_fit at here =
+      let known = control_held change law c g s past number (control_at (Working at)) command calls follows shaken here in
+      subst (λ n. unit.IsFit c (control_number c) at n) (sym (work_found at here))
+      (work_fits c open_now (control_number c) (shared_held change law c g s past number (control_at (Working at)) command calls follows shaken here) at (work_ready at here) known.facts)
+
+  -- a step of a unit
+  work_word : (at : UnitSpot) → Here (Working at) → ControlGoal (Working at)
+  work_word at here = quiet (Working at) here refl refl (λ shared known. subst
+      (λ n. Owes c s.words (words_after c s.words (units.touch_at c (control_number c) at)) open_now past (control_number c) s.machines
+      (settled_by c (words_after c s.words (units.touch_at c (control_number c) at)) (image_read (took_of change c (record { machine = controlling (control_at (Working at)); command = command; calls = calls }) Nothing n (controlling (control_at (Working at)))).machine)) []
+      (took_of change c (record { machine = controlling (control_at (Working at)); command = command; calls = calls }) Nothing n (controlling (control_at (Working at))))) (sym (work_found at here))
+      (pauses.work_unit c s.words follows.block follows.ghost (after g past) past s.machines command calls change seen phase cset image follows.words shared follows.promised_to at known))
+
+  -- wherever it stands
+  pub by_spot : (spot : ControlSpot) → is_gone spot ≡ false → Here spot → ControlGoal spot
+  by_spot LookLeft going here = quiet LookLeft here refl refl (λ shared known.
+      pauses.look_left c s.words follows.block follows.ghost (after g past) past s.machines command calls change seen phase cset image follows.words shared follows.promised_to (got LookLeft) known)
+  by_spot StoreEnd going here = quiet StoreEnd here refl refl (λ shared known.
+      pauses.store_end c s.words follows.block follows.ghost (after g past) past s.machines command calls change seen phase cset image follows.words shared follows.promised_to (got StoreEnd) known)
+  by_spot LookAsked going here = quiet LookAsked here refl refl (λ shared known.
+      pauses.look_asked c s.words follows.block follows.ghost (after g past) past s.machines command calls change seen phase cset image follows.words shared follows.promised_to (got LookAsked) (found-placed c s.words (touch Ask loads) refl) known)
+  by_spot LookFree going here = quiet LookFree here refl refl (λ shared known.
+      pauses.look_free c s.words follows.block follows.ghost (after g past) past s.machines command calls change seen phase cset image follows.words shared follows.promised_to (got LookFree) known)
+  by_spot (Working at) going here = work_word at here
+  by_spot (Stopping stop.Raise) going here = quiet (Stopping stop.Raise) here refl refl (λ shared known.
+      pauses.raise_pause c s.words follows.block follows.ghost (after g past) past s.machines command calls change seen phase cset image follows.words shared follows.promised_to (got (Stopping stop.Raise)) known)
+  by_spot (Stopping (stop.Check seat)) going here = quiet (Stopping (stop.Check seat)) here refl refl (λ shared known.
+      pauses.check_seat c s.words follows.block follows.ghost (after g past) past s.machines command calls change seen phase cset image follows.words shared follows.promised_to seat (got (Stopping (stop.Check seat))) known)
+  by_spot (Stopping stop.Stopped) going here = absurd (let ready = ready_at (Stopping stop.Stopped) here in cc (ready))
+  by_spot (LoadWord index) going here = load_word index here
+  by_spot (StoreWord index) going here = store_word index here
+  by_spot Go going here = quiet Go here refl refl (λ shared known.
+      pauses.let_go c s.words follows.block follows.ghost (after g past) past s.machines command calls change seen phase cset image follows.words shared follows.promised_to (got Go) known)
+  by_spot Gone going here = absurd (cc (going))

@@ -1,0 +1,42 @@
+-- The step by which the control has loaded a word of the image, and not the last one.
+use Rattle.std.proofs.Common.{◌≡◌, ℕ, ◌+◌, inl, List, [], ◌++◌, None, refl, sym, ap}
+use Rattle.std.proofs.lemmas.List.{append-nil}
+use Rattle.std.proofs.lemmas.List.Elements.{All-nil}
+use Rattle.heap_words.specs.declared.config.Config.{Config}
+use Rattle.shen_graph.specs.declared.command.Command.{Command}
+use Rattle.shen_graph.specs.Graph.{Graph}
+use Rattle.shen_graph.specs.History.{Entry, of_thread}
+use Rattle.heap_world.specs.World.{Ghost, Plot, Shared}
+use Rattle.heap_world.proofs.Keeping.{rely_same}
+use Rattle.control_rows.specs.Rows.{Controlling}
+use Rattle.step_core.specs.Actor.{controlling, Actor}
+use Rattle.step_core.specs.Settled.{stored_image, settled_by, control_number}
+use Rattle.step_core.specs.Threads.{IsSettled}
+use Rattle.step_core.proofs.Machines.Owed.{IsControl, PromisedToMutators, Owes}
+use Rattle.step_core.proofs.Control.Pauses.{open_world, no_other_control}
+use Rattle.step_core.proofs.Machines.Roles.{machine_stays}
+
+-- nothing changes but what the control has read
+pub read_owes : (c : Config) (words : List ℕ) (block : Plot) (ghost : Ghost) (g : Graph) (past : List Entry) (machines : List Actor) (command : Command) (calls : List Entry) (next : Controlling)
+    → Shared c (open_world c words block ghost g) → PromisedToMutators c block → IsControl c words (open_world c words block ghost g) (control_number c) next → stored_image next.spot next.image ≡ None
+    → Owes c words words (open_world c words block ghost g) past (control_number c) machines (settled_by c words (stored_image next.spot next.image)) []
+    (record { machine = controlling next; command = command; calls = calls ++ [] })
+read_owes c words block ghost g past machines command calls next shared promised_to stands none = record {
+  world = open_world c words block ghost g;
+  memory_is = ap (settled_by c words) (sym none);
+  graph_is = refl;
+  legal = tt;
+  entries = All-nil (IsSettled c.mutators);
+  shared = shared;
+  promised_to = promised_to;
+  own = stands;
+  others = λ k b differs there known.
+      machine_stays c words words (open_world c words block ghost g) (open_world c words block ghost g) (of_thread past (k + 1)) (of_thread (past ++ []) (k + 1)) k b b.machine shared
+      (record {
+        rely = rely_same c k (open_world c words block ghost g);
+        answer = refl;
+        counts = inl refl;
+        aims = λ control same. absurd (no_other_control c words (open_world c words block ghost g) (of_thread past (k + 1)) k b b.machine differs known control same);
+      })
+      (ap (λ es. of_thread es (k + 1)) (append-nil past)) known;
+}

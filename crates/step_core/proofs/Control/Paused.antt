@@ -1,0 +1,465 @@
+-- The step by which the control has read the last word of an image: the new image counts from here on, all at once, and each machine
+-- is where it should be in it.
+use Rattle.std.proofs.Common.{◌≡◌, ◌≢◌, ℕ, ◌+◌, ◌<◌, ◌≤◌, inl, inr, ⊎_elim, true, false, List, [], ◌++◌, length, Option, Some, None, refl, sym, ap, ◌∙◌, subst, arith}
+use Rattle.std.specs.Prelude.{◌*◌, ◌-◌, ◌==◌, sum_by, slice_get, if◌then◌else◌}
+use Rattle.std.proofs.lemmas.Bool.{false≢true, lt-ltb}
+use Rattle.std.proofs.lemmas.List.{append-nil}
+use Rattle.std.proofs.lemmas.List.Elements.{All-nil}
+use Rattle.heap_words.specs.declared.config.Config.{Config}
+use Rattle.heap_words.specs.Ranges.{seat_count}
+use Rattle.std.specs.Int.{bit_at}
+use Rattle.heap_words.specs.Words.{Phase, Cset, Evac, Ask, Root, Answer, view}
+use Rattle.packing.specs.Tops.{sum_below}
+use Rattle.packing.proofs.Sums.{sum_same}
+use Rattle.shen_graph.specs.declared.command.Command.{Command}
+use Rattle.shen_graph.specs.declared.command.Reply.{Reply}
+use Rattle.shen_graph.specs.Crowd.{words_asked}
+use Rattle.shen_graph.specs.Graph.{Graph, named}
+use Rattle.shen_graph.specs.Reach.{size}
+use Rattle.shen_graph.specs.History.{Entry, of_thread}
+use Rattle.handshake.specs.declared.enter_spot.EnterSpot.{EnterSpot}
+use Rattle.handshake.specs.Standing.{is_within}
+use Rattle.mutator.specs.declared.spot.Kept.{Kept}
+use Rattle.mutator.specs.declared.spot.Spot.{Spot}
+use Rattle.mutator.specs.declared.spot.Spot.TheVariants.{Rest, Ended, Entering, Waiting, Gone}
+use Rattle.mutator.specs.declared.spot.Entered.TheVariants.{Call, Waited}
+use Rattle.mutator.specs.declared.waits.WaitSpot.TheVariants as wait
+use Rattle.mutator.specs.Commands.{dst_of, refs_of, nums_of}
+use Rattle.mutator.specs.Orders.{is_waiting}
+use Rattle.mutator.specs.Rows.{Mutating}
+use Rattle.heap_world.specs.World.{Ghost, World, Plot, hand, Points, IsUsable, UsableIn, Shared}
+use Rattle.heap_world.specs.Asking.{Asking, nothing, asks, refused, given, IsAsked}
+use Rattle.heap_world.specs.Change.{Change, Answers, IsDue, IsPause, IsPaused, image_view, image_words, words_given}
+use Rattle.heap_world.specs.Represents.{NobodyMarks, NobodyCopies, Represents}
+use Rattle.heap_world.specs.Roots.{HasNoMore}
+use Rattle.control_rows.specs.declared.spot.ControlSpot.TheVariants.{StoreWord}
+use Rattle.step_core.specs.Actor.{Machine, mutating, controlling, Actor}
+use Rattle.step_core.specs.Settled.{mixed, settled_by, control_number}
+use Rattle.step_core.specs.Own.{root_now}
+use Rattle.step_core.specs.Standing.{standing_at}
+use Rattle.step_core.specs.Machines.{standing_of}
+use Rattle.step_core.proofs.Machines.Stepped.{recording_of, has_phase, has_set, copies_at, HasMarkingBy, HasCopyingBy, IsMaking, IsPolling, IsAnswered, SpotFacts, Mine}
+use Rattle.step_core.specs.Threads.{IsSettled}
+use Rattle.step_core.proofs.Machines.Owed.{IsSeen, IsShort, AreRead, IsThread, IsResting, IsMachine, PromisedToMutators, Owes, words_promised}
+use Rattle.step_core.proofs.Control.Asked.{asking_by, asking_asks, asking_refused, asking_given, asking_at, asking_in, asking_of, asked_same, polling_asked, answered_asked, nothing_then, refused_then, given_then, asks_then, promised_given}
+use Rattle.step_core.proofs.Control.Images.{mixed_whole}
+use Rattle.step_core.proofs.Control.Pauses.{open_world}
+use Rattle.step_core.proofs.History.Replies.{answered_polls}
+use Rattle.step_core.proofs.Machines.Roles.{full_settled, machine_there, mutator_there, unmarking_by, uncopying_by, rests_by, rests_there, outside_goes_on}
+use Rattle.step_core.proofs.Mutators.Within.{records_outside, copies_outside}
+use Rattle.step_core.proofs.Mutators.Spots.{mutator_at}
+
+-- an image has words
+some_words : (c : Config) → 0 < image_words c
+some_words c = omega arith
+
+-- a mutator that is not in the heap has no root's new value in hand
+root_outside : (w : World) (seat : ℕ) (kept : Kept) (spot : Spot) (i : ℕ) → is_within (standing_at spot) ≡ false → root_now w seat kept spot i ≡ w.memory (Root seat i)
+root_outside w seat kept Rest i out = refl
+root_outside w seat kept (Ended reply) i out = refl
+root_outside w seat kept (Entering at then_on) i out = refl
+root_outside w seat kept (Waiting at) i out = refl
+root_outside w seat kept Gone i out = refl
+root_outside w seat kept _ i out = cc
+
+-- its call has not loaded the phase, or knows it no more
+phase_outside : (spot : Spot) → is_within (standing_at spot) ≡ false → has_phase spot ≡ false
+phase_outside Rest out = refl
+phase_outside (Ended reply) out = refl
+phase_outside (Entering at then_on) out = refl
+phase_outside (Waiting at) out = refl
+phase_outside Gone out = refl
+phase_outside _ out = absurd (cc (out))
+
+-- so where nobody marks, what it counts on of marking holds
+marking_outside : (c : Config) (w : World) (seat loaded : ℕ) (spot : Spot) → is_within (standing_at spot) ≡ false → NobodyMarks c w.ghost → seat < c.mutators → HasMarkingBy w seat (recording_of spot) loaded (has_phase spot)
+marking_outside c w seat loaded spot out unmarking below =
+    subst (λ in_hand. HasMarkingBy w seat in_hand loaded (has_phase spot)) (sym (records_outside spot out))
+    (subst (λ knows. HasMarkingBy w seat None loaded knows) (sym (phase_outside spot out)) (unmarking_by c w seat loaded unmarking below))
+
+-- nor the collection set
+set_outside : (spot : Spot) → is_within (standing_at spot) ≡ false → has_set spot ≡ false
+set_outside Rest out = refl
+set_outside (Ended reply) out = refl
+set_outside (Entering at then_on) out = refl
+set_outside (Waiting at) out = refl
+set_outside Gone out = refl
+set_outside _ out = absurd (cc (out))
+
+-- so where nobody copies, what it counts on of evacuation holds
+copying_outside : (c : Config) (w : World) (seat loaded : ℕ) (spot : Spot) → is_within (standing_at spot) ≡ false → NobodyCopies c w.ghost → seat < c.mutators → HasCopyingBy w seat (copies_at spot) loaded (has_set spot)
+copying_outside c w seat loaded spot out uncopying below =
+    subst (λ copies. HasCopyingBy w seat copies loaded (has_set spot)) (sym (copies_outside spot out))
+    (subst (λ knows. HasCopyingBy w seat false loaded knows) (sym (set_outside spot out)) (uncopying_by c w seat loaded uncopying below))
+
+-- what it has asked for stands in the words
+pub asked_outside : (c : Config) (w : World) (seat made : ℕ) (kept : Kept) (spot : Spot) (command : Command) (fixed : Option Reply) → is_within (standing_at spot) ≡ false
+    → Mine c w (mutator_at seat made kept spot) command fixed → IsAsked w.memory w.block w.graph.count seat (asking_at spot (w.memory (Answer seat)) kept.command)
+asked_outside c w seat made kept Rest command fixed out mine = mine.seated.unasked refl
+asked_outside c w seat made kept (Ended reply) command fixed out mine = mine.seated.unasked refl
+asked_outside c w seat made kept Gone command fixed out mine = mine.seated.unasked refl
+asked_outside c w seat made kept (Entering at Call) command fixed out mine = mine.seated.unasked refl
+asked_outside c w seat made kept (Entering at Waited) command fixed out mine = answered_asked w seat made kept.command command fixed mine.facts
+asked_outside c w seat made kept (Waiting wait.Poll) command fixed out mine = polling_asked w seat made kept.command command fixed mine.facts
+asked_outside c w seat made kept (Waiting wait.StoreRequest) command fixed out mine = cc
+asked_outside c w seat made kept (Waiting wait.AskRoom) command fixed out mine = cc
+asked_outside c w seat made kept (Waiting wait.StepOut) command fixed out mine = cc
+asked_outside c w seat made kept (Waiting wait.LoadAnswer) command fixed out mine = cc
+asked_outside c w seat made kept (Waiting (wait.StoreRoot address)) command fixed out mine = cc
+asked_outside c w seat made kept (Waiting (wait.ClearAnswer reply)) command fixed out mine = cc
+asked_outside c w seat made kept _ command fixed out mine = cc
+
+-- who asks has said so: the word of what is asked has its bit
+heard_polling : (w : World) (seat made refs nums : ℕ) (k command : Command) (fixed : Option Reply) → IsPolling w seat made k command fixed → asking_by (w.memory (Answer seat)) k ≡ asks refs nums → bit_at (w.memory Ask) 1 ≡ 1
+heard_polling w seat made refs nums k command fixed (inl waits) is = waits.1
+heard_polling w seat made refs nums k command fixed (inr (inl has)) is = absurd (let other = sym (asking_given _ k has.1.1) ∙ is in cc (other))
+heard_polling w seat made refs nums k command fixed (inr (inr refused_so)) is = absurd (let other = sym (asking_refused _ k refused_so.1.1) ∙ is in cc (other))
+
+heard_outside : (c : Config) (w : World) (seat made refs nums : ℕ) (kept : Kept) (spot : Spot) (command : Command) (fixed : Option Reply) → is_within (standing_at spot) ≡ false
+    → Mine c w (mutator_at seat made kept spot) command fixed → asking_at spot (w.memory (Answer seat)) kept.command ≡ asks refs nums → bit_at (w.memory Ask) 1 ≡ 1
+heard_outside c w seat made refs nums kept (Entering at Waited) command fixed out mine is =
+    heard_polling w seat made refs nums kept.command command fixed (answered_polls w seat made kept.command command fixed mine.facts) is
+heard_outside c w seat made refs nums kept (Waiting wait.Poll) command fixed out mine is = heard_polling w seat made refs nums kept.command command fixed mine.facts is
+heard_outside c w seat made refs nums kept (Waiting at) command fixed out mine is = absurd (cc (out))
+heard_outside c w seat made refs nums kept _ command fixed out mine is = absurd (cc (is))
+
+-- an answer is one of three: none, full, or an address
+none_is_not_full : (n : ℕ) → n ≡ 0 → n ≡ 1 → ⊥
+none_is_not_full n none full = omega arith
+
+none_is_not_given : (n : ℕ) → n ≡ 0 → 1 < n → ⊥
+none_is_not_given n none more = omega arith
+
+full_is_not_given : (n : ℕ) → n ≡ 1 → 1 < n → ⊥
+full_is_not_given n full more = omega arith
+
+-- a mutator is not the control
+mutator_is_not_control : (c : Config) (t : ℕ) → t < c.mutators → t ≢ control_number c
+mutator_is_not_control c t below is = omega arith
+
+-- The mutators in a new image: it stands for the same graph, nobody marks or copies in it, and it answers who asks.
+module _ (c : Config) (words : List ℕ) (u w : World) (t made : ℕ) (kept : Kept) (b : Actor) (x : Asking)
+    (asked : IsAsked w.memory w.block w.graph.count t x) (graph : w.graph ≡ u.graph)
+    (roots : (i : ℕ) → i < 16 → Points w.block (w.memory (Root t i)) (w.graph.root (t + 1) i)) (none : (a more : ℕ) → w.block a ≡ Some (hand t more) → ⊥) (unmarking : NobodyMarks c w.ghost)
+    (uncopying : NobodyCopies c w.ghost) (usable : (i : ℕ) → i < 16 → UsableIn c w (w.memory (Root t i))) where
+  -- what it counts on then, where it is outside
+  mine_outside : (spot : Spot) (fixed : Option Reply) → is_within (standing_at spot) ≡ false → Mine c u (mutator_at t made kept spot) b.command fixed
+      → (is_waiting spot ≡ false → IsAsked w.memory w.block w.graph.count t nothing) → SpotFacts c w t made kept b.command fixed spot → Mine c w (mutator_at t made kept spot) b.command fixed
+  mine_outside spot fixed out mine unasked facts = record {
+    seated = record {
+      below = mine.seated.below;
+      counted = ap (λ g. g.count (t + 1)) graph ∙ mine.seated.counted;
+      usable = usable;
+      unasked = unasked;
+    };
+    ready = mine.ready;
+    marking = marking_outside c w t kept.phase spot out unmarking mine.seated.below;
+    copying = copying_outside c w t kept.cset spot out uncopying mine.seated.below;
+    roots = λ i small. subst (λ word. Points w.block word (w.graph.root (t + 1) i)) (sym (root_outside w t kept spot i out)) (roots i small);
+    hands = λ a more is. absurd (none a more is);
+    facts = facts;
+  }
+
+  -- What holds of it then. The answer that it had was that of the table, and if it is refused now, the heap is crowded.
+  module _ (entries : List Entry) (whole : view c words (Answer t) ≡ u.memory (Answer t)) where
+    abbrev IsCrowdedOut : Asking → Type 0
+    IsCrowdedOut before = (refs nums : ℕ) → before ≡ asks refs nums → x ≡ refused → IsShort c w.memory w.graph t (3 + refs + nums)
+
+    abbrev Thread : World → Spot → Type 0
+    Thread v spot = IsThread c words v entries t b (mutator_at t made kept spot)
+
+    -- where it does not wait
+    quiet_then : (spot : Spot) → is_within (standing_at spot) ≡ false → is_waiting spot ≡ false → Answers nothing x → (old : Thread u spot) → SpotFacts c w t made kept b.command old.fixed spot → Thread w spot
+    quiet_then spot out quiet answers old facts =
+        let now : IsAsked w.memory w.block w.graph.count t nothing = nothing_then w.memory w.block w.graph.count t x answers asked in
+        let answer : w.memory (Answer t) ≡ 0 = now.1 in
+        record {
+          fixed = old.fixed;
+          number_is = refl;
+          valid = old.valid;
+          mine = mine_outside spot old.fixed out old.mine (λ e. now) facts;
+          seen = record {
+            null = λ e. whole ∙ (old.mine.seated.unasked quiet).1;
+            full = λ e. absurd (none_is_not_full _ answer e);
+            given = λ e. absurd (none_is_not_given _ answer e);
+          };
+          short = λ e unsettled. absurd (none_is_not_full _ answer e);
+          entries_are = old.entries_are;
+        }
+
+    -- where it waits, and its answer is an address then
+    given_now : (spot : Spot) → is_within (standing_at spot) ≡ false → is_waiting spot ≡ true → view c words (Answer t) ≢ 1 → 1 < w.memory (Answer t) → (old : Thread u spot) → SpotFacts c w t made kept b.command old.fixed spot
+        → Thread w spot
+    given_now spot out waits other more old facts = record {
+      fixed = old.fixed;
+      number_is = refl;
+      valid = old.valid;
+      mine = mine_outside spot old.fixed out old.mine (λ e. absurd (false≢true (sym e ∙ waits))) facts;
+      seen = record { null = λ e. absurd (none_is_not_given _ e more); full = λ e. absurd (full_is_not_given _ e more); given = λ e. other };
+      short = λ e unsettled. absurd (full_is_not_given _ e more);
+      entries_are = old.entries_are;
+    }
+
+    -- where it waits, and was refused before
+    refused_now : (spot : Spot) → is_within (standing_at spot) ≡ false → is_waiting spot ≡ true → u.memory (Answer t) ≡ 1 → w.memory (Answer t) ≡ 1 → (old : Thread u spot) → SpotFacts c w t made kept b.command old.fixed spot
+        → Thread w spot
+    refused_now spot out waits before now old facts = record {
+      fixed = old.fixed;
+      number_is = refl;
+      valid = old.valid;
+      mine = mine_outside spot old.fixed out old.mine (λ e. absurd (false≢true (sym e ∙ waits))) facts;
+      seen = subst (λ n. IsSeen (view c words (Answer t)) n old.fixed) (before ∙ sym now) old.seen;
+      short = λ e unsettled. absurd (full_settled _ _ old.fixed old.seen whole before unsettled);
+      entries_are = old.entries_are;
+    }
+
+    -- where it waits, and is refused now
+    refused_first : IsCrowdedOut (asking_by (u.memory (Answer t)) kept.command) → u.memory (Answer t) ≡ 0 → IsAsked w.memory w.block w.graph.count t refused → x ≡ refused → (old : Thread u (Waiting wait.Poll))
+        → IsMaking made b.command old.fixed (dst_of kept.command) (refs_of kept.command) (nums_of kept.command) → Thread w (Waiting wait.Poll)
+    refused_first short before now is old making = record {
+      fixed = old.fixed;
+      number_is = refl;
+      valid = old.valid;
+      mine = mine_outside (Waiting wait.Poll) old.fixed refl old.mine (λ e. absurd (false≢true (sym e))) (inr (inr (record { dst = dst_of kept.command; refs = refs_of kept.command; nums = nums_of kept.command; is = making.is; settled = inl making.unsettled }, now)));
+      seen = record {
+        null = λ e. absurd (none_is_not_full _ e now.1);
+        full = λ e. inr (whole ∙ before, making.unsettled);
+        given = λ e. absurd (full_is_not_given _ now.1 e);
+      };
+      short = λ e unsettled.
+          subst (λ k. IsShort c w.memory w.graph t (words_asked (Some k))) (sym making.is)
+          (short (refs_of kept.command) (nums_of kept.command) (asking_asks _ kept.command before) is);
+      entries_are = old.entries_are;
+    }
+
+    -- where it polls
+    poll_then : IsCrowdedOut (asking_by (u.memory (Answer t)) kept.command) → Answers (asking_by (u.memory (Answer t)) kept.command) x → (old : Thread u (Waiting wait.Poll)) → IsPolling u t made kept.command b.command old.fixed → Thread w (Waiting wait.Poll)
+    poll_then short answers old (inl waits) = ⊎_elim
+        (λ (none_left : IsAsked w.memory w.block w.graph.count t refused × (x ≡ refused)). refused_first short waits.0.1.1 none_left.0 none_left.1 old waits.0.0)
+        (λ (has : IsAsked w.memory w.block w.graph.count t (given (refs_of kept.command) (nums_of kept.command))).
+        given_now (Waiting wait.Poll) refl refl (λ e. none_is_not_full _ waits.0.1.1 (sym whole ∙ e)) has.1 old (inr (inl (waits.0.0, has))))
+        (asks_then w.memory w.block w.graph.count t (refs_of kept.command) (nums_of kept.command) x (subst (λ y. Answers y x) (asking_asks _ kept.command waits.0.1.1) answers) asked)
+    poll_then short answers old (inr (inl has)) =
+        let still = given_then w.memory w.block w.graph.count t (refs_of kept.command) (nums_of kept.command) x (subst (λ y. Answers y x) (asking_given _ kept.command has.1.1) answers) asked in
+        given_now (Waiting wait.Poll) refl refl (λ e. full_is_not_given _ (sym whole ∙ e) has.1.1) still.1 old (inr (inl (has.0, still)))
+    poll_then short answers old (inr (inr is)) =
+        let still = refused_then w.memory w.block w.graph.count t x (subst (λ y. Answers y x) (asking_refused _ kept.command is.1.1) answers) asked in
+        refused_now (Waiting wait.Poll) refl refl is.1.1 still.1 old (inr (inr (is.0, still)))
+
+    -- where it enters again with its answer
+    enter_then : (at : EnterSpot) → is_within (standing_at (Entering at Waited)) ≡ false → Answers (asking_by (u.memory (Answer t)) kept.command) x → (old : Thread u (Entering at Waited))
+        → IsAnswered u t made kept.command b.command old.fixed → Thread w (Entering at Waited)
+    enter_then at out answers old (inl has) =
+        let still = given_then w.memory w.block w.graph.count t (refs_of kept.command) (nums_of kept.command) x (subst (λ y. Answers y x) (asking_given _ kept.command has.1.1) answers) asked in
+        given_now (Entering at Waited) out refl (λ e. full_is_not_given _ (sym whole ∙ e) has.1.1) still.1 old (inl (has.0, still))
+    enter_then at out answers old (inr is) =
+        let still = refused_then w.memory w.block w.graph.count t x (subst (λ y. Answers y x) (asking_refused _ kept.command is.1.1) answers) asked in
+        refused_now (Entering at Waited) out refl is.1.1 still.1 old (inr (is.0, still))
+
+    -- wherever it is outside
+    pub thread_then : (spot : Spot) → is_within (standing_at spot) ≡ false → IsCrowdedOut (asking_at spot (u.memory (Answer t)) kept.command) → Answers (asking_at spot (u.memory (Answer t)) kept.command) x → Thread u spot → Thread w spot
+    thread_then Rest out short answers old = quiet_then Rest out refl answers old old.mine.facts
+    thread_then (Ended reply) out short answers old = quiet_then (Ended reply) out refl answers old old.mine.facts
+    thread_then Gone out short answers old = quiet_then Gone out refl answers old old.mine.facts
+    thread_then (Entering at Call) out short answers old = quiet_then (Entering at Call) out refl answers old old.mine.facts
+    thread_then (Entering at Waited) out short answers old = enter_then at out answers old old.mine.facts
+    thread_then (Waiting wait.Poll) out short answers old = poll_then short answers old old.mine.facts
+    thread_then (Waiting wait.StoreRequest) out short answers old = cc
+    thread_then (Waiting wait.AskRoom) out short answers old = cc
+    thread_then (Waiting wait.StepOut) out short answers old = cc
+    thread_then (Waiting wait.LoadAnswer) out short answers old = cc
+    thread_then (Waiting (wait.StoreRoot address)) out short answers old = cc
+    thread_then (Waiting (wait.ClearAnswer reply)) out short answers old = cc
+    thread_then _ out short answers old = cc
+
+-- A stage in which the control rests, and every machine but it is outside.
+module _ (c : Config) (words : List ℕ) (block : Plot) (ghost : Ghost) (g : Graph) (past : List Entry) (machines : List Actor) (seats : length machines ≡ seat_count c.mutators c.helpers)
+    (still : IsResting (open_world c words block ghost g) (control_number c)) where
+  abbrev before : World
+  before = open_world c words block ghost g
+
+  -- what each machine has asked for
+  abbrev pub asking : ℕ → Asking
+  asking t = asking_of (slice_get machines t) (view c words (Answer t))
+
+  -- what holds of the machines
+  abbrev pub AllKnown : Type 0
+  AllKnown = (k : ℕ) (b : Actor) → slice_get machines k ≡ Some b → IsMachine c words before (of_thread past (k + 1)) k b b.machine
+
+  -- no machine but the control is in the heap
+  abbrev pub AllOutside : Type 0
+  AllOutside = (k : ℕ) (b : Actor) → slice_get machines k ≡ Some b → k ≢ control_number c → is_within (standing_of b.machine) ≡ false
+
+  -- a mutator is not
+  mutator_out : AllOutside → (t : ℕ) (b : Actor) (m : Mutating) → t < c.mutators → slice_get machines t ≡ Some b → b.machine ≡ mutating m → is_within (standing_at m.spot) ≡ false
+  mutator_out outside t b m below there is = ap (λ machine. is_within (standing_of machine)) (sym is) ∙ outside t b there (mutator_is_not_control c t below)
+
+  -- and has asked for what its spot says
+  pub mutator_asks : (t : ℕ) (b : Actor) (m : Mutating) → slice_get machines t ≡ Some b → b.machine ≡ mutating m → asking t ≡ asking_at m.spot (view c words (Answer t)) m.kept.command
+  mutator_asks t b m there is = ap (λ o. asking_of o (view c words (Answer t))) there ∙ ap (λ machine. asking_in machine (view c words (Answer t))) is
+
+  -- every machine rests
+  all_rest : AllKnown → AllOutside → (seat : ℕ) → seat < seat_count c.mutators c.helpers → IsResting before seat
+  all_rest known outside seat below =
+      let there = machine_there c words before past machines seats seat below in
+      rests_there c words before (of_thread past (seat + 1)) seat there.0 there.0.machine (outside seat there.0 there.1) (λ e. subst (IsResting before) (sym e) still) (known seat there.0 there.1)
+
+  -- nobody has room in hand
+  pub no_hands : Shared c before → AllKnown → AllOutside → (a seat more : ℕ) → block a ≡ Some (hand seat more) → ⊥
+  no_hands shared known outside a seat more here = (all_rest known outside seat (shared.owned.rooms a seat more here).seated).hands a more here
+
+  -- what it has asked for stands in the words
+  asked_there : AllKnown → AllOutside → (t : ℕ) → t < c.mutators → IsAsked (view c words) block g.count t (asking t)
+  asked_there known outside t below =
+      let there = mutator_there c words before past machines seats known t below in
+      let m = there.1 in
+      let thread = there.4 in
+      let out = mutator_out outside t there.0 m below there.2 there.3 in
+      subst (λ y. IsAsked (view c words) block g.count t y) (sym (mutator_asks t there.0 m there.2 there.3))
+      (subst (λ j. IsAsked (view c words) block g.count j (asking_at m.spot (view c words (Answer j)) m.kept.command)) thread.number_is
+      (asked_outside c before m.seat m.made m.kept m.spot there.0.command thread.fixed out thread.mine))
+
+  -- and who asks has said so
+  heard_there : AllKnown → AllOutside → (t refs nums : ℕ) → t < c.mutators → asking t ≡ asks refs nums → bit_at (view c words Ask) 1 ≡ 1
+  heard_there known outside t refs nums below is =
+      let there = mutator_there c words before past machines seats known t below in
+      let m = there.1 in
+      let thread = there.4 in
+      let out = mutator_out outside t there.0 m below there.2 there.3 in
+      let asks_so : asking_at m.spot (view c words (Answer m.seat)) m.kept.command ≡ asks refs nums =
+      ap (λ j. asking_at m.spot (view c words (Answer j)) m.kept.command) thread.number_is ∙ sym (mutator_asks t there.0 m there.2 there.3) ∙ is in
+      heard_outside c before m.seat m.made refs nums m.kept m.spot there.0.command thread.fixed out thread.mine asks_so
+
+  nobody_marks : AllKnown → AllOutside → NobodyMarks c ghost
+  nobody_marks known outside = record {
+    records_none = λ seat below. (all_rest known outside seat below).records_none;
+    scans_none = λ seat below. (all_rest known outside seat below).scans_none;
+  }
+
+  nobody_copies : AllKnown → AllOutside → NobodyCopies c ghost
+  nobody_copies known outside = record {
+    copies_none = λ seat below. (all_rest known outside seat below).copies_none;
+    works_none = λ seat below. (all_rest known outside seat below).works_none;
+  }
+
+  -- The words of the table stand for the graph.
+  pub words_stand : Shared c before → PromisedToMutators c block → HasNoMore c.mutators g → AllKnown → AllOutside → Represents c (view c words) g asking
+  words_stand shared promised_to no_more known outside = record {
+    block = block;
+    ghost = ghost;
+    shared = shared;
+    roots = λ t i below small.
+        let there = mutator_there c words before past machines seats known t below in
+        let m = there.1 in
+        let thread = there.4 in
+        let out = mutator_out outside t there.0 m below there.2 there.3 in
+        subst (λ j. Points block (view c words (Root j i)) (g.root (j + 1) i)) thread.number_is
+        (subst (λ word. Points block word (g.root (m.seat + 1) i)) (root_outside before m.seat m.kept m.spot i out) (thread.mine.roots i small));
+    usable = λ t i below small.
+        let there = mutator_there c words before past machines seats known t below in
+        let thread = there.4 in
+        subst (λ j. IsUsable c (view c words Cset) (view c words Evac) block (view c words (Root j i))) thread.number_is (thread.mine.seated.usable i small);
+    none = no_hands shared known outside;
+    asked = asked_there known outside;
+    heard = heard_there known outside;
+    promised_to = promised_to;
+    unmarking = nobody_marks known outside;
+    uncopying = nobody_copies known outside;
+    no_more = no_more;
+  }
+
+  -- An image that was read.
+  module _ (image : List ℕ) (read : AreRead c words image (image_words c)) where
+    -- It stands for the graph.
+    pub image_stands : Shared c before → PromisedToMutators c block → HasNoMore c.mutators g → AllKnown → AllOutside → Represents c (image_view c image) g asking
+    image_stands shared promised_to no_more known outside =
+        let whole : view c words ≡ mixed c words image = sym (mixed_whole c words image read) in
+        let stands = words_stand shared promised_to no_more known outside in
+        record {
+          block = stands.block;
+          ghost = stands.ghost;
+          shared = subst (λ memory. Shared c (record { memory = memory; block = stands.block; ghost = stands.ghost; graph = g })) whole stands.shared;
+          roots = λ t i below small. subst (λ memory. Points stands.block (memory (Root t i)) (g.root (t + 1) i)) whole (stands.roots t i below small);
+          usable = λ t i below small. subst (λ memory. IsUsable c (memory Cset) (memory Evac) stands.block (memory (Root t i))) whole (stands.usable t i below small);
+          none = stands.none;
+          asked = λ t below. asked_same (mixed c words image) (image_view c image) stands.block g.count t (asking t) refl refl (λ a. refl) (subst (λ memory. IsAsked memory stands.block g.count t (asking t)) whole (stands.asked t below));
+          heard = λ t refs nums below is. subst (λ memory. bit_at (memory Ask) 1 ≡ 1) whole (stands.heard t refs nums below is);
+          promised_to = stands.promised_to;
+          unmarking = stands.unmarking;
+          uncopying = stands.uncopying;
+          no_more = no_more;
+        }
+
+    -- The new image counts: what the step owes.
+    module _ (change : Change) (law : IsPause change) (due : IsDue c (view c words)) (long : length image ≡ image_words c) (shared : Shared c before) (promised_to : PromisedToMutators c block) (no_more : HasNoMore c.mutators g)
+        (known : AllKnown) (outside : AllOutside) where
+      -- the pause is due by the image
+      image_due : IsDue c (image_view c image)
+      image_due = subst (λ memory. IsDue c memory) (sym (mixed_whole c words image read)) due
+
+      paused : IsPaused c (image_view c image) (image_view c (change c image)) g asking
+      paused = law.pauses c image g asking long (image_stands shared promised_to no_more known outside) image_due
+
+      -- the world then
+      abbrev then_world : World
+      then_world = record { memory = mixed c words (change c image); block = paused.stands.block; ghost = paused.stands.ghost; graph = g }
+
+      -- what each mutator has asked for stands in its words
+      asked_in_it : (t : ℕ) → t < c.mutators → IsAsked then_world.memory paused.stands.block g.count t (paused.asked_then t)
+      asked_in_it t below =
+          asked_same (image_view c (change c image)) then_world.memory paused.stands.block g.count t (paused.asked_then t) refl refl (λ a. refl) (paused.stands.asked t below)
+
+      -- the words that are promised then
+      promised_sum : (t : ℕ) → sum_below (λ v. if v == t then 0 else words_given (paused.asked_then v)) c.mutators ≡ sum_below (λ v. if v == t then 0 else words_promised then_world.memory v) c.mutators
+      promised_sum t = sum_same _ _ c.mutators (λ v below.
+          ap (λ n. if v == t then 0 else n) (sym (promised_given then_world.memory paused.stands.block g.count v (paused.asked_then v) (asked_in_it v below))))
+
+      -- who is refused is crowded out
+      crowded_then : (t : ℕ) → t < c.mutators → (refs nums : ℕ) → asking t ≡ asks refs nums → paused.asked_then t ≡ refused → IsShort c then_world.memory g t (3 + refs + nums)
+      crowded_then t below refs nums asks_so is =
+          let crowd = paused.crowded t refs nums below asks_so is in
+          (crowd.0, crowd.1, subst (λ n. c.regions * (c.region_words - (3 + refs + nums) + 1) ≤ sum_by (λ n. size (named g (Some n))) crowd.0 + n) (promised_sum t) crowd.2)
+
+      -- a mutator
+      mutator_then : (k : ℕ) (b : Actor) (m : Mutating) → slice_get machines k ≡ Some b → b.machine ≡ mutating m → is_within (standing_at m.spot) ≡ false
+          → IsThread c words before (of_thread past (k + 1)) k b m → IsThread c words then_world (of_thread past (k + 1)) k b m
+      mutator_then k b m there is out thread =
+          let below : k < c.mutators = subst (λ j. j < c.mutators) thread.number_is thread.mine.seated.below in
+          let asks_so = mutator_asks k b m there is in
+          subst (λ j. IsThread c words then_world (of_thread past (k + 1)) k b (mutator_at j m.made m.kept m.spot)) (sym thread.number_is)
+          (thread_then c words before then_world k m.made m.kept b (paused.asked_then k) (asked_in_it k below) refl (λ i small. paused.stands.roots k i below small) (λ a more. paused.stands.none a k more) paused.stands.unmarking
+          paused.stands.uncopying (λ i small. paused.stands.usable k i below small) (of_thread past (k + 1)) refl m.spot out (λ refs nums asks_by. crowded_then k below refs nums (asks_so ∙ asks_by))
+          (subst (λ y. Answers y (paused.asked_then k)) asks_so (paused.answers k below))
+          (subst (λ j. IsThread c words before (of_thread past (k + 1)) k b (mutator_at j m.made m.kept m.spot)) thread.number_is thread))
+
+      -- any machine but the control
+      machine_then : (k : ℕ) (b : Actor) (machine : Machine) → slice_get machines k ≡ Some b → b.machine ≡ machine → k ≢ control_number c → is_within (standing_of machine) ≡ false
+          → IsMachine c words before (of_thread past (k + 1)) k b machine → IsMachine c words then_world (of_thread past (k + 1)) k b machine
+      machine_then k b machine there is other out facts =
+          outside_goes_on c words before then_world (of_thread past (k + 1)) k b machine other out
+          (λ seated. rests_by c then_world k paused.stands.unmarking paused.stands.uncopying (λ a more. paused.stands.none a k more) seated)
+          (λ m role. mutator_then k b m there (is ∙ role) (ap (λ x. is_within (standing_of x)) (sym role) ∙ out)) facts
+
+      -- what the control owes
+      pub paused_owes : (seen : ℕ) (command : Command) (calls : List Entry) → Owes c words words before past (control_number c) machines (settled_by c words (Some (change c image))) []
+          (record { machine = controlling (record { spot = StoreWord 0; seen = seen; phase = image_view c (change c image) Phase; cset = image_view c (change c image) Cset; image = change c image }); command = command; calls = calls ++ [] })
+      paused_owes seen command calls = record {
+        world = then_world;
+        memory_is = refl;
+        graph_is = refl;
+        legal = tt;
+        entries = All-nil (IsSettled c.mutators);
+        shared = paused.stands.shared;
+        promised_to = paused.stands.promised_to;
+        own = record {
+          number_is = refl;
+          ready = lt-ltb _ _ (some_words c);
+          phase_is = refl;
+          set_is = refl;
+          facts = rests_by c then_world (control_number c) paused.stands.unmarking paused.stands.uncopying (λ a more. paused.stands.none a (control_number c) more) (omega arith);
+          aims = (law.long c image long, λ i below. absurd (omega (arith, below)));
+        };
+        others = λ k b other there is.
+            subst (λ es. IsMachine c words then_world es k b b.machine) (ap (λ es. of_thread es (k + 1)) (sym (append-nil past)))
+            (machine_then k b b.machine there refl other (outside k b there other) is);
+      }

@@ -1,0 +1,246 @@
+-- The steps of the control outside the words of an image: it looks, works on units, stops the other machines, and lets them go.
+use Rattle.std.proofs.Common.{◌≡◌, ◌≢◌, ℕ, ◌+◌, ◌≤◌, Bool, true, false, List, [], ◌++◌, length, None, refl, sym, ap, ◌∙◌, subst, arith}
+use Rattle.std.specs.Prelude.{◌==◌, if◌then◌else◌}
+use Rattle.std.specs.Int.{bit_at}
+use Rattle.std.proofs.lemmas.Bool.{and_parts, eqb-false, eqb-true}
+use Rattle.std.proofs.lemmas.Bool.Decides.{nat_tests}
+use Rattle.heap_words.specs.declared.config.Config.{Config}
+use Rattle.heap_words.specs.declared.access.Unit.TheVariants.{Worked, NoneLeft}
+use Rattle.heap_words.specs.Words.{Word, Pause, Left, End, Phase, Ask, Free, State, is_word, view, write, table_words}
+use Rattle.heap_words.proofs.Stores.{is_word_from}
+use Rattle.steps_base.specs.Touch.{Touch, touch, loads, stores}
+use Rattle.shen_graph.specs.declared.command.Command.{Command}
+use Rattle.shen_graph.specs.Graph.{Graph}
+use Rattle.shen_graph.specs.History.{Entry, of_thread}
+use Rattle.handshake.specs.declared.stop_spot.StopSpot.{StopSpot}
+use Rattle.handshake.specs.declared.stop_spot.StopSpot.TheVariants as stop
+use Rattle.handshake.specs.Rows.{stop_next}
+use Rattle.unit_part.specs.declared.spot.UnitSpot.{UnitSpot}
+use Rattle.unit_part.specs.declared.spot.UnitSpot.TheVariants.{Ended}
+use Rattle.unit_part.specs.Rows as units
+use Rattle.unit_part.proofs.Inside.{unit_inside}
+use Rattle.heap_world.specs.World.{Ghost, World, Plot, Shared}
+use Rattle.heap_world.specs.Change.{Change, IsDue}
+use Rattle.heap_world.specs.Part.{PartStep}
+use Rattle.control_rows.specs.declared.spot.ControlSpot.{ControlSpot}
+use Rattle.control_rows.specs.declared.spot.ControlSpot.TheVariants.{LookLeft, StoreEnd, LookAsked, LookFree, Working, Stopping, Go}
+use Rattle.control_rows.specs.Rows.{Controlling, control_touch, control_next, stopping, after_unit, begins_pause, unasked, wants_pause}
+use Rattle.control_rows.proofs.Ready.{stays_ready}
+use Rattle.step_core.specs.Actor.{Machine, controlling, Actor}
+use Rattle.step_core.specs.Settled.{stored_image, settled_by, control_number}
+use Rattle.step_core.proofs.Machines.Owed.{IsResting, CanWork, ControlFacts, IsAim, IsControl, IsMachine, PromisedToMutators, Owes}
+use Rattle.step_core.proofs.Control.Images.{words_after, view-placed}
+use Rattle.step_core.proofs.Machines.Alike.{is_of_handshake, load_step, store_step}
+use Rattle.step_core.proofs.Mutators.WhileMarking.{world_with}
+use Rattle.step_core.proofs.Control.Due.{early_due}
+use Rattle.step_core.proofs.Helpers.Stable.{is_off}
+use Rattle.step_core.proofs.Helpers.Units.{step_with, work_begins, work_fits, work_step}
+use Rattle.step_core.proofs.Helpers.Quiet.{quiet_owes}
+
+-- another machine is no control
+pub no_other_control : (c : Config) (words : List ℕ) (u : World) (entries : List Entry) (k : ℕ) (b : Actor) (machine : Machine) → k ≢ control_number c → IsMachine c words u entries k b machine
+    → (control : Controlling) → machine ≡ controlling control → ⊥
+no_other_control c words u entries k b (controlling h) other is control same = other is.number_is
+no_other_control c words u entries k b _ other is control same = cc
+
+-- the world of a stage in which the table counts
+abbrev pub open_world : Config → List ℕ → Plot → Ghost → Graph → World
+open_world c words block ghost g = record { memory = view c words; block = block; ghost = ghost; graph = g }
+
+module _ (c : Config) (words : List ℕ) (block : Plot) (ghost : Ghost) (g : Graph) (past : List Entry) (machines : List Actor) (command : Command) (calls : List Entry) where
+  abbrev u : World
+  u = open_world c words block ghost g
+
+  -- the control after its step
+  abbrev actor_at : Controlling → Actor
+  actor_at next = record { machine = controlling next; command = command; calls = calls ++ [] }
+
+  -- where it should be after an access
+  abbrev IsControlAfter : Touch → Controlling → World → Type 0
+  IsControlAfter t next w = IsControl c (words_after c words t) w (control_number c) next
+
+  -- what its step owes after an access, where no image counts then
+  abbrev OwesAt : Touch → Controlling → Type 0
+  OwesAt t next = Owes c words (words_after c words t) u past (control_number c) machines (settled_by c (words_after c words t) (stored_image next.spot next.image)) [] (actor_at next)
+
+  -- one of two spots at which no image counts, and of which nothing is to be known
+  plain_spot : (b : Bool) (x y : ControlSpot) (image : List ℕ) → stored_image x image ≡ None → stored_image y image ≡ None → stored_image (if b then x else y) image ≡ None
+  plain_spot true x y image one other = one
+  plain_spot false x y image one other = other
+
+  plain_aim : (b : Bool) (x y : ControlSpot) (ws image : List ℕ) → IsAim c ws x image → IsAim c ws y image → IsAim c ws (if b then x else y) image
+  plain_aim true x y ws image one other = one
+  plain_aim false x y ws image one other = other
+
+  -- what it counts on at one of two spots
+  plain_facts : (w : World) (b : Bool) (x y : ControlSpot) → (b ≡ true → ControlFacts c w (control_number c) x) → (b ≡ false → ControlFacts c w (control_number c) y) → ControlFacts c w (control_number c) (if b then x else y)
+  plain_facts w true x y one other = one refl
+  plain_facts w false x y one other = other refl
+
+  -- once all others are stopped it loads the first word
+  stopping_spot : (at : StopSpot) → stored_image (stopping at) [] ≡ None
+  stopping_spot stop.Raise = refl
+  stopping_spot (stop.Check seat) = refl
+  stopping_spot stop.Stopped = refl
+
+  stopping_aim : (at : StopSpot) (ws : List ℕ) → IsAim c ws (stopping at) []
+  stopping_aim stop.Raise ws = tt
+  stopping_aim (stop.Check seat) ws = tt
+  stopping_aim stop.Stopped ws = (refl, λ i below. absurd (omega (arith, below)))
+
+  stopping_facts : (w : World) (at : StopSpot) → IsResting w (control_number c) × IsDue c w.memory → ControlFacts c w (control_number c) (stopping at)
+  stopping_facts w stop.Raise facts = facts
+  stopping_facts w (stop.Check seat) facts = facts
+  stopping_facts w stop.Stopped facts = facts
+
+  -- where it works on a unit, or has done so
+  unit_spot : (at : UnitSpot) → stored_image (after_unit at) [] ≡ None
+  unit_spot (Ended Worked) = refl
+  unit_spot (Ended NoneLeft) = refl
+  unit_spot _ = refl
+
+  unit_aim : (at : UnitSpot) (ws : List ℕ) → IsAim c ws (after_unit at) []
+  unit_aim (Ended Worked) ws = tt
+  unit_aim (Ended NoneLeft) ws = tt
+  unit_aim _ ws = tt
+
+  unit_facts : (w : World) (at : UnitSpot) → CanWork c w (control_number c) at → ControlFacts c w (control_number c) (after_unit at)
+  unit_facts w (Ended Worked) can = can
+  unit_facts w (Ended NoneLeft) can = can
+  unit_facts w _ can = can
+
+  -- What it owes that stands at a spot outside the image, and finds a word.
+  module _ (change : Change) (seen phase cset : ℕ) (image : List ℕ) (long : length words ≡ table_words c) (shared : Shared c u) (promised_to : PromisedToMutators c block) where
+    abbrev at_spot : ControlSpot → Controlling
+    at_spot spot = record { spot = spot; seen = seen; phase = phase; cset = cset; image = image }
+
+    abbrev then_at : ControlSpot → ℕ → Controlling
+    then_at spot got = control_next change c (at_spot spot) got
+
+    abbrev pub Quiet : ControlSpot → ℕ → Type 0
+    Quiet spot got = IsControl c words u (control_number c) (at_spot spot) → OwesAt (control_touch c spot) (then_at spot got)
+
+    -- a step after which the table still counts
+    step_owes : (t : Touch) (next : Controlling) → is_word c t.word ≡ true → PartStep c u (control_number c) t (IsControlAfter t next) → stored_image next.spot next.image ≡ None → OwesAt t next
+    step_owes t next is step none =
+        subst (λ memory. Owes c words (words_after c words t) u past (control_number c) machines memory [] (actor_at next)) (sym (ap (settled_by c (words_after c words t)) none ∙ view-placed c words t is long))
+        (quiet_owes c words None block ghost g past (control_number c) machines t long is (λ other held. absurd (cc (held))) (actor_at next) shared promised_to step
+        (λ k b differs there known control same. absurd (no_other_control c words u (of_thread past (k + 1)) k b b.machine differs known control same)))
+
+    -- it loads a word
+    loads_word : (word : Word) (next : Controlling) → is_word c word ≡ true → IsControlAfter (touch word loads) next u → stored_image next.spot next.image ≡ None → OwesAt (touch word loads) next
+    loads_word word next is stands none = step_owes (touch word loads) next is (load_step c u (control_number c) word (IsControlAfter (touch word loads) next) shared stands) none
+
+    -- it stores into one of the handshake
+    stores_word : (word : Word) (value : ℕ) (next : Controlling) → is_word c word ≡ true → is_of_handshake word ≡ true → ((k : ℕ) → k ≢ control_number c → write u.memory word value (State k) ≡ u.memory (State k))
+        → Shared c (world_with u (write u.memory word value) u.graph) → IsControlAfter (touch word (stores value)) next (world_with u (write u.memory word value) u.graph) → stored_image next.spot next.image ≡ None
+        → OwesAt (touch word (stores value)) next
+    stores_word word value next is other states after stands none =
+        step_owes (touch word (stores value)) next is (store_step c u (control_number c) word value (IsControlAfter (touch word (stores value)) next) other states after stands) none
+
+    -- it looks how many mutators have not ended
+    pub look_left : (got : ℕ) → Quiet LookLeft got
+    look_left got known =
+        loads_word Left (then_at LookLeft got) refl
+        (record {
+          number_is = refl;
+          ready = stays_ready c phase cset seen LookLeft got known.ready tt;
+          phase_is = known.phase_is;
+          set_is = known.set_is;
+          facts = plain_facts u (got == 0) StoreEnd LookAsked (λ yes. known.facts) (λ no. known.facts);
+          aims = plain_aim (got == 0) StoreEnd LookAsked _ [] tt tt;
+        })
+        (plain_spot (got == 0) StoreEnd LookAsked [] refl refl)
+
+    -- it stores that it has ended
+    pub store_end : (got : ℕ) → Quiet StoreEnd got
+    store_end got known =
+        stores_word End 1 (then_at StoreEnd got) refl refl (λ k differs. refl) shared
+        (record { number_is = refl; ready = stays_ready c phase cset seen StoreEnd got known.ready tt; phase_is = known.phase_is; set_is = known.set_is; facts = known.facts; aims = tt }) refl
+
+    -- while objects are marked or evacuated, or references updated, it claims a unit
+    begins_facts : IsControl c words u (control_number c) (at_spot LookAsked) → (phase == 0) ≡ false → CanWork c u (control_number c) (units.begins phase cset)
+    begins_facts known some = subst (λ set. CanWork c u (control_number c) (units.begins phase set)) (sym known.set_is)
+        (work_begins c u (control_number c) shared phase (omega arith) (eqb-false _ _ some) known.phase_is known.facts)
+
+    -- in phases 2 and 3 a pause is asked for by bit 1 alone
+    asked_late : (got : ℕ) → begins_pause phase got ≡ true → 2 ≤ phase → bit_at got 1 ≡ 1
+    asked_late got on late = grind (arith, nat_tests)
+
+    -- so it is due
+    asks_due : (got : ℕ) → got ≡ u.memory Ask → phase ≡ u.memory Phase → begins_pause phase got ≡ true → IsDue c u.memory
+    asks_due got found same on late quiet =
+        absurd (let asks = subst (λ n. bit_at n 1 ≡ 1) found (asked_late got on (omega (arith, late, same))) in omega (arith, asks, quiet))
+
+    -- it looks what is asked for
+    pub look_asked : (got : ℕ) → got ≡ u.memory Ask → Quiet LookAsked got
+    look_asked got found known =
+        loads_word Ask (then_at LookAsked got) refl
+        (record {
+          number_is = refl;
+          ready = stays_ready c phase cset seen LookAsked got known.ready tt;
+          phase_is = known.phase_is;
+          set_is = known.set_is;
+          facts = plain_facts u (begins_pause phase got) (Stopping stop.Raise) (unasked phase cset) (λ yes. (known.facts, asks_due got found known.phase_is yes))
+              (λ no. plain_facts u (phase == 0) LookFree (Working (units.begins phase cset)) (λ yes. (known.facts, sym known.phase_is ∙ eqb-true _ _ yes)) (λ some. begins_facts known some));
+          aims = plain_aim (begins_pause phase got) (Stopping stop.Raise) (unasked phase cset) _ [] tt (plain_aim (phase == 0) LookFree (Working (units.begins phase cset)) _ [] tt tt);
+        })
+        (plain_spot (begins_pause phase got) (Stopping stop.Raise) (unasked phase cset) [] refl (plain_spot (phase == 0) LookFree (Working (units.begins phase cset)) [] refl refl))
+
+    -- it looks how many regions are free
+    pub look_free : (got : ℕ) → Quiet LookFree got
+    look_free got known =
+        loads_word Free (then_at LookFree got) refl
+        (record {
+          number_is = refl;
+          ready = stays_ready c phase cset seen LookFree got known.ready tt;
+          phase_is = known.phase_is;
+          set_is = known.set_is;
+          facts = plain_facts u (wants_pause c seen got) (Stopping stop.Raise) LookLeft (λ yes. (known.facts.0, early_due c u.memory (let none = known.facts.1 in omega (arith, none)))) (λ no. known.facts.0);
+          aims = plain_aim (wants_pause c seen got) (Stopping stop.Raise) LookLeft _ [] tt tt;
+        })
+        (plain_spot (wants_pause c seen got) (Stopping stop.Raise) LookLeft [] refl refl)
+
+    -- it works on a unit
+    pub work_unit : (at : UnitSpot) → Quiet (Working at) (view c words (units.touch_at c (control_number c) at).word)
+    work_unit at known =
+        let got : ℕ = view c words (units.touch_at c (control_number c) at).word in
+        let ready = and_parts _ _ known.ready in
+        let step = work_step c u (control_number c) shared at ready.0 (is_off (units.is_ended at) ready.1) known.facts in
+        step_owes (units.touch_at c (control_number c) at) (then_at (Working at) got) (is_word_from c _ (unit_inside c (control_number c) at ready.0))
+        (step_with c u (control_number c) (units.touch_at c (control_number c) at) _ _ step
+        (record {
+          number_is = refl;
+          ready = stays_ready c phase cset seen (Working at) got known.ready (work_fits c u (control_number c) shared at ready.0 known.facts);
+          phase_is = known.phase_is ∙ sym step.keeps.marks.phase;
+          set_is = known.set_is ∙ sym step.keeps.copies.cset;
+          facts = unit_facts step.world (units.next_at c at got) step.own;
+          aims = unit_aim (units.next_at c at got) _;
+        }))
+        (unit_spot (units.next_at c at got))
+
+    -- it wants a pause
+    pub raise_pause : (got : ℕ) → Quiet (Stopping stop.Raise) got
+    raise_pause got known =
+        stores_word Pause 1 (then_at (Stopping stop.Raise) got) refl refl (λ k differs. refl) shared
+        (record { number_is = refl; ready = stays_ready c phase cset seen (Stopping stop.Raise) got known.ready tt; phase_is = known.phase_is; set_is = known.set_is; facts = known.facts; aims = tt }) refl
+
+    -- it looks whether a seat is out
+    pub check_seat : (seat got : ℕ) → Quiet (Stopping (stop.Check seat)) got
+    check_seat seat got known =
+        loads_word (State seat) (then_at (Stopping (stop.Check seat)) got) (and_parts _ _ (and_parts _ _ known.ready).0).0
+        (record {
+          number_is = refl;
+          ready = stays_ready c phase cset seen (Stopping (stop.Check seat)) got known.ready tt;
+          phase_is = known.phase_is;
+          set_is = known.set_is;
+          facts = stopping_facts u (stop_next c (stop.Check seat) got) known.facts;
+          aims = stopping_aim (stop_next c (stop.Check seat) got) _;
+        })
+        (stopping_spot (stop_next c (stop.Check seat) got))
+
+    -- it lets the others go
+    pub let_go : (got : ℕ) → Quiet Go got
+    let_go got known =
+        stores_word Pause 0 (then_at Go got) refl refl (λ k differs. refl) shared
+        (record { number_is = refl; ready = stays_ready c phase cset seen Go got known.ready tt; phase_is = known.phase_is; set_is = known.set_is; facts = known.facts; aims = tt }) refl

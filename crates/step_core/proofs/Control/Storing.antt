@@ -1,0 +1,295 @@
+-- The step by which the control stores a word of the new image. Nothing that counts changes by it, and where the word says to a
+-- mutator that the heap is full, the reply of its call is settled.
+use Rattle.std.proofs.Common.{◌≡◌, ◌≢◌, ℕ, ◌+◌, ◌<◌, inl, inr, ⊎_elim, Bool, true, false, List, [], ◌++◌, length, Some, None, refl, sym, ap, ◌∙◌, subst, arith}
+use Rattle.std.specs.Prelude.{◌==◌, ◌-◌, ◌&&◌, nat_lt, slice_get, slice_index, slice_set, if◌then◌else◌}
+use Rattle.std.proofs.lemmas.Bool.{cases_eq, and_parts, eqb-true, ne_eqb, eq-eqb, and_from, cond-true, cond-false, false≢true, ltb-true, ltb-false, le-leb}
+use Rattle.std.proofs.lemmas.Option.{same_Some}
+use Rattle.std.proofs.lemmas.List.{append-nil, get_or-set_same, get_or-set_other}
+use Rattle.std.proofs.lemmas.List.Elements.{All-nil}
+use Rattle.heap_words.specs.declared.config.Config.{Config}
+use Rattle.heap_words.specs.Ranges.{seat_count}
+use Rattle.heap_words.specs.Rows.{name_of}
+use Rattle.heap_words.specs.Words.{Word, Answer, IsWord, is_image, word_at, view, write, image_start, table_words}
+use Rattle.heap_words.proofs.Named.{are_named}
+use Rattle.heap_words.proofs.Rows.{is_image-word_at}
+use Rattle.heap_words.proofs.Stores.{view_word, view_set_all, is_word_from}
+use Rattle.shen_graph.specs.declared.command.Command.{Command}
+use Rattle.shen_graph.specs.declared.command.Reply.TheVariants.{Full}
+use Rattle.shen_graph.specs.Graph.{Graph}
+use Rattle.shen_graph.specs.History.{Entry, of_thread}
+use Rattle.mutator.specs.Rows.{Mutating}
+use Rattle.heap_world.specs.World.{Ghost, World, Plot, Shared}
+use Rattle.heap_world.specs.Change.{Change, image_words}
+use Rattle.heap_world.proofs.Keeping.{rely_same}
+use Rattle.control_rows.specs.declared.spot.ControlSpot.TheVariants.{StoreWord, Go}
+use Rattle.control_rows.specs.Rows.{Controlling, control_next}
+use Rattle.control_rows.specs.Ready.{is_ready}
+use Rattle.control_rows.proofs.Ready.{stays_ready}
+use Rattle.step_core.specs.Actor.{mutating, controlling, Actor, entries_of}
+use Rattle.step_core.specs.Machines.{command_at, told_word}
+use Rattle.step_core.specs.Settled.{mixed, stored_image, settled_by, control_number}
+use Rattle.step_core.proofs.Machines.Stepped.{Mine}
+use Rattle.step_core.specs.Threads.{IsSettled}
+use Rattle.step_core.proofs.History.Entries.{entries_settled, own_more, other_more}
+use Rattle.step_core.proofs.Machines.Owed.{IsThread, IsAim, ControlFacts, IsControl, IsMachine, AreRead, PromisedToMutators, Owes}
+use Rattle.step_core.proofs.Control.Images.{image_reads, mixed_whole, mixed_stored}
+use Rattle.step_core.proofs.Control.Pauses.{no_other_control}
+use Rattle.step_core.proofs.Mutators.Refusing.{refused_new, refused_mine}
+use Rattle.step_core.proofs.Machines.Roles.{machine_stays, mutator_there}
+
+module _ (change : Change) (c : Config) (words : List ℕ) (block : Plot) (ghost : Ghost) (g : Graph) (past : List Entry) (machines : List Actor) (image : List ℕ) (index seen phase cset : ℕ) (command : Command) (calls : List Entry)
+    (ready : is_ready c (StoreWord index) ≡ true) (long : length words ≡ table_words c) (image_long : length image ≡ image_words c) (read : AreRead c words image index)
+    (seats : length machines ≡ seat_count c.mutators c.helpers) where
+  -- where the word stands, what was there, and what is stored
+  abbrev at : ℕ
+  at = image_start c + index
+
+  abbrev raw : ℕ
+  raw = slice_index words at
+
+  abbrev value : ℕ
+  value = slice_index image index
+
+  -- the table then
+  abbrev words_then : List ℕ
+  words_then = slice_set words at value
+
+  -- the world, in which the image counts
+  abbrev u : World
+  u = record { memory = mixed c words image; block = block; ghost = ghost; graph = g }
+
+  -- the control, and the control then
+  abbrev pub storing : Controlling
+  storing = record { spot = StoreWord index; seen = seen; phase = phase; cset = cset; image = image }
+
+  abbrev control_then : Controlling
+  control_then = control_next change c storing raw
+
+  abbrev new : Actor
+  new = record { machine = controlling control_then; command = command; calls = calls ++ [] }
+
+  below : index < image_words c
+  below = ltb-true _ _ ready
+
+  inside : at < table_words c
+  inside = (let less = below in omega (arith, less))
+
+  -- one word more of the image is the table's
+  read_more : AreRead c words_then image (index + 1)
+  read_more i less = ⊎_elim
+      (λ (same : i ≡ index).
+      ap (λ k. slice_index image k) same
+      ∙ sym (get_or-set_same words at value 0 (let within = inside in omega (arith, within, long)))
+      ∙ ap (λ k. slice_index words_then (image_start c + k)) (sym same))
+      (λ (other : i ≡ index → ⊥). read i (omega (arith, less, other)) ∙ sym (get_or-set_other words at (image_start c + i) value 0 (λ e. other (omega (arith, e)))))
+      (cases_eq i index)
+
+  -- what counts then is what counted
+  counts_then : (b : Bool) → nat_lt (index + 1) (image_words c) ≡ b → mixed c words image ≡ settled_by c words_then (stored_image (if b then StoreWord (index + 1) else Go) (if b then image else []))
+  counts_then true more = sym (mixed_stored c words image at value (omega arith))
+  counts_then false all =
+      sym (mixed_stored c words image at value (omega arith))
+      ∙ mixed_whole c words_then image (λ i less. read_more i (let last = ltb-false _ _ all in omega (arith, less, last)))
+
+  -- the control knows how far it is
+  aims_then : (b : Bool) → IsAim c words_then (if b then StoreWord (index + 1) else Go) (if b then image else [])
+  aims_then true = (image_long, read_more)
+  aims_then false = tt
+
+  -- the name of the word
+  abbrev name : Word
+  name = name_of c at
+
+  pub name_is_word : IsWord c name
+  name_is_word = are_named.is_word c at inside
+
+  name_at : word_at c name ≡ at
+  name_at = are_named.there c at inside
+
+  -- the table then, by the names of its words
+  view_then : view c words_then ≡ write (view c words) name value
+  view_then = subst (λ k. view c (slice_set words k value) ≡ write (view c words) name value) name_at (view_set_all c words name value long name_is_word)
+
+  -- what was there
+  pub view_raw : view c words name ≡ raw
+  view_raw = view_word c words name name_is_word ∙ ap (λ k. slice_index words k) name_at
+
+  -- what counts of the word is what is stored
+  pub now_is : mixed c words image name ≡ value
+  now_is =
+      let in_image : is_image name ≡ true = is_image-word_at c name name_is_word ∙ (let place = name_at in le-leb _ _ (omega (arith, place))) in
+      cond-true (is_image name) _ _ in_image
+      ∙ image_reads c image name (is_word_from c name name_is_word) in_image
+      ∙ ap (λ k. slice_index image (k - image_start c)) name_at
+      ∙ ap (λ k. slice_index image k) (omega arith)
+
+  -- what holds of the machines
+  abbrev pub AllKnown : Type 0
+  AllKnown = (k : ℕ) (b : Actor) → slice_get machines k ≡ Some b → IsMachine c words u (of_thread past (k + 1)) k b b.machine
+
+  -- another machine, whose answer is not this word
+  other_then : (settles : List Entry) (k : ℕ) (b : Actor) → k ≢ control_number c → of_thread (past ++ settles) (k + 1) ≡ of_thread past (k + 1) → view c words_then (Answer k) ≡ view c words (Answer k)
+      → Shared c u → IsMachine c words u (of_thread past (k + 1)) k b b.machine → IsMachine c words_then u (of_thread (past ++ settles) (k + 1)) k b b.machine
+  other_then settles k b other entries answer shared is =
+      machine_stays c words words_then u u (of_thread past (k + 1)) (of_thread (past ++ settles) (k + 1)) k b b.machine shared
+      (record {
+        rely = rely_same c k u;
+        answer = answer;
+        counts = inr (record { graph = refl; promised = λ t. refl });
+        aims = λ control same. absurd (no_other_control c words u (of_thread past (k + 1)) k b b.machine other is control same);
+      })
+      entries is
+
+  -- what all stores owe
+  module _ (shared : Shared c u) (promised_to : PromisedToMutators c block) (stands : IsControl c words u (control_number c) storing) where
+    abbrev Stored : List Entry → Type 0
+    Stored settles = Owes c words words_then u past (control_number c) machines (settled_by c words_then (stored_image control_then.spot control_then.image)) settles new
+
+    -- the control stores the next word, or has stored all
+    facts_then : (b : Bool) → ControlFacts c u (control_number c) (if b then StoreWord (index + 1) else Go)
+    facts_then true = stands.facts
+    facts_then false = stands.facts
+
+    own_then : IsControl c words_then u (control_number c) control_then
+    own_then = record {
+      number_is = refl;
+      ready = stays_ready c phase cset seen (StoreWord index) raw ready tt;
+      phase_is = stands.phase_is;
+      set_is = stands.set_is;
+      facts = facts_then (nat_lt (index + 1) (image_words c));
+      aims = aims_then (nat_lt (index + 1) (image_words c));
+    }
+
+    -- a store that settles nothing
+    quiet_store : ((k : ℕ) (b : Actor) → k ≢ control_number c → slice_get machines k ≡ Some b → IsMachine c words u (of_thread past (k + 1)) k b b.machine
+        → IsMachine c words_then u (of_thread (past ++ []) (k + 1)) k b b.machine) → Stored []
+    quiet_store others = record {
+      world = u;
+      memory_is = counts_then (nat_lt (index + 1) (image_words c)) refl;
+      graph_is = refl;
+      legal = tt;
+      entries = All-nil (IsSettled c.mutators);
+      shared = shared;
+      promised_to = promised_to;
+      own = own_then;
+      others = others;
+    }
+
+    same_entries : (k : ℕ) → of_thread (past ++ []) (k + 1) ≡ of_thread past (k + 1)
+    same_entries k = ap (λ es. of_thread es (k + 1)) (append-nil past)
+
+    -- a store into an answer
+    module _ (known : AllKnown) (t : ℕ) (is_answer : name ≡ Answer t) where
+      within : t < c.mutators
+      within = subst (λ w. IsWord c w) is_answer name_is_word
+
+      answers_then : (k : ℕ) → view c words_then (Answer k) ≡ write (view c words) (Answer t) value (Answer k)
+      answers_then k = ap (λ m. m (Answer k)) view_then ∙ ap (λ w. write (view c words) w value (Answer k)) is_answer
+
+      other_answer : (k : ℕ) → k ≢ t → view c words_then (Answer k) ≡ view c words (Answer k)
+      other_answer k differs = answers_then k ∙ cond-false (t == k) _ _ (ne_eqb t k (λ e. differs (sym e)))
+
+      own_answer : view c words_then (Answer t) ≡ value
+      own_answer = answers_then t ∙ cond-true (t == t) _ _ (eq-eqb t t refl)
+
+      raw_answer : view c words (Answer t) ≡ raw
+      raw_answer = ap (view c words) (sym is_answer) ∙ view_raw
+
+      now_answer : mixed c words image (Answer t) ≡ value
+      now_answer = ap (mixed c words image) (sym is_answer) ∙ now_is
+
+      -- the mutator of the answer, once its answer stands in the table
+      thread_then : (b : Actor) (m : Mutating) → ((raw ≡ 0) × (value ≡ 1) → ⊥) → IsThread c words u (of_thread past (t + 1)) t b m → IsThread c words_then u (of_thread (past ++ []) (t + 1)) t b m
+      thread_then b m not_settled thread = record {
+        fixed = thread.fixed;
+        number_is = thread.number_is;
+        valid = thread.valid;
+        mine = thread.mine;
+        seen = record {
+          null = λ now. own_answer ∙ sym now_answer ∙ now;
+          full = λ now. ⊎_elim
+              (λ (both : (view c words (Answer t) ≡ 1) × (thread.fixed ≡ Some Full)). inl (own_answer ∙ sym now_answer ∙ now, both.1))
+              (λ (none : (view c words (Answer t) ≡ 0) × (thread.fixed ≡ None)). absurd (not_settled (sym raw_answer ∙ none.0, sym now_answer ∙ now)))
+              (thread.seen.full now);
+          given = λ more is. (let same = own_answer ∙ sym now_answer in omega (arith, more, is, same));
+        };
+        short = thread.short;
+        entries_are = same_entries t ∙ thread.entries_are;
+      }
+
+      -- once it is settled that the heap is full for it
+      refused_then : (b : Actor) (m : Mutating) → raw ≡ 0 → value ≡ 1 → (thread : IsThread c words u (of_thread past (t + 1)) t b m) → thread.fixed ≡ None
+          → IsThread c words_then u (of_thread (past ++ entries_of t b.command (Some Full)) (t + 1)) t b m
+      refused_then b m none one thread unsettled =
+          let now : mixed c words image (Answer t) ≡ 1 = now_answer ∙ one in
+          record {
+            fixed = Some Full;
+            number_is = thread.number_is;
+            valid = thread.valid;
+            mine = refused_mine c u m.seat m.made m.kept b.command (subst (λ j. mixed c words image (Answer j) ≡ 1) (sym thread.number_is) now) m.spot (subst (λ f. Mine c u m b.command f) unsettled thread.mine);
+            seen = record {
+              null = λ zero_now. absurd (omega (arith, now, zero_now));
+              full = λ e. inl (own_answer ∙ one, refl);
+              given = λ more. absurd (omega (arith, now, more));
+            };
+            short = λ e settled. absurd (cc (settled));
+            entries_are = own_more past t b.command (Some Full) ∙ ap (λ es. es ++ entries_of t b.command (Some Full)) (thread.entries_are ∙ ap (λ f. b.calls ++ entries_of t b.command f) unsettled ∙ append-nil b.calls);
+          }
+
+      -- the two cases
+      by_test : (b : Actor) (m : Mutating) → slice_get machines t ≡ Some b → b.machine ≡ mutating m → IsThread c words u (of_thread past (t + 1)) t b m
+          → (q : Bool) → ((raw == 0) && (value == 1)) ≡ q → Stored (entries_of t b.command (if q then Some Full else None))
+      by_test b m there is thread false not_both = quiet_store (λ k d other there_k known_k. ⊎_elim
+          (λ (same : k ≡ t).
+          let one : d ≡ b = same_Some d b (sym there_k ∙ ap (slice_get machines) same ∙ there) in
+          subst (λ j. IsMachine c words_then u (of_thread (past ++ []) (j + 1)) j d d.machine) (sym same)
+          (subst (λ a. IsMachine c words_then u (of_thread (past ++ []) (t + 1)) t a a.machine) (sym one)
+          (subst (λ machine. IsMachine c words_then u (of_thread (past ++ []) (t + 1)) t b machine) (sym is)
+          (thread_then b m (λ both. false≢true (sym not_both ∙ and_from _ _ (eq-eqb raw 0 both.0) (eq-eqb value 1 both.1))) thread))))
+          (λ (differs : k ≡ t → ⊥). other_then [] k d other (same_entries k) (other_answer k differs) shared known_k)
+          (cases_eq k t))
+      by_test b m there is thread true yes_so =
+          let both = and_parts (raw == 0) (value == 1) yes_so in
+          let none : raw ≡ 0 = eqb-true _ _ both.0 in
+          let one : value ≡ 1 = eqb-true _ _ both.1 in
+          let unsettled : thread.fixed ≡ None = ⊎_elim
+          (λ (full : (view c words (Answer t) ≡ 1) × (thread.fixed ≡ Some Full)). absurd (let at_raw = raw_answer in let full_raw = full.0 in omega (arith, at_raw, full_raw, none)))
+          (λ (not_yet : (view c words (Answer t) ≡ 0) × (thread.fixed ≡ None)). not_yet.1)
+          (thread.seen.full (now_answer ∙ one)) in
+          let own : Mine c u m b.command None = subst (λ f. Mine c u m b.command f) unsettled thread.mine in
+          let now : mixed c words image (Answer m.seat) ≡ 1 = ap (λ j. mixed c words image (Answer j)) thread.number_is ∙ now_answer ∙ one in
+          record {
+            world = u;
+            memory_is = counts_then (nat_lt (index + 1) (image_words c)) refl;
+            graph_is = refl;
+            legal = (inr (refused_new c u m.seat m.made m.kept b.command now m.spot own, refl, refl), tt);
+            entries = entries_settled c.mutators t b.command (Some Full) within thread.valid;
+            shared = shared;
+            promised_to = promised_to;
+            own = own_then;
+            others = λ k d other there_k known_k. ⊎_elim
+                (λ (same : k ≡ t).
+                let one_actor : d ≡ b = same_Some d b (sym there_k ∙ ap (slice_get machines) same ∙ there) in
+                subst (λ j. IsMachine c words_then u (of_thread (past ++ entries_of t b.command (Some Full)) (j + 1)) j d d.machine) (sym same)
+                (subst (λ a. IsMachine c words_then u (of_thread (past ++ entries_of t b.command (Some Full)) (t + 1)) t a a.machine) (sym one_actor)
+                (subst (λ machine. IsMachine c words_then u (of_thread (past ++ entries_of t b.command (Some Full)) (t + 1)) t b machine) (sym is)
+                (refused_then b m none one thread unsettled))))
+                (λ (differs : k ≡ t → ⊥). other_then (entries_of t b.command (Some Full)) k d other (other_more past t b.command (Some Full) k differs) (other_answer k differs) shared known_k)
+                (cases_eq k t);
+          }
+
+      -- so whatever was there
+      answer_owes : Stored (told_word machines (Answer t) raw value)
+      answer_owes =
+          let there = mutator_there c words u past machines seats known t within in
+          subst (λ k. Stored (entries_of t k (if (raw == 0) && (value == 1) then Some Full else None))) (ap command_at (sym there.2))
+          (by_test there.0 there.1 there.2 there.3 there.4 ((raw == 0) && (value == 1)) refl)
+
+    -- whatever word it is
+    by_word : AllKnown → (w : Word) → name ≡ w → Stored (told_word machines w raw value)
+    by_word known (Answer t) is = answer_owes known t is
+    by_word known w is = quiet_store (λ k b other there_k known_k.
+        other_then [] k b other (same_entries k) (ap (λ m. m (Answer k)) view_then ∙ ap (λ v. write (view c words) v value (Answer k)) is) shared known_k)
+
+    pub stored_owes : AllKnown → Stored (told_word machines name raw value)
+    stored_owes known = by_word known name refl

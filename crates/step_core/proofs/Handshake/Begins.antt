@@ -1,0 +1,57 @@
+-- The handshake and the count where runs begin.
+use Rattle.std.proofs.Common.{◌≡◌, ℕ, ◌<◌, ◌≤◌, true, false, refl, sym, ap, subst, arith}
+use Rattle.heap_words.specs.declared.config.Config.{Config}
+use Rattle.heap_words.specs.Words.{Phase, Cset, view}
+use Rattle.steps_base.specs.Steps.{Stage}
+use Rattle.shen_graph.specs.Graph.{Graph}
+use Rattle.handshake.specs.Standing.{idle, control_seat}
+use Rattle.handshake.specs.Shaken.{IsShaken}
+use Rattle.handshake.specs.Left.{AreLeftCounted}
+use Rattle.handshake.proofs.Beginnings.{shaken_begins, counted_begins, there_is}
+use Rattle.mutator.specs.declared.spot.Spot.{Spot}
+use Rattle.mutator.specs.declared.spot.Spot.TheVariants.{Rest, Ended}
+use Rattle.mutator.specs.Orders.{takes_commands}
+use Rattle.step_core.specs.Actor.{Machine, mutating, Actor}
+use Rattle.step_core.specs.Machines.{HasNumber, IsIdle, standing_of}
+use Rattle.step_core.specs.Begins.{Begins}
+use Rattle.step_core.specs.Standing.{control_standing}
+use Rattle.step_core.proofs.Handshake.Mutator.{has_not_ended}
+use Rattle.step_core.proofs.Handshake.Machines.{standing, is_left}
+use Rattle.step_core.proofs.Machines.Roles.{is_left_of, mutator_of, control_of, idle_outside}
+
+-- a mutator that takes commands has not ended
+rests_left : (spot : Spot) → takes_commands spot ≡ true → has_not_ended spot ≡ true
+rests_left Rest takes = refl
+rests_left (Ended reply) takes = refl
+rests_left _ takes = absurd (cc (takes))
+
+-- the idle control is idle in the handshake
+control_idle : (c : Config) (phase cset : ℕ) (g : Graph) (number : ℕ) (machine : Machine) → HasNumber c number machine → IsIdle phase cset g number machine → number ≡ control_seat c → standing_of machine ≡ idle
+control_idle c phase cset g number machine has is e =
+    let role = control_of c number machine has e in
+    subst (λ x. IsIdle phase cset g number x → standing_of x ≡ idle) (sym role.1) (λ calm. ap control_standing calm.0) is
+
+-- the mutators have not ended, and no other machine is counted
+mutator_left : (c : Config) (phase cset : ℕ) (g : Graph) (number : ℕ) (machine : Machine) → HasNumber c number machine → IsIdle phase cset g number machine → number < c.mutators → is_left_of machine ≡ true
+mutator_left c phase cset g number machine has is below =
+    let role = mutator_of c number machine has below in
+    subst (λ x. IsIdle phase cset g number x → is_left_of x ≡ true) (sym role.1) (λ calm. rests_left role.0.spot calm.1) is
+
+other_left : (c : Config) (number : ℕ) (machine : Machine) → HasNumber c number machine → c.mutators ≤ number → is_left_of machine ≡ false
+other_left c number (mutating m) has above = absurd (omega (arith, has.1, above))
+other_left c number _ has above = refl
+
+module _ (c : Config) (s : Stage Actor) (g : Graph) (begins : Begins c s g) where
+  pub begins_shaken : IsShaken c standing s
+  begins_shaken =
+      let control = there_is s.machines (control_seat c) (omega (arith, begins.seats)) in
+      shaken_begins c standing s control.0 begins.words begins.seats control.1
+      (let new = begins.machines (control_seat c) control.0 control.1 in control_idle c (view c s.words Phase) (view c s.words Cset) g (control_seat c) (control.0).machine new.number_is new.idle refl)
+      (λ seat a below here. let new = begins.machines seat a here in idle_outside c (view c s.words Phase) (view c s.words Cset) g seat a.machine new.number_is new.idle below)
+      begins.outside.pause begins.outside.states
+
+  pub begins_counted : AreLeftCounted c is_left s
+  begins_counted = counted_begins c is_left s begins.words begins.seats
+      (λ number a below here. let new = begins.machines number a here in mutator_left c (view c s.words Phase) (view c s.words Cset) g number a.machine new.number_is new.idle below)
+      (λ number a above here. let new = begins.machines number a here in other_left c number a.machine new.number_is above)
+      begins.outside.left

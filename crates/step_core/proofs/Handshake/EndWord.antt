@@ -1,0 +1,126 @@
+-- The word of the end: a step of a mutator leaves it as it is, and one of the control writes it where it ends.
+use Rattle.std.proofs.Common.{◌≡◌, ◌≢◌, ℕ, ◌+◌, ◌⊎◌, Bool, true, false, inl, inr, refl, arith}
+use Rattle.std.specs.Prelude.{◌==◌, nat_lt, if◌then◌else◌}
+use Rattle.std.proofs.lemmas.Bool.{and_parts}
+use Rattle.heap_words.specs.declared.config.Config.{Config}
+use Rattle.heap_words.specs.declared.access.Access.{Access}
+use Rattle.heap_words.specs.Access.{table_index}
+use Rattle.heap_words.specs.declared.access.Unit.TheVariants.{Worked, NoneLeft}
+use Rattle.heap_words.specs.Words.{End, IsWord, word_at}
+use Rattle.steps_base.specs.Touch.{placed}
+use Rattle.shen_graph.specs.declared.order.Order.{Order}
+use Rattle.shen_graph.specs.declared.order.Order.TheVariants as order
+use Rattle.heap_world.specs.Change.{image_words}
+use Rattle.handshake.specs.declared.enter_spot.EnterSpot.{EnterSpot}
+use Rattle.handshake.specs.declared.enter_spot.EnterSpot.TheVariants as enter
+use Rattle.handshake.specs.declared.stop_spot.StopSpot.{StopSpot}
+use Rattle.handshake.specs.declared.stop_spot.StopSpot.TheVariants as stop
+use Rattle.handshake.specs.Rows.{stop_next}
+use Rattle.handshake.specs.Obeys.{is_load}
+use Rattle.handshake.specs.Ending.{KeepsEnd}
+use Rattle.handshake.proofs.Obeying.{placed_above}
+use Rattle.unit_part.specs.declared.spot.UnitSpot.{UnitSpot}
+use Rattle.unit_part.specs.declared.spot.UnitSpot.TheVariants as unit
+use Rattle.unit_part.specs.Rows as units
+use Rattle.mutator.specs.declared.spot.Entered.{Entered}
+use Rattle.mutator.specs.declared.spot.Spot.{Spot}
+use Rattle.mutator.specs.declared.spot.Spot.TheVariants.{Rest, Ended, Entering, LoadPhase, LoadSet, Loading, OnField, Resolving, Recording, OnNumber, Showing, StoreRoot, Making, AskCycle, Waiting, Leave, Gone}
+use Rattle.mutator.specs.declared.waits.WaitSpot.{WaitSpot}
+use Rattle.mutator.specs.declared.waits.WaitSpot.TheVariants as wait
+use Rattle.mutator.specs.Orders.{takes_at}
+use Rattle.mutator.specs.Rows.{Mutating, touch_at, first_touch}
+use Rattle.mutator.specs.Fit.{numbers_fit}
+use Rattle.control_rows.specs.declared.spot.ControlSpot.{ControlSpot}
+use Rattle.control_rows.specs.declared.spot.ControlSpot.TheVariants as control
+use Rattle.control_rows.specs.Rows.{control_seat, is_gone, access_with, next_spot, stopping, after_unit, begins_pause, unasked, wants_pause}
+use Rattle.control_rows.specs.Ready.{is_ready}
+use Rattle.step_core.proofs.Handshake.Mutator.{StaysIn, stays_in, waits_in, given_order, given_ended}
+use Rattle.step_core.proofs.Handshake.Control.{unit_above}
+
+module _ (c : Config) (m : Mutating) (given : Order) where
+  abbrev access_at : Spot → Access
+  access_at spot = placed c (touch_at c m.seat m.made m.kept given spot)
+
+  -- the access from a spot only reads, or is of another word
+  abbrev NotEnd : Spot → Type 0
+  NotEnd spot = (is_load (access_at spot) ≡ true) ⊎ (table_index (access_at spot) ≢ word_at c End)
+
+  of_image : (spot : Spot) → StaysIn c m given spot → IsWord c (touch_at c m.seat m.made m.kept given spot).word → NotEnd spot
+  of_image spot stays word = inr (λ e. (let above = placed_above c (touch_at c m.seat m.made m.kept given spot) word stays.image in omega (arith, e, above)))
+
+  first_not : (o : Order) → (o ≡ order.Nothing → ⊥) → (is_load (placed c (first_touch m.seat o)) ≡ true) ⊎ (table_index (placed c (first_touch m.seat o)) ≢ word_at c End)
+  first_not order.Nothing some = absurd (some refl)
+  first_not (order.Begin command) some = inr (λ e. omega (arith, e))
+  first_not order.End some = inr (λ e. omega (arith, e))
+
+  enter_not : (at : EnterSpot) (next : Entered) → NotEnd (Entering at next)
+  enter_not enter.Raise next = inr (λ e. omega (arith, e))
+  enter_not enter.Lower next = inr (λ e. omega (arith, e))
+  enter_not _ next = inl refl
+
+  wait_not : (at : WaitSpot) → IsWord c (touch_at c m.seat m.made m.kept given (Waiting at)).word → NotEnd (Waiting at)
+  wait_not wait.StepOut word = inr (λ e. omega (arith, e))
+  wait_not wait.Poll word = inl refl
+  wait_not wait.StoreRequest word = of_image (Waiting wait.StoreRequest) (waits_in c m given wait.StoreRequest refl) word
+  wait_not wait.AskRoom word = of_image (Waiting wait.AskRoom) (waits_in c m given wait.AskRoom refl) word
+  wait_not wait.LoadAnswer word = of_image (Waiting wait.LoadAnswer) (waits_in c m given wait.LoadAnswer refl) word
+  wait_not (wait.StoreRoot address) word = of_image (Waiting (wait.StoreRoot address)) (waits_in c m given (wait.StoreRoot address) refl) word
+  wait_not (wait.ClearAnswer reply) word = of_image (Waiting (wait.ClearAnswer reply)) (waits_in c m given (wait.ClearAnswer reply) refl) word
+
+  pub not_end : (spot : Spot) → takes_at spot m.made given ≡ true → numbers_fit c m.seat m.made m.kept spot ≡ true → IsWord c (touch_at c m.seat m.made m.kept order.Nothing spot).word → NotEnd spot
+  not_end Rest takes going word = first_not given (given_order c m given given takes)
+  not_end (Ended reply) takes going word = first_not given (given_ended c m given reply given takes)
+  not_end Gone takes going word = absurd (cc (takes))
+  not_end (Entering at next) takes going word = enter_not at next
+  not_end (Waiting at) takes going word = wait_not at word
+  not_end (Leave reply) takes going word = inr (λ e. omega (arith, e))
+  not_end LoadPhase takes going word = of_image LoadPhase (stays_in c m given LoadPhase going refl) word
+  not_end LoadSet takes going word = of_image LoadSet (stays_in c m given LoadSet going refl) word
+  not_end (Loading at) takes going word = of_image (Loading at) (stays_in c m given (Loading at) going refl) word
+  not_end (OnField object at) takes going word = of_image (OnField object at) (stays_in c m given (OnField object at) going refl) word
+  not_end (Resolving address at next) takes going word = of_image (Resolving address at next) (stays_in c m given (Resolving address at next) going refl) word
+  not_end (Recording at address next) takes going word = of_image (Recording at address next) (stays_in c m given (Recording at address next) going refl) word
+  not_end (OnNumber object refs at) takes going word = of_image (OnNumber object refs at) (stays_in c m given (OnNumber object refs at) going refl) word
+  not_end (Showing value at) takes going word = of_image (Showing value at) (stays_in c m given (Showing value at) going refl) word
+  not_end (StoreRoot value) takes going word = of_image (StoreRoot value) (stays_in c m given (StoreRoot value) going refl) word
+  not_end (Making at) takes going word = of_image (Making at) (stays_in c m given (Making at) going refl) word
+  not_end AskCycle takes going word = of_image AskCycle (stays_in c m given AskCycle going refl) word
+
+-- a choice of two spots at neither of which the control has ended
+neither : (b : Bool) (x y : ControlSpot) → is_gone x ≡ false → is_gone y ≡ false → is_gone (if b then x else y) ≡ false
+neither true x y is_x is_y = is_x
+neither false x y is_x is_y = is_y
+
+stopping_goes : (at : StopSpot) → is_gone (stopping at) ≡ false
+stopping_goes stop.Raise = refl
+stopping_goes (stop.Check seat) = refl
+stopping_goes stop.Stopped = refl
+
+unit_goes : (at : UnitSpot) → is_gone (after_unit at) ≡ false
+unit_goes (unit.Ended Worked) = refl
+unit_goes (unit.Ended NoneLeft) = refl
+unit_goes _ = refl
+
+module _ (c : Config) (phase cset seen value : ℕ) where
+  stop_not : (at : StopSpot) → (is_load (access_with c (control.Stopping at) value) ≡ true) ⊎ (table_index (access_with c (control.Stopping at) value) ≢ word_at c End)
+  stop_not stop.Raise = inr (λ e. omega (arith, e))
+  stop_not _ = inl refl
+
+  -- a step of the control writes the word where it ends, and only there
+  pub control_keeps_end : (spot : ControlSpot) → is_ready c spot ≡ true → KeepsEnd c (is_gone spot) (access_with c spot value) (λ got. is_gone (next_spot c phase cset seen spot got))
+  control_keeps_end control.LookLeft ready = inr (record { not_written = inl refl; same = λ got. neither (got == 0) control.StoreEnd control.LookAsked refl refl })
+  control_keeps_end control.StoreEnd ready = inl (record { access_is = refl; has_ended = λ got. refl })
+  control_keeps_end control.LookAsked ready = inr (record {
+    not_written = inl refl;
+    same = λ got. neither (begins_pause phase got) (control.Stopping stop.Raise) (unasked phase cset) refl (neither (phase == 0) control.LookFree (control.Working (units.begins phase cset)) refl refl);
+  })
+  control_keeps_end control.LookFree ready = inr (record { not_written = inl refl; same = λ got. neither (wants_pause c seen got) (control.Stopping stop.Raise) control.LookLeft refl refl })
+  control_keeps_end (control.Working at) ready =
+      let above = unit_above c (control_seat c) at (and_parts _ _ ready).0 in
+      inr (record { not_written = inr (λ e. omega (arith, e, above)); same = λ got. unit_goes (units.next_at c at got) })
+  control_keeps_end (control.Stopping at) ready = inr (record { not_written = stop_not at; same = λ got. stopping_goes (stop_next c at got) })
+  control_keeps_end (control.LoadWord index) ready = inr (record { not_written = inl refl; same = λ got. neither (nat_lt (index + 1) (image_words c)) (control.LoadWord (index + 1)) (control.StoreWord 0) refl refl })
+  control_keeps_end (control.StoreWord index) ready =
+      inr (record { not_written = inr (λ e. omega (arith, e)); same = λ got. neither (nat_lt (index + 1) (image_words c)) (control.StoreWord (index + 1)) control.Go refl refl })
+  control_keeps_end control.Go ready = inr (record { not_written = inr (λ e. omega (arith, e)); same = λ got. refl })
+  control_keeps_end control.Gone ready = inr (record { not_written = inl refl; same = λ got. refl })

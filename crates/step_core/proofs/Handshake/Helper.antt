@@ -1,0 +1,77 @@
+-- A helper obeys the handshake, and leaves the count of the mutators and the word of the end as they are.
+use Rattle.std.proofs.Common.{◌≡◌, ◌≢◌, ℕ, ◌≤◌, ◌⊎◌, Bool, true, false, refl, arith, inl, inr}
+use Rattle.std.specs.Prelude.{nat_eq, if◌then◌else◌}
+use Rattle.std.proofs.lemmas.Bool.{and_parts}
+use Rattle.heap_words.specs.declared.config.Config.{Config}
+use Rattle.heap_words.specs.Access.{table_index}
+use Rattle.heap_words.specs.Words.{End, Phase, Cset, word_at, image_start}
+use Rattle.steps_base.specs.Touch.{touch, loads, placed}
+use Rattle.handshake.specs.declared.enter_spot.EnterSpot.{EnterSpot}
+use Rattle.handshake.specs.declared.enter_spot.EnterSpot.TheVariants as enter
+use Rattle.handshake.specs.Rows.{enter_next, is_entered}
+use Rattle.handshake.specs.Standing.{outside, is_within, enter_standing}
+use Rattle.handshake.specs.Obeys.{is_load, Obeys}
+use Rattle.handshake.specs.Left.{Counts}
+use Rattle.handshake.proofs.Obeying.{placed_elsewhere, image_elsewhere, image_not_left, enter_obeys, leave_obeys, obeys_same}
+use Rattle.unit_part.specs.declared.spot.UnitSpot.{UnitSpot}
+use Rattle.unit_part.specs.declared.spot.UnitSpot.TheVariants.{Ended}
+use Rattle.unit_part.specs.Rows as units
+use Rattle.helper.specs.declared.spot.HelpSpot.{HelpSpot}
+use Rattle.helper.specs.declared.spot.HelpSpot.TheVariants.{LoadEnd, Entering, LoadPhase, LoadSet, Working, Leave, Gone}
+use Rattle.helper.specs.Rows.{is_gone, touch_at, after_enter, after_unit, next_spot}
+use Rattle.helper.specs.Ready.{spot_fits}
+use Rattle.step_core.specs.Standing.{help_standing}
+use Rattle.step_core.proofs.Handshake.Control.{unit_above}
+use Rattle.step_core.proofs.Helpers.Stable.{is_off}
+
+-- where it enters it stands as who enters
+enter_same : (at : EnterSpot) → help_standing (after_enter at) ≡ enter_standing at
+enter_same enter.Inside = refl
+enter_same _ = refl
+
+-- where it works on a unit, or has done so, it is in the heap
+unit_within : (at : UnitSpot) → is_within (help_standing (after_unit at)) ≡ true
+unit_within (Ended unit) = refl
+unit_within _ = refl
+
+module _ (c : Config) (seat : ℕ) where
+  outside_both : (b : Bool) → help_standing (if b then Gone else Entering enter.Raise) ≡ outside
+  outside_both true = refl
+  outside_both false = refl
+
+  within_both : (b : Bool) (phase : ℕ) → is_within (help_standing (if b then Leave else LoadSet phase)) ≡ true
+  within_both true phase = refl
+  within_both false phase = refl
+
+  -- the access of a unit is of a word of the image
+  above : (at : UnitSpot) → spot_fits c seat (Working at) ≡ true → image_start c ≤ table_index (placed c (units.touch_at c seat at))
+  above at fits = unit_above c seat at (and_parts _ _ fits).0
+
+  -- a helper that has not ended obeys
+  pub help_obeys : (spot : HelpSpot) → spot_fits c seat spot ≡ true → is_gone spot ≡ false → Obeys c seat (help_standing spot) (placed c (touch_at c seat spot)) (λ got. help_standing (next_spot c spot got))
+  help_obeys LoadEnd fits going = inr (record { harmless = inl refl; next_is = λ got. outside_both (nat_eq got 1) })
+  help_obeys (Entering at) fits going =
+      obeys_same c seat (enter_standing at) _ (λ got. enter_standing (enter_next at got)) _ (λ got. enter_same (enter_next at got)) (enter_obeys c seat at (is_off (is_entered at) fits))
+  help_obeys LoadPhase fits going = record { elsewhere = placed_elsewhere c (touch Phase loads) tt refl; goes_on = λ got. within_both (nat_eq got 0) got }
+  help_obeys (LoadSet phase) fits going = record { elsewhere = placed_elsewhere c (touch Cset loads) tt refl; goes_on = λ got. refl }
+  help_obeys (Working at) fits going = record { elsewhere = image_elsewhere c (placed c (units.touch_at c seat at)) (above at fits); goes_on = λ got. unit_within (units.next_at c at got) }
+  help_obeys Leave fits going = leave_obeys c seat
+  help_obeys Gone fits going = absurd (cc (going))
+
+  -- its steps leave the count of the mutators as it is
+  pub help_counts : (spot : HelpSpot) → spot_fits c seat spot ≡ true → Counts c false (placed c (touch_at c seat spot)) (λ got. false)
+  help_counts (Entering enter.Raise) fits = inr (record { not_written = inr (λ e. omega (arith, e)); same = λ got. refl })
+  help_counts (Entering enter.Lower) fits = inr (record { not_written = inr (λ e. omega (arith, e)); same = λ got. refl })
+  help_counts (Entering _) fits = inr (record { not_written = inl refl; same = λ got. refl })
+  help_counts (Working at) fits = inr (record { not_written = inr (image_not_left c (placed c (units.touch_at c seat at)) (above at fits)); same = λ got. refl })
+  help_counts Leave fits = inr (record { not_written = inr (λ e. omega (arith, e)); same = λ got. refl })
+  help_counts _ fits = inr (record { not_written = inl refl; same = λ got. refl })
+
+  -- and the word of the end
+  pub help_not_end : (spot : HelpSpot) → spot_fits c seat spot ≡ true → (is_load (placed c (touch_at c seat spot)) ≡ true) ⊎ (table_index (placed c (touch_at c seat spot)) ≢ word_at c End)
+  help_not_end (Entering enter.Raise) fits = inr (λ e. omega (arith, e))
+  help_not_end (Entering enter.Lower) fits = inr (λ e. omega (arith, e))
+  help_not_end (Entering _) fits = inl refl
+  help_not_end (Working at) fits = inr (λ e. (let high = above at fits in omega (arith, e, high)))
+  help_not_end Leave fits = inr (λ e. omega (arith, e))
+  help_not_end _ fits = inl refl

@@ -1,0 +1,290 @@
+-- A mutator obeys the handshake, and counts itself off where it ends.
+use Rattle.std.proofs.Common.{◌≡◌, ℕ, Bool, true, false, refl, sym, ◌∙◌, arith, inl, inr}
+use Rattle.std.specs.Prelude.{nat_eq, ◌&&◌, if◌then◌else◌}
+use Rattle.heap_words.specs.declared.config.Config.{Config}
+use Rattle.heap_words.specs.Words.{IsWord, is_word, is_image}
+use Rattle.heap_words.proofs.Stores.{is_word_true}
+use Rattle.std.proofs.lemmas.Bool.{and_parts}
+use Rattle.steps_base.specs.Touch.{placed}
+use Rattle.shen_graph.specs.declared.order.Order.{Order}
+use Rattle.shen_graph.specs.declared.order.Order.TheVariants.{Nothing, Begin, End}
+use Rattle.shen_graph.specs.declared.command.Reply.{Reply}
+use Rattle.heap_words.specs.Words.{Left}
+use Rattle.steps_base.specs.Touch.{touch, subtracts}
+use Rattle.alloc_buffers.proofs.Accesses.{in_image}
+use Rattle.satb_barrier.specs.declared.spot.RememberSpot.{RememberSpot}
+use Rattle.satb_barrier.specs.declared.spot.RememberSpot.TheVariants.{LoadCount, LoadEntry, MarkEntry, ClearCount, StoreEntry, StoreCount, Recorded}
+use Rattle.handshake.specs.declared.enter_spot.EnterSpot.{EnterSpot}
+use Rattle.handshake.specs.declared.enter_spot.EnterSpot.TheVariants.{Raise, Look, Lower, Await, Inside}
+use Rattle.handshake.specs.Rows.{enter_next, is_entered}
+use Rattle.handshake.specs.Standing.{outside, inside, is_within, enter_standing}
+use Rattle.handshake.specs.Obeys.{Obeys}
+use Rattle.handshake.specs.Left.{Counts}
+use Rattle.handshake.proofs.Obeying.{placed_elsewhere, placed_above, image_elsewhere, image_not_left, enter_obeys, obeys_same}
+use Rattle.mutator.specs.declared.spot.Kept.{Kept}
+use Rattle.mutator.specs.declared.spot.Entered.{Entered}
+use Rattle.mutator.specs.declared.spot.Entered.TheVariants.{Call, Waited}
+use Rattle.mutator.specs.declared.spot.Spot.{Spot}
+use Rattle.load_barrier.proofs.Inside.{resolve_image}
+use Rattle.mutator.specs.declared.spot.Spot.TheVariants.{Rest, Ended, Entering, LoadPhase, LoadSet, Loading, OnField, Resolving, Recording, OnNumber, Showing, StoreRoot, Making, AskCycle, Waiting, Leave, Gone}
+use Rattle.mutator.specs.declared.loads.LoadSpot.{LoadSpot}
+use Rattle.mutator.specs.declared.loads.LoadSpot.TheVariants as load
+use Rattle.mutator.specs.declared.fields.FieldSpot.{FieldSpot}
+use Rattle.mutator.specs.declared.fields.FieldSpot.TheVariants as fields
+use Rattle.mutator.specs.declared.overwrites.Overwritten.{Overwritten}
+use Rattle.mutator.specs.declared.numbers.NumberSpot.{NumberSpot}
+use Rattle.mutator.specs.declared.numbers.NumberSpot.TheVariants as number
+use Rattle.mutator.specs.declared.shows.ShowSpot.{ShowSpot}
+use Rattle.mutator.specs.declared.shows.ShowSpot.TheVariants as show
+use Rattle.mutator.specs.declared.makes.MakeSpot.{MakeSpot}
+use Rattle.mutator.specs.declared.makes.MakeSpot.TheVariants as make
+use Rattle.mutator.specs.declared.waits.WaitSpot.{WaitSpot}
+use Rattle.mutator.specs.declared.waits.WaitSpot.TheVariants as wait
+use Rattle.mutator.specs.Orders.{takes_at}
+use Rattle.mutator.specs.Fit.{is_still_outside, numbers_fit, stores_fit, IsReady}
+use Rattle.step_core.specs.Standing.{wait_standing, standing_at}
+use Rattle.step_core.proofs.Mutators.Within.{goes_on_in}
+use Rattle.mutator.specs.WaitRows.{after_enter}
+use Rattle.mutator.specs.Rows.{Mutating, words_made, first_touch, call_begun, touch_at, touch_of, next_of}
+
+-- whether a mutator has not ended
+abbrev pub has_not_ended : Spot → Bool
+has_not_ended Gone = false
+has_not_ended _ = true
+
+-- whether a spot is in the heap
+abbrev in_heap : Spot → Bool
+in_heap spot = is_within (standing_at spot)
+
+-- who is in the heap has not ended
+in_heap_left : (spot : Spot) → in_heap spot ≡ true → has_not_ended spot ≡ true
+in_heap_left Gone is = absurd (cc (is))
+in_heap_left _ is = refl
+
+entering_left : (next : Entered) (at : EnterSpot) → has_not_ended (after_enter next at) ≡ true
+entering_left Call Inside = refl
+entering_left Waited Inside = refl
+entering_left next _ = refl
+
+enter_same : (next : Entered) (at : EnterSpot) → standing_at (after_enter next at) ≡ enter_standing at
+enter_same Call Inside = refl
+enter_same Waited Inside = refl
+enter_same next _ = refl
+
+-- the words that parts access are of the image
+load_image : (c : Config) (seat made : ℕ) (kept : Kept) (order : Order) (at : LoadSpot) → is_image (touch_at c seat made kept order (Loading at)).word ≡ true
+load_image c seat made kept order load.First = refl
+load_image c seat made kept order (load.Second first) = refl
+load_image c seat made kept order (load.Third first second) = refl
+load_image c seat made kept order (load.Shape object second third) = refl
+
+field_image : (c : Config) (seat made object : ℕ) (kept : Kept) (order : Order) (at : FieldSpot) → is_image (touch_at c seat made kept order (OnField object at)).word ≡ true
+field_image c seat made object kept order fields.Load = refl
+field_image c seat made object kept order (fields.LoadExpected expect value) = refl
+field_image c seat made object kept order (fields.LoadOld value) = refl
+field_image c seat made object kept order (fields.Store value) = refl
+field_image c seat made object kept order (fields.Swap value) = refl
+field_image c seat made object kept order (fields.Exchange found expect value) = refl
+
+record_image : (c : Config) (seat made address : ℕ) (kept : Kept) (order : Order) (at : RememberSpot) (next : Overwritten) → is_image (touch_at c seat made kept order (Recording at address next)).word ≡ true
+record_image c seat made address kept order LoadCount next = refl
+record_image c seat made address kept order (LoadEntry entry) next = refl
+record_image c seat made address kept order (MarkEntry entry found) next = refl
+record_image c seat made address kept order ClearCount next = refl
+record_image c seat made address kept order (StoreEntry entry) next = refl
+record_image c seat made address kept order (StoreCount entry) next = refl
+record_image c seat made address kept order Recorded next = refl
+
+number_image : (c : Config) (seat made object refs : ℕ) (kept : Kept) (order : Order) (at : NumberSpot) → is_image (touch_at c seat made kept order (OnNumber object refs at)).word ≡ true
+number_image c seat made object refs kept order number.Load = refl
+number_image c seat made object refs kept order number.Store = refl
+
+show_image : (c : Config) (seat made value : ℕ) (kept : Kept) (order : Order) (at : ShowSpot) → is_image (touch_at c seat made kept order (Showing value at)).word ≡ true
+show_image c seat made value kept order show.LoadName = refl
+show_image c seat made value kept order (show.StoreRoot reply) = refl
+
+make_image : (c : Config) (seat made : ℕ) (kept : Kept) (order : Order) (at : MakeSpot) → is_image (touch_at c seat made kept order (Making at)).word ≡ true
+make_image c seat made kept order (make.Taking take) = in_image seat (words_made kept.command) take
+make_image c seat made kept order (make.StoreWord address done) = refl
+make_image c seat made kept order (make.StoreRoot address) = refl
+
+-- a mutator that enters is not inside yet
+not_entered : (at : EnterSpot) → is_still_outside at ≡ true → is_entered at ≡ false
+not_entered Inside on = absurd (cc (on))
+not_entered _ on = refl
+
+-- a mutator between two calls: it enters, or ends
+begins : (c : Config) (m : Mutating) (order : Order) → (order ≡ Nothing → ⊥)
+    → Obeys c m.seat outside (placed c (first_touch m.seat order)) (λ got. standing_at (call_begun order m).spot)
+begins c m Nothing given = absurd (given refl)
+begins c m (Begin command) given = inl (record { access_is = refl; next_is = λ got. refl })
+begins c m End given = inr (record { harmless = inr (placed_elsewhere c (touch Left (subtracts 1)) tt refl, omega arith); next_is = λ got. refl })
+
+begins_count : (c : Config) (m : Mutating) (order : Order) → (order ≡ Nothing → ⊥) → Counts c true (placed c (first_touch m.seat order)) (λ got. has_not_ended (call_begun order m).spot)
+begins_count c m Nothing given = absurd (given refl)
+begins_count c m (Begin command) given = inr (record { not_written = inr (λ e. omega (arith, e)); same = λ got. refl })
+begins_count c m End given = inl (record { access_is = refl; was_left = refl; has_ended = λ got. refl })
+
+module _ (c : Config) (m : Mutating) (order : Order) where
+  -- what a mutator that stands at a spot obeys
+  abbrev pub ObeysAt : Spot → Type 0
+  ObeysAt spot = Obeys c m.seat (standing_at spot) (placed c (touch_at c m.seat m.made m.kept order spot)) (λ got. standing_at (next_of c (record m { spot = spot }) order got).spot)
+
+  -- the step stays in the heap: it is of a word of the image, and its next spot is in the heap
+  pub record StaysIn (spot : Spot) : Type 0 where
+    pub image : is_image (touch_at c m.seat m.made m.kept order spot).word ≡ true
+    pub next : (got : ℕ) → in_heap (next_of c (record m { spot = spot }) order got).spot ≡ true
+
+  pub waits_in : (at : WaitSpot) → wait_standing at ≡ inside → StaysIn (Waiting at)
+  waits_in wait.StepOut is = absurd (cc (is))
+  waits_in wait.Poll is = absurd (cc (is))
+  waits_in wait.LoadAnswer is = record { image = refl; next = λ got. goes_on_in c m order got (Waiting wait.LoadAnswer) is }
+  waits_in wait.StoreRequest is = record { image = refl; next = λ got. refl }
+  waits_in wait.AskRoom is = record { image = refl; next = λ got. refl }
+  waits_in (wait.StoreRoot address) is = record { image = refl; next = λ got. refl }
+  waits_in (wait.ClearAnswer reply) is = record { image = refl; next = λ got. refl }
+
+  not_inside : (at : EnterSpot) → is_still_outside at ≡ true → enter_standing at ≡ inside → ⊥
+  not_inside Inside on is = absurd (cc (on))
+  not_inside Raise on is = cc
+  not_inside Look on is = cc
+  not_inside Lower on is = cc
+  not_inside Await on is = cc
+
+  pub stays_in : (spot : Spot) → numbers_fit c m.seat m.made m.kept spot ≡ true → standing_at spot ≡ inside → StaysIn spot
+  stays_in LoadPhase on is = record { image = refl; next = λ got. goes_on_in c m order got LoadPhase is }
+  stays_in LoadSet on is = record { image = refl; next = λ got. goes_on_in c m order got LoadSet is }
+  stays_in (Loading at) on is = record { image = load_image c m.seat m.made m.kept order at; next = λ got. goes_on_in c m order got (Loading at) is }
+  stays_in (OnField object at) on is = record { image = field_image c m.seat m.made object m.kept order at; next = λ got. goes_on_in c m order got (OnField object at) is }
+  stays_in (Resolving address at next) on is = record { image = resolve_image c m.seat address at; next = λ got. goes_on_in c m order got (Resolving address at next) is }
+  stays_in (Recording at address next) on is = record { image = record_image c m.seat m.made address m.kept order at next; next = λ got. goes_on_in c m order got (Recording at address next) is }
+  stays_in (OnNumber object refs at) on is = record { image = number_image c m.seat m.made object refs m.kept order at; next = λ got. goes_on_in c m order got (OnNumber object refs at) is }
+  stays_in (Showing value at) on is = record { image = show_image c m.seat m.made value m.kept order at; next = λ got. goes_on_in c m order got (Showing value at) is }
+  stays_in (StoreRoot value) on is = record { image = refl; next = λ got. goes_on_in c m order got (StoreRoot value) is }
+  stays_in (Making at) on is = record { image = make_image c m.seat m.made m.kept order at; next = λ got. goes_on_in c m order got (Making at) is }
+  stays_in AskCycle on is = record { image = refl; next = λ got. goes_on_in c m order got AskCycle is }
+  stays_in (Waiting at) on is = waits_in at is
+  stays_in (Entering at next) on is = absurd (not_inside at on is)
+  stays_in Rest on is = absurd (cc (is))
+  stays_in (Ended reply) on is = absurd (cc (is))
+  stays_in Gone on is = absurd (cc (is))
+  stays_in (Leave reply) on is = absurd (cc (is))
+
+  -- where it is in the heap, so it obeys
+  on : (spot : Spot) → StaysIn spot → IsWord c (touch_at c m.seat m.made m.kept order spot).word
+      → Obeys c m.seat inside (placed c (touch_at c m.seat m.made m.kept order spot)) (λ got. standing_at (next_of c (record m { spot = spot }) order got).spot)
+  on spot stays word = record { elsewhere = image_elsewhere c (placed c (touch_at c m.seat m.made m.kept order spot)) (placed_above c (touch_at c m.seat m.made m.kept order spot) word stays.image); goes_on = stays.next }
+
+  polls : (b : Bool) → standing_at (if b then Waiting wait.Poll else Entering Raise Waited) ≡ outside
+  polls true = refl
+  polls false = refl
+
+  waits_obey : (at : WaitSpot) → IsWord c (touch_at c m.seat m.made m.kept order (Waiting at)).word → ObeysAt (Waiting at)
+  waits_obey wait.StepOut word = record { access_is = refl; next_is = λ got. refl }
+  waits_obey wait.Poll word = inr (record { harmless = inl refl; next_is = λ got. polls (nat_eq got 0) })
+  waits_obey wait.StoreRequest word = on (Waiting wait.StoreRequest) (waits_in wait.StoreRequest refl) word
+  waits_obey wait.AskRoom word = on (Waiting wait.AskRoom) (waits_in wait.AskRoom refl) word
+  waits_obey wait.LoadAnswer word = on (Waiting wait.LoadAnswer) (waits_in wait.LoadAnswer refl) word
+  waits_obey (wait.StoreRoot address) word = on (Waiting (wait.StoreRoot address)) (waits_in (wait.StoreRoot address) refl) word
+  waits_obey (wait.ClearAnswer reply) word = on (Waiting (wait.ClearAnswer reply)) (waits_in (wait.ClearAnswer reply) refl) word
+
+  pub given_order : (o : Order) → takes_at Rest m.made o ≡ true → o ≡ Nothing → ⊥
+  given_order Nothing takes is = cc
+  given_order (Begin command) takes is = cc
+  given_order End takes is = cc
+
+  pub given_ended : (reply : Reply) (o : Order) → takes_at (Ended reply) m.made o ≡ true → o ≡ Nothing → ⊥
+  given_ended reply Nothing takes is = cc
+  given_ended reply (Begin command) takes is = cc
+  given_ended reply End takes is = cc
+
+  spot_obeys : (spot : Spot) → takes_at spot m.made order ≡ true → numbers_fit c m.seat m.made m.kept spot ≡ true → IsWord c (touch_at c m.seat m.made m.kept Nothing spot).word → ObeysAt spot
+  spot_obeys Rest takes going word = begins c (record m { spot = Rest }) order (given_order order takes)
+  spot_obeys (Ended reply) takes going word = begins c (record m { spot = Ended reply }) order (given_ended reply order takes)
+  spot_obeys Gone takes going word = absurd (cc (takes))
+  spot_obeys (Entering at next) takes going word =
+      obeys_same c m.seat (enter_standing at) _ (λ got. enter_standing (enter_next at got)) _ (λ got. enter_same next (enter_next at got))
+      (enter_obeys c m.seat at (not_entered at going))
+  spot_obeys (Waiting at) takes going word = waits_obey at word
+  spot_obeys (Leave reply) takes going word = record { access_is = refl; next_is = λ got. refl }
+  spot_obeys LoadPhase takes going word = on LoadPhase (stays_in LoadPhase going refl) word
+  spot_obeys LoadSet takes going word = on LoadSet (stays_in LoadSet going refl) word
+  spot_obeys (Loading at) takes going word = on (Loading at) (stays_in (Loading at) going refl) word
+  spot_obeys (OnField object at) takes going word = on (OnField object at) (stays_in (OnField object at) going refl) word
+  spot_obeys (Resolving address at next) takes going word = on (Resolving address at next) (stays_in (Resolving address at next) going refl) word
+  spot_obeys (Recording at address next) takes going word = on (Recording at address next) (stays_in (Recording at address next) going refl) word
+  spot_obeys (OnNumber object refs at) takes going word = on (OnNumber object refs at) (stays_in (OnNumber object refs at) going refl) word
+  spot_obeys (Showing value at) takes going word = on (Showing value at) (stays_in (Showing value at) going refl) word
+  spot_obeys (StoreRoot value) takes going word = on (StoreRoot value) (stays_in (StoreRoot value) going refl) word
+  spot_obeys (Making at) takes going word = on (Making at) (stays_in (Making at) going refl) word
+  spot_obeys AskCycle takes going word = on AskCycle (stays_in AskCycle going refl) word
+
+  -- what it does to the count of the mutators that have not ended
+  abbrev pub CountsAt : Spot → Type 0
+  CountsAt spot = Counts c (has_not_ended spot) (placed c (touch_at c m.seat m.made m.kept order spot)) (λ got. has_not_ended (next_of c (record m { spot = spot }) order got).spot)
+
+  counts_in : (spot : Spot) → StaysIn spot → has_not_ended spot ≡ true → IsWord c (touch_at c m.seat m.made m.kept order spot).word → CountsAt spot
+  counts_in spot stays now word = inr (record {
+    not_written = inr (image_not_left c (placed c (touch_at c m.seat m.made m.kept order spot)) (placed_above c (touch_at c m.seat m.made m.kept order spot) word stays.image));
+    same = λ got. in_heap_left _ (stays.next got) ∙ sym now;
+  })
+
+  -- a step of no part in the heap that writes a state word or only reads
+  enter_counts : (next : Entered) (at : EnterSpot) → CountsAt (Entering at next)
+  enter_counts next Raise = inr (record { not_written = inr (λ e. omega (arith, e)); same = λ got. entering_left next Look })
+  enter_counts next Look = inr (record { not_written = inl refl; same = λ got. entering_left next (enter_next Look got) })
+  enter_counts next Lower = inr (record { not_written = inr (λ e. omega (arith, e)); same = λ got. entering_left next Await })
+  enter_counts next Await = inr (record { not_written = inl refl; same = λ got. entering_left next (enter_next Await got) })
+  enter_counts next Inside = inr (record { not_written = inl refl; same = λ got. entering_left next Inside })
+
+  polls_left : (b : Bool) → has_not_ended (if b then Waiting wait.Poll else Entering Raise Waited) ≡ true
+  polls_left true = refl
+  polls_left false = refl
+
+  waits_count : (at : WaitSpot) → IsWord c (touch_at c m.seat m.made m.kept order (Waiting at)).word → CountsAt (Waiting at)
+  waits_count wait.StepOut word = inr (record { not_written = inr (λ e. omega (arith, e)); same = λ got. refl })
+  waits_count wait.Poll word = inr (record { not_written = inl refl; same = λ got. polls_left (nat_eq got 0) })
+  waits_count wait.StoreRequest word = counts_in (Waiting wait.StoreRequest) (waits_in wait.StoreRequest refl) refl word
+  waits_count wait.AskRoom word = counts_in (Waiting wait.AskRoom) (waits_in wait.AskRoom refl) refl word
+  waits_count wait.LoadAnswer word = counts_in (Waiting wait.LoadAnswer) (waits_in wait.LoadAnswer refl) refl word
+  waits_count (wait.StoreRoot address) word = counts_in (Waiting (wait.StoreRoot address)) (waits_in (wait.StoreRoot address) refl) refl word
+  waits_count (wait.ClearAnswer reply) word = counts_in (Waiting (wait.ClearAnswer reply)) (waits_in (wait.ClearAnswer reply) refl) refl word
+
+  spot_counts : (spot : Spot) → takes_at spot m.made order ≡ true → numbers_fit c m.seat m.made m.kept spot ≡ true → IsWord c (touch_at c m.seat m.made m.kept Nothing spot).word → CountsAt spot
+  spot_counts Rest takes going word = begins_count c (record m { spot = Rest }) order (given_order order takes)
+  spot_counts (Ended reply) takes going word = begins_count c (record m { spot = Ended reply }) order (given_ended reply order takes)
+  spot_counts Gone takes going word = absurd (cc (takes))
+  spot_counts (Entering at next) takes going word = enter_counts next at
+  spot_counts (Waiting at) takes going word = waits_count at word
+  spot_counts (Leave reply) takes going word = inr (record { not_written = inr (λ e. omega (arith, e)); same = λ got. refl })
+  spot_counts LoadPhase takes going word = counts_in LoadPhase (stays_in LoadPhase going refl) refl word
+  spot_counts LoadSet takes going word = counts_in LoadSet (stays_in LoadSet going refl) refl word
+  spot_counts (Loading at) takes going word = counts_in (Loading at) (stays_in (Loading at) going refl) refl word
+  spot_counts (OnField object at) takes going word = counts_in (OnField object at) (stays_in (OnField object at) going refl) refl word
+  spot_counts (Resolving address at next) takes going word = counts_in (Resolving address at next) (stays_in (Resolving address at next) going refl) refl word
+  spot_counts (Recording at address next) takes going word = counts_in (Recording at address next) (stays_in (Recording at address next) going refl) refl word
+  spot_counts (OnNumber object refs at) takes going word = counts_in (OnNumber object refs at) (stays_in (OnNumber object refs at) going refl) refl word
+  spot_counts (Showing value at) takes going word = counts_in (Showing value at) (stays_in (Showing value at) going refl) refl word
+  spot_counts (StoreRoot value) takes going word = counts_in (StoreRoot value) (stays_in (StoreRoot value) going refl) refl word
+  spot_counts (Making at) takes going word = counts_in (Making at) (stays_in (Making at) going refl) refl word
+  spot_counts AskCycle takes going word = counts_in AskCycle (stays_in AskCycle going refl) refl word
+
+-- a mutator that is ready has its numbers in range, and makes an access of a word of the table
+pub ready_fits : (c : Config) (m : Mutating) → IsReady c m → numbers_fit c m.seat m.made m.kept m.spot ≡ true
+ready_fits c m ready = (and_parts (is_word c (touch_of c m Nothing).word && stores_fit c m.seat m.made m.kept m.spot) (numbers_fit c m.seat m.made m.kept m.spot) ready).1
+
+pub ready_word : (c : Config) (m : Mutating) → IsReady c m → IsWord c (touch_of c m Nothing).word
+ready_word c m ready =
+    is_word_true c (touch_of c m Nothing).word
+    (and_parts (is_word c (touch_of c m Nothing).word) (stores_fit c m.seat m.made m.kept m.spot)
+    (and_parts (is_word c (touch_of c m Nothing).word && stores_fit c m.seat m.made m.kept m.spot) (numbers_fit c m.seat m.made m.kept m.spot) ready).0).0
+
+-- the step of a mutator obeys the handshake
+pub mutator_obeys : (c : Config) (m : Mutating) (order : Order) → takes_at m.spot m.made order ≡ true → IsReady c m
+    → Obeys c m.seat (standing_at m.spot) (placed c (touch_of c m order)) (λ got. standing_at (next_of c m order got).spot)
+mutator_obeys c m order takes ready = spot_obeys c m order m.spot takes (ready_fits c m ready) (ready_word c m ready)
+
+-- and counts
+pub mutator_counts : (c : Config) (m : Mutating) (order : Order) → takes_at m.spot m.made order ≡ true → IsReady c m
+    → Counts c (has_not_ended m.spot) (placed c (touch_of c m order)) (λ got. has_not_ended (next_of c m order got).spot)
+mutator_counts c m order takes ready = spot_counts c m order m.spot takes (ready_fits c m ready) (ready_word c m ready)

@@ -1,0 +1,54 @@
+-- No step of a helper ends a call, and none of the control.
+use Rattle.std.proofs.Common.{◌≡◌, ℕ, true, false}
+use Rattle.heap_words.specs.declared.config.Config.{Config}
+use Rattle.std.specs.Prelude.{◌==◌, Bool, if◌then◌else◌}
+use Rattle.heap_words.specs.declared.access.Took.{Took}
+use Rattle.heap_words.specs.declared.access.Took.TheVariants.{More, Again, Done}
+use Rattle.handshake.specs.declared.stop_spot.StopSpot.TheVariants as stop
+use Rattle.control_rows.specs.declared.spot.ControlSpot.{ControlSpot}
+use Rattle.handshake.specs.declared.enter_spot.EnterSpot.TheVariants.{Await}
+use Rattle.heap_words.specs.declared.access.Unit.TheVariants.{Worked, NoneLeft}
+use Rattle.unit_part.specs.declared.spot.UnitSpot.{UnitSpot}
+use Rattle.unit_part.specs.declared.spot.UnitSpot.TheVariants.{Ended}
+use Rattle.unit_part.specs.Rows as units
+use Rattle.helper.specs.declared.spot.HelpSpot.{HelpSpot}
+use Rattle.helper.specs.declared.spot.HelpSpot.TheVariants as help
+use Rattle.helper.specs.Rows as helpers
+use Rattle.control_rows.specs.declared.spot.ControlSpot.TheVariants.{LookFree, Working, Stopping}
+use Rattle.control_rows.specs.Rows.{says_at, wants_pause, working_says}
+
+-- a step that says one of two things, of which neither is Done, is not done
+not_done : (b : Bool) (one other : Took) → (one ≡ Done → ⊥) → (other ≡ Done → ⊥) → (if b then one else other) ≡ Done → ⊥
+not_done true one other first second is = first is
+not_done false one other first second is = second is
+
+-- nor is one of a helper that works on a unit
+helper_works_on : (next : UnitSpot) (said : Took) → helpers.working_says next said ≡ Done → ⊥
+helper_works_on (Ended NoneLeft) said is = cc
+helper_works_on (Ended Worked) Done is = cc
+helper_works_on (Ended Worked) More is = cc
+helper_works_on (Ended Worked) Again is = cc
+helper_works_on _ Done is = cc
+helper_works_on _ More is = cc
+helper_works_on _ Again is = cc
+
+-- a helper ends no call
+pub helps_on : (c : Config) (spot : HelpSpot) (got : ℕ) → helpers.says_at c spot got ≡ Done → ⊥
+helps_on c (help.Entering Await) got is = not_done (got == 0) More Again (λ e. cc) (λ e. cc) is
+helps_on c (help.Entering at) got is = cc
+helps_on c help.LoadPhase got is = not_done (got == 0) Again More (λ e. cc) (λ e. cc) is
+helps_on c (help.Working at) got is = helper_works_on (units.next_at c at got) (units.says_at c at got) is
+helps_on c _ got is = cc
+
+-- nor does the control
+works_on : (said : Took) → working_says said ≡ Done → ⊥
+works_on Done is = cc
+works_on More is = cc
+works_on Again is = cc
+
+pub goes_on : (c : Config) (seen : ℕ) (spot : ControlSpot) (got : ℕ) → says_at c seen spot got ≡ Done → ⊥
+goes_on c seen LookFree got is = not_done (wants_pause c seen got) More Again (λ e. cc) (λ e. cc) is
+goes_on c seen (Working at) got is = works_on (units.says_at c at got) is
+goes_on c seen (Stopping (stop.Check seat)) got is = not_done (got == 0) More Again (λ e. cc) (λ e. cc) is
+goes_on c seen (Stopping at) got is = cc
+goes_on c seen _ got is = cc

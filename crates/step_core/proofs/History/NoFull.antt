@@ -1,0 +1,88 @@
+-- No step of a mutator settles that the heap is full: a pause does, where it says so.
+use Rattle.std.proofs.Common.{◌≡◌, ◌≢◌, ℕ, ◌+◌, Bool, true, false, [], Option, Some, None, ap}
+use Rattle.std.specs.Prelude.{◌==◌, if◌then◌else◌}
+use Rattle.std.proofs.lemmas.Option.{same_Some}
+use Rattle.std.proofs.lemmas.List.Elements.{All-nil, All-cons}
+use Rattle.heap_words.specs.Words.{Word, Root, Heap}
+use Rattle.shen_graph.specs.declared.command.Command.{Command}
+use Rattle.shen_graph.specs.declared.command.Reply.{Reply}
+use Rattle.shen_graph.specs.declared.command.Reply.TheVariants.{Ref, Null, Yes, No, Bad, Full}
+use Rattle.shen_graph.specs.declared.command.Command.TheVariants.{Same}
+use Rattle.shen_graph.specs.Step.{yes_or_no}
+use Rattle.shen_graph.specs.History.{IsWithoutFull}
+use Rattle.mutator.specs.declared.spot.Spot.{Spot}
+use Rattle.mutator.specs.declared.spot.Spot.TheVariants.{Loading, OnField, OnNumber, StoreRoot, Making, AskCycle, Waiting}
+use Rattle.mutator.specs.declared.loads.LoadSpot.TheVariants as load
+use Rattle.mutator.specs.declared.fields.FieldSpot.TheVariants as fields
+use Rattle.mutator.specs.declared.numbers.NumberSpot.TheVariants as numbers
+use Rattle.mutator.specs.declared.makes.MakeSpot.TheVariants as make
+use Rattle.mutator.specs.declared.waits.WaitSpot.TheVariants as wait
+use Rattle.mutator.specs.declared.spot.Kept.{Kept}
+use Rattle.mutator.specs.declared.loads.LoadSpot.{LoadSpot}
+use Rattle.mutator.specs.declared.fields.FieldSpot.{FieldSpot}
+use Rattle.mutator.specs.Commands.{command_root, index_of, lacks_object, has_part}
+use Rattle.mutator.specs.Rows.{Mutating, name_in}
+use Rattle.mutator.specs.Told.{name_of_object, name_the_same, shown_word, told_second, load_told, field_told, told_at, told_of}
+use Rattle.step_core.specs.Actor.{entries_of}
+
+some_same : (a b : Reply) → ◌≡◌ {A = Option Reply} (Some a) (Some b) → a ≡ b
+some_same a b e = same_Some a b e
+
+shown_not_full : (memory : Word → ℕ) (value : ℕ) → shown_word memory value ≢ Full
+shown_not_full memory value = by_null (value == 0)
+  where
+    by_null : (b : Bool) → (if b then Null else Ref (name_in (name_of_object memory value))) ≢ Full
+    by_null true e = absurd cc
+    by_null false e = absurd cc
+
+second_not_full : (memory : Word → ℕ) (command : Command) (first second : ℕ) → told_second memory command first second ≢ Some Full
+second_not_full memory (Same a b) first second = by_same (name_the_same memory first second)
+  where
+    by_same : (b : Bool) → Some (yes_or_no b) ≢ Some Full
+    by_same true e = absurd cc
+    by_same false e = absurd cc
+second_not_full memory _ first second = λ e. absurd cc
+
+if_then : (b : Bool) (r : Reply) → r ≢ Full → (if b then Some r else None) ≢ Some Full
+if_then true r not e = not (some_same r Full e)
+if_then false r not e = absurd cc
+
+if_else : (b : Bool) (r : Reply) → r ≢ Full → (if b then None else Some r) ≢ Some Full
+if_else true r not e = absurd cc
+if_else false r not e = not (some_same r Full e)
+
+-- what an access settles is no Full
+load_not_full : (memory : Word → ℕ) (seat : ℕ) (command : Command) (at : LoadSpot) → load_told memory seat command at ≢ Some Full
+load_not_full memory seat command load.First = if_then (lacks_object command (memory (Root seat (command_root command 0)))) Bad (λ h. absurd cc)
+load_not_full memory seat command (load.Second first) = second_not_full memory command first (memory (Root seat (command_root command 1)))
+load_not_full memory seat command (load.Third first second) = λ e. absurd cc
+load_not_full memory seat command (load.Shape object second third) = if_else (has_part command (memory (Heap (object + 1)))) Bad (λ h. absurd cc)
+
+field_not_full : (memory : Word → ℕ) (object : ℕ) (command : Command) (at : FieldSpot) → field_told memory object command at ≢ Some Full
+field_not_full memory object command fields.Load = λ e. shown_not_full memory (memory (Heap (object + 3 + index_of command))) (some_same _ Full e)
+field_not_full memory object command (fields.LoadExpected expect value) = if_else (name_the_same memory (memory (Heap (object + 3 + index_of command))) expect) No (λ h. absurd cc)
+field_not_full memory object command (fields.LoadOld value) = λ e. absurd cc
+field_not_full memory object command (fields.Store value) = λ e. absurd cc
+field_not_full memory object command (fields.Swap value) = λ e. shown_not_full memory (memory (Heap (object + 3 + index_of command))) (some_same _ Full e)
+field_not_full memory object command (fields.Exchange found expect value) = if_then (memory (Heap (object + 3 + index_of command)) == found) Yes (λ h. absurd cc)
+
+told_not_full : (memory : Word → ℕ) (seat made : ℕ) (kept : Kept) (spot : Spot) → told_at memory seat made kept spot ≢ Some Full
+told_not_full memory seat made kept (Loading at) = load_not_full memory seat kept.command at
+told_not_full memory seat made kept (OnField object at) = field_not_full memory object kept.command at
+told_not_full memory seat made kept (OnNumber object refs numbers.Load) = λ e. absurd cc
+told_not_full memory seat made kept (OnNumber object refs numbers.Store) = λ e. absurd cc
+told_not_full memory seat made kept (StoreRoot value) = λ e. absurd cc
+told_not_full memory seat made kept (Making (make.StoreRoot address)) = λ e. absurd cc
+told_not_full memory seat made kept (Making at) = λ e. absurd cc
+told_not_full memory seat made kept (Waiting (wait.StoreRoot address)) = λ e. absurd cc
+told_not_full memory seat made kept (Waiting at) = λ e. absurd cc
+told_not_full memory seat made kept AskCycle = λ e. absurd cc
+told_not_full memory seat made kept _ = λ e. absurd cc
+
+entries_not_full : (seat : ℕ) (command : Command) (o : Option Reply) → o ≢ Some Full → IsWithoutFull (entries_of seat command o)
+entries_not_full seat command None not = All-nil (λ e. e.reply ≢ Full)
+entries_not_full seat command (Some r) not = All-cons (λ e. e.reply ≢ Full) _ [] (λ e. not (ap (λ (x : Reply). Some x) e)) (All-nil (λ e. e.reply ≢ Full))
+
+-- so the entries that the step of a mutator settles have no Full
+pub mutator_not_full : (memory : Word → ℕ) (m : Mutating) (command : Command) → IsWithoutFull (entries_of m.seat command (told_of memory m))
+mutator_not_full memory m command = entries_not_full m.seat command _ (told_not_full memory m.seat m.made m.kept m.spot)

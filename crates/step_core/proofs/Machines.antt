@@ -1,0 +1,10 @@
+pub mod Owed
+pub mod Stepped
+pub mod Stable
+pub mod Alike
+pub mod Naming
+pub mod FitProps
+pub mod Ready
+pub mod Roles
+pub mod Answered
+pub mod Requests

@@ -1,0 +1,69 @@
+-- That a word is fit, for each part of a machine, is one fact.
+use Rattle.std.proofs.Common.{ℕ, List}
+use Rattle.std.proofs.Math.Bool.{Bool-set}
+use Rattle.heap_words.specs.declared.config.Config.{Config}
+use Rattle.shen_graph.specs.declared.order.Order.{Order}
+use Rattle.shen_graph.specs.declared.order.Order.TheVariants.{Nothing, Begin, End}
+use Rattle.load_barrier.specs.declared.spot.ResolveSpot.{ResolveSpot}
+use Rattle.load_barrier.specs.declared.spot.ResolveSpot.TheVariants.{Leaving}
+use Rattle.load_barrier.specs.declared.evac_spot.EvacSpot.{EvacSpot}
+use Rattle.load_barrier.specs.declared.evac_spot.EvacSpot.TheVariants as evac
+use Rattle.load_barrier.specs.Fit.{LeavesFit}
+use Rattle.load_barrier.specs.UnitFit as units
+use Rattle.unit_part.specs.declared.spot.UnitSpot.{UnitSpot}
+use Rattle.unit_part.specs.declared.spot.UnitSpot.TheVariants.{Scanning, Evacuating, Updating, Ended}
+use Rattle.unit_part.specs.Ready as unit
+use Rattle.mutator.specs.declared.spot.Spot.{Spot}
+use Rattle.mutator.specs.declared.spot.Spot.TheVariants.{OnField, Resolving}
+use Rattle.mutator.specs.declared.spot.Kept.{Kept}
+use Rattle.mutator.specs.Fit.{PartFit, EndsFit}
+use Rattle.helper.specs.declared.spot.HelpSpot.{HelpSpot}
+use Rattle.helper.specs.declared.spot.HelpSpot.TheVariants as help
+use Rattle.helper.specs.Ready as helpers
+use Rattle.control_rows.specs.declared.spot.ControlSpot.{ControlSpot}
+use Rattle.control_rows.specs.declared.spot.ControlSpot.TheVariants as control
+use Rattle.control_rows.specs.Ready.{UnitGoesOn}
+use Rattle.control_rows.specs.Rows.{control_seat}
+use Rattle.step_core.specs.Fit.{IsWholeImage}
+
+-- of an image
+pub whole_is_prop : (c : Config) (spot : ControlSpot) (image : List ℕ) (got : ℕ) → IsProp (IsWholeImage c spot image got)
+whole_is_prop c (control.LoadWord index) image got = hlevel
+whole_is_prop c _ image got = hlevel
+
+-- of a resolving
+leaves_is_prop : (at : ResolveSpot) (got : ℕ) → IsProp (LeavesFit at got)
+leaves_is_prop (Leaving answer) got = hlevel
+leaves_is_prop _ got = hlevel
+
+-- of a unit of evacuation
+evacuation_is_prop : (c : Config) (seat : ℕ) (spot : EvacSpot) (got : ℕ) → IsProp (units.PartFit c seat spot got)
+evacuation_is_prop c seat (evac.LoadTop region) got = hlevel Bool-set
+evacuation_is_prop c seat (evac.Resolving address end next at) got = hlevel (Bool-set, leaves_is_prop at got)
+evacuation_is_prop c seat _ got = hlevel
+
+-- of a unit, of the control and of a helper
+work_is_prop : (c : Config) (seat : ℕ) (at : UnitSpot) (got : ℕ) → IsProp (unit.IsFit c seat at got)
+work_is_prop c seat (Scanning at) got = hlevel Bool-set
+work_is_prop c seat (Evacuating cset at) got = hlevel (Bool-set, evacuation_is_prop c seat at got)
+work_is_prop c seat (Updating cset at) got = hlevel Bool-set
+work_is_prop c seat (Ended ended) got = hlevel
+
+pub unit_is_prop : (c : Config) (spot : ControlSpot) (got : ℕ) → IsProp (UnitGoesOn c spot got)
+unit_is_prop c (control.Working at) got = work_is_prop c (control_seat c) at got
+unit_is_prop c _ got = hlevel
+
+pub helpers_is_prop : (c : Config) (seat : ℕ) (spot : HelpSpot) (got : ℕ) → IsProp (helpers.UnitGoesOn c seat spot got)
+helpers_is_prop c seat (help.Working at) got = work_is_prop c seat at got
+helpers_is_prop c seat _ got = hlevel
+
+-- of a part of a call
+pub part_is_prop : (c : Config) (seat : ℕ) (kept : Kept) (spot : Spot) (got : ℕ) → IsProp (PartFit c seat kept spot got)
+part_is_prop c seat kept (OnField object at) got = hlevel Bool-set
+part_is_prop c seat kept (Resolving address at next) got = hlevel (Bool-set, leaves_is_prop at got)
+part_is_prop c seat kept _ got = hlevel
+
+pub ends_is_prop : (order : Order) (got : ℕ) → IsProp (EndsFit order got)
+ends_is_prop Nothing got = hlevel
+ends_is_prop (Begin command) got = hlevel
+ends_is_prop End got = hlevel

@@ -1,0 +1,340 @@
+-- What a mutator knows stays true while another machine makes a step.
+use Rattle.std.proofs.Common.{◌≡◌, ℕ, ◌+◌, ◌≤◌, inl, inr, ⊎_elim, Bool, Option, refl, ap, ◌∙◌, arith, sym, subst}
+use Rattle.std.specs.Int.{bit_at}
+use Rattle.heap_words.specs.declared.config.Config.{Config}
+use Rattle.heap_words.specs.Words.{Answer, Ask}
+use Rattle.shen_graph.specs.declared.command.Command.{Command}
+use Rattle.shen_graph.specs.declared.command.Reply.{Reply}
+use Rattle.alloc_buffers.specs.declared.spot.TakeSpot.{TakeSpot}
+use Rattle.mutator.specs.declared.spot.Kept.{Kept}
+use Rattle.mutator.specs.declared.spot.Spot.{Spot}
+use Rattle.mutator.specs.declared.spot.Spot.TheVariants.{Rest, Ended, Entering, LoadPhase, LoadSet, Loading, OnField, Resolving, Recording, OnNumber, Showing, StoreRoot, Making, AskCycle, Waiting, Leave, Gone}
+use Rattle.mutator.specs.declared.spot.Entered.{Entered}
+use Rattle.mutator.specs.declared.spot.Entered.TheVariants.{Call, Waited}
+use Rattle.mutator.specs.declared.loads.LoadSpot.{LoadSpot}
+use Rattle.mutator.specs.declared.loads.LoadSpot.TheVariants as load
+use Rattle.mutator.specs.declared.fields.FieldSpot.{FieldSpot}
+use Rattle.mutator.specs.declared.fields.FieldSpot.TheVariants as fields
+use Rattle.mutator.specs.declared.overwrites.Overwritten.{Overwritten}
+use Rattle.mutator.specs.declared.overwrites.Overwritten.TheVariants as overwrites
+use Rattle.mutator.specs.declared.resolves.Loaded.{Loaded}
+use Rattle.mutator.specs.declared.resolves.Loaded.TheVariants.{ForRoot, ToCompare}
+use Rattle.load_barrier.specs.declared.spot.ResolveSpot.{ResolveSpot}
+use Rattle.step_core.proofs.Mutators.Resolves.{resolving_stays as still_resolving}
+use Rattle.mutator.specs.declared.numbers.NumberSpot.{NumberSpot}
+use Rattle.mutator.specs.declared.numbers.NumberSpot.TheVariants as numbers
+use Rattle.mutator.specs.declared.shows.ShowSpot.{ShowSpot}
+use Rattle.mutator.specs.declared.shows.ShowSpot.TheVariants as show
+use Rattle.mutator.specs.declared.makes.MakeSpot.{MakeSpot}
+use Rattle.mutator.specs.declared.makes.MakeSpot.TheVariants as make
+use Rattle.mutator.specs.declared.waits.WaitSpot.{WaitSpot}
+use Rattle.mutator.specs.declared.waits.WaitSpot.TheVariants as wait
+use Rattle.mutator.specs.Orders.{is_waiting}
+use Rattle.mutator.specs.Commands.{command_root, dst_of, index_of, stored_number, refs_of, nums_of}
+use Rattle.mutator.specs.Rows.{Mutating, words_made}
+use Rattle.heap_world.specs.World.{World, name_at, Points, UsableIn, Shared}
+use Rattle.step_core.proofs.Machines.Stepped.{IsRootWord, HasRoot, HasObject, HasFirst, IsGet, IsSet, IsCas, IsXchg, IsRd, IsWr, IsFound, NameTheSame, NameOthers, IsCompared, LoadedFacts, IsCopy, IsFilling, IsAsking, IsHeard, IsPolling, IsAnswered, LoadFacts, FieldFacts, RecordFacts, NumberFacts, ShowFacts, MakeFacts, EnterFacts, HasTaken, WaitFacts, IsResolving, SpotFacts, IsSeatedIn, recording_of, has_phase, has_set, copies_at, Mine}
+use Rattle.step_core.specs.Own.{root_now, root_recording, root_resolving}
+use Rattle.heap_world.specs.Asking as asking
+use Rattle.heap_world.specs.Asking.{Asking, HasNoPromise, IsAsked}
+use Rattle.heap_world.specs.Rely.{Keeps, Rely}
+use Rattle.alloc_buffers.specs.Facts.{TakeFacts}
+use Rattle.alloc_buffers.proofs.TakeStays.{take_stays}
+use Rattle.satb_barrier.specs.declared.spot.RememberSpot.{RememberSpot}
+use Rattle.mark_steps.specs.Recording.{CanRecord}
+use Rattle.mark_steps.proofs.Parts.{recording_steps}
+use Rattle.step_core.proofs.Mutators.WhileMarking.{covered_stays, marking_relied, copying_relied}
+use Rattle.heap_world.proofs.Keeping.{points_stay, usable_stays, keeps_of}
+
+module _ (c : Config) (u w : World) (seat : ℕ) (keeps : Keeps c seat u w) where
+  -- so it does for a root
+  pub root_stays : (word index : ℕ) → Points u.block word (u.graph.root (seat + 1) index) → Points w.block word (w.graph.root (seat + 1) index)
+  root_stays word index is = rw (keeps.roots index) (points_stay u.block w.block keeps.names word _ is)
+
+  -- so does the word of a root that was loaded
+  root_word_stays : (word index : ℕ) → IsRootWord c u seat index word → IsRootWord c w seat index word
+  root_word_stays word index is = record { stands = root_stays word index is.stands; usable = usable_stays c u w keeps.targets word is.usable }
+
+  -- also of a command
+  loaded_stays : (k : Command) (i word : ℕ) → HasRoot c u seat k i word → HasRoot c w seat k i word
+  loaded_stays k i word has below = root_word_stays word (command_root k i) (has below)
+
+  -- and that of the first one
+  first_stays : (k : Command) (first : ℕ) → HasFirst c u seat k first → HasFirst c w seat k first
+  first_stays k first has = record { some = has.some; first_is = loaded_stays k 0 first has.first_is; not_null = has.not_null }
+
+  -- an object in hand stays
+  abbrev object_stays : (root object : ℕ) → HasObject c u seat root object → HasObject c w seat root object
+  object_stays root object has = record {
+    name = has.name;
+    refs = has.refs;
+    nums = has.nums;
+    root_is = keeps.roots root ∙ has.root_is;
+    target = keeps.targets object has.refs has.nums has.name has.target;
+  }
+
+  -- what a Get counts on stays
+  pub get_stays : (command : Command) (object field dst : ℕ) → IsGet c u seat command object field dst → IsGet c w seat command object field dst
+  get_stays command object field dst is = record { src = is.src; is = is.is; small = is.small; of = object_stays is.src object is.of; below = is.below }
+
+  -- what a Set counts on stays
+  pub set_stays : (command : Command) (object field value : ℕ) → IsSet c u seat command object field value → IsSet c w seat command object field value
+  set_stays command object field value is = record {
+    obj = is.obj;
+    val = is.val;
+    is = is.is;
+    of = object_stays is.obj object is.of;
+    below = is.below;
+    value_is = root_word_stays value is.val is.value_is;
+  }
+
+  -- what a Cas counts on stays
+  pub cas_stays : (command : Command) (object field expect value : ℕ) → IsCas c u seat command object field expect value → IsCas c w seat command object field expect value
+  cas_stays command object field expect value is = record {
+    obj = is.obj;
+    expected = is.expected;
+    val = is.val;
+    is = is.is;
+    of = object_stays is.obj object is.of;
+    below = is.below;
+    expect_is = root_word_stays expect is.expected is.expect_is;
+    value_is = root_word_stays value is.val is.value_is;
+  }
+
+  -- what an Xchg counts on stays
+  pub xchg_stays : (command : Command) (object field value dst : ℕ) → IsXchg c u seat command object field value dst → IsXchg c w seat command object field value dst
+  xchg_stays command object field value dst is = record {
+    obj = is.obj;
+    val = is.val;
+    is = is.is;
+    small = is.small;
+    of = object_stays is.obj object is.of;
+    below = is.below;
+    value_is = root_word_stays value is.val is.value_is;
+  }
+
+  -- what an Rd counts on stays
+  rd_stays : (command : Command) (object refs index : ℕ) → IsRd c u seat command object refs index → IsRd c w seat command object refs index
+  rd_stays command object refs index is = record { obj = is.obj; is = is.is; of = object_stays is.obj object is.of; refs_are = is.refs_are; below = is.below }
+
+  -- what a Wr counts on stays
+  wr_stays : (command : Command) (object refs index value : ℕ) → IsWr c u seat command object refs index value → IsWr c w seat command object refs index value
+  wr_stays command object refs index value is = record { obj = is.obj; is = is.is; of = object_stays is.obj object is.of; refs_are = is.refs_are; below = is.below }
+
+  -- a reference that was found stays
+  pub found_stays : (fixed : Option Reply) (value dst : ℕ) → IsFound u fixed value dst → IsFound w fixed value dst
+  found_stays fixed value dst is = record { name = is.name; settled = is.settled; is = keeps.names value is.name is.is; small = is.small }
+
+  -- that two words name the same stays, and that they name others
+  pub same_stays : (a b : ℕ) → NameTheSame u.block a b → NameTheSame w.block a b
+  same_stays a b (inl null) = inl null
+  same_stays a b (inr both) = inr (both.0, keeps.names a both.0 both.1, keeps.names b both.0 both.2)
+
+  others_stay : (a b : ℕ) → NameOthers u.block a b → NameOthers w.block a b
+  others_stay a b others = record {
+    name = others.name;
+    is = keeps.names a others.name others.is;
+    other = ⊎_elim (λ null. inl null) (λ more. inr (more.0, keeps.names b more.0 more.1, more.2)) others.other;
+  }
+
+  pub compared_stays : (fixed : Option Reply) (found expect : ℕ) → IsCompared u.block fixed found expect → IsCompared w.block fixed found expect
+  compared_stays fixed found expect (inl settled) = inl (settled.0, others_stay found expect settled.1)
+  compared_stays fixed found expect (inr same) = inr (same.0, same_stays found expect same.1)
+
+  -- what holds while a reference is resolved stays
+  pub resolved_stays : (k command : Command) (fixed : Option Reply) (found : ℕ) (next : Loaded) → LoadedFacts c u seat k command fixed found next → LoadedFacts c w seat k command fixed found next
+  resolved_stays k command fixed found ForRoot facts = found_stays fixed found (dst_of k) facts
+  resolved_stays k command fixed found (ToCompare object expect value) facts = record {
+    some = facts.some;
+    is_cas = cas_stays command object (index_of k) expect value facts.is_cas;
+    settled = compared_stays fixed found expect facts.settled;
+  }
+
+  -- what a Copy counts on stays
+  copy_stays : (command : Command) (dst value : ℕ) → IsCopy c u seat command dst value → IsCopy c w seat command dst value
+  copy_stays command dst value is = record { src = is.src; is = is.is; value_is = root_word_stays value is.src is.value_is }
+
+  -- that nothing is promised to it stays
+  pub unpromised_stays : HasNoPromise u.block seat → HasNoPromise w.block seat
+  unpromised_stays none a words is = none a words (keeps.no_promises a words is)
+
+  -- what it has asked for stays asked
+  pub asked_stays : (what : Asking) → IsAsked u.memory u.block u.graph.count seat what → IsAsked w.memory w.block w.graph.count seat what
+  asked_stays asking.nothing is = (keeps.wait ∙ is.0, keeps.answer ∙ is.1, unpromised_stays is.2)
+  asked_stays (asking.asks refs nums) is = (
+    record {
+      wait_is = keeps.wait ∙ rw keeps.count is.0.wait_is;
+      few_refs = is.0.few_refs;
+      few_nums = is.0.few_nums;
+      few = rw keeps.count is.0.few;
+    },
+    keeps.answer ∙ is.1,
+    unpromised_stays is.2,
+  )
+  asked_stays asking.refused is = (keeps.wait ∙ is.0, keeps.answer ∙ is.1, unpromised_stays is.2)
+  asked_stays (asking.given refs nums) is = (
+    keeps.wait ∙ is.0,
+    rw keeps.answer is.1,
+    rw keeps.answer (record {
+      here = keeps.promises _ (3 + refs + nums) is.2.here;
+      words = λ k below. keeps.promise_words _ (3 + refs + nums) k is.2.here below ∙ rw keeps.count (is.2.words k below);
+      only = λ b more there. is.2.only b more (keeps.no_promises b more there);
+      few_refs = is.2.few_refs;
+      few_nums = is.2.few_nums;
+      few = rw keeps.count is.2.few;
+    }),
+  )
+
+  -- so does the asking of a call
+  pub asking_stays : (made : ℕ) (k command : Command) (fixed : Option Reply) (what : Asking) → IsAsking u seat made k command fixed what → IsAsking w seat made k command fixed what
+  asking_stays made k command fixed what is = (is.0, asked_stays what is.1)
+
+  -- with the bit that a mutator waits, where that stays
+  pub heard_stays : (bit_at (u.memory Ask) 1 ≡ 1 → bit_at (w.memory Ask) 1 ≡ 1) → (made : ℕ) (k command : Command) (fixed : Option Reply) → IsHeard u seat made k command fixed → IsHeard w seat made k command fixed
+  heard_stays bit made k command fixed is = (asking_stays made k command fixed (asking.asks (refs_of k) (nums_of k)) is.0, bit is.1)
+
+  -- and what is known while it polls, and once it is answered
+  pub polling_stays : (bit_at (u.memory Ask) 1 ≡ 1 → bit_at (w.memory Ask) 1 ≡ 1) → (made : ℕ) (k command : Command) (fixed : Option Reply) → IsPolling u seat made k command fixed
+      → IsPolling w seat made k command fixed
+  polling_stays bit made k command fixed is = ⊎_elim
+      (λ waits. inl (heard_stays bit made k command fixed waits))
+      (λ rest. inr (⊎_elim
+      (λ given. inl (asking_stays made k command fixed (asking.given (refs_of k) (nums_of k)) given))
+      (λ no. inr (no.0, asked_stays asking.refused no.1))
+      rest))
+      is
+
+  pub answered_stays : (made : ℕ) (k command : Command) (fixed : Option Reply) → IsAnswered u seat made k command fixed → IsAnswered w seat made k command fixed
+  answered_stays made k command fixed is = ⊎_elim
+      (λ given. inl (asking_stays made k command fixed (asking.given (refs_of k) (nums_of k)) given))
+      (λ full. inr (full.0, asked_stays asking.refused full.1))
+      is
+
+  -- what a mutator counts on in each part of a call stays
+  load_stays : (made : ℕ) (k command : Command) (fixed : Option Reply) (at : LoadSpot) → LoadFacts c u seat made k command fixed at → LoadFacts c w seat made k command fixed at
+  load_stays made k command fixed load.First facts = facts
+  load_stays made k command fixed (load.Second first) facts = (facts.0, facts.1, first_stays k first facts.2)
+  load_stays made k command fixed (load.Third first second) facts = (facts.0, facts.1, first_stays k first facts.2, loaded_stays k 1 second facts.3)
+  load_stays made k command fixed (load.Shape object second third) facts = (
+    facts.0,
+    facts.1,
+    record { first_is = first_stays k object facts.2.first_is; second_is = loaded_stays k 1 second facts.2.second_is; third_is = loaded_stays k 2 third facts.2.third_is },
+  )
+
+  pub field_stays : (k command : Command) (fixed : Option Reply) (object : ℕ) (at : FieldSpot) → FieldFacts c u seat k command fixed object at → FieldFacts c w seat k command fixed object at
+  field_stays k command fixed object fields.Load facts = (facts.0, get_stays command object (index_of k) (dst_of k) facts.1)
+  field_stays k command fixed object (fields.LoadExpected expect value) facts = (facts.0, cas_stays command object (index_of k) expect value facts.1)
+  field_stays k command fixed object (fields.LoadOld value) facts = (facts.0, set_stays command object (index_of k) value facts.1)
+  field_stays k command fixed object (fields.Store value) facts = (facts.0, set_stays command object (index_of k) value facts.1, covered_stays c u w object (index_of k) keeps.marks facts.2)
+  field_stays k command fixed object (fields.Swap value) facts = (facts.0, xchg_stays command object (index_of k) value (dst_of k) facts.1)
+  field_stays k command fixed object (fields.Exchange found expect value) facts = (facts.0, cas_stays command object (index_of k) expect value facts.1, same_stays found expect facts.2)
+
+  pub record_stays : (k command : Command) (fixed : Option Reply) (address : ℕ) (next : Overwritten) → RecordFacts c u seat k command fixed address next → RecordFacts c w seat k command fixed address next
+  record_stays k command fixed address (overwrites.Set object value) facts = field_stays k command fixed object (fields.Store value) facts
+  record_stays k command fixed address overwrites.Xchg facts = found_stays fixed address (dst_of k) facts
+  record_stays k command fixed address overwrites.Cas facts = facts
+
+  number_stays : (k command : Command) (fixed : Option Reply) (object refs : ℕ) (at : NumberSpot) → NumberFacts c u seat k command fixed object refs at → NumberFacts c w seat k command fixed object refs at
+  number_stays k command fixed object refs numbers.Load facts = (facts.0, rd_stays command object refs (index_of k) facts.1)
+  number_stays k command fixed object refs numbers.Store facts = (facts.0, wr_stays command object refs (index_of k) (stored_number k) facts.1)
+
+  show_stays : (k : Command) (fixed : Option Reply) (value : ℕ) (at : ShowSpot) → ShowFacts c u k fixed value at → ShowFacts c w k fixed value at
+  show_stays k fixed value show.LoadName facts = (found_stays fixed value (dst_of k) facts.0, usable_stays c u w keeps.targets value facts.1)
+  show_stays k fixed value (show.StoreRoot reply) facts = (facts.0, facts.1, usable_stays c u w keeps.targets value facts.2)
+
+  make_stays : (made : ℕ) (k command : Command) (fixed : Option Reply) → ((words : ℕ) (take : TakeSpot) → TakeFacts c u seat words take → TakeFacts c w seat words take)
+      → ((refs nums address done : ℕ) → IsFilling u seat made refs nums address done → IsFilling w seat made refs nums address done) → (at : MakeSpot)
+      → MakeFacts c u seat made k command fixed at → MakeFacts c w seat made k command fixed at
+  make_stays made k command fixed taking filling (make.Taking take) facts = (facts.0, taking (words_made k) take facts.1)
+  make_stays made k command fixed taking filling (make.StoreWord address done) facts = (facts.0, filling (refs_of k) (nums_of k) address done facts.1, facts.2)
+  make_stays made k command fixed taking filling (make.StoreRoot address) facts = (facts.0, filling (refs_of k) (nums_of k) address (words_made k) facts.1)
+
+  pub enter_stays : (made : ℕ) (k command : Command) (fixed : Option Reply) (next : Entered) → EnterFacts u seat made k command fixed next → EnterFacts w seat made k command fixed next
+  enter_stays made k command fixed Call facts = facts
+  enter_stays made k command fixed Waited facts = answered_stays made k command fixed facts
+
+  -- what was answered and taken stays so
+  taken_stays : HasTaken u seat → HasTaken w seat
+  taken_stays (inl none) = inl (subst (λ n. n ≤ 1) (sym keeps.answer) none)
+  taken_stays (inr named) = inr (named.0, ap (λ a. name_at (w.block a)) keeps.answer ∙ keeps.names (u.memory (Answer seat)) named.0 named.1)
+
+  pub wait_stays : (bit_at (u.memory Ask) 1 ≡ 1 → bit_at (w.memory Ask) 1 ≡ 1) → (made : ℕ) (k command : Command) (fixed : Option Reply) (at : WaitSpot) → WaitFacts u seat made k command fixed at → WaitFacts w seat made k command fixed at
+  wait_stays bit made k command fixed wait.StoreRequest facts = asking_stays made k command fixed asking.nothing facts
+  wait_stays bit made k command fixed wait.AskRoom facts = asking_stays made k command fixed (asking.asks (refs_of k) (nums_of k)) facts
+  wait_stays bit made k command fixed wait.StepOut facts = heard_stays bit made k command fixed facts
+  wait_stays bit made k command fixed wait.Poll facts = polling_stays bit made k command fixed facts
+  wait_stays bit made k command fixed wait.LoadAnswer facts = answered_stays made k command fixed facts
+  wait_stays bit made k command fixed (wait.StoreRoot address) facts = (asking_stays made k command fixed (asking.given (refs_of k) (nums_of k)) facts.0, keeps.answer ∙ facts.1)
+  wait_stays bit made k command fixed (wait.ClearAnswer reply) facts = (facts.0, keeps.wait ∙ facts.1, unpromised_stays facts.2, taken_stays facts.3)
+
+  -- and at its spot, if that of a taking does, that of the words of a new object, of a resolving and of a recording, and the bit that a
+  -- mutator waits
+  facts_stay : (made : ℕ) (kept : Kept) (command : Command) (fixed : Option Reply) → ((words : ℕ) (take : TakeSpot) → TakeFacts c u seat words take → TakeFacts c w seat words take)
+      → ((refs nums address done : ℕ) → IsFilling u seat made refs nums address done → IsFilling w seat made refs nums address done)
+      → ((address : ℕ) (at : ResolveSpot) → IsResolving c u seat address at → IsResolving c w seat address at)
+      → ((address : ℕ) (at : RememberSpot) → CanRecord c u seat address at → CanRecord c w seat address at) → (bit_at (u.memory Ask) 1 ≡ 1 → bit_at (w.memory Ask) 1 ≡ 1) → (spot : Spot)
+      → SpotFacts c u seat made kept command fixed spot → SpotFacts c w seat made kept command fixed spot
+  facts_stay made kept command fixed taking filling resolving recording bit Rest facts = facts
+  facts_stay made kept command fixed taking filling resolving recording bit (Ended reply) facts = facts
+  facts_stay made kept command fixed taking filling resolving recording bit (Entering at next) facts = enter_stays made kept.command command fixed next facts
+  facts_stay made kept command fixed taking filling resolving recording bit LoadPhase facts = facts
+  facts_stay made kept command fixed taking filling resolving recording bit LoadSet facts = facts
+  facts_stay made kept command fixed taking filling resolving recording bit (Loading at) facts = load_stays made kept.command command fixed at facts
+  facts_stay made kept command fixed taking filling resolving recording bit (OnField object at) facts = field_stays kept.command command fixed object at facts
+  facts_stay made kept command fixed taking filling resolving recording bit (Resolving address at next) facts = (resolving address at facts.0, resolved_stays kept.command command fixed address next facts.1)
+  facts_stay made kept command fixed taking filling resolving recording bit (Recording at address next) facts = (recording address at facts.0, record_stays kept.command command fixed address next facts.1)
+  facts_stay made kept command fixed taking filling resolving recording bit (OnNumber object refs at) facts = number_stays kept.command command fixed object refs at facts
+  facts_stay made kept command fixed taking filling resolving recording bit (Showing value at) facts = show_stays kept.command fixed value at facts
+  facts_stay made kept command fixed taking filling resolving recording bit (StoreRoot value) facts = (facts.0, facts.1, ⊎_elim (λ is. inl (copy_stays command (dst_of kept.command) value is)) (λ is. inr is) facts.2)
+  facts_stay made kept command fixed taking filling resolving recording bit (Making at) facts = make_stays made kept.command command fixed taking filling at facts
+  facts_stay made kept command fixed taking filling resolving recording bit AskCycle facts = facts
+  facts_stay made kept command fixed taking filling resolving recording bit (Waiting at) facts = wait_stays bit made kept.command command fixed at facts
+  facts_stay made kept command fixed taking filling resolving recording bit (Leave reply) facts = facts
+  facts_stay made kept command fixed taking filling resolving recording bit Gone facts = facts
+
+  -- what a mutator knows of its seat stays
+  pub seated_stays : (made : ℕ) (waiting : Bool) → IsSeatedIn c u seat made waiting → IsSeatedIn c w seat made waiting
+  seated_stays made waiting seated = record {
+    below = seated.below;
+    counted = keeps.count ∙ seated.counted;
+    usable = λ i below. subst (λ word. UsableIn c w word) (sym (keeps.root_words i)) (usable_stays c u w keeps.targets _ (seated.usable i below));
+    unasked = λ calm. let was = seated.unasked calm in (keeps.wait ∙ was.0, keeps.answer ∙ was.1, unpromised_stays was.2);
+  }
+
+  -- a root that counts stays
+  recording_stays : (dst value : ℕ) (next : Overwritten) (index : ℕ) → root_recording w seat dst value next index ≡ root_recording u seat dst value next index
+  recording_stays dst value overwrites.Xchg index = rw (keeps.root_words index) refl
+  recording_stays dst value _ index = keeps.root_words index
+
+  resolving_stays : (dst value : ℕ) (next : Loaded) (index : ℕ) → root_resolving w seat dst value next index ≡ root_resolving u seat dst value next index
+  resolving_stays dst value ForRoot index = rw (keeps.root_words index) refl
+  resolving_stays dst value (ToCompare object expect more) index = keeps.root_words index
+
+  pub now_stays : (kept : Kept) (spot : Spot) (index : ℕ) → root_now w seat kept spot index ≡ root_now u seat kept spot index
+  now_stays kept (Showing value at) index = rw (keeps.root_words index) refl
+  now_stays kept (Resolving address at next) index = resolving_stays (dst_of kept.command) address next index
+  now_stays kept (Recording at address next) index = recording_stays (dst_of kept.command) address next index
+  now_stays kept _ index = keeps.root_words index
+
+-- the words of a new object stay
+filling_stays : (c : Config) (u w : World) (seat : ℕ) → Rely c seat u w → (made refs nums address done : ℕ) → IsFilling u seat made refs nums address done → IsFilling w seat made refs nums address done
+filling_stays c u w seat rely made refs nums address done facts = record {
+  room = rely.hands address (3 + refs + nums) facts.room;
+  within = facts.within;
+  stored = λ k below. rely.hand_words address (3 + refs + nums) k facts.room (let within = facts.within in omega arith) ∙ facts.stored k below;
+}
+
+-- all that it knows stays
+pub mine_stays : (c : Config) (u w : World) (m : Mutating) (command : Command) (fixed : Option Reply) → Shared c u → Rely c m.seat u w → Mine c u m command fixed → Mine c w m command fixed
+mine_stays c u w m command fixed shared rely mine = let keeps : Keeps c m.seat u w = keeps_of c m.seat u w rely in record {
+  seated = seated_stays c u w m.seat keeps m.made (is_waiting m.spot) mine.seated;
+  ready = mine.ready;
+  marking = marking_relied c u w m.seat (recording_of m.spot) m.kept.phase (has_phase m.spot) rely.marks mine.marking;
+  copying = copying_relied c u w m.seat (copies_at m.spot) m.kept.cset (has_set m.spot) rely.copies mine.copying;
+  roots = λ i below. rw (now_stays c u w m.seat keeps m.kept m.spot i) (root_stays c u w m.seat keeps _ i (mine.roots i below));
+  hands = λ a words is. mine.hands a words (rely.no_hands a words is);
+  facts = facts_stay c u w m.seat keeps m.made m.kept command fixed (take_stays c u w m.seat rely (λ r is. shared.owned.currents.own m.seat r is))
+      (filling_stays c u w m.seat rely m.made)
+      (λ address at can. still_resolving c u w m.seat address at shared rely can)
+      (λ address at can. recording_steps.stays c u w m.seat address at rely can) rely.asked m.spot mine.facts;
+}

@@ -1,0 +1,422 @@
+-- What one machine knows of a world, and what each step of a place owes.
+use Rattle.std.specs.Int.{bit_at}
+use Rattle.std.specs.Prelude.{ℕ, ◌≡◌, ◌≢◌, ◌⊎◌, ◌+◌, ◌<◌, ◌≤◌, Bool, true, false, length, Option, Some, None}
+use Rattle.heap_words.specs.declared.config.Config.{Config}
+use Rattle.heap_words.specs.Encoding.{fresh_word}
+use Rattle.heap_words.specs.Words.{Heap, Root, Wait, Answer, Ask, Phase, Cset, Evac}
+use Rattle.steps_base.specs.Touch.{touched}
+use Rattle.shen_graph.specs.declared.name.Name.{Name}
+use Rattle.shen_graph.specs.declared.command.Command.{Command}
+use Rattle.shen_graph.specs.declared.command.Command.TheVariants.{New, Get, Set, Cas, Xchg, Rd, Wr, Copy, Drop, Gc}
+use Rattle.shen_graph.specs.declared.command.Reply.{Reply}
+use Rattle.shen_graph.specs.declared.command.Reply.TheVariants as reply
+use Rattle.shen_graph.specs.Graph.{Graph}
+use Rattle.shen_graph.specs.Step.{IsLegal}
+use Rattle.shen_graph.specs.History.{after_entry}
+use Rattle.alloc_buffers.specs.Facts.{TakeFacts}
+use Rattle.shen_graph.specs.declared.order.Order.{Order}
+use Rattle.shen_graph.specs.declared.order.Order.TheVariants.{Nothing}
+use Rattle.mutator.specs.declared.spot.Kept.{Kept}
+use Rattle.mutator.specs.declared.spot.Spot.{Spot}
+use Rattle.mutator.specs.declared.spot.Spot.TheVariants.{Rest, Ended, Entering, LoadPhase, LoadSet, Loading, OnField, Resolving, Recording, OnNumber, Showing, StoreRoot, Making, AskCycle, Waiting, Leave, Gone}
+use Rattle.mutator.specs.declared.spot.Entered.{Entered}
+use Rattle.mutator.specs.declared.spot.Entered.TheVariants.{Call, Waited}
+use Rattle.mutator.specs.declared.loads.LoadSpot.{LoadSpot}
+use Rattle.mutator.specs.declared.loads.LoadSpot.TheVariants as load
+use Rattle.mutator.specs.declared.fields.FieldSpot.{FieldSpot}
+use Rattle.mutator.specs.declared.fields.FieldSpot.TheVariants as fields
+use Rattle.mutator.specs.declared.overwrites.Overwritten.{Overwritten}
+use Rattle.mutator.specs.declared.overwrites.Overwritten.TheVariants as overwrites
+use Rattle.mutator.specs.declared.resolves.Loaded.{Loaded}
+use Rattle.mutator.specs.declared.resolves.Loaded.TheVariants.{ForRoot, ToCompare}
+use Rattle.mutator.specs.declared.numbers.NumberSpot.{NumberSpot}
+use Rattle.mutator.specs.declared.numbers.NumberSpot.TheVariants as numbers
+use Rattle.mutator.specs.declared.shows.ShowSpot.{ShowSpot}
+use Rattle.mutator.specs.declared.shows.ShowSpot.TheVariants as show
+use Rattle.mutator.specs.declared.makes.MakeSpot.{MakeSpot}
+use Rattle.mutator.specs.declared.makes.MakeSpot.TheVariants as make
+use Rattle.mutator.specs.declared.waits.WaitSpot.{WaitSpot}
+use Rattle.mutator.specs.declared.waits.WaitSpot.TheVariants as wait
+use Rattle.mutator.specs.Orders.{is_waiting, takes_at, is_next}
+use Rattle.mutator.specs.Commands.{command_roots, command_root, dst_of, index_of, stored_number, refs_of, nums_of, is_on_object}
+use Rattle.mutator.specs.Rows.{Mutating, words_made, touch_of, next_of, given_at}
+use Rattle.mutator.specs.Told.{told_of}
+use Rattle.mutator.specs.Fit.{IsReady}
+use Rattle.step_core.specs.Actor.{entry_of, command_by}
+use Rattle.step_core.specs.Own.{root_now, IsInHand}
+pub use Rattle.step_core.specs.Seats.{recording_of, copies_at, HasTaken}
+use Rattle.mark_steps.specs.Recording.{CanRecord}
+use Rattle.load_barrier.specs.declared.spot.ResolveSpot.{ResolveSpot}
+use Rattle.move_steps.specs.Resolving.Facts.{CanResolve}
+use Rattle.move_steps.specs.Updating.Following.{CanFollow}
+use Rattle.heap_world.specs.World.{World, Plot, Scan, hand, name_at, Points, TargetIn, IsUsable, UsableIn, IsCovered, Shared}
+use Rattle.heap_world.specs.Asking as asking
+use Rattle.heap_world.specs.Asking.{Asking, HasNoPromise, IsAsked}
+use Rattle.heap_world.specs.Rely.{Rely}
+
+-- a word is that of a root of the mutator: it stands for the root's reference, and may be used
+pub record IsRootWord (c : Config) (w : World) (seat index word : ℕ) : Type 0 where
+  pub stands : Points w.block word (w.graph.root (seat + 1) index)
+  pub usable : UsableIn c w word
+
+-- A word is that of a root which the command loads. Of a root that the command does not load nothing is known.
+abbrev pub HasRoot : Config → World → ℕ → Command → ℕ → ℕ → Type 0
+HasRoot c w seat command k word = k < length (command_roots command) → IsRootWord c w seat (command_root command k) word
+
+-- the call has begun and nothing is settled
+pub record IsBegun (made : ℕ) (command : Command) (fixed : Option Reply) (k : Command) : Type 0 where
+  pub unsettled : fixed ≡ None
+  pub is : command ≡ k
+  pub next : is_next made k ≡ true
+
+-- the object that a root of the mutator names
+pub record HasObject (c : Config) (w : World) (seat root object : ℕ) : Type 0 where
+  pub name : Name
+  pub refs : ℕ
+  pub nums : ℕ
+  pub root_is : w.graph.root (seat + 1) root ≡ Some name
+  pub target : TargetIn c w object refs nums name
+
+-- the first root of a command is loaded, and if the command works on an object, it is not null
+pub record HasFirst (c : Config) (w : World) (seat : ℕ) (k : Command) (first : ℕ) : Type 0 where
+  pub some : 0 < length (command_roots k)
+  pub first_is : HasRoot c w seat k 0 first
+  pub not_null : is_on_object k ≡ true → first ≢ 0
+
+-- all roots are loaded
+pub record HasRoots (c : Config) (w : World) (seat : ℕ) (k : Command) (first second third : ℕ) : Type 0 where
+  pub first_is : HasFirst c w seat k first
+  pub second_is : HasRoot c w seat k 1 second
+  pub third_is : HasRoot c w seat k 2 third
+
+-- The command works on a reference field of an object, or on a number of it.
+pub record IsGet (c : Config) (w : World) (seat : ℕ) (command : Command) (object field dst : ℕ) : Type 0 where
+  pub src : ℕ
+  pub is : command ≡ Get dst src field
+  pub small : dst < 16
+  pub of : HasObject c w seat src object
+  pub below : field < of.refs
+
+pub record IsSet (c : Config) (w : World) (seat : ℕ) (command : Command) (object field value : ℕ) : Type 0 where
+  pub obj : ℕ
+  pub val : ℕ
+  pub is : command ≡ Set obj field val
+  pub of : HasObject c w seat obj object
+  pub below : field < of.refs
+  pub value_is : IsRootWord c w seat val value
+
+pub record IsCas (c : Config) (w : World) (seat : ℕ) (command : Command) (object field expect value : ℕ) : Type 0 where
+  pub obj : ℕ
+  pub expected : ℕ
+  pub val : ℕ
+  pub is : command ≡ Cas obj field expected val
+  pub of : HasObject c w seat obj object
+  pub below : field < of.refs
+  pub expect_is : IsRootWord c w seat expected expect
+  pub value_is : IsRootWord c w seat val value
+
+pub record IsXchg (c : Config) (w : World) (seat : ℕ) (command : Command) (object field value dst : ℕ) : Type 0 where
+  pub obj : ℕ
+  pub val : ℕ
+  pub is : command ≡ Xchg dst obj field val
+  pub small : dst < 16
+  pub of : HasObject c w seat obj object
+  pub below : field < of.refs
+  pub value_is : IsRootWord c w seat val value
+
+pub record IsRd (c : Config) (w : World) (seat : ℕ) (command : Command) (object refs index : ℕ) : Type 0 where
+  pub obj : ℕ
+  pub is : command ≡ Rd obj index
+  pub of : HasObject c w seat obj object
+  pub refs_are : refs ≡ of.refs
+  pub below : index < of.nums
+
+pub record IsWr (c : Config) (w : World) (seat : ℕ) (command : Command) (object refs index value : ℕ) : Type 0 where
+  pub obj : ℕ
+  pub is : command ≡ Wr obj index value
+  pub of : HasObject c w seat obj object
+  pub refs_are : refs ≡ of.refs
+  pub below : index < of.nums
+
+-- the reply shows the object that was found, of which a copy is in hand
+pub record IsFound (w : World) (fixed : Option Reply) (value dst : ℕ) : Type 0 where
+  pub name : Name
+  pub settled : fixed ≡ Some (reply.Ref name)
+  pub is : name_at (w.block value) ≡ Some name
+  pub small : dst < 16
+
+-- two words name the same: both are null, or what stands at them is of one name
+abbrev pub NameTheSame : Plot → ℕ → ℕ → Type 0
+NameTheSame block a b = ((a ≡ 0) × (b ≡ 0)) ⊎ ((name : Name) × (name_at (block a) ≡ Some name) × (name_at (block b) ≡ Some name))
+
+-- a word names an object, and another word is null or names another
+pub record NameOthers (block : Plot) (a b : ℕ) : Type 0 where
+  pub name : Name
+  pub is : name_at (block a) ≡ Some name
+  pub other : (b ≡ 0) ⊎ ((more : Name) × (name_at (block b) ≡ Some more) × (name ≢ more))
+
+-- what was found in the field that a Cas is about to exchange is compared with what is to be there: it is settled that they differ, or
+-- they name the same and nothing is settled
+abbrev pub IsCompared : Plot → Option Reply → (found expect : ℕ) → Type 0
+IsCompared block fixed found expect = ((fixed ≡ Some reply.No) × NameOthers block found expect) ⊎ ((fixed ≡ None) × NameTheSame block found expect)
+
+pub record IsComparing (c : Config) (w : World) (seat : ℕ) (k command : Command) (fixed : Option Reply) (object found expect value : ℕ) : Type 0 where
+  pub some : found ≢ 0
+  pub is_cas : IsCas c w seat command object (index_of k) expect value
+  pub settled : IsCompared w.block fixed found expect
+
+-- what holds while a reference that was found in a field is resolved
+abbrev pub LoadedFacts : Config → World → ℕ → Command → Command → Option Reply → (found : ℕ) → Loaded → Type 0
+LoadedFacts c w seat k command fixed found ForRoot = IsFound w fixed found (dst_of k)
+LoadedFacts c w seat k command fixed found (ToCompare object expect value) = IsComparing c w seat k command fixed object found expect value
+
+-- the command makes one root another, or null
+pub record IsCopy (c : Config) (w : World) (seat : ℕ) (command : Command) (dst value : ℕ) : Type 0 where
+  pub src : ℕ
+  pub is : command ≡ Copy dst src
+  pub value_is : IsRootWord c w seat src value
+
+pub record IsDrop (command : Command) (dst value : ℕ) : Type 0 where
+  pub is : command ≡ Drop dst
+  pub value_is : value ≡ 0
+
+-- the command makes an object, and nothing is settled
+pub record IsMaking (made : ℕ) (command : Command) (fixed : Option Reply) (dst refs nums : ℕ) : Type 0 where
+  pub unsettled : fixed ≡ None
+  pub is : command ≡ New dst refs nums
+  pub small : dst < 16
+  pub few_refs : refs ≤ 16
+  pub few_nums : nums ≤ 16
+  pub few : made < 4294967295
+
+-- room in hand, in which so many words of the new object stand
+pub record IsFilling (w : World) (seat made refs nums address done : ℕ) : Type 0 where
+  pub room : w.block address ≡ Some (hand seat (3 + refs + nums))
+  pub within : done ≤ 3 + refs + nums
+  pub stored : (k : ℕ) → k < done → w.memory (Heap (address + k)) ≡ fresh_word seat made refs nums k
+
+-- the command makes an object for which there was no room, and the history has no reply, or that the heap is full
+pub record IsRefused (command : Command) (fixed : Option Reply) : Type 0 where
+  pub dst : ℕ
+  pub refs : ℕ
+  pub nums : ℕ
+  pub is : command ≡ New dst refs nums
+  pub settled : (fixed ≡ None) ⊎ (fixed ≡ Some reply.Full)
+
+-- and the history has that the heap is full
+pub record IsFull (command : Command) (fixed : Option Reply) : Type 0 where
+  pub dst : ℕ
+  pub refs : ℕ
+  pub nums : ℕ
+  pub is : command ≡ New dst refs nums
+  pub settled : fixed ≡ Some reply.Full
+
+-- the command makes an object, and the mutator has asked so for it
+abbrev pub IsAsking : World → ℕ → ℕ → Command → Command → Option Reply → Asking → Type 0
+IsAsking w seat made k command fixed what = IsMaking made command fixed (dst_of k) (refs_of k) (nums_of k) × IsAsked w.memory w.block w.graph.count seat what
+
+-- it asks for its object, and the word of what is asked has the bit that a mutator waits
+abbrev pub IsHeard : World → ℕ → ℕ → Command → Command → Option Reply → Type 0
+IsHeard w seat made k command fixed = IsAsking w seat made k command fixed (asking.asks (refs_of k) (nums_of k)) × (bit_at (w.memory Ask) 1 ≡ 1)
+
+-- Where a mutator polls, it asks for its object, was given it, or was refused it. The words that count may say so before the
+-- word of the table does that it polls: then the history does not have yet that the heap is full.
+abbrev pub IsPolling : World → ℕ → ℕ → Command → Command → Option Reply → Type 0
+IsPolling w seat made k command fixed =
+    IsHeard w seat made k command fixed
+    ⊎ (IsAsking w seat made k command fixed (asking.given (refs_of k) (nums_of k)) ⊎ (IsRefused command fixed × IsAsked w.memory w.block w.graph.count seat asking.refused))
+
+-- and once it has found that it is answered, it was given its object, or the heap is full
+abbrev pub IsAnswered : World → ℕ → ℕ → Command → Command → Option Reply → Type 0
+IsAnswered w seat made k command fixed =
+    IsAsking w seat made k command fixed (asking.given (refs_of k) (nums_of k)) ⊎ (IsFull command fixed × IsAsked w.memory w.block w.graph.count seat asking.refused)
+
+-- What holds in each part of a call of this command, of which the mutator keeps k. `fixed` is the reply that the history has
+-- for the call, once it is settled.
+abbrev pub LoadFacts : Config → World → ℕ → ℕ → Command → Command → Option Reply → LoadSpot → Type 0
+LoadFacts c w seat made k command fixed load.First = IsBegun made command fixed k × (0 < length (command_roots k))
+LoadFacts c w seat made k command fixed (load.Second first) = IsBegun made command fixed k × (1 < length (command_roots k)) × HasFirst c w seat k first
+LoadFacts c w seat made k command fixed (load.Third first second) = IsBegun made command fixed k × (2 < length (command_roots k)) × HasFirst c w seat k first × HasRoot c w seat k 1 second
+LoadFacts c w seat made k command fixed (load.Shape object second third) = IsBegun made command fixed k × (is_on_object k ≡ true) × HasRoots c w seat k object second third
+
+abbrev pub FieldFacts : Config → World → ℕ → Command → Command → Option Reply → ℕ → FieldSpot → Type 0
+FieldFacts c w seat k command fixed object fields.Load = (fixed ≡ None) × IsGet c w seat command object (index_of k) (dst_of k)
+FieldFacts c w seat k command fixed object (fields.LoadExpected expect value) = (fixed ≡ None) × IsCas c w seat command object (index_of k) expect value
+FieldFacts c w seat k command fixed object (fields.LoadOld value) = (fixed ≡ None) × IsSet c w seat command object (index_of k) value
+FieldFacts c w seat k command fixed object (fields.Store value) = (fixed ≡ None) × IsSet c w seat command object (index_of k) value × IsCovered c w object (index_of k)
+FieldFacts c w seat k command fixed object (fields.Swap value) = (fixed ≡ None) × IsXchg c w seat command object (index_of k) value (dst_of k)
+FieldFacts c w seat k command fixed object (fields.Exchange found expect value) = (fixed ≡ None) × IsCas c w seat command object (index_of k) expect value × NameTheSame w.block found expect
+
+-- what follows once an overwritten reference is recorded: a Set covers what its field had in the snapshot, and of an Xchg and a Cas the
+-- reply is settled
+abbrev pub RecordFacts : Config → World → ℕ → Command → Command → Option Reply → ℕ → Overwritten → Type 0
+RecordFacts c w seat k command fixed address (overwrites.Set object value) = FieldFacts c w seat k command fixed object (fields.Store value)
+RecordFacts c w seat k command fixed address overwrites.Xchg = IsFound w fixed address (dst_of k)
+RecordFacts c w seat k command fixed address overwrites.Cas = fixed ≡ Some reply.Yes
+
+abbrev pub NumberFacts : Config → World → ℕ → Command → Command → Option Reply → ℕ → ℕ → NumberSpot → Type 0
+NumberFacts c w seat k command fixed object refs numbers.Load = (fixed ≡ None) × IsRd c w seat command object refs (index_of k)
+NumberFacts c w seat k command fixed object refs numbers.Store = (fixed ≡ None) × IsWr c w seat command object refs (index_of k) (stored_number k)
+
+abbrev pub ShowFacts : Config → World → Command → Option Reply → ℕ → ShowSpot → Type 0
+ShowFacts c w k fixed value show.LoadName = IsFound w fixed value (dst_of k) × UsableIn c w value
+ShowFacts c w k fixed value (show.StoreRoot reply) = (fixed ≡ Some reply) × (dst_of k < 16) × UsableIn c w value
+
+abbrev pub MakeFacts : Config → World → ℕ → ℕ → Command → Command → Option Reply → MakeSpot → Type 0
+MakeFacts c w seat made k command fixed (make.Taking take) = IsMaking made command fixed (dst_of k) (refs_of k) (nums_of k) × TakeFacts c w seat (words_made k) take
+MakeFacts c w seat made k command fixed (make.StoreWord address done) =
+    IsMaking made command fixed (dst_of k) (refs_of k) (nums_of k) × IsFilling w seat made (refs_of k) (nums_of k) address done × (done < words_made k)
+MakeFacts c w seat made k command fixed (make.StoreRoot address) =
+    IsMaking made command fixed (dst_of k) (refs_of k) (nums_of k) × IsFilling w seat made (refs_of k) (nums_of k) address (words_made k)
+
+abbrev pub EnterFacts : World → ℕ → ℕ → Command → Command → Option Reply → Entered → Type 0
+EnterFacts w seat made k command fixed Call = IsBegun made command fixed k
+EnterFacts w seat made k command fixed Waited = IsAnswered w seat made k command fixed
+
+abbrev pub WaitFacts : World → ℕ → ℕ → Command → Command → Option Reply → WaitSpot → Type 0
+WaitFacts w seat made k command fixed wait.StoreRequest = IsAsking w seat made k command fixed asking.nothing
+WaitFacts w seat made k command fixed wait.AskRoom = IsAsking w seat made k command fixed (asking.asks (refs_of k) (nums_of k))
+WaitFacts w seat made k command fixed wait.StepOut = IsHeard w seat made k command fixed
+WaitFacts w seat made k command fixed wait.Poll = IsPolling w seat made k command fixed
+WaitFacts w seat made k command fixed wait.LoadAnswer = IsAnswered w seat made k command fixed
+WaitFacts w seat made k command fixed (wait.StoreRoot address) =
+    IsAsking w seat made k command fixed (asking.given (refs_of k) (nums_of k)) × (w.memory (Answer seat) ≡ address)
+WaitFacts w seat made k command fixed (wait.ClearAnswer reply) = (fixed ≡ Some reply) × (w.memory (Wait seat) ≡ 0) × HasNoPromise w.block seat × HasTaken w seat
+
+-- the machine of a seat resolves an address: objects are evacuated, or references to them updated
+abbrev pub IsResolving : Config → World → (seat address : ℕ) → ResolveSpot → Type 0
+IsResolving c w seat address at = CanResolve c w seat address at ⊎ CanFollow c w seat address at
+
+-- and at each spot
+abbrev pub SpotFacts : Config → World → ℕ → ℕ → Kept → Command → Option Reply → Spot → Type 0
+SpotFacts c w seat made kept command fixed Rest = fixed ≡ None
+SpotFacts c w seat made kept command fixed (Ended reply) = fixed ≡ None
+SpotFacts c w seat made kept command fixed (Entering at next) = EnterFacts w seat made kept.command command fixed next
+SpotFacts c w seat made kept command fixed LoadPhase = IsBegun made command fixed kept.command
+SpotFacts c w seat made kept command fixed LoadSet = IsBegun made command fixed kept.command
+SpotFacts c w seat made kept command fixed (Loading at) = LoadFacts c w seat made kept.command command fixed at
+SpotFacts c w seat made kept command fixed (OnField object at) = FieldFacts c w seat kept.command command fixed object at
+SpotFacts c w seat made kept command fixed (Resolving address at next) = IsResolving c w seat address at × LoadedFacts c w seat kept.command command fixed address next
+SpotFacts c w seat made kept command fixed (Recording at address next) = CanRecord c w seat address at × RecordFacts c w seat kept.command command fixed address next
+SpotFacts c w seat made kept command fixed (OnNumber object refs at) = NumberFacts c w seat kept.command command fixed object refs at
+SpotFacts c w seat made kept command fixed (Showing value at) = ShowFacts c w kept.command fixed value at
+SpotFacts c w seat made kept command fixed (StoreRoot value) =
+    (fixed ≡ None) × (dst_of kept.command < 16) × (IsCopy c w seat command (dst_of kept.command) value ⊎ IsDrop command (dst_of kept.command) value)
+SpotFacts c w seat made kept command fixed (Making at) = MakeFacts c w seat made kept.command command fixed at
+SpotFacts c w seat made kept command fixed AskCycle = (fixed ≡ None) × (command ≡ Gc)
+SpotFacts c w seat made kept command fixed (Waiting at) = WaitFacts w seat made kept.command command fixed at
+SpotFacts c w seat made kept command fixed (Leave reply) = fixed ≡ Some reply
+SpotFacts c w seat made kept command fixed Gone = fixed ≡ None
+
+-- The facts of a seat that all places share, over the words and numbers that they read: it is a mutator's, it has made as many
+-- objects as the graph says, its root words may be used, and while it does not wait for an object it has asked for none, and
+-- none is promised to it.
+pub record IsSeated (c : Config) (seat count made : ℕ) (waiting : Bool) (wait answer cset evac : ℕ) (root : ℕ → ℕ) (block : Plot) : Type 0 where
+  pub below : seat < c.mutators
+  pub counted : count ≡ made
+  pub usable : (i : ℕ) → i < 16 → IsUsable c cset evac block (root i)
+  pub unasked : waiting ≡ false → (wait ≡ 0) × (answer ≡ 0) × HasNoPromise block seat
+
+-- those of a seat in a world, by the objects that its mutator has made and whether it waits
+abbrev pub IsSeatedIn : Config → World → ℕ → ℕ → Bool → Type 0
+IsSeatedIn c w seat made waiting =
+    IsSeated c seat (w.graph.count (seat + 1)) made waiting (w.memory (Wait seat)) (w.memory (Answer seat)) (w.memory Cset) (w.memory Evac) (λ i. w.memory (Root seat i)) w.block
+
+-- and those of a mutator
+abbrev pub Seated : Config → World → Mutating → Type 0
+Seated c w m = IsSeatedIn c w m.seat m.made (is_waiting m.spot)
+
+-- whether the phase that a call has loaded is the phase: from there on until it waits or leaves
+abbrev pub has_phase : Spot → Bool
+has_phase LoadSet = true
+has_phase (Loading at) = true
+has_phase (OnField object at) = true
+has_phase (Resolving address at next) = true
+has_phase (Recording at address next) = true
+has_phase (OnNumber object refs at) = true
+has_phase (Showing value at) = true
+has_phase (StoreRoot value) = true
+has_phase (Making at) = true
+has_phase AskCycle = true
+has_phase _ = false
+
+-- Of marking a mutator counts on this: what it is about to record is what its spot says, it scans nothing, and where its call has
+-- loaded the phase, that is the phase.
+pub record HasMarking (phase : ℕ) (recording : Option ℕ) (scanning : Option Scan) (in_hand : Option ℕ) (loaded : ℕ) (knows : Bool) : Type 0 where
+  pub records : recording ≡ in_hand
+  pub scans : scanning ≡ None
+  pub phase_is : knows ≡ true → loaded ≡ phase
+
+-- that of a seat in a world, by what its spot has in hand, the phase that its call keeps, and whether it has loaded it
+abbrev pub HasMarkingBy : World → ℕ → Option ℕ → ℕ → Bool → Type 0
+HasMarkingBy w seat in_hand loaded knows = HasMarking (w.memory Phase) (w.ghost.recording seat) (w.ghost.scanning seat) in_hand loaded knows
+
+abbrev pub HasMarkingIn : World → ℕ → Kept → Spot → Type 0
+HasMarkingIn w seat kept spot = HasMarkingBy w seat (recording_of spot) kept.phase (has_phase spot)
+
+-- whether the collection set that a call has loaded is the set: from there on until it waits or leaves
+abbrev pub has_set : Spot → Bool
+has_set LoadSet = false
+has_set spot = has_phase spot
+
+-- Of evacuation a mutator counts on this: it copies where its spot says so, it works on no unit, and where its call has loaded the
+-- collection set, that is the set.
+pub record HasCopying (cset : ℕ) (copying : Bool) (working : Option ℕ) (copies : Bool) (loaded : ℕ) (knows : Bool) : Type 0 where
+  pub copies_is : copying ≡ copies
+  pub works_none : working ≡ None
+  pub set_is : knows ≡ true → loaded ≡ cset
+
+abbrev pub HasCopyingBy : World → ℕ → Bool → ℕ → Bool → Type 0
+HasCopyingBy w seat copies loaded knows = HasCopying (w.memory Cset) (w.ghost.copying seat) (w.ghost.working seat) copies loaded knows
+
+abbrev pub HasCopyingIn : World → ℕ → Kept → Spot → Type 0
+HasCopyingIn w seat kept spot = HasCopyingBy w seat (copies_at spot) kept.cset (has_set spot)
+
+-- what a mutator counts on
+pub record Mine (c : Config) (w : World) (m : Mutating) (command : Command) (fixed : Option Reply) : Type 0 where
+  pub seated : Seated c w m
+  pub ready : IsReady c m
+  pub marking : HasMarkingIn w m.seat m.kept m.spot
+  pub copying : HasCopyingIn w m.seat m.kept m.spot
+  pub roots : (i : ℕ) → i < 16 → Points w.block (root_now w m.seat m.kept m.spot i) (w.graph.root (m.seat + 1) i)
+  pub hands : (a words : ℕ) → w.block a ≡ Some (hand m.seat words) → IsInHand m.kept m.spot a words
+  pub facts : SpotFacts c w m.seat m.made m.kept command fixed m.spot
+
+-- the graph after the entry that a step settles, if it settles one
+abbrev pub graph_by : Graph → ℕ → Command → Option Reply → Graph
+graph_by g seat command None = g
+graph_by g seat command (Some reply) = after_entry g (entry_of seat command reply)
+
+-- the entry that a step settles is legal, if it settles one
+abbrev pub LegalBy : Graph → ℕ → Command → Option Reply → Type 0
+LegalBy g seat command None = Unit {0}
+LegalBy g seat command (Some reply) = IsLegal g (seat + 1) command reply (after_entry g (entry_of seat command reply))
+
+-- the settled reply after a step that settles one, gives it, or does neither
+abbrev pub fixed_by : Option Reply → Option Reply → Option Reply → Option Reply
+fixed_by fixed (Some told) given = Some told
+fixed_by fixed None (Some given) = None
+fixed_by fixed None None = fixed
+
+-- What a step of a mutator owes: the world after it, whose memory is that after the access and whose graph is that after
+-- the entry which it settles; that the entry is legal, and the first of its call; what all machines share, what the
+-- mutator counts on from here, and what the others rely on.
+pub record Stepped (c : Config) (u : World) (m : Mutating) (command : Command) (order : Order) (fixed : Option Reply) : Type 0 where
+  pub world : World
+  pub memory : world.memory ≡ touched u.memory (touch_of c m order)
+  pub graph : world.graph ≡ graph_by u.graph m.seat (command_by order command) (told_of u.memory m)
+  pub legal : LegalBy u.graph m.seat (command_by order command) (told_of u.memory m)
+  pub settles : (reply : Reply) → told_of u.memory m ≡ Some reply → (fixed ≡ None) × (given_at m.spot ≡ None)
+  pub shared : Shared c world
+  pub mine : Mine c world (next_of c m order (u.memory (touch_of c m order).word)) (command_by order command) (fixed_by fixed (told_of u.memory m) (given_at m.spot))
+  pub others : (seat : ℕ) → seat ≢ m.seat → Rely c seat u world
+
+-- What is proved of each spot: from the shared facts and the mutator's own its step is as it should be, under each order
+-- that it takes.
+abbrev pub OrderedRow : Config → World → Mutating → Command → Order → Option Reply → Type 0
+OrderedRow c u m command order fixed =
+    Shared c u → Mine c u m command fixed → takes_at m.spot m.made order ≡ true → Stepped c u m command order fixed
+
+-- in a call there is no order
+abbrev pub Row : Config → World → Mutating → Command → Option Reply → Type 0
+Row c u m command fixed = Shared c u → Mine c u m command fixed → Stepped c u m command Nothing fixed

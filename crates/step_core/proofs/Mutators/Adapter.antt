@@ -1,0 +1,217 @@
+-- What the step of a mutator owes as an event: what its place owes is turned into that, while a pause writes its image back and
+-- while none does.
+use Rattle.std.proofs.Common.{◌≡◌, ◌≢◌, ℕ, ◌+◌, ◌<◌, ◌⊎◌, inl, inr, ⊎_elim, true, false, List, ◌++◌, length, Option, Some, None, refl, sym, ap, ◌∙◌, subst, arith}
+use Rattle.std.specs.Prelude.{slice_get}
+use Rattle.std.proofs.lemmas.List.{append-nil}
+use Rattle.std.proofs.lemmas.Bool.{cases_eq}
+use Rattle.heap_words.specs.declared.config.Config.{Config}
+use Rattle.heap_words.specs.Words.{Answer, is_word, is_image, view, table_words}
+use Rattle.steps_base.specs.Touch.{Touch, touched}
+use Rattle.shen_graph.specs.declared.command.Command.{Command}
+use Rattle.shen_graph.specs.declared.command.Reply.{Reply}
+use Rattle.shen_graph.specs.declared.command.Reply.TheVariants.{Full}
+use Rattle.shen_graph.specs.declared.order.Order.{Order}
+use Rattle.shen_graph.specs.declared.order.Order.TheVariants.{Nothing, Begin, End}
+use Rattle.shen_graph.specs.Crowd.{words_asked}
+use Rattle.shen_graph.specs.Graph.{Graph}
+use Rattle.shen_graph.specs.History.{Entry, after, of_thread}
+use Rattle.handshake.specs.Standing.{is_within}
+use Rattle.mutator.specs.declared.spot.Kept.{Kept}
+use Rattle.mutator.specs.declared.spot.Spot.{Spot}
+use Rattle.mutator.specs.declared.spot.Spot.TheVariants.{Rest, Ended, Leave, Gone}
+use Rattle.mutator.specs.Orders.{takes_at, is_waiting}
+use Rattle.mutator.specs.Rows.{Mutating, touch_of, next_at, given_at}
+use Rattle.mutator.proofs.Orders.{in_call}
+use Rattle.mutator.specs.Told.{told_of as settled_by_step}
+use Rattle.heap_world.specs.World.{Ghost, World, Plot, Shared}
+use Rattle.heap_world.specs.Change.{Change}
+use Rattle.control_rows.specs.Rows.{Controlling}
+use Rattle.step_core.specs.Actor.{mutating, controlling, Actor, entries_of, command_by}
+use Rattle.step_core.specs.Machines.{took_of}
+use Rattle.step_core.specs.Settled.{settled_by}
+use Rattle.step_core.specs.Standing.{standing_at}
+use Rattle.step_core.proofs.Machines.Stepped.{SpotFacts, Stepped, fixed_by, graph_by}
+use Rattle.step_core.proofs.History.Entries.{graph_settled, legal_settled, entries_settled, command_valid, own_more, other_more}
+use Rattle.step_core.proofs.Machines.Owed.{IsSeen, IsShort, IsThread, IsAim, IsMachine, PromisedToMutators, Owes}
+use Rattle.step_core.proofs.Control.Images.{words_after}
+use Rattle.step_core.proofs.Mutators.Outside.{outside_told, outside_given, refused_quiet, answer_before}
+use Rattle.step_core.proofs.Machines.Answered.{whole_before, whole_then, raw_stays, now_stays, counts_same, other_raw, other_counts}
+use Rattle.step_core.proofs.Machines.Roles.{machine_stays, short_stays, seen_stays}
+
+-- under an order no reply is settled, and it does not wait
+orders_unsettled : (c : Config) (w : World) (seat : ℕ) (kept : Kept) (command : Command) (fixed : Option Reply) (spot : Spot) (made : ℕ) (order : Order) → (order ≡ Nothing → ⊥) → takes_at spot made order ≡ true
+    → SpotFacts c w seat made kept command fixed spot → (fixed ≡ None) × (is_waiting spot ≡ false)
+orders_unsettled c w seat kept command fixed Rest made order given takes facts = (facts, refl)
+orders_unsettled c w seat kept command fixed (Ended r) made order given takes facts = (facts, refl)
+orders_unsettled c w seat kept command fixed Gone made order given takes facts = absurd (cc (takes))
+orders_unsettled c w seat kept command fixed spot made order given takes facts = absurd (given (in_call spot made order refl takes))
+
+-- a reply that is given is the settled one, of a call that goes on
+pub gives_settled : (c : Config) (w : World) (seat : ℕ) (kept : Kept) (command : Command) (fixed : Option Reply) (spot : Spot) (made : ℕ) (reply : Reply) → SpotFacts c w seat made kept command fixed spot → given_at spot ≡ Some reply → fixed ≡ Some reply
+gives_settled c w seat kept command fixed (Leave r) made reply facts is = facts ∙ is
+gives_settled c w seat kept command fixed _ made reply facts is = cc
+
+-- the command stays, or no reply is settled
+command_stays : (c : Config) (w : World) (seat : ℕ) (kept : Kept) (command : Command) (fixed : Option Reply) (spot : Spot) (made : ℕ) (order : Order) → takes_at spot made order ≡ true → SpotFacts c w seat made kept command fixed spot
+    → ((fixed ≡ None) × (is_waiting spot ≡ false)) ⊎ (command_by order command ≡ command)
+command_stays c w seat kept command fixed spot made Nothing takes facts = inr refl
+command_stays c w seat kept command fixed spot made (Begin k) takes facts = inl (orders_unsettled c w seat kept command fixed spot made (Begin k) (λ e. cc) takes facts)
+command_stays c w seat kept command fixed spot made End takes facts = inr refl
+
+-- the entries of a mutator after a step that settles a reply, gives one, or does neither
+entries_step : (calls : List Entry) (seat : ℕ) (command after : Command) (fixed told given : Option Reply)
+    → ((reply : Reply) → given ≡ Some reply → fixed ≡ Some reply)
+    → ((reply : Reply) → told ≡ Some reply → (fixed ≡ None) × (given ≡ None))
+    → (fixed ≡ None) ⊎ (after ≡ command)
+    → (calls ++ entries_of seat command fixed) ++ entries_of seat after told
+    ≡ (calls ++ entries_of seat command given) ++ entries_of seat after (fixed_by fixed told given)
+entries_step calls seat command after fixed (Some t) given gives settles stays = rw ((settles t refl).0, (settles t refl).1) refl
+entries_step calls seat command after fixed None (Some g) gives settles stays = rw (gives g refl) refl
+entries_step calls seat command after fixed None None gives settles stays =
+    append-nil _ ∙ ⊎_elim
+    (λ (no : fixed ≡ None). rw no (sym (append-nil _)))
+    (λ (same : after ≡ command). rw (same, append-nil calls) refl)
+    stays
+
+-- a mutator keeps its seat
+next_seat : (c : Config) (m : Mutating) (order : Order) (got : ℕ) (spot : Spot) → (next_at c m order got spot).seat ≡ m.seat
+next_seat c m Nothing got Rest = refl
+next_seat c m (Begin k) got Rest = refl
+next_seat c m End got Rest = refl
+next_seat c m Nothing got (Ended r) = refl
+next_seat c m (Begin k) got (Ended r) = refl
+next_seat c m End got (Ended r) = refl
+next_seat c m order got _ = refl
+
+-- The adapter. While an image counts, the mutator is outside, and its access is of no word of the image.
+module _ (change : Change) (c : Config) (words : List ℕ) (o : Option (List ℕ)) (block : Plot) (ghost : Ghost) (g : Graph) (past : List Entry) (number : ℕ) (machines : List Actor) (order : Order) (m : Mutating)
+    (command : Command) (calls : List Entry) (long : length words ≡ table_words c) (is : is_word c (touch_of c m order).word ≡ true)
+    (held : (image : List ℕ) → o ≡ Some image → (is_within (standing_at m.spot) ≡ false) × (is_image (touch_of c m order).word ≡ false)) where
+  abbrev t : Touch
+  t = touch_of c m order
+
+  abbrev words_then : List ℕ
+  words_then = words_after c words t
+
+  -- the world before the event
+  abbrev u : World
+  u = record { memory = settled_by c words o; block = block; ghost = ghost; graph = g }
+
+  -- the actor before the event
+  abbrev the_actor : Actor
+  the_actor = record { machine = mutating m; command = command; calls = calls }
+
+  -- the reply that the step settles
+  abbrev the_told : Option Reply
+  the_told = settled_by_step u.memory m
+
+  -- the entries
+  abbrev the_entries : List Entry
+  the_entries = entries_of m.seat (command_by order command) the_told
+
+  -- the actor after it
+  abbrev the_new : Actor
+  the_new = took_of change c the_actor order (u.memory t.word) (mutating m)
+
+  module _ (promised_to : PromisedToMutators c block) (shared : Shared c u) (thread : IsThread c words u (of_thread past (number + 1)) number the_actor m) (step : Stepped c u m command order thread.fixed)
+      (takes : takes_at m.spot m.made order ≡ true) where
+    abbrev fixed_then : Option Reply
+    fixed_then = fixed_by thread.fixed the_told (given_at m.spot)
+
+    -- while an image counts, nothing changes by which crowding is measured
+    same_graph : (image : List ℕ) → o ≡ Some image → step.world.graph ≡ g
+    same_graph image is_held = step.graph ∙ ap (λ r. graph_by g m.seat (command_by order command) r) (outside_told u.memory m.seat m.made m.kept m.spot (held image is_held).0)
+
+    left_image : (image : List ℕ) → o ≡ Some image → is_image t.word ≡ false
+    left_image image is_held = (held image is_held).1
+
+    -- and its own reply stays as it is
+    fixed_stays : (image : List ℕ) → o ≡ Some image → fixed_then ≡ thread.fixed
+    fixed_stays image is_held =
+        ap (λ r. fixed_by thread.fixed r (given_at m.spot)) (outside_told u.memory m.seat m.made m.kept m.spot (held image is_held).0)
+        ∙ ap (λ r. fixed_by thread.fixed None r) (outside_given m.spot (held image is_held).0)
+
+    -- where the table counts, an answer that the heap is full is settled
+    full_open : o ≡ None → step.world.memory (Answer number) ≡ 1 → fixed_then ≡ Some Full
+    full_open none now =
+        let now_own : touched u.memory t (Answer m.seat) ≡ 1 = ap (λ memory. memory (Answer m.seat)) (sym step.memory) ∙ ap (λ j. step.world.memory (Answer j)) thread.number_is ∙ now in
+        let before : u.memory (Answer m.seat) ≡ 1 = answer_before c u.memory m.seat m.made m.kept order m.spot now_own in
+        let before_here : u.memory (Answer number) ≡ 1 = ap (λ j. u.memory (Answer j)) (sym thread.number_is) ∙ before in
+        let quiet = refused_quiet c u m.seat m.made m.kept command thread.fixed m.spot before thread.mine in
+        let settled_full : thread.fixed ≡ Some Full = ⊎_elim
+        (λ (both : (view c words (Answer number) ≡ 1) × (thread.fixed ≡ Some Full)). both.1)
+        (λ (none_yet : (view c words (Answer number) ≡ 0) × (thread.fixed ≡ None)). absurd (let whole = whole_before c words o t u step.world refl step.memory long is none number in let raw = none_yet.0 in omega (arith, whole, raw, before_here)))
+        (thread.seen.full before_here) in
+        ap (λ r. fixed_by thread.fixed r (given_at m.spot)) quiet.0 ∙ ap (λ r. fixed_by thread.fixed None r) quiet.1 ∙ settled_full
+
+    -- its answer
+    own_seen : (x : Option (List ℕ)) → o ≡ x → IsSeen (view c words_then (Answer number)) (step.world.memory (Answer number)) fixed_then
+    own_seen None none = record {
+      null = λ now. whole_then c words o t u step.world refl step.memory long is none number ∙ now;
+      full = λ now. inl (whole_then c words o t u step.world refl step.memory long is none number ∙ now, full_open none now);
+      given = λ more is_1. (let same = whole_then c words o t u step.world refl step.memory long is none number in omega (arith, same, more, is_1));
+    }
+    own_seen (Some image) is_held =
+        subst (λ f. IsSeen (view c words_then (Answer number)) (step.world.memory (Answer number)) f) (sym (fixed_stays image is_held))
+        (seen_stays _ _ _ _ thread.fixed (raw_stays c words o t u step.world refl step.memory long is (left_image image is_held) number) (now_stays c words o t u step.world refl step.memory long is (left_image image is_held) number) thread.seen)
+
+    -- crowding
+    own_short : (x : Option (List ℕ)) → o ≡ x → step.world.memory (Answer number) ≡ 1 → fixed_then ≡ None → IsShort c step.world.memory step.world.graph number (words_asked (Some the_new.command))
+    own_short None none now unsettled = absurd (let it = sym unsettled ∙ full_open none now in cc)
+    own_short (Some image) is_held now unsettled =
+        let before : u.memory (Answer number) ≡ 1 = sym (now_stays c words o t u step.world refl step.memory long is (left_image image is_held) number) ∙ now in
+        let same_command : command_by order command ≡ command = ⊎_elim
+        (λ (rests : (thread.fixed ≡ None) × (is_waiting m.spot ≡ false)).
+        absurd (let answer = (thread.mine.seated.unasked rests.1).1 in let here = ap (λ j. u.memory (Answer j)) thread.number_is in omega (arith, answer, here, before)))
+        (λ (same : command_by order command ≡ command). same)
+        (command_stays c u m.seat m.kept command thread.fixed m.spot m.made order takes thread.mine.facts) in
+        subst (λ k. IsShort c step.world.memory step.world.graph number (words_asked (Some k))) (sym same_command)
+        (short_stays c u step.world number (words_asked (Some command)) (counts_same c words o t u step.world refl step.memory long is (same_graph image is_held) (left_image image is_held)) (thread.short before (sym (fixed_stays image is_held) ∙ unsettled)))
+
+    -- its own machine
+    own_machine : IsMachine c words_then step.world (of_thread (past ++ the_entries) (number + 1)) number the_new the_new.machine
+    own_machine = record {
+      fixed = fixed_then;
+      number_is = next_seat c m order _ m.spot ∙ thread.number_is;
+      valid = command_valid m.spot m.made order command takes thread.valid;
+      mine = step.mine;
+      seen = own_seen o refl;
+      short = own_short o refl;
+      entries_are =
+          subst (λ n. of_thread (past ++ the_entries) (n + 1) ≡ (calls ++ entries_of m.seat command (given_at m.spot)) ++ entries_of n (command_by order command) fixed_then) thread.number_is
+          (own_more past m.seat (command_by order command) the_told
+          ∙ ap (λ es. es ++ the_entries)
+          (subst (λ n. of_thread past (n + 1) ≡ calls ++ entries_of n command thread.fixed) (sym thread.number_is) thread.entries_are)
+          ∙ entries_step calls m.seat command (command_by order command) thread.fixed the_told (given_at m.spot)
+          (λ reply given. gives_settled c u m.seat m.kept command thread.fixed m.spot m.made reply thread.mine.facts given)
+          step.settles
+          (⊎_elim (λ rests. inl rests.0) (λ same. inr same) (command_stays c u m.seat m.kept command thread.fixed m.spot m.made order takes thread.mine.facts)));
+    }
+
+    -- what the control has read or written of the image stays while one counts; while none does, it is in no pause
+    module _ (aims : (k : ℕ) (b : Actor) → k ≢ number → slice_get machines k ≡ Some b → (control : Controlling) → b.machine ≡ controlling control → IsAim c words control.spot control.image → IsAim c words_then control.spot control.image) where
+      -- what its place owes, as an event
+      pub owes_stepped : Owes c words words_then u past number machines (touched u.memory t) the_entries the_new
+      owes_stepped = record {
+        world = step.world;
+        memory_is = step.memory;
+        graph_is = step.graph ∙ graph_settled g m.seat (command_by order command) the_told;
+        legal = legal_settled g m.seat (command_by order command) the_told step.legal;
+        entries = entries_settled c.mutators m.seat (command_by order command) the_told thread.mine.seated.below (command_valid m.spot m.made order command takes thread.valid);
+        shared = step.shared;
+        promised_to = λ a seat more there. ⊎_elim
+            (λ (same : seat ≡ m.seat). subst (λ j. j < c.mutators) (sym same) thread.mine.seated.below)
+            (λ (differs : seat ≢ m.seat). promised_to a seat more ((step.others seat differs).no_promises a more there))
+            (cases_eq seat m.seat);
+        own = own_machine;
+        others = λ k b differs there known.
+            let other : k ≢ m.seat = λ e. differs (e ∙ thread.number_is) in
+            machine_stays c words words_then u step.world (of_thread past (k + 1)) (of_thread (past ++ the_entries) (k + 1)) k b b.machine shared
+            (record {
+              rely = step.others k other;
+              answer = other_raw c words o t u step.world refl step.memory long is left_image o refl k (step.others k other);
+              counts = other_counts c words o t u step.world refl step.memory long is left_image same_graph o refl k;
+              aims = λ control same. aims k b differs there control same;
+            })
+            (other_more past m.seat (command_by order command) the_told k other) known;
+      }

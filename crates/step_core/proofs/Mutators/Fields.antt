@@ -1,0 +1,183 @@
+-- The steps that load a field, a number or a name.
+use Rattle.std.proofs.Common.{◌≡◌, ℕ, ◌+◌, ◌<◌, inl, inr, ⊎_elim, true, false, Option, Some, refl, sym, ap, ◌∙◌, arith}
+use Rattle.std.specs.Prelude.{◌==◌, nat_lt, if◌then◌else◌}
+use Rattle.std.proofs.lemmas.Bool.{cases_Bool, cond-true, cond-false, eqb-true, eqb-false}
+use Rattle.std.proofs.lemmas.Bool.Decides.{nat_tests}
+use Rattle.heap_words.specs.declared.config.Config.{Config}
+use Rattle.heap_words.specs.Words.{Root, Heap}
+use Rattle.shen_graph.specs.declared.command.Command.{Command}
+use Rattle.shen_graph.specs.declared.command.Reply.{Reply}
+use Rattle.shen_graph.specs.declared.command.Reply.TheVariants as reply
+use Rattle.shen_graph.specs.Graph.{Reference, with_root, same_reference}
+use Rattle.shen_graph.specs.Step.{shown, answers, outcome}
+use Rattle.mutator.specs.declared.spot.Spot.{Spot}
+use Rattle.mutator.specs.declared.spot.Spot.TheVariants.{OnField, OnNumber, Showing}
+use Rattle.mutator.specs.declared.fields.FieldSpot.TheVariants as fields
+use Rattle.mutator.specs.declared.overwrites.Overwritten.TheVariants as overwritten
+use Rattle.mutator.specs.declared.numbers.NumberSpot.TheVariants as numbers
+use Rattle.mutator.specs.declared.shows.ShowSpot.TheVariants as show
+use Rattle.mutator.specs.declared.spot.Kept.{Kept}
+use Rattle.mutator.specs.Commands.{dst_of, index_of}
+use Rattle.mutator.specs.declared.resolves.Loaded.TheVariants.{ToCompare}
+use Rattle.load_barrier.specs.UnitRows.{copy_phase, lies_in_set}
+use Rattle.mutator.specs.Rows.{Mutating, name_in, with_loaded}
+use Rattle.mutator.specs.Told.{name_the_same}
+use Rattle.mutator.specs.Fit.{is_ready}
+use Rattle.shen_graph.specs.declared.order.Order.TheVariants.{Nothing}
+use Rattle.satb_barrier.specs.declared.spot.RememberSpot.TheVariants.{LoadCount}
+use Rattle.mark_steps.specs.Laws.{with_in_hand}
+use Rattle.heap_world.specs.World.{World, Points, Shared}
+use Rattle.heap_world.proofs.Keeping.{load_keeps}
+use Rattle.step_core.proofs.Machines.Stepped.{HasObject, IsCas, Mine, Stepped, Row}
+use Rattle.step_core.proofs.Machines.Stable.{set_stays}
+use Rattle.step_core.proofs.Mutators.Overwriting.{record_ready, Overwrites, overwrites_of}
+use Rattle.step_core.proofs.Mutators.Spots.{mutator_at}
+use Rattle.step_core.proofs.Machines.Ready.{leaving, ready_of, number_small}
+use Rattle.heap_world.proofs.Pointing.{points_small}
+use Rattle.step_core.proofs.Machines.Naming.{same_words, names_agree, named_as_one, named_otherwise, name_there, name_read, shown_is, field_in, number_in, word_in}
+use Rattle.step_core.proofs.Mutators.Loading.{looks, replies, replies_root}
+use Rattle.heap_world.proofs.RootChanges.{roots_then}
+use Rattle.step_core.proofs.Mutators.InHand.{shown_not_full}
+use Rattle.step_core.proofs.Mutators.Resolving.{found_mine, compared_mine}
+
+-- the store of a reference into the command's field can be made
+pub store_ready : (c : Config) (w : World) (seat made : ℕ) (kept : Kept) (object value obj val : ℕ) → Shared c w → (of : HasObject c w seat obj object) → index_of kept.command < of.refs
+    → Points w.block value (w.graph.root (seat + 1) val) → is_ready c seat made kept (OnField object (fields.Store value)) ≡ true
+store_ready c w seat made kept object value obj val shared of below stands =
+    let field : ℕ = index_of kept.command in
+    ready_of _ _ (word_in c w shared seat obj object (object + 3 + field) (3 + field) of (omega (arith, below)) (omega arith))
+    (number_small value (points_small c _ w.block shared.parsable.plotted value _ stands))
+
+module _ (c : Config) (u : World) (seat made : ℕ) (kept : Kept) (command : Command) (fixed : Option Reply) where
+  abbrev at_spot : Spot → Mutating
+  at_spot spot = mutator_at seat made kept spot
+
+  -- the command's field or number
+  abbrev field : ℕ
+  field = index_of kept.command
+
+  -- the command's root
+  abbrev dst : ℕ
+  dst = dst_of kept.command
+
+  -- the load of a field settles the reference that it stands for
+  pub at_load_field : (object : ℕ) → Row c u (at_spot (OnField object fields.Load)) command fixed
+  at_load_field object shared mine =
+      let get = mine.facts.1 in
+      let here = field_in c u shared seat get.src object field get.of get.below in
+      let got : ℕ = u.memory (Heap (object + 3 + field)) in
+      replies_root c u (at_spot (OnField object fields.Load)) (Heap (object + 3 + field)) command fixed (shown here.0) dst here.0
+      refl
+      (ap (λ r. Some r) (shown_is c u shared got here.0 here.2))
+      refl mine.facts.0 (shown_not_full here.0)
+      (ap (λ k. outcome u.graph (seat + 1) k) get.is ∙ rw here.1 refl)
+      shared
+      (found_mine c (record { memory = u.memory; block = u.block; ghost = u.ghost; graph = with_root u.graph (seat + 1) dst here.0 }) seat made kept command
+      shared mine.seated mine.marking mine.copying mine.hands got here.0 get.small
+      (roots_then u.block (λ i. u.memory (Root seat i)) u.graph.root (seat + 1) dst got here.0 mine.roots here.2)
+      here.2)
+
+  -- The load of the reference that a Set is about to overwrite: the mutator takes it in hand where that is to be recorded.
+  load_old : (object value : ℕ) → Shared c u → Mine c u (at_spot (OnField object (fields.LoadOld value))) command fixed → Overwrites c u seat kept.phase object field (u.memory (Heap (object + 3 + field)))
+      → Stepped c u (at_spot (OnField object (fields.LoadOld value))) command Nothing fixed
+  load_old object value shared mine (Overwrites.takes records held covered) = let got : ℕ = u.memory (Heap (object + 3 + field)) in record {
+    world = with_in_hand u seat got;
+    memory = load_keeps u.memory (Heap (object + 3 + field));
+    graph = refl;
+    legal = tt;
+    settles = λ r e. cc;
+    shared = held.shared;
+    mine = rw records (record {
+      seated = mine.seated;
+      ready = record_ready c (with_in_hand u seat got) seat made kept LoadCount got (overwritten.Set object value) refl held.shared held.own;
+      marking = record { records = held.own.recording; scans = held.own.scanning; phase_is = mine.marking.phase_is };
+      copying = mine.copying;
+      roots = mine.roots;
+      hands = mine.hands;
+      facts = (held.own, (mine.facts.0, set_stays c u (with_in_hand u seat got) seat held.keeps command object field value mine.facts.1, covered));
+    });
+    others = held.others;
+  }
+  load_old object value shared mine (Overwrites.leaves other covered) =
+      let set = mine.facts.1 in
+      looks c u (at_spot (OnField object (fields.LoadOld value))) (Heap (object + 3 + field)) command fixed refl refl refl shared
+      (rw other (record {
+        seated = mine.seated;
+        ready = store_ready c u seat made kept object value set.obj set.val shared set.of set.below set.value_is.stands;
+        marking = mine.marking;
+        copying = mine.copying;
+        roots = mine.roots;
+        hands = mine.hands;
+        facts = (mine.facts.0, set, covered);
+      }))
+
+  pub at_load_old : (object value : ℕ) → Row c u (at_spot (OnField object (fields.LoadOld value))) command fixed
+  at_load_old object value shared mine =
+      let set = mine.facts.1 in
+      let here = field_in c u shared seat set.obj object field set.of set.below in
+      load_old object value shared mine (overwrites_of c u seat kept.phase object field here.0 mine.seated.below shared mine.marking mine.hands here.2)
+
+  -- a field that has another reference than the expected one: it is null, and the call leaves, or its object is another
+  differing : (object expect value : ℕ) (v : Reference) → Shared c u → Mine c u (at_spot (OnField object (fields.LoadExpected expect value))) command fixed → (cas : IsCas c u seat command object field expect value)
+      → Points u.block (u.memory (Heap (object + 3 + field))) v → same_reference v (u.graph.root (seat + 1) cas.expected) ≡ false
+      → Mine c u (at_spot (with_loaded c kept.phase kept.cset (u.memory (Heap (object + 3 + field))) (ToCompare object expect value))) command (Some reply.No)
+  differing object expect value v shared mine cas is differs = let got : ℕ = u.memory (Heap (object + 3 + field)) in ⊎_elim
+      (λ (null : (got == 0) ≡ true).
+      let zero_got : got ≡ 0 = eqb-true _ _ null in
+      let other : (got == expect) ≡ false = same_words c u shared got expect v _ (inl zero_got) cas.expect_is.usable is cas.expect_is.stands ∙ differs in
+      rw (cond-true (got == 0) false (if nat_lt kept.phase copy_phase then false else lies_in_set c kept.cset got) null, other)
+      (leaving c _ seat made kept command reply.No mine.seated (mine.marking.records, mine.marking.scans, mine.copying.copies_is, mine.copying.works_none) mine.roots mine.hands))
+      (λ (some : (got == 0) ≡ false).
+      compared_mine c u seat made kept command shared mine.seated mine.marking mine.copying mine.hands (Some reply.No) object expect value got v cas
+      (inl (refl, named_otherwise c u shared got expect v _ (eqb-false _ _ some) is cas.expect_is.stands differs)) is mine.roots)
+      (cases_Bool (got == 0))
+
+  -- the load of a field that is to change only from an expected reference settles No where it has another
+  pub at_load_expected : (object expect value : ℕ) → Row c u (at_spot (OnField object (fields.LoadExpected expect value))) command fixed
+  at_load_expected object expect value shared mine =
+      let cas = mine.facts.1 in
+      let here = field_in c u shared seat cas.obj object field cas.of cas.below in
+      let got : ℕ = u.memory (Heap (object + 3 + field)) in
+      let agree : name_the_same u.memory got expect ≡ same_reference here.0 (u.graph.root (seat + 1) cas.expected) = names_agree c u shared got expect here.0 _ here.2 cas.expect_is.stands in
+      ⊎_elim
+      (λ (same : same_reference here.0 (u.graph.root (seat + 1) cas.expected) ≡ true).
+      looks c u (at_spot (OnField object (fields.LoadExpected expect value))) (Heap (object + 3 + field)) command fixed refl (cond-true _ _ _ (agree ∙ same)) refl shared
+      (compared_mine c u seat made kept command shared mine.seated mine.marking mine.copying mine.hands fixed object expect value got here.0 cas
+      (inr (mine.facts.0, named_as_one c u shared got expect here.0 _ here.2 cas.expect_is.stands same)) here.2 mine.roots))
+      (λ (differs : same_reference here.0 (u.graph.root (seat + 1) cas.expected) ≡ false).
+      replies c u (at_spot (OnField object (fields.LoadExpected expect value))) (Heap (object + 3 + field)) command fixed reply.No refl (cond-false _ _ _ (agree ∙ differs)) refl mine.facts.0 refl
+      (ap (λ k. outcome u.graph (seat + 1) k) cas.is ∙ rw here.1 (cond-false _ _ _ differs))
+      shared
+      (differing object expect value here.0 shared mine cas here.2 differs))
+      (cases_Bool (same_reference here.0 (u.graph.root (seat + 1) cas.expected)))
+
+  -- the load of a number settles it
+  pub at_load_number : (object refs : ℕ) → Row c u (at_spot (OnNumber object refs numbers.Load)) command fixed
+  at_load_number object refs shared mine =
+      let index : ℕ = field in
+      let rd = mine.facts.1 in
+      let here = number_in c u shared seat rd.obj object index rd.of rd.below in
+      let got : ℕ = u.memory (Heap (object + 3 + refs + index)) in
+      replies c u (at_spot (OnNumber object refs numbers.Load)) (Heap (object + 3 + refs + index)) command fixed (reply.Number got) refl refl refl mine.facts.0 refl
+      (ap (λ k. outcome u.graph (seat + 1) k) rd.is ∙ rw here (ap (λ n. answers (reply.Number (u.memory (Heap (object + 3 + n + index)))) u.graph) (sym rd.refs_are)))
+      shared
+      (leaving c _ seat made kept command (reply.Number got) mine.seated (mine.marking.records, mine.marking.scans, mine.copying.copies_is, mine.copying.works_none) mine.roots mine.hands)
+
+  -- the load of a name: it is the one that was settled
+  pub at_load_name : (value : ℕ) → Row c u (at_spot (Showing value show.LoadName)) command fixed
+  at_load_name value shared mine =
+      let found = mine.facts.0 in
+      let word = name_there c u shared value found.name found.is in
+      let read : name_in (u.memory (Heap (value + 2))) ≡ found.name = ap name_in word.0 ∙ name_read found.name word.1 in
+      let below = mine.seated.below in
+      let small = found.small in
+      looks c u (at_spot (Showing value show.LoadName)) (Heap (value + 2)) command fixed refl refl refl shared
+      (record {
+        seated = mine.seated;
+        ready = ready_of _ _ (grind (arith, nat_tests)) (number_small value (points_small c _ u.block shared.parsable.plotted value (Some found.name) found.is));
+        marking = mine.marking;
+        copying = mine.copying;
+        roots = mine.roots;
+        hands = mine.hands;
+        facts = (found.settled ∙ ap (λ n. Some (reply.Ref n)) (sym read), found.small, mine.facts.1);
+      })

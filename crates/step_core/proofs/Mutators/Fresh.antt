@@ -1,0 +1,258 @@
+-- The steps that make a new object in room in hand.
+use Rattle.std.proofs.Common.{◌≡◌, ◌≢◌, ℕ, ◌+◌, ◌<◌, Bool, true, false, Option, Some, inl, inr, ⊎_elim, refl, sym, ap, ◌∙◌, subst, arith}
+use Rattle.std.specs.Prelude.{◌==◌, nat_lt, if◌then◌else◌}
+use Rattle.std.proofs.lemmas.Bool.{cases_eq, cond-true, cond-false, eq-eqb, ne_eqb, ltb-true, ltb-false}
+use Rattle.heap_words.specs.declared.config.Config.{Config}
+use Rattle.heap_words.specs.Encoding.{fresh_word}
+use Rattle.heap_words.specs.Words.{Phase, Cset, Evac, Claim, Free, Top, Tams, Limit, Count, Buffer, Grey, Black, Heap}
+use Rattle.shen_graph.specs.declared.name.Name.{Name}
+use Rattle.shen_graph.specs.declared.command.Command.{Command}
+use Rattle.shen_graph.specs.declared.command.Reply.{Reply}
+use Rattle.mutator.specs.declared.spot.Spot.{Spot}
+use Rattle.mutator.specs.declared.spot.Spot.TheVariants.{Making, Leave}
+use Rattle.mutator.specs.declared.makes.MakeSpot.TheVariants as make
+use Rattle.mutator.specs.declared.spot.Kept.{Kept}
+use Rattle.mutator.specs.Commands.{dst_of, refs_of, nums_of}
+use Rattle.mutator.specs.Rows.{Mutating}
+use Rattle.heap_world.specs.World.{World, Block, thing, moved, spent, hand, promised, filler, words_of, Body, body_at, IsMarkable, Shared}
+use Rattle.step_core.proofs.Machines.Stepped.{IsFilling, Mine, Row}
+use Rattle.heap_world.specs.Rely.{Rely}
+use Rattle.step_core.proofs.Mutators.Spots.{mutator_at, accessed}
+use Rattle.step_core.proofs.Machines.Ready.{leaving, word_ready, fresh_ready}
+use Rattle.step_core.proofs.Mutators.FreshRoot.{usable_made, HasNew, made_world, made_reply, hand_before, promise_before, roots_made, count_made, legal_made, graph_made, shared_made, others_made}
+use Rattle.heap_world.proofs.Apart.{far}
+use Rattle.heap_world.proofs.Copies.{same_plot, rely_copies}
+use Rattle.heap_world.proofs.Evacuated.{evacuated_words}
+use Rattle.heap_world.proofs.Updated.{updated_elsewhere}
+use Rattle.heap_world.proofs.Fields.{fields_stored}
+use Rattle.move_steps.proofs.Resolving.Bodies.{room_outside}
+use Rattle.heap_world.proofs.Pointing.{body_piece}
+use Rattle.heap_world.proofs.Marked.{rely_marks, marked_elsewhere}
+use Rattle.heap_world.proofs.Unwritten.{unwritten_stays}
+use Rattle.std.proofs.lemmas.Option.{same_Some, none-some}
+use Rattle.heap_world.proofs.Pieces.{object_reads}
+
+module _ (c : Config) (u : World) (seat made : ℕ) (kept : Kept) (command : Command) (fixed : Option Reply) where
+  abbrev at_spot : Spot → Mutating
+  at_spot spot = mutator_at seat made kept spot
+
+  -- the command's root
+  abbrev dst : ℕ
+  dst = dst_of kept.command
+
+  -- how many references its object has
+  abbrev refs : ℕ
+  refs = refs_of kept.command
+
+  -- and how many numbers
+  abbrev nums : ℕ
+  nums = nums_of kept.command
+
+  module _ (address done : ℕ) (shared : Shared c u) (mine : Mine c u (at_spot (Making (make.StoreWord address done))) command fixed) where
+    -- the world with one word more stored
+    abbrev stored_world : World
+    stored_world = accessed c u (at_spot (Making (make.StoreWord address done)))
+
+    -- the words of other pieces stay
+    else_stays : (a k : ℕ) (b : Block) → u.block a ≡ Some b → a ≢ address → k < words_of b → stored_world.memory (Heap (a + k)) ≡ u.memory (Heap (a + k))
+    else_stays a k b is other below =
+        cond-false ((address + done) == (a + k)) _ _
+        (ne_eqb (address + done) (a + k)
+        (λ e. far c (λ r. u.memory (Top r)) u.block shared.parsable.plotted a address k done b (hand seat (3 + refs + nums)) is mine.facts.1.room other below mine.facts.2 (sym e)))
+
+    -- a piece that is not the room stands elsewhere
+    not_room : (a : ℕ) (b : Block) → u.block a ≡ Some b → (hand seat (3 + refs + nums) ≡ b → ⊥) → a ≢ address
+    not_room a b is differs same = differs (same_Some (hand seat (3 + refs + nums)) b (sym mine.facts.1.room ∙ ap u.block (sym same) ∙ is))
+
+    -- its first word stays
+    head_stays : (a : ℕ) (b : Block) → u.block a ≡ Some b → (hand seat (3 + refs + nums) ≡ b → ⊥) → 0 < words_of b → stored_world.memory (Heap a) ≡ u.memory (Heap a)
+    head_stays a b is differs some =
+        let header : a + 0 ≡ a = omega arith in
+        ap (λ x. stored_world.memory (Heap x)) (sym header) ∙ else_stays a 0 b is (not_room a b is differs) some ∙ ap (λ x. u.memory (Heap x)) header
+
+    -- the references of objects stay
+    fields_stay : (a more_refs more_nums k : ℕ) (n : Name) → u.block a ≡ Some (thing n more_refs more_nums) → k < more_refs → stored_world.memory (Heap (a + 3 + k)) ≡ u.memory (Heap (a + 3 + k))
+    fields_stay a more_refs more_nums k n is below =
+        let there : a + (3 + k) ≡ a + 3 + k = omega arith in
+        ap (λ b. stored_world.memory (Heap b)) (sym there)
+        ∙ else_stays a (3 + k) (thing n more_refs more_nums) is (not_room a (thing n more_refs more_nums) is (λ differ. cc)) (omega (arith, below))
+        ∙ ap (λ b. u.memory (Heap b)) there
+
+    -- machines share what they shared
+    shared_stored : Shared c stored_world
+    shared_stored = record {
+      parsable = shared.parsable;
+      contents = record {
+        objects = record {
+          each = λ a more_refs more_nums n is.
+              let o = shared.contents.objects.each a more_refs more_nums n is in
+              let other : a ≢ address = not_room a (thing n more_refs more_nums) is (λ differ. cc) in
+              let kept = λ (k : ℕ) (below : k < 3 + more_refs + more_nums). else_stays a k (thing n more_refs more_nums) is other below in
+              (o.0, o.1, object_reads (λ b. u.memory (Heap b)) (λ b. stored_world.memory (Heap b)) u.block u.block a more_refs more_nums n o.0 kept (λ b m e. e) o.2);
+          once = shared.contents.objects.once;
+        };
+        given = shared.contents.given;
+      };
+      owned = shared.owned;
+      phased = shared.phased;
+      unwritten = unwritten_stays (λ a. u.memory (Heap a)) (λ a. stored_world.memory (Heap a)) u.block u.block
+          (λ a seat_then words is. (is, λ k below. else_stays a k (promised seat_then words) is (not_room a (promised seat_then words) is (λ differ. cc)) below))
+          (λ a words is. (
+            is,
+            head_stays a (filler words) is (λ differ. cc) (let long = shared.parsable.fillers a words is in omega (arith, long)),
+            else_stays a 1 (filler words) is (not_room a (filler words) is (λ differ. cc)) (let long = shared.parsable.fillers a words is in omega (arith, long)),
+          ))
+          shared.unwritten;
+      marked = marked_elsewhere c (u.memory Phase) (λ n. u.memory (Grey n)) (λ n. u.memory (Black n)) (λ t. u.memory (Count t)) (λ t k. u.memory (Buffer t k)) (λ r. u.memory (Top r)) (λ r. u.memory (Tams r))
+          (λ a. u.memory (Heap a)) u.block u.ghost.snapshot u.ghost.recording u.ghost.scanning shared.marked (λ a. stored_world.memory (Heap a))
+          fields_stay;
+      evacuated = evacuated_words c (u.memory Phase) (u.memory Cset) (u.memory Evac) (u.memory Claim) (u.memory Free) (λ r. u.memory (Top r)) (λ r. u.memory (Tams r)) (λ a. u.memory (Heap a)) (λ n. u.memory (Black n))
+          u.block u.ghost.owner u.ghost.copying u.ghost.working shared.evacuated (λ a. stored_world.memory (Heap a))
+          (λ a more_refs more_nums to n is. (
+            head_stays a (moved n more_refs more_nums to) is (λ differ. cc) (omega arith),
+            else_stays a 1 (moved n more_refs more_nums to) is (not_room a (moved n more_refs more_nums to) is (λ differ. cc)) (omega arith),
+            else_stays a 2 (moved n more_refs more_nums to) is (not_room a (moved n more_refs more_nums to) is (λ differ. cc)) (omega arith),
+          ))
+          (λ a words to is. let long = shared.parsable.spents a words to is in (
+            head_stays a (spent words to) is (λ differ. cc) (omega (arith, long)),
+            else_stays a 1 (spent words to) is (not_room a (spent words to) is (λ differ. cc)) (omega (arith, long)),
+          ));
+      updated = λ on. updated_elsewhere c (u.memory Cset) (u.memory Claim) (λ r. u.memory (Top r)) (λ r. u.memory (Limit r)) (λ a. u.memory (Heap a)) u.block u.ghost.scanning (shared.updated on) (λ a. stored_world.memory (Heap a)) fields_stay;
+    }
+
+    -- one word more of the new object stands in the room
+    filling : IsFilling stored_world seat made refs nums address (done + 1)
+    filling = record {
+      room = mine.facts.1.room;
+      within = (let less = mine.facts.2 in omega arith);
+      stored = λ k below. ⊎_elim
+          (λ (same : k ≡ done).
+          cond-true ((address + done) == (address + k)) _ _ (eq-eqb (address + done) (address + k) (omega (arith, same)))
+          ∙ ap (λ n. fresh_word seat made refs nums n) (sym same))
+          (λ (other : k ≢ done).
+          cond-false ((address + done) == (address + k)) _ _ (ne_eqb (address + done) (address + k) (λ e. other (omega (arith, e))))
+          ∙ mine.facts.1.stored k (omega (arith, below, other)))
+          (cases_eq k done);
+    }
+
+    -- the mutator goes on with the next word, or with the root
+    mine_stored : (b : Bool) → nat_lt (done + 1) (3 + refs + nums) ≡ b
+        → Mine c stored_world (at_spot (Making (if b then make.StoreWord address (done + 1) else make.StoreRoot address))) command fixed
+    mine_stored true more = record {
+      seated = mine.seated;
+      ready = word_ready c seat made kept command fixed mine.facts.0 (λ r. u.memory (Top r)) u.block shared.parsable.plotted address mine.facts.1.room mine.seated.below (done + 1) (ltb-true _ _ more);
+      marking = mine.marking;
+      copying = mine.copying;
+      roots = mine.roots;
+      hands = mine.hands;
+      facts = (mine.facts.0, filling, ltb-true _ _ more);
+    }
+    mine_stored false all = record {
+      seated = mine.seated;
+      ready = fresh_ready c seat made kept command fixed mine.facts.0 (λ r. u.memory (Top r)) u.block shared.parsable.plotted address mine.facts.1.room mine.seated.below;
+      marking = mine.marking;
+      copying = mine.copying;
+      roots = mine.roots;
+      hands = mine.hands;
+      facts = (
+        mine.facts.0,
+        subst (λ n. IsFilling stored_world seat made refs nums address n) (let most = ltb-false _ _ all in let less = mine.facts.2 in omega (arith, most, less)) filling,
+      );
+    }
+
+    -- the shapes of objects stay
+    shape_stays : (a : ℕ) → IsMarkable u.block a → stored_world.memory (Heap (a + 1)) ≡ u.memory (Heap (a + 1))
+    shape_stays a (IsMarkable.object n more_refs more_nums is) = else_stays a 1 (thing n more_refs more_nums) is (not_room a (thing n more_refs more_nums) is (λ differ. cc)) (omega arith)
+    shape_stays a (IsMarkable.to_come other words is) =
+        else_stays a 1 (promised other words) is (not_room a (promised other words) is (λ differ. cc)) (let long = shared.parsable.promises a other words is in omega (arith, long))
+
+    -- room in hand is no copy of an object
+    not_body : (a : ℕ) (b : Body) (x : Block) → body_at (u.block a) ≡ Some b → u.block a ≡ Some x → hand seat (3 + refs + nums) ≡ x → ⊥
+    not_body a b x is there same = none-some b (ap (λ (y : Block). body_at (Some y)) same ∙ ap body_at (sym there) ∙ is)
+
+    -- others can rely on what they knew
+    others_stored : (j : ℕ) → j ≢ seat → Rely c j u stored_world
+    others_stored j differs = record {
+      names = λ a n is. is;
+      targets = λ a more_refs more_nums n has. record { piece = has.piece; safe = has.safe };
+      hands = λ a words is. is;
+      no_hands = λ a words is. is;
+      hand_words = λ a words k is below.
+          let other : a ≢ address = not_room a (hand j words) is (λ same. (let seats : j ≡ seat = cc in differs seats)) in
+          else_stays a k (hand j words) is other below;
+      promises = λ a words is. is;
+      no_promises = λ a words is. is;
+      promise_words = λ a words k is below.
+          let other : a ≢ address = not_room a (promised j words) is (λ differ. cc) in
+          else_stays a k (promised j words) is other below;
+      current = refl;
+      owners = λ r is. is;
+      tops = λ r is. refl;
+      root_words = λ i. refl;
+      roots = λ i. refl;
+      count = refl;
+      wait = refl;
+      answer = refl;
+      state = refl;
+      asked = λ is. is;
+      marks = rely_marks c u stored_world j refl (λ n. refl) (λ t. refl) (λ t k. refl) refl (λ t. refl) refl (λ a is. is) shape_stays;
+      copies = rely_copies c u stored_world j (same_plot c u stored_world refl refl refl (λ r is. refl)) refl refl
+          (λ a k b seated copies inside is from below.
+          let piece = body_piece (u.block a) b is in
+          else_stays a k piece.0 piece.1 (not_room a piece.0 piece.1 (λ same. not_body a b piece.0 is piece.1 same)) (let long = piece.2 in omega (arith, below, long)));
+      fields = fields_stored c u stored_world (λ r. refl) (λ r. refl) refl (λ a words is. is) (λ on a more_refs more_nums k n is below. inl (fields_stay a more_refs more_nums k n is below));
+    }
+
+  -- the step that stores a word of a new object
+  pub at_store_word : (address done : ℕ) → Row c u (at_spot (Making (make.StoreWord address done))) command fixed
+  at_store_word address done shared mine = record {
+    world = stored_world address done shared mine;
+    memory = refl;
+    graph = refl;
+    legal = tt;
+    settles = λ r e. cc;
+    shared = shared_stored address done shared mine;
+    mine = mine_stored address done shared mine (nat_lt (done + 1) (3 + refs + nums)) refl;
+    others = others_stored address done shared mine;
+  }
+
+  module _ (address : ℕ) (shared : Shared c u) (mine : Mine c u (at_spot (Making (make.StoreRoot address))) command fixed) where
+    -- all words of the object stand in the room in hand
+    has : HasNew c u seat made command kept.command fixed address
+    has = record {
+      making = mine.facts.0;
+      within = mine.seated.below;
+      counted = mine.seated.counted;
+      piece = hand seat (3 + refs + nums);
+      here = mine.facts.1.room;
+      unnamed = refl;
+      long = refl;
+      own = record { no_hand = λ j words differs same. (let seats : j ≡ seat = cc in differs seats); no_promise = λ j words differs same. cc; no_filler = λ words same. cc };
+      known = λ on. inr (shared.marked.young on address seat (3 + refs + nums) mine.facts.1.room);
+      outside = room_outside c u shared address seat (3 + refs + nums) mine.facts.1.room;
+      kept = λ on. inr (shared.evacuated.kept.young on address seat (3 + refs + nums) mine.facts.1.room);
+      stored = mine.facts.1.stored;
+      shared = shared;
+    }
+
+    -- the mutator has only to leave
+    mine_made : Mine c (made_world has) (mutator_at seat (made + 1) kept (Leave (made_reply has))) command (Some (made_reply has))
+    mine_made =
+        leaving c (made_world has) seat (made + 1) kept command (made_reply has)
+        (record { below = mine.seated.below; counted = count_made has; usable = usable_made has mine.seated.usable; unasked = λ calm. let was = mine.seated.unasked calm in (was.0, was.1, λ a words is. was.2 a words (promise_before has a seat words is).1) })
+        (mine.marking.records, mine.marking.scans, mine.copying.copies_is, mine.copying.works_none)
+        (roots_made has mine.roots)
+        (λ a words is. let old = hand_before has a seat words is in old.0 (mine.hands a words old.1).0)
+
+  -- the step that stores a new object into a root settles its name
+  pub at_store_fresh : (address : ℕ) → Row c u (at_spot (Making (make.StoreRoot address))) command fixed
+  at_store_fresh address shared mine = let new = has address shared mine in record {
+    world = made_world new;
+    memory = refl;
+    graph = graph_made new;
+    legal = legal_made new;
+    settles = λ r e. (mine.facts.0.unsettled, refl);
+    shared = shared_made new;
+    mine = mine_made address shared mine;
+    others = others_made new;
+  }

@@ -1,0 +1,216 @@
+-- A new object is stored into a root: room in hand, or an object that was promised, becomes an object of the graph, and its name
+-- is settled.
+use Rattle.std.proofs.Common.{◌≡◌, ◌≢◌, ℕ, ◌+◌, ◌<◌, ◌⊎◌, inl, inr, ◌≤◌, true, Option, Some, None, refl, sym, ap, ◌∙◌, subst, arith}
+use Rattle.std.specs.Prelude.{◌==◌, ◌&&◌}
+use Rattle.std.proofs.lemmas.Bool.{cond-false, ne_eqb, and_left}
+use Rattle.std.proofs.lemmas.Bool.Decides.{nat_tests}
+use Rattle.heap_words.specs.declared.config.Config.{Config}
+use Rattle.heap_words.specs.Encoding.{fresh_word}
+use Rattle.heap_words.specs.Words.{Free, Claim, Cset, Evac, Phase, Root, Top, Tams, Limit, Heap, Current, Count, Buffer, Grey, Black}
+use Rattle.steps_base.specs.Touch.{touch, stores, touched}
+use Rattle.shen_graph.specs.declared.name.Name.{Name}
+use Rattle.shen_graph.specs.declared.command.Command.{Command}
+use Rattle.shen_graph.specs.declared.command.Reply.{Reply}
+use Rattle.shen_graph.specs.declared.command.Reply.TheVariants as reply
+use Rattle.shen_graph.specs.Graph.{Object, blank, fresh, with_root, with_fresh}
+use Rattle.shen_graph.specs.Step.{outcome}
+use Rattle.mutator.specs.Commands.{dst_of, refs_of, nums_of}
+use Rattle.mutator.specs.WaitRows.{next_name}
+use Rattle.heap_world.specs.World.{World, Block, thing, moved, hand, promised, filler, words_of, name_at, Points, IsCollected, TargetIn, UsableIn, IsThing, IsGiven, IsYoung, Shared}
+use Rattle.heap_world.specs.Rely.{Rely}
+use Rattle.heap_world.proofs.Updates.{updated, updated_there, updated_else}
+use Rattle.heap_world.proofs.Keeping.{points_stay, usable_stays}
+use Rattle.regions.specs.Marks.{HasMark}
+use Rattle.std.proofs.lemmas.Option.{none-some}
+use Rattle.heap_world.proofs.Copies.{CopiesStay, rely_copies}
+use Rattle.heap_world.proofs.Marked.{rely_marks}
+use Rattle.heap_world.proofs.Fields.{fields_stored}
+use Rattle.heap_world.proofs.NewObject.{new_object, stays, names_stay, things_stay, old_hand, old_promise, parsable_again, objects_again, owned_again, unwritten_again, markable_again, marking_again, evacuating_again, updating_again, given_again, with_count, count_own}
+use Rattle.step_core.proofs.Machines.Stepped.{IsMaking, LegalBy, graph_by}
+use Rattle.step_core.proofs.History.Settling.{legal_answer, graph_answer}
+use Rattle.heap_world.proofs.RootChanges.{roots_written, usable_written}
+
+-- a piece that is no other seat's, neither in its hand nor promised to it, and does not only fill
+pub record IsOwn (seat : ℕ) (piece : Block) : Type 0 where
+  pub no_hand : (j words : ℕ) → j ≢ seat → piece ≡ hand j words → ⊥
+  pub no_promise : (j words : ℕ) → j ≢ seat → piece ≡ promised j words → ⊥
+  pub no_filler : (words : ℕ) → piece ≡ filler words → ⊥
+
+-- What is needed where a mutator stores its next object into a root: the command makes it, and a piece of the seat's own has all
+-- its words.
+pub record HasNew (c : Config) (u : World) (seat made : ℕ) (command k : Command) (fixed : Option Reply) (address : ℕ) : Type 0 where
+  pub making : IsMaking made command fixed (dst_of k) (refs_of k) (nums_of k)
+  pub within : seat < c.mutators
+  pub counted : u.graph.count (seat + 1) ≡ made
+  pub piece : Block
+  pub here : u.block address ≡ Some piece
+  pub unnamed : name_at (Some piece) ≡ None
+  pub long : words_of piece ≡ 3 + refs_of k + nums_of k
+  pub own : IsOwn seat piece
+  pub known : u.memory Phase ≡ 1 → (u.ghost.snapshot.starts address ≡ true) ⊎ IsYoung c u.ghost.snapshot.top address
+  pub outside : IsCollected c (u.memory Cset) address → ⊥
+  pub kept : 2 ≤ u.memory Phase → HasMark c (λ n. u.memory (Black n)) address ⊎ IsYoung c (λ r. u.memory (Tams r)) address
+  pub stored : (i : ℕ) → i < 3 + refs_of k + nums_of k → u.memory (Heap (address + i)) ≡ fresh_word seat made (refs_of k) (nums_of k) i
+  pub shared : Shared c u
+
+module _ {c : Config} {u : World} {seat made : ℕ} {command k : Command} {fixed : Option Reply} {address : ℕ} (has : HasNew c u seat made command k fixed address) where
+  abbrev top : ℕ → ℕ
+  top r = u.memory (Top r)
+
+  abbrev refs : ℕ
+  refs = refs_of k
+
+  abbrev nums : ℕ
+  nums = nums_of k
+
+  abbrev name : Name
+  name = fresh u.graph (seat + 1)
+
+  -- the world with the new object
+  abbrev pub made_world : World
+  made_world = record {
+    memory = touched u.memory (touch (Root seat (dst_of k)) (stores address));
+    block = updated u.block address (Some (thing name refs nums));
+    ghost = u.ghost;
+    graph = with_root (with_fresh u.graph (seat + 1) (blank refs nums)) (seat + 1) (dst_of k) (Some name);
+  }
+
+  -- the reply that is settled
+  abbrev pub made_reply : Reply
+  made_reply = reply.Ref (next_name seat made)
+
+  -- what a word stands for it still stands for
+  names : (a : ℕ) (n : Name) → name_at (u.block a) ≡ Some n → name_at (made_world.block a) ≡ Some n
+  names = names_stay c top u.block address refs nums name has.piece has.unnamed has.long has.here
+
+  -- each object stands where it stood
+  targets : (a more_refs more_nums : ℕ) (n : Name) → TargetIn c u a more_refs more_nums n → TargetIn c made_world a more_refs more_nums n
+  targets a more_refs more_nums n there =
+      record { piece = things_stay c top u.block address refs nums name has.piece has.unnamed has.long has.here a more_refs more_nums n there.piece; safe = there.safe }
+
+  -- the thread's fresh name is the one that the mutator writes
+  name_is : name ≡ next_name seat made
+  name_is = ap (next_name seat) has.counted
+
+  -- no object has it
+  not_given : (o : Object) → u.graph.object name ≡ Some o → ⊥
+  not_given o is = let given = has.shared.contents.given name o is in let most = given.by_thread (omega arith) in omega (arith, most)
+
+  -- its words are those of a blank object
+  new_is : IsThing (λ a. u.memory (Heap a)) made_world.block address refs nums name (blank refs nums)
+  new_is =
+      subst (λ n. IsThing (λ a. u.memory (Heap a)) made_world.block address refs nums n (blank refs nums)) (sym name_is)
+      (new_object (λ a. u.memory (Heap a)) made_world.block address seat made refs nums has.making.few_refs has.making.few_nums has.stored)
+
+  -- its name is given then
+  is_given : IsGiven c (with_count u.graph.count (seat + 1)) name
+  is_given =
+      let own = count_own u.graph.count (seat + 1) in
+      let few = has.making.few in
+      let counted = has.counted in
+      let within = has.within in
+      record { thread = omega (arith, within); made = omega (arith, own); by_thread = λ one. omega (arith, own); small = omega (arith, few, counted) }
+
+  -- its references are null
+  nulls : (i : ℕ) → i < refs → u.memory (Heap (address + 3 + i)) ≡ 0
+  nulls i below = ap (λ a. u.memory (Heap a)) (omega arith) ∙ has.stored (3 + i) (omega (arith, below)) ∙ grind (arith, nat_tests)
+
+  -- machines share what they should
+  pub shared_made : Shared c made_world
+  shared_made = record {
+    parsable = parsable_again c top u.block address refs nums name has.piece has.unnamed has.long has.here has.shared.parsable;
+    contents = record {
+      objects = objects_again c top u.block address refs nums name has.piece has.unnamed has.long has.here (λ a. u.memory (Heap a)) u.graph.object has.shared.contents.objects not_given (blank refs nums) new_is;
+      given = given_again c u.graph.count u.graph.object name (blank refs nums) has.shared.contents.given is_given;
+    };
+    owned = owned_again c top u.block address refs nums name has.piece has.unnamed has.long has.here (u.memory Free) (λ s. u.memory (Current s)) u.ghost.owner has.shared.owned;
+    phased = has.shared.phased;
+    unwritten = unwritten_again c top u.block address refs nums name has.piece has.unnamed has.long has.here (λ a. u.memory (Heap a)) has.shared.unwritten;
+    marked = marking_again c top u.block address refs nums name has.piece has.unnamed has.long has.here (u.memory Phase) (λ n. u.memory (Grey n)) (λ n. u.memory (Black n)) (λ t. u.memory (Count t)) (λ t i. u.memory (Buffer t i))
+        (λ r. u.memory (Tams r)) (λ a. u.memory (Heap a)) u.ghost.snapshot u.ghost.recording u.ghost.scanning has.known has.shared.marked;
+    evacuated = evacuating_again c top u.block address refs nums name has.piece has.unnamed has.long has.here (u.memory Phase) (u.memory Cset) (u.memory Evac) (u.memory Claim) (u.memory Free) (λ r. u.memory (Tams r))
+        (λ a. u.memory (Heap a)) (λ n. u.memory (Black n)) u.ghost.owner u.ghost.copying u.ghost.working has.outside has.kept has.shared.evacuated;
+    updated = λ on. updating_again c top u.block address refs nums name has.piece has.unnamed has.long has.here (u.memory Cset) (u.memory Claim) (λ r. u.memory (Limit r)) (λ a. u.memory (Heap a)) u.ghost.scanning has.outside nulls (has.shared.updated on);
+  }
+
+  -- room in hand was in hand before, elsewhere
+  pub hand_before : (a j words : ℕ) → made_world.block a ≡ Some (hand j words) → (a ≢ address) × (u.block a ≡ Some (hand j words))
+  hand_before = old_hand c top u.block address refs nums name has.piece has.unnamed has.long has.here
+
+  -- what is promised was promised before, elsewhere
+  pub promise_before : (a j words : ℕ) → made_world.block a ≡ Some (promised j words) → (a ≢ address) × (u.block a ≡ Some (promised j words))
+  promise_before = old_promise c top u.block address refs nums name has.piece has.unnamed has.long has.here
+
+  -- the mutator's roots stand for its thread's, with the new one
+  pub roots_made : ((i : ℕ) → i < 16 → Points u.block (u.memory (Root seat i)) (u.graph.root (seat + 1) i)) → (i : ℕ) → i < 16
+      → Points made_world.block (made_world.memory (Root seat i)) (made_world.graph.root (seat + 1) i)
+  roots_made roots =
+      roots_written made_world.block u.memory u.graph.root seat (dst_of k) address (Some name)
+      (λ i below. points_stay u.block made_world.block names (u.memory (Root seat i)) (u.graph.root (seat + 1) i) (roots i below))
+      (ap name_at (updated_there u.block address (Some (thing name refs nums))))
+
+  -- and may be used
+  pub usable_made : ((i : ℕ) → i < 16 → UsableIn c u (u.memory (Root seat i))) → (i : ℕ) → i < 16 → UsableIn c made_world (made_world.memory (Root seat i))
+  usable_made usable =
+      usable_written c (u.memory Cset) (u.memory Evac) made_world.block u.memory seat (dst_of k) address
+      (λ i below. usable_stays c u made_world targets (u.memory (Root seat i)) (usable i below))
+      (inr (name, refs, nums, record { piece = updated_there u.block address (Some (thing name refs nums)); safe = λ inside. absurd (has.outside inside) }))
+
+  -- it has made one object more
+  pub count_made : made_world.graph.count (seat + 1) ≡ made + 1
+  count_made = count_own u.graph.count (seat + 1) ∙ ap (λ n. n + 1) has.counted
+
+  -- the reply is the command's
+  replied : (outcome u.graph (seat + 1) command).reply ≡ made_reply
+  replied = ap (λ x. (outcome u.graph (seat + 1) x).reply) has.making.is ∙ ap (λ n. reply.Ref n) name_is
+
+  -- and legal
+  pub legal_made : LegalBy u.graph seat command (Some made_reply)
+  legal_made = legal_answer u.graph seat command made_reply refl replied
+
+  -- and it leads to the graph with the new object
+  pub graph_made : made_world.graph ≡ graph_by u.graph seat command (Some made_reply)
+  graph_made = sym (graph_answer u.graph seat command made_reply refl ∙ ap (λ x. (outcome u.graph (seat + 1) x).graph) has.making.is)
+
+  -- a piece of the collection set is another, and stays
+  not_here : (a : ℕ) → IsCollected c (u.memory Cset) a → a ≢ address
+  not_here a inside same = has.outside (subst (λ b. IsCollected c (u.memory Cset) b) same inside)
+
+  copies_stay : CopiesStay c u made_world
+  copies_stay = record {
+    cset = refl;
+    evac = refl;
+    things = things_stay c top u.block address refs nums name has.piece has.unnamed has.long has.here;
+    moveds = λ a more_refs more_nums to n is. stays c top u.block address refs nums name has.piece has.unnamed has.long has.here a (moved n more_refs more_nums to) is
+        (λ same. none-some n (sym has.unnamed ∙ ap (λ b. name_at (Some b)) same));
+    spents = λ a words to is. updated_else u.block address (Some (thing name refs nums)) a (λ e. not_here a (has.shared.evacuated.moved.spents a words to is).inside (sym e)) ∙ is;
+    pieces = λ a x inside is. (x, updated_else u.block address (Some (thing name refs nums)) a (λ e. not_here a inside (sym e)) ∙ is, refl);
+    no_new = λ a more_refs more_nums n inside is. sym (updated_else u.block address (Some (thing name refs nums)) a (λ e. not_here a inside (sym e))) ∙ is;
+    tops = λ r is. refl;
+  }
+
+  -- others can rely on what they knew
+  pub others_made : (j : ℕ) → j ≢ seat → Rely c j u made_world
+  others_made j differs = record {
+    names = names;
+    targets = targets;
+    hands = λ a words is. stays c top u.block address refs nums name has.piece has.unnamed has.long has.here a (hand j words) is (has.own.no_hand j words differs);
+    no_hands = λ a words is. (hand_before a j words is).1;
+    hand_words = λ a words i is below. refl;
+    promises = λ a words is. stays c top u.block address refs nums name has.piece has.unnamed has.long has.here a (promised j words) is (has.own.no_promise j words differs);
+    no_promises = λ a words is. (promise_before a j words is).1;
+    promise_words = λ a words i is below. refl;
+    current = refl;
+    owners = λ r is. is;
+    tops = λ r is. refl;
+    root_words = λ i. cond-false ((seat == j) && (dst_of k == i)) _ _ (and_left _ _ (ne_eqb seat j (λ e. differs (sym e))));
+    roots = λ i. cond-false (((j + 1) == (seat + 1)) && (i == dst_of k)) _ _ (and_left _ _ (ne_eqb (j + 1) (seat + 1) (λ e. differs (omega (arith, e)))));
+    count = cond-false ((j + 1) == (seat + 1)) _ _ (ne_eqb (j + 1) (seat + 1) (λ e. differs (omega (arith, e))));
+    wait = refl;
+    answer = refl;
+    state = refl;
+    asked = λ is. is;
+    marks = rely_marks c u made_world j refl (λ n. refl) (λ t. refl) (λ t i. refl) refl (λ t. refl) refl (markable_again c top u.block address refs nums name has.piece has.unnamed has.long has.here) (λ a is. refl);
+    copies = rely_copies c u made_world j copies_stay refl refl (λ a i b seated copies inside is from below. refl);
+    fields = fields_stored c u made_world (λ r. refl) (λ r. refl) refl (λ a words is. stays c top u.block address refs nums name has.piece has.unnamed has.long has.here a (filler words) is (has.own.no_filler words)) (λ on a more_refs more_nums i n is below. inl refl);
+  }

@@ -1,0 +1,414 @@
+-- The steps by which a call loads its command's roots and the shape of its object.
+use Rattle.std.proofs.Common.{◌≡◌, ℕ, zero, suc, ◌+◌, ◌<◌, inl, inr, ⊎_elim, Bool, true, false, length, Option, Some, None, refl, sym, ap, ◌∙◌, subst, arith}
+use Rattle.std.specs.Prelude.{◌==◌}
+use Rattle.std.proofs.lemmas.Bool.{and_parts, cases_Bool, cond-true, cond-false, eq-eqb, eqb-true, eqb-false, ltb-true}
+use Rattle.std.proofs.lemmas.Bool.Decides.{nat_tests}
+use Rattle.heap_words.specs.declared.config.Config.{Config}
+use Rattle.heap_words.specs.Words.{Cset, Root, Heap, is_word}
+use Rattle.steps_base.specs.Fits.{is_number}
+use Rattle.heap_words.specs.Encoding.{refs_in, nums_in}
+use Rattle.shen_graph.specs.declared.command.Command.{Command}
+use Rattle.shen_graph.specs.declared.command.Command.TheVariants.{New, Get, Set, Cas, Xchg, Rd, Wr, Copy, Drop, Same, Gc}
+use Rattle.shen_graph.specs.declared.command.Reply.{Reply}
+use Rattle.shen_graph.specs.declared.command.Reply.TheVariants as reply
+use Rattle.shen_graph.specs.Graph.{same_reference}
+use Rattle.shen_graph.specs.Step.{yes_or_no, answers, outcome}
+use Rattle.shen_graph.specs.History.{is_full}
+use Rattle.mutator.specs.declared.spot.Spot.{Spot}
+use Rattle.mutator.specs.declared.spot.Spot.TheVariants.{LoadSet, Loading, OnField, Leave}
+use Rattle.mutator.specs.declared.loads.LoadSpot.TheVariants as load
+use Rattle.mutator.specs.declared.spot.Kept.{Kept}
+use Rattle.shen_graph.specs.declared.order.Order.TheVariants.{Nothing}
+use Rattle.mutator.specs.Orders.{is_next}
+use Rattle.mutator.specs.Commands.{command_roots, command_root, is_on_object, lacks_object, has_part}
+use Rattle.mutator.specs.Rows.{Mutating, first_spot, after_first, first_of_set, with_part}
+use Rattle.mutator.specs.Told.{name_the_same}
+use Rattle.heap_world.specs.World.{World, hand, name_at, Points, Shared}
+use Rattle.step_core.proofs.Machines.Stepped.{IsRootWord, HasRoot, HasObject, HasFirst, HasRoots, IsBegun, IsSet, IsSeatedIn, HasMarkingBy, HasCopyingBy, Mine, Stepped, Row}
+use Rattle.step_core.proofs.Mutators.Spots.{mutator_at}
+use Rattle.step_core.proofs.Mutators.WhileMarking.{covered_unmarked}
+use Rattle.step_core.proofs.Machines.Ready.{leaving, ready_of, number_small}
+use Rattle.heap_world.proofs.Pointing.{named_if_not_0, null_if_0, points_small}
+use Rattle.step_core.proofs.Machines.Naming.{same_words, names_agree, word_in, shape_in, bad_on_null, bad_on_shape}
+use Rattle.step_core.proofs.Mutators.Loading.{looks, replies}
+
+-- the roots that a command loads are below 16
+root_small : (made : ℕ) (k : Command) (i : ℕ) → is_next made k ≡ true → i < length (command_roots k) → command_root k i < 16
+root_small made (Get dst src field) zero next below = grind (arith, nat_tests)
+root_small made (Get dst src field) (suc i) next below = absurd (omega arith)
+root_small made (Set obj field val) zero next below = grind (arith, nat_tests)
+root_small made (Set obj field val) (suc zero) next below = grind (arith, nat_tests)
+root_small made (Set obj field val) (suc (suc i)) next below = absurd (omega arith)
+root_small made (Cas obj field expect val) zero next below = grind (arith, nat_tests)
+root_small made (Cas obj field expect val) (suc zero) next below = grind (arith, nat_tests)
+root_small made (Cas obj field expect val) (suc (suc zero)) next below = grind (arith, nat_tests)
+root_small made (Cas obj field expect val) (suc (suc (suc i))) next below = absurd (omega arith)
+root_small made (Xchg dst obj field val) zero next below = grind (arith, nat_tests)
+root_small made (Xchg dst obj field val) (suc zero) next below = grind (arith, nat_tests)
+root_small made (Xchg dst obj field val) (suc (suc i)) next below = absurd (omega arith)
+root_small made (Rd obj index) zero next below = grind (arith, nat_tests)
+root_small made (Rd obj index) (suc i) next below = absurd (omega arith)
+root_small made (Wr obj index value) zero next below = grind (arith, nat_tests)
+root_small made (Wr obj index value) (suc i) next below = absurd (omega arith)
+root_small made (Copy dst src) zero next below = grind (arith, nat_tests)
+root_small made (Copy dst src) (suc i) next below = absurd (omega arith)
+root_small made (Same a b) zero next below = grind (arith, nat_tests)
+root_small made (Same a b) (suc zero) next below = grind (arith, nat_tests)
+root_small made (Same a b) (suc (suc i)) next below = absurd (omega arith)
+root_small made _ i next below = absurd (omega arith)
+
+-- the object of a command whose first root is not null
+abbrev object_of : (c : Config) (u : World) (seat : ℕ) (k : Command) (object : ℕ) → Shared c u → is_on_object k ≡ true → HasFirst c u seat k object → HasObject c u seat (command_root k 0) object
+object_of c u seat k object shared on first =
+    let is = first.first_is first.some in
+    let named = named_if_not_0 c _ u.block shared.parsable.plotted object _ is.stands (first.not_null on) in
+    ⊎_elim
+    (λ null. absurd (first.not_null on null))
+    (λ at. record { name = at.0; refs = at.1; nums = at.2; root_is = named.1 ∙ sym named.2 ∙ ap name_at at.3.piece; target = at.3 })
+    is.usable
+
+-- a call of a command has begun: what a mutator counts on that has no root in hand
+record IsUnderWay (c : Config) (u : World) (seat made phase cset : ℕ) (command : Command) (fixed : Option Reply) (k : Command) : Type 0 where
+  seated : IsSeatedIn c u seat made false
+  marking : HasMarkingBy u seat None phase true
+  copying : HasCopyingBy u seat false cset true
+  roots : (i : ℕ) → i < 16 → Points u.block (u.memory (Root seat i)) (u.graph.root (seat + 1) i)
+  hands : (a words : ℕ) → u.block a ≡ Some (hand seat words) → ⊥
+  facts : IsBegun made command fixed k
+
+-- yes and no are not full
+full_no : (b : Bool) → is_full (yes_or_no b) ≡ false
+full_no true = refl
+full_no false = refl
+
+module _ (c : Config) (u : World) (seat made : ℕ) (kept : Kept) (command : Command) (fixed : Option Reply) where
+  abbrev at_spot : Spot → Mutating
+  at_spot spot = mutator_at seat made kept spot
+
+  -- what the call of a command keeps that has loaded this collection set
+  abbrev keeping : Command → ℕ → Kept
+  keeping k now = record { command = k; phase = kept.phase; cset = now }
+
+  -- the mutator in a call of a command
+  abbrev at_call : Command → Spot → Mutating
+  at_call k spot = mutator_at seat made (keeping k kept.cset) spot
+
+  -- what it counts on at a spot, once the call has a settled reply or none
+  abbrev HasSpot : Command → ℕ → Option Reply → Spot → Type 0
+  HasSpot k now settled spot = Mine c u (mutator_at seat made (keeping k now) spot) command settled
+
+  -- a call of a command has begun, which has loaded this collection set, and no root is in hand
+  abbrev HasBegunWith : Command → ℕ → Type 0
+  HasBegunWith k now = IsUnderWay c u seat made kept.phase now command fixed k
+
+  abbrev HasBegun : Command → Type 0
+  HasBegun k = HasBegunWith k kept.cset
+
+  -- it can go on with the command's first root
+  root_mine : (k : Command) (now : ℕ) → 0 < length (command_roots k) → HasBegunWith k now → HasSpot k now fixed (Loading load.First)
+  root_mine k now some mine =
+      let below = mine.seated.below in
+      let small = root_small made k 0 mine.facts.next some in
+      record { seated = mine.seated; ready = grind (arith, nat_tests); marking = mine.marking; copying = mine.copying; roots = mine.roots; hands = mine.hands; facts = (mine.facts, some) }
+
+  -- where it goes on after the collection set
+  set_mine : (k : Command) (now : ℕ) → HasBegunWith k now → HasSpot k now fixed (first_spot k)
+  set_mine (New dst refs nums) now mine =
+      let below = mine.seated.below in
+      let next = mine.facts.next in
+      record {
+        seated = mine.seated;
+        ready = grind (arith, nat_tests);
+        marking = mine.marking;
+        copying = mine.copying;
+        roots = mine.roots;
+        hands = mine.hands;
+        facts = (
+          record {
+            unsettled = mine.facts.unsettled;
+            is = mine.facts.is;
+            small = grind (arith, nat_tests);
+            few_refs = grind (arith, nat_tests);
+            few_nums = grind (arith, nat_tests);
+            few = grind (arith, nat_tests);
+          },
+          tt,
+        );
+      }
+  set_mine (Drop dst) now mine =
+      let below = mine.seated.below in
+      let next = mine.facts.next in
+      let small : dst < 16 = grind (arith, nat_tests) in
+      record {
+        seated = mine.seated;
+        ready = grind (arith, nat_tests);
+        marking = mine.marking;
+        copying = mine.copying;
+        roots = mine.roots;
+        hands = mine.hands;
+        facts = (mine.facts.unsettled, small, inr (record { is = mine.facts.is; value_is = refl }));
+      }
+  set_mine Gc now mine = record { seated = mine.seated; ready = refl; marking = mine.marking; copying = mine.copying; roots = mine.roots; hands = mine.hands; facts = (mine.facts.unsettled, mine.facts.is) }
+  set_mine (Get dst src field) now mine = root_mine (Get dst src field) now (omega arith) mine
+  set_mine (Set obj field val) now mine = root_mine (Set obj field val) now (omega arith) mine
+  set_mine (Cas obj field expect val) now mine = root_mine (Cas obj field expect val) now (omega arith) mine
+  set_mine (Xchg dst obj field val) now mine = root_mine (Xchg dst obj field val) now (omega arith) mine
+  set_mine (Rd obj index) now mine = root_mine (Rd obj index) now (omega arith) mine
+  set_mine (Wr obj index value) now mine = root_mine (Wr obj index value) now (omega arith) mine
+  set_mine (Copy dst src) now mine = root_mine (Copy dst src) now (omega arith) mine
+  set_mine (Same a b) now mine = root_mine (Same a b) now (omega arith) mine
+
+  -- it leaves with the reply that is settled
+  leave_mine : (k : Command) (r : Reply) → HasBegun k → HasSpot k kept.cset (Some r) (Leave r)
+  leave_mine k r mine = leaving c _ seat made (keeping k kept.cset) command r mine.seated (mine.marking.records, mine.marking.scans, mine.copying.copies_is, mine.copying.works_none) mine.roots mine.hands
+
+  -- it can go on with the shape of the command's object
+  shape_mine : (k : Command) (object second third : ℕ) → Shared c u → HasBegun k → is_on_object k ≡ true → HasRoots c u seat k object second third → HasSpot k kept.cset fixed (Loading (load.Shape object second third))
+  shape_mine k object second third shared mine on has =
+      let of : HasObject c u seat (command_root k 0) object = object_of c u seat k object shared on has.first_is in
+      record {
+        seated = mine.seated;
+        ready = ready_of _ true (word_in c u shared seat (command_root k 0) object (object + 1) 1 of (omega arith) refl) refl;
+        marking = mine.marking;
+        copying = mine.copying;
+        roots = mine.roots;
+        hands = mine.hands;
+        facts = (mine.facts, on, has);
+      }
+
+  -- the word of a root of the command stands for the root
+  root_has : (k : Command) (i : ℕ) → HasBegun k → HasRoot c u seat k i (u.memory (Root seat (command_root k i)))
+  root_has k i mine below =
+      let small = root_small made k i mine.facts.next below in
+      record { stands = mine.roots (command_root k i) small; usable = mine.seated.usable (command_root k i) small }
+
+  -- it can go on with the second root, and with the third
+  second_mine : (k : Command) (first : ℕ) → HasBegun k → 1 < length (command_roots k) → HasFirst c u seat k first → HasSpot k kept.cset fixed (Loading (load.Second first))
+  second_mine k first mine more has =
+      let below = mine.seated.below in
+      let small = root_small made k 1 mine.facts.next more in
+      record { seated = mine.seated; ready = grind (arith, nat_tests); marking = mine.marking; copying = mine.copying; roots = mine.roots; hands = mine.hands; facts = (mine.facts, more, has) }
+
+  -- it can go on with the third root
+  third_mine : (k : Command) (first second : ℕ) → HasBegun k → 2 < length (command_roots k) → HasFirst c u seat k first → HasRoot c u seat k 1 second → HasSpot k kept.cset fixed (Loading (load.Third first second))
+  third_mine k first second mine more has has_second =
+      let below = mine.seated.below in
+      let small = root_small made k 2 mine.facts.next more in
+      record { seated = mine.seated; ready = grind (arith, nat_tests); marking = mine.marking; copying = mine.copying; roots = mine.roots; hands = mine.hands; facts = (mine.facts, more, has, has_second) }
+
+  -- where it goes on after the first root
+  first_mine : (k : Command) (first : ℕ) → Shared c u → HasBegun k → HasFirst c u seat k first → HasSpot k kept.cset fixed (after_first k first)
+  first_mine (Get dst src field) first shared mine has =
+      shape_mine (Get dst src field) first 0 0 shared mine refl (record { first_is = has; second_is = λ below. absurd (omega arith); third_is = λ below. absurd (omega arith) })
+  first_mine (Rd obj index) first shared mine has =
+      shape_mine (Rd obj index) first 0 0 shared mine refl (record { first_is = has; second_is = λ below. absurd (omega arith); third_is = λ below. absurd (omega arith) })
+  first_mine (Wr obj index value) first shared mine has =
+      shape_mine (Wr obj index value) first 0 0 shared mine refl (record { first_is = has; second_is = λ below. absurd (omega arith); third_is = λ below. absurd (omega arith) })
+  first_mine (Set obj field val) first shared mine has = second_mine (Set obj field val) first mine (omega arith) has
+  first_mine (Cas obj field expect val) first shared mine has = second_mine (Cas obj field expect val) first mine (omega arith) has
+  first_mine (Xchg dst obj field val) first shared mine has = second_mine (Xchg dst obj field val) first mine (omega arith) has
+  first_mine (Same a b) first shared mine has = second_mine (Same a b) first mine (omega arith) has
+  first_mine (Copy dst src) first shared mine has =
+      let below = mine.seated.below in
+      let next = mine.facts.next in
+      let small : dst < 16 = grind (arith, nat_tests) in
+      let value_is : IsRootWord c u seat src first = has.first_is has.some in
+      record {
+        seated = mine.seated;
+        ready = ready_of _ _ (grind (arith, nat_tests)) (number_small first (points_small c _ u.block shared.parsable.plotted first _ value_is.stands));
+        marking = mine.marking;
+        copying = mine.copying;
+        roots = mine.roots;
+        hands = mine.hands;
+        facts = (mine.facts.unsettled, small, inl (record { src = src; is = mine.facts.is; value_is = value_is }));
+      }
+  first_mine _ first shared mine has = let some = has.some in absurd (omega arith)
+
+  -- the load of the collection set
+  pub at_load_set : Row c u (at_spot LoadSet) command fixed
+  at_load_set shared mine =
+      let begun : HasBegunWith kept.command (u.memory Cset) = record { seated = mine.seated; marking = mine.marking; copying = record { copies_is = mine.copying.copies_is; works_none = mine.copying.works_none; set_is = λ on. refl }; roots = mine.roots; hands = mine.hands; facts = mine.facts } in
+      looks c u (at_spot LoadSet) Cset command fixed refl refl refl shared (set_mine kept.command (u.memory Cset) begun)
+
+  -- the first root of a command is null, and there is no object
+  root_lacks : (k : Command) → Shared c u → HasBegun k → 0 < length (command_roots k) → lacks_object k (u.memory (Root seat (command_root k 0))) ≡ true → Stepped c u (at_call k (Loading load.First)) command Nothing fixed
+  root_lacks k shared mine some lacks =
+      let parts = and_parts _ _ lacks in
+      let null : u.graph.root (seat + 1) (command_root k 0) ≡ None = null_if_0 c _ u.block shared.parsable.plotted _ _ (root_has k 0 mine some).stands (eqb-true _ _ parts.1) in
+      replies c u (at_call k (Loading load.First)) (Root seat (command_root k 0)) command fixed reply.Bad refl
+      (cond-true _ _ _ lacks) refl mine.facts.unsettled refl
+      (ap (λ x. outcome u.graph (seat + 1) x) mine.facts.is ∙ bad_on_null u.graph (seat + 1) k parts.0 null)
+      shared (rw lacks (leave_mine k reply.Bad mine))
+
+  -- it is not, or the command works on none
+  root_goes : (k : Command) → Shared c u → HasBegun k → 0 < length (command_roots k) → lacks_object k (u.memory (Root seat (command_root k 0))) ≡ false → Stepped c u (at_call k (Loading load.First)) command Nothing fixed
+  root_goes k shared mine some lacks =
+      looks c u (at_call k (Loading load.First)) (Root seat (command_root k 0)) command fixed refl (cond-false _ _ _ lacks) refl shared
+      (rw lacks (first_mine k (u.memory (Root seat (command_root k 0))) shared mine (record {
+        some = some;
+        first_is = root_has k 0 mine;
+        not_null = λ on is. absurd (let both : lacks_object k (u.memory (Root seat (command_root k 0))) ≡ true = rw on (eq-eqb _ _ is) in cc);
+      })))
+
+  -- the load of the first root
+  pub at_load_root : Row c u (at_spot (Loading load.First)) command fixed
+  at_load_root shared mine =
+      let k : Command = kept.command in
+      let base : HasBegun k = record { seated = mine.seated; marking = mine.marking; copying = mine.copying; roots = mine.roots; hands = mine.hands; facts = mine.facts.0 } in
+      ⊎_elim (root_lacks k shared base mine.facts.1) (root_goes k shared base mine.facts.1) (cases_Bool (lacks_object k (u.memory (Root seat (command_root k 0)))))
+
+  -- where it goes on after the second root; for a Same it is settled here whether the roots are the same
+  second_step : (k : Command) (first : ℕ) → Shared c u → HasBegun k → 1 < length (command_roots k) → HasFirst c u seat k first → Stepped c u (at_call k (Loading (load.Second first))) command Nothing fixed
+  second_step (Set obj field val) first shared mine more has =
+      looks c u (at_call (Set obj field val) (Loading (load.Second first))) (Root seat val) command fixed refl refl refl shared
+      (shape_mine (Set obj field val) first (u.memory (Root seat val)) 0 shared mine refl (record { first_is = has; second_is = root_has (Set obj field val) 1 mine; third_is = λ below. absurd (omega arith) }))
+  second_step (Cas obj field expect val) first shared mine more has =
+      looks c u (at_call (Cas obj field expect val) (Loading (load.Second first))) (Root seat expect) command fixed refl refl refl shared
+      (third_mine (Cas obj field expect val) first (u.memory (Root seat expect)) mine (omega arith) has (root_has (Cas obj field expect val) 1 mine))
+  second_step (Xchg dst obj field val) first shared mine more has =
+      looks c u (at_call (Xchg dst obj field val) (Loading (load.Second first))) (Root seat val) command fixed refl refl refl shared
+      (shape_mine (Xchg dst obj field val) first (u.memory (Root seat val)) 0 shared mine refl (record { first_is = has; second_is = root_has (Xchg dst obj field val) 1 mine; third_is = λ below. absurd (omega arith) }))
+  second_step (Same a b) first shared mine more has =
+      let got : ℕ = u.memory (Root seat b) in
+      let is_first = has.first_is has.some in
+      let is_second = root_has (Same a b) 1 mine more in
+      let stand : name_the_same u.memory first got ≡ same_reference (u.graph.root (seat + 1) a) (u.graph.root (seat + 1) b) = names_agree c u shared first got _ _ is_first.stands is_second.stands in
+      let agree : name_the_same u.memory first got ≡ (first == got) = stand ∙ sym (same_words c u shared first got _ _ is_first.usable is_second.usable is_first.stands is_second.stands) in
+      replies c u (at_call (Same a b) (Loading (load.Second first))) (Root seat b) command fixed (yes_or_no (name_the_same u.memory first got)) refl refl refl mine.facts.unsettled
+      (full_no (name_the_same u.memory first got))
+      (ap (λ x. outcome u.graph (seat + 1) x) mine.facts.is ∙ ap (λ x. answers (yes_or_no x) u.graph) (sym stand))
+      shared
+      (subst (λ f. HasSpot (Same a b) kept.cset f (Leave (yes_or_no (first == got)))) (ap (λ x. Some (yes_or_no x)) (sym agree)) (leave_mine (Same a b) (yes_or_no (first == got)) mine))
+  second_step _ first shared mine more has = absurd (omega arith)
+
+  -- the load of the second root
+  pub at_load_second : (first : ℕ) → Row c u (at_spot (Loading (load.Second first))) command fixed
+  at_load_second first shared mine =
+      second_step kept.command first shared (record { seated = mine.seated; marking = mine.marking; copying = mine.copying; roots = mine.roots; hands = mine.hands; facts = mine.facts.0 }) mine.facts.1 mine.facts.2
+
+  -- where it goes on after the third root: only a Cas has one
+  third_step : (k : Command) (first second : ℕ) → Shared c u → HasBegun k → 2 < length (command_roots k) → HasFirst c u seat k first → HasRoot c u seat k 1 second → Stepped c u (at_call k (Loading (load.Third first second))) command Nothing fixed
+  third_step (Cas obj field expect val) first second shared mine more has has_second =
+      looks c u (at_call (Cas obj field expect val) (Loading (load.Third first second))) (Root seat val) command fixed refl refl refl shared
+      (shape_mine (Cas obj field expect val) first second (u.memory (Root seat val)) shared mine refl (record { first_is = has; second_is = has_second; third_is = root_has (Cas obj field expect val) 2 mine }))
+  third_step _ first second shared mine more has has_second = absurd (omega arith)
+
+  -- the load of the third root
+  pub at_load_third : (first second : ℕ) → Row c u (at_spot (Loading (load.Third first second))) command fixed
+  at_load_third first second shared mine =
+      third_step kept.command first second shared (record { seated = mine.seated; marking = mine.marking; copying = mine.copying; roots = mine.roots; hands = mine.hands; facts = mine.facts.0 }) mine.facts.1 mine.facts.2 mine.facts.3
+
+  -- A Set goes on with its field: while objects are marked it looks first what it will overwrite.
+  set_part : (obj field val object value : ℕ) → Shared c u → HasBegun (Set obj field val) → IsSet c u seat command object field value
+      → HasSpot (Set obj field val) kept.cset fixed (OnField object (first_of_set kept.phase value))
+  set_part obj field val object value shared mine is = ⊎_elim
+      (λ (marks : (kept.phase == 1) ≡ true). rw marks (record {
+        seated = mine.seated;
+        ready = ready_of _ true there refl;
+        marking = mine.marking;
+        copying = mine.copying;
+        roots = mine.roots;
+        hands = mine.hands;
+        facts = (mine.facts.unsettled, is);
+      }))
+      (λ (off : (kept.phase == 1) ≡ false). rw off (record {
+        seated = mine.seated;
+        ready = ready_of _ _ there (number_small value (points_small c _ u.block shared.parsable.plotted value _ is.value_is.stands));
+        marking = mine.marking;
+        copying = mine.copying;
+        roots = mine.roots;
+        hands = mine.hands;
+        facts = (mine.facts.unsettled, is, covered_unmarked c u object field shared (λ on. eqb-false _ _ off (mine.marking.phase_is refl ∙ on)));
+      }))
+      (cases_Bool (kept.phase == 1))
+    where
+      there : is_word c (Heap (object + 3 + field)) ≡ true
+      there = word_in c u shared seat is.obj object (object + 3 + field) (3 + field) is.of (let below = is.below in omega (arith, below)) (omega arith)
+
+  -- where it goes on with a part of the object that there is
+  part_mine : (k : Command) (object second third shape : ℕ) → Shared c u → HasBegun k → HasRoots c u seat k object second third → (of : HasObject c u seat (command_root k 0) object)
+      → refs_in shape ≡ of.refs → nums_in shape ≡ of.nums → is_on_object k ≡ true → has_part k shape ≡ true → HasSpot k kept.cset fixed (with_part kept.phase k object second third shape)
+  part_mine (Get dst src field) object second third shape shared mine has of refs nums on part =
+      let next = mine.facts.next in
+      let below : field < of.refs = let lt = ltb-true _ _ part in omega arith in
+      record {
+        seated = mine.seated;
+        ready = ready_of _ true (word_in c u shared seat src object (object + 3 + field) (3 + field) of (omega arith) (omega arith)) refl;
+        marking = mine.marking;
+        copying = mine.copying;
+        roots = mine.roots;
+        hands = mine.hands;
+        facts = (mine.facts.unsettled, record { src = src; is = mine.facts.is; small = grind (arith, nat_tests); of = of; below = below });
+      }
+  part_mine (Set obj field val) object second third shape shared mine has of refs nums on part =
+      let below : field < of.refs = let lt = ltb-true _ _ part in omega arith in
+      set_part obj field val object second shared mine (record { obj = obj; val = val; is = mine.facts.is; of = of; below = below; value_is = has.second_is (omega arith) })
+  part_mine (Cas obj field expect val) object second third shape shared mine has of refs nums on part =
+      let below : field < of.refs = let lt = ltb-true _ _ part in omega arith in
+      record {
+        seated = mine.seated;
+        ready = ready_of _ true (word_in c u shared seat obj object (object + 3 + field) (3 + field) of (omega arith) (omega arith)) refl;
+        marking = mine.marking;
+        copying = mine.copying;
+        roots = mine.roots;
+        hands = mine.hands;
+        facts = (
+          mine.facts.unsettled,
+          record { obj = obj; expected = expect; val = val; is = mine.facts.is; of = of; below = below; expect_is = has.second_is (omega arith); value_is = has.third_is (omega arith) },
+        );
+      }
+  part_mine (Xchg dst obj field val) object second third shape shared mine has of refs nums on part =
+      let next = mine.facts.next in
+      let below : field < of.refs = let lt = ltb-true _ _ part in omega arith in
+      let value_is : IsRootWord c u seat val second = has.second_is (omega arith) in
+      record {
+        seated = mine.seated;
+        ready = ready_of _ _ (word_in c u shared seat obj object (object + 3 + field) (3 + field) of (omega arith) (omega arith)) (number_small second (points_small c _ u.block shared.parsable.plotted second _ value_is.stands));
+        marking = mine.marking;
+        copying = mine.copying;
+        roots = mine.roots;
+        hands = mine.hands;
+        facts = (mine.facts.unsettled, record { obj = obj; val = val; is = mine.facts.is; small = grind (arith, nat_tests); of = of; below = below; value_is = value_is });
+      }
+  part_mine (Rd obj index) object second third shape shared mine has of refs nums on part =
+      let below : index < of.nums = let lt = ltb-true _ _ part in omega arith in
+      record {
+        seated = mine.seated;
+        ready = ready_of _ true (word_in c u shared seat obj object (object + 3 + refs_in shape + index) (3 + refs_in shape + index) of (omega arith) (omega arith)) refl;
+        marking = mine.marking;
+        copying = mine.copying;
+        roots = mine.roots;
+        hands = mine.hands;
+        facts = (mine.facts.unsettled, record { obj = obj; is = mine.facts.is; of = of; refs_are = refs; below = below });
+      }
+  part_mine (Wr obj index value) object second third shape shared mine has of refs nums on part =
+      let next = mine.facts.next in
+      let below : index < of.nums = let lt = ltb-true _ _ part in omega arith in
+      let small : is_number value ≡ true = grind (arith, nat_tests) in
+      record {
+        seated = mine.seated;
+        ready = ready_of _ _ (word_in c u shared seat obj object (object + 3 + refs_in shape + index) (3 + refs_in shape + index) of (omega arith) (omega arith)) small;
+        marking = mine.marking;
+        copying = mine.copying;
+        roots = mine.roots;
+        hands = mine.hands;
+        facts = (mine.facts.unsettled, record { obj = obj; is = mine.facts.is; of = of; refs_are = refs; below = below });
+      }
+  part_mine _ object second third shape shared mine has of refs nums on part = cc
+
+  -- the load of the shape settles Bad where the object has no such part
+  pub at_load_shape : (object second third : ℕ) → Row c u (at_spot (Loading (load.Shape object second third))) command fixed
+  at_load_shape object second third shared mine =
+      let k : Command = kept.command in
+      let base : HasBegun k = record { seated = mine.seated; marking = mine.marking; copying = mine.copying; roots = mine.roots; hands = mine.hands; facts = mine.facts.0 } in
+      let of : HasObject c u seat (command_root k 0) object = object_of c u seat k object shared mine.facts.1 mine.facts.2.first_is in
+      let sizes = shape_in c u shared seat (command_root k 0) object of in
+      ⊎_elim
+      (λ (part : has_part k (u.memory (Heap (object + 1))) ≡ true).
+      looks c u (at_spot (Loading (load.Shape object second third))) (Heap (object + 1)) command fixed refl (cond-true _ _ _ part) refl shared
+      (rw part (part_mine k object second third (u.memory (Heap (object + 1))) shared base mine.facts.2 of sizes.0 sizes.1 mine.facts.1 part)))
+      (λ (lacks : has_part k (u.memory (Heap (object + 1))) ≡ false).
+      replies c u (at_spot (Loading (load.Shape object second third))) (Heap (object + 1)) command fixed reply.Bad refl (cond-false _ _ _ lacks) refl mine.facts.0.unsettled refl
+      (ap (λ x. outcome u.graph (seat + 1) x) mine.facts.0.is ∙ bad_on_shape c u shared seat object k of mine.facts.1 lacks)
+      shared (rw lacks (leave_mine k reply.Bad base)))
+      (cases_Bool (has_part k (u.memory (Heap (object + 1)))))

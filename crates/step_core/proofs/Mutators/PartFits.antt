@@ -1,0 +1,75 @@
+-- The words that a mutator finds are fit for its parts: a reference that is to be used is one, and a resolving can go on.
+use Rattle.std.proofs.Common.{◌≡◌, ◌≢◌, ℕ, ⊎_elim, true, false, Option, Some, None, refl, ap, ◌∙◌, arith}
+use Rattle.std.specs.Prelude.{◌==◌}
+use Rattle.std.proofs.lemmas.Bool.{cond-true, cond-false, eq-eqb, ne_eqb}
+use Rattle.std.proofs.lemmas.Bool.{cases_eq}
+use Rattle.heap_words.specs.declared.config.Config.{Config}
+use Rattle.heap_words.specs.Words.{Top, Current, Heap, is_word}
+use Rattle.shen_graph.specs.declared.command.Command.{Command}
+use Rattle.shen_graph.specs.declared.command.Reply.{Reply}
+use Rattle.shen_graph.specs.declared.order.Order.TheVariants.{Nothing}
+use Rattle.shen_graph.specs.Graph.{Reference}
+use Rattle.mutator.specs.declared.spot.Kept.{Kept}
+use Rattle.mutator.specs.declared.spot.Spot.{Spot}
+use Rattle.mutator.specs.declared.spot.Spot.TheVariants.{Rest, Ended, OnField, Resolving, Gone}
+use Rattle.mutator.specs.declared.fields.FieldSpot.{FieldSpot}
+use Rattle.mutator.specs.declared.fields.FieldSpot.TheVariants as fields
+use Rattle.mutator.specs.Orders.{is_between_calls}
+use Rattle.mutator.specs.Rows.{touch_of}
+use Rattle.mutator.specs.Fit.{is_reference_word, field_goes, PartFit}
+use Rattle.heap_world.specs.World.{World, Points, Shared}
+use Rattle.heap_world.proofs.Pointing.{named_piece, piece_word}
+use Rattle.heap_world.proofs.Pieces.{some_words}
+use Rattle.handshake.specs.Standing.{is_within}
+use Rattle.step_core.specs.Standing.{standing_at}
+use Rattle.step_core.proofs.Machines.Stepped.{Mine}
+use Rattle.step_core.proofs.Machines.Naming.{field_in}
+use Rattle.step_core.proofs.Mutators.Resolves.{resolving_fits}
+use Rattle.step_core.proofs.Mutators.Resolving.{going_now}
+use Rattle.step_core.proofs.Mutators.Spots.{mutator_at}
+
+module _ (c : Config) (u : World) (shared : Shared c u) where
+  -- a word that stands for a reference is one
+  reference_fits : (word : ℕ) (r : Reference) → Points u.block word r → is_reference_word c word ≡ true
+  reference_fits word r points = ⊎_elim
+      (λ (null : word ≡ 0). cond-true (word == 0) true (is_word c (Heap word)) (eq-eqb word 0 null))
+      (λ (some : word ≢ 0). cond-false (word == 0) true (is_word c (Heap word)) (ne_eqb word 0 some) ∙ of_object r points some)
+      (cases_eq word 0)
+    where
+      of_object : (r : Reference) → Points u.block word r → word ≢ 0 → is_word c (Heap word) ≡ true
+      of_object None is other = absurd (other is)
+      of_object (Some name) is other =
+          let piece = named_piece (u.block word) name is in
+          let long = some_words c (λ k. u.memory (Top k)) (λ k. u.memory (Current k)) u.block shared.parsable shared.owned.rooms word piece.0 piece.1 in
+          ap (λ a. is_word c (Heap a)) (omega arith) ∙ piece_word c (λ k. u.memory (Top k)) u.block shared.parsable.plotted word 0 piece.0 piece.1 (omega (arith, long))
+
+  module _ (seat made : ℕ) (kept : Kept) (command : Command) (fixed : Option Reply) where
+    -- what is found in a field is one, where it is to be used
+    field_fits : (object : ℕ) (at : FieldSpot) → Mine c u (mutator_at seat made kept (OnField object at)) command fixed
+        → field_goes c at (u.memory (touch_of c (mutator_at seat made kept (OnField object at)) Nothing).word) ≡ true
+    field_fits object fields.Load mine = let get = mine.facts.1 in let here = field_in c u shared seat get.src object _ get.of get.below in reference_fits _ here.0 here.2
+    field_fits object (fields.LoadExpected expect value) mine = let cas = mine.facts.1 in let here = field_in c u shared seat cas.obj object _ cas.of cas.below in reference_fits _ here.0 here.2
+    field_fits object (fields.Swap value) mine = let swap = mine.facts.1 in let here = field_in c u shared seat swap.obj object _ swap.of swap.below in reference_fits _ here.0 here.2
+    field_fits object (fields.LoadOld value) mine = refl
+    field_fits object (fields.Store value) mine = refl
+    field_fits object (fields.Exchange found expect value) mine = refl
+
+    -- the word that a mutator finds is fit for its part
+    pub part_fits : (spot : Spot) → Mine c u (mutator_at seat made kept spot) command fixed → PartFit c seat kept spot (u.memory (touch_of c (mutator_at seat made kept spot) Nothing).word)
+    part_fits (OnField object at) mine = field_fits object at mine
+    part_fits (Resolving address at next) mine =
+        resolving_fits c u seat address kept.phase at (going_now c u seat made kept command fixed at address next mine) shared (mine.marking.phase_is refl) mine.facts.0
+    part_fits _ mine = tt
+
+-- outside the heap each word is fit
+pub part_outside : (c : Config) (seat : ℕ) (kept : Kept) (spot : Spot) (got : ℕ) → is_within (standing_at spot) ≡ false → PartFit c seat kept spot got
+part_outside c seat kept (OnField object at) got out = absurd (cc (out))
+part_outside c seat kept (Resolving address at next) got out = absurd (cc (out))
+part_outside c seat kept _ got out = tt
+
+-- a mutator that is in the heap has a call in progress
+pub within_call : (spot : Spot) → is_within (standing_at spot) ≡ true → is_between_calls spot ≡ false
+within_call Rest within = absurd (cc (within))
+within_call (Ended reply) within = absurd (cc (within))
+within_call Gone within = absurd (cc (within))
+within_call _ within = refl

@@ -1,0 +1,110 @@
+-- The table of places: each spot's step is as it should be.
+use Rattle.heap_words.specs.declared.config.Config.{Config}
+use Rattle.heap_words.specs.Words.{Answer}
+use Rattle.shen_graph.specs.declared.command.Command.{Command}
+use Rattle.shen_graph.specs.declared.command.Reply.{Reply}
+use Rattle.shen_graph.specs.declared.command.Reply.TheVariants as reply
+use Rattle.std.proofs.Common.{◌≡◌, ℕ, false, Option, Some, refl, sym, ap, subst}
+use Rattle.shen_graph.specs.declared.order.Order.{Order}
+use Rattle.mutator.specs.declared.spot.Kept.{Kept}
+use Rattle.mutator.specs.declared.spot.Spot.{Spot}
+use Rattle.mutator.specs.declared.spot.Spot.TheVariants.{Rest, Ended, Entering, LoadPhase, LoadSet, Loading, OnField, Resolving, Recording, OnNumber, Showing, StoreRoot, Making, AskCycle, Waiting, Leave, Gone}
+use Rattle.mutator.specs.declared.loads.LoadSpot.{LoadSpot}
+use Rattle.mutator.specs.declared.loads.LoadSpot.TheVariants as load
+use Rattle.mutator.specs.declared.fields.FieldSpot.{FieldSpot}
+use Rattle.mutator.specs.declared.fields.FieldSpot.TheVariants as fields
+use Rattle.mutator.specs.declared.numbers.NumberSpot.{NumberSpot}
+use Rattle.mutator.specs.declared.numbers.NumberSpot.TheVariants as numbers
+use Rattle.mutator.specs.declared.shows.ShowSpot.{ShowSpot}
+use Rattle.mutator.specs.declared.shows.ShowSpot.TheVariants as show
+use Rattle.mutator.specs.declared.makes.MakeSpot.{MakeSpot}
+use Rattle.mutator.specs.declared.makes.MakeSpot.TheVariants as make
+use Rattle.mutator.specs.declared.waits.WaitSpot.TheVariants as wait
+use Rattle.mutator.specs.Orders.{is_between_calls}
+use Rattle.mutator.specs.Rows.{Mutating}
+use Rattle.mutator.proofs.Orders.{in_call}
+use Rattle.heap_world.specs.World.{World}
+use Rattle.step_core.proofs.Machines.Stepped.{Row, OrderedRow, Stepped}
+use Rattle.step_core.proofs.Mutators.Calls.{at_rest, at_ended, at_ask, at_leave}
+use Rattle.step_core.proofs.Mutators.Entering.{at_enter, at_load_phase}
+use Rattle.step_core.proofs.Mutators.Waiting.{each_wait}
+use Rattle.step_core.proofs.Mutators.Loads.{at_load_set, at_load_root, at_load_second, at_load_third, at_load_shape}
+use Rattle.step_core.proofs.Mutators.Fields.{at_load_field, at_load_old, at_load_expected, at_load_number, at_load_name}
+use Rattle.step_core.proofs.Mutators.RootStores.{at_store_loaded, at_store_root}
+use Rattle.step_core.proofs.Mutators.Stores.{at_store_field, at_swap_field, at_exchange_field, at_store_number}
+use Rattle.step_core.proofs.Mutators.Recording.{at_record}
+use Rattle.step_core.proofs.Mutators.Resolving.{at_resolve}
+use Rattle.step_core.proofs.Mutators.Takes.{at_taking}
+use Rattle.step_core.proofs.Mutators.Fresh.{at_store_word, at_store_fresh}
+use Rattle.step_core.proofs.Mutators.Spots.{mutator_at}
+
+module _ (c : Config) (u : World) (seat made : ℕ) (kept : Kept) (command : Command) (fixed : Option Reply) where
+  -- by the spot of each part of a call
+  each_load : (at : LoadSpot) → Row c u (mutator_at seat made kept (Loading at)) command fixed
+  each_load load.First = at_load_root c u seat made kept command fixed
+  each_load (load.Second first) = at_load_second c u seat made kept command fixed first
+  each_load (load.Third first second) = at_load_third c u seat made kept command fixed first second
+  each_load (load.Shape object second third) = at_load_shape c u seat made kept command fixed object second third
+
+  each_field : (object : ℕ) (at : FieldSpot) → Row c u (mutator_at seat made kept (OnField object at)) command fixed
+  each_field object fields.Load = at_load_field c u seat made kept command fixed object
+  each_field object (fields.LoadExpected expect value) = at_load_expected c u seat made kept command fixed object expect value
+  each_field object (fields.LoadOld value) = at_load_old c u seat made kept command fixed object value
+  each_field object (fields.Store value) = at_store_field c u seat made kept command fixed object value
+  each_field object (fields.Swap value) = at_swap_field c u seat made kept command fixed object value
+  each_field object (fields.Exchange found expect value) = at_exchange_field c u seat made kept command fixed object found expect value
+
+  each_number : (object refs : ℕ) (at : NumberSpot) → Row c u (mutator_at seat made kept (OnNumber object refs at)) command fixed
+  each_number object refs numbers.Load = at_load_number c u seat made kept command fixed object refs
+  each_number object refs numbers.Store = at_store_number c u seat made kept command fixed object refs
+
+  each_show : (value : ℕ) (at : ShowSpot) → Row c u (mutator_at seat made kept (Showing value at)) command fixed
+  each_show value show.LoadName = at_load_name c u seat made kept command fixed value
+  each_show value (show.StoreRoot r) = at_store_loaded c u seat made kept command fixed value r
+
+  each_make : (at : MakeSpot) → Row c u (mutator_at seat made kept (Making at)) command fixed
+  each_make (make.Taking take) = at_taking c u seat made kept command fixed take
+  each_make (make.StoreWord address done) = at_store_word c u seat made kept command fixed address done
+  each_make (make.StoreRoot address) = at_store_fresh c u seat made kept command fixed address
+
+  -- What the history has where a mutator polls: if the words that count say that the heap is full, so does it. (They may say so
+  -- before the word of the table does; it then finds 0, and polls on.)
+  abbrev HasTold : Spot → Type 0
+  HasTold spot = spot ≡ Waiting wait.Poll → u.memory (Answer seat) ≡ 1 → fixed ≡ Some reply.Full
+
+  -- by the spot, in a call
+  each_call : (spot : Spot) → HasTold spot → is_between_calls spot ≡ false → Row c u (mutator_at seat made kept spot) command fixed
+  each_call Rest told busy = absurd (cc (busy))
+  each_call (Ended r) told busy = absurd (cc (busy))
+  each_call (Entering at next) told busy = at_enter c u seat made kept command fixed at next
+  each_call LoadPhase told busy = at_load_phase c u seat made kept command fixed
+  each_call LoadSet told busy = at_load_set c u seat made kept command fixed
+  each_call (Loading at) told busy = each_load at
+  each_call (OnField object at) told busy = each_field object at
+  each_call (Resolving address at next) told busy = at_resolve c u seat made kept command fixed at address next
+  each_call (Recording at address next) told busy = at_record c u seat made kept command fixed at address next
+  each_call (OnNumber object refs at) told busy = each_number object refs at
+  each_call (Showing value at) told busy = each_show value at
+  each_call (StoreRoot value) told busy = at_store_root c u seat made kept command fixed value
+  each_call (Making at) told busy = each_make at
+  each_call AskCycle told busy = at_ask c u seat made kept command fixed
+  each_call (Waiting at) told busy = each_wait c u seat made kept command fixed at (λ same. told (ap Waiting same))
+  each_call (Leave r) told busy = at_leave c u seat made kept command fixed r
+  each_call Gone told busy = absurd (cc (busy))
+
+  -- in a call there is no order
+  called : (order : Order) (spot : Spot) → HasTold spot → is_between_calls spot ≡ false → OrderedRow c u (mutator_at seat made kept spot) command order fixed
+  called order spot told busy shared mine takes =
+      subst (λ o. Stepped c u (mutator_at seat made kept spot) command o fixed) (sym (in_call spot made order busy takes)) (each_call spot told busy shared mine)
+
+  -- by the spot
+  each_place : (order : Order) (spot : Spot) → HasTold spot → OrderedRow c u (mutator_at seat made kept spot) command order fixed
+  each_place order Rest told = at_rest c u seat made kept command fixed order
+  each_place order (Ended r) told = at_ended c u seat made kept command fixed r order
+  each_place order Gone told = λ shared mine takes. absurd (cc (takes))
+  each_place order spot told = called order spot told refl
+
+-- for a mutator wherever it stands
+pub each_step : (c : Config) (u : World) (m : Mutating) (command : Command) (order : Order) (fixed : Option Reply)
+    → (m.spot ≡ Waiting wait.Poll → u.memory (Answer m.seat) ≡ 1 → fixed ≡ Some reply.Full) → OrderedRow c u m command order fixed
+each_step c u m command order fixed told = each_place c u m.seat m.made m.kept command fixed order m.spot told

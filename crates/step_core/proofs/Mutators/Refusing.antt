@@ -1,0 +1,65 @@
+-- A mutator that is refused: it waits for its answer, and the reply of its call is settled with it.
+use Rattle.std.proofs.Common.{◌≡◌, ℕ, inl, inr, Some, None, refl, sym, subst, arith}
+use Rattle.heap_words.specs.declared.config.Config.{Config}
+use Rattle.heap_words.specs.Words.{Answer}
+use Rattle.shen_graph.specs.declared.command.Command.{Command}
+use Rattle.shen_graph.specs.declared.command.Reply.TheVariants.{Full}
+use Rattle.shen_graph.specs.Step.{IsNew}
+use Rattle.mutator.specs.declared.spot.Kept.{Kept}
+use Rattle.mutator.specs.declared.spot.Spot.{Spot}
+use Rattle.mutator.specs.declared.spot.Spot.TheVariants.{Entering, Waiting}
+use Rattle.mutator.specs.declared.spot.Entered.TheVariants.{Call, Waited}
+use Rattle.mutator.specs.declared.waits.WaitSpot.TheVariants as wait
+use Rattle.heap_world.specs.World.{World}
+use Rattle.heap_world.specs.Asking.{refused, IsAsked}
+use Rattle.step_core.proofs.Machines.Stepped.{IsRefused, SpotFacts, Mine}
+use Rattle.step_core.proofs.Mutators.Spots.{mutator_at}
+
+module _ (c : Config) (w : World) (seat made : ℕ) (kept : Kept) (command : Command) (full : w.memory (Answer seat) ≡ 1) where
+  abbrev Own : Spot → Type 0
+  Own spot = Mine c w (mutator_at seat made kept spot) command None
+
+  -- it polls
+  polls : (spot : Spot) → Own spot → (spot ≡ Waiting wait.Poll) × IsRefused command None × IsAsked w.memory w.block w.graph.count seat refused
+  polls (Waiting wait.Poll) mine = by_facts mine.facts
+    where
+      by_facts : SpotFacts c w seat made kept command None (Waiting wait.Poll) → (Waiting wait.Poll ≡ Waiting wait.Poll) × IsRefused command None × IsAsked w.memory w.block w.graph.count seat refused
+      by_facts (inl waits) = absurd (let none = waits.0.1.1 in omega (arith, full, none))
+      by_facts (inr (inl has)) = absurd (let more = has.1.1 in omega (arith, full, more))
+      by_facts (inr (inr is)) = (refl, is.0, is.1)
+  polls (Waiting wait.StoreRequest) mine = absurd (let none = mine.facts.1.1 in omega (arith, full, none))
+  polls (Waiting wait.AskRoom) mine = absurd (let none = mine.facts.1.1 in omega (arith, full, none))
+  polls (Waiting wait.StepOut) mine = absurd (let none = mine.facts.0.1.1 in omega (arith, full, none))
+  polls (Waiting wait.LoadAnswer) mine = absurd (by_facts mine.facts)
+    where
+      by_facts : SpotFacts c w seat made kept command None (Waiting wait.LoadAnswer) → ⊥
+      by_facts (inl has) = (let more = has.1.1 in omega (arith, full, more))
+      by_facts (inr is) = (let settled = is.0.settled in cc)
+  polls (Waiting (wait.StoreRoot address)) mine = absurd (let more = mine.facts.0.1.1 in omega (arith, full, more))
+  polls (Waiting (wait.ClearAnswer reply)) mine = absurd (let settled = mine.facts.0 in cc)
+  polls (Entering at Waited) mine = absurd (by_facts mine.facts)
+    where
+      by_facts : SpotFacts c w seat made kept command None (Entering at Waited) → ⊥
+      by_facts (inl has) = (let more = has.1.1 in omega (arith, full, more))
+      by_facts (inr is) = (let settled = is.0.settled in cc)
+  polls (Entering at Call) mine = absurd (let none = (mine.seated.unasked refl).1 in omega (arith, full, none))
+  polls _ mine = absurd (let none = (mine.seated.unasked refl).1 in omega (arith, full, none))
+
+  -- it makes an object
+  pub refused_new : (spot : Spot) → Own spot → IsNew command
+  refused_new spot mine = let is = (polls spot mine).1 in subst IsNew (sym is.is) tt
+
+  -- what it counts on once that is settled
+  pub refused_mine : (spot : Spot) → Own spot → Mine c w (mutator_at seat made kept spot) command (Some Full)
+  refused_mine spot mine =
+      let is = polls spot mine in
+      record {
+        seated = mine.seated;
+        ready = mine.ready;
+        marking = mine.marking;
+        copying = mine.copying;
+        roots = mine.roots;
+        hands = mine.hands;
+        facts = subst (λ s. SpotFacts c w seat made kept command (Some Full) s) (sym is.0)
+            (inr (inr (record { dst = is.1.dst; refs = is.1.refs; nums = is.1.nums; is = is.1.is; settled = inr refl }, is.2)));
+      }

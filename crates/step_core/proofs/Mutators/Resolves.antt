@@ -1,0 +1,117 @@
+-- Resolving an address while objects are evacuated, or while references are updated: what both have in common.
+use Rattle.std.proofs.Common.{◌≡◌, ℕ, ◌<◌, ◌⊎◌, inl, inr, true, false, Some, None, sym, ◌∙◌, subst}
+use Rattle.heap_words.specs.declared.config.Config.{Config}
+use Rattle.heap_words.specs.Ranges.{seat_count}
+use Rattle.heap_words.specs.Words.{Phase, Cset, IsWord}
+use Rattle.load_barrier.specs.declared.spot.ResolveSpot.{ResolveSpot}
+use Rattle.load_barrier.specs.declared.spot.ResolveSpot.TheVariants.{LoadHeader, Resolved}
+use Rattle.load_barrier.specs.Alone.{is_copier}
+use Rattle.load_barrier.specs.Rows as resolves
+use Rattle.load_barrier.specs.Fit as load
+use Rattle.move_steps.specs.Resolving.Facts.{IsAnswer, IsRoomAt}
+use Rattle.move_steps.proofs.Resolving.Parts.{resolving_steps}
+use Rattle.move_steps.proofs.Updating.Following.{following_steps}
+use Rattle.heap_world.specs.World.{World, Body, hand, HasCopy, body_at, IsCollected, Shared}
+use Rattle.heap_world.specs.Rely.{Rely}
+use Rattle.heap_world.specs.Part.{PartStep}
+use Rattle.step_core.proofs.Machines.Stepped.{IsResolving}
+
+-- The address lies in the collection set and is that of a copy. The counter counts the machine where it copies; it has no room in hand but
+-- for its copy, and neither records nor scans; and it can make its next access.
+pub record Resolves (c : Config) (w : World) (seat a : ℕ) (at : ResolveSpot) : Type 0 where
+  pub inside : IsCollected c (w.memory Cset) a
+  pub there : HasCopy w.block a
+  pub copying : w.ghost.copying seat ≡ is_copier at
+  pub records_none : w.ghost.recording seat ≡ None
+  pub scans_none : w.ghost.scanning seat ≡ None
+  pub hands : (b words : ℕ) → w.block b ≡ Some (hand seat words) → IsRoomAt at b
+  pub ready : load.is_ready c seat a at ≡ true
+
+pub resolves_by : (c : Config) (w : World) (seat a : ℕ) (at : ResolveSpot) → Shared c w → IsResolving c w seat a at → Resolves c w seat a at
+resolves_by c w seat a at shared (inl can) = record {
+  inside = can.inside;
+  there = can.there;
+  copying = can.copying;
+  records_none = can.records_none;
+  scans_none = can.scans_none;
+  hands = can.hands;
+  ready = can.ready;
+}
+resolves_by c w seat a at shared (inr can) = record {
+  inside = can.inside;
+  there = HasCopy.copy can.body can.there;
+  copying = can.nothing.copying ∙ sym (following_steps.copies_none c w seat a at can);
+  records_none = can.nothing.records_none;
+  scans_none = can.nothing.scans_none;
+  hands = λ b words is. absurd (can.nothing.hands b words is);
+  ready = following_steps.ready c w seat a at shared can;
+}
+
+-- a machine that works on no unit begins to resolve the address of a copy of an object of the graph, in phase 2 or 3
+pub resolving_begins : (c : Config) (u : World) (seat a : ℕ) (b : Body) → seat < seat_count c.mutators c.helpers → (u.memory Phase ≡ 2) ⊎ (u.memory Phase ≡ 3) → IsCollected c (u.memory Cset) a
+    → body_at (u.block a) ≡ Some b → u.ghost.copying seat ≡ false → u.ghost.working seat ≡ None → u.ghost.recording seat ≡ None → u.ghost.scanning seat ≡ None
+    → ((x words : ℕ) → u.block x ≡ Some (hand seat words) → ⊥) → IsResolving c u seat a LoadHeader
+resolving_begins c u seat a b seated (inl on) inside there copying working records scans none =
+    inl (resolving_steps.begins c u seat a seated on inside (HasCopy.copy b there) copying records scans none)
+resolving_begins c u seat a b seated (inr on) inside there copying working records scans none =
+    inr (following_steps.begins c u seat a b seated on inside there working (record { copying = copying; records_none = records; scans_none = scans; hands = none }))
+
+-- it resolves, and works on no unit
+pub record ResolvesAlone (c : Config) (w : World) (seat a : ℕ) (at : ResolveSpot) : Type 0 where
+  pub can : IsResolving c w seat a at
+  pub working : w.ghost.working seat ≡ None
+
+-- what a step of it owes, in the phase that there is
+pub resolving_step : (c : Config) (u : World) (seat a phase : ℕ) (at : ResolveSpot) → resolves.is_resolved at ≡ false → Shared c u → phase ≡ u.memory Phase → ResolvesAlone c u seat a at
+    → PartStep c u seat (resolves.touch_at c seat a at) (λ w. ResolvesAlone c w seat a (resolves.next_at c a phase at (u.memory (resolves.touch_at c seat a at).word)))
+resolving_step c u seat a phase at going shared same alone = by_way alone.can
+  where
+    got : ℕ
+    got = u.memory (resolves.touch_at c seat a at).word
+
+    by_way : IsResolving c u seat a at → PartStep c u seat (resolves.touch_at c seat a at) (λ w. ResolvesAlone c w seat a (resolves.next_at c a phase at (u.memory (resolves.touch_at c seat a at).word)))
+    by_way (inl can) =
+        let step = resolving_steps.each c u seat a None at going shared (record { resolves = can; working = alone.working }) in
+        record {
+          world = step.world;
+          memory = step.memory;
+          graph = step.graph;
+          shared = step.shared;
+          own = record { can = subst (λ p. IsResolving c step.world seat a (resolves.next_at c a p at got)) (sym (same ∙ can.phase)) (inl step.own.resolves); working = step.own.working };
+          keeps = step.keeps;
+          others = step.others;
+        }
+    by_way (inr can) =
+        let step = following_steps.each c u seat a at going shared can in
+        record {
+          world = step.world;
+          memory = step.memory;
+          graph = step.graph;
+          shared = step.shared;
+          own = record { can = subst (λ p. IsResolving c step.world seat a (resolves.next_at c a p at got)) (sym (same ∙ can.phase)) (inr step.own); working = step.own.working };
+          keeps = step.keeps;
+          others = step.others;
+        }
+
+-- it goes on resolving while others step
+pub resolving_stays : (c : Config) (u w : World) (seat a : ℕ) (at : ResolveSpot) → Shared c u → Rely c seat u w → IsResolving c u seat a at → IsResolving c w seat a at
+resolving_stays c u w seat a at shared rely (inl can) = inl (resolving_steps.stays c u w seat a at shared rely can)
+resolving_stays c u w seat a at shared rely (inr can) = inr (following_steps.stays c u w seat a at shared rely can)
+
+-- the word that it finds is fit
+pub resolving_fits : (c : Config) (u : World) (seat a phase : ℕ) (at : ResolveSpot) → resolves.is_resolved at ≡ false → Shared c u → phase ≡ u.memory Phase → IsResolving c u seat a at
+    → load.IsFit c seat a phase at (u.memory (resolves.touch_at c seat a at).word)
+resolving_fits c u seat a phase at going shared same (inl can) =
+    subst (λ p. load.IsFit c seat a p at (u.memory (resolves.touch_at c seat a at).word)) (sym (same ∙ can.phase)) (resolving_steps.fits c u seat a at going shared can)
+resolving_fits c u seat a phase at going shared same (inr can) =
+    subst (λ p. load.IsFit c seat a p at (u.memory (resolves.touch_at c seat a at).word)) (sym (same ∙ can.phase)) (following_steps.fits c u seat a at going shared can)
+
+-- its access is of a word of the table
+pub resolving_inside : (c : Config) (u : World) (seat a : ℕ) (at : ResolveSpot) → Shared c u → IsResolving c u seat a at → IsWord c (resolves.touch_at c seat a at).word
+resolving_inside c u seat a at shared (inl can) = resolving_steps.inside c u seat a at shared can
+resolving_inside c u seat a at shared (inr can) = following_steps.inside c u seat a at shared can
+
+-- and in the end it has the answer
+pub resolving_answers : (c : Config) (u : World) (seat a answer : ℕ) → IsResolving c u seat a (Resolved answer) → IsAnswer c u a answer
+resolving_answers c u seat a answer (inl can) = resolving_steps.answers c u seat a answer can
+resolving_answers c u seat a answer (inr can) = following_steps.answers c u seat a answer can

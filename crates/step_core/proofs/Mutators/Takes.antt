@@ -1,0 +1,144 @@
+-- The steps of a mutator that takes room for an object: what taking room owes is what its place owes.
+use Rattle.std.proofs.Common.{◌≡◌, ℕ, ◌+◌, Bool, true, false, Option, Some, None, refl, sym, ◌∙◌, arith}
+use Rattle.std.specs.Prelude.{◌&&◌}
+use Rattle.std.proofs.lemmas.Bool.{and_from, and_parts, false≢true}
+use Rattle.heap_words.specs.declared.config.Config.{Config}
+use Rattle.heap_words.specs.Words.{Top}
+use Rattle.steps_base.specs.Fits.{touch_fits}
+use Rattle.shen_graph.specs.declared.command.Command.{Command}
+use Rattle.shen_graph.specs.declared.command.Reply.{Reply}
+use Rattle.heap_world.specs.World.{World, hand, Shared}
+use Rattle.heap_world.specs.Asking.{nothing}
+use Rattle.heap_world.specs.Rely.{Keeps}
+use Rattle.heap_world.specs.Part.{SameWork}
+use Rattle.alloc_buffers.specs.declared.spot.TakeSpot.{TakeSpot}
+use Rattle.alloc_buffers.specs.declared.spot.TakeSpot.TheVariants.{Ended}
+use Rattle.alloc_buffers.specs.declared.spot.Taken.TheVariants.{At, NoRoom}
+use Rattle.alloc_buffers.specs.declared.spot.Kind.TheVariants.{Fresh}
+use Rattle.alloc_buffers.specs.Rows as takes
+use Rattle.alloc_buffers.specs.Facts.{CanTake}
+use Rattle.alloc_buffers.proofs.Takes.{TakeStep, each_take}
+use Rattle.mutator.specs.declared.spot.Spot.{Spot}
+use Rattle.mutator.specs.declared.spot.Spot.TheVariants.{Ended, Making}
+use Rattle.mutator.specs.declared.makes.MakeSpot.TheVariants as make
+use Rattle.mutator.specs.declared.spot.Kept.{Kept}
+use Rattle.shen_graph.specs.declared.order.Order.TheVariants.{Nothing}
+use Rattle.mutator.specs.Commands.{refs_of, nums_of}
+use Rattle.mutator.specs.Rows.{Mutating, after_take}
+use Rattle.mutator.specs.Fit.{is_next_object, is_going}
+use Rattle.step_core.proofs.Machines.Stepped.{HasMarkingBy, HasCopyingBy, Mine, Row, Stepped}
+use Rattle.step_core.proofs.Machines.Stable.{root_stays, asked_stays, seated_stays}
+use Rattle.step_core.proofs.Mutators.Spots.{mutator_at}
+use Rattle.step_core.proofs.Machines.Ready.{seated_waiting, taking_ready, word_ready, request_ready}
+
+-- a taking that goes on has not ended
+not_ended : (take : TakeSpot) → is_going take ≡ true → takes.is_ended take ≡ false
+not_ended (Ended taken) going = absurd (false≢true going)
+not_ended _ going = refl
+
+module _ (c : Config) (u : World) (seat made : ℕ) (kept : Kept) (command : Command) (fixed : Option Reply) where
+  abbrev at_spot : Spot → Mutating
+  at_spot spot = mutator_at seat made kept spot
+
+  -- how many references the command's object has
+  abbrev refs : ℕ
+  refs = refs_of kept.command
+
+  -- and how many numbers
+  abbrev nums : ℕ
+  nums = nums_of kept.command
+
+  module _ (take : TakeSpot) (mine : Mine c u (at_spot (Making (make.Taking take))) command fixed) where
+    abbrev words : ℕ
+    words = 3 + refs + nums
+
+    -- the parts of its readiness: the access of the taking can be made, it goes on, and its numbers fit
+    ready_parts : (touch_fits c (takes.touch_at seat words take) ≡ true) × (is_going take ≡ true) × (takes.numbers_fit c words take ≡ true)
+    ready_parts =
+        let both = and_parts (touch_fits c (takes.touch_at seat words take)) (is_next_object made refs nums && (is_going take && takes.numbers_fit c words take)) mine.ready in
+        let inner = and_parts (is_going take) (takes.numbers_fit c words take) (and_parts (is_next_object made refs nums) (is_going take && takes.numbers_fit c words take) both.1).1 in
+        (both.0, inner.0, inner.1)
+
+    -- so it has not ended
+    going_now : takes.is_ended take ≡ false
+    going_now = not_ended take ready_parts.1
+
+    -- a mutator that takes room for an object can take it
+    can_take : CanTake c u seat words take
+    can_take = record {
+      seated = (let within = mine.seated.below in omega (arith, within));
+      least = omega arith;
+      most = (let few_refs = mine.facts.0.few_refs in let few_nums = mine.facts.0.few_nums in omega (arith, few_refs, few_nums));
+      ready = and_from _ _ ready_parts.0 ready_parts.2;
+      facts = mine.facts.1;
+      hands = λ a more is. absurd (mine.hands a more is);
+      records_none = mine.marking.records;
+      scans_none = mine.marking.scans;
+    }
+
+    -- what it counts on of marking at another spot
+    marking_at : (next : TakeSpot) (w : World) (knows : Bool) → Keeps c seat u w → CanTake c w seat words next → HasMarkingBy w seat None kept.phase knows
+    marking_at next w knows keeps can = record { records = can.records_none; scans = can.scans_none; phase_is = λ on. mine.marking.phase_is refl ∙ sym keeps.marks.phase }
+
+    -- and of evacuation
+    copying_at : (w : World) (knows : Bool) → Keeps c seat u w → SameWork u w seat → HasCopyingBy w seat false kept.cset knows
+    copying_at w knows keeps work = record {
+      copies_is = work.copying ∙ mine.copying.copies_is;
+      works_none = work.working ∙ mine.copying.works_none;
+      set_is = λ on. mine.copying.set_is refl ∙ sym keeps.copies.cset;
+    }
+
+    -- what it counts on at another spot of the taking
+    mine_at : (next : TakeSpot) (w : World) → is_going next ≡ true → Keeps c seat u w → SameWork u w seat → CanTake c w seat words next → ((a more : ℕ) → w.block a ≡ Some (hand seat more) → ⊥)
+        → Mine c w (at_spot (Making (make.Taking next))) command fixed
+    mine_at next w going keeps work can none = record {
+      seated = seated_stays c u w seat keeps made false mine.seated;
+      ready = (let both = and_parts _ _ can.ready in taking_ready c seat made kept command fixed mine.facts.0 next both.0 going both.1);
+      marking = marking_at next w true keeps can;
+      copying = copying_at w true keeps work;
+      roots = λ i below. rw (keeps.root_words i) (root_stays c u w seat keeps _ i (mine.roots i below));
+      hands = none;
+      facts = (mine.facts.0, can.facts);
+    }
+
+    -- what it counts on after a step of the taking: with room in hand it goes on with the object's words, and without room it asks
+    -- for the object
+    mine_then : (next : TakeSpot) (w : World) → Shared c w → Keeps c seat u w → SameWork u w seat → CanTake c w seat words next → Mine c w (at_spot (after_take next)) command fixed
+    mine_then (Ended NoRoom) w shared keeps work can = record {
+      seated = seated_waiting c w seat made false (seated_stays c u w seat keeps made false mine.seated);
+      ready = request_ready c seat made kept command fixed mine.facts.0 mine.seated.below;
+      marking = marking_at (Ended NoRoom) w false keeps can;
+      copying = copying_at w false keeps work;
+      roots = λ i below. rw (keeps.root_words i) (root_stays c u w seat keeps _ i (mine.roots i below));
+      hands = can.hands;
+      facts = (mine.facts.0, asked_stays c u w seat keeps nothing (mine.seated.unasked refl));
+    }
+    mine_then (Ended (At address)) w shared keeps work can = record {
+      seated = seated_stays c u w seat keeps made false mine.seated;
+      ready = word_ready c seat made kept command fixed mine.facts.0 (λ r. w.memory (Top r)) w.block shared.parsable.plotted address can.facts mine.seated.below 0 (omega arith);
+      marking = marking_at (Ended (At address)) w true keeps can;
+      copying = copying_at w true keeps work;
+      roots = λ i below. rw (keeps.root_words i) (root_stays c u w seat keeps _ i (mine.roots i below));
+      hands = can.hands;
+      facts = (mine.facts.0, record { room = can.facts; within = omega arith; stored = λ k below. absurd (omega arith) }, omega arith);
+    }
+    mine_then next w shared keeps work can = mine_at next w refl keeps work can can.hands
+
+    -- the step of the taking is a step of the mutator
+    lifted : TakeStep c u seat words Fresh take → Stepped c u (at_spot (Making (make.Taking take))) command Nothing fixed
+    lifted step = record {
+      world = step.world;
+      memory = step.memory;
+      graph = step.graph;
+      legal = tt;
+      settles = λ r e. cc;
+      shared = step.shared;
+      mine = mine_then (takes.next_at c words Fresh take (u.memory (takes.touch_at seat words take).word)) step.world step.shared step.keeps step.own.1 step.own.0;
+      others = step.others;
+    }
+
+  -- the steps of a taking of room
+  pub at_taking : (take : TakeSpot) → Row c u (at_spot (Making (make.Taking take))) command fixed
+  at_taking take shared mine =
+      lifted take mine
+      (each_take c u seat (3 + refs + nums) Fresh take (going_now take mine) shared (can_take take mine))

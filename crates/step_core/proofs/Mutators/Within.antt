@@ -1,0 +1,182 @@
+-- Where a mutator goes on that is in the heap: it stays in the heap until it leaves. Outside it has nothing in hand.
+use Rattle.std.proofs.Common.{◌≡◌, ℕ, Bool, true, false, None, refl}
+use Rattle.std.specs.Prelude.{◌==◌, nat_lt, length, if◌then◌else◌}
+use Rattle.heap_words.specs.declared.config.Config.{Config}
+use Rattle.shen_graph.specs.declared.command.Command.{Command}
+use Rattle.shen_graph.specs.declared.command.Command.TheVariants.{New, Get, Set, Cas, Xchg, Rd, Wr, Copy, Drop, Same, Gc}
+use Rattle.shen_graph.specs.declared.command.Reply.TheVariants as reply
+use Rattle.shen_graph.specs.declared.order.Order.{Order}
+use Rattle.alloc_buffers.specs.declared.spot.TakeSpot.{TakeSpot}
+use Rattle.alloc_buffers.specs.declared.spot.TakeSpot.TheVariants as take
+use Rattle.alloc_buffers.specs.declared.spot.Taken.TheVariants.{At, NoRoom}
+use Rattle.handshake.specs.declared.enter_spot.EnterSpot.TheVariants as enter
+use Rattle.handshake.specs.Standing.{inside, is_within}
+use Rattle.satb_barrier.specs.declared.spot.RememberSpot.{RememberSpot}
+use Rattle.satb_barrier.specs.declared.spot.RememberSpot.TheVariants.{LoadCount, Recorded}
+use Rattle.satb_barrier.specs.Rows as satb
+use Rattle.mutator.specs.declared.spot.Spot.{Spot}
+use Rattle.mutator.specs.declared.spot.Kept.{Kept}
+use Rattle.mutator.specs.declared.spot.Spot.TheVariants.{Rest, Ended, Gone, Entering, LoadPhase, LoadSet, Loading, OnField, Resolving, Recording, OnNumber, Showing, StoreRoot, Making, AskCycle, Waiting, Leave}
+use Rattle.mutator.specs.declared.spot.Entered.{Entered}
+use Rattle.mutator.specs.declared.spot.Entered.TheVariants.{Call, Waited}
+use Rattle.mutator.specs.declared.loads.LoadSpot.TheVariants as load
+use Rattle.mutator.specs.declared.fields.FieldSpot.TheVariants as fields
+use Rattle.load_barrier.specs.Rows as resolves
+use Rattle.load_barrier.specs.UnitRows.{must_resolve}
+use Rattle.load_barrier.specs.declared.spot.ResolveSpot.{ResolveSpot}
+use Rattle.load_barrier.specs.declared.spot.ResolveSpot.TheVariants.{LoadHeader, Resolved}
+use Rattle.mutator.specs.declared.resolves.Loaded.{Loaded}
+use Rattle.mutator.specs.declared.resolves.Loaded.TheVariants.{ForRoot, ToCompare}
+use Rattle.mutator.specs.declared.overwrites.Overwritten.{Overwritten}
+use Rattle.mutator.specs.declared.overwrites.Overwritten.TheVariants as overwrites
+use Rattle.mutator.specs.declared.numbers.NumberSpot.TheVariants as numbers
+use Rattle.mutator.specs.declared.shows.ShowSpot.TheVariants as show
+use Rattle.mutator.specs.declared.makes.MakeSpot.TheVariants as make
+use Rattle.mutator.specs.declared.waits.WaitSpot.{WaitSpot}
+use Rattle.mutator.specs.declared.waits.WaitSpot.TheVariants as wait
+use Rattle.mutator.specs.Commands.{command_roots, lacks_object, has_part}
+use Rattle.mutator.specs.Rows.{Mutating, first_spot, after_roots, after_first, with_part, is_to_record, overwritten, after_recording, after_remember, after_resolved, after_resolve, with_loaded, after_take, take_next, next_at}
+use Rattle.mutator.specs.WaitRows.{after_enter}
+use Rattle.step_core.specs.Own.{IsInHand}
+use Rattle.step_core.specs.Standing.{standing_at, wait_standing}
+use Rattle.step_core.proofs.Machines.Stepped.{recording_of, copies_at}
+
+-- a spot in the heap
+abbrev pub IsIn : Spot → Type 0
+IsIn spot = is_within (standing_at spot) ≡ true
+
+-- one of two
+either_in : (b : Bool) (x y : Spot) → IsIn x → IsIn y → IsIn (if b then x else y)
+either_in true x y one other = one
+either_in false x y one other = other
+
+-- one of two while it waits
+either_waits : (b : Bool) (x y : WaitSpot) → is_within (wait_standing x) ≡ true → is_within (wait_standing y) ≡ true → is_within (wait_standing (if b then x else y)) ≡ true
+either_waits true x y one other = one
+either_waits false x y one other = other
+
+first_in : (k : Command) → IsIn (first_spot k)
+first_in (New dst refs nums) = refl
+first_in (Drop dst) = refl
+first_in Gc = refl
+first_in _ = refl
+
+roots_in_heap : (k : Command) (first second third : ℕ) → IsIn (after_roots k first second third)
+roots_in_heap (Copy dst src) first second third = refl
+roots_in_heap (Same a b) first second third = refl
+roots_in_heap _ first second third = refl
+
+part_in : (phase : ℕ) (k : Command) (object second third shape : ℕ) → IsIn (with_part phase k object second third shape)
+part_in phase (Get dst src field) object second third shape = refl
+part_in phase (Set obj field val) object second third shape = refl
+part_in phase (Cas obj field expect val) object second third shape = refl
+part_in phase (Xchg dst obj field val) object second third shape = refl
+part_in phase (Rd obj index) object second third shape = refl
+part_in phase (Wr obj index value) object second third shape = refl
+part_in phase _ object second third shape = refl
+
+-- also with a reference that it overwrites, and records while objects are marked
+recorded_in : (found : ℕ) (next : Overwritten) → IsIn (after_recording found next)
+recorded_in found (overwrites.Set object value) = refl
+recorded_in found overwrites.Xchg = refl
+recorded_in found overwrites.Cas = refl
+
+overwritten_in : (phase found : ℕ) (next : Overwritten) → IsIn (overwritten phase found next)
+overwritten_in phase found next = either_in (is_to_record phase found) (Recording LoadCount found next) (after_recording found next) refl (recorded_in found next)
+
+remember_in : (address : ℕ) (next : Overwritten) (at : RememberSpot) → IsIn (after_remember address next at)
+remember_in address next Recorded = recorded_in address next
+remember_in address next _ = refl
+
+-- where it goes on with a reference that is resolved, or resolves it
+resolved_in : (found answer : ℕ) (next : Loaded) → IsIn (after_resolved found answer next)
+resolved_in found answer ForRoot = refl
+resolved_in found answer (ToCompare object expect value) = either_in (answer == expect) (OnField object (fields.Exchange found expect value)) (Leave reply.No) refl refl
+
+loaded_in : (c : Config) (phase cset found : ℕ) (next : Loaded) → IsIn (with_loaded c phase cset found next)
+loaded_in c phase cset found next = either_in (must_resolve c phase cset found) (Resolving found LoadHeader next) (after_resolved found found next) refl (resolved_in found found next)
+
+resolve_in : (found : ℕ) (next : Loaded) (at : ResolveSpot) → IsIn (after_resolve found next at)
+resolve_in found next (Resolved answer) = resolved_in found answer next
+resolve_in found next _ = refl
+
+take_in : (at : TakeSpot) → IsIn (after_take at)
+take_in (take.Ended (At address)) = refl
+take_in (take.Ended NoRoom) = refl
+take_in _ = refl
+
+-- it goes on in the heap
+pub goes_on_in : (c : Config) (m : Mutating) (order : Order) (got : ℕ) (spot : Spot) → standing_at spot ≡ inside → IsIn (next_at c m order got spot).spot
+goes_on_in c m order got LoadPhase is = refl
+goes_on_in c m order got LoadSet is = first_in m.kept.command
+goes_on_in c m order got (Loading load.First) is =
+    either_in (lacks_object m.kept.command got) (Leave reply.Bad) (after_first m.kept.command got) refl
+    (either_in (nat_lt 1 (length (command_roots m.kept.command))) (Loading (load.Second got)) (after_roots m.kept.command got 0 0) refl (roots_in_heap m.kept.command got 0 0))
+goes_on_in c m order got (Loading (load.Second first)) is =
+    either_in (nat_lt 2 (length (command_roots m.kept.command))) (Loading (load.Third first got)) (after_roots m.kept.command first got 0) refl (roots_in_heap m.kept.command first got 0)
+goes_on_in c m order got (Loading (load.Third first second)) is = roots_in_heap m.kept.command first second got
+goes_on_in c m order got (Loading (load.Shape object second third)) is =
+    either_in (has_part m.kept.command got) (with_part m.kept.phase m.kept.command object second third got) (Leave reply.Bad) (part_in m.kept.phase m.kept.command object second third got) refl
+goes_on_in c m order got (OnField object fields.Load) is = loaded_in c m.kept.phase m.kept.cset got ForRoot
+goes_on_in c m order got (OnField object (fields.LoadExpected expect value)) is = loaded_in c m.kept.phase m.kept.cset got (ToCompare object expect value)
+goes_on_in c m order got (OnField object (fields.LoadOld value)) is = overwritten_in m.kept.phase got (overwrites.Set object value)
+goes_on_in c m order got (OnField object (fields.Store value)) is = refl
+goes_on_in c m order got (OnField object (fields.Swap value)) is =
+    either_in (is_to_record m.kept.phase got) (Recording LoadCount got overwrites.Xchg) (with_loaded c m.kept.phase m.kept.cset got ForRoot) refl (loaded_in c m.kept.phase m.kept.cset got ForRoot)
+goes_on_in c m order got (OnField object (fields.Exchange found expect value)) is =
+    either_in (got == found) (overwritten m.kept.phase found overwrites.Cas) (OnField object (fields.LoadExpected expect value)) (overwritten_in m.kept.phase found overwrites.Cas) refl
+goes_on_in c m order got (Resolving address at next) is = resolve_in address next (resolves.next_at c address m.kept.phase at got)
+goes_on_in c m order got (Recording at address next) is = remember_in address next (satb.next_at at got)
+goes_on_in c m order got (OnNumber object refs numbers.Load) is = refl
+goes_on_in c m order got (OnNumber object refs numbers.Store) is = refl
+goes_on_in c m order got (Showing value show.LoadName) is = refl
+goes_on_in c m order got (Showing value (show.StoreRoot r)) is = refl
+goes_on_in c m order got (StoreRoot value) is = refl
+goes_on_in c m order got (Making (make.Taking at)) is = take_in (take_next c m.kept.command at got)
+goes_on_in c m order got (Making (make.StoreWord address done)) is = refl
+goes_on_in c m order got (Making (make.StoreRoot address)) is = refl
+goes_on_in c m order got AskCycle is = refl
+goes_on_in c m order got (Waiting wait.StoreRequest) is = refl
+goes_on_in c m order got (Waiting wait.AskRoom) is = refl
+goes_on_in c m order got (Waiting wait.StepOut) is = cc
+goes_on_in c m order got (Waiting wait.Poll) is = cc
+goes_on_in c m order got (Waiting wait.LoadAnswer) is = either_waits (got == 1) (wait.ClearAnswer reply.Full) (wait.StoreRoot got) refl refl
+goes_on_in c m order got (Waiting (wait.StoreRoot address)) is = refl
+goes_on_in c m order got (Waiting (wait.ClearAnswer r)) is = refl
+goes_on_in c m order got (Entering enter.Raise next) is = cc
+goes_on_in c m order got (Entering enter.Look next) is = cc
+goes_on_in c m order got (Entering enter.Lower next) is = cc
+goes_on_in c m order got (Entering enter.Await next) is = cc
+goes_on_in c m order got (Entering enter.Inside next) is = goes_in next
+  where
+    goes_in : (n : Entered) → IsIn (after_enter n enter.Inside)
+    goes_in Call = refl
+    goes_in Waited = refl
+goes_on_in c m order got _ is = cc
+
+-- a mutator that is not in the heap has no room in hand
+pub none_outside : (kept : Kept) (spot : Spot) (a words : ℕ) → is_within (standing_at spot) ≡ false → IsInHand kept spot a words → ⊥
+none_outside kept Rest a words out is = is
+none_outside kept (Ended reply) a words out is = is
+none_outside kept (Entering at then_on) a words out is = is
+none_outside kept (Waiting at) a words out is = is
+none_outside kept Gone a words out is = is
+none_outside kept _ a words out is = cc
+
+-- it is about to record nothing
+pub records_outside : (spot : Spot) → is_within (standing_at spot) ≡ false → recording_of spot ≡ None
+records_outside Rest out = refl
+records_outside (Ended reply) out = refl
+records_outside (Entering at then_on) out = refl
+records_outside (Waiting at) out = refl
+records_outside Gone out = refl
+records_outside _ out = absurd (cc (out))
+
+-- and it copies nothing
+pub copies_outside : (spot : Spot) → is_within (standing_at spot) ≡ false → copies_at spot ≡ false
+copies_outside Rest out = refl
+copies_outside (Ended reply) out = refl
+copies_outside (Entering at then_on) out = refl
+copies_outside (Waiting at) out = refl
+copies_outside Gone out = refl
+copies_outside _ out = absurd (cc (out))

@@ -1,6 +1,0 @@
-use Rattle.std.proofs.Common.{ap, ◌∙◌}
-use Rattle.update_laws.specs.Changes.{cycle_ended}
-use Rattle.update_core.proofs.end.final_update.Goals as goal
-
-pub returns-clause-words : goal.returns-clause-words
-returns-clause-words c = c.end_cycle.ensures.words ∙ ap cycle_ended c.free_set.ensures.words

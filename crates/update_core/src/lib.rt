@@ -1,8 +1,0 @@
-//! The pauses that begin and end the updating of references, over an image.
-#![tactic(auto)]
-
-mod begin;
-mod end;
-
-pub use begin::init_update;
-pub use end::{final_update, free_set};

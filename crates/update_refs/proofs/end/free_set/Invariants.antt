@@ -1,0 +1,11 @@
+use Rattle.std.proofs.Common.{◌≡◌}
+use Rattle.image_graph.specs.State.{config_of, memory_of}
+use Rattle.mark_core.specs.Steps.{freed_below}
+use Rattle.cycle_words.specs.Updating.Changes.{is_chosen}
+use Rattle.update_refs.proofs.end.free_set.Given as goal
+
+abbrev pub invariant-loop-region : goal.invariant-loop-region
+invariant-loop-region l = record {
+  config : config_of l.image ≡ config_of l.fn.image;
+  words : memory_of l.image ≡ freed_below (is_chosen (memory_of l.fn.image)) l.region (memory_of l.fn.image);
+}

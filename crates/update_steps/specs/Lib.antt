@@ -1,3 +1,0 @@
-pub mod Updating
-pub mod Following
-pub mod Laws
