@@ -2,6 +2,7 @@
 //! the calls and types of the crates that do so, and has no code of its own.
 #![tactic(auto)]
 
+pub use churn::Summary;
 pub use trace_grammar::{CommandKind, Scripts, Trace, Why, traces_are_read_once};
 pub use trace_reading::{TraceFault, read_trace};
 pub use trace_refusals::bytes_are_read_or_refused;

@@ -1,0 +1,94 @@
+#!/usr/bin/env python3
+"""Looks whether each line of crates.txt names exactly the crates that the files of its crate name.
+
+usage: crates.py            prints what each line should be, where it is another
+       crates.py --check    the same, and ends with 1 where there is such a line
+       crates.py --write    writes the lines
+
+A file names a crate by a path that begins with it, in code (`heap_words::Config`) or in a definition or a proof
+(`Rattle.heap_words.specs.Words`). The crates of std, and words in comments and strings, do not count. The toolchain walks the lists
+once for each path down, so a name too many in each of several layers costs much before every check.
+"""
+import os
+import re
+import sys
+
+TOP = os.path.dirname(os.path.dirname(os.path.abspath(__file__)))
+TABLE = os.path.join(TOP, "crates.txt")
+# The crates of the kit that a line may name.
+KIT = {"atomic_table", "crossbeam_utils"}
+CODE_PATH = re.compile(r"(?<![\w:])(\w+)::")
+PROOF_PATH = re.compile(r"\bRattle\.(\w+)\.")
+QUIET = re.compile(r'//[^\n]*|--[^\n]*|"(?:\\.|[^"\\])*"')
+
+
+def text_of(path):
+    with open(path, encoding="utf-8") as file:
+        return file.read()
+
+
+def rows():
+    """The lines of the table: name, settings and the crates named; others as they are."""
+    for line in text_of(TABLE).splitlines():
+        head, colon, below = line.partition(":")
+        if not colon or line.startswith("#"):
+            yield line, None, None
+        else:
+            yield head.split()[0], head.split()[1:], below.split()
+
+
+def files_of(crate):
+    for part, ending in (("src", ".rt"), ("specs", ".antt"), ("proofs", ".antt")):
+        for at, _, names in os.walk(os.path.join(TOP, "crates", crate, part)):
+            for name in names:
+                if name.endswith(ending):
+                    yield os.path.join(at, name)
+
+
+def named(crate, known):
+    """The crates that the files of one name, itself left out."""
+    in_code, in_proofs, modules = set(), set(), set()
+    for path in files_of(crate):
+        is_code = path.endswith(".rt")
+        quiet = re.compile(QUIET.pattern.replace("|--[^\\n]*", "")) if is_code else re.compile(r"--[^\n]*")
+        text = quiet.sub("", text_of(path))
+        in_proofs.update(PROOF_PATH.findall(text))
+        if is_code:
+            in_code.update(CODE_PATH.findall(text))
+            modules.update(re.findall(r"^\s*(?:pub )?mod (\w+);", text, re.M))
+    # (a path in code that begins with a module of the crate's own names no crate)
+    return ((in_code - modules) | in_proofs) & known - {crate}
+
+
+def main(words):
+    if words not in ([], ["--check"], ["--write"]):
+        sys.exit(__doc__)
+    table = list(rows())
+    known = {name for name, settings, _ in table if settings is not None}
+    place = {name: at for at, (name, _, _) in enumerate(table)}
+    order = lambda name: (place.get(name, len(place)), name)
+    out, wrong = [], 0
+    for name, settings, below in table:
+        if settings is None:
+            out.append(name)
+            continue
+        wanted = sorted(named(name, known | KIT), key=order)
+        out.append(" ".join([name] + settings) + ":" + "".join(" " + it for it in wanted))
+        if set(below) != set(wanted) or len(below) != len(wanted):
+            wrong += 1
+            lacking, needless = sorted(set(wanted) - set(below)), sorted(set(below) - set(wanted))
+            print(f"crates.txt, {name}: lacks {', '.join(lacking) or 'none'}; names {', '.join(needless) or 'none'} that no file of it names")
+    folders = {it for it in os.listdir(os.path.join(TOP, "crates")) if os.path.isdir(os.path.join(TOP, "crates", it, "src"))}
+    for name in sorted(folders ^ known):
+        wrong += 1
+        print(f"crates.txt and crates/ do not agree on {name}")
+    if words == ["--write"]:
+        with open(TABLE, "w", encoding="utf-8") as file:
+            file.write("\n".join(out) + "\n")
+        return 0
+    if not wrong:
+        print(f"crates.txt names what {len(known)} crates name, and no more")
+    return int(wrong > 0 and words == ["--check"])
+
+
+sys.exit(main(sys.argv[1:]))
