@@ -1,7 +1,7 @@
-pub mod Sums
+pub mod LiveSums
 pub mod Full
 pub mod Outcomes
 pub mod Taking
 pub mod Verdicts
 pub mod Texts
-pub mod Scripts
+pub mod ScriptsLeft

@@ -25,7 +25,7 @@ use Rattle.shen_graph.proofs.Noted.{script_kept, replies_same, replies_other, sc
 use Rattle.churn.proofs.Refusals.{after-append}
 use Rattle.shen_check.specs.Judged.{MayFollow}
 use Rattle.shen_check.specs.Judging.{words_beside, words_waiting, IsFullFor, MayAnswer, HasJudged}
-use Rattle.shen_check.proofs.Sums.{sum_more}
+use Rattle.shen_check.proofs.LiveSums.{sum_more}
 use Rattle.shen_check.proofs.Outcomes.{entry_counts}
 
 abbrev Jobs : Type 0

@@ -1,6 +1,6 @@
 use Rattle.std.proofs.Common.{arith}
 use Rattle.shen_check.specs.Judging.{words_beside}
-use Rattle.shen_check.proofs.Sums.{sum_more}
+use Rattle.shen_check.proofs.LiveSums.{sum_more}
 use Rattle.shen_check.proofs.crowd.words_waiting.Goals as goal
 
 pub loop-mutator-preserved : goal.loop-mutator-preserved

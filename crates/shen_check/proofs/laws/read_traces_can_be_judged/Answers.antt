@@ -1,4 +1,4 @@
-use Rattle.shen_check.proofs.Scripts.{can_be_judged}
+use Rattle.shen_check.proofs.ScriptsLeft.{can_be_judged}
 use Rattle.shen_check.proofs.laws.read_traces_can_be_judged.Goals as goal
 
 pub returns : goal.returns
