@@ -1,5 +1,5 @@
 -- The words of the image that a control keeps.
-use Rattle.std.specs.Prelude.{ℕ, ◌≡◌, List, [], take, drop}
+use Rattle.std.specs.Prelude.{ℕ, ◌≡◌, Bool, true, false, List, [], take, drop}
 use Rattle.heap_words.specs.declared.config.Config.{Config}
 use Rattle.heap_words.specs.Words.{image_start}
 use Rattle.image_graph.specs.declared.image.Image.{Image}
@@ -16,6 +16,11 @@ abbrev pub words_seen : ControlSpot → List ℕ → List ℕ
 words_seen (LoadWord index) image = take index image
 words_seen (StoreWord index) image = image
 words_seen _ image = []
+
+-- whether it stores words of a new image
+abbrev pub is_storing : ControlSpot → Bool
+is_storing (StoreWord index) = true
+is_storing _ = false
 
 -- the words of the image in a table
 abbrev pub image_from : Config → List ℕ → List ℕ

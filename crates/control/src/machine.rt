@@ -34,7 +34,7 @@ impl Control {
     ghost use Rattle.control_rows.specs.Waits.{WaitsAt};
     ghost use Rattle.cycle_pauses.specs.Collect.{collect_image};
     ghost use Rattle.control.specs.Fit.{IsFit};
-    ghost use Rattle.control.specs.Image.{image_from, IsLoadedFrom};
+    ghost use Rattle.control.specs.Image.{image_from, is_storing, IsLoadedFrom};
     ghost use Rattle.control.specs.Seen.{config_in, seen_control};
 
     /// The control of the image's heap. It has seen the image's phase, collection set and free word. Nothing else of the image
@@ -63,6 +63,13 @@ impl Control {
         ensures { result ≡ is_gone (seen_control self.now).spot }
     {
         self.spot.is_gone()
+    }
+
+    /// Whether it stores words of a new image.
+    pub fn is_storing(&self) -> bool
+        ensures { result ≡ is_storing (seen_control self.now).spot }
+    {
+        matches!(self.spot, ControlSpot::StoreWord { .. })
     }
 
     /// The place of its next access.

@@ -4,6 +4,4 @@ pub mod History
 pub mod Mutators
 pub mod Handshake
 pub mod Control
-pub mod Seats
-pub mod AtRest
 pub mod Theorem

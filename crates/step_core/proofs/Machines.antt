@@ -8,3 +8,4 @@ pub mod Ready
 pub mod Roles
 pub mod Answered
 pub mod Requests
+pub mod Seats

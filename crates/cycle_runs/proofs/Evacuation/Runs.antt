@@ -30,8 +30,8 @@ use Rattle.step_core.specs.Sound.{world_of, IsMutator, StandsFor}
 use Rattle.step_core.specs.Standing.{control_standing}
 use Rattle.step_core.proofs.Theorem.Beginning.{goes_begins}
 use Rattle.step_core.proofs.Machines.Owed.{IsMachine, IsThread, IsResting, ControlFacts}
+use Rattle.step_core.proofs.Theorem.Stands.{thread_of as thread_there, stands as stands_there}
 use Rattle.step_core.proofs.Theorem.Induction.{Goes, goes_run}
-use Rattle.step_core.proofs.Machines.Requests.{has_asked}
 use Rattle.step_core.proofs.Machines.Roles.{machine_there, number_of, below_control, rests_there}
 use Rattle.step_core.proofs.Theorem.EveryList.{outside_in_pause}
 use Rattle.cycle_runs.specs.Evacuation.Runs.{HaveHeaders, HeadersLeadInRuns, IsPublishing, IsSparing, AreSpared, CopiesAreSpared, AreAllForwarded, AllIsForwardedInRuns}
@@ -44,19 +44,11 @@ module _ (c : Config) (g : Graph) (s : Stage Actor) (h : List Entry) (goes : Goe
 
   -- of a mutator
   pub thread_of : (number : ℕ) (a : Actor) (m : Mutating) → IsMutator s number a m → IsThread c s.words the_world (of_thread h (number + 1)) number a m
-  thread_of number a m here = subst (λ machine. IsMachine c s.words the_world (of_thread h (number + 1)) number a machine) here.is (goes.follows.machines number a here.here)
+  thread_of = thread_there c g s h goes
 
   -- words and machines stand for the graph
   abbrev pub stands : StandsFor c s (after g h)
-  stands = record {
-    block = goes.follows.block;
-    ghost = goes.follows.ghost;
-    shared = goes.follows.shared;
-    in_hand = λ a seat words is. (goes.follows.shared.owned.rooms a seat words is).seated;
-    promised_to = goes.follows.promised_to;
-    mutators = λ number a m here. let mine = (thread_of number a m here).mine in record { made = mine.seated.counted; roots = mine.roots; hands = mine.hands };
-    asked = λ number a m here going. let thread = thread_of number a m here in has_asked c the_world m.seat m.made m.kept a.command thread.fixed m.spot going thread.mine;
-  }
+  stands = stands_there c g s h goes
 
   -- headers of old copies lead to current ones
   pub have_headers : HaveHeaders c s (after g h)

@@ -71,9 +71,9 @@ use Rattle.step_core.proofs.Mutators.Ordered.{order_word}
 use Rattle.step_core.proofs.Mutators.Outside.{outside_touch}
 use Rattle.step_core.specs.Standing.{standing_at, help_standing}
 use Rattle.step_core.proofs.History.Replies.{unsettled_at_rest, unsettled_before, settled_after}
-use Rattle.step_core.proofs.Machines.Requests.{has_asked}
-use Rattle.step_core.proofs.Seats.{in_seat, served}
-use Rattle.step_core.proofs.AtRest.{at_rest}
+use Rattle.step_core.proofs.Machines.Seats.{in_seat}
+use Rattle.step_core.proofs.Theorem.Stands.{thread_of as thread_there, stands}
+use Rattle.step_core.proofs.Theorem.AtRest.{at_rest}
 use Rattle.step_core.specs.AtRest.{IsAtRest}
 use Rattle.heap_world.specs.Asking.{nothing}
 use Rattle.heap_world.specs.Represents.{Represents}
@@ -101,7 +101,7 @@ module _ (change : Change) (law : IsPause change) (c : Config) (g : Graph) (s : 
 
   -- of a mutator
   thread_of : (number : ℕ) (a : Actor) (m : Mutating) → IsMutator s number a m → IsThread c s.words the_world (of_thread h (number + 1)) number a m
-  thread_of number a m here = subst (λ machine. IsMachine c s.words the_world (of_thread h (number + 1)) number a machine) here.is (known number a here.here)
+  thread_of = thread_there c g s h goes
 
   -- the machine of a number after its step, in the stage after it
   machine_next : (number : ℕ) (a : Actor) (order : Order) → slice_get s.machines number ≡ Some a → takes_of a.machine order ≡ true
@@ -240,25 +240,11 @@ module _ (change : Change) (law : IsPause change) (c : Config) (g : Graph) (s : 
     numbers = λ number a m here. let thread = thread_of number a m here in (thread.number_is, subst (λ k. k < c.mutators) thread.number_is thread.mine.seated.below);
   }
 
-  -- of room in hand
-  in_hand : (a seat more : ℕ) → goes.follows.block a ≡ Some (hand seat more) → seat < seat_count c.mutators c.helpers
-  in_hand a seat more is = (goes.follows.shared.owned.rooms a seat more is).seated
-
   -- of all: it is sound
   sound : AreCrowded c.regions c.region_words g (scripts_begun c s) h → IsSound c g s h
   sound crowded = record {
     of_heap = of_heap;
-    stands = record {
-      block = goes.follows.block;
-      ghost = goes.follows.ghost;
-      shared = goes.follows.shared;
-      in_hand = in_hand;
-      promised_to = goes.follows.promised_to;
-      mutators = λ number a m here. let mine = (thread_of number a m here).mine in record { made = mine.seated.counted; roots = mine.roots; hands = mine.hands };
-      asked = λ number a m here going. let thread = thread_of number a m here in has_asked c the_world m.seat m.made m.kept a.command thread.fixed m.spot going thread.mine;
-      seats = λ number a here. in_seat c s.words the_world (of_thread h (number + 1)) number a a.machine (known number a here);
-      served = λ number a m here. let thread = thread_of number a m here in served c the_world m a.command thread.fixed thread.mine;
-    };
+    stands = stands c g s h goes;
     legal = goes.follows.legal;
     crowded = crowded;
     entries = goes.follows.entries;

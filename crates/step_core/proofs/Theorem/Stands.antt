@@ -1,0 +1,36 @@
+-- What a stage says in which all goes as it should: its words and machines stand for the graph after the history.
+use Rattle.std.proofs.Common.{◌≡◌, ℕ, ◌+◌, List, subst}
+use Rattle.heap_words.specs.declared.config.Config.{Config}
+use Rattle.steps_base.specs.Steps.{Stage}
+use Rattle.shen_graph.specs.Graph.{Graph}
+use Rattle.shen_graph.specs.History.{Entry, after, of_thread}
+use Rattle.mutator.specs.Rows.{Mutating}
+use Rattle.heap_world.specs.World.{World}
+use Rattle.step_core.specs.Actor.{Actor}
+use Rattle.step_core.specs.Sound.{world_of, IsMutator, StandsFor}
+use Rattle.step_core.proofs.Machines.Owed.{IsThread, IsMachine}
+use Rattle.step_core.proofs.Machines.Requests.{has_asked}
+use Rattle.step_core.proofs.Machines.Seats.{in_seat, served}
+use Rattle.step_core.proofs.Theorem.Induction.{Goes}
+
+module _ (c : Config) (g : Graph) (s : Stage Actor) (h : List Entry) (goes : Goes c g s h) where
+  abbrev pub the_world : World
+  the_world = world_of c s goes.follows.block goes.follows.ghost (after g h)
+
+  -- of a mutator
+  pub thread_of : (number : ℕ) (a : Actor) (m : Mutating) → IsMutator s number a m → IsThread c s.words the_world (of_thread h (number + 1)) number a m
+  thread_of number a m here = subst (λ machine. IsMachine c s.words the_world (of_thread h (number + 1)) number a machine) here.is (goes.follows.machines number a here.here)
+
+  -- words and machines stand for the graph
+  abbrev pub stands : StandsFor c s (after g h)
+  stands = record {
+    block = goes.follows.block;
+    ghost = goes.follows.ghost;
+    shared = goes.follows.shared;
+    in_hand = λ a seat words is. (goes.follows.shared.owned.rooms a seat words is).seated;
+    promised_to = goes.follows.promised_to;
+    mutators = λ number a m here. let mine = (thread_of number a m here).mine in record { made = mine.seated.counted; roots = mine.roots; hands = mine.hands };
+    asked = λ number a m here going. let thread = thread_of number a m here in has_asked c the_world m.seat m.made m.kept a.command thread.fixed m.spot going thread.mine;
+    seats = λ number a here. in_seat c s.words the_world (of_thread h (number + 1)) number a a.machine (goes.follows.machines number a here);
+    served = λ number a m here. let thread = thread_of number a m here in served c the_world m a.command thread.fixed thread.mine;
+  }
