@@ -17,9 +17,10 @@ CRATES = os.path.join(TOP, "crates")
 # Crates of tests alone: a call there is no use.
 TESTS = {"word_tests", "heap_tests"}
 # Calls that users of the libraries are promised, whether or not a program of this repository makes them: the graph by itself, the
-# parts as machines by themselves, a trace written, the calls of an image one by one, a heap that goes on from an image; and the
-# verifier of images, and the sink in memory, that tests use.
-PROMISED = {"apply", "reach", "is_valid", "is_done", "answer", "write_trace", "serve", "open_from", "with_room", "stands"}
+# parts as machines by themselves, a trace written, the calls of an image one by one, a heap that goes on from an image, histories that
+# are noted, written and judged; and the verifier of images, and the sink in memory, that tests use.
+PROMISED = {"apply", "reach", "is_valid", "is_done", "answer", "write_trace", "serve", "open_from", "with_room", "stands",
+            "run_noted", "write_history", "check"}
 FUNCTION = re.compile(r"^([ ]*)pub (?:const )?(?:unsafe )?fn (\w+)", re.M)
 
 
@@ -38,7 +39,7 @@ def files():
     for crate in sorted(set(os.listdir(CRATES)) - TESTS):
         for at, _, names in sorted(os.walk(os.path.join(CRATES, crate, "src"))):
             for name in sorted(names):
-                if name.endswith(".rt") and name not in ("tests.rt", "gates.rt"):
+                if name.endswith(".rt") and name not in ("tests.rt", "gates.rt", "faults.rt"):
                     path = os.path.join(at, name)
                     yield crate, os.path.relpath(path, TOP), blanked(text_of(path))
 
