@@ -37,7 +37,7 @@ impl Machine {
     ghost use Rattle.shen_graph.specs.declared.command.Command.{Command as Commands};
     ghost use Rattle.heap_machines.specs.Pause.{pause_image};
     ghost use Rattle.step_core.specs.Opening.{opening_machine};
-    ghost use Rattle.step_core.specs.Machines.{takes_of, plan_of, place_in, machine_after, answer_of, is_machine_at, reply_in, may_begin, made_of_machine, WaitsIn, IsFitFor};
+    ghost use Rattle.step_core.specs.Machines.{takes_of, plan_of, place_in, machine_after, answer_of, is_machine_at, reply_in, may_begin, made_of_machine, WaitsIn, IsFitFor, is_resting};
     ghost use Rattle.heap_machines.specs.Shown.{shown, order_of, heap_of, has_turn};
     ghost use Rattle.heap_machines.specs.Roles.{is_mutating, CanShow};
     ghost use Rattle.heap_machines.specs.Settles.{command_in, reply_settled, refused_by};
