@@ -44,7 +44,7 @@ TOGETHER = 12
 # So many lemmas are named of those at which a law is refused.
 NAMED = 3
 REFUSED = re.compile(r"must-fail (\w+)/\S+\.edit: refused, as it must be(?! \(only )")
-UNPROVED = re.compile(r"^fn (\S+): not proved$", re.M)
+UNPROVED = re.compile(r"^fn (\S+): (?!proved\b)", re.M)
 ERROR = re.compile(r"^(?:\./)?(\S+?\.(?:antt|rt)):\d+:\d+: error(?:\[\S+\])?: (.*)$", re.M)
 # What follows from an error that stands elsewhere, and what says that a text does not read.
 FOLLOWS = re.compile(r"\d+ declarations? that depends? on ")
@@ -248,9 +248,10 @@ class Check:
             lemma = re.match(r"`([^`]+)`:", why)
             place = f"{lemma[1] if lemma else 'a goal'} in {path}"
             places += [] if place in places else [place]
-        clauses = sorted(set(re.findall(r"returns-clause-\w+", self.said)))
-        more = f" and {len(places) - NAMED} more" if len(places) > NAMED else ""
-        return ", ".join(clauses + places[:NAMED]) + more
+        clauses = [f"clause {it}" for it in sorted(set(re.findall(r"`?returns-clause-(\w+)", self.said)))]
+        named = clauses[:NAMED] + places[:NAMED]
+        more = len(clauses) + len(places) - len(named)
+        return ", ".join(named) + (f" and {more} more" if more else "")
 
 
 def try_in(room, protocol):
