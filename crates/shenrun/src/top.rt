@@ -8,8 +8,8 @@ ghost use Rattle.heap_words.specs.declared.schedule.Item.{Item};
 ghost use Rattle.shen_graph.specs.declared.command.Command.{Command};
 ghost use Rattle.text_writer.specs.Sending.{outlet};
 ghost use Rattle.trace_grammar.specs.Grammar.{Came, Reads};
-ghost use Rattle.trace_runs.specs.Words.{IsReplay, AskRun, AskTrace, IsChurn, AskChurn, BeginWith};
-ghost use Rattle.trace_runs.specs.Replayed.{IsReplayed, IsRun};
+ghost use Rattle.trace_runs.specs.Words.{IsReplay, IsNotedReplay, AskRun, AskTrace, IsChurn, AskChurn, BeginWith};
+ghost use Rattle.trace_runs.specs.Replayed.{IsReplayed, IsReplayedNoted, IsRun};
 ghost use Rattle.trace_runs.specs.Churned.{IsChurned};
 ghost use Rattle.trace_runs.specs.Answered.{StatusFits, IsReplayStatus};
 
@@ -48,17 +48,19 @@ pub fn shenrun<R: Threads + Wait + Sync, S: Source, K: Sink, G: Gate>(
     gate: &G,
 ) -> Status
     // The replies and the graph that are written are those of one legal history, in which each thread's commands are its
-    // script. Of a replay it is that of exactly the events of the schedule and of the rounds after it; of a run that of
-    // some events, after which all machines are idle. It is a history of a graph that never moves or frees an object,
+    // script. Of a replay it is that of exactly the events of the schedule and of the rounds after it, and with `--history`
+    // that very history is written behind them; of a run it is that of some events, after which all machines are idle. It is a history of a graph that never moves or frees an object,
     // whatever pauses collect; and it has an allocation that was refused only where live objects and the other threads'
     // allocations that were not answered yet crowded the regions. Of a churn the eight lines are those of the history in
     // which its threads run one after the other and no allocation is refused, whatever order they ran in.
     ensures headline { result ≡ Status.Ok → ((steps : ℕ) × IsReplay (map string_bytes words.now) steps × ((bytes : List ℕ) × ((out : List ℕ)
         × Came (S.left source.old) (S.left source.new) bytes × IsReplayed bytes steps out × Appends (K.written sink.old) (K.written sink.new) out)))
+        ⊎ (((steps : ℕ) × IsNotedReplay (map string_bytes words.now) steps × ((bytes : List ℕ) × ((out : List ℕ)
+        × Came (S.left source.old) (S.left source.new) bytes × IsReplayedNoted bytes steps out × Appends (K.written sink.old) (K.written sink.new) out)))
         ⊎ ((AskRun (map string_bytes words.now) × ((bytes : List ℕ) × ((out : List ℕ)
         × Came (S.left source.old) (S.left source.new) bytes × IsRun bytes out × Appends (K.written sink.old) (K.written sink.new) out)))
         ⊎ ((seed : ℕ) × ((count : ℕ) × IsChurn (map string_bytes words.now) seed count × ((out : List ℕ)
-        × IsChurned seed count out × Appends (K.written sink.old) (K.written sink.new) out)))) }
+        × IsChurned seed count out × Appends (K.written sink.old) (K.written sink.new) out))))) }
 
     // What each status says of the words, of what came and of what was written; and that the sink was called at most once for
     // each byte of the text.

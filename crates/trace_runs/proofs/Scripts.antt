@@ -1,9 +1,10 @@
 -- What a trace gives its heap: commands in range, and items that name its machines.
-use Rattle.std.proofs.Common.{◌≡◌, ℕ, ◌+◌, ◌<◌, ◌≤◌, Bool, true, false, cond, eqb, List, [], ◌∷◌, ◌++◌, length, get_or, map, All, sym, ap, subst, ◌∙◌, arith}
-use Rattle.std.specs.Prelude.{filter}
+use Rattle.std.proofs.Common.{◌≡◌, ℕ, ◌+◌, ◌*◌, ◌<◌, ◌≤◌, Bool, true, false, cond, eqb, List, [], ◌∷◌, ◌++◌, length, get_or, drop, map, All, sym, ap, subst, ◌∙◌, arith}
+use Rattle.std.specs.Prelude.{filter, sum_by}
 use Rattle.std.specs.List.{flat_map, AllByRecursion}
 use Rattle.std.specs.Fmt.{decimal}
 use Rattle.std.proofs.lemmas.List.{length-append}
+use Rattle.std.proofs.lemmas.List.Sums.{sum_by-le, sum_by-drop_more}
 use Rattle.std.proofs.lemmas.List.Elements.{All-from_recursion, All-from_get_or}
 use Rattle.std.proofs.lemmas.List.FromFn.{get_or-map-range_with_len, length-map-range_with_len}
 use Rattle.shen_graph.specs.declared.command.Command.{Command}
@@ -64,6 +65,18 @@ few_commands bytes c scripts items t reads below =
 pub runnable_scripts : (bytes : List ℕ) (c : Config) (scripts : List (List Command)) (items : List Item) → Reads bytes c scripts items → All IsRunnable scripts
 runnable_scripts bytes c scripts items reads = All-from_get_or IsRunnable scripts [] (λ t within.
     (valid_scripts bytes c scripts items reads t [] within, few_commands bytes c scripts items t reads (omega (arith, within, count_scripts bytes c scripts items reads))))
+
+-- and all scripts together fewer than a machine word counts
+pub few_in_all : (bytes : List ℕ) (c : Config) (scripts : List (List Command)) (items : List Item) → Reads bytes c scripts items → sum_by length scripts ≤ 34359738360
+few_in_all bytes c scripts items reads =
+    let total : sum_by length scripts ≤ length scripts * 4294967295 = sum_by-le length 4294967295 scripts (λ k d below. let few = (runnable_scripts bytes c scripts items reads k d below).1 in omega (arith, few)) in
+    let count = count_scripts bytes c scripts items reads in
+    omega (arith, total, count)
+
+-- a loop that has come to a script, and to the next one
+pub one_script_more : (scripts : List (List Command)) (k commands : ℕ) (d : List Command) → k < length scripts → commands + sum_by length (drop k scripts) ≡ sum_by length scripts
+    → commands + length (get_or scripts k d) + sum_by length (drop (k + 1) scripts) ≡ sum_by length scripts
+one_script_more scripts k commands d below so_far = let next = sum_by-drop_more length scripts k d below in omega (arith, next, so_far)
 
 -- ---- items
 

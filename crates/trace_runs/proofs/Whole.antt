@@ -50,8 +50,9 @@ use Rattle.shen_core.specs.Progress.{Jobs, AreIdle, AllRest}
 use Rattle.shen_core.specs.Calls.{HasCalled, AllHaveCalled}
 use Rattle.trace_grammar.specs.Grammar.{Reads}
 use Rattle.trace_writing.specs.Answer.{answer_text}
+use Rattle.trace_writing.specs.History.{history_text}
 use Rattle.trace_writing.proofs.AnswerLemmas.{answer_text_same}
-use Rattle.trace_runs.specs.Replayed.{events_of, history_of, end_of, IsWhole, IsReplayed}
+use Rattle.trace_runs.specs.Replayed.{events_of, history_of, end_of, IsWhole, IsReplayed, IsReplayedNoted}
 use Rattle.trace_runs.specs.Running.{HasFinished}
 
 -- ---- the entries of each thread
@@ -199,4 +200,20 @@ replayed bytes c scripts items limit jobs p text reads count done roots shows = 
   reads = reads;
   whole = whole c scripts (events_of c scripts items limit) count done.idle done.called;
   text = record { names = names_of text; reach = shows.reach; text = text_shown c.mutators jobs (history_of c scripts items limit) text roots shows (replies_shown c scripts items limit jobs p done) };
+}
+
+-- the same, with the history behind it
+pub replayed_noted : (bytes : List ℕ) (c : Config) (scripts : Scripts) (items : List Item) (limit : ℕ) (jobs : Jobs) (p : Plain) (text : Text) (noted : List Entry)
+    → Reads bytes c scripts items → length scripts ≡ c.mutators → HasFinished c scripts items limit jobs p → length text.roots ≡ c.mutators → texts.ShowsGraph text c.mutators (after (first_graph c) (history_of c scripts items limit))
+    → noted ≡ history_of c scripts items limit → IsReplayedNoted bytes limit (answer_text (length text.roots) (λ t. work.replies_of jobs (t - 1)) text.rows (root_of text) ++ history_text noted)
+unfolding replayed
+replayed_noted bytes c scripts items limit jobs p text noted reads count done roots shows are = record {
+  config = c;
+  scripts = scripts;
+  items = items;
+  reads = reads;
+  whole = whole c scripts (events_of c scripts items limit) count done.idle done.called;
+  answer = answer_text (length text.roots) (λ t. work.replies_of jobs (t - 1)) text.rows (root_of text);
+  text = (replayed bytes c scripts items limit jobs p text reads count done roots shows).text;
+  out_is = ap (λ h. answer_text (length text.roots) (λ t. work.replies_of jobs (t - 1)) text.rows (root_of text) ++ history_text h) are;
 }

@@ -1,12 +1,13 @@
 -- The words of the command line.
-use Rattle.std.proofs.Common.{◌≡◌, ℕ, zero, suc, ◌&&◌, ◌<◌, ◌≤◌, Bool, true, false, eqb, List, [], ◌∷◌, length, get_or, map, inl, inr, refl, sym, ap, subst, ◌∙◌, arith}
+use Rattle.std.proofs.Common.{◌≡◌, ℕ, zero, suc, ◌&&◌, ◌<◌, ◌≤◌, Bool, true, false, eqb, List, [], ◌∷◌, ◌++◌, length, get_or, take, drop, map, inl, inr, refl, sym, ap, subst, ◌∙◌, arith}
 use Rattle.std.specs.Prelude.{codes, Option, Some, None, MatchOption, MatchBool}
 use Rattle.std.specs.Fmt.{decimal}
 use Rattle.std.specs.Cmp.Lexicographic.{pointwise}
 use Rattle.std.proofs.lemmas.Bool.{eqb-true, false≢true}
 use Rattle.std.proofs.lemmas.Fmt.{decimal_digit}
+use Rattle.std.proofs.lemmas.List.{length-append}
 use Rattle.trace_grammar.specs.Spelling.{IsUpTo}
-use Rattle.trace_runs.specs.Words.{most_seed, most_rounds, usual_steps, most_machines, IsNumbered, IsReplay, AskReplay, IsRunBy, AskRun, AskTrace, IsChurn, AskChurn, Ask, BeginWith}
+use Rattle.trace_runs.specs.Words.{most_seed, most_rounds, usual_steps, most_machines, IsNumbered, IsReplay, AskReplay, IsNotedReplay, AskNoted, IsRunBy, AskRun, AskTrace, IsChurn, AskChurn, Ask, BeginWith}
 use Rattle.std.proofs.lemmas.Bool.Decides.{nat_tests}
 
 same_from_test : (xs ys : List ℕ) → pointwise eqb xs ys ≡ true → xs ≡ ys
@@ -110,6 +111,15 @@ run_begins words asked = numbered_begins (codes "run") (codes "--workers") most_
 pub replay_begins : (words : List (List ℕ)) → AskReplay words → BeginWith (codes "replay") words
 replay_begins words asked = numbered_begins (codes "replay") (codes "--steps") usual_steps 4000000000 words asked.0 asked.1
 
+-- what more words stand behind does not change the first one
+begins_longer : (word : List ℕ) (front more : List (List ℕ)) → BeginWith word front → BeginWith word (front ++ more)
+begins_longer word [] more begins = absurd begins
+begins_longer word (first ∷ front) more begins = begins
+
+pub noted_begins : (words : List (List ℕ)) → AskNoted words → BeginWith (codes "replay") words
+noted_begins words asked =
+    subst (BeginWith (codes "replay")) (sym asked.1.1) (begins_longer (codes "replay") asked.1.0 (codes "--history" ∷ []) (replay_begins asked.1.0 (asked.0, asked.1.2)))
+
 pub churn_begins : (words : List (List ℕ)) → AskChurn words → BeginWith (codes "churn") words
 churn_begins words asked = begins_as words (decimal asked.0 ∷ decimal asked.1.0 ∷ []) (codes "churn") asked.1.1.0
 
@@ -118,11 +128,24 @@ one_first : (a b : List ℕ) (words : List (List ℕ)) → BeginWith a words →
 one_first a b [] begins other = absurd begins
 one_first a b (word ∷ words) begins other = sym begins ∙ other
 
+-- what begins with `replay` begins neither with `run` nor with `churn`
+replaying_no_run : (words : List (List ℕ)) → BeginWith (codes "replay") words → BeginWith (codes "run") words → ⊥
+replaying_no_run words replay run = absurd (omega (arith, ap length (one_first (codes "replay") (codes "run") words replay run)))
+
+replaying_no_churn : (words : List (List ℕ)) → BeginWith (codes "replay") words → BeginWith (codes "churn") words → ⊥
+replaying_no_churn words replay churn = absurd (omega (arith, ap length (one_first (codes "replay") (codes "churn") words replay churn)))
+
 pub replay_is_no_run : (words : List (List ℕ)) → AskReplay words → BeginWith (codes "run") words → ⊥
-replay_is_no_run words asked begins = absurd (omega (arith, ap length (one_first (codes "replay") (codes "run") words (replay_begins words asked) begins)))
+replay_is_no_run words asked begins = replaying_no_run words (replay_begins words asked) begins
 
 pub replay_is_no_churn : (words : List (List ℕ)) → AskReplay words → BeginWith (codes "churn") words → ⊥
-replay_is_no_churn words asked begins = absurd (omega (arith, ap length (one_first (codes "replay") (codes "churn") words (replay_begins words asked) begins)))
+replay_is_no_churn words asked begins = replaying_no_churn words (replay_begins words asked) begins
+
+pub noted_is_no_run : (words : List (List ℕ)) → AskNoted words → BeginWith (codes "run") words → ⊥
+noted_is_no_run words asked begins = replaying_no_run words (noted_begins words asked) begins
+
+pub noted_is_no_churn : (words : List (List ℕ)) → AskNoted words → BeginWith (codes "churn") words → ⊥
+noted_is_no_churn words asked begins = replaying_no_churn words (noted_begins words asked) begins
 
 pub run_is_no_churn : (words : List (List ℕ)) → AskRun words → BeginWith (codes "churn") words → ⊥
 run_is_no_churn words asked begins = absurd (omega (arith, ap length (one_first (codes "run") (codes "churn") words (run_begins words asked) begins)))
@@ -130,13 +153,15 @@ run_is_no_churn words asked begins = absurd (omega (arith, ap length (one_first 
 -- who asks for a churn asks for no trace
 pub churn_reads_none : (words : List (List ℕ)) → AskChurn words → AskTrace words → ⊥
 churn_reads_none words asked (inl replay) = replay_is_no_churn words replay (churn_begins words asked)
-churn_reads_none words asked (inr run) = run_is_no_churn words run (churn_begins words asked)
+churn_reads_none words asked (inr (inl noted)) = noted_is_no_churn words noted (churn_begins words asked)
+churn_reads_none words asked (inr (inr run)) = run_is_no_churn words run (churn_begins words asked)
 
 -- words that ask for nothing
-pub asks_none : (words : List (List ℕ)) → (AskReplay words → ⊥) → (AskRun words → ⊥) → (AskChurn words → ⊥) → Ask words → ⊥
-asks_none words replay run churn (inl (inl asked)) = replay asked
-asks_none words replay run churn (inl (inr asked)) = run asked
-asks_none words replay run churn (inr asked) = churn asked
+pub asks_none : (words : List (List ℕ)) → (AskReplay words → ⊥) → (AskNoted words → ⊥) → (AskRun words → ⊥) → (AskChurn words → ⊥) → Ask words → ⊥
+asks_none words replay noted run churn (inl (inl asked)) = replay asked
+asks_none words replay noted run churn (inl (inr (inl asked))) = noted asked
+asks_none words replay noted run churn (inl (inr (inr asked))) = run asked
+asks_none words replay noted run churn (inr asked) = churn asked
 
 -- a list that is not empty begins with its first word
 pub first_word : {X : Type 0} (f : X → List ℕ) (words : List X) (w : X) (text : List ℕ) (r : Bool) → 1 ≤ length words → w ≡ get_or words 0 w → r ≡ pointwise eqb (f w) text
@@ -166,3 +191,48 @@ told_by false both = λ p. false≢true (both.1 p)
 pub none_begins : {X : Type 0} (f : X → List ℕ) (words : List X) (text : List ℕ) → length words < 1 → BeginWith text (map f words) → ⊥
 none_begins f [] text few begins = begins
 none_begins f (x ∷ xs) text few begins = absurd (omega arith)
+
+-- ---- the last word
+
+-- words of which the last one is this
+last_added : {X : Type 0} (f : X → List ℕ) (words : List X) (w : X) (text : List ℕ) (n : ℕ) → length words ≡ suc n → w ≡ get_or words n w → f w ≡ text → map f words ≡ map f (take n words) ++ text ∷ []
+last_added f [] w text n long is same = absurd (omega arith)
+last_added f (x ∷ []) w text zero long is same = ap (λ (t : List ℕ). t ∷ []) (sym (ap f is) ∙ same)
+last_added f (x ∷ []) w text (suc n) long is same = absurd (omega arith)
+last_added f (x ∷ y ∷ words) w text zero long is same = absurd (omega arith)
+last_added f (x ∷ y ∷ words) w text (suc n) long is same = ap (λ (ws : List (List ℕ)). f x ∷ ws) (last_added f (y ∷ words) w text n (omega arith) is same)
+
+-- a front and one word more have this last word, and this front
+last_of : {X : Type 0} (f : X → List ℕ) (words : List X) (w : X) (front : List (List ℕ)) (text : List ℕ) (n : ℕ) → length words ≡ suc n → w ≡ get_or words n w → map f words ≡ front ++ text ∷ []
+    → (f w ≡ text) × (map f (take n words) ≡ front)
+last_of f [] w front text n long is same = absurd (omega arith)
+last_of f (x ∷ []) w [] text zero long is same = (ap f is ∙ ap (λ (ws : List (List ℕ)). get_or ws 0 []) same, refl)
+last_of f (x ∷ []) w (a ∷ front) text zero long is same = absurd (omega (arith, ap length same, length-append front (text ∷ [])))
+last_of f (x ∷ []) w front text (suc n) long is same = absurd (omega arith)
+last_of f (x ∷ y ∷ words) w front text zero long is same = absurd (omega arith)
+last_of f (x ∷ y ∷ words) w [] text (suc n) long is same = absurd (omega (arith, ap length same))
+last_of f (x ∷ y ∷ words) w (a ∷ front) text (suc n) long is same =
+    let rest : map f (y ∷ words) ≡ front ++ text ∷ [] = ap (λ (ws : List (List ℕ)). drop 1 ws) same in
+    let first : f x ≡ a = ap (λ (ws : List (List ℕ)). get_or ws 0 []) same in
+    let both = last_of f (y ∷ words) w front text n (omega arith) is rest in
+    (both.0, ap (λ (t : List ℕ). t ∷ map f (take n (y ∷ words))) first ∙ ap (λ (ws : List (List ℕ)). a ∷ ws) both.1)
+
+-- what is asked for where the last word is `--history`: a replay by the words before it
+pub noted_by_front : {X : Type 0} (f : X → List ℕ) (words front : List X) (w : X) (n : ℕ) (r : Option ℕ) → length words ≡ suc n → w ≡ get_or words n w → front ≡ take n words
+    → true ≡ pointwise eqb (f w) (codes "--history") → MatchOption r (AskReplay (map f front) → ⊥) (IsReplay (map f front)) → MatchOption r (AskNoted (map f words) → ⊥) (IsNotedReplay (map f words))
+noted_by_front f words front w n (Some steps) long is are e asked =
+    (map f front, last_added f words w (codes "--history") n long is (same_from_test (f w) (codes "--history") (sym e)) ∙ ap (λ ws. map f ws ++ codes "--history" ∷ []) (sym are), asked)
+noted_by_front f words front w n None long is are e none = λ asked.
+    let parts = last_of f words w asked.1.0 (codes "--history") n long is asked.1.1 in
+    none (asked.0, subst (λ (ws : List (List ℕ)). IsReplay ws asked.0) (sym parts.1 ∙ ap (λ ws. map f ws) (sym are)) asked.1.2)
+
+-- where the last word is another, none is asked for
+pub noted_by_last : {X : Type 0} (f : X → List ℕ) (words : List X) (w : X) (n : ℕ) → length words ≡ suc n → w ≡ get_or words n w → false ≡ pointwise eqb (f w) (codes "--history") → AskNoted (map f words) → ⊥
+noted_by_last f words w n long is e asked =
+    let parts = last_of f words w asked.1.0 (codes "--history") n long is asked.1.1 in
+    false≢true (e ∙ ap (λ (t : List ℕ). pointwise eqb t (codes "--history")) parts.0 ∙ test_itself (codes "--history"))
+
+-- nor where there are no words
+pub noted_by_none : {X : Type 0} (f : X → List ℕ) (words : List X) → length words < 1 → AskNoted (map f words) → ⊥
+noted_by_none f [] few asked = absurd (omega (arith, ap length asked.1.1, length-append asked.1.0 (codes "--history" ∷ [])))
+noted_by_none f (x ∷ xs) few asked = absurd (omega arith)

@@ -10,8 +10,8 @@ use Rattle.trace_writing.specs.Message.{line_text}
 use Rattle.trace_writing.specs.declared.message.Line.TheVariants as line
 use Rattle.trace_runs.specs.declared.status.Status.{Status}
 use Rattle.trace_runs.specs.declared.status.Status.TheVariants.{Ok, BadWords, BadTrace, Unfinished, ReadFault, WriteFault, NoMemory}
-use Rattle.trace_runs.specs.Words.{IsReplay, AskReplay, AskRun, AskTrace, IsChurn, Ask}
-use Rattle.trace_runs.specs.Replayed.{IsReplayed, IsRun, IsUnfinished}
+use Rattle.trace_runs.specs.Words.{IsReplay, IsNotedReplay, AskReplay, AskNoted, AskRun, AskTrace, IsChurn, Ask}
+use Rattle.trace_runs.specs.Replayed.{IsReplayed, IsReplayedNoted, IsRun, IsUnfinished}
 use Rattle.trace_runs.specs.Churned.{IsChurned}
 
 -- all that the source had came, it is refused, and the line that is written says where and why
@@ -32,13 +32,14 @@ pub record Input : Type 0 where
 -- The texts that go with each status but that of a write fault.
 abbrev pub Allows : List (List ℕ) → Input → Status → List ℕ → Type 0
 Allows words input Ok out = ((steps : ℕ) × IsReplay words steps × ((bytes : List ℕ) × Came input.before input.after bytes × IsReplayed bytes steps out))
+    ⊎ (((steps : ℕ) × IsNotedReplay words steps × ((bytes : List ℕ) × Came input.before input.after bytes × IsReplayedNoted bytes steps out))
     ⊎ ((AskRun words × ((bytes : List ℕ) × Came input.before input.after bytes × IsRun bytes out))
-    ⊎ ((seed : ℕ) × ((count : ℕ) × IsChurn words seed count × IsChurned seed count out)))
+    ⊎ ((seed : ℕ) × ((count : ℕ) × IsChurn words seed count × IsChurned seed count out))))
 Allows words input BadWords out = (Ask words → ⊥) × (out ≡ line_text line.BadWords)
 Allows words input BadTrace out = AskTrace words
     × (IsRefused input.before input.after out
     ⊎ (IsTooLong input.before input.after × (out ≡ line_text line.TooLong)))
-Allows words input Unfinished out = (steps : ℕ) × IsReplay words steps × ((bytes : List ℕ) × Came input.before input.after bytes × IsUnfinished bytes steps)
+Allows words input Unfinished out = (steps : ℕ) × (IsReplay words steps ⊎ IsNotedReplay words steps) × ((bytes : List ℕ) × Came input.before input.after bytes × IsUnfinished bytes steps)
     × (out ≡ line_text (line.Unfinished steps))
 Allows words input ReadFault out = AskTrace words × Rose input.faults_before input.faults_after × (out ≡ line_text line.ReadFault)
 Allows words input WriteFault out = ⊥
@@ -73,7 +74,7 @@ abbrev pub IsReplayStatus : List (List ℕ) → Status → Type 0
 IsReplayStatus words Ok = Unit {0}
 IsReplayStatus words BadWords = ⊥
 IsReplayStatus words BadTrace = ⊥
-IsReplayStatus words Unfinished = AskReplay words
+IsReplayStatus words Unfinished = AskReplay words ⊎ AskNoted words
 IsReplayStatus words ReadFault = ⊥
 IsReplayStatus words WriteFault = ⊥
 IsReplayStatus words NoMemory = Unit {0}

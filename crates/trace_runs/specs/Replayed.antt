@@ -1,5 +1,5 @@
 -- What a trace makes its heap do.
-use Rattle.std.specs.Prelude.{ℕ, ◌≡◌, List, length}
+use Rattle.std.specs.Prelude.{ℕ, ◌≡◌, ◌++◌, List, length}
 use Rattle.heap_words.specs.declared.config.Config.{Config}
 use Rattle.heap_words.specs.declared.schedule.Item.{Item}
 use Rattle.steps_base.specs.Steps.{Stage, Event}
@@ -14,6 +14,7 @@ use Rattle.step_core.specs.Begins.{reached, past}
 use Rattle.shen_core.specs.Progress.{AreIdle}
 use Rattle.trace_grammar.specs.Grammar.{Reads}
 use Rattle.trace_writing.specs.Answer.{IsAnswerText}
+use Rattle.trace_writing.specs.History.{history_text}
 
 -- the events of a trace, in a heap whose pauses go on to the next phase of the cycle, or make room: those of its
 -- schedule and of the rounds after it, from the opening on, cut after so many
@@ -44,6 +45,17 @@ pub record IsReplayed (bytes : List ℕ) (limit : ℕ) (out : List ℕ) : Type 0
   pub reads : Reads bytes config scripts items
   pub whole : IsWhole config scripts (events_of config scripts items limit)
   pub text : IsAnswerText config.mutators (history_of config scripts items limit) out
+
+-- The same, and behind the answer the text has that history.
+pub record IsReplayedNoted (bytes : List ℕ) (limit : ℕ) (out : List ℕ) : Type 0 where
+  pub config : Config
+  pub scripts : Scripts
+  pub items : List Item
+  pub reads : Reads bytes config scripts items
+  pub whole : IsWhole config scripts (events_of config scripts items limit)
+  pub answer : List ℕ
+  pub text : IsAnswerText config.mutators (history_of config scripts items limit) answer
+  pub out_is : out ≡ answer ++ history_text (history_of config scripts items limit)
 
 -- The bytes are a trace, some events of its machines come to an end, and the text is the answer of their history. The events are
 -- those of the threads in an order of all; the trace's own schedule has no part in it.

@@ -1,5 +1,5 @@
 -- The words of the command line.
-use Rattle.std.specs.Prelude.{ℕ, ◌≡◌, ◌≤◌, ◌⊎◌, List, [], ◌∷◌, codes}
+use Rattle.std.specs.Prelude.{ℕ, ◌≡◌, ◌≤◌, ◌⊎◌, List, [], ◌∷◌, ◌++◌, codes}
 use Rattle.std.specs.Fmt.{decimal}
 use Rattle.trace_grammar.specs.Spelling.{IsUpTo}
 
@@ -18,6 +18,13 @@ abbrev pub IsReplay : List (List ℕ) → ℕ → Type 0
 IsReplay words steps =
     ((words ≡ codes "replay" ∷ []) × (steps ≡ usual_steps))
     ⊎ ((words ≡ codes "replay" ∷ codes "--steps" ∷ decimal steps ∷ []) × IsUpTo 4000000000 steps)
+
+-- the words ask for such a replay, and for its history
+abbrev pub IsNotedReplay : List (List ℕ) → ℕ → Type 0
+IsNotedReplay words steps = (front : List (List ℕ)) × (words ≡ front ++ codes "--history" ∷ []) × IsReplay front steps
+
+abbrev pub AskNoted : List (List ℕ) → Type 0
+AskNoted words = (steps : ℕ) × IsNotedReplay words steps
 
 -- the words ask for a replay
 abbrev pub AskReplay : List (List ℕ) → Type 0
@@ -38,9 +45,9 @@ IsRunBy words workers =
 abbrev pub AskRun : List (List ℕ) → Type 0
 AskRun words = (workers : ℕ) × IsRunBy words workers
 
--- the words ask for either, and so for a trace
+-- the words ask for one of these, and so for a trace
 abbrev pub AskTrace : List (List ℕ) → Type 0
-AskTrace words = AskReplay words ⊎ AskRun words
+AskTrace words = AskReplay words ⊎ (AskNoted words ⊎ AskRun words)
 
 -- the largest number from which a churn is made
 abbrev pub most_seed : ℕ

@@ -1,20 +1,22 @@
 //! What the commands read and write: a trace comes in, and an answer or one line goes out.
-ghost use Rattle.std.specs.Prelude.{◌≡◌, ◌<◌, ℕ, List, IfOk, IfErr, OnOk, length};
+ghost use Rattle.std.specs.Prelude.{◌≡◌, ◌<◌, ◌++◌, ℕ, List, IfOk, IfErr, OnOk, length};
 ghost use Rattle.shen_graph.specs.Work.{HasScript};
 ghost use Rattle.text_writer.specs.Sending.{outlet};
 ghost use Rattle.trace_grammar.specs.Grammar.{Came, Reads};
 ghost use Rattle.trace_writing.specs.Message.{line_text};
 ghost use Rattle.trace_writing.specs.Answer.{spelled_answer};
+ghost use Rattle.trace_writing.specs.History.{history_text};
 ghost use Rattle.trace_runs.specs.CallEnds.{EndsWith};
 ghost use Rattle.trace_runs.specs.Words.{AskTrace};
 ghost use Rattle.trace_runs.specs.Answered.{StatusFits};
 
 use crate::status::Status;
 use shen_base::{Sink, Source};
+use shen_graph::History;
 use std::alloc::Global;
 use trace_grammar::Trace;
 use trace_reading::{TraceFault, read_trace};
-use trace_writing::{Answer, Line, write_answer, write_line};
+use trace_writing::{Answer, Line, write_answer, write_history, write_line};
 
 /// Writes the one line of a status, or the lines of a churn.
 pub fn say<K: Sink>(sink: &mut K, line: Line, status: Status) -> Status
@@ -36,6 +38,21 @@ pub fn give<K: Sink>(sink: &mut K, answer: &Answer) -> Status
     match write_answer(sink, answer) {
         Ok(()) => Status::Ok,
         Err(_) => Status::WriteFault,
+    }
+}
+
+/// Writes an answer, and the history behind it.
+pub fn give_noted<K: Sink>(sink: &mut K, answer: &Answer, history: &History) -> Status
+    requires { (mutator : ℕ) → mutator < length answer.now.graph.roots → HasScript answer.now.replies mutator }
+    ensures { EndsWith (spelled_answer answer.now ++ history_text history.now.list) Status.Ok result (outlet (K.written sink.old) (K.faults sink.old) (K.calls sink.old))
+        (outlet (K.written sink.new) (K.faults sink.new) (K.calls sink.new)) }
+{
+    match write_answer(sink, answer) {
+        Err(_) => Status::WriteFault,
+        Ok(()) => match write_history(sink, history) {
+            Ok(()) => Status::Ok,
+            Err(_) => Status::WriteFault,
+        },
     }
 }
 

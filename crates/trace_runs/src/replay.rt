@@ -1,5 +1,5 @@
 //! `replay`: the schedule of a trace, step by step, on a heap of this thread.
-ghost use Rattle.std.specs.Prelude.{◌≡◌, ◌<◌, ℕ, List, Some, Err, IfOk, IfErr, MatchOption, codes, length, map};
+ghost use Rattle.std.specs.Prelude.{◌≡◌, ◌<◌, ◌≤◌, ◌⊎◌, ◌++◌, ℕ, List, [], Some, Err, IfOk, IfErr, MatchOption, codes, length, map, sum_by};
 ghost use Rattle.std.specs.String.{string_bytes};
 ghost use Rattle.std.specs.Io.KnownBytes.{Appends};
 ghost use Rattle.shen_base.specs.Count.{Rose};
@@ -16,18 +16,19 @@ ghost use Rattle.shen_core.specs.Progress.{AllRest};
 ghost use Rattle.text_writer.specs.Sending.{outlet};
 ghost use Rattle.trace_grammar.specs.Grammar.{Came, Reads};
 ghost use Rattle.trace_writing.specs.Answer.{spelled_answer};
-ghost use Rattle.trace_runs.specs.Words.{IsReplay, AskReplay, AskTrace, BeginWith};
-ghost use Rattle.trace_runs.specs.Replayed.{IsReplayed, IsUnfinished};
+ghost use Rattle.trace_writing.specs.History.{history_text};
+ghost use Rattle.trace_runs.specs.Words.{IsReplay, IsNotedReplay, AskReplay, AskNoted, AskTrace, BeginWith};
+ghost use Rattle.trace_runs.specs.Replayed.{IsReplayed, IsReplayedNoted, IsUnfinished, history_of};
 ghost use Rattle.trace_runs.specs.Running.{HasFinished};
 ghost use Rattle.trace_runs.specs.Answered.{StatusFits, IsReplayStatus};
 
-use crate::lines::{give, say, taken};
+use crate::lines::{give, give_noted, say, taken};
 use crate::numbered::number_of;
 use crate::status::Status;
 use heap_words::Config;
 use shen_base::{Sink, Source};
 use shen_core::{Plain, Ran};
-use shen_graph::{GraphText, Work};
+use shen_graph::{GraphText, History, NoMemory, Work};
 use std::alloc::Global;
 use trace_grammar::Trace;
 use trace_writing::{Answer, Line};
@@ -53,6 +54,17 @@ fn steps_of(words: &[String]) -> Option<u64>
     number_of("replay", "--steps", USUAL_STEPS, MOST_STEPS, words)
 }
 
+/// The steps that a replay may make that is to show its history, where the words ask for one: those of a replay, and then
+/// `--history`.
+fn noted_steps_of(words: &[String]) -> Option<u64>
+    ensures { MatchOption result (AskNoted (map string_bytes words.now) → ⊥) (IsNotedReplay (map string_bytes words.now)) }
+{
+    match words {
+        [front @ .., last] if last.as_str() == "--history" => steps_of(front),
+        _ => None,
+    }
+}
+
 /// Runs the schedule of a trace, and then rounds, on a heap of its own, until all mutators have ended and the control has.
 fn run(alloc: Global, trace: Trace, steps: u64) -> Result<(Work, Plain), Refusal>
     requires { (bytes : List ℕ) × Reads bytes trace.config trace.scripts trace.schedule }
@@ -67,6 +79,51 @@ fn run(alloc: Global, trace: Trace, steps: u64) -> Result<(Work, Plain), Refusal
     };
     match plain.run(&mut work, &trace.schedule, steps) {
         Ran::Finished => Ok((work, plain)),
+        Ran::Unfinished => Err(Refusal::Unfinished),
+    }
+}
+
+// The number of all commands of a trace.
+fn commands_of(trace: &Trace) -> usize
+    requires { (bytes : List ℕ) × Reads bytes trace.now.config trace.now.scripts trace.now.schedule }
+    ensures { result ≡ sum_by length trace.now.scripts }
+{
+    let mut commands = 0;
+    for script in trace.scripts.list() {
+        commands += script.list().len();
+    }
+    commands
+}
+
+// A history with memory for all entries of a trace.
+fn history_for(alloc: Global, trace: &Trace) -> Result<History, NoMemory>
+    requires { (bytes : List ℕ) × Reads bytes trace.now.config trace.now.scripts trace.now.schedule }
+    ensures none { IfOk result (λ history. history.list ≡ []) }
+    ensures spare { IfOk result (λ history. sum_by length trace.now.scripts ≤ history.spare) }
+{
+    let mut history = History::open(alloc)?;
+    history.reserve(alloc, commands_of(trace))?;
+    Ok(history)
+}
+
+/// Runs a trace as `run` does, and gives its history besides.
+fn run_noted(alloc: Global, trace: Trace, steps: u64) -> Result<(Work, Plain, History), Refusal>
+    requires { (bytes : List ℕ) × Reads bytes trace.config trace.scripts trace.schedule }
+    ensures finished { IfOk result (λ x. HasFinished trace.config trace.scripts trace.schedule steps x.0 x.1) }
+    ensures history { IfOk result (λ x. x.2.list ≡ history_of trace.config trace.scripts trace.schedule steps) }
+    ensures unfinished { result ≡ Err Refusal.Unfinished → (bytes : List ℕ) → Reads bytes trace.config trace.scripts trace.schedule → IsUnfinished bytes steps }
+{
+    let Ok(mut history) = history_for(alloc, &trace) else {
+        return Err(Refusal::NoMemory);
+    };
+    let Ok(mut work) = Work::of(alloc, trace.scripts.into_vec()) else {
+        return Err(Refusal::NoMemory);
+    };
+    let Ok(mut plain) = Plain::open(alloc, trace.config) else {
+        return Err(Refusal::NoMemory);
+    };
+    match plain.run_noted(&mut work, &trace.schedule, steps, &mut history) {
+        Ran::Finished => Ok((work, plain, history)),
         Ran::Unfinished => Err(Refusal::Unfinished),
     }
 }
@@ -99,6 +156,41 @@ fn answer_to(alloc: Global, trace: Trace, steps: u64) -> Result<Answer, Refusal>
     Ok(Answer { replies, graph })
 }
 
+/// The answer to a trace, and its history.
+fn noted_answer_to(alloc: Global, trace: Trace, steps: u64) -> Result<(Answer, History), Refusal>
+    requires { (bytes : List ℕ) × Reads bytes trace.config trace.scripts trace.schedule }
+    ensures ok { IfOk result (λ x. (bytes : List ℕ) → Reads bytes trace.config trace.scripts trace.schedule → IsReplayedNoted bytes steps (spelled_answer x.0 ++ history_text x.1.list)) }
+    ensures scripts { IfOk result (λ x. (mutator : ℕ) → mutator < length x.0.graph.roots → HasScript x.0.replies mutator) }
+    ensures unfinished { result ≡ Err Refusal.Unfinished → (bytes : List ℕ) → Reads bytes trace.config trace.scripts trace.schedule → IsUnfinished bytes steps }
+{
+    let config = trace.config;
+    let (replies, mut plain, history) = run_noted(alloc, trace, steps)?;
+    let graph = graph_of(alloc, config, &mut plain)?;
+    Ok((Answer { replies, graph }, history))
+}
+
+/// Replays a trace as `replay` does, and writes its history behind the answer.
+fn replay_noted<S: Source, K: Sink>(
+    alloc: Global,
+    steps: u64,
+    source: &mut S,
+    sink: &mut K,
+) -> Status
+    ensures { (words : List (List ℕ)) → IsNotedReplay words steps → StatusFits words
+        (record { before = S.left source.old; after = S.left source.new; faults_before = S.faults source.old; faults_after = S.faults source.new })
+        (record { before = outlet (K.written sink.old) (K.faults sink.old) (K.calls sink.old); after = outlet (K.written sink.new) (K.faults sink.new) (K.calls sink.new) }) result }
+{
+    let trace = match taken(alloc, source, sink) {
+        Ok(trace) => trace,
+        Err(status) => return status,
+    };
+    match noted_answer_to(alloc, trace, steps) {
+        Ok((answer, history)) => give_noted(sink, &answer, &history),
+        Err(Refusal::Unfinished) => say(sink, Line::Unfinished { steps }, Status::Unfinished),
+        Err(Refusal::NoMemory) => say(sink, Line::NoMemory, Status::NoMemory),
+    }
+}
+
 /// Reads a trace, runs it with so many steps at most, and writes its answer, or the one line that says why there is none.
 fn replay<S: Source, K: Sink>(alloc: Global, steps: u64, source: &mut S, sink: &mut K) -> Status
     ensures { (words : List (List ℕ)) → IsReplay words steps → StatusFits words
@@ -122,8 +214,8 @@ fn replay<S: Source, K: Sink>(alloc: Global, steps: u64, source: &mut S, sink: &
 /// Runs the program on words of the command line that begin neither with `run` nor with `churn`; the words are without the
 /// program's name.
 /// `replay` reads a trace from the source to its end, runs its schedule and then rounds on a heap that collects in pauses, and
-/// writes the replies and the final graph to the sink; with `--steps N` it makes N steps at most. Any other words are refused
-/// before anything is read. Where there is no answer one line says why; if that cannot be written either, the status is
+/// writes the replies and the final graph to the sink; with `--steps N` it makes N steps at most, and with `--history` behind
+/// these it writes the history that they come from too. Any other words are refused before anything is read. Where there is no answer one line says why; if that cannot be written either, the status is
 /// `WriteFault`. It starts no thread and waits for none.
 pub fn alone<S: Source, K: Sink>(
     alloc: Global,
@@ -137,9 +229,12 @@ pub fn alone<S: Source, K: Sink>(
     // The replies and the graph that are written are those of one legal history, that of exactly the events of the schedule
     // and of the rounds after it, in which each thread's commands are its script. It is a history of a graph that never
     // moves or frees an object, whatever pauses collect; and it has an allocation that was refused only where live objects
-    // and the other threads' allocations that were not answered yet crowded the regions.
-    ensures headline { result ≡ Status.Ok → (steps : ℕ) × IsReplay (map string_bytes words.now) steps × ((bytes : List ℕ) × ((out : List ℕ)
-        × Came (S.left source.old) (S.left source.new) bytes × IsReplayed bytes steps out × Appends (K.written sink.old) (K.written sink.new) out)) }
+    // and the other threads' allocations that were not answered yet crowded the regions. With `--history` that very history
+    // is written behind them.
+    ensures headline { result ≡ Status.Ok → ((steps : ℕ) × IsReplay (map string_bytes words.now) steps × ((bytes : List ℕ) × ((out : List ℕ)
+        × Came (S.left source.old) (S.left source.new) bytes × IsReplayed bytes steps out × Appends (K.written sink.old) (K.written sink.new) out)))
+        ⊎ ((steps : ℕ) × IsNotedReplay (map string_bytes words.now) steps × ((bytes : List ℕ) × ((out : List ℕ)
+        × Came (S.left source.old) (S.left source.new) bytes × IsReplayedNoted bytes steps out × Appends (K.written sink.old) (K.written sink.new) out))) }
 
     // What each status says of the words, of what came and of what was written; and that the sink was called at most once for
     // each byte of the text.
@@ -156,6 +251,9 @@ pub fn alone<S: Source, K: Sink>(
     // Other words are refused before anything is read.
     ensures unread { (AskTrace (map string_bytes words.now) → ⊥) → source.new ≡ source.old }
 {
+    if let Some(steps) = noted_steps_of(words) {
+        return replay_noted(alloc, steps, source, sink);
+    }
     match steps_of(words) {
         Some(steps) => replay(alloc, steps, source, sink),
         None => say(sink, Line::BadWords, Status::BadWords),

@@ -1,4 +1,4 @@
-use Rattle.std.proofs.Common.{ℕ, List, map, refl}
+use Rattle.std.proofs.Common.{ℕ, ◌⊎◌, inl, inr, List, map, refl}
 use Rattle.std.specs.String.{string_bytes}
 use Rattle.trace_writing.specs.Message.{line_text}
 use Rattle.trace_writing.specs.declared.message.Line.TheVariants as line
@@ -7,8 +7,8 @@ use Rattle.trace_runs.specs.declared.status.Status.TheVariants.{BadWords}
 use Rattle.trace_runs.specs.Answered.{Input, Output}
 use Rattle.trace_runs.proofs.CallEnds.{said, row_of_ok}
 use Rattle.trace_runs.proofs.Complete.{complete, churned}
-use Rattle.trace_runs.proofs.Words.{asks_none, replay_is_no_run, replay_is_no_churn}
-use Rattle.trace_runs.specs.Words.{AskReplay}
+use Rattle.trace_runs.proofs.Words.{asks_none, replay_is_no_run, replay_is_no_churn, noted_is_no_run, noted_is_no_churn}
+use Rattle.trace_runs.specs.Words.{AskReplay, AskNoted}
 use Rattle.shenrun.proofs.top.shenrun.Goals.{then-begin_with-via-then-begin_with, then-begin_with-via-else-begin_with+then-begin_with-2}
 use Rattle.shenrun.proofs.top.shenrun.Goals as goal
 
@@ -55,4 +55,17 @@ returns-then-begin_with-clause-answered g c =
       | then-begin_with-via-then-begin_with w ↦ replay_is_no_run words asked w.if-begin_with.ensures
       | then-begin_with-via-else-begin_with+then-begin_with-2 w ↦ replay_is_no_churn words asked w.if-begin_with-2.ensures
     ] in
-    said words _ _ (line_text line.BadWords) BadWords c.say.result (asks_none words none c.in_default.ensures c.in_default-workload_of.ensures, refl) c.say.ensures
+    let noted : AskNoted words → ⊥ = λ asked.
+    elim c.then-begin_with.branch as (λ _. ⊥) [
+      | then-begin_with-via-then-begin_with w ↦ noted_is_no_run words asked w.if-begin_with.ensures
+      | then-begin_with-via-else-begin_with+then-begin_with-2 w ↦ noted_is_no_churn words asked w.if-begin_with-2.ensures
+    ] in
+    said words _ _ (line_text line.BadWords) BadWords c.say.result (asks_none words none noted c.in_default.ensures c.in_default-workload_of.ensures, refl) c.say.ensures
+
+-- what neither a run nor a churn was asked for with goes on alone: a replay, or one with its history
+one_of_two : {A B C : Type 0} → A ⊎ B → A ⊎ (B ⊎ C)
+one_of_two (inl a) = inl a
+one_of_two (inr b) = inr (inl b)
+
+pub returns-clause-headline : goal.returns-clause-headline
+returns-clause-headline g c = λ e. one_of_two (c.alone.ensures.headline e)

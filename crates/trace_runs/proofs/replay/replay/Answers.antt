@@ -18,7 +18,7 @@ returns-in-Err-Unfinished g c = λ words asked.
       before = outlet (g.K.Sink.written c.args.sink.now) (g.K.Sink.faults c.args.sink.now) (g.K.Sink.calls c.args.sink.now);
       after = outlet (g.K.Sink.written c.say.new.sink) (g.K.Sink.faults c.say.new.sink) (g.K.Sink.calls c.say.new.sink);
     } in
-    said words input output (line_text (line.Unfinished c.args.steps)) Unfinished c.say.result (c.args.steps, asked, (read.0, read.1, cut), refl)
+    said words input output (line_text (line.Unfinished c.args.steps)) Unfinished c.say.result (c.args.steps, inl asked, (read.0, read.1, cut), refl)
     (subst (λ s. EndsWith (line_text (line.Unfinished c.args.steps)) Unfinished c.say.result (outlet (g.K.Sink.written s) (g.K.Sink.faults s) (g.K.Sink.calls s)) output.after) c.in-Ok.ensures.unused c.say.ensures)
 
 pub returns-in-Err-NoMemory : goal.returns-in-Err-NoMemory
