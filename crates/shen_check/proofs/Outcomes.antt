@@ -99,26 +99,8 @@ not_full reply.Bad h = refl
 given_graph : (g : Graph) (e : Entry) → e.reply ≢ reply.Full → after_entry g e ≡ (outcome g e.thread e.command).graph
 given_graph g e h = ap (λ (b : Bool). if b then g else (outcome g e.thread e.command).graph) (not_full e.reply h)
 
--- the outcome is a legal answer, and the only one but Full
-pub given_is : (g h : Graph) (e : Entry) → e.reply ≢ reply.Full → answers e.reply h ≡ outcome g e.thread e.command → IsLegal g e.thread e.command e.reply (after_entry g e) × (h ≡ after_entry g e)
-given_is g h e not_full o =
-    let same : h ≡ after_entry g e = ap (λ (x : Outcome). x.graph) o ∙ sym (given_graph g e not_full) in
-    (inl (ap (answers e.reply) (sym same) ∙ o), same)
-
-pub given_only : (g h k : Graph) (e : Entry) (r : Reply) → e.reply ≢ reply.Full → answers r h ≡ outcome g e.thread e.command → IsLegal g e.thread e.command e.reply k → r ≡ e.reply
-given_only g h k e r not_full o legal = elim legal [
-  | inl is ↦ ap (λ (x : Outcome). x.reply) o ∙ sym (ap (λ (x : Outcome). x.reply) is)
-  | inr full ↦ absurd (not_full full.1)
-]
-
--- an allocation may be answered Full, and nothing else
+-- an allocation may be answered Full
 pub full_is : (g : Graph) (e : Entry) → e.reply ≡ reply.Full → IsNew e.command → IsLegal g e.thread e.command e.reply (after_entry g e) × (g ≡ after_entry g e)
 full_is g e full new =
     let same : after_entry g e ≡ g = ap (λ (r : Reply). if is_full r then g else (outcome g e.thread e.command).graph) full in
     (inr (new, full, same), sym same)
-
-pub full_only : (g h : Graph) (e : Entry) → e.reply ≡ reply.Full → IsLegal g e.thread e.command e.reply h → IsNew e.command
-full_only g h e full legal = elim legal [
-  | inl is ↦ absurd (outcome_not g e.thread e.command (sym (ap (λ (x : Outcome). x.reply) is) ∙ full))
-  | inr it ↦ it.0
-]
