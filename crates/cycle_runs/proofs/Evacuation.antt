@@ -1,3 +1,5 @@
+pub mod Writes
 pub mod Sparing
 pub mod Runs
+pub mod OneEvent
 pub mod Due

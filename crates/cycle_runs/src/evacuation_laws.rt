@@ -2,6 +2,7 @@
 //! theorems and no code. They hold of any work that is a pause's.
 
 ghost use Rattle.cycle_runs.specs.Evacuation.Runs.{HeadersLeadInRuns, CopiesAreSpared, AllIsForwardedInRuns};
+ghost use Rattle.cycle_runs.specs.Evacuation.OneEvent.{EventsSpareCopies};
 ghost use Rattle.cycle_runs.specs.Evacuation.Due.{PausesComeWhenDue, EvacuationIsWhole, UpdatingIsWhole};
 
 /// A law: after every list of steps each old copy of an object lies in the collection set, and its header leads to the object's one
@@ -13,10 +14,18 @@ pub fn headers_lead_in_runs()
 /// A law: after every list of steps, the next access of a machine, where it is of a word of a copy in the collection set, current or
 /// old, is a load; or it exchanges the copy's header to publish another copy, whose words are those of the object; or nobody copies any
 /// more, and a mutator writes a field or a number of the object at its current copy. It says nothing of the control while it writes an
-/// image back. So outside pauses nobody writes a word of an object that may still be copied, or of one that has moved, and headers change
-/// only where copies are published.
+/// image back. What a step makes of the words is `events_spare_copies`.
 pub fn copies_are_spared()
     ensures { CopiesAreSpared }
+{}
+
+/// A law: after every list of steps one more, of any machine, keeps this of the words that count, unless by it the words that a pause has
+/// computed begin to count. Where a copier found no room and nobody copies any more, it stays so. The header of an object, live, dead or
+/// moved, stays, or it was that of an object that has not moved and leads to a copy then, which the step publishes whole. And the words behind
+/// the header stay of an object of the collection set that may still be copied, of the old copy of one that has moved, of an object that is
+/// promised, and of words that only fill.
+pub fn events_spare_copies()
+    ensures { EventsSpareCopies }
 {}
 
 /// A law: in a pause in phase 2, once all regions are claimed and if there was always room, each marked object of the collection set is

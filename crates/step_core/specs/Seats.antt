@@ -1,7 +1,7 @@
 -- What the ghost state says of a seat is what its machine does, by where it stands; and what a mutator may use, and has asked for.
-use Rattle.std.specs.Prelude.{ℕ, ◌≡◌, ◌⊎◌, ◌<◌, ◌≤◌, Bool, true, false, Option, Some, None}
+use Rattle.std.specs.Prelude.{ℕ, ◌≡◌, ◌⊎◌, ◌+◌, ◌<◌, ◌≤◌, Bool, true, false, Option, Some, None}
 use Rattle.heap_words.specs.declared.config.Config.{Config}
-use Rattle.heap_words.specs.Words.{Root, Wait, Answer}
+use Rattle.heap_words.specs.Words.{Cset, Root, Wait, Answer, Heap}
 use Rattle.shen_graph.specs.declared.name.Name.{Name}
 use Rattle.shen_graph.specs.declared.command.Command.{Command}
 use Rattle.shen_graph.specs.declared.command.Command.TheVariants.{New}
@@ -9,6 +9,8 @@ use Rattle.alloc_buffers.specs.Facts.{HasLess}
 use Rattle.alloc_buffers.specs.declared.spot.TakeSpot.{TakeSpot}
 use Rattle.alloc_buffers.specs.declared.spot.TakeSpot.TheVariants.{LoadFree}
 use Rattle.load_barrier.specs.Alone.{is_copier}
+use Rattle.load_barrier.specs.declared.copying.CopySpot.{CopySpot}
+use Rattle.load_barrier.specs.declared.copying.CopySpot.TheVariants.{StoreWord}
 use Rattle.load_barrier.specs.declared.spot.ResolveSpot.{ResolveSpot}
 use Rattle.load_barrier.specs.declared.spot.ResolveSpot.TheVariants as resolve
 use Rattle.load_barrier.specs.declared.evac_spot.EvacSpot.{EvacSpot}
@@ -36,7 +38,7 @@ use Rattle.helper.specs.declared.spot.HelpSpot.{HelpSpot}
 use Rattle.helper.specs.declared.spot.HelpSpot.TheVariants as help
 use Rattle.control_rows.specs.declared.spot.ControlSpot.{ControlSpot}
 use Rattle.control_rows.specs.declared.spot.ControlSpot.TheVariants as control
-use Rattle.heap_world.specs.World.{World, Scan, hand, name_at, UsableIn}
+use Rattle.heap_world.specs.World.{World, Scan, hand, name_at, Body, body_at, body_words, IsCollected, UsableIn}
 use Rattle.heap_world.specs.Asking.{HasNoPromise}
 use Rattle.step_core.specs.Actor.{Machine, mutating, helping, controlling}
 use Rattle.step_core.specs.Own.{IsInHand}
@@ -144,8 +146,50 @@ abbrev pub looks_for : Machine → Option ℕ
 looks_for (mutating m) = call_looks m.kept m.spot
 looks_for machine = unit_looks (unit_in machine)
 
+-- A word of an object that a machine has loaded and is about to store into its copy: the object's address, the number of the word in the
+-- object, counted from 0, and the word.
+pub record Carried : Type 0 where
+  pub object : ℕ
+  pub index : ℕ
+  pub word : ℕ
+
+-- what a machine carries so, by each part of which copying is one
+abbrev pub copy_carries : (object : ℕ) → CopySpot → Option Carried
+copy_carries object (StoreWord words index found) = Some (record { object = object; index = index; word = found })
+copy_carries object _ = None
+
+abbrev pub resolve_carries : (object : ℕ) → ResolveSpot → Option Carried
+resolve_carries object (resolve.Copying copy at) = copy_carries object at
+resolve_carries object _ = None
+
+abbrev pub evac_carries : EvacSpot → Option Carried
+evac_carries (evac.Resolving address end next at) = resolve_carries address at
+evac_carries _ = None
+
+abbrev pub unit_carries : UnitSpot → Option Carried
+unit_carries (Evacuating cset at) = evac_carries at
+unit_carries _ = None
+
+abbrev pub call_carries : Spot → Option Carried
+call_carries (Resolving address at next) = resolve_carries address at
+call_carries _ = None
+
+abbrev pub carries_of : Machine → Option Carried
+carries_of (mutating m) = call_carries m.spot
+carries_of machine = unit_carries (unit_in machine)
+
+-- the word that is carried stands in the object still, behind the header of a copy in the collection set, current or old
+pub record StandsThere (c : Config) (w : World) (x : Carried) : Type 0 where
+  pub body : Body
+  pub there : body_at (w.block x.object) ≡ Some body
+  pub inside : IsCollected c (w.memory Cset) x.object
+  pub behind : 1 ≤ x.index
+  pub within : x.index < body_words body
+  pub same : x.word ≡ w.memory (Heap (x.object + x.index))
+
 -- The ghost state has of the seat what its machine does, and no room is the seat's but what its machine has in hand. Who is about to look
--- for a free region has a current one with less room than it wants, or none.
+-- for a free region has a current one with less room than it wants, or none; and a word that is on its way from an object into a copy is
+-- the object's word.
 pub record IsInSeat (c : Config) (w : World) (seat : ℕ) (machine : Machine) : Type 0 where
   pub records : w.ghost.recording seat ≡ records_of machine
   pub scans : w.ghost.scanning seat ≡ unit_scan c (unit_in machine)
@@ -153,6 +197,7 @@ pub record IsInSeat (c : Config) (w : World) (seat : ℕ) (machine : Machine) : 
   pub works : w.ghost.working seat ≡ unit_region c (unit_in machine)
   pub hands : (a words : ℕ) → w.block a ≡ Some (hand seat words) → HasRoom machine a words
   pub lacks : (words : ℕ) → looks_for machine ≡ Some words → HasLess c w.memory seat words
+  pub carries : (x : Carried) → carries_of machine ≡ Some x → StandsThere c w x
 
 -- the object that a call works on, or is about to show, by an address that was resolved if that was needed
 abbrev pub before_record : Overwritten → Option ℕ

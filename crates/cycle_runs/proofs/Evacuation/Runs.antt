@@ -1,31 +1,42 @@
 -- What the theorem of the steps says of evacuation.
-use Rattle.std.proofs.Common.{◌≡◌, ℕ, ◌+◌, ◌<◌, ⊎_elim, inl, inr, true, List, [], None, Some, refl, sym, ap, ◌∙◌, subst}
+use Rattle.std.proofs.Common.{◌≡◌, ℕ, ◌⊎◌, ◌+◌, ◌<◌, ⊎_elim, inl, inr, true, List, [], None, Some, refl, sym, ap, ◌∙◌, subst, arith}
 use Rattle.std.specs.Prelude.{slice_get}
 use Rattle.std.proofs.lemmas.Option.{same_Some}
+use Rattle.std.proofs.lemmas.Bool.{and_parts}
 use Rattle.heap_words.specs.declared.config.Config.{Config}
 use Rattle.heap_words.specs.Access.{table_index}
 use Rattle.heap_words.specs.Encoding.{is_forwarded, forwardee_in}
 use Rattle.heap_words.specs.Ranges.{seat_count}
-use Rattle.heap_words.specs.Words.{Cset, Heap, word_at}
+use Rattle.heap_words.specs.declared.access.Access.TheVariants.{Load}
+use Rattle.heap_words.specs.Words.{Cset, Heap, IsWord, image_start, word_at}
+use Rattle.heap_words.proofs.Rows.{words_differ}
+use Rattle.heap_words.proofs.Stores.{is_word_true}
+use Rattle.steps_base.specs.Touch.{Touch, access_at, placed}
+use Rattle.steps_base.proofs.Touches.{table_index-access_at}
 use Rattle.steps_base.specs.Steps.{Stage, Event, go}
 use Rattle.shen_graph.specs.declared.order.Order.{Order}
 use Rattle.shen_graph.specs.Graph.{Graph}
 use Rattle.shen_graph.specs.History.{Entry, after, of_thread}
 use Rattle.handshake.specs.Standing.{is_pausing}
 use Rattle.load_barrier.proofs.Knows.{header_forwarded, header_names}
-use Rattle.heap_world.specs.World.{World, Body, body_at, body_words, IsCollected}
+use Rattle.heap_world.specs.World.{World, Block, thing, words_of, Body, body_at, body_words, IsCollected}
+use Rattle.heap_world.proofs.Pointing.{copy_cases, body_piece}
+use Rattle.move_steps.proofs.Resolving.Bodies.{piece_word_is}
 use Rattle.heap_world.specs.Change.{Change, IsPause}
 use Rattle.move_steps.proofs.Evacuation.Parts.{all_is_forwarded}
-use Rattle.mutator.specs.Rows.{Mutating}
+use Rattle.mutator.specs.Rows.{Mutating, touch_of}
 use Rattle.control_rows.specs.declared.spot.ControlSpot.{ControlSpot}
-use Rattle.control_rows.specs.declared.spot.ControlSpot.TheVariants.{LookFree, Working, Stopping, LoadWord}
-use Rattle.control_rows.specs.Rows.{word_stored}
+use Rattle.control_rows.specs.declared.spot.ControlSpot.TheVariants.{LookFree, Working, Stopping, LoadWord, StoreWord}
+use Rattle.control_rows.specs.Ready.{is_ready}
+use Rattle.control_rows.specs.Rows.{control_seat}
+use Rattle.unit_part.proofs.Inside.{unit_inside}
+use Rattle.handshake.specs.Rows.{stop_touch}
 use Rattle.step_core.specs.Actor.{Machine, mutating, helping, controlling, Actor}
 use Rattle.step_core.specs.Begins.{Begins}
 use Rattle.step_core.specs.History.{history}
 use Rattle.step_core.specs.Machines.{takes_of, plan_of, kind}
 use Rattle.step_core.specs.Pausing.{IsInPause}
-use Rattle.step_core.specs.Settled.{image_read, settled, control_number}
+use Rattle.step_core.specs.Settled.{stored_image, image_read, settled, control_number}
 use Rattle.step_core.specs.Sound.{world_of, IsMutator, StandsFor}
 use Rattle.step_core.specs.Standing.{control_standing}
 use Rattle.step_core.proofs.Theorem.Beginning.{goes_begins}
@@ -34,8 +45,11 @@ use Rattle.step_core.proofs.Theorem.Stands.{thread_of as thread_there, stands as
 use Rattle.step_core.proofs.Theorem.Induction.{Goes, goes_run}
 use Rattle.step_core.proofs.Machines.Roles.{machine_there, number_of, below_control, rests_there}
 use Rattle.step_core.proofs.Theorem.EveryList.{outside_in_pause}
-use Rattle.cycle_runs.specs.Evacuation.Runs.{HaveHeaders, HeadersLeadInRuns, IsPublishing, IsSparing, AreSpared, CopiesAreSpared, AreAllForwarded, AllIsForwardedInRuns}
-use Rattle.cycle_runs.proofs.Evacuation.Sparing.{helper_mild, control_mild, mutator_spare}
+use Rattle.step_core.proofs.Helpers.Stable.{help_word}
+use Rattle.step_core.proofs.Mutators.Ordered.{order_word}
+use Rattle.cycle_runs.specs.Evacuation.Runs.{HaveHeaders, HeadersLeadInRuns, IsPublishing, IsWriting, IsSparing, AreSpared, CopiesAreSpared, AreAllForwarded, AllIsForwardedInRuns}
+use Rattle.cycle_runs.proofs.Evacuation.Writes.{touch_in, WorkIn, machine_writes}
+use Rattle.cycle_runs.proofs.Evacuation.Sparing.{Hits, hits, publishing, body_no_room}
 
 -- What a stage says in which all goes as it should.
 module _ (c : Config) (g : Graph) (s : Stage Actor) (h : List Entry) (goes : Goes c g s h) where
@@ -68,29 +82,80 @@ module _ (c : Config) (g : Graph) (s : Stage Actor) (h : List Entry) (goes : Goe
     once = goes.follows.shared.contents.objects.once;
   }
 
-  module _ (number : ℕ) (order : Order) (a k : ℕ) (b : Body) (inside : IsCollected c (settled c s Cset) a) (is : body_at (goes.follows.block a) ≡ Some b) (below : k < body_words b) where
-    -- what the next access of a machine is, by its role
-    spares : (x : Actor) (machine : Machine) → IsMachine c s.words the_world (of_thread h (number + 1)) number x machine → takes_of machine order ≡ true → image_read machine ≡ None
-        → table_index (plan_of c order machine) ≡ word_at c (Heap (a + k)) → IsSparing c the_world number order machine a k b
-    spares x (mutating m) facts takes out same = ⊎_elim
-        (λ loaded. inl loaded)
-        (λ more. inr (⊎_elim
-        (λ published. inl (subst (λ seat. IsPublishing c the_world seat a b (plan_of c order (mutating m))) facts.number_is published))
-        (λ still. inr (record { mutator = m; is = refl; writes = still.0; behind = still.1.0; current = still.1.1; quiet = still.1.2 }))
-        more))
-        (mutator_spare c the_world goes.follows.shared a k b is below inside m x.command facts.fixed order facts.mine takes same)
-    spares x (helping m) facts takes out same =
-        ⊎_elim (λ loaded. inl loaded) (λ published. inr (inl published)) (helper_mild c the_world goes.follows.shared a k b is below inside number m facts same)
-    spares x (controlling m) facts takes out same = ⊎_elim
-        (λ loaded. inl loaded)
-        (λ published. inr (inl (subst (λ seat. IsPublishing c the_world seat a b (plan_of c order (controlling m))) (sym facts.number_is) published)))
-        (control_mild c the_world goes.follows.shared a k b is below inside m.spot m.image (word_stored m.spot m.image) facts.ready (subst (λ seat. ControlFacts c the_world seat m.spot) facts.number_is facts.facts) out same)
+  -- The access of a machine that stores no word of an image is one of a word by its name, or loads one of the image.
+  abbrev IsNamed : Order → Machine → Type 0
+  IsNamed order machine = ((plan_of c order machine ≡ placed c (touch_in c order machine)) × IsWord c (touch_in c order machine).word) ⊎ ((at : ℕ) × (plan_of c order machine ≡ Load at))
+
+  control_named : (order : Order) (seen phase cset : ℕ) (image : List ℕ) (spot : ControlSpot) → is_ready c spot ≡ true → stored_image spot image ≡ None
+      → IsNamed order (controlling (record { spot = spot; seen = seen; phase = phase; cset = cset; image = image }))
+  control_named order seen phase cset image (Working at) ready out = inl (refl, unit_inside c (control_seat c) at (and_parts _ _ ready).0)
+  control_named order seen phase cset image (Stopping at) ready out = inl (refl, is_word_true c (stop_touch at).word (and_parts _ _ (and_parts _ _ ready).0).0)
+  control_named order seen phase cset image (LoadWord index) ready out = inr (image_start c + index, refl)
+  control_named order seen phase cset image (StoreWord index) ready out = absurd (cc (out))
+  control_named order seen phase cset image _ ready out = inl (refl, tt)
+
+  named : (number : ℕ) (order : Order) (x : Actor) (machine : Machine) → IsMachine c s.words the_world (of_thread h (number + 1)) number x machine → takes_of machine order ≡ true → image_read machine ≡ None → IsNamed order machine
+  named number order x (mutating m) facts takes out = inl (refl, is_word_true c (touch_of c m order).word (order_word c m.seat m.made m.kept order m.spot facts.mine.seated.below facts.mine.ready takes))
+  named number order x (helping m) facts takes out = inl (refl, help_word c the_world number m goes.follows.shared facts)
+  named number order x (controlling m) facts takes out = control_named order m.seen m.phase m.cset m.image m.spot facts.ready out
+
+  module _ (number : ℕ) (order : Order) (a k : ℕ) (b : Body) (inside : IsCollected c (settled c s Cset) a) (is : body_at (goes.follows.block a) ≡ Some b) (below : k < body_words b) (machine : Machine)
+      (same : table_index (plan_of c order machine) ≡ word_at c (Heap (a + k))) where
+    abbrev t : Touch
+    t = touch_in c order machine
+
+    -- a load of the word
+    loads_it : (at : ℕ) → plan_of c order machine ≡ Load at → plan_of c order machine ≡ Load (word_at c (Heap (a + k)))
+    loads_it at plan = plan ∙ ap Load (sym (ap table_index plan) ∙ same)
+
+    -- an access of the word by its name is of it
+    word_of : plan_of c order machine ≡ placed c t → IsWord c t.word → IsWord c (Heap (a + k)) → t.word ≡ Heap (a + k)
+    word_of plan there word = words_differ c t.word (Heap (a + k)) there word (sym (table_index-access_at (word_at c t.word) t.form) ∙ sym (ap table_index plan) ∙ same)
+
+    -- what the access is by what it does to the piece
+    by_hit : (x : Block) → goes.follows.block a ≡ Some x → plan_of c order machine ≡ placed c t → Hits c the_world number t (WorkIn order machine) a k x → IsSparing c the_world number order machine a k b
+    by_hit x there plan (Hits.loads_it form) = inl (loads_it (word_at c t.word) (plan ∙ ap (λ f. access_at (word_at c t.word) f) form))
+    by_hit x there plan (Hits.header more published none) =
+        let one : more ≡ b = same_Some more b (sym published.there ∙ is) in
+        inr (inl (subst (λ y. IsPublishing c the_world number a y (plan_of c order machine)) one (publishing c the_world number a more t (plan_of c order machine) plan published)))
+    by_hit x there plan (Hits.used refs nums name object from target work) = inr (inr (by_work machine work))
+      where
+        by_work : (m : Machine) → WorkIn order m → IsWriting the_world order m a k b
+        by_work (mutating m) writes = record {
+          mutator = m;
+          is = refl;
+          writes = writes;
+          behind = from;
+          current = current_is;
+          quiet = target.safe inside;
+        }
+          where
+            current_is : goes.follows.block a ≡ Some (thing b.name b.refs b.nums)
+            current_is = ⊎_elim (λ now. now) (λ was. absurd (let both = sym target.piece ∙ was.1 in cc)) (copy_cases (goes.follows.block a) b is)
+        by_work (helping m) writes = absurd writes
+        by_work (controlling m) writes = absurd writes
+    by_hit x there plan (Hits.renewed refs nums name object from out) = absurd (out inside)
+
+    -- what the next access of a machine is
+    spares : (x : Actor) → IsMachine c s.words the_world (of_thread h (number + 1)) number x machine → takes_of machine order ≡ true → image_read machine ≡ None → IsSparing c the_world number order machine a k b
+    spares x facts takes out =
+        let piece = body_piece (goes.follows.block a) b is in
+        let long = piece.2 in
+        let within : k < words_of piece.0 = omega (arith, below, long) in
+        ⊎_elim
+        (λ (by_name : (plan_of c order machine ≡ placed c t) × IsWord c t.word).
+        by_hit piece.0 piece.1 by_name.0 (hits c the_world goes.follows.shared number t (WorkIn order machine) a k piece.0 piece.1 within
+        (machine_writes c the_world goes.follows.shared s.words (of_thread h (number + 1)) number x order machine facts)
+        (body_no_room (goes.follows.block a) b is piece.0 piece.1)
+        (word_of by_name.0 by_name.1 (is_word_true c (Heap (a + k)) (piece_word_is c the_world goes.follows.shared a k piece.0 piece.1 within)))))
+        (λ (loaded : (at : ℕ) × (plan_of c order machine ≡ Load at)). inl (loads_it loaded.0 loaded.1))
+        (named number order x machine facts takes out)
 
   -- copies are spared
   pub are_spared : AreSpared c s (after g h)
   are_spared = record {
     stands = stands;
-    spared = λ number x order a k b here takes out inside is below same. spares number order a k b inside is below x x.machine (goes.follows.machines number x here) takes out same;
+    spared = λ number x order a k b here takes out inside is below same. spares number order a k b inside is below x.machine same x (goes.follows.machines number x here) takes out;
   }
 
   module _ (pause : IsInPause c s) where

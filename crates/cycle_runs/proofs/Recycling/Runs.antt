@@ -1,5 +1,6 @@
 -- In each stage that events lead to no region that is free is held.
-use Rattle.std.proofs.Common.{◌≡◌, ℕ, ◌+◌, ◌<◌, ◌≤◌, ⊎_elim, List, [], Option, Some, None, get_or, refl, subst, arith}
+use Rattle.std.proofs.Common.{◌≡◌, ℕ, ◌+◌, ◌<◌, ◌≤◌, ⊎_elim, List, [], Option, Some, None, get_or, refl, ap, ◌∙◌, subst, arith}
+use Rattle.std.specs.Prelude.{◌-◌}
 use Rattle.std.proofs.lemmas.Option.{slice_get-get_or}
 use Rattle.heap_words.specs.declared.config.Config.{Config}
 use Rattle.heap_words.specs.Words.{Free, Answer, Heap}
@@ -37,6 +38,7 @@ use Rattle.step_core.proofs.Theorem.Stands.{thread_of as thread_there, stands as
 use Rattle.step_core.proofs.Theorem.Induction.{Goes, goes_run}
 use Rattle.step_core.proofs.Machines.Requests.{has_asked}
 use Rattle.step_core.proofs.Machines.Roles.{mutator_there}
+use Rattle.step_core.proofs.Machines.Seats.{in_seat}
 use Rattle.step_core.proofs.Mutators.Spots.{mutator_at}
 use Rattle.cycle_runs.specs.Recycling.InHand.{IsUnitHand, IsHelpHand, IsControlHand, IsInHandOf}
 use Rattle.cycle_runs.specs.Recycling.Held.{IsHeld, FreeIsNotHeld, FreeIsNotHeldInRuns}
@@ -122,6 +124,10 @@ module _ (c : Config) (g : Graph) (s : Stage Actor) (h : List Entry) (goes : Goe
   not_held r inside free (IsHeld.by_field a refs nums k name is below of) = field_apart c the_world goes.follows.shared r inside free a refs nums k name is below of
   not_held r inside free (IsHeld.by_hand number a x here hand_is of) =
       machine_hand c the_world goes.follows.shared r inside free s.words (of_thread h (number + 1)) number x x.machine (goes.follows.machines number x here) a hand_is of
+  not_held r inside free (IsHeld.by_carried number x carried refs nums name here carries there from below of) =
+      let stands = (in_seat c s.words the_world (of_thread h (number + 1)) number x x.machine (goes.follows.machines number x here)).carries carried carries in
+      let word : carried.word ≡ the_world.memory (Heap (carried.object + 3 + (carried.index - 3))) = stands.same ∙ ap (λ a. the_world.memory (Heap a)) (omega (arith, from)) in
+      field_apart c the_world goes.follows.shared r inside free carried.object refs nums (carried.index - 3) name there (omega (arith, from, below)) (subst (IsOf c r) word of)
   not_held r inside free (IsHeld.by_piece a x is of) = piece_elsewhere c the_world goes.follows.shared r inside free a x is of
 
   pub free_is_not_held : FreeIsNotHeld c s (after g h)

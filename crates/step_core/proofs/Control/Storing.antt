@@ -85,7 +85,7 @@ module _ (change : Change) (c : Config) (words : List ℕ) (block : Plot) (ghost
       (cases_eq i index)
 
   -- what counts then is what counted
-  counts_then : (b : Bool) → nat_lt (index + 1) (image_words c) ≡ b → mixed c words image ≡ settled_by c words_then (stored_image (if b then StoreWord (index + 1) else Go) (if b then image else []))
+  pub counts_then : (b : Bool) → nat_lt (index + 1) (image_words c) ≡ b → mixed c words image ≡ settled_by c words_then (stored_image (if b then StoreWord (index + 1) else Go) (if b then image else []))
   counts_then true more = sym (mixed_stored c words image at value (omega arith))
   counts_then false all =
       sym (mixed_stored c words image at value (omega arith))

@@ -1,8 +1,7 @@
 -- What holds of a machine says what the ghost state has of its seat, and what a mutator may use.
-use Rattle.std.proofs.Common.{◌≡◌, ℕ, ◌<◌, ◌≤◌, ◌⊎◌, Bool, true, false, List, Option, Some, None, inl, inr, refl, sym, ap, ◌∙◌, subst}
+use Rattle.std.proofs.Common.{◌≡◌, ℕ, ◌<◌, true, false, List, Option, Some, None, inl, inr, refl, sym, ◌∙◌, subst}
 use Rattle.std.proofs.lemmas.Option.{same_Some, none-some}
 use Rattle.heap_words.specs.declared.config.Config.{Config}
-use Rattle.heap_words.specs.Words.{Answer}
 use Rattle.shen_graph.specs.History.{Entry}
 use Rattle.shen_graph.specs.declared.command.Command.{Command}
 use Rattle.shen_graph.specs.declared.command.Reply.{Reply}
@@ -15,10 +14,11 @@ use Rattle.alloc_buffers.specs.declared.spot.TakeSpot.{TakeSpot}
 use Rattle.alloc_buffers.specs.declared.spot.TakeSpot.TheVariants.{LoadFree}
 use Rattle.load_barrier.specs.declared.spot.ResolveSpot.{ResolveSpot}
 use Rattle.load_barrier.specs.declared.spot.ResolveSpot.TheVariants as resolve
-use Rattle.move_steps.specs.Resolving.Facts.{ResolveFacts}
+use Rattle.load_barrier.specs.declared.copying.CopySpot.TheVariants.{StoreWord}
+use Rattle.move_steps.specs.Resolving.Facts.{ResolveFacts, CanResolve}
 use Rattle.load_barrier.specs.declared.evac_spot.EvacSpot.{EvacSpot}
 use Rattle.load_barrier.specs.declared.evac_spot.EvacSpot.TheVariants as evac
-use Rattle.move_steps.specs.Evacuation.Facts.{HasNothing, WorkFacts, CanEvacuate}
+use Rattle.move_steps.specs.Evacuation.Facts.{HasNothing, WorkFacts}
 use Rattle.mutator.specs.declared.spot.Kept.{Kept}
 use Rattle.mutator.specs.declared.spot.Spot.{Spot}
 use Rattle.mutator.specs.declared.spot.Spot.TheVariants.{Entering, OnField, Resolving, Recording, OnNumber, Showing, Making, Waiting}
@@ -45,8 +45,8 @@ use Rattle.control_rows.specs.declared.spot.ControlSpot.{ControlSpot}
 use Rattle.control_rows.specs.declared.spot.ControlSpot.TheVariants as control
 use Rattle.heap_world.specs.World.{World, hand, UsableIn}
 use Rattle.step_core.specs.Actor.{Machine, mutating, helping, controlling, Actor}
-use Rattle.step_core.specs.Seats.{copies_in, IsRoomIn, help_unit, control_unit, unit_scan, unit_copies, unit_region, UnitRoom, take_looks, resolve_looks, evac_looks, unit_looks, make_looks, call_looks, IsInSeat, before_record, before_resolve, works_on, AsksNothing, MakesObject, is_clearing, IsServed}
-use Rattle.step_core.proofs.Machines.Owed.{IsResting, CanWork, HelpFacts, ControlFacts, IsMachine, IsThread}
+use Rattle.step_core.specs.Seats.{copies_in, IsRoomIn, help_unit, control_unit, unit_scan, unit_copies, unit_region, UnitRoom, take_looks, resolve_looks, evac_looks, unit_looks, make_looks, call_looks, Carried, resolve_carries, evac_carries, unit_carries, call_carries, StandsThere, IsInSeat, before_record, before_resolve, works_on, AsksNothing, MakesObject, is_clearing, IsServed}
+use Rattle.step_core.proofs.Machines.Owed.{IsResting, CanWork, HelpFacts, ControlFacts, IsMachine}
 use Rattle.step_core.proofs.Machines.Stepped.{HasObject, FieldFacts, NumberFacts, ShowFacts, RecordFacts, LoadedFacts, MakeFacts, IsResolving, IsMaking, IsPolling, IsAnswered, WaitFacts, SpotFacts, Mine, HasTaken}
 
 -- What the ghost state and the pieces have of a seat that works on a unit of evacuation.
@@ -56,6 +56,7 @@ record OnUnit (c : Config) (w : World) (seat : ℕ) (at : EvacSpot) : Type 0 whe
   copies : w.ghost.copying seat ≡ copies_in at
   hands : (a words : ℕ) → w.block a ≡ Some (hand seat words) → IsRoomIn at a
   lacks : (words : ℕ) → evac_looks at ≡ Some words → HasLess c w.memory seat words
+  carries : (x : Carried) → evac_carries at ≡ Some x → StandsThere c w x
 
 -- who takes room and is about to look for a free region lacks room in its current one, also where it resolves an address
 take_lacks : (c : Config) (w : World) (seat wanted words : ℕ) (take : TakeSpot) → take_looks words take ≡ Some wanted → TakeFacts c w seat words take → HasLess c w.memory seat wanted
@@ -66,30 +67,45 @@ resolve_lacks : (c : Config) (w : World) (seat a wanted : ℕ) (at : ResolveSpot
 resolve_lacks c w seat a wanted (resolve.Taking words take) looks facts = take_lacks c w seat wanted words take looks facts.2.1.facts
 resolve_lacks c w seat a wanted _ looks facts = absurd cc
 
+-- who is about to store a word into its copy has the object's word
+resolve_stands : (c : Config) (w : World) (seat a : ℕ) (at : ResolveSpot) (x : Carried) → resolve_carries a at ≡ Some x → CanResolve c w seat a at → StandsThere c w x
+resolve_stands c w seat a (resolve.Copying copy (StoreWord words index found)) x carries can = subst (StandsThere c w) (same_Some _ x carries) (record {
+  body = can.facts.0;
+  there = can.facts.1;
+  inside = can.inside;
+  behind = can.facts.2.1;
+  within = subst (λ n. index < n) can.facts.2.0 can.facts.2.2;
+  same = can.facts.2.4;
+})
+resolve_stands c w seat a (resolve.Copying copy _) x carries can = absurd cc
+resolve_stands c w seat a _ x carries can = absurd cc
+
 -- where it has nothing
-on_unit_nothing : (c : Config) (w : World) (seat : ℕ) (at : EvacSpot) → copies_in at ≡ false → evac_looks at ≡ None → HasNothing w seat → OnUnit c w seat at
-on_unit_nothing c w seat at copies looks nothing = record {
+on_unit_nothing : (c : Config) (w : World) (seat : ℕ) (at : EvacSpot) → copies_in at ≡ false → evac_looks at ≡ None → evac_carries at ≡ None → HasNothing w seat → OnUnit c w seat at
+on_unit_nothing c w seat at copies looks carries nothing = record {
   records = nothing.records_none;
   scans = nothing.scans_none;
   copies = nothing.copying ∙ sym copies;
   hands = λ a words is. absurd (nothing.hands a words is);
   lacks = λ words is. absurd (none-some words (sym looks ∙ is));
+  carries = λ x is. absurd (none-some x (sym carries ∙ is));
 }
 
 on_unit : (c : Config) (w : World) (seat : ℕ) (at : EvacSpot) → WorkFacts c w seat at → OnUnit c w seat at
-on_unit c w seat evac.LoadClaim facts = on_unit_nothing c w seat evac.LoadClaim refl refl facts
-on_unit c w seat (evac.ClaimUnit unit) facts = on_unit_nothing c w seat (evac.ClaimUnit unit) refl refl facts.0
-on_unit c w seat (evac.LoadTop region) facts = on_unit_nothing c w seat (evac.LoadTop region) refl refl facts.0
-on_unit c w seat (evac.LoadShape address end) facts = on_unit_nothing c w seat (evac.LoadShape address end) refl refl facts.0
-on_unit c w seat (evac.LoadMark address end next) facts = on_unit_nothing c w seat (evac.LoadMark address end next) refl refl facts.0
+on_unit c w seat evac.LoadClaim facts = on_unit_nothing c w seat evac.LoadClaim refl refl refl facts
+on_unit c w seat (evac.ClaimUnit unit) facts = on_unit_nothing c w seat (evac.ClaimUnit unit) refl refl refl facts.0
+on_unit c w seat (evac.LoadTop region) facts = on_unit_nothing c w seat (evac.LoadTop region) refl refl refl facts.0
+on_unit c w seat (evac.LoadShape address end) facts = on_unit_nothing c w seat (evac.LoadShape address end) refl refl refl facts.0
+on_unit c w seat (evac.LoadMark address end next) facts = on_unit_nothing c w seat (evac.LoadMark address end next) refl refl refl facts.0
 on_unit c w seat (evac.Resolving address end next at) facts = record {
   records = facts.1.records_none;
   scans = facts.1.scans_none;
   copies = facts.1.copying;
   hands = facts.1.hands;
   lacks = λ words is. resolve_lacks c w seat address words at is facts.1.facts;
+  carries = λ x is. resolve_stands c w seat address at x is facts.1;
 }
-on_unit c w seat (evac.Ended unit) facts = on_unit_nothing c w seat (evac.Ended unit) refl refl facts
+on_unit c w seat (evac.Ended unit) facts = on_unit_nothing c w seat (evac.Ended unit) refl refl refl facts
 
 -- What the ghost state and the pieces have of a seat that works on a unit, or rests.
 record AtUnit (c : Config) (w : World) (seat : ℕ) (at : UnitSpot) : Type 0 where
@@ -99,6 +115,7 @@ record AtUnit (c : Config) (w : World) (seat : ℕ) (at : UnitSpot) : Type 0 whe
   works : w.ghost.working seat ≡ unit_region c at
   hands : (a words : ℕ) → w.block a ≡ Some (hand seat words) → UnitRoom at a
   lacks : (words : ℕ) → unit_looks at ≡ Some words → HasLess c w.memory seat words
+  carries : (x : Carried) → unit_carries at ≡ Some x → StandsThere c w x
 
 module _ (c : Config) (w : World) (seat : ℕ) where
   at_rest : (unit : Unit) → IsResting w seat → AtUnit c w seat (Ended unit)
@@ -109,6 +126,7 @@ module _ (c : Config) (w : World) (seat : ℕ) where
     works = rests.works_none;
     hands = rests.hands;
     lacks = λ words is. absurd cc;
+    carries = λ x is. absurd cc;
   }
 
   at_unit : (at : UnitSpot) → CanWork c w seat at → AtUnit c w seat at
@@ -119,10 +137,11 @@ module _ (c : Config) (w : World) (seat : ℕ) where
     works = facts.2;
     hands = facts.0.hands;
     lacks = λ words is. absurd cc;
+    carries = λ x is. absurd cc;
   }
   at_unit (Evacuating cset at) facts =
       let unit = on_unit c w seat at facts.facts in
-      record { records = unit.records; scans = unit.scans; copies = unit.copies; works = facts.working; hands = unit.hands; lacks = unit.lacks }
+      record { records = unit.records; scans = unit.scans; copies = unit.copies; works = facts.working; hands = unit.hands; lacks = unit.lacks; carries = unit.carries }
   at_unit (Updating cset at) facts = record {
     records = facts.records_none;
     scans = facts.scanning;
@@ -130,6 +149,7 @@ module _ (c : Config) (w : World) (seat : ℕ) where
     works = facts.working;
     hands = facts.hands;
     lacks = λ words is. absurd cc;
+    carries = λ x is. absurd cc;
   }
   at_unit (Ended Worked) facts = at_rest Worked facts
   at_unit (Ended NoneLeft) facts = at_rest NoneLeft facts.0
@@ -171,6 +191,15 @@ call_lacks c w seat made wanted kept command fixed (Making at) looks facts = mak
 call_lacks c w seat made wanted kept command fixed (Resolving address at next) looks facts = resolving_lacks c w seat address wanted at looks facts.0
 call_lacks c w seat made wanted kept command fixed _ looks facts = absurd cc
 
+resolving_stands : (c : Config) (w : World) (seat address : ℕ) (at : ResolveSpot) (x : Carried) → resolve_carries address at ≡ Some x → IsResolving c w seat address at → StandsThere c w x
+resolving_stands c w seat address at x carries (inl can) = resolve_stands c w seat address at x carries can
+resolving_stands c w seat address (resolve.Copying copy at) x carries (inr follows) = absurd (follows.facts)
+resolving_stands c w seat address _ x carries (inr follows) = absurd cc
+
+call_stands : (c : Config) (w : World) (seat made : ℕ) (kept : Kept) (command : Command) (fixed : Option Reply) (spot : Spot) (x : Carried) → call_carries spot ≡ Some x → SpotFacts c w seat made kept command fixed spot → StandsThere c w x
+call_stands c w seat made kept command fixed (Resolving address at next) x carries facts = resolving_stands c w seat address at x carries facts.0
+call_stands c w seat made kept command fixed _ x carries facts = absurd cc
+
 -- any machine in its seat
 pub in_seat : (c : Config) (words : List ℕ) (w : World) (entries : List Entry) (number : ℕ) (a : Actor) (machine : Machine) → IsMachine c words w entries number a machine → IsInSeat c w number machine
 in_seat c words w entries number a (mutating m) thread =
@@ -181,13 +210,14 @@ in_seat c words w entries number a (mutating m) thread =
       works = thread.mine.copying.works_none;
       hands = thread.mine.hands;
       lacks = λ wanted is. call_lacks c w m.seat m.made wanted m.kept a.command thread.fixed m.spot is thread.mine.facts;
+      carries = λ x is. call_stands c w m.seat m.made m.kept a.command thread.fixed m.spot x is thread.mine.facts;
     })
 in_seat c words w entries number a (helping h) facts =
     let at = help_at c w number h.spot facts.facts in
-    record { records = at.records; scans = at.scans; copies = at.copies; works = at.works; hands = at.hands; lacks = at.lacks }
+    record { records = at.records; scans = at.scans; copies = at.copies; works = at.works; hands = at.hands; lacks = at.lacks; carries = at.carries }
 in_seat c words w entries number a (controlling k) facts =
     let at = control_at c w number k.spot facts.facts in
-    record { records = at.records; scans = at.scans; copies = at.copies; works = at.works; hands = at.hands; lacks = at.lacks }
+    record { records = at.records; scans = at.scans; copies = at.copies; works = at.works; hands = at.hands; lacks = at.lacks; carries = at.carries }
 
 -- What a mutator may use: an object on which it works, by each part of a call.
 module _ (c : Config) (w : World) (seat : ℕ) (k command : Command) (fixed : Option Reply) where

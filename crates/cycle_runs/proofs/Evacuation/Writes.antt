@@ -1,0 +1,327 @@
+-- What the accesses of machines write into the words of the heap and the word of the copiers, by where they stand.
+use Rattle.std.proofs.Common.{◌≡◌, ℕ, inl, inr, ◌+◌, ◌<◌, ◌≤◌, Bool, true, false, List, Some, Option, refl, sym, ap, ◌∙◌, subst, arith}
+use Rattle.heap_words.specs.declared.config.Config.{Config}
+use Rattle.heap_words.specs.Encoding.{plain_header, header_word, refs_in}
+use Rattle.heap_words.specs.Words.{Word, Cset, Evac, Heap}
+use Rattle.heap_words.proofs.Shapes.{refs_in-shape_word}
+use Rattle.steps_base.specs.Touch.{Touch, loads, exchanges, touched}
+use Rattle.shen_graph.specs.declared.name.Name.{Name}
+use Rattle.shen_graph.specs.declared.command.Command.{Command}
+use Rattle.shen_graph.specs.declared.command.Reply.{Reply}
+use Rattle.shen_graph.specs.declared.order.Order.{Order}
+use Rattle.shen_graph.specs.declared.order.Order.TheVariants.{Nothing, Begin, End}
+use Rattle.shen_graph.specs.History.{Entry}
+use Rattle.heap_words.specs.Counter.{IsQuiet}
+use Rattle.handshake.specs.declared.enter_spot.EnterSpot.{EnterSpot}
+use Rattle.handshake.specs.declared.stop_spot.StopSpot.{StopSpot}
+use Rattle.handshake.specs.declared.stop_spot.StopSpot.TheVariants as stop
+use Rattle.handshake.specs.declared.enter_spot.EnterSpot.TheVariants as enter
+use Rattle.handshake.specs.Rows.{enter_touch, stop_touch}
+use Rattle.alloc_buffers.specs.declared.spot.TakeSpot.{TakeSpot}
+use Rattle.alloc_buffers.specs.declared.spot.TakeSpot.TheVariants as take
+use Rattle.alloc_buffers.specs.Rows as takes
+use Rattle.satb_barrier.specs.declared.spot.RememberSpot.{RememberSpot}
+use Rattle.satb_barrier.specs.declared.spot.RememberSpot.TheVariants as remember
+use Rattle.satb_barrier.specs.Rows as satb
+use Rattle.scan_part.specs.declared.spot.ScanSpot.{ScanSpot}
+use Rattle.scan_part.specs.declared.spot.ScanSpot.TheVariants as scan
+use Rattle.scan_part.specs.Rows as scans
+use Rattle.load_barrier.specs.declared.copying.CopySpot.{CopySpot}
+use Rattle.load_barrier.specs.declared.copying.CopySpot.TheVariants.{LoadWord, StoreWord, StoreHeader, Publish, GiveBack}
+use Rattle.load_barrier.specs.declared.spot.ResolveSpot.{ResolveSpot}
+use Rattle.load_barrier.specs.declared.spot.ResolveSpot.TheVariants.{LoadHeader, Entering, LoadShape, Taking, Copying, Leaving, Stopping, LoadAgain, Resolved}
+use Rattle.load_barrier.specs.Rows as resolves
+use Rattle.load_barrier.specs.declared.evac_spot.EvacSpot.{EvacSpot}
+use Rattle.load_barrier.specs.declared.evac_spot.EvacSpot.TheVariants as evac
+use Rattle.load_barrier.specs.UnitRows as evacs
+use Rattle.heap_world.specs.World.{World, thing, hand, Body, body_at, body_words, IsCollected, TargetIn, Shared}
+use Rattle.move_steps.specs.Resolving.Facts.{IsCopied, CanResolve}
+use Rattle.move_steps.proofs.Resolving.Parts.{resolving_steps}
+use Rattle.move_steps.specs.Evacuation.Facts.{CanEvacuate}
+use Rattle.update_part.specs.Rows as updates
+use Rattle.update_part.specs.declared.spot.UpdateSpot.{UpdateSpot}
+use Rattle.update_part.specs.declared.spot.UpdateSpot.TheVariants as update
+use Rattle.move_steps.specs.Updating.Facts.{CanUpdate}
+use Rattle.move_steps.proofs.Updating.Following.{following_steps}
+use Rattle.mutator.specs.declared.spot.Kept.{Kept}
+use Rattle.mutator.specs.declared.spot.Spot.{Spot}
+use Rattle.mutator.specs.declared.spot.Spot.TheVariants.{Rest, Ended, Entering as Enters, LoadPhase, LoadSet, Loading, OnField, Resolving, Recording, OnNumber, Showing, StoreRoot, Making, AskCycle, Waiting, Leave, Gone}
+use Rattle.mutator.specs.declared.loads.LoadSpot.{LoadSpot}
+use Rattle.mutator.specs.declared.loads.LoadSpot.TheVariants as load
+use Rattle.mutator.specs.declared.fields.FieldSpot.{FieldSpot}
+use Rattle.mutator.specs.declared.fields.FieldSpot.TheVariants as fields
+use Rattle.mutator.specs.declared.numbers.NumberSpot.{NumberSpot}
+use Rattle.mutator.specs.declared.numbers.NumberSpot.TheVariants as numbers
+use Rattle.mutator.specs.declared.shows.ShowSpot.{ShowSpot}
+use Rattle.mutator.specs.declared.shows.ShowSpot.TheVariants as show
+use Rattle.mutator.specs.declared.makes.MakeSpot.{MakeSpot}
+use Rattle.mutator.specs.declared.makes.MakeSpot.TheVariants as make
+use Rattle.mutator.specs.declared.waits.WaitSpot.{WaitSpot}
+use Rattle.mutator.specs.declared.waits.WaitSpot.TheVariants as wait
+use Rattle.mutator.specs.Commands.{index_of}
+use Rattle.mutator.specs.Rows.{load_touch, field_place, field_touch, number_place, number_touch, show_touch, make_touch, first_touch, touch_at, touch_of, place_at}
+use Rattle.mutator.specs.WaitRows.{wait_touch}
+use Rattle.unit_part.specs.declared.spot.UnitSpot.{UnitSpot}
+use Rattle.unit_part.specs.declared.spot.UnitSpot.TheVariants as unit
+use Rattle.unit_part.specs.Rows as units
+use Rattle.helper.specs.declared.spot.HelpSpot.{HelpSpot}
+use Rattle.helper.specs.declared.spot.HelpSpot.TheVariants as help
+use Rattle.helper.specs.Rows as helps
+use Rattle.control_rows.specs.declared.spot.ControlSpot.{ControlSpot}
+use Rattle.control_rows.specs.declared.spot.ControlSpot.TheVariants as control
+use Rattle.control_rows.specs.Rows.{control_seat, control_touch}
+use Rattle.step_core.specs.Actor.{Machine, mutating, helping, controlling, Actor}
+use Rattle.step_core.proofs.Machines.Stepped.{FieldFacts, NumberFacts, MakeFacts, IsResolving, SpotFacts}
+use Rattle.step_core.proofs.Machines.Owed.{CanWork, HelpFacts, ControlFacts, IsMachine}
+use Rattle.cycle_runs.specs.Evacuation.Runs.{is_write}
+
+-- the words that are looked at here: those of the heap, and the word of the copiers
+abbrev pub is_watched : Word → Bool
+is_watched (Heap a) = true
+is_watched Evac = true
+is_watched _ = false
+
+-- the exchange on the header at an address that publishes a copy of the object there, by a machine of a seat that copies it
+pub record IsPublication (c : Config) (w : World) (seat a : ℕ) (b : Body) (t : Touch) : Type 0 where
+  pub copy : ℕ
+  pub word : t.word ≡ Heap a
+  pub form : t.form ≡ exchanges plain_header (header_word copy)
+  pub inside : IsCollected c (w.memory Cset) a
+  pub copies : w.ghost.copying seat ≡ true
+  pub there : body_at (w.block a) ≡ Some b
+  pub copied : IsCopied w seat a copy b (body_words b)
+  pub plain : w.memory (Heap copy) ≡ plain_header
+
+-- What an access of the machine of a seat does to those words. It loads one; it is of another word; it moves the word of the copiers, which
+-- stays quiet; it fills room of its own; it publishes a copy; it writes a field or a number of an object that may be used, where it may
+-- work so; or it renews a field of an object outside the collection set.
+pub data Writes (c : Config) (w : World) (seat : ℕ) (t : Touch) (Work : Type 0) : Type 0 where
+  only_loads : t.form ≡ loads → Writes c w seat t Work
+  elsewhere : is_watched t.word ≡ false → Writes c w seat t Work
+  counts : t.word ≡ Evac → (IsQuiet (w.memory Evac) → IsQuiet (touched w.memory t Evac)) → Writes c w seat t Work
+  fills : (a words k : ℕ) → w.block a ≡ Some (hand seat words) → k < words → t.word ≡ Heap (a + k) → Writes c w seat t Work
+  publishes : (a : ℕ) (b : Body) → IsPublication c w seat a b t → Writes c w seat t Work
+  works : (a k refs nums : ℕ) (name : Name) → TargetIn c w a refs nums name → 3 ≤ k → k < 3 + refs + nums → t.word ≡ Heap (a + k) → Work → Writes c w seat t Work
+  renews : (a k refs nums : ℕ) (name : Name) → w.block a ≡ Some (thing name refs nums) → (IsCollected c (w.memory Cset) a → ⊥) → 3 ≤ k → k < 3 + refs + nums → t.word ≡ Heap (a + k)
+      → Writes c w seat t Work
+
+-- the access of a machine by the name of its word: of the control, where it is of no word of an image
+abbrev pub touch_in : Config → Order → Machine → Touch
+touch_in c order (mutating m) = touch_of c m order
+touch_in c order (helping h) = helps.help_touch c h
+touch_in c order (controlling k) = control_touch c k.spot
+
+-- whether it may write fields and numbers of objects: only a mutator does, at the places of these writes
+abbrev pub WorkIn : Order → Machine → Type 0
+WorkIn order (mutating m) = is_write (place_at order m.spot) ≡ true
+WorkIn order _ = ⊥
+
+module _ (c : Config) (w : World) (shared : Shared c w) where
+  -- of who takes room
+  take_writes : (seat words : ℕ) (at : TakeSpot) (Work : Type 0) → Writes c w seat (takes.touch_at seat words at) Work
+  take_writes seat words take.LoadCurrent Work = Writes.elsewhere refl
+  take_writes seat words (take.LoadTop region) Work = Writes.elsewhere refl
+  take_writes seat words take.LoadFree Work = Writes.elsewhere refl
+  take_writes seat words (take.TakeRegion region) Work = Writes.elsewhere refl
+  take_writes seat words (take.StoreCurrent region) Work = Writes.elsewhere refl
+  take_writes seat words (take.StoreTop region top) Work = Writes.elsewhere refl
+  take_writes seat words (take.Ended taken) Work = Writes.elsewhere refl
+
+  -- a step of a resolving leaves the word of the copiers quiet
+  quiet_then : (seat a : ℕ) (at : ResolveSpot) → resolves.is_resolved at ≡ false → CanResolve c w seat a at → IsQuiet (w.memory Evac) → IsQuiet (touched w.memory (resolves.touch_at c seat a at) Evac)
+  quiet_then seat a at going can quiet =
+      let step = resolving_steps.each c w seat a (w.ghost.working seat) at going shared (record { resolves = can; working = refl }) in
+      subst (λ (memory : Word → ℕ). IsQuiet (memory Evac)) step.memory (step.keeps.copies.quiet quiet)
+
+  -- of who copies
+  copy_writes : (seat a copy : ℕ) (at : CopySpot) (Work : Type 0) → CanResolve c w seat a (Copying copy at) → Writes c w seat (resolves.copy_touch c a copy at) Work
+  copy_writes seat a copy (LoadWord words index) Work can = Writes.only_loads refl
+  copy_writes seat a copy (StoreWord words index found) Work can =
+      let less = can.facts.2.2 in let long = can.facts.2.0 in Writes.fills copy (body_words can.facts.0) index can.facts.2.3.room (omega (arith, less, long)) refl
+  copy_writes seat a copy StoreHeader Work can = Writes.fills copy (body_words can.facts.0) 0 can.facts.2.room (omega arith) (ap Heap (omega arith))
+  copy_writes seat a copy Publish Work can = Writes.publishes a can.facts.0 (record {
+    copy = copy;
+    word = refl;
+    form = refl;
+    inside = can.inside;
+    copies = can.copying;
+    there = can.facts.1;
+    copied = can.facts.2.0;
+    plain = can.facts.2.1;
+  })
+  copy_writes seat a copy (GiveBack answer) Work can = Writes.elsewhere refl
+
+  -- of who resolves an address, also while references are updated
+  resolve_writes : (seat a : ℕ) (at : ResolveSpot) (Work : Type 0) → CanResolve c w seat a at → Writes c w seat (resolves.touch_at c seat a at) Work
+  resolve_writes seat a LoadHeader Work can = Writes.only_loads refl
+  resolve_writes seat a (Entering at) Work can = Writes.counts refl (quiet_then seat a (Entering at) refl can)
+  resolve_writes seat a LoadShape Work can = Writes.only_loads refl
+  resolve_writes seat a (Taking words at) Work can = take_writes seat words at Work
+  resolve_writes seat a (Copying copy at) Work can = copy_writes seat a copy at Work can
+  resolve_writes seat a (Leaving answer) Work can = Writes.counts refl (quiet_then seat a (Leaving answer) refl can)
+  resolve_writes seat a (Stopping at) Work can = Writes.counts refl (quiet_then seat a (Stopping at) refl can)
+  resolve_writes seat a LoadAgain Work can = Writes.only_loads refl
+  resolve_writes seat a (Resolved answer) Work can = Writes.only_loads refl
+
+  resolving_writes : (seat a : ℕ) (at : ResolveSpot) (Work : Type 0) → IsResolving c w seat a at → Writes c w seat (resolves.touch_at c seat a at) Work
+  resolving_writes seat a at Work (inl can) = resolve_writes seat a at Work can
+  resolving_writes seat a at Work (inr can) = Writes.only_loads (following_steps.only_loads c w seat a at can)
+
+  -- of who updates references
+  update_writes : (seat cset : ℕ) (at : UpdateSpot) (Work : Type 0) → CanUpdate c w seat cset at → Writes c w seat (updates.touch_at c at) Work
+  update_writes seat cset (update.ClaimUnit unit) Work can = Writes.elsewhere refl
+  update_writes seat cset (update.ExchangeField at field found copy) Work can =
+      let has = can.facts.0 in
+      let holder = can.facts.1.holder in
+      let object = (shared.contents.objects.each at.address holder.1 holder.2 holder.0 holder.3).2 in
+      let less = has.below in
+      let refs = ap refs_in (has.shape_is ∙ object.shape) ∙ refs_in-shape_word holder.1 holder.2 object.few_refs object.few_nums in
+      Writes.renews at.address (3 + field) holder.1 holder.2 holder.0 holder.3 (λ inside. (shared.updated can.phase).outside at.address holder.1 holder.2 holder.0 holder.3 inside)
+      (omega arith) (omega (arith, less, refs)) (ap Heap (omega arith))
+  update_writes seat cset _ Work can = Writes.only_loads refl
+
+  -- of who evacuates
+  evac_writes : (seat cset : ℕ) (at : EvacSpot) (Work : Type 0) → CanEvacuate c w seat cset at → Writes c w seat (evacs.touch_at c seat at) Work
+  evac_writes seat cset (evac.ClaimUnit unit) Work can = Writes.elsewhere refl
+  evac_writes seat cset (evac.Resolving address end next at) Work can = resolve_writes seat address at Work can.facts.1
+  evac_writes seat cset _ Work can = Writes.only_loads refl
+
+  -- of who scans
+  scan_writes : (seat : ℕ) (at : ScanSpot) (Work : Type 0) → Writes c w seat (scans.touch_at c at) Work
+  scan_writes seat (scan.ClaimUnit unit) Work = Writes.elsewhere refl
+  scan_writes seat (scan.SetBlack address) Work = Writes.elsewhere refl
+  scan_writes seat (scan.SetGrey address field refs found) Work = Writes.elsewhere refl
+  scan_writes seat _ Work = Writes.only_loads refl
+
+  -- of who works on a unit
+  unit_writes : (seat : ℕ) (at : UnitSpot) (Work : Type 0) → CanWork c w seat at → Writes c w seat (units.touch_at c seat at) Work
+  unit_writes seat (unit.Scanning at) Work can = scan_writes seat at Work
+  unit_writes seat (unit.Evacuating cset at) Work can = evac_writes seat cset at Work can
+  unit_writes seat (unit.Updating cset at) Work can = update_writes seat cset at Work can
+  unit_writes seat (unit.Ended ended) Work can = Writes.only_loads refl
+
+  -- of who enters, and of who stops the others
+  enter_writes : (seat of : ℕ) (at : EnterSpot) (Work : Type 0) → Writes c w seat (enter_touch of at) Work
+  enter_writes seat of enter.Raise Work = Writes.elsewhere refl
+  enter_writes seat of enter.Look Work = Writes.elsewhere refl
+  enter_writes seat of enter.Lower Work = Writes.elsewhere refl
+  enter_writes seat of enter.Await Work = Writes.elsewhere refl
+  enter_writes seat of enter.Inside Work = Writes.elsewhere refl
+
+  stop_writes : (seat : ℕ) (at : StopSpot) (Work : Type 0) → Writes c w seat (stop_touch at) Work
+  stop_writes seat stop.Raise Work = Writes.elsewhere refl
+  stop_writes seat (stop.Check of) Work = Writes.elsewhere refl
+  stop_writes seat stop.Stopped Work = Writes.elsewhere refl
+
+  -- of a helper
+  help_writes : (seat : ℕ) (spot : HelpSpot) (Work : Type 0) → HelpFacts c w seat spot → Writes c w seat (helps.touch_at c seat spot) Work
+  help_writes seat help.LoadEnd Work facts = Writes.only_loads refl
+  help_writes seat (help.Entering at) Work facts = enter_writes seat seat at Work
+  help_writes seat help.LoadPhase Work facts = Writes.only_loads refl
+  help_writes seat (help.LoadSet phase) Work facts = Writes.only_loads refl
+  help_writes seat (help.Working at) Work facts = unit_writes seat at Work facts
+  help_writes seat help.Leave Work facts = Writes.elsewhere refl
+  help_writes seat help.Gone Work facts = Writes.only_loads refl
+
+  -- of the control, where it stores no word of an image
+  control_writes : (spot : ControlSpot) (Work : Type 0) → ControlFacts c w (control_seat c) spot → Writes c w (control_seat c) (control_touch c spot) Work
+  control_writes control.LookLeft Work facts = Writes.only_loads refl
+  control_writes control.StoreEnd Work facts = Writes.elsewhere refl
+  control_writes control.LookAsked Work facts = Writes.only_loads refl
+  control_writes control.LookFree Work facts = Writes.only_loads refl
+  control_writes (control.Working at) Work facts = unit_writes (control_seat c) at Work facts
+  control_writes (control.Stopping at) Work facts = stop_writes (control_seat c) at Work
+  control_writes (control.LoadWord index) Work facts = Writes.only_loads refl
+  control_writes (control.StoreWord index) Work facts = Writes.only_loads refl
+  control_writes control.Go Work facts = Writes.elsewhere refl
+  control_writes control.Gone Work facts = Writes.only_loads refl
+
+  -- by the parts of a call
+  load_writes : (seat : ℕ) (command : Command) (at : LoadSpot) (Work : Type 0) → Writes c w seat (load_touch seat command at) Work
+  load_writes seat command load.First Work = Writes.only_loads refl
+  load_writes seat command (load.Second first) Work = Writes.only_loads refl
+  load_writes seat command (load.Third first second) Work = Writes.only_loads refl
+  load_writes seat command (load.Shape object second third) Work = Writes.only_loads refl
+
+  field_writes : (seat : ℕ) (kept command : Command) (fixed : Option Reply) (object : ℕ) (at : FieldSpot) → FieldFacts c w seat kept command fixed object at → Writes c w seat (field_touch object kept at) (is_write (field_place at) ≡ true)
+  field_writes seat kept command fixed object fields.Load facts = Writes.only_loads refl
+  field_writes seat kept command fixed object (fields.LoadExpected expect value) facts = Writes.only_loads refl
+  field_writes seat kept command fixed object (fields.LoadOld value) facts = Writes.only_loads refl
+  field_writes seat kept command fixed object (fields.Store value) facts =
+      let set = facts.1 in let within = set.below in Writes.works object (3 + index_of kept) set.of.refs set.of.nums set.of.name set.of.target (omega arith) (omega (arith, within)) (ap Heap (omega arith)) refl
+  field_writes seat kept command fixed object (fields.Swap value) facts =
+      let swap = facts.1 in let within = swap.below in Writes.works object (3 + index_of kept) swap.of.refs swap.of.nums swap.of.name swap.of.target (omega arith) (omega (arith, within)) (ap Heap (omega arith)) refl
+  field_writes seat kept command fixed object (fields.Exchange found expect value) facts =
+      let cas = facts.1 in let within = cas.below in Writes.works object (3 + index_of kept) cas.of.refs cas.of.nums cas.of.name cas.of.target (omega arith) (omega (arith, within)) (ap Heap (omega arith)) refl
+
+  number_writes : (seat : ℕ) (kept command : Command) (fixed : Option Reply) (object refs : ℕ) (at : NumberSpot) → NumberFacts c w seat kept command fixed object refs at
+      → Writes c w seat (number_touch object refs kept at) (is_write (number_place at) ≡ true)
+  number_writes seat kept command fixed object refs numbers.Load facts = Writes.only_loads refl
+  number_writes seat kept command fixed object refs numbers.Store facts =
+      let wr = facts.1 in
+      let within = wr.below in
+      let long = wr.refs_are in
+      Writes.works object (3 + refs + index_of kept) wr.of.refs wr.of.nums wr.of.name wr.of.target (omega arith) (omega (arith, within, long)) (ap Heap (omega arith)) refl
+
+  remember_writes : (seat address : ℕ) (at : RememberSpot) (Work : Type 0) → Writes c w seat (satb.touch_at c seat address at) Work
+  remember_writes seat address remember.LoadCount Work = Writes.elsewhere refl
+  remember_writes seat address (remember.LoadEntry entry) Work = Writes.elsewhere refl
+  remember_writes seat address (remember.MarkEntry entry found) Work = Writes.elsewhere refl
+  remember_writes seat address remember.ClearCount Work = Writes.elsewhere refl
+  remember_writes seat address (remember.StoreEntry entry) Work = Writes.elsewhere refl
+  remember_writes seat address (remember.StoreCount entry) Work = Writes.elsewhere refl
+  remember_writes seat address remember.Recorded Work = Writes.elsewhere refl
+
+  show_writes : (seat value : ℕ) (command : Command) (at : ShowSpot) (Work : Type 0) → Writes c w seat (show_touch seat value command at) Work
+  show_writes seat value command show.LoadName Work = Writes.only_loads refl
+  show_writes seat value command (show.StoreRoot reply) Work = Writes.elsewhere refl
+
+  make_writes : (seat made : ℕ) (kept command : Command) (fixed : Option Reply) (at : MakeSpot) (Work : Type 0) → MakeFacts c w seat made kept command fixed at → Writes c w seat (make_touch seat made kept at) Work
+  make_writes seat made kept command fixed (make.Taking at) Work facts = take_writes seat _ at Work
+  make_writes seat made kept command fixed (make.StoreWord address done) Work facts = Writes.fills address _ done facts.1.room facts.2 refl
+  make_writes seat made kept command fixed (make.StoreRoot address) Work facts = Writes.elsewhere refl
+
+  wait_writes : (seat made : ℕ) (command : Command) (at : WaitSpot) (Work : Type 0) → Writes c w seat (wait_touch seat made command at) Work
+  wait_writes seat made command wait.Poll Work = Writes.elsewhere refl
+  wait_writes seat made command wait.LoadAnswer Work = Writes.elsewhere refl
+  wait_writes seat made command wait.StoreRequest Work = Writes.elsewhere refl
+  wait_writes seat made command wait.AskRoom Work = Writes.elsewhere refl
+  wait_writes seat made command wait.StepOut Work = Writes.elsewhere refl
+  wait_writes seat made command (wait.StoreRoot address) Work = Writes.elsewhere refl
+  wait_writes seat made command (wait.ClearAnswer reply) Work = Writes.elsewhere refl
+
+  -- between two calls
+  first_writes : (seat : ℕ) (order : Order) (Work : Type 0) → Writes c w seat (first_touch seat order) Work
+  first_writes seat Nothing Work = Writes.elsewhere refl
+  first_writes seat (Begin command) Work = Writes.elsewhere refl
+  first_writes seat End Work = Writes.elsewhere refl
+
+  -- of a mutator
+  spot_writes : (seat made : ℕ) (kept : Kept) (command : Command) (fixed : Option Reply) (order : Order) (spot : Spot) → SpotFacts c w seat made kept command fixed spot
+      → Writes c w seat (touch_at c seat made kept order spot) (is_write (place_at order spot) ≡ true)
+  spot_writes seat made kept command fixed order Rest facts = first_writes seat order _
+  spot_writes seat made kept command fixed order (Ended reply) facts = first_writes seat order _
+  spot_writes seat made kept command fixed order (Enters at next) facts = enter_writes seat seat at _
+  spot_writes seat made kept command fixed order LoadPhase facts = Writes.only_loads refl
+  spot_writes seat made kept command fixed order LoadSet facts = Writes.only_loads refl
+  spot_writes seat made kept command fixed order (Loading at) facts = load_writes seat kept.command at _
+  spot_writes seat made kept command fixed order (OnField object at) facts = field_writes seat kept.command command fixed object at facts
+  spot_writes seat made kept command fixed order (Resolving address at next) facts = resolving_writes seat address at _ facts.0
+  spot_writes seat made kept command fixed order (Recording at address next) facts = remember_writes seat address at _
+  spot_writes seat made kept command fixed order (OnNumber object refs at) facts = number_writes seat kept.command command fixed object refs at facts
+  spot_writes seat made kept command fixed order (Showing value at) facts = show_writes seat value kept.command at _
+  spot_writes seat made kept command fixed order (StoreRoot value) facts = Writes.elsewhere refl
+  spot_writes seat made kept command fixed order (Making at) facts = make_writes seat made kept.command command fixed at _ facts
+  spot_writes seat made kept command fixed order AskCycle facts = Writes.elsewhere refl
+  spot_writes seat made kept command fixed order (Waiting at) facts = wait_writes seat made kept.command at _
+  spot_writes seat made kept command fixed order (Leave reply) facts = Writes.elsewhere refl
+  spot_writes seat made kept command fixed order Gone facts = Writes.only_loads refl
+
+  -- and of any machine
+  pub machine_writes : (words : List ℕ) (entries : List Entry) (number : ℕ) (x : Actor) (order : Order) (machine : Machine) → IsMachine c words w entries number x machine → Writes c w number (touch_in c order machine) (WorkIn order machine)
+  machine_writes words entries number x order (mutating m) facts =
+      subst (λ seat. Writes c w seat (touch_of c m order) (is_write (place_at order m.spot) ≡ true)) facts.number_is (spot_writes m.seat m.made m.kept x.command facts.fixed order m.spot facts.mine.facts)
+  machine_writes words entries number x order (helping h) facts =
+      subst (λ seat. Writes c w seat (helps.help_touch c h) ⊥) facts.number_is (help_writes h.seat h.spot ⊥ (subst (λ seat. HelpFacts c w seat h.spot) (sym facts.number_is) facts.facts))
+  machine_writes words entries number x order (controlling k) facts =
+      subst (λ seat. Writes c w seat (control_touch c k.spot) ⊥) (sym facts.number_is) (control_writes k.spot ⊥ (subst (λ seat. ControlFacts c w seat k.spot) facts.number_is facts.facts))
