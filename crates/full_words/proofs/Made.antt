@@ -14,7 +14,7 @@ use Rattle.regions.specs.Sets.{all_but}
 use Rattle.shen_graph.specs.declared.name.Name.{Name}
 use Rattle.shen_graph.specs.Graph.{Graph, Object, Reference, blank, same_name, same_reference}
 use Rattle.shen_graph.proofs.PlainLemmas.{same_name-true, same_name-itself}
-use Rattle.heap_world.specs.World.{Block, thing, moved, spent, hand, promised, filler, words_of, Plot, name_at, Points, IsThing, AreObjects, IsFreeWord}
+use Rattle.heap_world.specs.World.{Block, thing, words_of, Plot, name_at, Points, IsThing, AreObjects, IsFreeWord}
 use Rattle.heap_world.proofs.Updates.{updated, updated_else, updated_there}
 use Rattle.heap_world.proofs.Keeping.{points_stay}
 use Rattle.heap_world.proofs.Pieces.{beside, piece_cases, object_reads}
@@ -22,7 +22,7 @@ use Rattle.heap_world.proofs.FreeRegions.{free_without}
 use Rattle.heap_world.proofs.Joined as joined
 use Rattle.heap_world.proofs.Joined.{CanJoin}
 use Rattle.full_words.specs.Plot.{AreThings}
-use Rattle.full_words.proofs.Named.{no_spent, no_hand, no_promised, no_filler}
+use Rattle.full_words.proofs.Named.{named_things}
 use Rattle.full_words.specs.Full.{made_word, made_in}
 use Rattle.full_words.specs.Promised.{Promises, with_promised}
 use Rattle.full_words.specs.Image.{AnswerStands, ImageStands}
@@ -112,20 +112,12 @@ module _ (c : Config) (m : Word → ℕ) (block : Plot) (g : Graph) (p : Promise
   can : CanJoin c top block r (m (Top r)) piece
   can = record {
     plotted = stands.plotted;
-    long = long;
+    long = (named_things block stands.things).some;
     within = within;
     top_is = refl;
     room = room;
     some = omega arith;
   }
-    where
-      long : (a : ℕ) (b : Block) → block a ≡ Some b → 1 ≤ words_of b
-      long a (thing name refs nums) is = omega arith
-      long a (moved name refs nums to) is = omega arith
-      long a (spent words to) is = absurd (no_spent block stands.things a words to is)
-      long a (hand seat words) is = absurd (no_hand block stands.things a seat words is)
-      long a (promised seat words) is = absurd (no_promised block stands.things a seat words is)
-      long a (filler words) is = absurd (no_filler block stands.things a words is)
 
   names_stay : (a : ℕ) (name : Name) → name_at (block a) ≡ Some name → name_at (new_block a) ≡ Some name
   names_stay = joined.names_stay c top block r (m (Top r)) piece can

@@ -16,7 +16,7 @@ use Rattle.full_words.proofs.Served.{served_first, turn_idle, turn_waits}
 use Rattle.image_graph.specs.Holds.{HoldsSome}
 use Rattle.cycle_pauses.proofs.Full.ByCopies.{by_copies}
 use Rattle.cycle_pauses.proofs.Full.Promises.{promises_of}
-use Rattle.cycle_pauses.proofs.Full.Dead.{plain}
+use Rattle.cycle_pauses.proofs.Full.Before.{live}
 use Rattle.cycle_pauses.proofs.Full.Holding.{waits_for, holds_by, holds_some}
 use Rattle.cycle_pauses.proofs.Full.Pauses.{paused}
 use Rattle.cycle_words.proofs.Marking.Alike.{holds_alike}
@@ -212,11 +212,11 @@ module _ (c : Config) (m : Word → ℕ) (g : Graph) (asking : ℕ → Asking) (
       ∣ (
         g,
         (
-          plain c asked_word g then stands,
+          live c asked_word g then stands,
           stands.ghost.owner,
           promises_of c g then,
           holds_alike asked_word w (record { heap = λ a. refl; top = λ q. refl; root = λ t i. refl; answer = λ t. refl; wait = λ t. refl; current = λ s. refl; free = refl; cset = refl })
-              c (plain c asked_word g then stands) stands.ghost.owner (promises_of c g then) g holds,
+              c (live c asked_word g then stands) stands.ghost.owner (promises_of c g then) g holds,
         ),
       ) ∣₁
 

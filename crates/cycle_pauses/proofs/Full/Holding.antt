@@ -18,9 +18,8 @@ use Rattle.full_words.specs.Promised.{Promises, AreFresh}
 use Rattle.full_words.specs.Serving.{asked_shape, asked_name, IsAsking}
 use Rattle.image_graph.specs.Holds.{HasMoved, HoldsBy, HoldsSome}
 use Rattle.cycle_pauses.proofs.Full.Promises.{promised_ref, promises_of, ref_of, promised_one}
-use Rattle.cycle_pauses.proofs.Full.Before.{not_next}
-use Rattle.cycle_pauses.proofs.Full.Current.{led_to, header_of, Kind, is_current, is_old, kind_at, reached_at}
-use Rattle.cycle_pauses.proofs.Full.Dead.{plain, IsPlain, is_live, is_dead, plain_at, plain_live, plain_rooted, plain_holds, plain_filled, plain_things}
+use Rattle.cycle_pauses.proofs.Full.Before.{live, not_next, live_rooted, live_filled, live_unpromised, live_unheld, live_some}
+use Rattle.cycle_pauses.proofs.Full.Current.{led_to, header_of, Kind, is_current, is_old, kind_at, old_thing, live_holds, reached_at}
 
 -- A request reads as what it was made of.
 pub record ReadsAs (memory : Word → ℕ) (t count refs nums : ℕ) : Type 0 where
@@ -124,29 +123,25 @@ module _ (c : Config) (m : Word → ℕ) (g : Graph) (asking : ℕ → Asking) (
   }
 
   -- where a header leads on, an old copy is
-  moved_live : (a refs nums : ℕ) (name : Name) → is_forwarded (m (Heap a)) ≡ true → Kind c m g asking r a refs nums name → HasMoved c m (plain c m g asking r) a refs nums name
-  moved_live a refs nums name forwarded (is_current here) = absurd (true≢false (sym forwarded ∙ ap is_forwarded (header_of c m g asking r a here)))
-  moved_live a refs nums name forwarded (is_old to was) =
+  moved_by : (a refs nums : ℕ) (name : Name) → is_forwarded (m (Heap a)) ≡ true → Kind c m g asking r a refs nums name → HasMoved c m (live c m g asking r) a refs nums name
+  moved_by a refs nums name forwarded (is_current here) = absurd (true≢false (sym forwarded ∙ ap is_forwarded (header_of c m g asking r a here)))
+  moved_by a refs nums name forwarded (is_old to was) =
       let there = led_to m a to was.header in
       record {
         in_set = was.inside;
-        copy = ap (plain c m g asking r) there ∙ plain_live c m g asking r to refs nums name was.same;
+        copy = ap (live c m g asking r) there ∙ was.same;
         outside = not_in (m Cset) (region_with c (now_in m a)) (λ inside. was.outside (subst (λ k. IsCollected c (m Cset) k) there inside));
         current = ap (λ k. is_forwarded (m (Heap k))) there ∙ ap is_forwarded (header_of c m g asking r to was.copy);
       }
 
-  moved_by : (a refs nums : ℕ) (name : Name) → is_forwarded (m (Heap a)) ≡ true → IsPlain c m g asking r a refs nums name → HasMoved c m (plain c m g asking r) a refs nums name
-  moved_by a refs nums name forwarded (is_live here) = moved_live a refs nums name forwarded (kind_at c m g asking r a refs nums name here)
-  moved_by a refs nums name forwarded (is_dead words here) = absurd (true≢false (sym forwarded ∙ ap is_forwarded (r.shared.unwritten.headers a words here)))
-
   -- so the image holds the graph
-  pub holds_by : HoldsBy c m (plain c m g asking r) r.ghost.owner p g
+  pub holds_by : HoldsBy c m (live c m g asking r) r.ghost.owner p g
   holds_by = record {
-    objects = plain_holds c m g asking r;
-    rooted = plain_rooted c m g asking r;
-    moved = λ a refs nums name is forwarded. moved_by a refs nums name forwarded (plain_at c m g asking r a refs nums name is);
-    filled = plain_filled c m g asking r;
-    things = plain_things c m g asking r;
+    objects = live_holds c m g asking r;
+    rooted = live_rooted c m g asking r;
+    moved = λ a refs nums name is forwarded. moved_by a refs nums name forwarded (kind_at c m g asking r a refs nums name is);
+    filled = live_filled c m g asking r;
+    pieces = record { named = old_thing c m g asking r; unpromised = live_unpromised c m g asking r; unheld = live_unheld c m g asking r; some = live_some c m g asking r };
     free_word = r.shared.owned.free_word;
     currents = r.shared.owned.currents;
     asking = λ t from inside waits. are_asking t inside waits;
@@ -159,4 +154,4 @@ module _ (c : Config) (m : Word → ℕ) (g : Graph) (asking : ℕ → Asking) (
   }
 
   pub holds_some : HoldsSome c m
-  holds_some = ∣ (g, (plain c m g asking r, r.ghost.owner, p, holds_by)) ∣₁
+  holds_some = ∣ (g, (live c m g asking r, r.ghost.owner, p, holds_by)) ∣₁

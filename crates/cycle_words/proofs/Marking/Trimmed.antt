@@ -1,0 +1,117 @@
+-- Words that hold a graph hold it by other pieces, too, where what can be reached stands as it stood and no new object does.
+use Rattle.std.proofs.Common.{◌≡◌, ◌≢◌, ℕ, ◌+◌, ◌<◌, ◌≤◌, true, Some, None, Option, inl, inr, ⊎_elim, ap, ◌∙◌, arith}
+use Rattle.std.specs.Int.{bit_at}
+use Rattle.std.proofs.lemmas.Nat.Bits.{bit_at-zero}
+use Rattle.std.proofs.lemmas.Option.{slice_get_within}
+use Rattle.heap_words.specs.declared.config.Config.{Config}
+use Rattle.heap_words.specs.Words.{Word, Cset, Top, Root, Answer, Heap}
+use Rattle.heap_words.specs.Encoding.{is_forwarded, refs_in}
+use Rattle.regions.specs.Place.{region_with}
+use Rattle.shen_graph.specs.declared.name.Name.{Name}
+use Rattle.shen_graph.specs.Graph.{Graph, Reference, Object}
+use Rattle.heap_world.specs.World.{Plot, thing, name_at, Points, IsPlotted, IsThing}
+use Rattle.full_words.specs.Held.{IsAmong, IsCopy, HoldsGraph}
+use Rattle.full_words.specs.Full.{now_in, root_words}
+use Rattle.full_words.specs.Promised.{Promises, with_promised}
+use Rattle.full_words.specs.Image.{AnswerStands, RootsStand}
+use Rattle.full_words.proofs.Reached.{refs_read, none_at_0}
+use Rattle.full_words.proofs.Roots.{root_among, answer_among}
+use Rattle.image_graph.specs.Holds.{HoldsBy}
+use Rattle.cycle_words.specs.Marking.WhileMarking.{CanBeReached}
+use Rattle.cycle_words.proofs.Marking.Plain.{own_copy, root_reached, field_reached}
+
+module _ (c : Config) (m : Word → ℕ) (block : Plot) (owner : ℕ → Option ℕ) (p : Promises) (g : Graph) (holds : HoldsBy c m block owner p g) (calm : m Cset ≡ 0)
+    (new_top : ℕ → ℕ) (left : Plot) (plotted : IsPlotted c new_top left) (reached_stays : (a : ℕ) → CanBeReached c m a → left a ≡ block a)
+    (named : (a : ℕ) (name : Name) → name_at (left a) ≡ Some name → IsCopy left a name)
+    (was : (a refs nums : ℕ) (name : Name) → left a ≡ Some (thing name refs nums) → block a ≡ Some (thing name refs nums)) where
+  abbrev heap : ℕ → ℕ
+  heap a = m (Heap a)
+
+  abbrev top : ℕ → ℕ
+  top r = m (Top r)
+
+  abbrev IsRoot : ℕ → Type 0
+  IsRoot = IsAmong (root_words c m)
+
+  abbrev more : Graph
+  more = with_promised g p
+
+  root_stays : (word : ℕ) → IsRoot word → word ≢ 0 → left word ≡ block word
+  root_stays word among some = reached_stays word (root_reached c m block owner p g holds calm word among some)
+
+  named_stays : (word : ℕ) → left word ≡ block word → name_at (left word) ≡ name_at (block word)
+  named_stays word stays = ap name_at stays
+
+  points_stay : (word : ℕ) (r : Reference) → (word ≢ 0 → left word ≡ block word) → Points block word r → Points left word r
+  points_stay word None stays points = points
+  points_stay word (Some name) stays points =
+      let some = none_at_0 c top block holds.objects.plotted word name points in
+      named_stays word (stays some) ∙ points
+
+  object_stays : (a refs nums : ℕ) (name : Name) (o : Object) → CanBeReached c m a → IsThing heap block a refs nums name o → IsThing heap left a refs nums name o
+  object_stays a refs nums name o held is = record {
+    header = is.header;
+    shape = is.shape;
+    name_word = is.name_word;
+    few_refs = is.few_refs;
+    few_nums = is.few_nums;
+    refs_are = is.refs_are;
+    nums_are = is.nums_are;
+    references = λ i r there.
+        let few = slice_get_within o.refs i r there in
+        let shape : refs_in (heap (a + 1)) ≡ refs = ap refs_in is.shape ∙ refs_read refs nums is.few_refs is.few_nums in
+        points_stay (heap (a + 3 + i)) r
+        (λ some. reached_stays (heap (a + 3 + i)) (field_reached c m block owner p g holds calm a i held (omega (arith, few, shape, is.refs_are)) some))
+        (is.references i r there);
+    numbers = is.numbers;
+  }
+
+  pub trimmed_objects : HoldsGraph c new_top heap left (now_in m) IsRoot more
+  trimmed_objects = record {
+    plotted = plotted;
+    current = λ word name is.
+        let piece = named word name is in
+        let own = own_copy c m block owner p g holds calm word piece.0 piece.1 name (was word piece.0 piece.1 name piece.2) in
+        (piece.0, piece.1, ap left own ∙ piece.2);
+    each = λ a refs nums name held is.
+        let object = holds.objects.each a refs nums name held (was a refs nums name is) in
+        (object.0, object.1, object_stays a refs nums name object.0 held object.2);
+    once = λ a b refs nums more_refs more_nums name held other first second.
+        holds.objects.once a b refs nums more_refs more_nums name held other (was a refs nums name first) (was b more_refs more_nums name second);
+    root_named = λ word among some.
+        let named_then = holds.objects.root_named word among some in
+        (named_then.0, named_then.1, named_then.2, named_then.3, named_stays word (root_stays word among some) ∙ named_then.4);
+    root_held = λ t i name is.
+        let held = holds.objects.root_held t i name is in
+        let some = none_at_0 c top block holds.objects.plotted held.0 name held.2 in
+        (held.0, held.1, named_stays held.0 (root_stays held.0 held.1 some) ∙ held.2);
+  }
+
+  answer_stays : (word : ℕ) (r : Reference) → (1 < word → left word ≡ block word) → AnswerStands block word r → AnswerStands left word r
+  answer_stays word r stays stands = ⊎_elim
+      (λ (none : (word ≤ 1) × (r ≡ None)). inl none)
+      (λ (some : (1 < word) × (name : Name) × (r ≡ Some name) × (name_at (block word) ≡ Some name)).
+      inr (some.0, some.1, some.2, named_stays word (stays some.0) ∙ some.3))
+      stands
+
+  pub trimmed_rooted : RootsStand c m left g p
+  trimmed_rooted = record {
+    roots = λ t i below few.
+        points_stay (m (Root t i)) (g.root (t + 1) i)
+        (root_stays (m (Root t i)) (root_among c top m block g p holds.objects.plotted holds.rooted t i below few))
+        (holds.rooted.roots t i below few);
+    answers = λ t below.
+        answer_stays (m (Answer t)) (p.ref (t + 1))
+        (λ some. root_stays (m (Answer t)) (answer_among c top m block g p holds.objects.plotted holds.rooted t below some) (λ zero'. omega (arith, some, zero')))
+        (holds.rooted.answers t below);
+    no_more_roots = holds.rooted.no_more_roots;
+    no_more_promised = holds.rooted.no_more_promised;
+  }
+
+  -- no object has moved
+  pub trimmed_unmoved : (a refs nums : ℕ) (name : Name) → left a ≡ Some (thing name refs nums) → is_forwarded (heap a) ≡ true → ⊥
+  trimmed_unmoved a refs nums name is forwarded =
+      let moved = holds.moved a refs nums name (was a refs nums name is) forwarded in
+      let none : bit_at (m Cset) (region_with c a) ≡ 0 = ap (λ k. bit_at k (region_with c a)) calm ∙ bit_at-zero (region_with c a) in
+      let set = moved.in_set in
+      omega (arith, set, none)
