@@ -1,10 +1,11 @@
 -- What the ghost state says of a seat is what its machine does, by where it stands; and what a mutator may use, and has asked for.
-use Rattle.std.specs.Prelude.{ℕ, ◌≡◌, ◌⊎◌, ◌+◌, ◌<◌, ◌≤◌, Bool, true, false, Option, Some, None}
+use Rattle.std.specs.Prelude.{ℕ, ◌≡◌, ◌⊎◌, ◌+◌, ◌<◌, ◌≤◌, Bool, true, false, Option, Some, None, length}
 use Rattle.heap_words.specs.declared.config.Config.{Config}
 use Rattle.heap_words.specs.Words.{Cset, Root, Wait, Answer, Heap}
-use Rattle.shen_graph.specs.declared.name.Name.{Name}
 use Rattle.shen_graph.specs.declared.command.Command.{Command}
 use Rattle.shen_graph.specs.declared.command.Command.TheVariants.{New}
+use Rattle.shen_graph.specs.declared.command.Reply.{Reply}
+use Rattle.shen_graph.specs.declared.command.Reply.TheVariants.{Ref}
 use Rattle.alloc_buffers.specs.Facts.{HasLess}
 use Rattle.alloc_buffers.specs.declared.spot.TakeSpot.{TakeSpot}
 use Rattle.alloc_buffers.specs.declared.spot.TakeSpot.TheVariants.{LoadFree}
@@ -24,7 +25,13 @@ use Rattle.move_steps.specs.Evacuation.Facts.{working_of}
 use Rattle.move_steps.specs.Updating.Facts.{pass_of}
 use Rattle.mutator.specs.declared.spot.Kept.{Kept}
 use Rattle.mutator.specs.declared.spot.Spot.{Spot}
-use Rattle.mutator.specs.declared.spot.Spot.TheVariants.{OnField, Resolving, Recording, OnNumber, Showing, Making, Waiting}
+use Rattle.mutator.specs.declared.spot.Spot.TheVariants.{Entering, Loading, OnField, Resolving, Recording, OnNumber, Showing, StoreRoot, Making, Waiting}
+use Rattle.mutator.specs.declared.spot.Entered.TheVariants.{Waited}
+use Rattle.mutator.specs.declared.loads.LoadSpot.{LoadSpot}
+use Rattle.mutator.specs.declared.loads.LoadSpot.TheVariants as load
+use Rattle.mutator.specs.declared.fields.FieldSpot.{FieldSpot}
+use Rattle.mutator.specs.declared.fields.FieldSpot.TheVariants as fields
+use Rattle.mutator.specs.Commands.{command_roots}
 use Rattle.mutator.specs.declared.makes.MakeSpot.{MakeSpot}
 use Rattle.mutator.specs.declared.makes.MakeSpot.TheVariants as make
 use Rattle.mutator.specs.declared.overwrites.Overwritten.{Overwritten}
@@ -38,7 +45,7 @@ use Rattle.helper.specs.declared.spot.HelpSpot.{HelpSpot}
 use Rattle.helper.specs.declared.spot.HelpSpot.TheVariants as help
 use Rattle.control_rows.specs.declared.spot.ControlSpot.{ControlSpot}
 use Rattle.control_rows.specs.declared.spot.ControlSpot.TheVariants as control
-use Rattle.heap_world.specs.World.{World, Scan, hand, name_at, Body, body_at, body_words, IsCollected, UsableIn}
+use Rattle.heap_world.specs.World.{World, Scan, hand, Body, body_at, body_words, IsCollected, UsableIn, TargetIn}
 use Rattle.heap_world.specs.Asking.{HasNoPromise}
 use Rattle.step_core.specs.Actor.{Machine, mutating, helping, controlling}
 use Rattle.step_core.specs.Own.{IsInHand}
@@ -187,7 +194,7 @@ pub record StandsThere (c : Config) (w : World) (x : Carried) : Type 0 where
   pub within : x.index < body_words body
   pub same : x.word ≡ w.memory (Heap (x.object + x.index))
 
--- The ghost state has of the seat what its machine does, and no room is the seat's but what its machine has in hand. Who is about to look
+-- The ghost state has of the seat what its machine does, and room is the seat's exactly where its machine has it in hand. Who is about to look
 -- for a free region has a current one with less room than it wants, or none; and a word that is on its way from an object into a copy is
 -- the object's word.
 pub record IsInSeat (c : Config) (w : World) (seat : ℕ) (machine : Machine) : Type 0 where
@@ -196,6 +203,7 @@ pub record IsInSeat (c : Config) (w : World) (seat : ℕ) (machine : Machine) : 
   pub copies : w.ghost.copying seat ≡ copies_of machine
   pub works : w.ghost.working seat ≡ unit_region c (unit_in machine)
   pub hands : (a words : ℕ) → w.block a ≡ Some (hand seat words) → HasRoom machine a words
+  pub holds : (a words : ℕ) → HasRoom machine a words → (more : ℕ) × (w.block a ≡ Some (hand seat more))
   pub lacks : (words : ℕ) → looks_for machine ≡ Some words → HasLess c w.memory seat words
   pub carries : (x : Carried) → carries_of machine ≡ Some x → StandsThere c w x
 
@@ -216,9 +224,50 @@ works_on (Recording at address next) = before_record next
 works_on (Resolving address at next) = before_resolve next
 works_on _ = None
 
--- a mutator has taken what it was answered: its answer leads to a copy of an object of the graph, or it leads nowhere
-abbrev pub HasTaken : World → ℕ → Type 0
-HasTaken w seat = (w.memory (Answer seat) ≤ 1) ⊎ ((name : Name) × (name_at (w.block (w.memory (Answer seat))) ≡ Some name))
+-- the roots that a call has loaded, and still needs: while it loads them, while it works on a field, and once it has resolved or recorded
+-- what it found there
+abbrev pub IsOfRoots : Command → LoadSpot → ℕ → Type 0
+IsOfRoots k load.First a = ⊥
+IsOfRoots k (load.Second first) a = a ≡ first
+IsOfRoots k (load.Third first second) a = (a ≡ first) ⊎ (a ≡ second)
+IsOfRoots k (load.Shape object second third) a = (a ≡ object) ⊎ (((1 < length (command_roots k)) × (a ≡ second)) ⊎ ((2 < length (command_roots k)) × (a ≡ third)))
+
+abbrev pub IsOfField : FieldSpot → ℕ → Type 0
+IsOfField fields.Load a = ⊥
+IsOfField (fields.LoadExpected expect value) a = (a ≡ expect) ⊎ (a ≡ value)
+IsOfField (fields.LoadOld value) a = a ≡ value
+IsOfField (fields.Store value) a = a ≡ value
+IsOfField (fields.Swap value) a = a ≡ value
+IsOfField (fields.Exchange found expect value) a = (a ≡ expect) ⊎ (a ≡ value)
+
+abbrev pub IsOfLoaded : Loaded → ℕ → Type 0
+IsOfLoaded ForRoot a = ⊥
+IsOfLoaded (ToCompare object expect value) a = (a ≡ expect) ⊎ (a ≡ value)
+
+abbrev pub IsOfOverwritten : Overwritten → ℕ → Type 0
+IsOfOverwritten (overwrites.Set object value) a = a ≡ value
+IsOfOverwritten _ a = ⊥
+
+abbrev pub IsOfCall : Command → Spot → ℕ → Type 0
+IsOfCall k (Loading at) a = IsOfRoots k at a
+IsOfCall k (OnField object at) a = IsOfField at a
+IsOfCall k (Resolving address at next) a = IsOfLoaded next a
+IsOfCall k (Recording at address next) a = IsOfOverwritten next a
+IsOfCall k (StoreRoot value) a = a ≡ value
+IsOfCall k _ a = ⊥
+
+-- a mutator has taken what it was answered, and this is its reply: its answer is the address of the object of that name, which may be used;
+-- or it says that the heap is full
+abbrev pub HasTaken : Config → World → ℕ → Reply → Type 0
+HasTaken c w seat (Ref name) = (refs : ℕ) × (nums : ℕ) × TargetIn c w (w.memory (Answer seat)) refs nums name
+HasTaken c w seat _ = w.memory (Answer seat) ≡ 1
+
+-- whether a mutator has found that it is answered, and not taken that yet
+abbrev pub is_answered : Spot → Bool
+is_answered (Entering at Waited) = true
+is_answered (Waiting wait.LoadAnswer) = true
+is_answered (Waiting (wait.StoreRoot address)) = true
+is_answered _ = false
 
 -- the words of a mutator say that it asks for nothing, and nothing is promised to it
 pub record AsksNothing (w : World) (seat : ℕ) : Type 0 where
@@ -242,6 +291,9 @@ is_clearing _ = false
 pub record IsServed (c : Config) (w : World) (command : Command) (m : Mutating) : Type 0 where
   pub roots : (i : ℕ) → i < 16 → UsableIn c w (w.memory (Root m.seat i))
   pub resolved : (object : ℕ) → works_on m.spot ≡ Some object → UsableIn c w object
+  pub loaded : (a : ℕ) → IsOfCall m.kept.command m.spot a → UsableIn c w a
   pub unasked : is_waiting m.spot ≡ false → AsksNothing w m.seat × (w.memory (Answer m.seat) ≡ 0)
   pub waits : is_waiting m.spot ≡ true → is_clearing m.spot ≡ false → MakesObject command
-  pub taken : is_clearing m.spot ≡ true → AsksNothing w m.seat × HasTaken w m.seat
+  pub answered : is_answered m.spot ≡ true → 0 < w.memory (Answer m.seat)
+  pub stored : (address : ℕ) → m.spot ≡ Waiting (wait.StoreRoot address) → w.memory (Answer m.seat) ≡ address
+  pub taken : (reply : Reply) → m.spot ≡ Waiting (wait.ClearAnswer reply) → AsksNothing w m.seat × HasTaken c w m.seat reply

@@ -145,7 +145,7 @@ module _ (c : Config) (w : World) (shared : Shared c w) (r : ℕ) (inside : r < 
   make_hand seat made k command fixed (make.StoreRoot address) facts a is = same a address (piece_elsewhere c w shared r inside free address _ facts.1.room) is
 
   -- of who has waited for one
-  wait_hand : (seat made : ℕ) (k command : Command) (fixed : Option Reply) (at : WaitSpot) → WaitFacts w seat made k command fixed at → (a : ℕ) → IsWaitHand at a → IsApart a
+  wait_hand : (seat made : ℕ) (k command : Command) (fixed : Option Reply) (at : WaitSpot) → WaitFacts c w seat made k command fixed at → (a : ℕ) → IsWaitHand at a → IsApart a
   wait_hand seat made k command fixed (wait.StoreRoot address) facts a is =
       same a address (subst (λ x. IsApart x) facts.1 (piece_elsewhere c w shared r inside free (w.memory (Answer seat)) _ facts.0.1.2.here)) is
   wait_hand seat made k command fixed _ facts a is = absurd is

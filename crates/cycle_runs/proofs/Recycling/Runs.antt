@@ -10,6 +10,7 @@ use Rattle.steps_base.specs.Steps.{Stage, go}
 use Rattle.shen_graph.specs.declared.name.Name.{Name}
 use Rattle.shen_graph.specs.declared.command.Command.{Command}
 use Rattle.shen_graph.specs.declared.command.Reply.{Reply}
+use Rattle.shen_graph.specs.declared.command.Reply.TheVariants.{Ref}
 use Rattle.shen_graph.specs.Graph.{Graph}
 use Rattle.shen_graph.specs.History.{Entry, after, of_thread}
 use Rattle.heap_world.specs.World.{World, thing, Shared}
@@ -31,6 +32,7 @@ use Rattle.step_core.specs.Machines.{kind}
 use Rattle.step_core.specs.Own.{root_now}
 use Rattle.step_core.specs.Settled.{settled}
 use Rattle.step_core.specs.Sound.{world_of, IsMutator, StandsFor}
+use Rattle.step_core.specs.Seats.{HasTaken}
 use Rattle.step_core.proofs.Machines.Stepped.{Mine}
 use Rattle.step_core.proofs.Theorem.Beginning.{goes_begins}
 use Rattle.step_core.proofs.Machines.Owed.{CanWork, HelpFacts, ControlFacts, IsMachine, IsThread}
@@ -42,7 +44,7 @@ use Rattle.step_core.proofs.Machines.Seats.{in_seat}
 use Rattle.step_core.proofs.Mutators.Spots.{mutator_at}
 use Rattle.cycle_runs.specs.Recycling.InHand.{IsUnitHand, IsHelpHand, IsControlHand, IsInHandOf}
 use Rattle.cycle_runs.specs.Recycling.Held.{IsHeld, FreeIsNotHeld, FreeIsNotHeldInRuns}
-use Rattle.cycle_runs.proofs.Recycling.Free.{IsElsewhere, piece_elsewhere, named_elsewhere, points_elsewhere}
+use Rattle.cycle_runs.proofs.Recycling.Free.{IsElsewhere, piece_elsewhere, target_elsewhere, points_elsewhere}
 use Rattle.cycle_runs.proofs.Recycling.PartHands.{scan_hand, evac_hand, update_hand}
 use Rattle.cycle_runs.proofs.Recycling.Mutators.{mutator_hand}
 
@@ -79,13 +81,15 @@ module _ (c : Config) (w : World) (shared : Shared c w) (r : ℕ) (inside : r < 
   answer_apart t refused is some = absurd (omega (arith, is.1, some))
   answer_apart t (given refs nums) is some = piece_elsewhere c w shared r inside free (w.memory (Answer t)) _ is.2.here
 
+  -- of what was taken
+  taken_apart : (seat : ℕ) (reply : Reply) → HasTaken c w seat reply → 1 < w.memory (Answer seat) → IsApart (w.memory (Answer seat))
+  taken_apart seat (Ref name) taken some = target_elsewhere c w shared r inside free (w.memory (Answer seat)) taken.0 taken.1 name taken.2
+  taken_apart seat _ full some = absurd (omega (arith, full, some))
+
   -- also while the mutator is about to clear it
   pub answered_apart : (seat made : ℕ) (kept : Kept) (command : Command) (fixed : Option Reply) (spot : Spot) → Mine c w (mutator_at seat made kept spot) command fixed → 1 < w.memory (Answer seat)
       → IsApart (w.memory (Answer seat))
-  answered_apart seat made kept command fixed (Waiting (wait.ClearAnswer reply)) mine some = ⊎_elim
-      (λ (none : w.memory (Answer seat) ≤ 1). absurd (omega (arith, none, some)))
-      (λ named. named_elsewhere c w shared r inside free (w.memory (Answer seat)) named.0 named.1)
-      mine.facts.3
+  answered_apart seat made kept command fixed (Waiting (wait.ClearAnswer reply)) mine some = taken_apart seat reply mine.facts.3 some
   answered_apart seat made kept command fixed spot mine some =
       let asked = has_asked c w seat made kept command fixed spot refl mine in
       answer_apart seat asked.asking asked.is some

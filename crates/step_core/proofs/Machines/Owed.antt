@@ -1,9 +1,9 @@
 -- What holds of the machines of a stage, and what an event owes.
-use Rattle.std.specs.Prelude.{ℕ, ◌≡◌, ◌≢◌, ◌+◌, ◌-◌, ◌*◌, ◌<◌, ◌≤◌, ◌==◌, ◌⊎◌, nat_le, true, false, List, ◌++◌, length, Option, Some, None, slice_get, slice_index, sum_by, if◌then◌else◌, All}
+use Rattle.std.specs.Prelude.{ℕ, ◌≡◌, ◌≢◌, ◌+◌, ◌-◌, ◌*◌, ◌<◌, ◌≤◌, ◌==◌, ◌⊎◌, nat_le, true, false, List, ◌++◌, length, Option, Some, None, slice_get, sum_by, if◌then◌else◌, All}
 use Rattle.heap_words.specs.declared.config.Config.{Config}
 use Rattle.heap_words.specs.Encoding.{object_words}
 use Rattle.heap_words.specs.Ranges.{seat_count}
-use Rattle.heap_words.specs.Words.{Word, Phase, Cset, Answer, Heap, view, image_start, table_words}
+use Rattle.heap_words.specs.Words.{Word, Phase, Cset, Answer, Heap, view, table_words}
 use Rattle.packing.specs.Tops.{sum_below}
 use Rattle.steps_base.specs.Steps.{Stage}
 use Rattle.shen_graph.specs.declared.name.Name.{Name}
@@ -17,10 +17,10 @@ use Rattle.mutator.specs.Orders.{is_valid}
 use Rattle.mutator.specs.Rows.{Mutating}
 use Rattle.heap_world.specs.World.{Ghost, World, Plot, hand, Shared}
 pub use Rattle.heap_world.specs.Asking.{PromisedToMutators}
-use Rattle.heap_world.specs.Change.{image_words, IsDue}
+use Rattle.heap_world.specs.Change.{IsDue}
 use Rattle.heap_world.specs.Roots.{HasNoMore}
 use Rattle.control_rows.specs.declared.spot.ControlSpot.{ControlSpot}
-use Rattle.control_rows.specs.declared.spot.ControlSpot.TheVariants.{LookFree, Working, Stopping, LoadWord, StoreWord}
+use Rattle.control_rows.specs.declared.spot.ControlSpot.TheVariants.{LookFree, Working, Stopping, LoadWord}
 use Rattle.control_rows.specs.Rows.{Controlling}
 use Rattle.control_rows.specs.Ready.{is_ready}
 use Rattle.helper.specs.declared.spot.HelpSpot.{HelpSpot}

@@ -1,7 +1,8 @@
 -- What holds of a machine says what the ghost state has of its seat, and what a mutator may use.
-use Rattle.std.proofs.Common.{◌≡◌, ℕ, ◌<◌, true, false, List, Option, Some, None, inl, inr, refl, sym, ◌∙◌, subst}
+use Rattle.std.proofs.Common.{◌≡◌, ℕ, ◌<◌, true, false, List, Option, Some, None, inl, inr, refl, sym, ◌∙◌, subst, ◌⊎◌, ⊎_elim, length, ap, arith}
 use Rattle.std.proofs.lemmas.Option.{same_Some, none-some}
 use Rattle.heap_words.specs.declared.config.Config.{Config}
+use Rattle.heap_words.specs.Words.{Answer}
 use Rattle.shen_graph.specs.History.{Entry}
 use Rattle.shen_graph.specs.declared.command.Command.{Command}
 use Rattle.shen_graph.specs.declared.command.Reply.{Reply}
@@ -14,14 +15,18 @@ use Rattle.alloc_buffers.specs.declared.spot.TakeSpot.{TakeSpot}
 use Rattle.alloc_buffers.specs.declared.spot.TakeSpot.TheVariants.{LoadFree}
 use Rattle.load_barrier.specs.declared.spot.ResolveSpot.{ResolveSpot}
 use Rattle.load_barrier.specs.declared.spot.ResolveSpot.TheVariants as resolve
-use Rattle.load_barrier.specs.declared.copying.CopySpot.TheVariants.{StoreWord}
-use Rattle.move_steps.specs.Resolving.Facts.{ResolveFacts, CanResolve}
+use Rattle.move_steps.specs.Resolving.Facts.{ResolveFacts, CanResolve, IsRoomAt, CopyFacts}
+use Rattle.load_barrier.specs.declared.copying.CopySpot.{CopySpot}
+use Rattle.load_barrier.specs.declared.copying.CopySpot.TheVariants as copy
 use Rattle.load_barrier.specs.declared.evac_spot.EvacSpot.{EvacSpot}
 use Rattle.load_barrier.specs.declared.evac_spot.EvacSpot.TheVariants as evac
 use Rattle.move_steps.specs.Evacuation.Facts.{HasNothing, WorkFacts}
 use Rattle.mutator.specs.declared.spot.Kept.{Kept}
 use Rattle.mutator.specs.declared.spot.Spot.{Spot}
-use Rattle.mutator.specs.declared.spot.Spot.TheVariants.{Entering, OnField, Resolving, Recording, OnNumber, Showing, Making, Waiting}
+use Rattle.mutator.specs.declared.spot.Spot.TheVariants.{Entering, Loading, OnField, Resolving, Recording, OnNumber, Showing, StoreRoot, Making, Waiting}
+use Rattle.mutator.specs.declared.loads.LoadSpot.{LoadSpot}
+use Rattle.mutator.specs.declared.loads.LoadSpot.TheVariants as load
+use Rattle.mutator.specs.Commands.{command_roots, dst_of, index_of}
 use Rattle.mutator.specs.declared.spot.Entered.TheVariants.{Waited}
 use Rattle.mutator.specs.declared.fields.FieldSpot.{FieldSpot}
 use Rattle.mutator.specs.declared.fields.FieldSpot.TheVariants as fields
@@ -43,11 +48,12 @@ use Rattle.helper.specs.declared.spot.HelpSpot.{HelpSpot}
 use Rattle.helper.specs.declared.spot.HelpSpot.TheVariants as help
 use Rattle.control_rows.specs.declared.spot.ControlSpot.{ControlSpot}
 use Rattle.control_rows.specs.declared.spot.ControlSpot.TheVariants as control
-use Rattle.heap_world.specs.World.{World, hand, UsableIn}
+use Rattle.heap_world.specs.World.{World, Body, body_words, hand, UsableIn}
 use Rattle.step_core.specs.Actor.{Machine, mutating, helping, controlling, Actor}
-use Rattle.step_core.specs.Seats.{copies_in, IsRoomIn, help_unit, control_unit, unit_scan, unit_copies, unit_region, UnitRoom, take_looks, resolve_looks, evac_looks, unit_looks, make_looks, call_looks, Carried, resolve_carries, evac_carries, unit_carries, call_carries, StandsThere, IsInSeat, before_record, before_resolve, works_on, AsksNothing, MakesObject, is_clearing, IsServed}
+use Rattle.step_core.specs.Seats.{copies_in, IsRoomIn, help_unit, control_unit, unit_scan, unit_copies, unit_region, UnitRoom, take_looks, resolve_looks, evac_looks, unit_looks, make_looks, call_looks, Carried, resolve_carries, evac_carries, unit_carries, call_carries, StandsThere, IsInSeat, before_record, before_resolve, works_on, AsksNothing, MakesObject, is_clearing, IsServed, IsOfRoots, IsOfField, IsOfLoaded, IsOfOverwritten, IsOfCall, is_answered}
 use Rattle.step_core.proofs.Machines.Owed.{IsResting, CanWork, HelpFacts, ControlFacts, IsMachine}
-use Rattle.step_core.proofs.Machines.Stepped.{HasObject, FieldFacts, NumberFacts, ShowFacts, RecordFacts, LoadedFacts, MakeFacts, IsResolving, IsMaking, IsPolling, IsAnswered, WaitFacts, SpotFacts, Mine, HasTaken}
+use Rattle.step_core.proofs.Machines.Stepped.{HasObject, FieldFacts, NumberFacts, ShowFacts, RecordFacts, LoadedFacts, MakeFacts, IsResolving, IsMaking, IsPolling, IsAnswered, WaitFacts, SpotFacts, Mine, HasTaken, IsCas, IsCopy, IsDrop, LoadFacts}
+use Rattle.step_core.specs.Own.{IsInMaking, IsInHand}
 
 -- What the ghost state and the pieces have of a seat that works on a unit of evacuation.
 record OnUnit (c : Config) (w : World) (seat : ℕ) (at : EvacSpot) : Type 0 where
@@ -57,6 +63,19 @@ record OnUnit (c : Config) (w : World) (seat : ℕ) (at : EvacSpot) : Type 0 whe
   hands : (a words : ℕ) → w.block a ≡ Some (hand seat words) → IsRoomIn at a
   lacks : (words : ℕ) → evac_looks at ≡ Some words → HasLess c w.memory seat words
   carries : (x : Carried) → evac_carries at ≡ Some x → StandsThere c w x
+  holds : (a words : ℕ) → IsRoomIn at a → (more : ℕ) × (w.block a ≡ Some (hand seat more))
+
+-- who copies has its room in hand
+copy_holds : (w : World) (seat a to : ℕ) (b : Body) (at : CopySpot) → CopyFacts w seat a to b at → w.block to ≡ Some (hand seat (body_words b))
+copy_holds w seat a to b (copy.LoadWord words index) facts = facts.3.room
+copy_holds w seat a to b (copy.StoreWord words index found) facts = facts.3.room
+copy_holds w seat a to b copy.StoreHeader facts = facts.room
+copy_holds w seat a to b copy.Publish facts = facts.0.room
+copy_holds w seat a to b (copy.GiveBack answer) facts = facts.0
+
+resolve_holds : (c : Config) (w : World) (seat address : ℕ) (at : ResolveSpot) → ResolveFacts c w seat address at → (a : ℕ) → IsRoomAt at a → (more : ℕ) × (w.block a ≡ Some (hand seat more))
+resolve_holds c w seat address (resolve.Copying to at) facts a is = (body_words facts.0, ap (λ x. w.block x) is ∙ copy_holds w seat address to facts.0 at facts.2)
+resolve_holds c w seat address _ facts a is = absurd is
 
 -- who takes room and is about to look for a free region lacks room in its current one, also where it resolves an address
 take_lacks : (c : Config) (w : World) (seat wanted words : ℕ) (take : TakeSpot) → take_looks words take ≡ Some wanted → TakeFacts c w seat words take → HasLess c w.memory seat wanted
@@ -69,7 +88,7 @@ resolve_lacks c w seat a wanted _ looks facts = absurd cc
 
 -- who is about to store a word into its copy has the object's word
 resolve_stands : (c : Config) (w : World) (seat a : ℕ) (at : ResolveSpot) (x : Carried) → resolve_carries a at ≡ Some x → CanResolve c w seat a at → StandsThere c w x
-resolve_stands c w seat a (resolve.Copying copy (StoreWord words index found)) x carries can = subst (StandsThere c w) (same_Some _ x carries) (record {
+resolve_stands c w seat a (resolve.Copying to (copy.StoreWord words index found)) x carries can = subst (StandsThere c w) (same_Some _ x carries) (record {
   body = can.facts.0;
   there = can.facts.1;
   inside = can.inside;
@@ -77,26 +96,27 @@ resolve_stands c w seat a (resolve.Copying copy (StoreWord words index found)) x
   within = subst (λ n. index < n) can.facts.2.0 can.facts.2.2;
   same = can.facts.2.4;
 })
-resolve_stands c w seat a (resolve.Copying copy _) x carries can = absurd cc
+resolve_stands c w seat a (resolve.Copying to _) x carries can = absurd cc
 resolve_stands c w seat a _ x carries can = absurd cc
 
 -- where it has nothing
-on_unit_nothing : (c : Config) (w : World) (seat : ℕ) (at : EvacSpot) → copies_in at ≡ false → evac_looks at ≡ None → evac_carries at ≡ None → HasNothing w seat → OnUnit c w seat at
-on_unit_nothing c w seat at copies looks carries nothing = record {
+on_unit_nothing : (c : Config) (w : World) (seat : ℕ) (at : EvacSpot) → copies_in at ≡ false → evac_looks at ≡ None → evac_carries at ≡ None → ((a : ℕ) → IsRoomIn at a → ⊥) → HasNothing w seat → OnUnit c w seat at
+on_unit_nothing c w seat at copies looks carries rooms nothing = record {
   records = nothing.records_none;
   scans = nothing.scans_none;
   copies = nothing.copying ∙ sym copies;
   hands = λ a words is. absurd (nothing.hands a words is);
   lacks = λ words is. absurd (none-some words (sym looks ∙ is));
   carries = λ x is. absurd (none-some x (sym carries ∙ is));
+  holds = λ a words is. absurd (rooms a is);
 }
 
 on_unit : (c : Config) (w : World) (seat : ℕ) (at : EvacSpot) → WorkFacts c w seat at → OnUnit c w seat at
-on_unit c w seat evac.LoadClaim facts = on_unit_nothing c w seat evac.LoadClaim refl refl refl facts
-on_unit c w seat (evac.ClaimUnit unit) facts = on_unit_nothing c w seat (evac.ClaimUnit unit) refl refl refl facts.0
-on_unit c w seat (evac.LoadTop region) facts = on_unit_nothing c w seat (evac.LoadTop region) refl refl refl facts.0
-on_unit c w seat (evac.LoadShape address end) facts = on_unit_nothing c w seat (evac.LoadShape address end) refl refl refl facts.0
-on_unit c w seat (evac.LoadMark address end next) facts = on_unit_nothing c w seat (evac.LoadMark address end next) refl refl refl facts.0
+on_unit c w seat evac.LoadClaim facts = on_unit_nothing c w seat evac.LoadClaim refl refl refl (λ a is. is) facts
+on_unit c w seat (evac.ClaimUnit unit) facts = on_unit_nothing c w seat (evac.ClaimUnit unit) refl refl refl (λ a is. is) facts.0
+on_unit c w seat (evac.LoadTop region) facts = on_unit_nothing c w seat (evac.LoadTop region) refl refl refl (λ a is. is) facts.0
+on_unit c w seat (evac.LoadShape address end) facts = on_unit_nothing c w seat (evac.LoadShape address end) refl refl refl (λ a is. is) facts.0
+on_unit c w seat (evac.LoadMark address end next) facts = on_unit_nothing c w seat (evac.LoadMark address end next) refl refl refl (λ a is. is) facts.0
 on_unit c w seat (evac.Resolving address end next at) facts = record {
   records = facts.1.records_none;
   scans = facts.1.scans_none;
@@ -104,8 +124,9 @@ on_unit c w seat (evac.Resolving address end next at) facts = record {
   hands = facts.1.hands;
   lacks = λ words is. resolve_lacks c w seat address words at is facts.1.facts;
   carries = λ x is. resolve_stands c w seat address at x is facts.1;
+  holds = λ a words is. resolve_holds c w seat address at facts.1.facts a is;
 }
-on_unit c w seat (evac.Ended unit) facts = on_unit_nothing c w seat (evac.Ended unit) refl refl refl facts
+on_unit c w seat (evac.Ended unit) facts = on_unit_nothing c w seat (evac.Ended unit) refl refl refl (λ a is. is) facts
 
 -- What the ghost state and the pieces have of a seat that works on a unit, or rests.
 record AtUnit (c : Config) (w : World) (seat : ℕ) (at : UnitSpot) : Type 0 where
@@ -116,6 +137,7 @@ record AtUnit (c : Config) (w : World) (seat : ℕ) (at : UnitSpot) : Type 0 whe
   hands : (a words : ℕ) → w.block a ≡ Some (hand seat words) → UnitRoom at a
   lacks : (words : ℕ) → unit_looks at ≡ Some words → HasLess c w.memory seat words
   carries : (x : Carried) → unit_carries at ≡ Some x → StandsThere c w x
+  holds : (a words : ℕ) → UnitRoom at a → (more : ℕ) × (w.block a ≡ Some (hand seat more))
 
 module _ (c : Config) (w : World) (seat : ℕ) where
   at_rest : (unit : Unit) → IsResting w seat → AtUnit c w seat (Ended unit)
@@ -127,6 +149,7 @@ module _ (c : Config) (w : World) (seat : ℕ) where
     hands = rests.hands;
     lacks = λ words is. absurd cc;
     carries = λ x is. absurd cc;
+    holds = λ a words is. absurd is;
   }
 
   at_unit : (at : UnitSpot) → CanWork c w seat at → AtUnit c w seat at
@@ -138,10 +161,11 @@ module _ (c : Config) (w : World) (seat : ℕ) where
     hands = facts.0.hands;
     lacks = λ words is. absurd cc;
     carries = λ x is. absurd cc;
+    holds = λ a words is. absurd is;
   }
   at_unit (Evacuating cset at) facts =
       let unit = on_unit c w seat at facts.facts in
-      record { records = unit.records; scans = unit.scans; copies = unit.copies; works = facts.working; hands = unit.hands; lacks = unit.lacks; carries = unit.carries }
+      record { records = unit.records; scans = unit.scans; copies = unit.copies; works = facts.working; hands = unit.hands; lacks = unit.lacks; carries = unit.carries; holds = unit.holds }
   at_unit (Updating cset at) facts = record {
     records = facts.records_none;
     scans = facts.scanning;
@@ -150,6 +174,7 @@ module _ (c : Config) (w : World) (seat : ℕ) where
     hands = facts.hands;
     lacks = λ words is. absurd cc;
     carries = λ x is. absurd cc;
+    holds = λ a words is. absurd is;
   }
   at_unit (Ended Worked) facts = at_rest Worked facts
   at_unit (Ended NoneLeft) facts = at_rest NoneLeft facts.0
@@ -193,12 +218,27 @@ call_lacks c w seat made wanted kept command fixed _ looks facts = absurd cc
 
 resolving_stands : (c : Config) (w : World) (seat address : ℕ) (at : ResolveSpot) (x : Carried) → resolve_carries address at ≡ Some x → IsResolving c w seat address at → StandsThere c w x
 resolving_stands c w seat address at x carries (inl can) = resolve_stands c w seat address at x carries can
-resolving_stands c w seat address (resolve.Copying copy at) x carries (inr follows) = absurd (follows.facts)
+resolving_stands c w seat address (resolve.Copying to at) x carries (inr follows) = absurd (follows.facts)
 resolving_stands c w seat address _ x carries (inr follows) = absurd cc
 
 call_stands : (c : Config) (w : World) (seat made : ℕ) (kept : Kept) (command : Command) (fixed : Option Reply) (spot : Spot) (x : Carried) → call_carries spot ≡ Some x → SpotFacts c w seat made kept command fixed spot → StandsThere c w x
 call_stands c w seat made kept command fixed (Resolving address at next) x carries facts = resolving_stands c w seat address at x carries facts.0
 call_stands c w seat made kept command fixed _ x carries facts = absurd cc
+-- a mutator that makes an object, or copies one, has its room in hand
+make_holds : (c : Config) (w : World) (seat made : ℕ) (k command : Command) (fixed : Option Reply) (at : MakeSpot) → MakeFacts c w seat made k command fixed at → (a words : ℕ) → IsInMaking k at a words → (more : ℕ) × (w.block a ≡ Some (hand seat more))
+make_holds c w seat made k command fixed (make.Taking take) facts a words is = absurd is
+make_holds c w seat made k command fixed (make.StoreWord address done) facts a words is = (words_made k, ap (λ x. w.block x) is.0 ∙ facts.1.room)
+make_holds c w seat made k command fixed (make.StoreRoot address) facts a words is = (words_made k, ap (λ x. w.block x) is.0 ∙ facts.1.room)
+
+resolving_holds : (c : Config) (w : World) (seat address : ℕ) (at : ResolveSpot) → IsResolving c w seat address at → (a : ℕ) → IsRoomAt at a → (more : ℕ) × (w.block a ≡ Some (hand seat more))
+resolving_holds c w seat address at (inl can) a is = resolve_holds c w seat address at can.facts a is
+resolving_holds c w seat address (resolve.Copying to at) (inr follows) a is = absurd (follows.facts)
+resolving_holds c w seat address _ (inr follows) a is = absurd is
+
+call_holds : (c : Config) (w : World) (seat made : ℕ) (kept : Kept) (command : Command) (fixed : Option Reply) (spot : Spot) → SpotFacts c w seat made kept command fixed spot → (a words : ℕ) → IsInHand kept spot a words → (more : ℕ) × (w.block a ≡ Some (hand seat more))
+call_holds c w seat made kept command fixed (Making at) facts a words is = make_holds c w seat made kept.command command fixed at facts a words is
+call_holds c w seat made kept command fixed (Resolving address at next) facts a words is = resolving_holds c w seat address at facts.0 a is
+call_holds c w seat made kept command fixed _ facts a words is = absurd is
 
 -- any machine in its seat
 pub in_seat : (c : Config) (words : List ℕ) (w : World) (entries : List Entry) (number : ℕ) (a : Actor) (machine : Machine) → IsMachine c words w entries number a machine → IsInSeat c w number machine
@@ -211,13 +251,14 @@ in_seat c words w entries number a (mutating m) thread =
       hands = thread.mine.hands;
       lacks = λ wanted is. call_lacks c w m.seat m.made wanted m.kept a.command thread.fixed m.spot is thread.mine.facts;
       carries = λ x is. call_stands c w m.seat m.made m.kept a.command thread.fixed m.spot x is thread.mine.facts;
+      holds = λ b words is. call_holds c w m.seat m.made m.kept a.command thread.fixed m.spot thread.mine.facts b words is;
     })
 in_seat c words w entries number a (helping h) facts =
     let at = help_at c w number h.spot facts.facts in
-    record { records = at.records; scans = at.scans; copies = at.copies; works = at.works; hands = at.hands; lacks = at.lacks; carries = at.carries }
+    record { records = at.records; scans = at.scans; copies = at.copies; works = at.works; hands = at.hands; lacks = at.lacks; carries = at.carries; holds = at.holds }
 in_seat c words w entries number a (controlling k) facts =
     let at = control_at c w number k.spot facts.facts in
-    record { records = at.records; scans = at.scans; copies = at.copies; works = at.works; hands = at.hands; lacks = at.lacks; carries = at.carries }
+    record { records = at.records; scans = at.scans; copies = at.copies; works = at.works; hands = at.hands; lacks = at.lacks; carries = at.carries; holds = at.holds }
 
 -- What a mutator may use: an object on which it works, by each part of a call.
 module _ (c : Config) (w : World) (seat : ℕ) (k command : Command) (fixed : Option Reply) where
@@ -249,6 +290,62 @@ module _ (c : Config) (w : World) (seat : ℕ) (k command : Command) (fixed : Op
   resolve_usable found object ForRoot is facts = absurd cc
   resolve_usable found object (ToCompare it expect value) is facts = subst (UsableIn c w) (same_Some it object is) (object_usable facts.is_cas.obj it facts.is_cas.of)
 
+  -- a root that was loaded, alone or one of two
+  same_usable : (a word : ℕ) → UsableIn c w word → a ≡ word → UsableIn c w a
+  same_usable a word usable is = subst (λ x. UsableIn c w x) (sym is) usable
+
+  either_usable : (a word other : ℕ) → UsableIn c w word → UsableIn c w other → (a ≡ word) ⊎ (a ≡ other) → UsableIn c w a
+  either_usable a word other first second which = ⊎_elim (λ is. same_usable a word first is) (λ is. same_usable a other second is) which
+
+  roots_usable : (made : ℕ) (at : LoadSpot) → LoadFacts c w seat made k command fixed at → (a : ℕ) → IsOfRoots k at a → UsableIn c w a
+  roots_usable made load.First facts a is = absurd is
+  roots_usable made (load.Second first) facts a is = let root = facts.2 in same_usable a first (root.first_is root.some).usable is
+  roots_usable made (load.Third first second) facts a is =
+      let root = facts.2 in
+      let more = facts.1 in
+      either_usable a first second (root.first_is root.some).usable (facts.3 (omega (arith, more))).usable is
+  roots_usable made (load.Shape object second third) facts a is =
+      let roots = facts.2 in
+      ⊎_elim
+      (λ (first : a ≡ object). same_usable a object (roots.first_is.first_is roots.first_is.some).usable first)
+      (λ rest. ⊎_elim
+      (λ (has_second : (1 < length (command_roots k)) × (a ≡ second)). same_usable a second (roots.second_is has_second.0).usable has_second.1)
+      (λ (has_third : (2 < length (command_roots k)) × (a ≡ third)). same_usable a third (roots.third_is has_third.0).usable has_third.1)
+      rest)
+      is
+
+  cas_usable : (object field expect value a : ℕ) → IsCas c w seat command object field expect value → (a ≡ expect) ⊎ (a ≡ value) → UsableIn c w a
+  cas_usable object field expect value a cas is = either_usable a expect value cas.expect_is.usable cas.value_is.usable is
+
+  of_field_usable : (object : ℕ) (at : FieldSpot) → FieldFacts c w seat k command fixed object at → (a : ℕ) → IsOfField at a → UsableIn c w a
+  of_field_usable object fields.Load facts a is = absurd is
+  of_field_usable object (fields.LoadExpected expect value) facts a is = cas_usable object (index_of k) expect value a facts.1 is
+  of_field_usable object (fields.LoadOld value) facts a is = same_usable a value facts.1.value_is.usable is
+  of_field_usable object (fields.Store value) facts a is = same_usable a value facts.1.value_is.usable is
+  of_field_usable object (fields.Swap value) facts a is = same_usable a value facts.1.value_is.usable is
+  of_field_usable object (fields.Exchange found expect value) facts a is = cas_usable object (index_of k) expect value a facts.1 is
+
+  of_loaded_usable : (found : ℕ) (next : Loaded) → LoadedFacts c w seat k command fixed found next → (a : ℕ) → IsOfLoaded next a → UsableIn c w a
+  of_loaded_usable found ForRoot facts a is = absurd is
+  of_loaded_usable found (ToCompare object expect value) facts a is = cas_usable object (index_of k) expect value a facts.is_cas is
+
+  of_overwritten_usable : (address : ℕ) (next : Overwritten) → RecordFacts c w seat k command fixed address next → (a : ℕ) → IsOfOverwritten next a → UsableIn c w a
+  of_overwritten_usable address (overwrites.Set object value) facts a is = same_usable a value facts.1.value_is.usable is
+  of_overwritten_usable address overwrites.Xchg facts a is = absurd is
+  of_overwritten_usable address overwrites.Cas facts a is = absurd is
+
+  copy_usable : (dst value a : ℕ) → IsCopy c w seat command dst value ⊎ IsDrop command dst value → a ≡ value → UsableIn c w a
+  copy_usable dst value a (inl is_copy) is = same_usable a value is_copy.value_is.usable is
+  copy_usable dst value a (inr is_drop) is = inl (is ∙ is_drop.value_is)
+
+call_usable : (c : Config) (w : World) (seat made : ℕ) (kept : Kept) (command : Command) (fixed : Option Reply) (spot : Spot) → SpotFacts c w seat made kept command fixed spot → (a : ℕ) → IsOfCall kept.command spot a → UsableIn c w a
+call_usable c w seat made kept command fixed (Loading at) facts a is = roots_usable c w seat kept.command command fixed made at facts a is
+call_usable c w seat made kept command fixed (OnField object at) facts a is = of_field_usable c w seat kept.command command fixed object at facts a is
+call_usable c w seat made kept command fixed (Resolving address at next) facts a is = of_loaded_usable c w seat kept.command command fixed address next facts.1 a is
+call_usable c w seat made kept command fixed (Recording at address next) facts a is = of_overwritten_usable c w seat kept.command command fixed address next facts.1 a is
+call_usable c w seat made kept command fixed (StoreRoot value) facts a is = copy_usable c w seat kept.command command fixed (dst_of kept.command) value a facts.2 is
+call_usable c w seat made kept command fixed _ facts a is = absurd is
+
 works_usable : (c : Config) (w : World) (seat made object : ℕ) (kept : Kept) (command : Command) (fixed : Option Reply) (spot : Spot) → works_on spot ≡ Some object → SpotFacts c w seat made kept command fixed spot → UsableIn c w object
 works_usable c w seat made object kept command fixed (OnField it at) is facts = subst (UsableIn c w) (same_Some it object is) (field_usable c w seat kept.command command fixed it at facts)
 works_usable c w seat made object kept command fixed (OnNumber it refs at) is facts = subst (UsableIn c w) (same_Some it object is) (number_usable c w seat kept.command command fixed it refs at facts)
@@ -271,25 +368,39 @@ module _ (w : World) (seat made : ℕ) (k command : Command) (fixed : Option Rep
   answered_makes (inl given) = making _ _ _ given.0
   answered_makes (inr full) = record { dst = full.0.dst; refs = full.0.refs; nums = full.0.nums; is = full.0.is }
 
-  waiting_makes : (at : WaitSpot) → is_clearing (Waiting at) ≡ false → WaitFacts w seat made k command fixed at → MakesObject command
-  waiting_makes wait.StoreRequest going facts = making _ _ _ facts.0
-  waiting_makes wait.AskRoom going facts = making _ _ _ facts.0
-  waiting_makes wait.StepOut going facts = making _ _ _ facts.0.0
-  waiting_makes wait.Poll going facts = polling_makes facts
-  waiting_makes wait.LoadAnswer going facts = answered_makes facts
-  waiting_makes (wait.StoreRoot address) going facts = making _ _ _ facts.0.0
-  waiting_makes (wait.ClearAnswer reply) going facts = absurd cc
+  waiting_makes : (c : Config) (at : WaitSpot) → is_clearing (Waiting at) ≡ false → WaitFacts c w seat made k command fixed at → MakesObject command
+  waiting_makes c wait.StoreRequest going facts = making _ _ _ facts.0
+  waiting_makes c wait.AskRoom going facts = making _ _ _ facts.0
+  waiting_makes c wait.StepOut going facts = making _ _ _ facts.0.0
+  waiting_makes c wait.Poll going facts = polling_makes facts
+  waiting_makes c wait.LoadAnswer going facts = answered_makes facts
+  waiting_makes c (wait.StoreRoot address) going facts = making _ _ _ facts.0.0
+  waiting_makes c (wait.ClearAnswer reply) going facts = absurd cc
 
   waits_make : (c : Config) (kept : Kept) (spot : Spot) → kept.command ≡ k → is_waiting spot ≡ true → is_clearing spot ≡ false → SpotFacts c w seat made kept command fixed spot → MakesObject command
-  waits_make c kept (Waiting at) is waiting going facts = waiting_makes at going (subst (λ j. WaitFacts w seat made j command fixed at) is facts)
+  waits_make c kept (Waiting at) is waiting going facts = waiting_makes c at going (subst (λ j. WaitFacts c w seat made j command fixed at) is facts)
   waits_make c kept (Entering at Waited) is waiting going facts = answered_makes (subst (λ j. IsAnswered w seat made j command fixed) is facts)
   waits_make c kept _ is waiting going facts = absurd cc
 
 -- who clears its answer has taken what it was answered
-clearing_taken : (c : Config) (w : World) (seat made : ℕ) (kept : Kept) (command : Command) (fixed : Option Reply) (spot : Spot) → is_clearing spot ≡ true → SpotFacts c w seat made kept command fixed spot
-    → AsksNothing w seat × HasTaken w seat
-clearing_taken c w seat made kept command fixed (Waiting (wait.ClearAnswer reply)) is facts = (record { no_request = facts.1; no_promise = facts.2 }, facts.3)
-clearing_taken c w seat made kept command fixed _ is facts = absurd cc
+clearing_taken : (c : Config) (w : World) (seat made : ℕ) (kept : Kept) (command : Command) (fixed : Option Reply) (reply : Reply) → SpotFacts c w seat made kept command fixed (Waiting (wait.ClearAnswer reply))
+    → AsksNothing w seat × HasTaken c w seat reply
+clearing_taken c w seat made kept command fixed reply facts = (record { no_request = facts.1; no_promise = facts.2 }, facts.3)
+
+-- who is answered has an answer, and stores that
+answered_some : (w : World) (seat made : ℕ) (k command : Command) (fixed : Option Reply) → IsAnswered w seat made k command fixed → 0 < w.memory (Answer seat)
+answered_some w seat made k command fixed (inl given) = let more = given.1.1 in omega (arith, more)
+answered_some w seat made k command fixed (inr full) = let one = full.1.1 in omega (arith, one)
+
+has_answer : (c : Config) (w : World) (seat made : ℕ) (kept : Kept) (command : Command) (fixed : Option Reply) (spot : Spot) → is_answered spot ≡ true → SpotFacts c w seat made kept command fixed spot → 0 < w.memory (Answer seat)
+has_answer c w seat made kept command fixed (Entering at Waited) is facts = answered_some w seat made kept.command command fixed facts
+has_answer c w seat made kept command fixed (Waiting wait.LoadAnswer) is facts = answered_some w seat made kept.command command fixed facts
+has_answer c w seat made kept command fixed (Waiting (wait.StoreRoot address)) is facts = let more = facts.0.1.1 in omega (arith, more)
+has_answer c w seat made kept command fixed _ is facts = absurd cc
+
+-- at a spot it has the facts of that spot
+facts_at : (c : Config) (w : World) (seat made : ℕ) (kept : Kept) (command : Command) (fixed : Option Reply) (spot here : Spot) → spot ≡ here → SpotFacts c w seat made kept command fixed spot → SpotFacts c w seat made kept command fixed here
+facts_at c w seat made kept command fixed spot here is facts = subst (λ s. SpotFacts c w seat made kept command fixed s) is facts
 
 pub served : (c : Config) (w : World) (m : Mutating) (command : Command) (fixed : Option Reply) → Mine c w m command fixed → IsServed c w command m
 served c w m command fixed mine = record {
@@ -297,5 +408,8 @@ served c w m command fixed mine = record {
   resolved = λ object is. works_usable c w m.seat m.made object m.kept command fixed m.spot is mine.facts;
   unasked = λ calm. let none = mine.seated.unasked calm in (record { no_request = none.0; no_promise = none.2 }, none.1);
   waits = λ waiting going. waits_make w m.seat m.made m.kept.command command fixed c m.kept m.spot refl waiting going mine.facts;
-  taken = λ clearing. clearing_taken c w m.seat m.made m.kept command fixed m.spot clearing mine.facts;
+  loaded = λ a is. call_usable c w m.seat m.made m.kept command fixed m.spot mine.facts a is;
+  answered = λ is. has_answer c w m.seat m.made m.kept command fixed m.spot is mine.facts;
+  stored = λ address is. (facts_at c w m.seat m.made m.kept command fixed m.spot (Waiting (wait.StoreRoot address)) is mine.facts).1;
+  taken = λ reply is. clearing_taken c w m.seat m.made m.kept command fixed reply (facts_at c w m.seat m.made m.kept command fixed m.spot (Waiting (wait.ClearAnswer reply)) is mine.facts);
 }

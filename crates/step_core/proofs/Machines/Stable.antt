@@ -1,10 +1,11 @@
 -- What a mutator knows stays true while another machine makes a step.
-use Rattle.std.proofs.Common.{◌≡◌, ℕ, ◌+◌, ◌≤◌, inl, inr, ⊎_elim, Bool, Option, refl, ap, ◌∙◌, arith, sym, subst}
+use Rattle.std.proofs.Common.{◌≡◌, ℕ, ◌+◌, inl, inr, ⊎_elim, Bool, Option, refl, ◌∙◌, arith, sym, subst}
 use Rattle.std.specs.Int.{bit_at}
 use Rattle.heap_words.specs.declared.config.Config.{Config}
 use Rattle.heap_words.specs.Words.{Answer, Ask}
 use Rattle.shen_graph.specs.declared.command.Command.{Command}
 use Rattle.shen_graph.specs.declared.command.Reply.{Reply}
+use Rattle.shen_graph.specs.declared.command.Reply.TheVariants.{Ref}
 use Rattle.alloc_buffers.specs.declared.spot.TakeSpot.{TakeSpot}
 use Rattle.mutator.specs.declared.spot.Kept.{Kept}
 use Rattle.mutator.specs.declared.spot.Spot.{Spot}
@@ -32,7 +33,7 @@ use Rattle.mutator.specs.declared.waits.WaitSpot.TheVariants as wait
 use Rattle.mutator.specs.Orders.{is_waiting}
 use Rattle.mutator.specs.Commands.{command_root, dst_of, index_of, stored_number, refs_of, nums_of}
 use Rattle.mutator.specs.Rows.{Mutating, words_made}
-use Rattle.heap_world.specs.World.{World, name_at, Points, UsableIn, Shared}
+use Rattle.heap_world.specs.World.{World, Points, TargetIn, UsableIn, Shared}
 use Rattle.step_core.proofs.Machines.Stepped.{IsRootWord, HasRoot, HasObject, HasFirst, IsGet, IsSet, IsCas, IsXchg, IsRd, IsWr, IsFound, NameTheSame, NameOthers, IsCompared, LoadedFacts, IsCopy, IsFilling, IsAsking, IsHeard, IsPolling, IsAnswered, LoadFacts, FieldFacts, RecordFacts, NumberFacts, ShowFacts, MakeFacts, EnterFacts, HasTaken, WaitFacts, IsResolving, SpotFacts, IsSeatedIn, recording_of, has_phase, has_set, copies_at, Mine}
 use Rattle.step_core.specs.Own.{root_now, root_recording, root_resolving}
 use Rattle.heap_world.specs.Asking as asking
@@ -254,18 +255,18 @@ module _ (c : Config) (u w : World) (seat : ℕ) (keeps : Keeps c seat u w) wher
   enter_stays made k command fixed Waited facts = answered_stays made k command fixed facts
 
   -- what was answered and taken stays so
-  taken_stays : HasTaken u seat → HasTaken w seat
-  taken_stays (inl none) = inl (subst (λ n. n ≤ 1) (sym keeps.answer) none)
-  taken_stays (inr named) = inr (named.0, ap (λ a. name_at (w.block a)) keeps.answer ∙ keeps.names (u.memory (Answer seat)) named.0 named.1)
+  taken_stays : (reply : Reply) → HasTaken c u seat reply → HasTaken c w seat reply
+  taken_stays (Ref name) taken = (taken.0, taken.1, subst (λ a. TargetIn c w a taken.0 taken.1 name) (sym keeps.answer) (keeps.targets (u.memory (Answer seat)) taken.0 taken.1 name taken.2))
+  taken_stays _ full = keeps.answer ∙ full
 
-  pub wait_stays : (bit_at (u.memory Ask) 1 ≡ 1 → bit_at (w.memory Ask) 1 ≡ 1) → (made : ℕ) (k command : Command) (fixed : Option Reply) (at : WaitSpot) → WaitFacts u seat made k command fixed at → WaitFacts w seat made k command fixed at
+  pub wait_stays : (bit_at (u.memory Ask) 1 ≡ 1 → bit_at (w.memory Ask) 1 ≡ 1) → (made : ℕ) (k command : Command) (fixed : Option Reply) (at : WaitSpot) → WaitFacts c u seat made k command fixed at → WaitFacts c w seat made k command fixed at
   wait_stays bit made k command fixed wait.StoreRequest facts = asking_stays made k command fixed asking.nothing facts
   wait_stays bit made k command fixed wait.AskRoom facts = asking_stays made k command fixed (asking.asks (refs_of k) (nums_of k)) facts
   wait_stays bit made k command fixed wait.StepOut facts = heard_stays bit made k command fixed facts
   wait_stays bit made k command fixed wait.Poll facts = polling_stays bit made k command fixed facts
   wait_stays bit made k command fixed wait.LoadAnswer facts = answered_stays made k command fixed facts
   wait_stays bit made k command fixed (wait.StoreRoot address) facts = (asking_stays made k command fixed (asking.given (refs_of k) (nums_of k)) facts.0, keeps.answer ∙ facts.1)
-  wait_stays bit made k command fixed (wait.ClearAnswer reply) facts = (facts.0, keeps.wait ∙ facts.1, unpromised_stays facts.2, taken_stays facts.3)
+  wait_stays bit made k command fixed (wait.ClearAnswer reply) facts = (facts.0, keeps.wait ∙ facts.1, unpromised_stays facts.2, taken_stays reply facts.3)
 
   -- and at its spot, if that of a taking does, that of the words of a new object, of a resolving and of a recording, and the bit that a
   -- mutator waits

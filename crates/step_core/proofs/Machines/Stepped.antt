@@ -273,15 +273,15 @@ abbrev pub EnterFacts : World → ℕ → ℕ → Command → Command → Option
 EnterFacts w seat made k command fixed Call = IsBegun made command fixed k
 EnterFacts w seat made k command fixed Waited = IsAnswered w seat made k command fixed
 
-abbrev pub WaitFacts : World → ℕ → ℕ → Command → Command → Option Reply → WaitSpot → Type 0
-WaitFacts w seat made k command fixed wait.StoreRequest = IsAsking w seat made k command fixed asking.nothing
-WaitFacts w seat made k command fixed wait.AskRoom = IsAsking w seat made k command fixed (asking.asks (refs_of k) (nums_of k))
-WaitFacts w seat made k command fixed wait.StepOut = IsHeard w seat made k command fixed
-WaitFacts w seat made k command fixed wait.Poll = IsPolling w seat made k command fixed
-WaitFacts w seat made k command fixed wait.LoadAnswer = IsAnswered w seat made k command fixed
-WaitFacts w seat made k command fixed (wait.StoreRoot address) =
+abbrev pub WaitFacts : Config → World → ℕ → ℕ → Command → Command → Option Reply → WaitSpot → Type 0
+WaitFacts c w seat made k command fixed wait.StoreRequest = IsAsking w seat made k command fixed asking.nothing
+WaitFacts c w seat made k command fixed wait.AskRoom = IsAsking w seat made k command fixed (asking.asks (refs_of k) (nums_of k))
+WaitFacts c w seat made k command fixed wait.StepOut = IsHeard w seat made k command fixed
+WaitFacts c w seat made k command fixed wait.Poll = IsPolling w seat made k command fixed
+WaitFacts c w seat made k command fixed wait.LoadAnswer = IsAnswered w seat made k command fixed
+WaitFacts c w seat made k command fixed (wait.StoreRoot address) =
     IsAsking w seat made k command fixed (asking.given (refs_of k) (nums_of k)) × (w.memory (Answer seat) ≡ address)
-WaitFacts w seat made k command fixed (wait.ClearAnswer reply) = (fixed ≡ Some reply) × (w.memory (Wait seat) ≡ 0) × HasNoPromise w.block seat × HasTaken w seat
+WaitFacts c w seat made k command fixed (wait.ClearAnswer reply) = (fixed ≡ Some reply) × (w.memory (Wait seat) ≡ 0) × HasNoPromise w.block seat × HasTaken c w seat reply
 
 -- the machine of a seat resolves an address: objects are evacuated, or references to them updated
 abbrev pub IsResolving : Config → World → (seat address : ℕ) → ResolveSpot → Type 0
@@ -304,7 +304,7 @@ SpotFacts c w seat made kept command fixed (StoreRoot value) =
     (fixed ≡ None) × (dst_of kept.command < 16) × (IsCopy c w seat command (dst_of kept.command) value ⊎ IsDrop command (dst_of kept.command) value)
 SpotFacts c w seat made kept command fixed (Making at) = MakeFacts c w seat made kept.command command fixed at
 SpotFacts c w seat made kept command fixed AskCycle = (fixed ≡ None) × (command ≡ Gc)
-SpotFacts c w seat made kept command fixed (Waiting at) = WaitFacts w seat made kept.command command fixed at
+SpotFacts c w seat made kept command fixed (Waiting at) = WaitFacts c w seat made kept.command command fixed at
 SpotFacts c w seat made kept command fixed (Leave reply) = fixed ≡ Some reply
 SpotFacts c w seat made kept command fixed Gone = fixed ≡ None
 

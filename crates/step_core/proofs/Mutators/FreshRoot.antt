@@ -149,12 +149,19 @@ module _ {c : Config} {u : World} {seat made : ℕ} {command k : Command} {fixed
       (λ i below. points_stay u.block made_world.block names (u.memory (Root seat i)) (u.graph.root (seat + 1) i) (roots i below))
       (ap name_at (updated_there u.block address (Some (thing name refs nums))))
 
+  -- the new object is there, and may be used
+  target_made : TargetIn c made_world address refs nums name
+  target_made = record { piece = updated_there u.block address (Some (thing name refs nums)); safe = λ inside. absurd (has.outside inside) }
+
+  pub taken_made : TargetIn c made_world address refs nums (next_name seat made)
+  taken_made = subst (λ n. TargetIn c made_world address refs nums n) name_is target_made
+
   -- and may be used
   pub usable_made : ((i : ℕ) → i < 16 → UsableIn c u (u.memory (Root seat i))) → (i : ℕ) → i < 16 → UsableIn c made_world (made_world.memory (Root seat i))
   usable_made usable =
       usable_written c (u.memory Cset) (u.memory Evac) made_world.block u.memory seat (dst_of k) address
       (λ i below. usable_stays c u made_world targets (u.memory (Root seat i)) (usable i below))
-      (inr (name, refs, nums, record { piece = updated_there u.block address (Some (thing name refs nums)); safe = λ inside. absurd (has.outside inside) }))
+      (inr (name, refs, nums, target_made))
 
   -- it has made one object more
   pub count_made : made_world.graph.count (seat + 1) ≡ made + 1

@@ -10,7 +10,6 @@ use Rattle.heap_words.specs.Words.{Top, Answer, Ask}
 use Rattle.shen_graph.specs.declared.command.Command.{Command}
 use Rattle.shen_graph.specs.declared.command.Reply.{Reply}
 use Rattle.shen_graph.specs.declared.command.Reply.TheVariants as reply
-use Rattle.shen_graph.specs.Graph.{fresh}
 use Rattle.handshake.specs.declared.enter_spot.EnterSpot.TheVariants.{Raise}
 use Rattle.mutator.specs.declared.spot.Kept.{Kept}
 use Rattle.mutator.specs.declared.spot.Entered.TheVariants.{Waited}
@@ -19,11 +18,11 @@ use Rattle.mutator.specs.declared.waits.WaitSpot.{WaitSpot}
 use Rattle.mutator.specs.declared.waits.WaitSpot.TheVariants as wait
 use Rattle.mutator.specs.Commands.{refs_of, nums_of}
 use Rattle.mutator.specs.Rows.{Mutating}
-use Rattle.heap_world.specs.World.{World, Shared, thing, promised, name_at, IsMarkable}
+use Rattle.mutator.specs.WaitRows.{next_name}
+use Rattle.heap_world.specs.World.{World, Shared, promised, TargetIn, IsMarkable}
 use Rattle.heap_world.specs.Asking as asking
 use Rattle.heap_world.specs.Asking.{IsPromise}
 use Rattle.heap_world.specs.Rely.{Keeps, KeepsFields, RelyCopies, RelyMarks}
-use Rattle.heap_world.proofs.Updates.{updated_there}
 use Rattle.step_core.proofs.Machines.Stepped.{IsAnswered, Mine, Row}
 use Rattle.step_core.proofs.Mutators.Spots.{mutator_at, accessed}
 use Rattle.step_core.proofs.Mutators.WhileMarking.{marks_in, now_waits, copies_in, fields_in}
@@ -31,7 +30,7 @@ use Rattle.step_core.proofs.Machines.Stable.{asking_stays, heard_stays}
 use Rattle.step_core.proofs.Mutators.Loading.{looks}
 use Rattle.step_core.proofs.Mutators.Entering.{state_keeps}
 use Rattle.step_core.proofs.Machines.Ready.{ready_of, state_word, leaving, given_ready}
-use Rattle.step_core.proofs.Mutators.FreshRoot.{usable_made, HasNew, made_world, made_reply, hand_before, promise_before, roots_made, count_made, legal_made, graph_made, shared_made, others_made}
+use Rattle.step_core.proofs.Mutators.FreshRoot.{taken_made, usable_made, HasNew, made_world, made_reply, hand_before, promise_before, roots_made, count_made, legal_made, graph_made, shared_made, others_made}
 
 module _ (c : Config) (u : World) (seat made : ℕ) (kept : Kept) (command : Command) (fixed : Option Reply) where
   abbrev at_spot : WaitSpot → Mutating
@@ -180,7 +179,7 @@ module _ (c : Config) (u : World) (seat made : ℕ) (kept : Kept) (command : Com
         hands = mine.hands;
         facts = ⊎_elim
             (λ given. let more = given.1.1 in let one = eqb-true _ _ full in absurd (omega (arith, more, one)))
-            (λ no. (no.0.settled, no.1.0, no.1.2, inl (let one = no.1.1 in omega (arith, one))))
+            (λ no. (no.0.settled, no.1.0, no.1.2, no.1.1))
             mine.facts;
       }
       by_full false other = ⊎_elim
@@ -232,7 +231,7 @@ module _ (c : Config) (u : World) (seat made : ℕ) (kept : Kept) (command : Com
         refl,
         mine.facts.0.1.0,
         λ a words is. let old = promise_before has a seat words is in old.0 (promise.only a words old.1),
-        inr (fresh u.graph (seat + 1), ap (λ a. name_at ((made_world has).block a)) mine.facts.1 ∙ ap name_at (updated_there u.block address (Some (thing (fresh u.graph (seat + 1)) refs nums)))),
+        (refs, nums, subst (λ a. TargetIn c (made_world has) a refs nums (next_name seat made)) (sym mine.facts.1) (taken_made has)),
       );
     }
 

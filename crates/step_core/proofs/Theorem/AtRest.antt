@@ -1,5 +1,5 @@
 -- A heap at rest: its words represent the graph after the history, and nobody asks for anything.
-use Rattle.std.proofs.Common.{◌≡◌, ◌≢◌, ℕ, ◌+◌, ◌<◌, true, false, List, Option, Some, None, refl, sym, ap, ◌∙◌, subst, arith}
+use Rattle.std.proofs.Common.{◌≡◌, ℕ, ◌+◌, ◌<◌, true, false, List, Some, refl, sym, ap, ◌∙◌, subst, arith}
 use Rattle.std.specs.Prelude.{slice_get}
 use Rattle.heap_words.specs.declared.config.Config.{Config}
 use Rattle.heap_words.specs.Words.{Answer, view}
@@ -16,11 +16,11 @@ use Rattle.control_rows.specs.Rows.{Controlling}
 use Rattle.heap_world.specs.World.{World, Shared}
 use Rattle.heap_world.specs.Asking.{Asking, nothing, IsAsked}
 use Rattle.heap_world.specs.Represents.{Represents}
-use Rattle.step_core.specs.Actor.{Machine, mutating, helping, controlling, Actor}
+use Rattle.step_core.specs.Actor.{controlling, Actor}
 use Rattle.step_core.specs.AtRest.{IsAtRest}
 use Rattle.step_core.specs.Machines.{image_read}
 use Rattle.step_core.specs.Seats.{is_working}
-use Rattle.step_core.specs.Settled.{settled, settled_by, stored_image, image_of, control_number}
+use Rattle.step_core.specs.Settled.{settled, settled_by, image_of, control_number}
 use Rattle.step_core.specs.Sound.{world_of}
 use Rattle.step_core.proofs.Control.Asked.{asking_at}
 use Rattle.step_core.proofs.Machines.Owed.{IsResting, ControlFacts, IsControl, IsMachine}

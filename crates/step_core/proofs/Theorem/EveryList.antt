@@ -4,7 +4,6 @@ use Rattle.std.specs.Prelude.{slice_get, slice_index}
 use Rattle.std.proofs.lemmas.Option.{same_Some}
 use Rattle.std.proofs.lemmas.Bool.{cases_Bool, false≢true}
 use Rattle.heap_words.specs.declared.config.Config.{Config}
-use Rattle.heap_words.specs.Ranges.{seat_count}
 use Rattle.heap_words.specs.Access.{table_index}
 use Rattle.heap_words.specs.Words.{Left, Answer, word_at, view, table_words}
 use Rattle.heap_words.proofs.Stores.{is_word_true, is_word_from}
@@ -25,14 +24,12 @@ use Rattle.handshake.proofs.Counting.{left_some}
 use Rattle.handshake.proofs.Still.{pause_empty}
 use Rattle.mutator.specs.declared.spot.Kept.{Kept}
 use Rattle.mutator.specs.declared.spot.Spot.{Spot}
-use Rattle.mutator.specs.declared.spot.Spot.TheVariants.{Rest, Ended, Making}
-use Rattle.mutator.specs.declared.makes.MakeSpot.TheVariants.{Taking}
+use Rattle.mutator.specs.declared.spot.Spot.TheVariants.{Rest, Ended}
 use Rattle.mutator.specs.Orders.{takes_at}
-use Rattle.mutator.specs.Rows.{Mutating, touch_at, touch_of, next_of, words_made}
+use Rattle.mutator.specs.Rows.{Mutating, touch_at, touch_of, next_of}
 use Rattle.mutator.specs.Fit.{IsReady, PartFit, EndsFit, IsFit}
-use Rattle.alloc_buffers.specs.declared.spot.TakeSpot.TheVariants.{LoadFree}
 use Rattle.alloc_buffers.specs.Facts.{HasLess}
-use Rattle.heap_world.specs.World.{World, hand}
+use Rattle.heap_world.specs.World.{World}
 use Rattle.heap_world.specs.Change.{Change, IsPause}
 use Rattle.control_rows.specs.declared.spot.ControlSpot.{ControlSpot}
 use Rattle.control_rows.specs.declared.spot.ControlSpot.TheVariants.{Working, LoadWord}
@@ -51,7 +48,6 @@ use Rattle.step_core.specs.Pausing.{IsInPause, IsHelper, IsEmpty}
 use Rattle.step_core.specs.Seats.{looks_for}
 use Rattle.step_core.specs.Settled.{settled, control_number}
 use Rattle.step_core.specs.Sound.{world_of, IsMutator, IsOfHeap, FindsFit, IsSound}
-use Rattle.step_core.proofs.Machines.Stepped.{SpotFacts}
 use Rattle.step_core.proofs.Mutators.Adapter.{gives_settled}
 use Rattle.step_core.proofs.Theorem.Beginning.{goes_begins}
 use Rattle.step_core.proofs.History.Crowding.{run_crowded}
