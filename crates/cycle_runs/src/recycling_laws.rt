@@ -2,8 +2,8 @@
 
 ghost use Rattle.cycle_runs.specs.Recycling.Held.{FreeIsNotHeldInRuns, TakenRegionsWereFree};
 
-/// A law: after every list of steps, no region that is free by the words that count is held: no root, answer or field of a current copy
-/// names it, no machine has an address of it in hand, and no piece begins in it.
+/// A law: after every list of steps, no region that is free by the words that count is held: no root, answer or field of a copy, current or
+/// old, names it, no machine has an address of it in hand, and no piece begins in it.
 pub fn free_is_not_held_in_runs()
     ensures { FreeIsNotHeldInRuns }
 {}

@@ -9,9 +9,11 @@ use Rattle.regions.specs.Place.{base_of}
 use Rattle.regions.proofs.PlaceLemmas.{regions_tile}
 use Rattle.regions.specs.Sets.{IsIn}
 use Rattle.shen_graph.specs.declared.name.Name.{Name}
-use Rattle.heap_world.specs.World.{Block, thing, moved, spent, hand, promised, filler, words_of, name_at, Plot, Body, body_at, IsCollected, IsMarkable, IsYoung, HasCopy, IsEvacuating}
+use Rattle.shen_graph.specs.Graph.{Reference}
+use Rattle.heap_world.specs.World.{Block, thing, moved, spent, hand, promised, filler, words_of, name_at, Plot, Points, Body, body_at, IsCollected, IsMarkable, IsYoung, HasCopy, IsEvacuating}
 use Rattle.heap_world.proofs.Marked.{markable_stays}
 use Rattle.heap_world.proofs.Copies.{bodies_stay}
+use Rattle.heap_world.proofs.Pointing.{named_piece}
 
 -- what is marked in the set stays a copy where copies stay
 copy_stays : (u w : Plot) → ((a : ℕ) (b : Body) → body_at (u a) ≡ Some b → body_at (w a) ≡ Some b) → ((a words to : ℕ) → u a ≡ Some (spent words to) → w a ≡ Some (spent words to)) → (a : ℕ) → HasCopy u a → HasCopy w a
@@ -20,9 +22,10 @@ copy_stays u w bodies spents a (HasCopy.spent_copy words to is) = HasCopy.spent_
 
 module _ (c : Config) (phase cset evac claim free : ℕ) (top tams heap black : ℕ → ℕ) (block : Plot) (owner : ℕ → Option ℕ) (copying : ℕ → Bool) (working : ℕ → Option ℕ)
     (e : IsEvacuating c phase cset evac claim free top tams heap black block owner copying working) where
-  -- Words change, but not the headers, shapes and names of old copies.
+  -- Words change, but not the headers, shapes, names and references of old copies.
   pub evacuated_words : (after : ℕ → ℕ)
-      → ((a refs nums to : ℕ) (name : Name) → block a ≡ Some (moved name refs nums to) → (after a ≡ heap a) × (after (a + 1) ≡ heap (a + 1)) × (after (a + 2) ≡ heap (a + 2)))
+      → ((a refs nums to : ℕ) (name : Name) → block a ≡ Some (moved name refs nums to) → (after a ≡ heap a) × (after (a + 1) ≡ heap (a + 1)) × (after (a + 2) ≡ heap (a + 2))
+      × ((k : ℕ) → k < refs → after (a + 3 + k) ≡ heap (a + 3 + k)))
       → ((a words to : ℕ) → block a ≡ Some (spent words to) → (after a ≡ heap a) × (after (a + 1) ≡ heap (a + 1)))
       → IsEvacuating c phase cset evac claim free top tams after black block owner copying working
   evacuated_words after moveds spents = record {
@@ -30,7 +33,7 @@ module _ (c : Config) (phase cset evac claim free : ℕ) (top tams heap black : 
       moveds = λ a refs nums to name is.
           let was = e.moved.moveds a refs nums to name is in
           let same = moveds a refs nums to name is in
-          record { header = same.0 ∙ was.header; shape = same.1 ∙ was.shape; name_word = same.2 ∙ was.name_word; few_refs = was.few_refs; few_nums = was.few_nums; inside = was.inside; copy = was.copy; outside = was.outside };
+          record { header = same.0 ∙ was.header; shape = same.1 ∙ was.shape; name_word = same.2 ∙ was.name_word; few_refs = was.few_refs; few_nums = was.few_nums; inside = was.inside; copy = was.copy; outside = was.outside; references = λ k below. let there = was.references k below in (there.0, subst (λ v. Points block v there.0) (sym (same.3 k below)) there.1) };
       spents = λ a words to is.
           let was = e.moved.spents a words to is in
           let same = spents a words to is in
@@ -69,7 +72,7 @@ module _ (c : Config) (phase cset evac claim free : ℕ) (top tams heap black : 
     moved = record {
       moveds = λ a refs nums to name is.
           let was = e.moved.moveds a refs nums to name (old a (moved name refs nums to) (λ seat words same. (let differ = same in cc)) is) in
-          record { header = was.header; shape = was.shape; name_word = was.name_word; few_refs = was.few_refs; few_nums = was.few_nums; inside = was.inside; copy = stays to (thing name refs nums) was.copy; outside = was.outside };
+          record { header = was.header; shape = was.shape; name_word = was.name_word; few_refs = was.few_refs; few_nums = was.few_nums; inside = was.inside; copy = stays to (thing name refs nums) was.copy; outside = was.outside; references = λ k below. let there = was.references k below in (there.0, points_on (heap (a + 3 + k)) there.0 there.1) };
       spents = λ a words to is.
           let was = e.moved.spents a words to (old a (spent words to) (λ seat more same. (let differ = same in cc)) is) in
           record { header = was.header; shape = was.shape; inside = was.inside; copy = still to was.copy; piece = was.piece; there = stays to was.piece was.there; long = was.long; outside = was.outside };
@@ -99,6 +102,10 @@ module _ (c : Config) (phase cset evac claim free : ℕ) (top tams heap black : 
       old : (a : ℕ) (b : Block) → ((seat words : ℕ) → b ≡ hand seat words → ⊥) → new_block a ≡ Some b → block a ≡ Some b
       old a b no_hand is = ⊎_elim (λ was. was) (λ new. absurd (no_hand new.1 new.2 new.3)) (only a b is)
 
+      points_on : (v : ℕ) (reference : Reference) → Points block v reference → Points new_block v reference
+      points_on v None is = is
+      points_on v (Some name) is = let piece = named_piece (block v) name is in ap name_at (stays v piece.0 piece.1) ∙ piece.2
+
       still : (a : ℕ) → IsMarkable block a → IsMarkable new_block a
       still = markable_stays block new_block (λ a refs nums name is. stays a (thing name refs nums) is) (λ a seat words is. IsMarkable.to_come seat words (stays a (promised seat words) is))
 
@@ -117,7 +124,7 @@ module _ (c : Config) (phase cset evac claim free : ℕ) (top tams heap black : 
     moved = record {
       moveds = λ a more_refs more_nums to n is.
           let was = e.moved.moveds a more_refs more_nums to n (old a (moved n more_refs more_nums to) (λ same. (let differ = same in cc)) is) in
-          record { header = was.header; shape = was.shape; name_word = was.name_word; few_refs = was.few_refs; few_nums = was.few_nums; inside = was.inside; copy = things to more_refs more_nums n was.copy; outside = was.outside };
+          record { header = was.header; shape = was.shape; name_word = was.name_word; few_refs = was.few_refs; few_nums = was.few_nums; inside = was.inside; copy = things to more_refs more_nums n was.copy; outside = was.outside; references = λ k below. let there = was.references k below in (there.0, points_on (heap (a + 3 + k)) there.0 there.1) };
       spents = λ a words to is.
           let was = e.moved.spents a words to (old a (spent words to) (λ same. (let differ = same in cc)) is) in
           let then = piece_then to was.piece was.there in
@@ -159,6 +166,10 @@ module _ (c : Config) (phase cset evac claim free : ℕ) (top tams heap black : 
 
       away : (a : ℕ) (b : Block) (n : Name) → block a ≡ Some b → name_at (Some b) ≡ Some n → new_block a ≡ Some b
       away a b n is named = stays a b is (λ same. none-some n (sym unnamed ∙ ap name_at (sym room ∙ ap block (sym same) ∙ is) ∙ named))
+
+      points_on : (v : ℕ) (reference : Reference) → Points block v reference → Points new_block v reference
+      points_on v None is = is
+      points_on v (Some n) is = let piece = named_piece (block v) n is in ap name_at (away v piece.0 n piece.1 piece.2) ∙ piece.2
 
       things : (a more_refs more_nums : ℕ) (n : Name) → block a ≡ Some (thing n more_refs more_nums) → new_block a ≡ Some (thing n more_refs more_nums)
       things a more_refs more_nums n is = away a (thing n more_refs more_nums) n is refl

@@ -215,6 +215,8 @@ module _ (c : Config) (u : World) (a refs nums at value : ℕ) (name : Name) (o 
           head_stays from_start to_end b (moved n more_refs more_nums to) is_old (λ differ. cc) (omega arith),
           else_stays from_start to_end b 1 (moved n more_refs more_nums to) is_old (λ differ. cc) (omega arith),
           else_stays from_start to_end b 2 (moved n more_refs more_nums to) is_old (λ differ. cc) (omega arith),
+          λ k less. subst (λ d. updated (λ e. u.memory (Heap e)) at value d ≡ u.memory (Heap d)) (let there : b + (3 + k) ≡ b + 3 + k = omega arith in there)
+              (else_stays from_start to_end b (3 + k) (moved n more_refs more_nums to) is_old (λ differ. cc) (omega (arith, less))),
         ))
         (λ b words to is_old. let long = shared.parsable.spents b words to is_old in (head_stays from_start to_end b (spent words to) is_old (λ differ. cc) (omega (arith, long)), else_stays from_start to_end b 1 (spent words to) is_old (λ differ. cc) (omega (arith, long))));
     updated = λ on. updated_stored c (u.memory Cset) (u.memory Claim) (λ r. u.memory (Top r)) (λ r. u.memory (Limit r)) (λ b. u.memory (Heap b)) u.block u.ghost.scanning (shared.updated on)

@@ -336,8 +336,8 @@ pub record KeepsSnapshot (c : Config) (phase : ℕ) (grey black count : ℕ → 
   pub blacks : phase ≡ 1 → AreMarks c black block
   pub entries : phase ≡ 1 → AreEntries c count buffer block
 
--- An old copy lies in the collection set. Its header leads to the current copy, which lies outside, and its shape and its name are as they
--- were.
+-- An old copy lies in the collection set. Its header leads to the current copy, which lies outside, its shape and its name are as they
+-- were, and its references stand for references still.
 pub record IsMoved (c : Config) (cset : ℕ) (heap : ℕ → ℕ) (block : Plot) (a refs nums to : ℕ) (name : Name) : Type 0 where
   pub header : heap a ≡ header_word to
   pub shape : heap (a + 1) ≡ shape_word refs nums
@@ -347,6 +347,7 @@ pub record IsMoved (c : Config) (cset : ℕ) (heap : ℕ → ℕ) (block : Plot)
   pub inside : IsCollected c cset a
   pub copy : block to ≡ Some (thing name refs nums)
   pub outside : IsCollected c cset to → ⊥
+  pub references : (k : ℕ) → k < refs → (reference : Reference) × Points block (heap (a + 3 + k)) reference
 
 -- So it is with an old copy of an object that was promised then. Its current copy still is, or is an object of the graph.
 pub record IsSpent (c : Config) (cset : ℕ) (heap : ℕ → ℕ) (block : Plot) (a words to : ℕ) : Type 0 where

@@ -1,10 +1,11 @@
 -- An object is copied out of the collection set: what holds between two turns holds again, with the object at its new place and an
 -- old copy where it was.
-use Rattle.std.proofs.Common.{◌≡◌, ◌≢◌, ℕ, ◌+◌, ◌<◌, ◌≤◌, ◌⊎◌, Option, Some, inl, inr, ⊎_elim, refl, sym, ap, ◌∙◌, subst, arith}
+use Rattle.std.proofs.Common.{◌≡◌, ◌≢◌, ℕ, ◌+◌, ◌<◌, ◌≤◌, ◌⊎◌, Option, Some, None, get_or, inl, inr, ⊎_elim, refl, sym, ap, ◌∙◌, subst, arith}
 use Rattle.std.specs.Prelude.{bit_and}
 use Rattle.std.specs.Int.{bit_at}
 use Rattle.std.proofs.Math.Path.{fun_ext}
 use Rattle.std.proofs.lemmas.Bool.{cases_eq}
+use Rattle.std.proofs.lemmas.Option.{slice_get-get_or}
 use Rattle.std.proofs.lemmas.Nat.{and_le_l}
 use Rattle.heap_words.specs.declared.config.Config.{Config}
 use Rattle.heap_words.specs.Words.{Word, Cset, Free, Top, Tams, Current, Black, Heap}
@@ -13,10 +14,11 @@ use Rattle.regions.specs.Place.{base_of, region_with}
 use Rattle.regions.specs.Sets.{IsIn, all_but}
 use Rattle.regions.proofs.PlaceLemmas.{regions_tile}
 use Rattle.shen_graph.specs.declared.name.Name.{Name}
-use Rattle.shen_graph.specs.Graph.{Graph}
+use Rattle.shen_graph.specs.Graph.{Reference, Graph}
 use Rattle.regions.specs.Marks.{HasMark}
-use Rattle.heap_world.specs.World.{Block, thing, moved, spent, hand, promised, filler, words_of, Plot, name_at, IsCollected, IsPlotted, IsFilled, IsThing, IsParsable, AreObjects, IsFreeWord, AreCurrent, IsBlank, AreUnwritten, IsMoved, IsSpent, IsMarkable, IsYoung, HasCopy, body_at}
+use Rattle.heap_world.specs.World.{Block, thing, moved, spent, hand, promised, filler, words_of, Plot, name_at, Points, IsCollected, IsPlotted, IsFilled, IsThing, IsParsable, AreObjects, IsFreeWord, AreCurrent, IsBlank, AreUnwritten, IsMoved, IsSpent, IsMarkable, IsYoung, HasCopy, body_at}
 use Rattle.heap_world.proofs.Updates.{updated, updated_same, updated_there, updated_else}
+use Rattle.heap_world.proofs.Keeping.{points_stay}
 use Rattle.heap_world.proofs.Pointing.{named_piece}
 use Rattle.heap_world.proofs.Pieces.{some_words, beside, piece_cases, object_reads}
 use Rattle.heap_world.proofs.Apart.{far}
@@ -350,6 +352,10 @@ module _ (c : Config) (m : Word → ℕ) (block : Plot) (owner : ℕ → Option 
   markable_stays p other (IsMarkable.object name refs nums is) = IsMarkable.object name refs nums (stays p (thing name refs nums) other is)
   markable_stays p other (IsMarkable.to_come seat words is) = IsMarkable.to_come seat words (stays p (promised seat words) other is)
 
+  -- what a word that stays stood for it stands for then
+  refers_still : (at : ℕ) (reference : Reference) → after at ≡ heap at → Points block (heap at) reference → Points plot (after at) reference
+  refers_still at reference same points = subst (λ v. Points plot v reference) (sym same) (points_stay block plot names_stay (heap at) reference points)
+
   moved_again : (p refs nums at : ℕ) (name : Name) → plot p ≡ Some (moved name refs nums at) → IsMoved c (n Cset) after plot p refs nums at name
   moved_again p refs nums at name is = ⊎_elim
       (λ (gone : (p ≡ a) × (old ≡ moved name refs nums at)).
@@ -367,6 +373,11 @@ module _ (c : Config) (m : Word → ℕ) (block : Plot) (owner : ℕ → Option 
         inside = inside_now;
         copy = new_there ∙ ap Some was.0;
         outside = outside_now;
+        references = λ k below.
+            let null : Reference = None in
+            let there = slice_get-get_or o.0.refs k null (let few = o.2.refs_are in omega (arith, below, few)) in
+            let place : a + (3 + k) ≡ a + 3 + k = omega arith in
+            (get_or o.0.refs k null, refers_still (a + 3 + k) (get_or o.0.refs k null) (subst (λ d. after d ≡ heap d) place (left (3 + k) (omega arith) (omega (arith, size, below)))) (o.2.references k (get_or o.0.refs k null) there));
       })))
       (λ rest. ⊎_elim
       (λ (new : (p ≡ to) × (x ≡ moved name refs nums at)). absurd ((live_is_live x live).0 name refs nums at new.1))
@@ -382,6 +393,10 @@ module _ (c : Config) (m : Word → ℕ) (block : Plot) (owner : ℕ → Option 
         inside = subst (λ s. IsCollected c s p) (sym set_same) was.inside;
         copy = stays at (thing name refs nums) (not_old at was.outside) was.copy;
         outside = λ member. was.outside (subst (λ s. IsCollected c s at) set_same member);
+        references = λ k below.
+            let there = was.references k below in
+            let place : p + (3 + k) ≡ p + 3 + k = omega arith in
+            (there.0, refers_still (p + 3 + k) there.0 (subst (λ d. after d ≡ heap d) place (kept p (3 + k) (moved name refs nums at) stood.0 stood.1 (omega (arith, below)))) there.1);
       })
       rest)
       (plot_cases p (moved name refs nums at) is)

@@ -229,6 +229,10 @@ module _ (c : Config) (first m : Word → ℕ) (block : Plot) (owner : ℕ → O
           inside = was.inside;
           copy = was.copy;
           outside = was.outside;
+          references = λ k below.
+              let there = was.references k below in
+              let place : a + (3 + k) ≡ a + 3 + k = omega arith in
+              (there.0, subst (λ v. Points block v there.0) (sym (subst (λ d. after d ≡ heap d) place (old_word a (3 + k) (moved name refs nums to) is was.inside (omega (arith, below))))) there.1);
         };
     spents = λ a words to is.
         let was = s.between.moves.spents a words to is in

@@ -13,7 +13,8 @@ use Rattle.shen_graph.specs.declared.command.Reply.{Reply}
 use Rattle.shen_graph.specs.declared.command.Reply.TheVariants.{Ref}
 use Rattle.shen_graph.specs.Graph.{Graph}
 use Rattle.shen_graph.specs.History.{Entry, after, of_thread}
-use Rattle.heap_world.specs.World.{World, thing, Shared}
+use Rattle.heap_world.specs.World.{World, thing, moved, Body, body_at, Shared}
+use Rattle.heap_world.proofs.Pointing.{copy_cases}
 use Rattle.heap_world.specs.Asking.{Asking, nothing, asks, refused, given, IsAsked}
 use Rattle.unit_part.specs.declared.spot.UnitSpot.{UnitSpot}
 use Rattle.unit_part.specs.declared.spot.UnitSpot.TheVariants as unit
@@ -95,11 +96,23 @@ module _ (c : Config) (w : World) (shared : Shared c w) (r : ℕ) (inside : r < 
       answer_apart seat asked.asking asked.is some
 
   -- what a field of a current copy names
-  pub field_apart : (a refs nums k : ℕ) (name : Name) → w.block a ≡ Some (thing name refs nums) → k < refs → IsApart (w.memory (Heap (a + 3 + k)))
+  field_apart : (a refs nums k : ℕ) (name : Name) → w.block a ≡ Some (thing name refs nums) → k < refs → IsApart (w.memory (Heap (a + 3 + k)))
   field_apart a refs nums k name is below =
       let object = shared.contents.objects.each a refs nums name is in
       let there = slice_get-get_or object.0.refs k None (let long = object.2.refs_are in omega (arith, below, long)) in
       points_elsewhere c w shared r inside free (w.memory (Heap (a + 3 + k))) (get_or object.0.refs k None) (object.2.references k (get_or object.0.refs k None) there)
+
+  -- and what one of an old copy does
+  old_apart : (a refs nums to k : ℕ) (name : Name) → w.block a ≡ Some (moved name refs nums to) → k < refs → IsApart (w.memory (Heap (a + 3 + k)))
+  old_apart a refs nums to k name is below =
+      let there = (shared.evacuated.moved.moveds a refs nums to name is).references k below in
+      points_elsewhere c w shared r inside free (w.memory (Heap (a + 3 + k))) there.0 there.1
+
+  pub copy_apart : (a k : ℕ) (b : Body) → body_at (w.block a) ≡ Some b → k < b.refs → IsApart (w.memory (Heap (a + 3 + k)))
+  copy_apart a k b is below = ⊎_elim
+      (λ now. field_apart a b.refs b.nums k b.name now below)
+      (λ was. old_apart a b.refs b.nums was.0 k b.name was.1 below)
+      (copy_cases (w.block a) b is)
 
 -- What a stage says in which all goes as it should.
 module _ (c : Config) (g : Graph) (s : Stage Actor) (h : List Entry) (goes : Goes c g s h) where
@@ -125,13 +138,13 @@ module _ (c : Config) (g : Graph) (s : Stage Actor) (h : List Entry) (goes : Goe
       let m = there.1 in
       subst (λ seat. 1 < the_world.memory (Answer seat) → IsOf c r (the_world.memory (Answer seat)) → ⊥) thread.number_is
       (answered_apart c the_world goes.follows.shared r inside free m.seat m.made m.kept there.0.command thread.fixed m.spot thread.mine) some of
-  not_held r inside free (IsHeld.by_field a refs nums k name is below of) = field_apart c the_world goes.follows.shared r inside free a refs nums k name is below of
+  not_held r inside free (IsHeld.by_field a k b is below of) = copy_apart c the_world goes.follows.shared r inside free a k b is below of
   not_held r inside free (IsHeld.by_hand number a x here hand_is of) =
       machine_hand c the_world goes.follows.shared r inside free s.words (of_thread h (number + 1)) number x x.machine (goes.follows.machines number x here) a hand_is of
-  not_held r inside free (IsHeld.by_carried number x carried refs nums name here carries there from below of) =
+  not_held r inside free (IsHeld.by_carried number x carried b here carries there from below of) =
       let stands = (in_seat c s.words the_world (of_thread h (number + 1)) number x x.machine (goes.follows.machines number x here)).carries carried carries in
       let word : carried.word ≡ the_world.memory (Heap (carried.object + 3 + (carried.index - 3))) = stands.same ∙ ap (λ a. the_world.memory (Heap a)) (omega (arith, from)) in
-      field_apart c the_world goes.follows.shared r inside free carried.object refs nums (carried.index - 3) name there (omega (arith, from, below)) (subst (IsOf c r) word of)
+      copy_apart c the_world goes.follows.shared r inside free carried.object (carried.index - 3) b there (omega (arith, from, below)) (subst (IsOf c r) word of)
   not_held r inside free (IsHeld.by_piece a x is of) = piece_elsewhere c the_world goes.follows.shared r inside free a x is of
 
   pub free_is_not_held : FreeIsNotHeld c s (after g h)

@@ -5,11 +5,10 @@ use Rattle.heap_words.specs.Words.{Free, Answer, Heap, view}
 use Rattle.regions.specs.Place.{IsOf}
 use Rattle.regions.specs.Sets.{IsIn}
 use Rattle.steps_base.specs.Steps.{Stage, Event, IsEvent, act, go}
-use Rattle.shen_graph.specs.declared.name.Name.{Name}
 use Rattle.shen_graph.specs.declared.order.Order.{Order}
 use Rattle.shen_graph.specs.Graph.{Graph}
 use Rattle.shen_graph.specs.History.{after}
-use Rattle.heap_world.specs.World.{World, Block, thing}
+use Rattle.heap_world.specs.World.{World, Block, Body, body_at}
 use Rattle.heap_world.specs.Change.{Change, IsPause}
 use Rattle.mutator.specs.Rows.{Mutating}
 use Rattle.step_core.specs.Actor.{mutating, Actor}
@@ -22,17 +21,16 @@ use Rattle.step_core.specs.Settled.{image_read, settled}
 use Rattle.step_core.specs.Sound.{world_of, StandsFor}
 use Rattle.cycle_runs.specs.Recycling.InHand.{IsInHandOf}
 
--- A region is held: in it lies what counts as a root, where an answer leads, what a field of a current copy names, what a machine has
--- in hand, also a reference that it has loaded of an object and is about to store into a copy, if the object has not moved meanwhile, or
--- the beginning of a piece at all.
+-- A region is held: in it lies what counts as a root, where an answer leads, what a field of a copy names, current or old, what a machine
+-- has in hand, also a reference that it has loaded of an object and is about to store into a copy, or the beginning of a piece at all.
 pub data IsHeld (c : Config) (w : World) (machines : List Actor) (r : ℕ) : Type 0 where
   by_root : (number index : ℕ) (x : Actor) (m : Mutating) → slice_get machines number ≡ Some x → x.machine ≡ mutating m → index < 16 → IsOf c r (root_now w m.seat m.kept m.spot index)
       → IsHeld c w machines r
   by_answer : (t : ℕ) → t < c.mutators → 1 < w.memory (Answer t) → IsOf c r (w.memory (Answer t)) → IsHeld c w machines r
-  by_field : (a refs nums k : ℕ) (name : Name) → w.block a ≡ Some (thing name refs nums) → k < refs → IsOf c r (w.memory (Heap (a + 3 + k))) → IsHeld c w machines r
+  by_field : (a k : ℕ) (b : Body) → body_at (w.block a) ≡ Some b → k < b.refs → IsOf c r (w.memory (Heap (a + 3 + k))) → IsHeld c w machines r
   by_hand : (number a : ℕ) (x : Actor) → slice_get machines number ≡ Some x → IsInHandOf c x.machine a → IsOf c r a → IsHeld c w machines r
-  by_carried : (number : ℕ) (x : Actor) (carried : Carried) (refs nums : ℕ) (name : Name) → slice_get machines number ≡ Some x → carries_of x.machine ≡ Some carried
-      → w.block carried.object ≡ Some (thing name refs nums) → 3 ≤ carried.index → carried.index < 3 + refs → IsOf c r carried.word → IsHeld c w machines r
+  by_carried : (number : ℕ) (x : Actor) (carried : Carried) (b : Body) → slice_get machines number ≡ Some x → carries_of x.machine ≡ Some carried → body_at (w.block carried.object) ≡ Some b
+      → 3 ≤ carried.index → carried.index < 3 + b.refs → IsOf c r carried.word → IsHeld c w machines r
   by_piece : (a : ℕ) (x : Block) → w.block a ≡ Some x → IsOf c r a → IsHeld c w machines r
 
 -- Words and machines stand for a graph by some plot, in which no region that is free by the words that count is held.

@@ -1,8 +1,8 @@
 -- A copy is published: the header of the old one names it, and it is the object's current copy from then on.
-use Rattle.std.proofs.Common.{◌≡◌, ◌≢◌, ℕ, ◌+◌, ◌<◌, ◌≤◌, ◌⊎◌, Some, true, ⊎_elim, inl, inr, refl, sym, ap, ◌∙◌, subst, arith}
+use Rattle.std.proofs.Common.{◌≡◌, ◌≢◌, ℕ, ◌+◌, ◌<◌, ◌≤◌, ◌⊎◌, Some, None, get_or, true, ⊎_elim, inl, inr, refl, sym, ap, ◌∙◌, subst, arith}
 use Rattle.std.specs.Prelude.{◌==◌, length}
 use Rattle.std.proofs.lemmas.Bool.{cases_eq, cond-true, eq-eqb}
-use Rattle.std.proofs.lemmas.Option.{same_Some, none-some, slice_get_within}
+use Rattle.std.proofs.lemmas.Option.{same_Some, none-some, slice_get_within, slice_get-get_or}
 use Rattle.heap_words.specs.declared.config.Config.{Config}
 use Rattle.heap_words.specs.Encoding.{plain_header, header_word, object_words}
 use Rattle.heap_words.specs.Ranges.{seat_count}
@@ -10,7 +10,7 @@ use Rattle.heap_words.specs.Words.{Phase, Cset, Evac, Top, Tams, Heap, write}
 use Rattle.regions.specs.Place.{base_of}
 use Rattle.steps_base.specs.Touch.{touch, exchanges}
 use Rattle.shen_graph.specs.declared.name.Name.{Name}
-use Rattle.shen_graph.specs.Graph.{Object}
+use Rattle.shen_graph.specs.Graph.{Reference, Object}
 use Rattle.heap_world.specs.World.{World, Block, thing, moved, spent, hand, promised, filler, words_of, Plot, name_at, Points, IsInUse, Body, body_of, body_at, IsPlotted, IsFilled, IsThing, IsCollected, IsMarkable, IsYoung, HasCopy, IsMoved, Shared}
 use Rattle.heap_world.specs.Part.{PartStep}
 use Rattle.heap_world.proofs.Updates.{updated, updated_there, updated_else}
@@ -179,6 +179,14 @@ module _ (c : Config) (u : World) (seat a copy refs nums : ℕ) (name : Name) (s
   first_stays : (b : ℕ) → b ≢ a → heap_then b ≡ u.memory (Heap b)
   first_stays b other = updated_else (λ d. u.memory (Heap d)) a (header_word copy) b (λ same. other (sym same))
 
+  -- what a word behind the name stands for it stands for then
+  refers_then : (b k : ℕ) (x : Block) → u.block b ≡ Some x → 3 + k < words_of x → (b ≢ a) ⊎ (1 ≤ 3 + k) → (reference : Reference) → Points u.block (u.memory (Heap (b + 3 + k))) reference
+      → Points block_then (heap_then (b + 3 + k)) reference
+  refers_then b k x is below which reference points =
+      let place : b + (3 + k) ≡ b + 3 + k = omega arith in
+      let same : heap_then (b + 3 + k) ≡ u.memory (Heap (b + 3 + k)) = subst (λ d. heap_then d ≡ u.memory (Heap d)) place (word_stays b (3 + k) x is below which) in
+      subst (λ v. Points block_then v reference) (sym same) (points_stay u.block block_then names (u.memory (Heap (b + 3 + k))) reference points)
+
   -- an object before
   was_object : (o : Object) × (u.graph.object name ≡ Some o) × IsThing (λ b. u.memory (Heap b)) u.block a refs nums name o
   was_object = shared.contents.objects.each a refs nums name object
@@ -232,6 +240,10 @@ module _ (c : Config) (u : World) (seat a copy refs nums : ℕ) (name : Name) (s
     inside = inside;
     copy = new_there;
     outside = outside;
+    references = λ k less.
+        let null : Reference = None in
+        let there = slice_get-get_or was_object.0.refs k null (let long = was_object.2.refs_are in omega (arith, less, long)) in
+        (get_or was_object.0.refs k null, refers_then a k (thing name refs nums) object (omega (arith, less)) (inr (omega arith)) (get_or was_object.0.refs k null) (was_object.2.references k (get_or was_object.0.refs k null) there));
   }
 
   -- and other old copies where they led
@@ -247,6 +259,7 @@ module _ (c : Config) (u : World) (seat a copy refs nums : ℕ) (name : Name) (s
         inside = was.inside;
         copy = else_there to (not_old to was.outside) (λ same. (let both = sym was.copy ∙ ap u.block same ∙ room in cc)) ∙ was.copy;
         outside = was.outside;
+        references = λ k less. let there = was.references k less in (there.0, refers_then b k (moved n more_refs more_nums to) is (omega (arith, less)) (inl other) there.0 there.1);
       }
 
   publishing : IsCopyingStep c u seat heap_then tops (u.memory Evac) block_then u.ghost.copying

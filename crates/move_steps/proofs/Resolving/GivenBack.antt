@@ -10,6 +10,7 @@ use Rattle.regions.specs.Sets.{IsIn}
 use Rattle.shen_graph.specs.declared.name.Name.{Name}
 use Rattle.heap_world.specs.World.{World, Block, thing, moved, spent, hand, promised, filler, words_of, Plot, name_at, Body, body_at, IsPlotted, IsFilled, IsCollected, IsMarkable, HasCopy, Shared}
 use Rattle.heap_world.specs.Part.{PartStep}
+use Rattle.heap_world.proofs.Keeping.{points_stay}
 use Rattle.heap_world.proofs.Updates.{updated, updated_same, updated_there, updated_else}
 use Rattle.heap_world.proofs.Pieces.{object_reads, behind, some_words}
 use Rattle.load_barrier.specs.Rows.{offset_of}
@@ -234,6 +235,7 @@ module _ (c : Config) (u : World) (seat copy words : ℕ) (shared : Shared c u) 
             inside = was.inside;
             copy = stays to (thing n refs nums) (λ same. (let differ = same in cc)) was.copy;
             outside = was.outside;
+            references = λ k less. let there = was.references k less in (there.0, points_stay u.block block_then names (u.memory (Heap (a + 3 + k))) there.0 there.1);
           };
       spents = λ a more to is.
           let was = shared.evacuated.moved.spents a more to (came a (spent more to) is).1 in

@@ -5,7 +5,7 @@ use Rattle.heap_words.specs.declared.config.Config.{Config}
 use Rattle.heap_words.specs.Encoding.{object_words}
 use Rattle.heap_words.specs.Words.{Phase, Evac, Top, Heap}
 use Rattle.steps_base.specs.Touch.{touch, stores}
-use Rattle.heap_world.specs.World.{World, Block, thing, moved, spent, hand, words_of, Shared}
+use Rattle.heap_world.specs.World.{World, Block, thing, moved, spent, hand, words_of, Points, Shared}
 use Rattle.heap_world.specs.Part.{PartStep}
 use Rattle.heap_world.proofs.Updates.{updated, updated_else}
 use Rattle.heap_world.proofs.Apart.{far}
@@ -61,6 +61,10 @@ module _ (c : Config) (u : World) (seat copy words at place value : ℕ) (shared
             inside = was.inside;
             copy = was.copy;
             outside = was.outside;
+            references = λ k less.
+                let there = was.references k less in
+                let place : a + (3 + k) ≡ a + 3 + k = omega arith in
+                (there.0, subst (λ v. Points u.block v there.0) (sym (subst (λ b. heap_then b ≡ u.memory (Heap b)) place (else_stays a (3 + k) (moved name refs nums to) is other (omega (arith, less))))) there.1);
           };
       spents = λ a more to is.
           let was = shared.evacuated.moved.spents a more to is in

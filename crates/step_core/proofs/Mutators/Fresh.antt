@@ -112,6 +112,8 @@ module _ (c : Config) (u : World) (seat made : ℕ) (kept : Kept) (command : Com
             head_stays a (moved n more_refs more_nums to) is (λ differ. cc) (omega arith),
             else_stays a 1 (moved n more_refs more_nums to) is (not_room a (moved n more_refs more_nums to) is (λ differ. cc)) (omega arith),
             else_stays a 2 (moved n more_refs more_nums to) is (not_room a (moved n more_refs more_nums to) is (λ differ. cc)) (omega arith),
+            λ k less. subst (λ b. stored_world.memory (Heap b) ≡ u.memory (Heap b)) (let there : a + (3 + k) ≡ a + 3 + k = omega arith in there)
+                (else_stays a (3 + k) (moved n more_refs more_nums to) is (not_room a (moved n more_refs more_nums to) is (λ differ. cc)) (omega (arith, less))),
           ))
           (λ a words to is. let long = shared.parsable.spents a words to is in (
             head_stays a (spent words to) is (λ differ. cc) (omega (arith, long)),
