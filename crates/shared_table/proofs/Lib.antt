@@ -7,3 +7,4 @@ pub mod ChangeHands
 pub mod Kept
 pub mod Numbers
 pub mod Reached
+pub mod Counted

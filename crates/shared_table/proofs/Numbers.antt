@@ -48,7 +48,7 @@ module _ {R : Type 0} where
   all_here (None ∷ xs) each = absurd (let a = each 0 (omega arith) in cc)
   all_here (Some r ∷ xs) each = ap (λ (ys : View R). Some r ∷ ys) (all_here xs (λ k within. each (suc k) (omega arith)))
 
-  whole_here : (machines : List R) (k : ℕ) → k < length machines → is_some (machine_of (whole machines) k) ≡ true
+  pub whole_here : (machines : List R) (k : ℕ) → k < length machines → is_some (machine_of (whole machines) k) ≡ true
   whole_here [] k within = absurd (omega arith)
   whole_here (r ∷ rs) zero within = refl
   whole_here (r ∷ rs) (suc k) within = whole_here rs k (omega arith)

@@ -5,8 +5,9 @@ use Rattle.std.specs.Option.{is_some}
 use Rattle.heap_words.specs.declared.access.Access.{Access}
 use Rattle.heap_words.specs.Access.{table_index, made_of}
 use Rattle.atomic_table.specs.Table.{Me, Allows, Splits, Joins, Final, Seen, opening}
-use Rattle.steps_base.specs.Steps.{MachineKind, Stage, IsReached, HasReached, Finds}
+use Rattle.steps_base.specs.Steps.{MachineKind, Stage, Event, go, IsReached, HasReached, Finds}
 use Rattle.shared_table.specs.Views.{View, machine_of, whole, machines_of, HasAllMachines, machines_picked, machines_left, merged, is_dealt_to, dealt_to, dealt_below, kept_one, kept_in_view, SameNumbers}
+use Rattle.shared_table.specs.Counted.{Counted, counting, counted_from, uncounted_stage, uncounted_view, steps_in_view, uncounted_seat}
 use Rattle.shared_table.specs.Rule.{Rule, Took, AreReached}
 
 -- `S` is what slots of the table hold; no step touches one
@@ -79,3 +80,16 @@ pub record NumberLaws (R : Type 0) : Type 0 where
   pub step : (v : View R) (number : ℕ) (r next : R) → machine_of v number ≡ Some r → SameNumbers v (slice_set v number (Some next))
   pub joined : (v w x y : View R) → length v ≡ length x → SameNumbers v w → SameNumbers x y → SameNumbers (merged v x) (merged w y)
   pub whole : (machines : List R) (v : View R) → SameNumbers (whole machines) v → HasAllMachines (length machines) v
+
+-- Machines that count their steps run as those that do not, and a step is counted once
+pub record CountLaws {R O : Type 0} (S : Type 0) (kind : MachineKind R O) (start : Stage R) : Type 0 where
+  pub runs : (events : List (Event O)) → uncounted_stage (go (counting kind) (counted_from start) events) ≡ go kind start events
+  -- words and machines that are reached are so without the numbers
+  pub reached : (words : List ℕ) (view : View (Counted R)) → IsReached (counting kind) (counted_from start) (record { words = words; machines = machines_of view })
+      → IsReached kind start (record { words = words; machines = machines_of (uncounted_view view) })
+  -- so is what a step tells
+  pub tells : (number : ℕ) (order : O) (before after : Me S (View (Counted R))) (got : ℕ) → Took (counting kind) (counted_from start) number order before got after
+      → Took kind start number order (uncounted_seat before) got (uncounted_seat after)
+  -- its machine has made one step more, and no other machine of the view has made one
+  pub counts : (number : ℕ) (order : O) (before after : Me S (View (Counted R))) (got : ℕ) → Took (counting kind) (counted_from start) number order before got after
+      → (n : ℕ) × (machine_of (steps_in_view before.0) number ≡ Some n) × (steps_in_view after.0 ≡ slice_set (steps_in_view before.0) number (Some (n + 1)))

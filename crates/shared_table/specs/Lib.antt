@@ -1,3 +1,4 @@
 pub mod Views
+pub mod Counted
 pub mod Rule
 pub mod Laws

@@ -1,7 +1,7 @@
 ghost use Rattle.std.specs.Prelude.{ℕ};
 ghost use Rattle.steps_base.specs.Steps.{MachineKind, Stage};
 ghost use Rattle.shared_table.specs.Views as views;
-ghost use Rattle.shared_table.specs.Laws.{TableLaws, ReachLaws, DealingLaws, KeptLaws, StepLaws, NumberLaws};
+ghost use Rattle.shared_table.specs.Laws.{TableLaws, ReachLaws, DealingLaws, KeptLaws, StepLaws, NumberLaws, CountLaws};
 
 /// A law: the rule holds at the opening, each step keeps it, and who has all machines knows one run. `S` is what slots
 /// hold.
@@ -32,4 +32,9 @@ pub fn numbers_stay<R>()
 /// A law: where memory has a machine of a view, its step is one of the view, and memory keeps what it then is.
 pub fn steps_reach_memory<R, O, T, S>()
     ensures { (kind : MachineKind R O) (start : Stage R) (kept : R → T) → StepLaws S kind start kept }
+{}
+
+/// A law: machines that count their steps run as those that do not, and a step is counted once.
+pub fn steps_are_counted<R, O, S>()
+    ensures { (kind : MachineKind R O) (start : Stage R) → CountLaws S kind start }
 {}

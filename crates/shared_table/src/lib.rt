@@ -11,8 +11,8 @@ mod steps;
 pub use bundles::{close_table, deal_bundle, join_bundle, open_table};
 pub use hands::{deal_machines, join_machines};
 pub use laws::{
-    bundles_are_all, bundles_are_reached, memory_follows_views, numbers_stay, steps_keep_the_rule,
-    steps_reach_memory,
+    bundles_are_all, bundles_are_reached, memory_follows_views, numbers_stay, steps_are_counted,
+    steps_keep_the_rule, steps_reach_memory,
 };
 pub use machines::{
     Cut, Machines, Parts, SharedWords, StepsRule, StepsTable, Turn, Turns, Union, View, ViewSeat,

@@ -12,3 +12,4 @@ pub mod Turning
 pub mod Rounds
 pub mod Starting
 pub mod Ended
+pub mod StepCounts

@@ -1,13 +1,15 @@
 -- The step of a machine of a bundle.
 use Rattle.std.proofs.Common.{◌≡◌, ℕ, Bool, true, false, Option, Some, None, refl, sym, ap, ◌∙◌, subst, arith}
-use Rattle.std.specs.Prelude.{slice_set, ◌==◌, if◌then◌else◌}
+use Rattle.std.specs.Prelude.{slice_set, unwrap_or, ◌+◌, ◌==◌, if◌then◌else◌}
 use Rattle.std.proofs.lemmas.Bool.Decides.{nat_tests}
 use Rattle.atomic_table.specs.Table.{Me}
 use Rattle.heap_words.specs.declared.access.Access.{Access}
 use Rattle.heap_words.specs.declared.config.Config.{Config}
 use Rattle.shen_graph.specs.declared.order.Order.{Order}
 use Rattle.shared_table.specs.Rule.{Took}
+use Rattle.shared_table.specs.Counted.{Counted, steps_in_view, uncounted_seat}
 use Rattle.shared_table.specs.Views.{View, machine_of, kept_in_view, machines_picked, merged, whichever_is_there, SameNumbers}
+use Rattle.shared_table.proofs.Counted.{took_uncounted, took_counts}
 use Rattle.shared_table.proofs.Kept.{kept_can, kept_finds, kept_step, kept-set}
 use Rattle.shared_table.proofs.Numbers.{same_step}
 use Rattle.shared_table.proofs.ViewsShow.{machine_of-set, machine_of-picked, machine_of-merged}
@@ -18,7 +20,7 @@ use Rattle.step_core.specs.Actor.{Actor}
 use Rattle.heap_machines.specs.Roles.{is_mutating}
 use Rattle.heap_machines.specs.Pause.{pause_image}
 use Rattle.step_core.specs.Machines.{takes_of, plan_of, machine_after, IsFitFor}
-use Rattle.table_heap.specs.Core.{heap_kind, heap_opening, machine_in}
+use Rattle.table_heap.specs.Core.{heap_kind, heap_opening, table_kind, table_opening, machine_in}
 use Rattle.table_heap.specs.Known.{IsMachineOfHeap, AreOfHeap}
 use Rattle.table_heap.proofs.Core.{kind_takes, kind_plan, kind_took, found_fits}
 use Rattle.table_heap.proofs.MachineUnder.{shows_here}
@@ -64,11 +66,24 @@ module _ {S : Type 0} (c : Config) (items : View Machine) (before : Me S (View A
       role_after = ap is_mutating shown_is ∙ role_stays pause_image (heap_of m) (order_of m) got (shown m)
 
 -- the same step, with other names for key and order
-pub took_as : {S : Type 0} (k c : Config) (number : ℕ) (o p : Order) (before : Me S (View Actor)) (got : ℕ) (after : Me S (View Actor)) → k ≡ c → o ≡ p
-    → Took (heap_kind k) (heap_opening k) number o before got after → Took (heap_kind c) (heap_opening c) number p before got after
+pub took_as : {S : Type 0} (k c : Config) (number : ℕ) (o p : Order) (before : Me S (View (Counted Actor))) (got : ℕ) (after : Me S (View (Counted Actor))) → k ≡ c → o ≡ p
+    → Took (table_kind k) (table_opening k) number o before got after → Took (table_kind c) (table_opening c) number p before got after
 took_as k c number o p before got after same order took =
-    subst (λ (x : Config). Took (heap_kind x) (heap_opening x) number p before got after) same
-    (subst (λ (x : Order). Took (heap_kind k) (heap_opening k) number x before got after) order took)
+    subst (λ (x : Config). Took (table_kind x) (table_opening x) number p before got after) same
+    (subst (λ (x : Order). Took (table_kind k) (table_opening k) number x before got after) order took)
+
+-- and without the numbers of steps
+pub took_in : {S : Type 0} (k c : Config) (number : ℕ) (o p : Order) (before : Me S (View (Counted Actor))) (got : ℕ) (after : Me S (View (Counted Actor))) → k ≡ c → o ≡ p
+    → Took (table_kind k) (table_opening k) number o before got after → Took (heap_kind c) (heap_opening c) number p (uncounted_seat before) got (uncounted_seat after)
+took_in k c number o p before got after same order took =
+    took_uncounted (heap_kind c) (heap_opening c) number p before after got (took_as k c number o p before got after same order took)
+
+-- it is counted once
+pub step_counted : {S : Type 0} (c : Config) (number : ℕ) (order : Order) (before after : Me S (View (Counted Actor))) (got : ℕ) → Took (table_kind c) (table_opening c) number order before got after
+    → steps_in_view after.0 ≡ slice_set (steps_in_view before.0) number (Some (unwrap_or (machine_of (steps_in_view before.0) number) 0 + 1))
+step_counted c number order before after got took =
+    let counts = took_counts (heap_kind c) (heap_opening c) number order before after got took in
+    counts.2 ∙ ap (λ o. slice_set (steps_in_view before.0) number (Some (unwrap_or o 0 + 1))) (sym counts.1)
 
 pub can_as : (k c : Config) (view : View Actor) (number : ℕ) (o p : Order) (access : Access) → k ≡ c → o ≡ p
     → (a : Actor) × (machine_of view number ≡ Some a) × ((heap_kind c).takes a p ≡ true) × ((heap_kind c).plan a p ≡ access)

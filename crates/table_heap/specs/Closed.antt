@@ -5,6 +5,7 @@ use Rattle.heap_words.specs.Ranges.{seat_count}
 use Rattle.steps_base.specs.Steps.{Stage}
 use Rattle.shen_graph.specs.declared.order.Order.TheVariants.{Nothing}
 use Rattle.shared_table.specs.Views as views
+use Rattle.shared_table.specs.Counted.{uncounted_view}
 use Rattle.step_core.specs.Actor.{Actor}
 use Rattle.step_core.specs.Machines.{takes_of, is_resting}
 use Rattle.step_core.specs.Settled.{control_number}
@@ -30,7 +31,7 @@ words_of h = h.words.items
 
 -- its machines by their numbers, as their events see them
 abbrev pub machines_of : Closed → List Actor
-machines_of h = views.machines_of h.seat.value.me.0
+machines_of h = views.machines_of (uncounted_view h.seat.value.me.0)
 
 -- words and machines together
 abbrev pub stage_of : Closed → Stage Actor

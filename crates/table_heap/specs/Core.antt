@@ -6,6 +6,7 @@ use Rattle.shen_graph.specs.declared.command.Command.TheVariants.{Gc}
 use Rattle.shen_graph.specs.declared.order.Order.{Order}
 use Rattle.steps_base.specs.Steps.{MachineKind, Stage}
 use Rattle.heap_machines.specs.Pause.{pause_image}
+use Rattle.shared_table.specs.Counted.{Counted, counting, counted_from}
 use Rattle.step_core.specs.Actor.{Machine, Actor}
 use Rattle.heap_machines.specs.Shown.{no_machine}
 use Rattle.step_core.specs.Machines.{kind}
@@ -17,6 +18,14 @@ heap_kind c = kind pause_image c
 -- the words and machines with which a heap begins
 abbrev pub heap_opening : Config → Stage Actor
 heap_opening c = opening c
+
+-- the machines of its table: the same, and they count their steps
+abbrev pub table_kind : Config → MachineKind (Counted Actor) Order
+table_kind c = counting (heap_kind c)
+
+-- what its table begins with: none has made a step
+abbrev pub table_opening : Config → Stage (Counted Actor)
+table_opening c = counted_from (heap_opening c)
 
 -- what memory keeps of a machine
 abbrev pub machine_in : Actor → Machine

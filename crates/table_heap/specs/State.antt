@@ -1,8 +1,9 @@
 -- What callers know of a heap that threads share, and of a bundle of its machines.
-use Rattle.std.specs.Prelude.{ℕ, ◌≡◌, Bool, true, Some, unwrap_or, slice_set}
+use Rattle.std.specs.Prelude.{ℕ, ◌≡◌, ◌+◌, Bool, true, Some, unwrap_or, slice_set}
 use Rattle.std.specs.Option.{is_some}
 use Rattle.heap_words.specs.declared.config.Config.{Config}
 use Rattle.shared_table.specs.Views.{View, machine_of, kept_in_view, SameNumbers}
+use Rattle.shared_table.specs.Counted.{uncounted_view, steps_in_view, uncounted_seat}
 use Rattle.shared_table.specs.Rule.{Took}
 use Rattle.shen_graph.specs.declared.order.Order.{Order}
 use Rattle.shen_graph.specs.declared.order.Order.TheVariants.{Nothing}
@@ -24,7 +25,11 @@ heap_of b = b.config
 
 -- the bundle's machines by their numbers, as their events see them
 abbrev pub view_of : Bundle → View Actor
-view_of b = b.seat.me.0
+view_of b = uncounted_view b.seat.me.0
+
+-- how many steps each of them has made
+abbrev pub steps_of : Bundle → View ℕ
+steps_of b = steps_in_view b.seat.me.0
 
 -- the same without what memory does not keep
 abbrev pub machines_of : Bundle → View Machine
@@ -50,6 +55,10 @@ machine_at b number = unwrap_or (machine_of (machines_of b) number) no_machine
 abbrev pub order_at : Bundle → ℕ → Order
 order_at b number = unwrap_or (machine_of (orders_of b) number) Nothing
 
+-- and how many steps it has made
+abbrev pub steps_at : Bundle → ℕ → ℕ
+steps_at b number = unwrap_or (machine_of (steps_of b) number) 0
+
 -- whether it makes a step: it takes the order that it was given
 abbrev pub has_turn : Bundle → ℕ → Bool
 has_turn b number = takes_of (machine_at b number) (order_at b number)
@@ -60,21 +69,23 @@ pub record IsSameBundle (old new : Bundle) : Type 0 where
   pub config : new.config ≡ old.config
   pub numbers : SameNumbers (view_of old) (view_of new)
 
--- its machines are as they were
+-- its machines are as they were, and have made no step
 pub record IsUnmoved (old new : Bundle) : Type 0 where
   pub same : IsSameBundle old new
   pub view : view_of new ≡ view_of old
+  pub steps : steps_of new ≡ steps_of old
 
 -- and so are their orders
 pub record IsUnchanged (old new : Bundle) : Type 0 where
   pub unmoved : IsUnmoved old new
   pub orders : orders_of new ≡ orders_of old
 
--- The step of a machine was one event of the heap's machines: its access told it this word, and so it said this. No other
--- machine of the bundle has changed.
+-- The step of a machine was exactly one event of the heap's machines: its access told it this word, and so it said this, and it has
+-- made one step more. No other machine of the bundle has changed or made a step.
 pub record IsBundleStep (old new : Bundle) (number : ℕ) (said : Stepped) : Type 0 where
   pub got : ℕ
-  pub took : Took (heap_kind old.config) (heap_opening old.config) number (order_at old number) old.seat.me got new.seat.me
+  pub took : Took (heap_kind old.config) (heap_opening old.config) number (order_at old number) (uncounted_seat old.seat.me) got (uncounted_seat new.seat.me)
+  pub steps : steps_of new ≡ slice_set (steps_of old) number (Some (steps_at old number + 1))
   pub said_is : said ≡ says old.config (machine_at old number) got
   pub orders : orders_of new ≡ slice_set (orders_of old) number (Some Nothing)
 
@@ -83,3 +94,8 @@ pub record IsFresh (h : Heap) (b : Bundle) (view : View Actor) : Type 0 where
   pub of : IsBundleOf b h
   pub machines : view_of b ≡ view
   pub orders : (number : ℕ) (order : Order) → machine_of (orders_of b) number ≡ Some order → order ≡ Nothing
+
+-- What a step promises is one event: it is not met where none was made, nor by two, of whatever machines of the bundle
+pub record StepsAreEvents : Type 0 where
+  pub not_none : (b : Bundle) (number : ℕ) (said : Stepped) → IsBundleStep b b number said → ⊥
+  pub not_two : (old mid new : Bundle) (first second number : ℕ) (one other both : Stepped) → IsBundleStep old mid first one → IsBundleStep mid new second other → IsBundleStep old new number both → ⊥

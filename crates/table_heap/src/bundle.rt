@@ -2,6 +2,7 @@ ghost use Rattle.std.specs.Prelude.{◌≡◌, [], length};
 ghost use Rattle.heap_words.specs.Ranges.{seat_count};
 ghost use Rattle.heap_machines.specs.Shown.{shown};
 ghost use Rattle.shared_table.specs.Views.{kept_in_view};
+ghost use Rattle.shared_table.specs.Counted.{uncounted_view};
 ghost use Rattle.table_heap.specs.Core.{machine_in};
 ghost use Rattle.table_heap.specs.Known.{AreOfHeap};
 
@@ -22,7 +23,7 @@ pub struct Bundle {
     pub(crate) seat: ViewSeat<Acting>,
     pub(crate) machines: Vec<Option<Machine>>,
     ghost seats: { length machines.items ≡ seat_count config.mutators config.helpers },
-    ghost kept: { kept_in_view machine_in seat.me.0 ≡ kept_in_view shown machines.items },
+    ghost kept: { kept_in_view machine_in (uncounted_view seat.me.0) ≡ kept_in_view shown machines.items },
     ghost slots: { seat.me.1 ≡ [] },
     ghost of_heap: { AreOfHeap config machines.items },
 }
@@ -107,8 +108,8 @@ impl Bundle {
         machine.finish();
     }
 
-    /// Gives a machine of the bundle one step, which is one access of the heap's table. It waits for nothing, and takes no
-    /// memory.
+    /// Gives a machine of the bundle one step, which is one access of the heap's table, and exactly one event. It waits for
+    /// nothing, and takes no memory.
     pub fn step(&mut self, heap: &Heap, number: usize) -> Stepped
         requires heap { IsBundleOf self.old heap.now }
         requires here { HasMachine self.old number }
@@ -134,7 +135,8 @@ impl Bundle {
             &machine.order(),
             machine.plan(),
         );
-        Stepped::of(machine.took(got))
+        let said = machine.took(got);
+        Stepped::of(said)
     }
 
     /// The reply of the last call that the mutator has ended, until the next one is ordered.

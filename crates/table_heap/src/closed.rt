@@ -3,6 +3,7 @@ ghost use Rattle.std.specs.Slots.{slots_items, slots_len, IsFull};
 ghost use Rattle.heap_words.specs.Words.{table_words, heap_size};
 ghost use Rattle.steps_base.specs.Steps.{IsReached};
 ghost use Rattle.shared_table.specs.Views.{machines_of};
+ghost use Rattle.shared_table.specs.Counted.{uncounted_view};
 ghost use Rattle.step_core.specs.Settled.{image_of, control_number};
 ghost use Rattle.table_heap.specs.Core.{heap_kind, heap_opening};
 
@@ -30,8 +31,8 @@ pub struct Closed {
     ghost all_words: { length words.items ≡ table_words config },
     ghost all_marks: { length marks.items ≡ heap_size config },
     ghost enough_addresses: { heap_size config ≤ vec_capacity addresses },
-    ghost reached: { ∥ IsReached (heap_kind config) (heap_opening config) (record { words = words.items; machines = machines_of seat.value.me.0 }) ∥₁ },
-    ghost calm: { image_of (slice_get (machines_of seat.value.me.0) (control_number config)) ≡ None },
+    ghost reached: { ∥ IsReached (heap_kind config) (heap_opening config) (record { words = words.items; machines = machines_of (uncounted_view seat.value.me.0) }) ∥₁ },
+    ghost calm: { image_of (slice_get (machines_of (uncounted_view seat.value.me.0)) (control_number config)) ≡ None },
 }
 
 // Reads all words of a table.

@@ -6,6 +6,7 @@ mod bundle;
 mod closed;
 mod gate;
 mod heap;
+mod laws;
 mod machines;
 mod run;
 
@@ -14,4 +15,5 @@ pub use closed::Closed;
 pub use gate::{Gate, OpenGate};
 pub use heap::Heap;
 pub use heap_machines::Stepped;
+pub use laws::steps_are_events;
 pub use machines::{Acting, OfHeaps};

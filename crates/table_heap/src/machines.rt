@@ -1,27 +1,29 @@
-ghost use Rattle.table_heap.specs.Core.{heap_kind, heap_opening};
+ghost use Rattle.table_heap.specs.Core.{table_kind, table_opening};
 
 use heap_words::Config;
 use shared_table::Machines;
 use shen_graph::Order;
 use std::marker::Model;
 
-/// A machine of a heap, with what memory does not keep of it, as its events see it. No value of it is made.
+/// A machine of a heap, with what memory does not keep of it, as its events see it, and how many steps it has made. No value of
+/// it is made.
 pub struct Acting;
 
 impl Model for Acting {
     ghost use Rattle.step_core.specs.Actor.{Actor};
+    ghost use Rattle.shared_table.specs.Counted.{Counted, at_start};
     ghost use Rattle.table_heap.specs.Core.{nobody};
 
-    ghost Value = { Actor };
+    ghost Value = { Counted Actor };
 
-    ghost view = { λ _. nobody };
+    ghost view = { λ _. at_start nobody };
 }
 
 /// The machines of heaps as kinds of machine. A table of them begins by its configuration.
 pub struct OfHeaps;
 
 impl Machines<Acting, Order, Config> for OfHeaps {
-    ghost kind = { heap_kind };
+    ghost kind = { table_kind };
 
-    ghost opening = { heap_opening };
+    ghost opening = { table_opening };
 }

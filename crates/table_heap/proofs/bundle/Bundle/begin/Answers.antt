@@ -9,6 +9,7 @@ use Rattle.std.specs.Option.{option_copied_mut}
 use Rattle.shen_graph.specs.declared.order.Order.TheVariants.{Begin}
 use Rattle.heap_machines.specs.Roles.{is_mutating}
 use Rattle.step_core.specs.Machines.{takes_of, may_begin, made_of_machine}
+use Rattle.table_heap.specs.State.{view_of}
 use Rattle.table_heap.proofs.MachineUnder.{within, read_here, never_none, shows_as, put_same}
 use Rattle.table_heap.proofs.Stepping.{heap_put}
 use Rattle.table_heap.proofs.bundle.Bundle.begin.Goals as goal
@@ -67,4 +68,4 @@ pub begin-requires-clause-valid : goal.begin-requires-clause-valid
 begin-requires-clause-valid c = c.requires.valid
 
 pub returns-clause-unmoved : goal.returns-clause-unmoved
-returns-clause-unmoved c = record { same = record { table = refl; config = refl; numbers = same_none c.args.self.now.seat.me.0 }; view = refl }
+returns-clause-unmoved c = record { same = record { table = refl; config = refl; numbers = same_none (view_of c.args.self.now) }; view = refl; steps = refl }

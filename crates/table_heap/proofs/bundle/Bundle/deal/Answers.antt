@@ -1,9 +1,11 @@
 use Rattle.std.proofs.Common.{length, not, sym, ap, ◌∙◌, subst}
 use Rattle.shared_table.specs.Views.{is_dealt_to, dealt_to, machines_left, kept_in_view}
+use Rattle.shared_table.specs.Counted.{uncounted_machine, uncounted_view}
 use Rattle.shared_table.proofs.Dealing.{length-picked}
 use Rattle.shared_table.proofs.Kept.{kept-picked}
 use Rattle.heap_machines.specs.Shown.{shown, order_of}
 use Rattle.table_heap.specs.Core.{machine_in}
+use Rattle.table_heap.specs.State.{view_of}
 use Rattle.table_heap.specs.Known.{AreOfHeap}
 use Rattle.table_heap.proofs.Stepping.{heap_picked}
 use Rattle.table_heap.proofs.bundle.Bundle.deal.Goals as goal
@@ -25,8 +27,9 @@ invariant_of-self-2 c =
     let left = c.in-Ok.ensures.left in
     record {
       seats = ap length left ∙ length-picked (λ number. not (is_dealt_to c.args.bundles c.args.bundle number)) b.machines.items ∙ b.seats;
-      kept = ap (λ me. kept_in_view machine_in me.0) c.deal_bundle-seat.ensures.kept.1
-          ∙ kept-picked machine_in (λ number. not (is_dealt_to c.args.bundles c.args.bundle number)) b.seat.me.0
+      kept = ap (λ me. kept_in_view machine_in (uncounted_view me.0)) c.deal_bundle-seat.ensures.kept.1
+          ∙ ap (kept_in_view machine_in) (kept-picked uncounted_machine (λ number. not (is_dealt_to c.args.bundles c.args.bundle number)) b.seat.me.0)
+          ∙ kept-picked machine_in (λ number. not (is_dealt_to c.args.bundles c.args.bundle number)) (view_of b)
           ∙ ap (machines_left (is_dealt_to c.args.bundles c.args.bundle)) b.kept
           ∙ sym (ap (kept_in_view shown) left ∙ kept-picked shown (λ number. not (is_dealt_to c.args.bundles c.args.bundle number)) b.machines.items);
       slots = ap (λ me. me.1) c.deal_bundle-seat.ensures.kept.1 ∙ b.slots;
@@ -39,8 +42,9 @@ invariant_of-result c =
     let dealt = c.in-Ok.ensures.dealt in
     record {
       seats = ap length dealt ∙ length-picked (is_dealt_to c.args.bundles c.args.bundle) b.machines.items ∙ b.seats;
-      kept = ap (λ me. kept_in_view machine_in me.0) c.deal_bundle-seat.ensures.dealt.1
-          ∙ kept-picked machine_in (is_dealt_to c.args.bundles c.args.bundle) b.seat.me.0
+      kept = ap (λ me. kept_in_view machine_in (uncounted_view me.0)) c.deal_bundle-seat.ensures.dealt.1
+          ∙ ap (kept_in_view machine_in) (kept-picked uncounted_machine (is_dealt_to c.args.bundles c.args.bundle) b.seat.me.0)
+          ∙ kept-picked machine_in (is_dealt_to c.args.bundles c.args.bundle) (view_of b)
           ∙ ap (dealt_to c.args.bundles c.args.bundle) b.kept
           ∙ sym (ap (kept_in_view shown) dealt ∙ kept-picked shown (is_dealt_to c.args.bundles c.args.bundle) b.machines.items);
       slots = ap (λ me. me.1) c.deal_bundle-seat.ensures.dealt.1;
@@ -50,12 +54,12 @@ invariant_of-result c =
 pub returns-clause-dealt : goal.returns-clause-dealt
 returns-clause-dealt c = (
   record { table = c.deal_bundle-seat.ensures.dealt.0 ∙ c.requires.heap.table; config = c.requires.heap.config },
-  ap (λ me. me.0) c.deal_bundle-seat.ensures.dealt.1,
+  ap (λ me. uncounted_view me.0) c.deal_bundle-seat.ensures.dealt.1 ∙ kept-picked uncounted_machine (is_dealt_to c.args.bundles c.args.bundle) c.args.self.now.seat.me.0,
   ap (kept_in_view order_of) c.in-Ok.ensures.dealt ∙ kept-picked order_of (is_dealt_to c.args.bundles c.args.bundle) c.args.self.now.machines.items,
 )
 
 pub returns-clause-left : goal.returns-clause-left
 returns-clause-left c = (
-  ap (λ me. me.0) c.deal_bundle-seat.ensures.kept.1,
+  ap (λ me. uncounted_view me.0) c.deal_bundle-seat.ensures.kept.1 ∙ kept-picked uncounted_machine (λ number. not (is_dealt_to c.args.bundles c.args.bundle number)) c.args.self.now.seat.me.0,
   ap (kept_in_view order_of) c.in-Ok.ensures.left ∙ kept-picked order_of (λ number. not (is_dealt_to c.args.bundles c.args.bundle number)) c.args.self.now.machines.items,
 )

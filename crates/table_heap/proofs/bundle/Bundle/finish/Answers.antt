@@ -9,6 +9,7 @@ use Rattle.std.specs.Option.{option_copied_mut}
 use Rattle.shen_graph.specs.declared.order.Order.TheVariants.{End}
 use Rattle.heap_machines.specs.Roles.{is_mutating}
 use Rattle.step_core.specs.Machines.{takes_of, may_begin}
+use Rattle.table_heap.specs.State.{view_of}
 use Rattle.table_heap.proofs.MachineUnder.{within, read_here, never_none, shows_as, put_same}
 use Rattle.table_heap.proofs.Stepping.{heap_put}
 use Rattle.table_heap.proofs.bundle.Bundle.finish.Goals as goal
@@ -56,4 +57,4 @@ returns-clause-takes c =
     ap (λ x. takes_of x (End)) (shows_as shown b.machines.items c.args.number m no_machine here) ∙ c.finish.ensures.takes
 
 pub returns-clause-unmoved : goal.returns-clause-unmoved
-returns-clause-unmoved c = record { same = record { table = refl; config = refl; numbers = same_none c.args.self.now.seat.me.0 }; view = refl }
+returns-clause-unmoved c = record { same = record { table = refl; config = refl; numbers = same_none (view_of c.args.self.now) }; view = refl; steps = refl }

@@ -1,10 +1,12 @@
 use Rattle.std.proofs.Common.{◌≡◌, length, sym, ap, ◌∙◌, subst}
 use Rattle.heap_words.specs.Ranges.{seat_count}
 use Rattle.shared_table.specs.Views.{merged, kept_in_view}
+use Rattle.shared_table.specs.Counted.{uncounted_machine, uncounted_view}
 use Rattle.shared_table.proofs.Dealing.{length-merged}
 use Rattle.shared_table.proofs.Kept.{kept-merged}
 use Rattle.heap_machines.specs.Shown.{shown, order_of}
 use Rattle.table_heap.specs.Core.{machine_in}
+use Rattle.table_heap.specs.State.{view_of}
 use Rattle.table_heap.specs.Known.{AreOfHeap}
 use Rattle.table_heap.proofs.Stepping.{heap_merged}
 use Rattle.table_heap.proofs.bundle.Bundle.join.Goals as goal
@@ -21,13 +23,16 @@ invariant_of-self c =
     a.seats ∙ ap (λ k. seat_count k.mutators k.helpers) (c.requires.this.config ∙ sym c.requires.other.config) ∙ sym b.seats in
     record {
       seats = ap length c.join_machines.ensures ∙ length-merged a.machines.items b.machines.items long ∙ a.seats;
-      kept = ap (λ me. kept_in_view machine_in me.0) c.join_bundle.ensures.1 ∙ kept-merged machine_in a.seat.me.0 b.seat.me.0
-          ∙ ap (λ v. merged v (kept_in_view machine_in b.seat.me.0)) a.kept ∙ ap (merged (kept_in_view shown a.machines.items)) b.kept
+      kept = ap (λ me. kept_in_view machine_in (uncounted_view me.0)) c.join_bundle.ensures.1 ∙ ap (kept_in_view machine_in) (kept-merged uncounted_machine a.seat.me.0 b.seat.me.0)
+          ∙ kept-merged machine_in (view_of a) (view_of b) ∙ ap (λ v. merged v (kept_in_view machine_in (view_of b))) a.kept ∙ ap (merged (kept_in_view shown a.machines.items)) b.kept
           ∙ sym (ap (kept_in_view shown) c.join_machines.ensures ∙ kept-merged shown a.machines.items b.machines.items);
       slots = ap (λ me. me.1) c.join_bundle.ensures.1 ∙ a.slots;
       of_heap = subst (AreOfHeap a.config) (sym c.join_machines.ensures)
           (heap_merged a.config a.machines.items b.machines.items a.of_heap (subst (λ k. AreOfHeap k b.machines.items) (c.requires.other.config ∙ sym c.requires.this.config) b.of_heap));
     }
+
+pub returns-clause-view : goal.returns-clause-view
+returns-clause-view c = ap (λ me. uncounted_view me.0) c.join_bundle.ensures.1 ∙ kept-merged uncounted_machine c.args.self.seat.me.0 c.args.other.seat.me.0
 
 pub returns-clause-orders : goal.returns-clause-orders
 returns-clause-orders c = ap (kept_in_view order_of) c.join_machines.ensures ∙ kept-merged order_of c.args.self.machines.items c.args.other.machines.items

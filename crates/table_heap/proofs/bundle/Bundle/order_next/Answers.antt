@@ -11,7 +11,7 @@ use Rattle.heap_machines.specs.Shown.{no_machine, shown, order_of}
 use Rattle.step_core.specs.Machines.{takes_of, may_begin, made_of_machine}
 use Rattle.heap_machines.specs.Roles.{is_mutating}
 use Rattle.heap_machines.specs.Turn.{order_for}
-use Rattle.table_heap.specs.State.{machine_at}
+use Rattle.table_heap.specs.State.{view_of, machine_at}
 use Rattle.table_heap.specs.Running.{next_for}
 use Rattle.table_heap.proofs.MachineUnder.{within, read_here, never_none, shows_here, shows_as, put_same, put_there}
 use Rattle.table_heap.proofs.Running.{command_fits}
@@ -103,9 +103,9 @@ returns-clause-unchanged c = λ none.
     let n = c.order_next.new.self in
     let was = c.requires.work.orders c.args.number (order_of m) (shows_here order_of b.machines.items c.args.number m here) in
     record {
-      unmoved = record { same = record { table = refl; config = refl; numbers = same_none b.seat.me.0 }; view = refl };
+      unmoved = record { same = record { table = refl; config = refl; numbers = same_none (view_of b) }; view = refl; steps = refl };
       orders = put_same order_of b.machines.items c.args.number m n here (c.order_next.ensures.idle none ∙ sym was);
     }
 
 pub returns-clause-unmoved : goal.returns-clause-unmoved
-returns-clause-unmoved c = record { same = record { table = refl; config = refl; numbers = same_none c.args.self.now.seat.me.0 }; view = refl }
+returns-clause-unmoved c = record { same = record { table = refl; config = refl; numbers = same_none (view_of c.args.self.now) }; view = refl; steps = refl }

@@ -6,18 +6,21 @@ use Rattle.std.proofs.lemmas.List.{length-set}
 use Rattle.heap_words.specs.Access.{table_index}
 use Rattle.heap_words.specs.Words.{table_words}
 use Rattle.shen_graph.specs.declared.order.Order.TheVariants.{Nothing}
+use Rattle.shared_table.specs.Counted.{uncounted_seat}
 use Rattle.shared_table.specs.Views.{kept_in_view}
+use Rattle.shared_table.proofs.Counted.{can_counted, took_uncounted}
 use Rattle.shared_table.proofs.Kept.{kept-set}
 use Rattle.shared_table.proofs.Numbers.{same_none}
 use Rattle.heap_machines.specs.Answer.{stepped_of, stepped_by, says}
 use Rattle.heap_machines.specs.Shown.{shown, order_of, heap_of, no_machine}
 use Rattle.heap_machines.specs.Roles.{is_mutating}
 use Rattle.step_core.specs.Machines.{takes_of, place_in, reply_in}
+use Rattle.table_heap.specs.Core.{heap_kind, heap_opening}
 use Rattle.table_heap.specs.State as State
 use Rattle.table_heap.specs.State.{order_at}
 use Rattle.table_heap.proofs.MachineUnder.{within, read_here, never_none, shows_as, put_same, put_there}
 use Rattle.table_heap.proofs.Said.{never_idle, done_only}
-use Rattle.table_heap.proofs.Stepping.{can, can_as, took_as, fits, numbers_stay, kept_after, role_after, heap_put}
+use Rattle.table_heap.proofs.Stepping.{can, can_as, took_as, took_in, step_counted, fits, numbers_stay, kept_after, role_after, heap_put}
 use Rattle.table_heap.proofs.bundle.Bundle.step.Goals as goal
 
 pub index_mut-requires : goal.index_mut-requires
@@ -72,12 +75,12 @@ returns-then-is_idle-clause-unchanged c = λ none.
     let inside = within shown b.machines.items c.args.number c.requires.here in
     let here = read_here shown b.machines.items c.args.number c.index_mut.result.now m inside c.index_mut.ensures.value (sym c.as_mut.ensures.value ∙ ap option_copied_mut c.in-Some.is) in
     record {
-      unmoved = record { same = record { table = refl; config = refl; numbers = same_none b.seat.me.0 }; view = refl };
+      unmoved = record { same = record { table = refl; config = refl; numbers = same_none (State.view_of b) }; view = refl; steps = refl };
       orders = put_same order_of b.machines.items c.args.number m m here refl;
     }
 
 pub returns-then-is_idle-clause-same : goal.returns-then-is_idle-clause-same
-returns-then-is_idle-clause-same c = record { table = refl; config = refl; numbers = same_none c.args.self.now.seat.me.0 }
+returns-then-is_idle-clause-same c = record { table = refl; config = refl; numbers = same_none (State.view_of c.args.self.now) }
 
 pub returns-then-is_idle-clause-done : goal.returns-then-is_idle-clause-done
 returns-then-is_idle-clause-done c =
@@ -113,19 +116,20 @@ make_step-got-requires-clause-machine c =
     let heap = (b.of_heap c.args.number m here).heap in
     let key = c.args.heap.now.key ∙ sym c.requires.heap.config in
     let turn = c.is_idle.ensures ∙ ap not c.if-is_idle.false in
-    can_as c.args.heap.now.table.shared.key b.config b.seat.me.0 c.args.number c.order.result (order_of m) c.plan.result key c.order.ensures
-    (can b.config b.machines.items b.seat.me b.kept c.args.number m here c.plan.result heap turn c.plan.ensures.row)
+    can_counted (heap_kind c.args.heap.now.table.shared.key) b.seat.me.0 c.args.number c.order.result c.plan.result
+    (can_as c.args.heap.now.table.shared.key b.config (State.view_of b) c.args.number c.order.result (order_of m) c.plan.result key c.order.ensures
+    (can b.config b.machines.items (uncounted_seat b.seat.me) b.kept c.args.number m here c.plan.result heap turn c.plan.ensures.row))
 
-pub took-requires-clause-fit : goal.took-requires-clause-fit
-took-requires-clause-fit c =
+pub took-said-requires-clause-fit : goal.took-said-requires-clause-fit
+took-said-requires-clause-fit c =
     let b = c.args.self.now in
     let m = c.in-Some.machine.now in
     let inside = within shown b.machines.items c.args.number c.requires.here in
     let here = read_here shown b.machines.items c.args.number c.index_mut.result.now m inside c.index_mut.ensures.value (sym c.as_mut.ensures.value ∙ ap option_copied_mut c.in-Some.is) in
     let heap = (b.of_heap c.args.number m here).heap in
     let key = c.args.heap.now.key ∙ sym c.requires.heap.config in
-    let took = took_as c.args.heap.now.table.shared.key b.config c.args.number c.order.result (order_of m) b.seat.me c.make_step-got.result c.make_step-got.new.seat.me key c.order.ensures c.make_step-got.ensures.took in
-    fits b.config b.machines.items b.seat.me b.kept c.args.number m here c.make_step-got.result c.make_step-got.new.seat.me took heap
+    let took = took_in c.args.heap.now.table.shared.key b.config c.args.number c.order.result (order_of m) b.seat.me c.make_step-got.result c.make_step-got.new.seat.me key c.order.ensures c.make_step-got.ensures.took in
+    fits b.config b.machines.items (uncounted_seat b.seat.me) b.kept c.args.number m here c.make_step-got.result (uncounted_seat c.make_step-got.new.seat.me) took heap
 
 pub invariant_of-self-2 : goal.invariant_of-self-2
 invariant_of-self-2 c =
@@ -135,14 +139,14 @@ invariant_of-self-2 c =
     let here = read_here shown b.machines.items c.args.number c.index_mut.result.now m inside c.index_mut.ensures.value (sym c.as_mut.ensures.value ∙ ap option_copied_mut c.in-Some.is) in
     let heap = (b.of_heap c.args.number m here).heap in
     let key = c.args.heap.now.key ∙ sym c.requires.heap.config in
-    let took = took_as c.args.heap.now.table.shared.key b.config c.args.number c.order.result (order_of m) b.seat.me c.make_step-got.result c.make_step-got.new.seat.me key c.order.ensures c.make_step-got.ensures.took in
-    let n = c.took.new.self in
+    let took = took_in c.args.heap.now.table.shared.key b.config c.args.number c.order.result (order_of m) b.seat.me c.make_step-got.result c.make_step-got.new.seat.me key c.order.ensures c.make_step-got.ensures.took in
+    let n = c.took-said.new.self in
     record {
       seats = length-set b.machines.items _ _ ∙ b.seats;
-      kept = kept_after b.config b.machines.items b.seat.me b.kept c.args.number m here c.make_step-got.result c.make_step-got.new.seat.me took n c.took.ensures.shown heap;
+      kept = kept_after b.config b.machines.items (uncounted_seat b.seat.me) b.kept c.args.number m here c.make_step-got.result (uncounted_seat c.make_step-got.new.seat.me) took n c.took-said.ensures.shown heap;
       slots = took.slots ∙ b.slots;
-      of_heap = heap_put b.config b.machines.items c.args.number m n here c.took.ensures.heap
-          (role_after b.config b.machines.items b.seat.me b.kept c.args.number m here c.make_step-got.result c.make_step-got.new.seat.me took n c.took.ensures.shown heap) b.of_heap;
+      of_heap = heap_put b.config b.machines.items c.args.number m n here c.took-said.ensures.heap
+          (role_after b.config b.machines.items (uncounted_seat b.seat.me) b.kept c.args.number m here c.make_step-got.result (uncounted_seat c.make_step-got.new.seat.me) took n c.took-said.ensures.shown heap) b.of_heap;
     }
 
 pub returns-clause-event : goal.returns-clause-event
@@ -155,12 +159,14 @@ returns-clause-event c = λ _.
     let key = c.args.heap.now.key ∙ sym c.requires.heap.config in
     let at = shows_as shown b.machines.items c.args.number m no_machine here in
     let given = shows_as order_of b.machines.items c.args.number m Nothing here in
-    let n = c.took.new.self in
+    let n = c.took-said.new.self in
+    let took = took_as c.args.heap.now.table.shared.key b.config c.args.number c.order.result (order_at b c.args.number) b.seat.me c.make_step-got.result c.make_step-got.new.seat.me key (c.order.ensures ∙ sym given) c.make_step-got.ensures.took in
     record {
       got = c.make_step-got.result;
-      took = took_as c.args.heap.now.table.shared.key b.config c.args.number c.order.result (order_at b c.args.number) b.seat.me c.make_step-got.result c.make_step-got.new.seat.me key (c.order.ensures ∙ sym given) c.make_step-got.ensures.took;
-      said_is = c.of.ensures ∙ ap stepped_by (sym c.took.ensures.answer) ∙ ap (λ k. says k (shown m) c.make_step-got.result) heap ∙ ap (λ x. says b.config x c.make_step-got.result) (sym at);
-      orders = kept-set order_of b.machines.items c.args.number (Some n) ∙ ap (λ o. slice_set (kept_in_view order_of b.machines.items) c.args.number (Some o)) c.took.ensures.order;
+      took = took_uncounted (heap_kind b.config) (heap_opening b.config) c.args.number (order_at b c.args.number) b.seat.me c.make_step-got.new.seat.me c.make_step-got.result took;
+      steps = step_counted b.config c.args.number (order_at b c.args.number) b.seat.me c.make_step-got.new.seat.me c.make_step-got.result took;
+      said_is = c.of.ensures ∙ ap stepped_by (sym c.took-said.ensures.answer) ∙ ap (λ k. says k (shown m) c.make_step-got.result) heap ∙ ap (λ x. says b.config x c.make_step-got.result) (sym at);
+      orders = kept-set order_of b.machines.items c.args.number (Some n) ∙ ap (λ o. slice_set (kept_in_view order_of b.machines.items) c.args.number (Some o)) c.took-said.ensures.order;
     }
 
 pub returns-clause-same : goal.returns-clause-same
@@ -171,8 +177,8 @@ returns-clause-same c =
     let here = read_here shown b.machines.items c.args.number c.index_mut.result.now m inside c.index_mut.ensures.value (sym c.as_mut.ensures.value ∙ ap option_copied_mut c.in-Some.is) in
     let heap = (b.of_heap c.args.number m here).heap in
     let key = c.args.heap.now.key ∙ sym c.requires.heap.config in
-    let took = took_as c.args.heap.now.table.shared.key b.config c.args.number c.order.result (order_of m) b.seat.me c.make_step-got.result c.make_step-got.new.seat.me key c.order.ensures c.make_step-got.ensures.took in
-    record { table = c.make_step-got.ensures.table.0; config = refl; numbers = numbers_stay b.config b.machines.items b.seat.me b.kept c.args.number m here c.make_step-got.result c.make_step-got.new.seat.me took }
+    let took = took_in c.args.heap.now.table.shared.key b.config c.args.number c.order.result (order_of m) b.seat.me c.make_step-got.result c.make_step-got.new.seat.me key c.order.ensures c.make_step-got.ensures.took in
+    record { table = c.make_step-got.ensures.table.0; config = refl; numbers = numbers_stay b.config b.machines.items (uncounted_seat b.seat.me) b.kept c.args.number m here c.make_step-got.result (uncounted_seat c.make_step-got.new.seat.me) took }
 
 pub returns-clause-idle : goal.returns-clause-idle
 returns-clause-idle c =
@@ -184,7 +190,7 @@ returns-clause-idle c =
     let at = shows_as shown b.machines.items c.args.number m no_machine here in
     let given = shows_as order_of b.machines.items c.args.number m Nothing here in
     let has : State.has_turn b c.args.number ≡ true = ap (λ x. takes_of x (order_at b c.args.number)) at ∙ ap (takes_of (shown m)) given ∙ turn in
-    ((λ is. absurd (never_idle c.took.result (sym c.of.ensures ∙ is))), (λ none. absurd (false≢true (sym none ∙ has))))
+    ((λ is. absurd (never_idle c.took-said.result (sym c.of.ensures ∙ is))), (λ none. absurd (false≢true (sym none ∙ has))))
 
 pub returns-clause-unchanged : goal.returns-clause-unchanged
 returns-clause-unchanged c = λ none.
@@ -210,9 +216,9 @@ returns-clause-done c =
     let has : State.has_turn b c.args.number ≡ true = ap (λ x. takes_of x (order_at b c.args.number)) at ∙ ap (takes_of (shown m)) given ∙ turn in
     let place = ap (place_in (State.order_at b c.args.number)) at ∙ ap (λ o. place_in o (shown m)) given in (
       (λ is.
-          let did = c.took.ensures.done.0 (done_only c.took.result (sym c.of.ensures ∙ is)) in
+          let did = c.took-said.ensures.done.0 (done_only c.took-said.result (sym c.of.ensures ∙ is)) in
           (has, ap is_mutating at ∙ did.0, place ∙ did.1)),
-      (λ all. c.of.ensures ∙ ap stepped_of (c.took.ensures.done.1 (ap is_mutating (sym at) ∙ all.1, sym place ∙ all.2))),
+      (λ all. c.of.ensures ∙ ap stepped_of (c.took-said.ensures.done.1 (ap is_mutating (sym at) ∙ all.1, sym place ∙ all.2))),
     )
 
 pub returns-clause-replied : goal.returns-clause-replied
@@ -221,6 +227,6 @@ returns-clause-replied c = λ is none.
     let m = c.in-Some.machine.now in
     let inside = within shown b.machines.items c.args.number c.requires.here in
     let here = read_here shown b.machines.items c.args.number c.index_mut.result.now m inside c.index_mut.ensures.value (sym c.as_mut.ensures.value ∙ ap option_copied_mut c.in-Some.is) in
-    let n = c.took.new.self in
-    c.took.ensures.replied (done_only c.took.result (sym c.of.ensures ∙ is))
+    let n = c.took-said.new.self in
+    c.took-said.ensures.replied (done_only c.took-said.result (sym c.of.ensures ∙ is))
     (sym (ap reply_in (shows_as shown (slice_set b.machines.items c.args.number (Some n)) c.args.number n no_machine (put_there shown b.machines.items c.args.number m n here))) ∙ none)

@@ -1,13 +1,17 @@
 use Rattle.std.proofs.Common.{◌≡◌, length, sym, ap, ◌∙◌, subst}
 use Rattle.std.specs.Slots.{slots_items, slots_counts}
+use Rattle.std.proofs.lemmas.List.{length-map}
 use Rattle.heap_words.specs.declared.config.Config.{Config}
 use Rattle.shared_table.specs.Views.{View, machines_of, whole, kept_in_view, HasAllMachines}
+use Rattle.shared_table.specs.Counted.{at_start, uncounted_view}
+use Rattle.shared_table.proofs.Counted.{all_counted, view_reached}
 use Rattle.shared_table.proofs.Kept.{length-kept}
 use Rattle.heap_machines.specs.Shown.{shown}
 use Rattle.step_core.specs.Actor.{Actor}
 use Rattle.step_core.specs.Settled.{image_of, control_number}
 use Rattle.std.specs.Prelude.{slice_get, None}
-use Rattle.table_heap.specs.Core.{heap_opening}
+use Rattle.table_heap.specs.Core.{heap_kind, heap_opening, table_opening}
+use Rattle.table_heap.specs.State.{view_of}
 use Rattle.table_heap.proofs.Closing.{view_is_whole, view_is_calm, reached_as}
 use Rattle.table_heap.proofs.heap.Heap.close.Goals as goal
 
@@ -15,31 +19,42 @@ pub close_table-rows-requires-clause-all : goal.close_table-rows-requires-clause
 close_table-rows-requires-clause-all c =
     let b = c.args.bundle in
     let same : b.config ≡ c.args.self.table.shared.key = c.requires.heap.config ∙ sym c.args.self.key in
-    subst (λ (k : Config). HasAllMachines {R = Actor} (length (heap_opening k).machines) b.seat.me.0) same
-    (view_is_whole b.config b.seat.me.0 (kept_in_view shown b.machines.items) b.kept (length-kept shown b.machines.items ∙ b.seats) c.requires.all)
+    subst (λ (k : Config). HasAllMachines (length (table_opening k).machines) b.seat.me.0) same
+    (subst (λ n. HasAllMachines n b.seat.me.0) (sym (length-map (heap_opening b.config).machines at_start))
+    (all_counted (length (heap_opening b.config).machines) b.seat.me.0
+    (view_is_whole b.config (view_of b) (kept_in_view shown b.machines.items) b.kept (length-kept shown b.machines.items ∙ b.seats) c.requires.all)))
 
 pub invariant_of-result : goal.invariant_of-result
 invariant_of-result c =
     let h = c.args.self in
     let b = c.args.bundle in
-    let view : View Actor = b.seat.me.0 in
-    let last : View Actor = c.of-last.result.value.me.0 in
-    let seen : view ≡ last = sym (ap (λ s. s.me.0) c.of-last.ensures) in
+    let view : View Actor = view_of b in
+    let last : View Actor = uncounted_view c.of-last.result.value.me.0 in
+    let seen : view ≡ last = sym (ap (λ s. uncounted_view s.me.0) c.of-last.ensures) in
     let all = view_is_whole b.config view (kept_in_view shown b.machines.items) b.kept (length-kept shown b.machines.items ∙ b.seats) c.requires.all in
     record {
       all_words = ap length c.read_words.ensures ∙ sym (slots_counts c.close_table-rows.result.words).0 ∙ c.close_table-rows.ensures.words.1 ∙ h.all_words;
       all_marks = h.all_marks;
       enough_addresses = h.enough_addresses;
-      reached = ∣ reached_as h.table.shared.key h.config (slots_items c.close_table-rows.result.words) c.read_words.new.words.items view last h.key (sym c.read_words.ensures) seen c.close_table-rows.ensures.reached ∣₁;
+      reached = ∣ reached_as h.table.shared.key h.config (slots_items c.close_table-rows.result.words) c.read_words.new.words.items view last h.key (sym c.read_words.ensures) seen
+          (view_reached (heap_kind h.table.shared.key) (heap_opening h.table.shared.key) (slots_items c.close_table-rows.result.words) b.seat.me.0 c.close_table-rows.ensures.reached) ∣₁;
       calm =
           subst (λ (k : Config). image_of (slice_get (machines_of last) (control_number k)) ≡ None) c.requires.heap.config
           (subst (λ (v : View Actor). image_of (slice_get (machines_of v) (control_number b.config)) ≡ None) seen
           (view_is_calm view (control_number b.config) all.all c.requires.control));
     }
 
+pub returns-clause-reached : goal.returns-clause-reached
+returns-clause-reached c =
+    let h = c.args.self in
+    let b = c.args.bundle in
+    reached_as h.table.shared.key h.config (slots_items c.close_table-rows.result.words) c.read_words.new.words.items (view_of b) (uncounted_view c.of-last.result.value.me.0) h.key (sym c.read_words.ensures)
+    (sym (ap (λ s. uncounted_view s.me.0) c.of-last.ensures))
+    (view_reached (heap_kind h.table.shared.key) (heap_opening h.table.shared.key) (slots_items c.close_table-rows.result.words) b.seat.me.0 c.close_table-rows.ensures.reached)
+
 pub returns-clause-machines : goal.returns-clause-machines
 returns-clause-machines c =
     let b = c.args.bundle in
-    let view : View Actor = b.seat.me.0 in
-    let seen : view ≡ c.of-last.result.value.me.0 = sym (ap (λ s. s.me.0) c.of-last.ensures) in
+    let view : View Actor = view_of b in
+    let seen : view ≡ uncounted_view c.of-last.result.value.me.0 = sym (ap (λ s. uncounted_view s.me.0) c.of-last.ensures) in
     (view_is_whole b.config view (kept_in_view shown b.machines.items) b.kept (length-kept shown b.machines.items ∙ b.seats) c.requires.all).all ∙ ap (λ (v : View Actor). whole (machines_of v)) seen

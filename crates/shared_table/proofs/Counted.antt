@@ -1,0 +1,117 @@
+-- Machines that count their steps run as those that do not, and a step is counted once.
+use Rattle.std.proofs.Common.{◌≡◌, ◌<◌, ℕ, Bool, true, false, List, [], ◌∷◌, map, length, Option, Some, None, refl, sym, ap, ◌∙◌, subst, arith}
+use Rattle.std.specs.Prelude.{slice_get, slice_set, ◌+◌, if◌then◌else◌}
+use Rattle.std.specs.Option.{is_some, option_map}
+use Rattle.std.proofs.lemmas.List.{map-set}
+use Rattle.std.proofs.lemmas.Option.{slice_get-map}
+use Rattle.atomic_table.specs.Table.{Me}
+use Rattle.heap_words.specs.declared.access.Access.{Access}
+use Rattle.steps_base.specs.Steps.{MachineKind, Stage, Event, accessed, moved, act_of, act, go, IsReached, Finds}
+use Rattle.shared_table.specs.Views.{View, machine_of, whole, machines_of, HasAllMachines, kept_one}
+use Rattle.shared_table.specs.Counted.{Counted, uncounted_machine, steps_made, at_start, counting, counted_from, uncounted_stage, uncounted_view, steps_in_view, uncounted_seat}
+use Rattle.shared_table.specs.Rule.{Took}
+use Rattle.shared_table.specs.Laws.{CountLaws}
+use Rattle.shared_table.proofs.Closing.{length-whole}
+use Rattle.shared_table.proofs.Kept.{machine_of-kept, length-kept, kept-whole, kept-set, kept_here, kept_some}
+use Rattle.shared_table.proofs.Numbers.{all_here, whole_here}
+
+module _ {R : Type 0} where
+  machines_back : (machines : List R) → map uncounted_machine (map at_start machines) ≡ machines
+  machines_back [] = refl
+  machines_back (r ∷ rs) = ap (λ (xs : List R). r ∷ xs) (machines_back rs)
+
+  stage_back : (start : Stage R) → uncounted_stage (counted_from start) ≡ start
+  stage_back start = ap (λ (rs : List R). record { words = start.words; machines = rs }) (machines_back start.machines)
+
+  -- the view of the opening
+  pub first_view : (start : Stage R) → uncounted_view (whole (counted_from start).machines) ≡ whole start.machines
+  first_view start = kept-whole uncounted_machine (map at_start start.machines) ∙ ap whole (machines_back start.machines)
+
+  machines_uncounted : (view : View (Counted R)) → machines_of (uncounted_view view) ≡ map uncounted_machine (machines_of view)
+  machines_uncounted [] = refl
+  machines_uncounted (None ∷ xs) = machines_uncounted xs
+  machines_uncounted (Some x ∷ xs) = ap (λ (rs : List R). x.machine ∷ rs) (machines_uncounted xs)
+
+  -- a view has all machines where it has them without the numbers
+  pub all_counted : (count : ℕ) (view : View (Counted R)) → HasAllMachines count (uncounted_view view) → HasAllMachines count view
+  all_counted count view all = record {
+    all = all_here view (λ k below.
+        sym (kept_some uncounted_machine view k) ∙ ap (λ (v : View R). is_some (machine_of v k)) all.all
+        ∙ whole_here (machines_of (uncounted_view view)) k (within k below));
+    counts = sym long ∙ all.counts;
+  }
+    where
+      long : length (uncounted_view view) ≡ length view
+      long = length-kept uncounted_machine view
+
+      within : (k : ℕ) → k < length view → k < length (machines_of (uncounted_view view))
+      within k below = let whole_long : length (uncounted_view view) ≡ length (machines_of (uncounted_view view)) = ap length all.all ∙ length-whole (machines_of (uncounted_view view)) in omega (arith, below, long, whole_long)
+
+module _ {R O : Type 0} (kind : MachineKind R O) where
+  act-uncounted : (s : Stage (Counted R)) (e : Event O) → uncounted_stage (act (counting kind) s e) ≡ act kind (uncounted_stage s) e
+  unfolding act
+  act-uncounted s e = by_machine (slice_get s.machines e.number) ∙ ap (act_of kind (uncounted_stage s) e) (sym (slice_get-map uncounted_machine s.machines e.number))
+    where
+      by_order : (x : Counted R) (b : Bool)
+          → uncounted_stage (if b then moved (counting kind) s e.number x e.order else s) ≡ (if b then moved kind (uncounted_stage s) e.number x.machine e.order else uncounted_stage s)
+      by_order x true = ap (λ (rs : List R). record { words = accessed (kind.plan x.machine e.order) s.words; machines = rs }) (map-set uncounted_machine s.machines e.number _)
+      by_order x false = refl
+
+      by_machine : (m : Option (Counted R)) → uncounted_stage (act_of (counting kind) s e m) ≡ act_of kind (uncounted_stage s) e (option_map uncounted_machine m)
+      by_machine None = refl
+      by_machine (Some x) = by_order x (kind.takes x.machine e.order)
+
+  go-uncounted : (s : Stage (Counted R)) (events : List (Event O)) → uncounted_stage (go (counting kind) s events) ≡ go kind (uncounted_stage s) events
+  unfolding go
+  go-uncounted s [] = refl
+  go-uncounted s (e ∷ es) = go-uncounted (act (counting kind) s e) es ∙ ap (λ x. go kind x es) (act-uncounted s e)
+
+  module _ (start : Stage R) where
+    runs : (events : List (Event O)) → uncounted_stage (go (counting kind) (counted_from start) events) ≡ go kind start events
+    runs events = go-uncounted (counted_from start) events ∙ ap (λ x. go kind x events) (stage_back start)
+
+    reached_uncounted : (s : Stage (Counted R)) → IsReached (counting kind) (counted_from start) s → IsReached kind start (uncounted_stage s)
+    reached_uncounted s reached = record { events = reached.events; ends = sym (runs reached.events) ∙ ap uncounted_stage reached.ends }
+
+    pub view_reached : (words : List ℕ) (view : View (Counted R)) → IsReached (counting kind) (counted_from start) (record { words = words; machines = machines_of view })
+        → IsReached kind start (record { words = words; machines = machines_of (uncounted_view view) })
+    view_reached words view reached =
+        subst (λ (rs : List R). IsReached kind start (record { words = words; machines = rs })) (sym (machines_uncounted view))
+        (reached_uncounted (record { words = words; machines = machines_of view }) reached)
+
+    module _ {S : Type 0} (number : ℕ) (order : O) (before after : Me S (View (Counted R))) (got : ℕ) (took : Took (counting kind) (counted_from start) number order before got after) where
+      finds_uncounted : Finds kind start number took.machine.machine order got
+      finds_uncounted = record {
+        stage = uncounted_stage took.finds.stage;
+        reached = reached_uncounted took.finds.stage took.finds.reached;
+        here = slice_get-map uncounted_machine took.finds.stage.machines number ∙ ap (option_map uncounted_machine) took.finds.here;
+        takes = took.finds.takes;
+        found = took.finds.found;
+      }
+
+      pub took_uncounted : Took kind start number order (uncounted_seat before) got (uncounted_seat after)
+      took_uncounted = record {
+        machine = took.machine.machine;
+        here = machine_of-kept uncounted_machine before.0 number ∙ ap (kept_one uncounted_machine) took.here;
+        finds = finds_uncounted;
+        view = ap uncounted_view took.view ∙ kept-set uncounted_machine before.0 number (Some ((counting kind).took took.machine order got));
+        slots = took.slots;
+      }
+
+      pub took_counts : (n : ℕ) × (machine_of (steps_in_view before.0) number ≡ Some n) × (steps_in_view after.0 ≡ slice_set (steps_in_view before.0) number (Some (n + 1)))
+      took_counts = (
+        took.machine.steps,
+        machine_of-kept steps_made before.0 number ∙ ap (kept_one steps_made) took.here,
+        ap steps_in_view took.view ∙ kept-set steps_made before.0 number (Some ((counting kind).took took.machine order got)),
+      )
+
+    pub count_laws : {S : Type 0} → CountLaws S kind start
+    count_laws = record { runs = runs; reached = view_reached; tells = took_uncounted; counts = took_counts }
+
+  -- a machine that can make its access can do so where it counts its steps
+  pub can_counted : (view : View (Counted R)) (number : ℕ) (order : O) (access : Access)
+      → (r : R) × (machine_of (uncounted_view view) number ≡ Some r) × (kind.takes r order ≡ true) × (kind.plan r order ≡ access)
+      → (x : Counted R) × (machine_of view number ≡ Some x) × ((counting kind).takes x order ≡ true) × ((counting kind).plan x order ≡ access)
+  can_counted view number order access can =
+      let m = kept_here uncounted_machine view number can.0 can.1 in
+      (m.0, m.1, ap (λ r. kind.takes r order) m.2 ∙ can.2, ap (λ r. kind.plan r order) m.2 ∙ can.3)
