@@ -36,7 +36,8 @@ pub use opening::{first_free, open_words};
 /// then stand for the graph after the history of the steps; the history is legal and of the heap's threads, and refuses only
 /// allocations that live objects and other unanswered allocations crowd out; the entries of each thread are its calls, and
 /// one more where its call in progress is settled; and each machine finds a fit word next. This is so of any work that is a
-/// pause's: that makes of an image that stands for a graph one that stands for the same graph, and answers who waits.
+/// pause's: that makes, where a pause is due, of an image that stands for a graph one that stands for the same graph, and answers
+/// who waits.
 pub fn every_schedule()
     ensures { (change : Change) → IsPause change → (c : Config) (s : Stage Actor) (g : Graph) → Begins c s g → (events : List (Event Order)) → IsSound c g (go (kind change c) s events) (history change c s events) }
 {}

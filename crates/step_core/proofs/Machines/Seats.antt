@@ -224,6 +224,7 @@ resolving_stands c w seat address _ x carries (inr follows) = absurd cc
 call_stands : (c : Config) (w : World) (seat made : ℕ) (kept : Kept) (command : Command) (fixed : Option Reply) (spot : Spot) (x : Carried) → call_carries spot ≡ Some x → SpotFacts c w seat made kept command fixed spot → StandsThere c w x
 call_stands c w seat made kept command fixed (Resolving address at next) x carries facts = resolving_stands c w seat address at x carries facts.0
 call_stands c w seat made kept command fixed _ x carries facts = absurd cc
+
 -- a mutator that makes an object, or copies one, has its room in hand
 make_holds : (c : Config) (w : World) (seat made : ℕ) (k command : Command) (fixed : Option Reply) (at : MakeSpot) → MakeFacts c w seat made k command fixed at → (a words : ℕ) → IsInMaking k at a words → (more : ℕ) × (w.block a ≡ Some (hand seat more))
 make_holds c w seat made k command fixed (make.Taking take) facts a words is = absurd is
