@@ -67,7 +67,7 @@ nothing_full (reply.Number n) given = refl
 nothing_full reply.Bad given = refl
 nothing_full reply.Full given = absurd (given refl)
 
-not_refused : (c : Command) (r : Reply) → r ≢ reply.Full → is_refused c r ≡ false
+pub not_refused : (c : Command) (r : Reply) → r ≢ reply.Full → is_refused c r ≡ false
 not_refused (New dst refs nums) r given = not_full r given
 not_refused (Get dst src field) r given = refl
 not_refused (Set obj field val) r given = refl

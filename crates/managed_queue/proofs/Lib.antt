@@ -12,3 +12,5 @@ pub mod Driven
 pub mod Small
 pub mod Few
 pub mod Coming
+pub mod Refusals
+pub mod Told

@@ -4,3 +4,4 @@ pub mod Machines
 pub mod Users
 pub mod Shares
 pub mod Live
+pub mod Workload

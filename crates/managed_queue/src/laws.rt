@@ -3,6 +3,7 @@ ghost use Rattle.managed_queue.specs.Live.{FewAreLive};
 ghost use Rattle.managed_queue.specs.Queue.{EveryHistory};
 ghost use Rattle.managed_queue.specs.Shares.{FixedAreShared};
 ghost use Rattle.managed_queue.specs.Users.{UsersPlay, TakersTake, PuttersPut};
+ghost use Rattle.managed_queue.specs.Workload.{QueueRunsTell};
 
 /// A law: in each legal history whose threads use the queue, the operations, in the order of the entries in which they
 /// take effect, are a run of a queue that begins empty, and their replies are the run's.
@@ -35,4 +36,10 @@ pub fn putters_put()
 /// A law: at most 19 words are live, and 5 for each allocation that was not refused.
 pub fn few_are_live()
     ensures { FewAreLive }
+{}
+
+/// A law: where two users put so many numbers each and two take as many, in a heap of 16 regions of 256 words, no allocation is
+/// refused, and the takers got all numbers that were put.
+pub fn queue_runs_tell()
+    ensures { QueueRunsTell }
 {}

@@ -9,6 +9,12 @@ pub mod Jobs
 pub mod AtWork
 pub mod Running
 pub mod Turning
+mod Calling
+pub mod NamesLeft
+pub mod DriverLemmas
+pub mod AtDriver
+pub mod Counting
+pub mod Driving
 pub mod Rounds
 pub mod Starting
 pub mod Ended

@@ -1,9 +1,11 @@
 -- Rounds of the machines of a bundle.
-use Rattle.std.proofs.Common.{◌≡◌, ◌<◌, ◌≤◌, ⊎_elim, ℕ, ◌+◌, false, length, Some, sym, ap, ◌∙◌, subst, arith}
-use Rattle.std.specs.Prelude.{is_some}
+use Rattle.std.proofs.Common.{◌≡◌, ◌<◌, ◌≤◌, ⊎_elim, ℕ, suc, ◌+◌, ◌&&◌, Bool, true, false, List, length, Option, Some, refl, sym, ap, ◌∙◌, subst, arith}
+use Rattle.std.specs.Prelude.{is_some, nat_lt, if◌then◌else◌}
 use Rattle.std.proofs.lemmas.Bool.{false≢true, cases_eq}
 use Rattle.heap_words.specs.Ranges.{seat_count}
 use Rattle.shared_table.specs.Views.{machine_of}
+use Rattle.shen_graph.specs.declared.command.Command.{Command}
+use Rattle.shen_graph.specs.declared.command.Reply.{Reply}
 use Rattle.shen_graph.specs.Work.{replies_of}
 use Rattle.step_core.specs.Actor.{Actor}
 use Rattle.heap_machines.specs.declared.stepped.Stepped.{Stepped}
@@ -14,35 +16,35 @@ use Rattle.table_heap.specs.declared.run.Round.{Round}
 use Rattle.table_heap.specs.declared.run.Round.TheVariants as round
 use Rattle.table_heap.specs.State.{view_of, machine_at, IsSameBundle, IsUnchanged}
 use Rattle.table_heap.specs.Running.{Jobs, CanStart, AreAtWork, IsIdleForGood, AreIdleForGood, HasDone, HaveDone, AreSameJobs}
+use Rattle.table_heap.specs.Driving.{mutators_below, AreDriving}
 use Rattle.table_heap.proofs.AtWork.{starts, done}
+use Rattle.table_heap.proofs.Driving.{same_places}
 use Rattle.table_heap.proofs.Jobs.{script_here, replies_here}
 use Rattle.table_heap.proofs.MachineUnder.{within}
-use Rattle.table_heap.proofs.Running.{in_memory, at_number, same_bundle_more, same_jobs_more}
+use Rattle.table_heap.proofs.Running.{in_memory, at_number, same_bundle, same_bundle_more, same_jobs_more}
 
--- A bundle and its work in a round, in which it was the turn of the machines of the numbers below this one. Where nobody has made
--- a step yet, these are idle for good.
-pub record IsInRound (old : Bundle) (jobs : Jobs) (number : ℕ) (now : Bundle) (later : Jobs) (so_far : Round) : Type 0 where
-  pub work : AreAtWork now later
+-- A bundle in a round, in which it was the turn of the machines of the numbers below this one. Where nobody has made a step yet, these
+-- are idle for good.
+pub record IsRoundOf (old : Bundle) (number : ℕ) (now : Bundle) (so_far : Round) : Type 0 where
   pub same : IsSameBundle old now
-  pub jobs_are : AreSameJobs (view_of old) jobs later
   pub idle : so_far ≡ round.Idle → (k : ℕ) (a : Actor) → k < number → machine_of (view_of now) k ≡ Some a → IsIdleForGood a.machine
 
 -- what a turn of the machine has left
-pub record HasTurned (now new : Bundle) (between later : Jobs) (number : ℕ) (said : Stepped) : Type 0 where
-  pub work : AreAtWork new later
+pub record IsTurnOf (now new : Bundle) (number : ℕ) (said : Stepped) : Type 0 where
   pub same : IsSameBundle now new
-  pub jobs_are : AreSameJobs (view_of now) between later
   pub unchanged : said ≡ stepped.Idle → IsUnchanged now new
   pub idle : said ≡ stepped.Idle → IsIdleForGood (machine_at now number)
 
-module _ (old now : Bundle) (jobs between : Jobs) (number : ℕ) (so_far : Round) (before : IsInRound old jobs number now between so_far) where
+-- it begins
+pub round_first : (b : Bundle) (so_far : Round) → IsRoundOf b 0 b so_far
+round_first b so_far = record { same = same_bundle b; idle = λ none k a below there. absurd (omega (arith, below)) }
+
+module _ (old now : Bundle) (number : ℕ) (so_far : Round) (before : IsRoundOf old number now so_far) where
   -- one turn more
-  pub in_round_turn : (new : Bundle) (later : Jobs) (said : Stepped) (next : Round) → HasTurned now new between later number said → (next ≡ round.Idle → (so_far ≡ round.Idle) × (said ≡ stepped.Idle))
-      → IsInRound old jobs (number + 1) new later next
-  in_round_turn new later said next turned both = record {
-    work = turned.work;
+  pub round_turn : (new : Bundle) (said : Stepped) (next : Round) → IsTurnOf now new number said → (next ≡ round.Idle → (so_far ≡ round.Idle) × (said ≡ stepped.Idle))
+      → IsRoundOf old (number + 1) new next
+  round_turn new said next turned both = record {
     same = same_bundle_more old now new before.same turned.same;
-    jobs_are = same_jobs_more old now jobs between later before.same before.jobs_are turned.jobs_are;
     idle = λ none k a below there.
         let here : machine_of (view_of now) k ≡ Some a = ap (λ v. machine_of v k) (sym (turned.unchanged (both none).1).unmoved.view) ∙ there in
         ⊎_elim
@@ -53,11 +55,9 @@ module _ (old now : Bundle) (jobs between : Jobs) (number : ℕ) (so_far : Round
   }
 
   -- the bundle has no machine of the number
-  pub in_round_none : is_some (machine_of (view_of now) number) ≡ false → IsInRound old jobs (number + 1) now between so_far
-  in_round_none absent = record {
-    work = before.work;
+  pub round_none : is_some (machine_of (view_of now) number) ≡ false → IsRoundOf old (number + 1) now so_far
+  round_none absent = record {
     same = before.same;
-    jobs_are = before.jobs_are;
     idle = λ none k a below there. ⊎_elim
         (λ (same : k ≡ number). absurd (false≢true (sym absent ∙ ap (λ n. is_some (machine_of (view_of now) n)) (sym same) ∙ ap is_some there)))
         (λ (other : k ≡ number → ⊥). before.idle none k a (omega arith) there)
@@ -70,6 +70,79 @@ module _ (old now : Bundle) (jobs between : Jobs) (number : ℕ) (so_far : Round
       let inside : k < length now.machines.items = within shown now.machines.items k (ap is_some (in_memory now k a there)) in
       let long : length now.machines.items ≡ length old.machines.items = now.seats ∙ ap (λ c. seat_count c.mutators c.helpers) before.same.config ∙ sym old.seats in
       before.idle none k a (omega (arith, all, inside, long)) there
+
+-- A bundle and its work in a round.
+pub record IsInRound (old : Bundle) (jobs : Jobs) (number : ℕ) (now : Bundle) (later : Jobs) (so_far : Round) : Type 0 where
+  pub work : AreAtWork now later
+  pub jobs_are : AreSameJobs (view_of old) jobs later
+  pub round : IsRoundOf old number now so_far
+
+-- the turn has left them so
+pub record HasTurned (now new : Bundle) (between later : Jobs) (number : ℕ) (said : Stepped) : Type 0 where
+  pub work : AreAtWork new later
+  pub jobs_are : AreSameJobs (view_of now) between later
+  pub turn : IsTurnOf now new number said
+
+module _ (old now : Bundle) (jobs between : Jobs) (number : ℕ) (so_far : Round) (before : IsInRound old jobs number now between so_far) where
+  pub in_round_turn : (new : Bundle) (later : Jobs) (said : Stepped) (next : Round) → HasTurned now new between later number said → (next ≡ round.Idle → (so_far ≡ round.Idle) × (said ≡ stepped.Idle))
+      → IsInRound old jobs (number + 1) new later next
+  in_round_turn new later said next turned both = record {
+    work = turned.work;
+    jobs_are = same_jobs_more old now jobs between later before.round.same before.jobs_are turned.jobs_are;
+    round = round_turn old now number so_far before.round new said next turned.turn both;
+  }
+
+  pub in_round_none : is_some (machine_of (view_of now) number) ≡ false → IsInRound old jobs (number + 1) now between so_far
+  in_round_none absent = record { work = before.work; jobs_are = before.jobs_are; round = round_none old now number so_far before.round absent }
+
+-- The drivers of a bundle's mutators in a round, and the place of the driver that is next.
+pub record IsDrivenRound {D : Type 0} (next_of : D → Option Command) (replied : D → Reply → D) (to_come : D → ℕ) (old : Bundle) (drivers : List D) (number place : ℕ) (now : Bundle) (later : List D) (so_far : Round) : Type 0 where
+  pub driving : (firsts : List D) → AreDriving next_of replied to_come old firsts drivers → AreDriving next_of replied to_come now firsts later
+  pub round : IsRoundOf old number now so_far
+  pub place_is : place ≡ mutators_below old number
+
+module _ {D : Type 0} (next_of : D → Option Command) (replied : D → Reply → D) (to_come : D → ℕ) (old now : Bundle) (drivers between : List D) (number place : ℕ) (so_far : Round)
+    (before : IsDrivenRound next_of replied to_come old drivers number place now between so_far) where
+  -- the place of the driver in the bundle as it is now
+  pub place_now : place ≡ mutators_below now number
+  place_now = before.place_is ∙ sym (same_places old now number before.round.same)
+
+  -- a machine of the bundle counts where it is a mutator
+  counted : (has test : Bool) → has ≡ true → (n : ℕ) → (if has && test then suc n else n) ≡ (if test then n + 1 else n)
+  counted true true is n = omega arith
+  counted true false is n = refl
+  counted false test is n = absurd (false≢true is)
+
+  counted_none : (has test : Bool) → has ≡ false → (n : ℕ) → (if has && test then suc n else n) ≡ n
+  counted_none true test is n = absurd (false≢true (sym is))
+  counted_none false test is n = refl
+
+  here_before : (s : Bool) → is_some (machine_of (view_of now) number) ≡ s → is_some (machine_of (view_of old) number) ≡ s
+  here_before s is = sym (before.round.same.numbers.here number) ∙ is
+
+  one_more : mutators_below old (number + 1) ≡ mutators_below old (suc number)
+  one_more = ap (mutators_below old) (let e : number + 1 ≡ suc number = omega arith in e)
+
+  pub driven_turn : (new : Bundle) (later : List D) (said : Stepped) (next : Round) (behind : ℕ) → is_some (machine_of (view_of now) number) ≡ true
+      → ((firsts : List D) → AreDriving next_of replied to_come now firsts between → AreDriving next_of replied to_come new firsts later)
+      → IsTurnOf now new number said → (next ≡ round.Idle → (so_far ≡ round.Idle) × (said ≡ stepped.Idle))
+      → behind ≡ (if nat_lt number now.config.mutators then place + 1 else place)
+      → IsDrivenRound next_of replied to_come old drivers (number + 1) behind new later next
+  driven_turn new later said next behind present goes turned both behind_is = record {
+    driving = λ firsts begun. goes firsts (before.driving firsts begun);
+    round = round_turn old now number so_far before.round new said next turned both;
+    place_is = behind_is ∙ ap (λ n. if nat_lt number now.config.mutators then n + 1 else n) before.place_is
+        ∙ ap (λ c. if nat_lt number c.mutators then mutators_below old number + 1 else mutators_below old number) before.round.same.config
+        ∙ sym (counted (is_some (machine_of (view_of old) number)) (nat_lt number old.config.mutators) (here_before true present) (mutators_below old number)) ∙ sym one_more;
+  }
+
+  pub driven_none : is_some (machine_of (view_of now) number) ≡ false → IsDrivenRound next_of replied to_come old drivers (number + 1) place now between so_far
+  driven_none absent = record {
+    driving = before.driving;
+    round = round_none old now number so_far before.round absent;
+    place_is = before.place_is
+        ∙ sym (counted_none (is_some (machine_of (view_of old) number)) (nat_lt number old.config.mutators) (here_before false absent) (mutators_below old number)) ∙ sym one_more;
+  }
 
 -- a bundle that can start is at work
 pub at_start : (b : Bundle) (jobs : Jobs) → CanStart b jobs → AreAtWork b jobs

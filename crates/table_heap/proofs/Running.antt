@@ -14,7 +14,7 @@ use Rattle.heap_machines.specs.Roles.{is_mutating}
 use Rattle.heap_machines.proofs.Turns.{rest_is_mutating, begins_at_rest}
 use Rattle.table_heap.specs.declared.bundle.Bundle.{Bundle}
 use Rattle.table_heap.specs.Core.{machine_in}
-use Rattle.table_heap.specs.State.{view_of, machines_of, HasMachine, machine_at, IsSameBundle}
+use Rattle.table_heap.specs.State.{view_of, machines_of, HasMachine, machine_at, IsSameBundle, IsUnchanged}
 use Rattle.table_heap.specs.Running.{Jobs, HasNoMutator, AreAtWork, next_for, AreSameJobs}
 use Rattle.table_heap.proofs.MachineUnder.{shows_here}
 use Rattle.table_heap.proofs.Jobs.{has_here, next_here}
@@ -95,4 +95,11 @@ same_bundle_more old mid new first second = record {
   table = second.table ∙ first.table;
   config = second.config ∙ first.config;
   numbers = same_more (view_of old) (view_of mid) (view_of new) first.numbers second.numbers;
+}
+
+-- the work of a bundle that is as it was
+pub work_unchanged : (old new : Bundle) (jobs : Jobs) → IsUnchanged old new → AreAtWork old jobs → AreAtWork new jobs
+work_unchanged old new jobs same work = record {
+  orders = λ k order there. work.orders k order (ap (λ v. machine_of v k) (sym same.orders) ∙ there);
+  mutators = λ k a here role. work.mutators k a (ap (λ v. machine_of v k) (sym same.unmoved.view) ∙ here) role;
 }

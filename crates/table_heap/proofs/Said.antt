@@ -1,7 +1,8 @@
 -- What a step that was made says.
-use Rattle.std.proofs.Common.{◌≡◌, Some, refl}
+use Rattle.std.proofs.Common.{◌≡◌, ◌⊎◌, inl, inr, Some, refl, sym, ◌∙◌}
 use Rattle.heap_words.specs.declared.access.Took.{Took}
 use Rattle.heap_words.specs.declared.access.Took.TheVariants as took
+use Rattle.heap_machines.specs.declared.stepped.Stepped.{Stepped}
 use Rattle.heap_machines.specs.declared.stepped.Stepped.TheVariants as stepped
 use Rattle.heap_machines.specs.Answer.{stepped_of, stepped_by}
 use Rattle.std.specs.Prelude.{Option, None}
@@ -11,6 +12,9 @@ pub never_idle : (said : Took) → stepped_of said ≡ stepped.Idle → ⊥
 never_idle took.More is = cc
 never_idle took.Again is = cc
 never_idle took.Done is = cc
+
+pub done_not_idle : (said : Stepped) → said ≡ stepped.Done → said ≡ stepped.Idle → ⊥
+done_not_idle said done idle = let both : stepped.Done ≡ stepped.Idle = sym done ∙ idle in cc
 
 -- one that has ended its call says so, and no other does
 pub done_only : (said : Took) → stepped_of said ≡ stepped.Done → said ≡ took.Done
@@ -23,3 +27,10 @@ done_by None is = absurd cc
 done_by (Some took.More) is = absurd cc
 done_by (Some took.Again) is = absurd cc
 done_by (Some took.Done) is = refl
+
+-- a machine is idle, or it is not
+pub idle_or_not : (said : Stepped) → (said ≡ stepped.Idle) ⊎ (said ≡ stepped.Idle → ⊥)
+idle_or_not stepped.Idle = inl refl
+idle_or_not stepped.More = inr (λ is. cc)
+idle_or_not stepped.Again = inr (λ is. cc)
+idle_or_not stepped.Done = inr (λ is. cc)

@@ -1,5 +1,5 @@
 -- One turn of a machine of a bundle that makes a step.
-use Rattle.std.proofs.Common.{◌≡◌, ◌≢◌, ◌<◌, ℕ, zero, suc, Bool, true, false, [], ◌∷◌, length, Some, None, refl, sym, ap, ◌∙◌, subst, arith}
+use Rattle.std.proofs.Common.{◌≡◌, ◌≢◌, ◌<◌, ℕ, zero, suc, Bool, true, false, [], ◌∷◌, length, Option, Some, None, refl, sym, ap, ◌∙◌, subst, arith}
 use Rattle.std.specs.Prelude.{slice_get, slice_set, ◌==◌, nat_lt, if◌then◌else◌}
 use Rattle.std.proofs.lemmas.Bool.{false≢true}
 use Rattle.std.proofs.lemmas.Bool.Decides.{nat_tests}
@@ -7,6 +7,7 @@ use Rattle.std.proofs.lemmas.List.{set-set}
 use Rattle.heap_machines.specs.Pause.{pause_image}
 use Rattle.shared_table.specs.Views.{View, machine_of}
 use Rattle.shared_table.proofs.ViewsShow.{machine_of-set}
+use Rattle.shen_graph.specs.declared.command.Command.{Command}
 use Rattle.shen_graph.specs.declared.command.Reply.{Reply}
 use Rattle.shen_graph.specs.declared.order.Order.{Order}
 use Rattle.shen_graph.specs.declared.order.Order.TheVariants.{Nothing}
@@ -21,7 +22,8 @@ use Rattle.heap_machines.specs.Turn.{order_for}
 use Rattle.heap_machines.proofs.Replies.{done_gives, other_gives, given_after}
 use Rattle.heap_machines.proofs.Turns.{role_stays}
 use Rattle.table_heap.specs.declared.bundle.Bundle.{Bundle}
-use Rattle.table_heap.specs.State.{view_of, orders_of, machine_at, order_at, IsUnmoved, IsBundleStep}
+use Rattle.table_heap.specs.State.{view_of, orders_of, machine_at, order_at}
+use Rattle.table_heap.specs.Turning.{IsTurn}
 use Rattle.table_heap.specs.Running.{Jobs, HasNoOrder, EachMutator, IsAtWorkOn, AreAtWork, next_for, AreSameJobs}
 use Rattle.table_heap.proofs.Core.{kind_took}
 use Rattle.shen_graph.proofs.Noted.{progress_other, script_kept}
@@ -41,8 +43,8 @@ no_order_after (x ∷ xs) (suc number) none zero order there = none zero order t
 no_order_after (x ∷ xs) (suc number) none (suc k) order there = no_order_after xs number (λ j. none (suc j)) k order there
 
 -- what holds of each mutator where one machine has gone on
-each_after : (view new : View Actor) (number : ℕ) (a b : Actor) (P Q : ℕ → Actor → Type 0) → machine_of view number ≡ Some a → new ≡ slice_set view number (Some b) → EachMutator view P
-    → (is_mutating b.machine ≡ true → Q number b) → ((k : ℕ) (x : Actor) → k ≢ number → P k x → Q k x) → EachMutator new Q
+pub each_after : (view new : View Actor) (number : ℕ) (a b : Actor) (P Q : ℕ → Actor → Type 0) → machine_of view number ≡ Some a → new ≡ slice_set view number (Some b) → EachMutator view P
+    → (is_mutating b.machine ≡ true → Q number b) → ((k : ℕ) (x : Actor) → k ≢ number → machine_of view k ≡ Some x → is_mutating x.machine ≡ true → P k x → Q k x) → EachMutator new Q
 each_after view new number a b P Q here new_is each one others k x there role =
     by_number (k == number) refl (sym (machine_of-set view number a (Some b) here k) ∙ ap (λ v. machine_of v k) (sym new_is) ∙ there)
   where
@@ -53,129 +55,138 @@ each_after view new number a b P Q here new_is each one others k x there role =
         subst (λ y. Q k y) next (subst (λ j. Q j b) (sym same) (one (ap (λ y. is_mutating y.machine) next ∙ role)))
     by_number false is found =
         let other : k ≢ number = grind (arith, nat_tests) in
-        others k x other (each k x (rw is at found) role)
+        let there_before : machine_of view k ≡ Some x = rw is at found in
+        others k x other there_before role (each k x there_before role)
 
--- a bundle, with the order for a machine, and after that machine's step, which said so
-pub record IsTurn (old mid new : Bundle) (jobs : Jobs) (number : ℕ) (said : Stepped) : Type 0 where
-  pub unmoved : IsUnmoved old mid
-  pub turn : order_for (next_for old.config jobs number) (machine_at old number) ≡ Some (order_at mid number)
-  pub orders : orders_of mid ≡ slice_set (orders_of old) number (Some (order_at mid number))
-  pub step : IsBundleStep mid new number said
+module _ (old new : Bundle) (next : Option Command) (number : ℕ) (said : Stepped) (made : IsTurn old new next number said) where
+  -- the bundle, where the machine has its order
+  abbrev pub mid : Bundle
+  mid = made.ordered
 
-module _ (old mid new : Bundle) (jobs : Jobs) (number : ℕ) (said : Stepped) (made : IsTurn old mid new jobs number said) (before : AreAtWork old jobs) where
   -- the machine, before and after
-  abbrev was : Actor
+  abbrev pub was : Actor
   was = made.step.took.machine
 
-  abbrev order : Order
+  abbrev pub order : Order
   order = order_at mid number
 
-  abbrev then_is : Actor
-  then_is = took_of pause_image mid.config was order made.step.got was.machine
+  abbrev pub got : ℕ
+  got = made.step.got
 
-  here : machine_of (view_of old) number ≡ Some was
+  abbrev pub then_is : Actor
+  then_is = took_of pause_image mid.config was order got was.machine
+
+  pub here : machine_of (view_of old) number ≡ Some was
   here = ap (λ v. machine_of v number) (sym made.unmoved.view) ∙ made.step.took.here
 
-  view_is : view_of new ≡ slice_set (view_of old) number (Some then_is)
+  pub view_is : view_of new ≡ slice_set (view_of old) number (Some then_is)
   view_is =
-      made.step.took.view ∙ ap (λ x. slice_set (view_of mid) number (Some x)) (kind_took mid.config was order made.step.got)
+      made.step.took.view ∙ ap (λ x. slice_set (view_of mid) number (Some x)) (kind_took mid.config was order got)
       ∙ ap (λ v. slice_set v number (Some then_is)) made.unmoved.view
 
   there : machine_of (view_of new) number ≡ Some then_is
   there = ap (λ v. machine_of v number) view_is ∙ put_there (λ (x : Actor). x) (view_of old) number was then_is here
 
   -- no order is pending
-  no_order : HasNoOrder new
-  no_order k x there =
-      no_order_after (orders_of old) number before.orders k x
+  pub no_order : HasNoOrder old → HasNoOrder new
+  no_order none k x there =
+      no_order_after (orders_of old) number none k x
       (ap (λ v. machine_of v k) (sym (made.step.orders ∙ ap (λ v. slice_set v number (Some Nothing)) made.orders ∙ set-set (orders_of old) number _ _)) ∙ there)
 
-  -- its order is by the next command of its script
-  module _ (role : is_mutating was.machine ≡ true) where
-    abbrev job : IsAtWorkOn jobs number was
-    job = before.mutators number was here role
+  -- its order is by the command that would follow
+  pub turn_was : order_for next was.machine ≡ Some order
+  turn_was = ap (order_for next) (sym (at_number old number was here)) ∙ made.turn
 
-    turn_is : order_for (slice_get job.0.script (length job.0.replies)) was.machine ≡ Some order
-    turn_is =
-        let below : nat_lt number old.config.mutators ≡ true = sym (role_at old number was here) ∙ role in
-        let next : next_for old.config jobs number ≡ slice_get job.0.script (length job.0.replies) = ap (λ t. if t then next_of jobs number else None) below ∙ next_here jobs number job.0 job.1 in
-        ap (λ o. order_for o was.machine) (sym next) ∙ ap (order_for (next_for old.config jobs number)) (sym (at_number old number was here)) ∙ made.turn
+  -- only a mutator has a command that follows
+  below : is_mutating was.machine ≡ true → nat_lt number old.config.mutators ≡ true
+  below role = sym (role_at old number was here) ∙ role
 
-  role_then : is_mutating then_is.machine ≡ is_mutating was.machine
-  role_then = role_stays pause_image mid.config order made.step.got was.machine
+  pub role_then : is_mutating then_is.machine ≡ is_mutating was.machine
+  role_then = role_stays pause_image mid.config order got was.machine
 
   -- what its step said
-  said_is : said ≡ stepped_by (answer_of mid.config was.machine made.step.got)
-  said_is = made.step.said_is ∙ ap (λ machine. says mid.config machine made.step.got) (at_number mid number was made.step.took.here)
+  said_is : said ≡ stepped_by (answer_of mid.config was.machine got)
+  said_is = made.step.said_is ∙ ap (λ machine. says mid.config machine got) (at_number mid number was made.step.took.here)
 
   -- a step that is not done gives no reply
-  none_given : (said ≡ stepped.Done → ⊥) → reply_of_step was.machine ≡ None
-  none_given other = other_gives mid.config was.machine made.step.got (λ is. other (said_is ∙ ap stepped_by is))
-
-  -- the work is as it was
-  pub turned_on : (said ≡ stepped.Done → ⊥) → AreAtWork new jobs
-  turned_on other = record {
-    orders = no_order;
-    mutators = each_after (view_of old) (view_of new) number was then_is (IsAtWorkOn jobs) (IsAtWorkOn jobs) here view_is before.mutators
-        (λ mutates.
-        let role = sym role_then ∙ mutates in
-        ((job role).0, (job role).1, goes_on (job role).0 was (job role).2 mid.config order made.step.got (turn_is role) (none_given other)))
-        (λ k x different at. at);
-  }
+  pub none_given : (said ≡ stepped.Done → ⊥) → reply_of_step was.machine ≡ None
+  none_given other = other_gives mid.config was.machine got (λ is. other (said_is ∙ ap stepped_by is))
 
   -- a step that is done gives one
-  some_given : said ≡ stepped.Done → (r : Reply) × (reply_of_step was.machine ≡ Some r)
-  some_given done = done_gives mid.config was.machine made.step.got (done_by (answer_of mid.config was.machine made.step.got) (sym said_is ∙ done))
+  pub some_given : said ≡ stepped.Done → (r : Reply) × (reply_of_step was.machine ≡ Some r)
+  some_given done = done_gives mid.config was.machine got (done_by (answer_of mid.config was.machine got) (sym said_is ∙ done))
 
   -- a machine that gives a reply is a mutator
-  role_given : (r : Reply) → reply_of_step was.machine ≡ Some r → is_mutating was.machine ≡ true
-  role_given r gives = (given_after pause_image mid.config order made.step.got was.machine r gives).role
-
-  -- it has a script, and the reply can be noted
-  pub can_tell : said ≡ stepped.Done → HasScript jobs number × (length (replies_of jobs number) < length (script_in jobs number))
-  can_tell done =
-      let given = some_given done in
-      let role = role_given given.0 given.1 in
-      let at = job role in (
-        has_here jobs number at.0 at.1,
-        subst (λ rs. length rs < length (script_in jobs number)) (sym (replies_here jobs number at.0 at.1))
-            (subst (λ ks. length at.0.replies < length ks) (sym (script_here jobs number at.0 at.1))
-            (more at.0 was at.2 mid.config order made.step.got (turn_is role) given.0 given.1)),
-      )
+  pub role_given : (r : Reply) → reply_of_step was.machine ≡ Some r → is_mutating was.machine ≡ true
+  role_given r gives = (given_after pause_image mid.config order got was.machine r gives).role
 
   -- the reply that is at hand is the one that the step gave
   pub reply_given : (r : Reply) → said ≡ stepped.Done → reply_in (machine_at new number) ≡ Some r → reply_of_step was.machine ≡ Some r
   reply_given r done at_hand =
       let given = some_given done in
-      let replied = (given_after pause_image mid.config order made.step.got was.machine given.0 given.1).replied in
+      let replied = (given_after pause_image mid.config order got was.machine given.0 given.1).replied in
       given.1 ∙ sym replied ∙ ap reply_in (sym (at_number new number then_is there)) ∙ at_hand
 
-  module _ (r : Reply) (done : said ≡ stepped.Done) (at_hand : reply_in (machine_at new number) ≡ Some r) where
-    abbrev gives : reply_of_step was.machine ≡ Some r
-    gives = reply_given r done at_hand
+  -- where the command that would follow is that of its script
+  module _ (jobs : Jobs) (next_is : next ≡ next_for old.config jobs number) (before : AreAtWork old jobs) where
+    module _ (role : is_mutating was.machine ≡ true) where
+      abbrev job : IsAtWorkOn jobs number was
+      job = before.mutators number was here role
 
-    abbrev role : is_mutating was.machine ≡ true
-    role = role_given r gives
+      turn_is : order_for (slice_get job.0.script (length job.0.replies)) was.machine ≡ Some order
+      turn_is =
+          let follows : next ≡ slice_get job.0.script (length job.0.replies) = next_is ∙ ap (λ t. if t then next_of jobs number else None) (below role) ∙ next_here jobs number job.0 job.1 in
+          ap (λ o. order_for o was.machine) (sym follows) ∙ turn_was
 
-    -- the reply is noted
-    pub turned_noted : AreAtWork new (with_reply jobs number r)
-    turned_noted = record {
-      orders = no_order;
-      mutators = each_after (view_of old) (view_of new) number was then_is (IsAtWorkOn jobs) (IsAtWorkOn (with_reply jobs number r)) here view_is before.mutators
-          (λ mutates. (
-            answered (job role).0 r,
-            noted_here jobs number (job role).0 (job role).1 r,
-            noted (job role).0 was (job role).2 mid.config order made.step.got (turn_is role) r gives,
-          ))
-          (λ k x different at. (at.0, progress_other jobs number r k different ∙ at.1, at.2));
+    -- the work is as it was
+    pub turned_on : (said ≡ stepped.Done → ⊥) → AreAtWork new jobs
+    turned_on other = record {
+      orders = no_order before.orders;
+      mutators = each_after (view_of old) (view_of new) number was then_is (IsAtWorkOn jobs) (IsAtWorkOn jobs) here view_is before.mutators
+          (λ mutates.
+          let role = sym role_then ∙ mutates in
+          ((job role).0, (job role).1, goes_on (job role).0 was (job role).2 mid.config order got (turn_is role) (none_given other)))
+          (λ k x different there role at. at);
     }
 
-    -- and it is one of the bundle's mutators to whom it belongs
-    pub jobs_noted : AreSameJobs (view_of old) jobs (with_reply jobs number r)
-    jobs_noted =
-        let has = (can_tell done).0 in
-        record {
-          scripts = λ t. script_kept jobs number r t has;
-          numbers = λ t. numbers_kept jobs number r t has;
-          others = λ t none. progress_other jobs number r t (λ same. false≢true (sym (none was (ap (machine_of (view_of old)) same ∙ here)) ∙ role));
-        }
+    -- it has a script, and the reply can be noted
+    pub can_tell : said ≡ stepped.Done → HasScript jobs number × (length (replies_of jobs number) < length (script_in jobs number))
+    can_tell done =
+        let given = some_given done in
+        let role = role_given given.0 given.1 in
+        let at = job role in (
+          has_here jobs number at.0 at.1,
+          subst (λ rs. length rs < length (script_in jobs number)) (sym (replies_here jobs number at.0 at.1))
+              (subst (λ ks. length at.0.replies < length ks) (sym (script_here jobs number at.0 at.1))
+              (more at.0 was at.2 mid.config order got (turn_is role) given.0 given.1)),
+        )
+
+    module _ (r : Reply) (done : said ≡ stepped.Done) (at_hand : reply_in (machine_at new number) ≡ Some r) where
+      abbrev gives : reply_of_step was.machine ≡ Some r
+      gives = reply_given r done at_hand
+
+      abbrev role : is_mutating was.machine ≡ true
+      role = role_given r gives
+
+      -- the reply is noted
+      pub turned_noted : AreAtWork new (with_reply jobs number r)
+      turned_noted = record {
+        orders = no_order before.orders;
+        mutators = each_after (view_of old) (view_of new) number was then_is (IsAtWorkOn jobs) (IsAtWorkOn (with_reply jobs number r)) here view_is before.mutators
+            (λ mutates. (
+              answered (job role).0 r,
+              noted_here jobs number (job role).0 (job role).1 r,
+              noted (job role).0 was (job role).2 mid.config order got (turn_is role) r gives,
+            ))
+            (λ k x different there role at. (at.0, progress_other jobs number r k different ∙ at.1, at.2));
+      }
+
+      -- and it is one of the bundle's mutators to whom it belongs
+      pub jobs_noted : AreSameJobs (view_of old) jobs (with_reply jobs number r)
+      jobs_noted =
+          let has = (can_tell done).0 in
+          record {
+            scripts = λ t. script_kept jobs number r t has;
+            numbers = λ t. numbers_kept jobs number r t has;
+            others = λ t none. progress_other jobs number r t (λ same. false≢true (sym (none was (ap (machine_of (view_of old)) same ∙ here)) ∙ role));
+          }

@@ -3,3 +3,7 @@ pub mod Core
 pub mod Known
 pub mod State
 pub mod Running
+pub mod Turning
+pub mod Makes
+pub mod Driven
+pub mod Driving

@@ -4,6 +4,7 @@
 
 mod bundle;
 mod closed;
+mod drive;
 mod gate;
 mod heap;
 mod laws;

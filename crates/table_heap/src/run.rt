@@ -1,6 +1,9 @@
-ghost use Rattle.std.specs.Prelude.{◌≡◌, ◌≢◌, ◌↔◌, true, false, Some, None, if◌then◌else◌, slice_set};
+ghost use Rattle.std.specs.Prelude.{◌≡◌, ◌≢◌, ◌↔◌, ◌<◌, true, false, Some, None, IfSome, if◌then◌else◌, slice_set};
 ghost use Rattle.heap_machines.specs.Turn.{order_for};
+ghost use Rattle.shen_graph.specs.Valid.{IsValid};
+ghost use Rattle.step_core.specs.Machines.{reply_in, may_begin, made_of_machine};
 ghost use Rattle.table_heap.specs.State.{heap_of, view_of, orders_of, IsBundleOf, HasMachine, machine_at, order_at, has_turn, IsSameBundle, IsUnmoved, IsUnchanged};
+ghost use Rattle.table_heap.specs.Turning.{IsTurn};
 ghost use Rattle.table_heap.specs.Running.{HasNoOrder, CanStart, AreAtWork, next_for, IsIdleForGood, AreIdleForGood, HaveDone, AreSameJobs};
 
 use crate::bundle::Bundle;
@@ -17,7 +20,7 @@ const WORKING: u32 = 8;
 
 // What the machines of a bundle did in a round.
 #[derive(Clone, Copy)]
-enum Round {
+pub(crate) enum Round {
     // None made a step.
     Idle,
     // Some made a step, and each of these waits.
@@ -28,7 +31,7 @@ enum Round {
 
 impl Round {
     // The round with one turn more.
-    fn and(self, said: Stepped) -> Round
+    pub(crate) fn and(self, said: Stepped) -> Round
         ensures idle { (result ≡ Round.Idle) ↔ ((self ≡ Round.Idle) × (said ≡ Stepped.Idle)) }
         ensures calm { (result ≢ Round.Moving) ↔ ((self ≢ Round.Moving) × (said ≢ Stepped.More) × (said ≢ Stepped.Done)) }
     {
@@ -44,7 +47,7 @@ impl Round {
 }
 
 // Backs off after a round that waits, and ends that once several rounds in a row went on. How many they are with this one.
-fn back_off(backoff: &Backoff, moving: u32, round: Round) -> u32 {
+pub(crate) fn back_off(backoff: &Backoff, moving: u32, round: Round) -> u32 {
     match round {
         Round::Idle | Round::Waiting => {
             backoff.snooze();
@@ -73,25 +76,50 @@ impl Bundle {
         }
     }
 
-    // Gives the machine its order for its turn, if it has one: a mutator between two calls begins the next command of its
-    // script, and ends where there is none.
-    fn order_next(&mut self, work: &Work, number: usize) -> bool
+    // Gives the machine its order for its turn, if it has one: a mutator between two calls begins the command that follows, and
+    // ends where there is none.
+    fn order_next(&mut self, next: Option<Command>, number: usize) -> bool
         requires here { HasMachine self.old number }
-        requires work { AreAtWork self.old work.now }
-        ensures turn { order_for (next_for (heap_of self.old) work.now number) (machine_at self.old number) ≡ (if result then Some (order_at self.new number) else None) }
+        requires orders { HasNoOrder self.old }
+        requires fits { may_begin (machine_at self.old number) ≡ true → IfSome next (λ command. IsValid command × (made_of_machine (machine_at self.old number) < 4294967295)) }
+        ensures turn { order_for next (machine_at self.old number) ≡ (if result then Some (order_at self.new number) else None) }
         ensures has { has_turn self.new number ≡ result }
         ensures orders { orders_of self.new ≡ slice_set (orders_of self.old) number (Some (order_at self.new number)) }
         ensures unchanged { result ≡ false → IsUnchanged self.old self.new }
         ensures unmoved { IsUnmoved self.old self.new }
     {
-        let next = self.next_command(work, number);
         let Some(machine) = self.machines[number].as_mut() else {
             unreachable!()
         };
         machine.order_next(next)
     }
 
-    // One turn of a machine: it goes on with its call, begins the next command of its script, or ends.
+    // One turn of a machine, where this command follows: it goes on with its call, begins the command, or ends.
+    pub(crate) fn go_on<G: Gate>(
+        &mut self,
+        heap: &Heap,
+        next: Option<Command>,
+        gate: &G,
+        number: usize,
+    ) -> Stepped
+        requires heap { IsBundleOf self.old heap.now }
+        requires here { HasMachine self.old number }
+        requires orders { HasNoOrder self.old }
+        requires fits { may_begin (machine_at self.old number) ≡ true → IfSome next (λ command. IsValid command × (made_of_machine (machine_at self.old number) < 4294967295)) }
+        ensures same { IsSameBundle self.old self.new }
+        ensures turn { result ≢ Stepped.Idle → IsTurn self.old self.new next number result }
+        ensures unchanged { result ≡ Stepped.Idle → IsUnchanged self.old self.new }
+        ensures idle { result ≡ Stepped.Idle → order_for next (machine_at self.old number) ≡ None }
+        ensures replied { result ≡ Stepped.Done → reply_in (machine_at self.new number) ≢ None }
+    {
+        if !self.order_next(next, number) {
+            return Stepped::Idle;
+        }
+        gate.pass(number);
+        self.step(heap, number)
+    }
+
+    // One turn of a machine by its script.
     fn turn<G: Gate>(&mut self, heap: &Heap, work: &mut Work, gate: &G, number: usize) -> Stepped
         requires heap { IsBundleOf self.old heap.now }
         requires here { HasMachine self.old number }
@@ -102,11 +130,8 @@ impl Bundle {
         ensures unchanged { result ≡ Stepped.Idle → IsUnchanged self.old self.new }
         ensures idle { result ≡ Stepped.Idle → IsIdleForGood (machine_at self.old number) }
     {
-        if !self.order_next(work, number) {
-            return Stepped::Idle;
-        }
-        gate.pass(number);
-        let stepped = self.step(heap, number);
+        let next = self.next_command(work, number);
+        let stepped = self.go_on(heap, next, gate, number);
         if let Stepped::Done = stepped {
             work.told(number, self.reply(number));
         }

@@ -1,8 +1,9 @@
 -- Digits that are put before one another.
-use Rattle.std.proofs.Common.{◌≡◌, ℕ, ◌+◌, ◌-◌, ◌/◌, ◌%◌, ◌^◌, ◌<◌, ◌≤◌, List, [], ◌∷◌, ◌++◌, length, drop, set, length-set, sym, ap, ◌∙◌, append_assoc, append-nil, length-append, arith}
+use Rattle.std.proofs.Common.{◌≡◌, ⊎_elim, ℕ, ◌+◌, ◌-◌, ◌/◌, ◌%◌, ◌^◌, ◌<◌, ◌≤◌, List, [], ◌∷◌, ◌++◌, length, drop, set, length-set, sym, ap, ◌∙◌, append_assoc, append-nil, length-append, arith}
+use Rattle.std.proofs.lemmas.Bool.{cases_lt}
 use Rattle.std.proofs.lemmas.List.{drop-set, drop_all}
 use Rattle.std.specs.Fmt.{decimal}
-use Rattle.std.proofs.lemmas.Fmt.{decimal_step, decimal_nonempty, decimal_digit, length-decimal-le}
+use Rattle.std.proofs.lemmas.Fmt.{decimal_step_wide, decimal_digit, length-decimal-le_wide}
 
 -- the digits from an index on, behind those of what is left, are those of the number; and there is room for those
 pub record IsSpelled (number left from : ℕ) (digits : List ℕ) : Type 0 where
@@ -10,15 +11,22 @@ pub record IsSpelled (number left from : ℕ) (digits : List ℕ) : Type 0 where
   pub room : length (decimal left) ≤ from
   pub within : from ≤ length digits
 
+-- a number has a digit at least
+decimal_some : (n : ℕ) → n < 10 ^ 64 → 0 < length (decimal n)
+decimal_some n fits = ⊎_elim
+    (λ (small : n < 10). let e = ap length (decimal_digit n small) in omega (arith, e))
+    (λ (big : 10 ≤ n). let e = ap length (decimal_step_wide n big fits) ∙ length-append (decimal (n / 10)) ((48 + n % 10) ∷ []) in omega (arith, e))
+    (cases_lt n 10)
+
 -- what is left has a digit at least
-pub spelled_some : (number left from : ℕ) (digits : List ℕ) → left < 2 ^ 64 → IsSpelled number left from digits → 0 < from
-spelled_some number left from digits fits h = omega (arith, decimal_nonempty left fits, h.room)
+pub spelled_some : (number left from : ℕ) (digits : List ℕ) → left < 10 ^ 64 → IsSpelled number left from digits → 0 < from
+spelled_some number left from digits fits h = omega (arith, decimal_some left fits, h.room)
 
 -- where two digits are left, there is room for both
-spelled_two : (number left from : ℕ) (digits : List ℕ) → 10 ≤ left → left < 2 ^ 64 → IsSpelled number left from digits → length (decimal (left / 10)) + 1 ≤ from
+spelled_two : (number left from : ℕ) (digits : List ℕ) → 10 ≤ left → left < 10 ^ 64 → IsSpelled number left from digits → length (decimal (left / 10)) + 1 ≤ from
 spelled_two number left from digits big fits h =
     let e : length (decimal left) ≡ length (decimal (left / 10)) + 1 =
-    ap length (decimal_step left big fits) ∙ length-append (decimal (left / 10)) ((48 + left % 10) ∷ []) in
+    ap length (decimal_step_wide left big fits) ∙ length-append (decimal (left / 10)) ((48 + left % 10) ∷ []) in
     omega (arith, e, h.room)
 
 -- what stands from an index on, after a write just before it
@@ -29,7 +37,7 @@ drop_before from xs x some within =
     drop-set xs (from - 1) x below ∙ ap (λ n. x ∷ drop n xs) back
 
 -- one digit more
-pub spelled_more : (number left from : ℕ) (digits : List ℕ) → 10 ≤ left → left < 2 ^ 64 → IsSpelled number left from digits
+pub spelled_more : (number left from : ℕ) (digits : List ℕ) → 10 ≤ left → left < 10 ^ 64 → IsSpelled number left from digits
     → IsSpelled number (left / 10) (from - 1) (set digits (from - 1) (48 + left % 10))
 spelled_more number left from digits big fits h =
     let some : 0 < from = spelled_some number left from digits fits h in
@@ -37,7 +45,7 @@ spelled_more number left from digits big fits h =
     let room = spelled_two number left from digits big fits h in
     record {
       spelled =
-          h.spelled ∙ ap (λ t. t ++ drop from digits) (decimal_step left big fits)
+          h.spelled ∙ ap (λ t. t ++ drop from digits) (decimal_step_wide left big fits)
           ∙ append_assoc (decimal (left / 10)) (x ∷ []) (drop from digits)
           ∙ ap (λ t. decimal (left / 10) ++ t) (sym (drop_before from digits x some h.within));
       room = omega (arith, room);
@@ -48,17 +56,15 @@ spelled_more number left from digits big fits h =
 pub spelled_all : (number left from : ℕ) (digits : List ℕ) → left < 10 → IsSpelled number left from digits
     → drop (from - 1) (set digits (from - 1) (48 + left)) ≡ decimal number
 spelled_all number left from digits small h =
-    let fits : left < 2 ^ 64 = omega arith in
+    let fits : left < 10 ^ 64 = omega arith in
     let some : 0 < from = spelled_some number left from digits fits h in
     drop_before from digits (48 + left) some h.within
     ∙ ap (λ t. t ++ drop from digits) (sym (decimal_digit left small)) ∙ sym h.spelled
 
 -- nothing is spelled yet
-pub spelled_none : (number : ℕ) (digits : List ℕ) → number < 2 ^ 64 → length digits ≡ 20 → IsSpelled number number 20 digits
-spelled_none number digits fits long =
-    let twenty : number < 10 ^ 20 = omega arith in
-    record {
-      spelled = sym (ap (λ t. decimal number ++ t) (drop_all 20 digits (omega arith)) ∙ append-nil (decimal number));
-      room = length-decimal-le 20 number (omega arith) twenty fits;
-      within = omega arith;
-    }
+pub spelled_none : (number size : ℕ) (digits : List ℕ) → 0 < size → number < 10 ^ size → number < 10 ^ 64 → length digits ≡ size → IsSpelled number number size digits
+spelled_none number size digits some fits wide long = record {
+  spelled = sym (ap (λ t. decimal number ++ t) (drop_all size digits (omega (arith, long))) ∙ append-nil (decimal number));
+  room = length-decimal-le_wide size number some fits wide;
+  within = omega (arith, long);
+}

@@ -2,7 +2,7 @@ ghost use Rattle.std.specs.Prelude.{◌≡◌, ℕ, ◌<◌, ◌≤◌, true, fa
 ghost use Rattle.std.specs.Fmt.{decimal};
 ghost use Rattle.text_writer.specs.Sending.{HasTaken, Outlet, Puts, Writes, outlet, stage};
 
-use crate::number::spell;
+use crate::number::{spell, spell_wide};
 use crate::send::{WriteFault, write_all};
 use shen_base::Sink;
 use std::marker::Model;
@@ -107,6 +107,17 @@ impl Block {
     {
         let mut digits = [0; 20];
         let from = spell(number, &mut digits);
+        self.put(sink, &digits[from..]);
+    }
+
+    /// Puts the decimal digits of a number of 128 bits.
+    pub fn put_wide<K: Sink>(&mut self, sink: &mut K, number: u128)
+        ensures put { Puts (stage (K.written sink.old) (K.faults sink.old) (K.calls sink.old) self.old)
+            (stage (K.written sink.new) (K.faults sink.new) (K.calls sink.new) self.new) (decimal number) }
+        ensures stopped { self.old.failed ≡ true → (self.new ≡ self.old) × (sink.new ≡ sink.old) }
+    {
+        let mut digits = [0; 39];
+        let from = spell_wide(number, &mut digits);
         self.put(sink, &digits[from..]);
     }
 

@@ -1,11 +1,11 @@
--- The text that is written where no trace is answered: one line, or the eight of a churn.
+-- The text that is written where no trace is answered: one line, the eight of a churn, or the three of a queue.
 use Rattle.std.specs.Prelude.{ℕ, List, [], ◌∷◌, ◌++◌, codes}
 use Rattle.std.specs.Fmt.{decimal}
 use Rattle.churn.specs.declared.summary.Summary.{Summary}
 use Rattle.trace_grammar.specs.Spelling.{newline}
 use Rattle.trace_grammar.specs.Why.{text_of}
 use Rattle.trace_writing.specs.declared.message.Line.{Line}
-use Rattle.trace_writing.specs.declared.message.Line.TheVariants.{BadWords, BadLine, TooLong, Unfinished, ReadFault, NoMemory, Churn}
+use Rattle.trace_writing.specs.declared.message.Line.TheVariants.{BadWords, BadLine, TooLong, Unfinished, ReadFault, NoMemory, Churn, Queue}
 
 -- what is told of a run of the workload, whose threads are three: a line each, the last one without its end
 abbrev pub summary_text : Summary → List ℕ
@@ -18,6 +18,10 @@ summary_text s =
     ++ (codes "\nwords " ++ (decimal s.words
     ++ (codes "\nsum " ++ decimal s.sum))))))))))))))
 
+-- what is told of a queue: how many numbers each user put or took, how many the takers got, and their sum
+abbrev pub queue_text : (count items sum : ℕ) → List ℕ
+queue_text count items sum = codes "queue " ++ (decimal count ++ (codes "\nitems " ++ (decimal items ++ (codes "\nsum " ++ decimal sum))))
+
 -- what a line says
 abbrev pub message : Line → List ℕ
 message BadWords = codes "bad words"
@@ -27,6 +31,7 @@ message (Unfinished steps) = codes "unfinished after " ++ decimal steps ++ codes
 message ReadFault = codes "read fault"
 message NoMemory = codes "out of memory"
 message (Churn s) = summary_text s
+message (Queue count items sum) = queue_text count items sum
 
 -- the line
 abbrev pub line_text : Line → List ℕ

@@ -3,14 +3,14 @@ ghost use Rattle.std.specs.Fmt.{decimal};
 ghost use Rattle.text_writer.specs.Sending.{Puts, Writes, outlet, stage};
 ghost use Rattle.trace_grammar.specs.Spelling.{newline};
 ghost use Rattle.trace_grammar.specs.Why.{text_of as why_text};
-ghost use Rattle.trace_writing.specs.Message.{line_text, summary_text};
+ghost use Rattle.trace_writing.specs.Message.{line_text, summary_text, queue_text};
 
 use churn::Summary;
 use shen_base::Sink;
 use text_writer::{Block, WriteFault, write_all};
 use trace_grammar::Why;
 
-/// The one line that stands in the place of an answer, or the lines of a churn.
+/// The one line that stands in the place of an answer, or the lines of a churn or of a queue.
 #[derive(Clone, Copy, Debug, PartialEq, Eq)]
 pub enum Line {
     /// The words of the command line are outside their grammar: `bad words`.
@@ -28,6 +28,8 @@ pub enum Line {
     /// What a run of the workload told: eight lines, `churn SEED COUNT`, `threads 3`, and then `commands`, `bad`, `full`,
     /// `objects`, `words` and `sum`, each with its number.
     Churn(Summary),
+    /// What the takers of a queue got: `queue COUNT`, `items N` and `sum S`.
+    Queue { count: u64, items: u64, sum: u128 },
 }
 
 /// Writes the line to the sink. It takes no memory, and calls the sink at most once per byte. After `WriteFault` a front
@@ -44,6 +46,7 @@ pub fn write_line<K: Sink>(sink: &mut K, line: &Line) -> Result<(), WriteFault>
         Line::ReadFault => write_all(sink, b"read fault\n"),
         Line::NoMemory => write_all(sink, b"out of memory\n"),
         Line::Churn(summary) => write_churn(sink, *summary),
+        Line::Queue { count, items, sum } => write_queue(sink, *count, *items, *sum),
     }
 }
 
@@ -85,6 +88,20 @@ fn write_churn<K: Sink>(sink: &mut K, told: Summary) -> Result<(), WriteFault>
     put_told(&mut block, sink, b"\nobjects ", told.objects);
     put_told(&mut block, sink, b"\nwords ", told.words);
     put_told(&mut block, sink, b"\nsum ", told.sum);
+    block.put(sink, b"\n");
+    block.finish(sink)
+}
+
+// Writes the lines of a queue.
+fn write_queue<K: Sink>(sink: &mut K, count: u64, items: u64, sum: u128) -> Result<(), WriteFault>
+    ensures { Writes result (outlet (K.written sink.old) (K.faults sink.old) (K.calls sink.old))
+        (outlet (K.written sink.new) (K.faults sink.new) (K.calls sink.new)) (queue_text count items sum ++ newline ∷ []) }
+{
+    let mut block = Block::new();
+    put_told(&mut block, sink, b"queue ", count);
+    put_told(&mut block, sink, b"\nitems ", items);
+    block.put(sink, b"\nsum ");
+    block.put_wide(sink, sum);
     block.put(sink, b"\n");
     block.finish(sink)
 }

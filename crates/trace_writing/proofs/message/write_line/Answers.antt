@@ -18,3 +18,6 @@ returns-in-NoMemory g c = rw c.in-NoMemory.is c.write_all-in-NoMemory.ensures
 
 pub returns-in-Churn : goal.returns-in-Churn
 returns-in-Churn g c = rw c.in-Churn.is c.write_churn.ensures
+
+pub returns-in-Queue : goal.returns-in-Queue
+returns-in-Queue g c = rw c.in-Queue.is c.write_queue.ensures

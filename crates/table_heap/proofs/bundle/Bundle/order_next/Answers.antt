@@ -11,10 +11,8 @@ use Rattle.heap_machines.specs.Shown.{no_machine, shown, order_of}
 use Rattle.step_core.specs.Machines.{takes_of, may_begin, made_of_machine}
 use Rattle.heap_machines.specs.Roles.{is_mutating}
 use Rattle.heap_machines.specs.Turn.{order_for}
-use Rattle.table_heap.specs.State.{view_of, machine_at}
-use Rattle.table_heap.specs.Running.{next_for}
+use Rattle.table_heap.specs.State.{view_of}
 use Rattle.table_heap.proofs.MachineUnder.{within, read_here, never_none, shows_here, shows_as, put_same, put_there}
-use Rattle.table_heap.proofs.Running.{command_fits}
 use Rattle.table_heap.proofs.Stepping.{heap_put}
 use Rattle.table_heap.proofs.bundle.Bundle.order_next.Goals as goal
 
@@ -32,7 +30,7 @@ order_next-requires-clause-none c =
     let m = c.in-Some.machine.now in
     let inside = within shown b.machines.items c.args.number c.requires.here in
     let here = read_here shown b.machines.items c.args.number c.index_mut.result.now m inside c.index_mut.ensures.value (sym c.as_mut.ensures.value ∙ ap option_copied_mut c.in-Some.is) in
-    c.requires.work.orders c.args.number (order_of m) (shows_here order_of b.machines.items c.args.number m here)
+    c.requires.orders c.args.number (order_of m) (shows_here order_of b.machines.items c.args.number m here)
 
 pub order_next-requires-clause-next : goal.order_next-requires-clause-next
 order_next-requires-clause-next c = λ may.
@@ -41,9 +39,7 @@ order_next-requires-clause-next c = λ may.
     let inside = within shown b.machines.items c.args.number c.requires.here in
     let here = read_here shown b.machines.items c.args.number c.index_mut.result.now m inside c.index_mut.ensures.value (sym c.as_mut.ensures.value ∙ ap option_copied_mut c.in-Some.is) in
     let at = shows_as shown b.machines.items c.args.number m no_machine here in
-    subst (λ next. IfSome next (λ command. IsValid command × (made_of_machine (shown m) < 4294967295))) (sym c.next_command-next.ensures)
-    (subst (λ machine. IfSome (next_for b.config c.args.work.now c.args.number) (λ command. IsValid command × (made_of_machine machine < 4294967295))) at
-    (command_fits b c.args.work.now c.args.number c.requires.work c.requires.here (ap may_begin at ∙ may)))
+    subst (λ machine. IfSome c.args.next (λ command. IsValid command × (made_of_machine machine < 4294967295))) at (c.requires.fits (ap may_begin at ∙ may))
 
 pub invariant_of-self : goal.invariant_of-self
 invariant_of-self c =
@@ -68,8 +64,7 @@ returns-clause-turn c =
     let n = c.order_next.new.self in
     let at = shows_as shown b.machines.items c.args.number m no_machine here in
     let given = shows_as order_of (slice_set b.machines.items c.args.number (Some n)) c.args.number n Nothing (put_there order_of b.machines.items c.args.number m n here) in
-    ap (λ o. order_for o (machine_at b c.args.number)) (sym c.next_command-next.ensures) ∙ ap (order_for c.next_command-next.result) at
-    ∙ c.order_next.ensures.turn ∙ ap (λ o. if c.order_next.result then Some o else None) (sym given)
+    ap (order_for c.args.next) at ∙ c.order_next.ensures.turn ∙ ap (λ o. if c.order_next.result then Some o else None) (sym given)
 
 pub returns-clause-has : goal.returns-clause-has
 returns-clause-has c =
@@ -101,7 +96,7 @@ returns-clause-unchanged c = λ none.
     let inside = within shown b.machines.items c.args.number c.requires.here in
     let here = read_here shown b.machines.items c.args.number c.index_mut.result.now m inside c.index_mut.ensures.value (sym c.as_mut.ensures.value ∙ ap option_copied_mut c.in-Some.is) in
     let n = c.order_next.new.self in
-    let was = c.requires.work.orders c.args.number (order_of m) (shows_here order_of b.machines.items c.args.number m here) in
+    let was = c.requires.orders c.args.number (order_of m) (shows_here order_of b.machines.items c.args.number m here) in
     record {
       unmoved = record { same = record { table = refl; config = refl; numbers = same_none (view_of b) }; view = refl; steps = refl };
       orders = put_same order_of b.machines.items c.args.number m n here (c.order_next.ensures.idle none ∙ sym was);

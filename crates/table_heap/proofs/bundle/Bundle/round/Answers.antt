@@ -1,15 +1,15 @@
 use Rattle.std.proofs.Common.{◌+◌, sym, ◌∙◌, subst, arith}
-use Rattle.table_heap.proofs.Running.{same_bundle, same_jobs}
-use Rattle.table_heap.proofs.Rounds.{IsInRound, in_round_turn, in_round_none, all_idle}
+use Rattle.table_heap.proofs.Running.{same_jobs}
+use Rattle.table_heap.proofs.Rounds.{IsInRound, round_first, in_round_turn, in_round_none, all_idle}
 use Rattle.table_heap.proofs.bundle.Bundle.round.Goals.{then-has, else-has}
 use Rattle.table_heap.proofs.bundle.Bundle.round.Goals as goal
 
 pub loop-number-init : goal.loop-number-init
-loop-number-init g c = record { work = c.requires.work; same = same_bundle c.args.self.now; jobs_are = same_jobs _ c.args.work.now; idle = λ none k a below there. absurd (omega arith) }
+loop-number-init g c = record { work = c.requires.work; jobs_are = same_jobs _ c.args.work.now; round = round_first c.args.self.now _ }
 
 pub turn-requires-clause-heap : goal.turn-requires-clause-heap
 turn-requires-clause-heap g c = λ _ _.
-    record { table = c.loop-number.invariant.same.table ∙ c.requires.heap.table; config = c.loop-number.invariant.same.config ∙ c.requires.heap.config }
+    record { table = c.loop-number.invariant.round.same.table ∙ c.requires.heap.table; config = c.loop-number.invariant.round.same.config ∙ c.requires.heap.config }
 
 pub turn-requires-clause-here : goal.turn-requires-clause-here
 turn-requires-clause-here g c = λ _ _. sym c.has.ensures.machine ∙ c.if-has.true
@@ -28,10 +28,8 @@ loop-number-preserved g c =
           (in_round_turn c.args.self.now l.self c.args.work.now l.work l.number l.round l.invariant w.turn.new.self w.turn.new.work w.turn.result w.and-round.result
           (record {
             work = w.turn.ensures.work;
-            same = w.turn.ensures.same;
             jobs_are = w.turn.ensures.jobs;
-            unchanged = w.turn.ensures.unchanged;
-            idle = w.turn.ensures.idle;
+            turn = record { same = w.turn.ensures.same; unchanged = w.turn.ensures.unchanged; idle = w.turn.ensures.idle };
           })
           w.and-round.ensures.idle.0)))
       | else-has w ↦
@@ -45,7 +43,7 @@ pub returns-clause-work : goal.returns-clause-work
 returns-clause-work g c = c.loop-number.invariant.work
 
 pub returns-clause-same : goal.returns-clause-same
-returns-clause-same g c = c.loop-number.invariant.same
+returns-clause-same g c = c.loop-number.invariant.round.same
 
 pub returns-clause-jobs : goal.returns-clause-jobs
 returns-clause-jobs g c = c.loop-number.invariant.jobs_are
@@ -53,4 +51,4 @@ returns-clause-jobs g c = c.loop-number.invariant.jobs_are
 pub returns-clause-idle : goal.returns-clause-idle
 returns-clause-idle g c =
     let l = c.loop-number in
-    all_idle c.args.self.now l.self c.args.work.now l.work l.number l.round l.invariant (omega (arith, c.loop-number-test.false, c.len-number-end.ensures))
+    all_idle c.args.self.now l.self l.number l.round l.invariant.round (omega (arith, c.loop-number-test.false, c.len-number-end.ensures))

@@ -1,0 +1,296 @@
+-- No allocation of the workload is refused: too little is live.
+use Rattle.std.proofs.Common.{ℕ, zero, suc, ◌≡◌, ◌⊎◌, ◌+◌, ◌-◌, ◌<◌, ◌≤◌, ⊎_elim, Bool, true, false, List, [], ◌∷◌, ◌++◌, length, take, Some, refl, sym, ap, ◌∙◌, subst, inl, inr, arith, append_assoc, append-nil}
+use Rattle.std.specs.Prelude.{◌≢◌, ◌==◌, slice_get, slice_index_or, sum_by, if◌then◌else◌}
+use Rattle.std.specs.List.{range_with_len}
+use Rattle.std.proofs.lemmas.Bool.{cases_eq, cases_lt}
+use Rattle.std.proofs.lemmas.List.Elements.{All-push, All-filter, All-nil, filter-append}
+use Rattle.std.proofs.lemmas.List.Sums.{sum_by-cons}
+use Rattle.shen_graph.specs.declared.command.Command.{Command}
+use Rattle.shen_graph.specs.declared.command.Command.TheVariants.{New, Get, Set, Cas, Xchg, Rd, Wr, Copy, Drop, Same, Gc}
+use Rattle.shen_graph.specs.declared.command.Reply.TheVariants as reply
+use Rattle.shen_graph.specs.Graph.{opening}
+use Rattle.shen_graph.specs.Crowd.{words_asked, next_command, words_open, IsCrowded}
+use Rattle.shen_graph.specs.History.{Entry, of_thread, commands_of, script_of, is_full, IsWithoutFull}
+use Rattle.shen_graph.specs.Step.{IsNew}
+use Rattle.managed_queue.specs.declared.spot.Spot.{Spot}
+use Rattle.managed_queue.specs.declared.spot.Spot.TheVariants.{MakesAnchor, MakesFirst, SetsHead, SetsTail, Shows, Joins, Rests, Fills, Looks, Follows, Links, Helps, Swings, Turns, TookHead, TookTail, Compares, Pushes, Reads, Unlinks}
+use Rattle.managed_queue.specs.declared.operation.Choice.{Choice}
+use Rattle.managed_queue.specs.declared.operation.Choice.TheVariants as choice
+use Rattle.managed_queue.specs.Live.{made_by, makings}
+use Rattle.managed_queue.specs.Machines.{command_at}
+use Rattle.managed_queue.specs.Queue.{IsPlayed, first_spot, ArePlayed}
+use Rattle.managed_queue.specs.Shares.{AreOf}
+use Rattle.managed_queue.specs.Users.{Use, chosen, used, to_come, IsDriven, use_after}
+use Rattle.managed_queue.specs.Workload.{queue_user, IsQueueRun}
+use Rattle.managed_queue.proofs.Coming.{user_falls, user_pays}
+use Rattle.managed_queue.proofs.Driven.{going, users_play}
+use Rattle.managed_queue.proofs.Few.{few_are_live}
+use Rattle.managed_queue.proofs.Playing.{of_here, of_there}
+
+-- ---- lists
+
+front_is : (xs ys : List Entry) → take (length xs) (xs ++ ys) ≡ xs
+front_is [] ys = refl
+front_is (x ∷ xs) ys = ap (λ zs. x ∷ zs) (front_is xs ys)
+
+behind_is : (xs ys : List Entry) (e : Entry) → slice_get (xs ++ e ∷ ys) (length xs) ≡ Some e
+behind_is [] ys e = refl
+behind_is (x ∷ xs) ys e = behind_is xs ys e
+
+no_entries : (es : List Entry) → commands_of es ≡ [] → es ≡ []
+no_entries [] none = refl
+no_entries (e ∷ es) none = absurd cc
+
+-- ---- the entries of a user
+
+driven_front : (u : Use) (xs ys : List Entry) → IsDriven u (xs ++ ys) → IsDriven u xs
+driven_front u [] ys driven = tt
+driven_front u (e ∷ xs) ys driven = (driven.0, driven_front (used u e.reply) xs ys driven.1)
+
+-- a command of the table asks for 5 words at most
+few_asked : (c : Choice) (s : Spot) → words_asked (Some (command_at c s)) ≤ 5
+few_asked (choice.Put value) Rests = omega arith
+few_asked choice.Take Rests = omega arith
+few_asked c MakesAnchor = omega arith
+few_asked c MakesFirst = omega arith
+few_asked c SetsHead = omega arith
+few_asked c SetsTail = omega arith
+few_asked c Shows = omega arith
+few_asked c Joins = omega arith
+few_asked c Fills = omega arith
+few_asked c (Looks value) = omega arith
+few_asked c (Follows value) = omega arith
+few_asked c (Links value) = omega arith
+few_asked c (Helps value) = omega arith
+few_asked c (Swings value) = omega arith
+few_asked c Turns = omega arith
+few_asked c TookHead = omega arith
+few_asked c TookTail = omega arith
+few_asked c (Compares nothing) = omega arith
+few_asked c Pushes = omega arith
+few_asked c Reads = omega arith
+few_asked c (Unlinks value) = omega arith
+
+-- so does each command of a user
+each_asks : (u : Use) (es : List Entry) → IsDriven u es → (n : ℕ) → words_asked (slice_get (commands_of es) n) ≤ 5
+each_asks u [] driven n = omega arith
+each_asks u (e ∷ es) driven zero =
+    let goes = going u e.command driven.0 in
+    subst (λ c. words_asked (Some c) ≤ 5) goes.command (few_asked (chosen u.plan) u.spot)
+each_asks u (e ∷ es) driven (suc n) = each_asks (used u e.reply) es driven.1 n
+
+behind_asks : (u : Use) (xs ys : List Entry) (e : Entry) → IsDriven u (xs ++ e ∷ ys) → words_asked (Some e.command) ≤ 5
+behind_asks u [] ys e driven = each_asks u (e ∷ ys) driven 0
+behind_asks u (x ∷ xs) ys e driven = behind_asks (used u x.reply) xs ys e driven.1
+
+-- a user makes no more than is to come
+one_made : (c : Command) → (made_by c ≡ 0) ⊎ ((made_by c ≡ 1) × IsNew c)
+one_made (New dst refs nums) = inr (refl, tt)
+one_made (Get dst src field) = inl refl
+one_made (Set obj field val) = inl refl
+one_made (Cas obj field expect val) = inl refl
+one_made (Xchg dst obj field val) = inl refl
+one_made (Rd obj index) = inl refl
+one_made (Wr obj index value) = inl refl
+one_made (Copy dst src) = inl refl
+one_made (Drop dst) = inl refl
+one_made (Same a b) = inl refl
+one_made Gc = inl refl
+
+made_low : (e : Entry) → (if is_full e.reply then 0 else made_by e.command) ≤ made_by e.command
+made_low e = by_test (is_full e.reply)
+  where
+    by_test : (b : Bool) → (if b then 0 else made_by e.command) ≤ made_by e.command
+    by_test true = omega arith
+    by_test false = omega arith
+
+makes_few : (u : Use) (es : List Entry) → IsDriven u es → makings es + to_come (use_after u es) ≤ to_come u
+makes_few u [] driven = omega arith
+makes_few u (e ∷ es) driven =
+    let later = makes_few (used u e.reply) es driven.1 in
+    let low = made_low e in
+    let falls = user_falls u e.reply in
+    elim (one_made e.command) [
+      | inl none ↦ omega (arith, later, low, falls, none)
+      | inr one ↦ let pays = user_pays u e.command e.reply driven.0 one.1 in let is = one.0 in omega (arith, later, low, pays, is)
+    ]
+
+-- ---- the threads
+
+not_zero : (e : Entry) (es : List Entry) → of_thread (e ∷ es) e.thread ≡ [] → ⊥
+not_zero e es none = let some : e ∷ of_thread es e.thread ≡ [] = sym (of_here e es) ∙ none in cc
+
+none_later : (e : Entry) (es : List Entry) (t : ℕ) → of_thread (e ∷ es) t ≡ [] → of_thread es t ≡ []
+none_later e es t none = ⊎_elim
+    (λ (same : t ≡ e.thread). absurd (not_zero e es (ap (of_thread (e ∷ es)) (sym same) ∙ none)))
+    (λ (other : t ≡ e.thread → ⊥). sym (of_there e es t other) ∙ none)
+    (cases_eq t e.thread)
+
+are_four : (es : List Entry) → ((t : ℕ) → (t ≡ 0) ⊎ (4 < t) → of_thread es t ≡ []) → AreOf 4 es
+are_four [] none = tt
+are_four (e ∷ es) none = (
+  ⊎_elim (λ (zeroth : e.thread ≡ 0). absurd (not_zero e es (none e.thread (inl zeroth)))) (λ (other : e.thread ≡ 0 → ⊥). omega (arith, other)) (cases_eq e.thread 0),
+  ⊎_elim (λ (past : 4 < e.thread). absurd (not_zero e es (none e.thread (inr past)))) (λ (within : e.thread ≤ 4). within) (cases_lt 4 e.thread),
+  are_four es (λ t out. none_later e es t (none t out)),
+)
+
+of_member : (before rest : List Entry) (e : Entry) → AreOf 4 (before ++ e ∷ rest) → (1 ≤ e.thread) × (e.thread ≤ 4)
+of_member [] rest e of = (of.0, of.1)
+of_member (x ∷ before) rest e of = of_member before rest e of.2
+
+-- what is made is made by one of the four
+made_here : (e : Entry) (es : List Entry) (t : ℕ) → e.thread ≡ t → makings (of_thread (e ∷ es) t) ≡ (if is_full e.reply then 0 else made_by e.command) + makings (of_thread es t)
+made_here e es t same = ap (λ k. makings (of_thread (e ∷ es) k)) (sym same) ∙ ap makings (of_here e es) ∙ ap (λ k. (if is_full e.reply then 0 else made_by e.command) + makings (of_thread es k)) same
+
+made_there : (e : Entry) (es : List Entry) (t : ℕ) → (t ≡ e.thread → ⊥) → makings (of_thread (e ∷ es) t) ≡ makings (of_thread es t)
+made_there e es t other = ap makings (of_there e es t other)
+
+made_by_four : (es : List Entry) → AreOf 4 es → makings es ≡ makings (of_thread es 1) + (makings (of_thread es 2) + (makings (of_thread es 3) + makings (of_thread es 4)))
+made_by_four [] of = refl
+made_by_four (e ∷ es) of =
+    let later = made_by_four es of.2 in
+    let least = of.0 in
+    let most = of.1 in
+    elim (cases_eq e.thread 1) [
+      | inl is ↦
+          let a = made_here e es 1 is in let b = made_there e es 2 (λ x. omega (arith, x, is)) in let c = made_there e es 3 (λ x. omega (arith, x, is)) in let d = made_there e es 4 (λ x. omega (arith, x, is)) in
+          omega (arith, later, a, b, c, d)
+      | inr not1 ↦ elim (cases_eq e.thread 2) [
+        | inl is ↦
+            let a = made_there e es 1 (λ x. omega (arith, x, is)) in let b = made_here e es 2 is in let c = made_there e es 3 (λ x. omega (arith, x, is)) in let d = made_there e es 4 (λ x. omega (arith, x, is)) in
+            omega (arith, later, a, b, c, d)
+        | inr not2 ↦ elim (cases_eq e.thread 3) [
+          | inl is ↦
+              let a = made_there e es 1 (λ x. omega (arith, x, is)) in let b = made_there e es 2 (λ x. omega (arith, x, is)) in let c = made_here e es 3 is in let d = made_there e es 4 (λ x. omega (arith, x, is)) in
+              omega (arith, later, a, b, c, d)
+          | inr not3 ↦
+              let is : e.thread ≡ 4 = omega (arith, least, most, not1, not2, not3) in
+              let a = made_there e es 1 (λ x. omega (arith, x, is)) in let b = made_there e es 2 (λ x. omega (arith, x, is)) in let c = made_there e es 3 (λ x. omega (arith, x, is)) in let d = made_here e es 4 is in
+              omega (arith, later, a, b, c, d)
+        ]
+      ]
+    ]
+
+module _ (count : ℕ) (history : List Entry) (small : count ≤ 390) (run : IsQueueRun count history) where
+  -- a thread that is none has no entry
+  none_of : (t : ℕ) → (t ≡ 0) ⊎ (4 < t) → of_thread history t ≡ []
+  none_of t out = no_entries (of_thread history t) (run.follows t ∙ no_script t out)
+    where
+      past_end : (scripts : List (List Command)) (k : ℕ) → length scripts ≤ k → slice_index_or scripts k [] ≡ []
+      past_end [] k low = refl
+      past_end (s ∷ scripts) zero low = absurd (omega (arith, low))
+      past_end (s ∷ scripts) (suc k) low = past_end scripts k (omega (arith, low))
+
+      no_script : (t : ℕ) → (t ≡ 0) ⊎ (4 < t) → script_of run.scripts t ≡ []
+      no_script zero out = refl
+      no_script (suc k) (inl zeroth) = absurd (omega (arith, zeroth))
+      no_script (suc k) (inr past) = past_end run.scripts k (let long = run.threads in omega (arith, past, long))
+
+  pub threads_are : AreOf 4 history
+  threads_are = are_four history none_of
+
+  module _ (before rest : List Entry) (split : before ++ rest ≡ history) (given : IsWithoutFull before) where
+    parts : (t : ℕ) → of_thread history t ≡ of_thread before t ++ of_thread rest t
+    parts t = ap (λ es. of_thread es t) (sym split) ∙ filter-append (λ e. e.thread == t) before rest
+
+    driven : (m : ℕ) → m < 4 → IsDriven (queue_user count m) (of_thread before (m + 1))
+    driven m low = driven_front (queue_user count m) (of_thread before (m + 1)) (of_thread rest (m + 1)) (subst (IsDriven (queue_user count m)) (parts (m + 1)) (run.driven m low))
+
+    plays : (m : ℕ) → m < 4 → (queue_user count m).refused ≡ false → (queue_user count m).spot ≡ first_spot (m + 1) → IsPlayed (first_spot (m + 1)) (of_thread before (m + 1))
+    plays m low fine spot = subst (λ s. IsPlayed s (of_thread before (m + 1))) spot
+        (users_play (queue_user count m) (of_thread before (m + 1)) fine (All-filter (λ e. e.thread == (m + 1)) (λ e. e.reply ≢ reply.Full) before given) (driven m low)).0
+
+    none_before : (t : ℕ) → (t ≡ 0) ⊎ (4 < t) → of_thread before t ≡ []
+    none_before t out = front_empty (of_thread before t) (of_thread rest t) (sym (parts t) ∙ none_of t out)
+      where
+        front_empty : (xs ys : List Entry) → xs ++ ys ≡ [] → xs ≡ []
+        front_empty [] ys none = refl
+        front_empty (x ∷ xs) ys none = absurd cc
+
+    played : ArePlayed before
+    played zero = subst (IsPlayed (first_spot 0)) (sym (none_before 0 (inl refl))) tt
+    played (suc zero) = plays 0 (omega arith) refl refl
+    played (suc (suc zero)) = plays 1 (omega arith) refl refl
+    played (suc (suc (suc zero))) = plays 2 (omega arith) refl refl
+    played (suc (suc (suc (suc zero)))) = plays 3 (omega arith) refl refl
+    played (suc (suc (suc (suc (suc t))))) = subst (IsPlayed (first_spot (suc (suc (suc (suc (suc t))))))) (sym (none_before (suc (suc (suc (suc (suc t))))) (inr (omega arith)))) tt
+
+    makings_low : makings before ≤ 782
+    makings_low =
+        let all = made_by_four before (are_four before none_before) in
+        let one = makes_few (queue_user count 0) (of_thread before 1) (driven 0 (omega arith)) in
+        let two = makes_few (queue_user count 1) (of_thread before 2) (driven 1 (omega arith)) in
+        let three = makes_few (queue_user count 2) (of_thread before 3) (driven 2 (omega arith)) in
+        let four = makes_few (queue_user count 3) (of_thread before 4) (driven 3 (omega arith)) in
+        omega (arith, all, one, two, three, four, small)
+
+    asks : (m : ℕ) → m < 4 → words_asked (next_command run.scripts before (m + 1)) ≤ 5
+    asks m low =
+        subst (λ s. words_asked (slice_get s (length (of_thread before (m + 1)))) ≤ 5) (script_is m)
+        (each_asks (queue_user count m) (of_thread history (m + 1)) (run.driven m low) (length (of_thread before (m + 1))))
+      where
+        script_is : (m : ℕ) → commands_of (of_thread history (m + 1)) ≡ slice_index_or run.scripts (m + 1 - 1) []
+        script_is m =
+            let e : m + 1 ≡ suc m = omega arith in
+            let back : m ≡ m + 1 - 1 = omega arith in
+            ap (λ k. commands_of (of_thread history k)) e ∙ run.follows (suc m) ∙ ap (λ k. slice_index_or run.scripts k []) back
+
+    open_low : (thread : ℕ) → words_open run.scripts before thread ≤ 20
+    open_low thread =
+        let f : ℕ → ℕ = λ t. if t == thread then 0 else words_asked (next_command run.scripts before t) in
+        let sum = ap (λ n. sum_by f (range_with_len 1 n)) run.threads in
+        let low = four_low thread in
+        omega (arith, sum, low)
+      where
+        one_low : (thread t : ℕ) → words_asked (next_command run.scripts before t) ≤ 5 → (if t == thread then 0 else words_asked (next_command run.scripts before t)) ≤ 5
+        one_low thread t low = by_test (t == thread)
+          where
+            by_test : (b : Bool) → (if b then 0 else words_asked (next_command run.scripts before t)) ≤ 5
+            by_test true = omega arith
+            by_test false = low
+
+        four_low : (thread : ℕ) → sum_by (λ t. if t == thread then 0 else words_asked (next_command run.scripts before t)) (range_with_len 1 4) ≤ 20
+        four_low thread =
+            let f : ℕ → ℕ = λ t. if t == thread then 0 else words_asked (next_command run.scripts before t) in
+            let a = one_low thread 1 (asks 0 (omega arith)) in
+            let b = one_low thread 2 (asks 1 (omega arith)) in
+            let c = one_low thread 3 (asks 2 (omega arith)) in
+            let d = one_low thread 4 (asks 3 (omega arith)) in
+            omega (arith, sum_by-cons f 1 (2 ∷ 3 ∷ 4 ∷ []), sum_by-cons f 2 (3 ∷ 4 ∷ []), sum_by-cons f 3 (4 ∷ []), sum_by-cons f 4 [], a, b, c, d)
+
+  -- the entry that follows is not refused
+  not_refused : (before rest : List Entry) (e : Entry) → before ++ e ∷ rest ≡ history → IsWithoutFull before → e.reply ≢ reply.Full
+  not_refused before rest e split given full =
+      let here : slice_get history (length before) ≡ Some e = ap (λ es. slice_get es (length before)) (sym split) ∙ behind_is before rest e in
+      let front : take (length before) history ≡ before = ap (take (length before)) (sym split) ∙ front_is before (e ∷ rest) in
+      let crowd = subst (λ es. IsCrowded 16 256 (opening (length run.scripts)) run.scripts es e) front (run.legal.crowded (length before) e here full) in
+      let live = few_are_live (length run.scripts) crowd.0 before (played before (e ∷ rest) split given) crowd.1 in
+      let makes = makings_low before (e ∷ rest) split given in
+      let waiting = open_low before (e ∷ rest) split given e.thread in
+      let asked = asked_low before rest e split in
+      let full_regions = crowd.2 in
+      absurd (omega (arith, live, makes, waiting, asked, full_regions))
+    where
+      asked_low : (before rest : List Entry) (e : Entry) → before ++ e ∷ rest ≡ history → words_asked (Some e.command) ≤ 5
+      asked_low before rest e split =
+          let its = of_member before rest e (subst (AreOf 4) (sym split) threads_are) in
+          let least = its.0 in
+          let most = its.1 in
+          let m : ℕ = e.thread - 1 in
+          let back : m + 1 ≡ e.thread = omega (arith, least) in
+          let low : m < 4 = omega (arith, least, most) in
+          let parts : of_thread history e.thread ≡ of_thread before e.thread ++ (e ∷ of_thread rest e.thread) =
+          ap (λ es. of_thread es e.thread) (sym split) ∙ filter-append (λ x. x.thread == e.thread) before (e ∷ rest) ∙ ap (λ xs. of_thread before e.thread ++ xs) (of_here e rest) in
+          behind_asks (queue_user count m) (of_thread before e.thread) (of_thread rest e.thread) e
+          (subst (IsDriven (queue_user count m)) parts (subst (λ k. IsDriven (queue_user count m) (of_thread history k)) back (run.driven m low)))
+
+  given_on : (before rest : List Entry) → before ++ rest ≡ history → IsWithoutFull before → IsWithoutFull history
+  given_on before [] split given = subst IsWithoutFull (sym (append-nil before) ∙ split) given
+  given_on before (e ∷ rest) split given =
+      given_on (before ++ e ∷ []) rest (append_assoc before (e ∷ []) rest ∙ split) (All-push (λ (x : Entry). x.reply ≢ reply.Full) before e given (not_refused before rest e split given))
+
+  pub none_is_refused : IsWithoutFull history
+  none_is_refused = given_on [] history refl (All-nil (λ (x : Entry). x.reply ≢ reply.Full))
+
+  pub all_played : ArePlayed history
+  all_played = played history [] (append-nil history) none_is_refused

@@ -1,0 +1,188 @@
+-- A call goes on, and one that makes no object comes nowhere where room is taken for one.
+use Rattle.std.proofs.Common.{◌≡◌, ℕ, Bool, true, false, length, None, refl}
+use Rattle.std.specs.Prelude.{◌==◌, nat_lt, if◌then◌else◌}
+use Rattle.heap_words.specs.declared.config.Config.{Config}
+use Rattle.shen_graph.specs.declared.command.Command.{Command}
+use Rattle.shen_graph.specs.declared.command.Command.TheVariants.{New, Drop, Copy, Same, Get, Set, Cas, Xchg, Rd, Wr, Gc}
+use Rattle.shen_graph.specs.declared.command.Reply.TheVariants as reply
+use Rattle.shen_graph.specs.declared.order.Order.TheVariants.{Nothing}
+use Rattle.handshake.specs.declared.enter_spot.EnterSpot.{EnterSpot}
+use Rattle.handshake.specs.declared.enter_spot.EnterSpot.TheVariants.{Inside, Raise}
+use Rattle.handshake.specs.Rows.{enter_next}
+use Rattle.alloc_buffers.specs.declared.spot.TakeSpot.{TakeSpot}
+use Rattle.alloc_buffers.specs.declared.spot.TakeSpot.TheVariants as take_spot
+use Rattle.alloc_buffers.specs.declared.spot.Taken.TheVariants.{At, NoRoom}
+use Rattle.mutator.specs.declared.spot.Spot.{Spot}
+use Rattle.satb_barrier.specs.declared.spot.RememberSpot.{RememberSpot}
+use Rattle.satb_barrier.specs.declared.spot.RememberSpot.TheVariants.{LoadCount, Recorded}
+use Rattle.satb_barrier.specs.Rows as satb
+use Rattle.mutator.specs.declared.spot.Spot.TheVariants.{Rest, Ended, Entering, LoadPhase, LoadSet, Loading, OnField, Resolving, Recording, OnNumber, Showing, StoreRoot, Making, AskCycle, Waiting, Leave, Gone}
+use Rattle.mutator.specs.declared.spot.Entered.{Entered}
+use Rattle.mutator.specs.declared.spot.Entered.TheVariants.{Call, Waited}
+use Rattle.mutator.specs.declared.loads.LoadSpot.{LoadSpot}
+use Rattle.mutator.specs.declared.loads.LoadSpot.TheVariants as load
+use Rattle.mutator.specs.declared.fields.FieldSpot.{FieldSpot}
+use Rattle.mutator.specs.declared.fields.FieldSpot.TheVariants as fields
+use Rattle.mutator.specs.declared.overwrites.Overwritten.{Overwritten}
+use Rattle.mutator.specs.declared.overwrites.Overwritten.TheVariants as overwrites
+use Rattle.mutator.specs.declared.resolves.Loaded.{Loaded}
+use Rattle.mutator.specs.declared.resolves.Loaded.TheVariants.{ForRoot, ToCompare}
+use Rattle.load_barrier.specs.declared.spot.ResolveSpot.{ResolveSpot}
+use Rattle.load_barrier.specs.declared.spot.ResolveSpot.TheVariants.{LoadHeader, Resolved}
+use Rattle.load_barrier.specs.Rows as resolves
+use Rattle.load_barrier.specs.UnitRows.{must_resolve}
+use Rattle.mutator.specs.declared.numbers.NumberSpot.{NumberSpot}
+use Rattle.mutator.specs.declared.numbers.NumberSpot.TheVariants as number
+use Rattle.mutator.specs.declared.shows.ShowSpot.{ShowSpot}
+use Rattle.mutator.specs.declared.shows.ShowSpot.TheVariants as show
+use Rattle.mutator.specs.declared.makes.MakeSpot.{MakeSpot}
+use Rattle.mutator.specs.declared.makes.MakeSpot.TheVariants as make
+use Rattle.mutator.specs.declared.waits.WaitSpot.{WaitSpot}
+use Rattle.mutator.specs.declared.waits.WaitSpot.TheVariants as wait
+use Rattle.mutator.specs.Commands.{command_roots, lacks_object, has_part}
+use Rattle.table_heap.specs.Makes.{makes_object, may_stand}
+use Rattle.mutator.specs.WaitRows.{after_enter, wait_next}
+use Rattle.mutator.specs.Rows.{Mutating, given_at, next_at, first_spot, after_roots, after_first, after_second, after_root, on_number, with_part, after_shape, after_take, is_to_record, after_recording, overwritten, after_remember, after_expected, after_resolved, with_loaded, after_resolve, after_swap, take_next, load_next, field_next, number_next, show_next, make_next}
+
+-- a mutator in a call stands where it may, by whether its call makes an object
+module _ (makes : Bool) where
+  -- a call is in progress
+  abbrev InCall : Spot → Type 0
+  InCall spot = may_stand makes spot ≡ true
+
+  either : (b : Bool) (x y : Spot) → InCall x → InCall y → InCall (if b then x else y)
+  either true x y one other = one
+  either false x y one other = other
+
+  in_enter : (next : Entered) (at now : EnterSpot) → InCall (Entering at next) → InCall (after_enter next now)
+  in_enter Call at Inside may = refl
+  in_enter Waited at Inside may = may
+  in_enter Call at _ may = refl
+  in_enter Waited at _ may = may
+
+  in_first_spot : (command : Command) → (makes_object command ≡ true → makes ≡ true) → InCall (first_spot command)
+  in_first_spot (New dst refs nums) may = may refl
+  in_first_spot (Drop dst) may = refl
+  in_first_spot Gc may = refl
+  in_first_spot _ may = refl
+
+  in_roots : (command : Command) (first second third : ℕ) → InCall (after_roots command first second third)
+  in_roots (Copy dst src) first second third = refl
+  in_roots (Same a b) first second third = refl
+  in_roots _ first second third = refl
+
+  in_first : (command : Command) (first : ℕ) → InCall (after_first command first)
+  in_first command first = either (nat_lt 1 (length (command_roots command))) (Loading (load.Second first)) (after_roots command first 0 0) refl (in_roots command first 0 0)
+
+  in_second : (command : Command) (first second : ℕ) → InCall (after_second command first second)
+  in_second command first second = either (nat_lt 2 (length (command_roots command))) (Loading (load.Third first second)) (after_roots command first second 0) refl (in_roots command first second 0)
+
+  in_root : (command : Command) (first : ℕ) → InCall (after_root command first)
+  in_root command first = either (lacks_object command first) (Leave reply.Bad) (after_first command first) refl (in_first command first)
+
+  in_number : (command : Command) (object shape : ℕ) → InCall (on_number command object shape)
+  in_number (Rd obj index) object shape = refl
+  in_number (Wr obj index value) object shape = refl
+  in_number _ object shape = refl
+
+  in_part : (phase : ℕ) (command : Command) (object second third shape : ℕ) → InCall (with_part phase command object second third shape)
+  in_part phase (Get dst src field) object second third shape = refl
+  in_part phase (Set obj field val) object second third shape = refl
+  in_part phase (Cas obj field expect val) object second third shape = refl
+  in_part phase (Xchg dst obj field val) object second third shape = refl
+  in_part phase command object second third shape = in_number command object shape
+
+  in_shape : (phase : ℕ) (command : Command) (object second third shape : ℕ) → InCall (after_shape phase command object second third shape)
+  in_shape phase command object second third shape = either (has_part command shape) (with_part phase command object second third shape) (Leave reply.Bad) (in_part phase command object second third shape) refl
+
+  in_take : (take : TakeSpot) → makes ≡ true → InCall (after_take take)
+  in_take (take_spot.Ended (At address)) may = may
+  in_take (take_spot.Ended NoRoom) may = may
+  in_take _ may = may
+
+  in_load : (phase : ℕ) (command : Command) (at : LoadSpot) (got : ℕ) → InCall (load_next phase command at got)
+  in_load phase command load.First got = in_root command got
+  in_load phase command (load.Second first) got = in_second command first got
+  in_load phase command (load.Third first second) got = in_roots command first second got
+  in_load phase command (load.Shape object second third) got = in_shape phase command object second third got
+
+  in_recording : (found : ℕ) (next : Overwritten) → InCall (after_recording found next)
+  in_recording found (overwrites.Set object value) = refl
+  in_recording found overwrites.Xchg = refl
+  in_recording found overwrites.Cas = refl
+
+  in_overwritten : (phase found : ℕ) (next : Overwritten) → InCall (overwritten phase found next)
+  in_overwritten phase found next = either (is_to_record phase found) (Recording LoadCount found next) (after_recording found next) refl (in_recording found next)
+
+  in_remember : (address : ℕ) (next : Overwritten) (at : RememberSpot) → InCall (after_remember address next at)
+  in_remember address next Recorded = in_recording address next
+  in_remember address next _ = refl
+
+  in_expected : (object expect value found answer : ℕ) → InCall (after_expected object expect value found answer)
+  in_expected object expect value found answer = either (answer == expect) (OnField object (fields.Exchange found expect value)) (Leave reply.No) refl refl
+
+  in_resolved : (found answer : ℕ) (next : Loaded) → InCall (after_resolved found answer next)
+  in_resolved found answer ForRoot = refl
+  in_resolved found answer (ToCompare object expect value) = in_expected object expect value found answer
+
+  in_loaded : (c : Config) (phase cset found : ℕ) (next : Loaded) → InCall (with_loaded c phase cset found next)
+  in_loaded c phase cset found next = either (must_resolve c phase cset found) (Resolving found LoadHeader next) (after_resolved found found next) refl (in_resolved found found next)
+
+  in_resolve : (found : ℕ) (next : Loaded) (at : ResolveSpot) → InCall (after_resolve found next at)
+  in_resolve found next (Resolved answer) = in_resolved found answer next
+  in_resolve found next _ = refl
+
+  in_swap : (c : Config) (phase cset found : ℕ) → InCall (after_swap c phase cset found)
+  in_swap c phase cset found = either (is_to_record phase found) (Recording LoadCount found overwrites.Xchg) (with_loaded c phase cset found ForRoot) refl (in_loaded c phase cset found ForRoot)
+
+  in_field : (c : Config) (phase cset object : ℕ) (at : FieldSpot) (got : ℕ) → InCall (field_next c phase cset object at got)
+  in_field c phase cset object fields.Load got = in_loaded c phase cset got ForRoot
+  in_field c phase cset object (fields.LoadExpected expect value) got = in_loaded c phase cset got (ToCompare object expect value)
+  in_field c phase cset object (fields.LoadOld value) got = in_overwritten phase got (overwrites.Set object value)
+  in_field c phase cset object (fields.Swap value) got = in_swap c phase cset got
+  in_field c phase cset object (fields.Exchange found expect value) got =
+      either (got == found) (overwritten phase found overwrites.Cas) (OnField object (fields.LoadExpected expect value)) (in_overwritten phase found overwrites.Cas) refl
+  in_field c phase cset object _ got = refl
+
+  in_numbers : (at : NumberSpot) (got : ℕ) → InCall (number_next at got)
+  in_numbers number.Load got = refl
+  in_numbers number.Store got = refl
+
+  in_show : (value : ℕ) (at : ShowSpot) (got : ℕ) → InCall (show_next value at got)
+  in_show value show.LoadName got = refl
+  in_show value (show.StoreRoot reply) got = refl
+
+  in_make : (c : Config) (seat made : ℕ) (command : Command) (at : MakeSpot) (got : ℕ) → makes ≡ true → InCall (make_next c seat made command at got)
+  in_make c seat made command (make.Taking take) got may = in_take (take_next c command take got) may
+  in_make c seat made command (make.StoreWord address done) got may = may
+  in_make c seat made command (make.StoreRoot address) got may = refl
+
+  in_wait : (seat made : ℕ) (at : WaitSpot) (got : ℕ) → makes ≡ true → InCall (wait_next seat made at got)
+  in_wait seat made wait.StoreRequest got may = may
+  in_wait seat made wait.AskRoom got may = may
+  in_wait seat made wait.StepOut got may = may
+  in_wait seat made wait.Poll got may = either (got == 0) (Waiting wait.Poll) (Entering Raise Waited) may may
+  in_wait seat made wait.LoadAnswer got may = may
+  in_wait seat made (wait.StoreRoot address) got may = may
+  in_wait seat made (wait.ClearAnswer reply) got may = refl
+
+  -- and so it does after a step that gives no reply
+  pub call_stands : (c : Config) (m : Mutating) (got : ℕ) (spot : Spot) → (makes_object m.kept.command ≡ true → makes ≡ true) → may_stand makes spot ≡ true → given_at spot ≡ None
+      → may_stand makes (next_at c m Nothing got spot).spot ≡ true
+  call_stands c m got Rest own may none = absurd cc
+  call_stands c m got (Ended reply) own may none = absurd cc
+  call_stands c m got Gone own may none = absurd cc
+  call_stands c m got (Entering at next) own may none = in_enter next at (enter_next at got) may
+  call_stands c m got LoadPhase own may none = refl
+  call_stands c m got LoadSet own may none = in_first_spot m.kept.command own
+  call_stands c m got (Loading at) own may none = in_load m.kept.phase m.kept.command at got
+  call_stands c m got (OnField object at) own may none = in_field c m.kept.phase m.kept.cset object at got
+  call_stands c m got (Resolving address at next) own may none = in_resolve address next (resolves.next_at c address m.kept.phase at got)
+  call_stands c m got (Recording at address next) own may none = in_remember address next (satb.next_at at got)
+  call_stands c m got (OnNumber object refs at) own may none = in_numbers at got
+  call_stands c m got (Showing value at) own may none = in_show value at got
+  call_stands c m got (StoreRoot value) own may none = refl
+  call_stands c m got (Making at) own may none = in_make c m.seat m.made m.kept.command at got may
+  call_stands c m got AskCycle own may none = refl
+  call_stands c m got (Waiting at) own may none = in_wait m.seat m.made at got may
+  call_stands c m got (Leave reply) own may none = absurd (cc (none))

@@ -1,0 +1,23 @@
+use Rattle.table_heap.proofs.Running.{same_bundle, same_bundle_more}
+use Rattle.table_heap.proofs.Driving.{first_drivers, have_driven}
+use Rattle.table_heap.proofs.bundle.Bundle.drive.Goals as goal
+
+pub loop-init : goal.loop-init
+loop-init g c = record {
+  driving = first_drivers g.D.Driver.next_of g.D.Driver.replied g.D.Driver.to_come c.args.self.now c.args.drivers.now c.requires.start;
+  same = same_bundle c.args.self.now;
+}
+
+pub returns-in-Idle-clause-orders : goal.returns-in-Idle-clause-orders
+returns-in-Idle-clause-orders g c = (c.drive_round-said.ensures.driving c.args.drivers.now c.loop.invariant.driving).orders
+
+pub returns-in-Idle-clause-driven : goal.returns-in-Idle-clause-driven
+returns-in-Idle-clause-driven g c =
+    have_driven g.D.Driver.next_of g.D.Driver.replied g.D.Driver.to_come c.drive_round-said.new.self c.args.drivers.now c.drive_round-said.new.drivers
+    (c.drive_round-said.ensures.driving c.args.drivers.now c.loop.invariant.driving) (c.drive_round-said.ensures.idle c.in-Idle.is)
+
+pub loop-preserved : goal.loop-preserved
+loop-preserved g c = record {
+  driving = c.drive_round-said.ensures.driving c.args.drivers.now c.loop.invariant.driving;
+  same = same_bundle_more c.args.self.now c.loop.self c.drive_round-said.new.self c.loop.invariant.same c.drive_round-said.ensures.same;
+}
