@@ -23,7 +23,7 @@ use Rattle.cycle_words.proofs.Evacuation.Clearing.{roots_are_cleared, can_clear_
 use Rattle.cycle_words.proofs.Evacuation.CanBegin.{evacuation_can_begin}
 use Rattle.cycle_pauses.specs.Evacuation.Collect.{evac_next}
 use Rattle.cycle_pauses.specs.Evacuation.Laws.{EvacuationRepresents, EvacuationBegins}
-use Rattle.cycle_pauses.proofs.Evacuation.NamingPlaces.{IsPlace, are_places, places_have}
+use Rattle.cycle_words.proofs.Evacuation.NamingPlaces.{IsPlace, are_places, places_have}
 use Rattle.cycle_pauses.proofs.Evacuation.ClearingInTurn.{IsClearing, all_cleared}
 use Rattle.cycle_pauses.proofs.Evacuation.Started.{clearing_begins, evacuation_starts, cycle_ends}
 

@@ -27,7 +27,7 @@ use Rattle.cycle_words.proofs.Evacuation.RegionAddresses.{from_base}
 use Rattle.cycle_pauses.proofs.Evacuation.Asked.{asked_stays}
 use Rattle.cycle_pauses.proofs.Evacuation.Between.{AreBetween}
 use Rattle.cycle_pauses.proofs.Evacuation.CopiedOut.{HasCopied, copied_out_of}
-use Rattle.cycle_pauses.proofs.Evacuation.ClearingInTurn.{copies_out}
+use Rattle.cycle_words.proofs.Evacuation.CopiedOut.{copies_out}
 use Rattle.cycle_words.specs.Finishing.Copies.{is_left, has_copy_room, copied_from, is_room_from, CanCopyFrom}
 use Rattle.cycle_words.proofs.Finishing.Copies.{room_found, copied_none, copied_next, copied_stuck, copied_skips, room_if, room_skips}
 

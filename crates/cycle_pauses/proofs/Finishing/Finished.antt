@@ -13,11 +13,11 @@ use Rattle.heap_world.specs.Change.{Answers, IsPaused}
 use Rattle.full_words.specs.Full.{packed, packed_in, made_in, served_in, room_for, served, full}
 use Rattle.full_words.specs.Full as image
 use Rattle.full_words.proofs.Served.{served_first, turn_idle, turn_waits}
-use Rattle.image_graph.specs.Holds.{HoldsSome}
+use Rattle.image_graph.specs.Holds.{Holds}
 use Rattle.cycle_pauses.proofs.Full.ByCopies.{by_copies}
 use Rattle.cycle_pauses.proofs.Full.Promises.{promises_of}
 use Rattle.cycle_pauses.proofs.Full.Dead.{plain}
-use Rattle.cycle_pauses.proofs.Full.Holding.{waits_for, holds_by, holds_some}
+use Rattle.cycle_pauses.proofs.Full.Holding.{waits_for, holds_by}
 use Rattle.cycle_pauses.proofs.Full.Pauses.{paused}
 use Rattle.cycle_words.proofs.Marking.Alike.{holds_alike}
 use Rattle.cycle_pauses.proofs.Evacuation.Asked.{asked_stays}
@@ -205,24 +205,20 @@ module _ (c : Config) (m : Word → ℕ) (g : Graph) (asking : ℕ → Asking) (
         (served_so (asking t) (then t) (turns.4 t) refs nums is);
   }
 
-  served_holds : HoldsSome c w
+  served_holds : Holds c w g
   served_holds =
       let stands = by_copies c asked_word g then asked_stands in
-      let holds = holds_by c asked_word g then stands in
-      ∣ (
-        g,
-        (
-          plain c asked_word g then stands,
-          stands.ghost.owner,
-          promises_of c g then,
-          holds_alike asked_word w (record { heap = λ a. refl; top = λ q. refl; root = λ t i. refl; answer = λ t. refl; wait = λ t. refl; current = λ s. refl; free = refl; cset = refl })
-              c (plain c asked_word g then stands) stands.ghost.owner (promises_of c g then) g holds,
-        ),
-      ) ∣₁
+      let holds = holds_by c asked_word g then stands in (
+        plain c asked_word g then stands,
+        stands.ghost.owner,
+        promises_of c g then,
+        holds_alike asked_word w (record { heap = λ a. refl; top = λ q. refl; root = λ t i. refl; answer = λ t. refl; wait = λ t. refl; current = λ s. refl; free = refl; cset = refl })
+            c (plain c asked_word g then stands) stands.ghost.owner (promises_of c g then) g holds,
+      )
 
   pub served_short : ShortHolds c m g asking
   served_short = record {
-    holds = subst (HoldsSome c) (sym finished_is) served_holds;
+    holds = subst (λ v. Holds c v g) (sym finished_is) served_holds;
     paused = subst (λ v. IsPaused c m (full c v) g asking) (sym finished_is) (subst (λ v. IsPaused c m v g asking) full_same full_paused);
   }
 
@@ -236,7 +232,8 @@ module _ (c : Config) (m : Word → ℕ) (g : Graph) (asking : ℕ → Asking) (
       let stands = (copying_keeps c m g asking r).stands in
       let paused_then = paused c (all_copied c m) g asking stands in
       record {
-        holds = subst (HoldsSome c) (sym finished_early) (holds_some c (all_copied c m) g asking stands);
+        holds = subst (λ v. Holds c v g) (sym finished_early)
+            (plain c (all_copied c m) g asking stands, stands.ghost.owner, promises_of c g asking, holds_by c (all_copied c m) g asking stands);
         paused = subst (λ v. IsPaused c m (full c v) g asking) (sym finished_early)
             (record { asked_then = paused_then.asked_then; stands = paused_then.stands; answers = paused_then.answers; crowded = paused_then.crowded });
       }

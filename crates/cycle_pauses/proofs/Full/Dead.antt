@@ -20,7 +20,7 @@ use Rattle.full_words.proofs.Reached.{held_is_reached}
 use Rattle.full_words.proofs.ImagesStand.{own_copy}
 use Rattle.cycle_pauses.proofs.Full.Promises.{promises_of}
 use Rattle.cycle_pauses.proofs.Full.Mapped.{mapped, mapped_at, mapped_from, plotted_alike, filled_alike}
-use Rattle.cycle_pauses.proofs.Full.Before.{as_object, live, pieces_are, live_rooted, live_filled}
+use Rattle.cycle_pauses.proofs.Full.Before.{as_object, live, same_words, pieces_are, live_rooted, live_filled}
 use Rattle.cycle_pauses.proofs.Full.Current.{now_is, live_holds}
 
 -- a name for what only fills, which says nothing
@@ -168,3 +168,19 @@ module _ (c : Config) (m : Word → ℕ) (g : Graph) (asking : ℕ → Asking) (
 
   pub plain_filled : IsFilled c (λ q. m (Top q)) plain
   plain_filled = filled_alike c (λ q. m (Top q)) old as_dead (dead_words old long) (live_filled c m g asking r)
+
+  -- a piece of the plot has as many words as the one that it was
+  pub plain_words : (a : ℕ) (b : Block) → plain a ≡ Some b → (was : Block) × (r.block a ≡ Some was) × (words_of was ≡ words_of b)
+  plain_words a b is =
+      let then = mapped_from as_dead old a b is in
+      let first = mapped_from (as_object g asking r.block) r.block a then.0 then.1 in (
+        first.0,
+        first.1,
+        sym (same_words c m g asking r a first.0 first.1) ∙ ap words_of first.2 ∙ sym (dead_words old long a then.0 then.1) ∙ ap words_of then.2,
+      )
+
+  -- and where a piece was one is
+  pub plain_piece : (a : ℕ) (b : Block) → r.block a ≡ Some b → (then : Block) × (plain a ≡ Some then)
+  plain_piece a b is =
+      let first = mapped_at (as_object g asking r.block) r.block a b is in
+      (as_dead (as_object g asking r.block b), mapped_at as_dead old a (as_object g asking r.block b) first)

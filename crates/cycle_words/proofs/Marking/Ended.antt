@@ -2,7 +2,7 @@
 use Rattle.std.proofs.Common.{◌≡◌, ℕ, ◌+◌, ◌<◌, ◌≤◌, cond, Bool, true, false, Option, inl, inr, ⊎_elim, sym, ap, ◌∙◌, arith}
 use Rattle.std.proofs.lemmas.Bool.{cases_lt, cond-false, false_from_ne_true, true≢false}
 use Rattle.heap_words.specs.declared.config.Config.{Config}
-use Rattle.heap_words.specs.Words.{Word, Tams, Heap}
+use Rattle.heap_words.specs.Words.{Word, Tams, Current, Heap}
 use Rattle.heap_words.specs.Ranges.{seat_count}
 use Rattle.regions.specs.Place.{region_with}
 use Rattle.shen_graph.specs.Graph.{Graph}
@@ -18,7 +18,7 @@ use Rattle.cycle_words.specs.Marking.Laws.{HasNoMoreSeats}
 use Rattle.cycle_words.proofs.Marking.Plain.{object_below, reached_object, reach_ind, root_reached, field_reached}
 use Rattle.cycle_words.proofs.Marking.Closed.{closed_holds, closed_through}
 use Rattle.cycle_words.proofs.Marking.Dead.{dead_is_dead}
-use Rattle.cycle_words.proofs.Marking.Freed.{CanFree, piece_was, piece_stays, same_roots, freed_holds}
+use Rattle.cycle_words.proofs.Marking.Freed.{CanFree, calm_can_free, piece_was, piece_stays, same_roots, freed_holds}
 
 module _ (c : Config) (m : Word → ℕ) (block : Plot) (owner : ℕ → Option ℕ) (p : Promises) (g : Graph) (holds : HoldsBy c m block owner p g) (marking : IsMarking c m block) (seats : HasNoMoreSeats c m) where
   -- the words once the marks are closed, and once the dead regions are freed
@@ -52,18 +52,20 @@ module _ (c : Config) (m : Word → ℕ) (block : Plot) (owner : ℕ → Option 
       (λ (fresh : IsNew c k a). omega (arith, fresh, at.2, dead.no_new))
       kept)
 
-  can : CanFree c out k
-  can = record {
-    unreached = λ a reached. kept_alive a (reached_object c k block owner p g held marking.uncollected a reached) (through.reachable a reached);
-    unseated = λ seat r is. ⊎_elim
-        (λ (below : seat < seat_count c.mutators c.helpers).
-        false_from_ne_true (out r) (λ told. ((dead_is_dead c k r).0 told).nobodys (seat, below, is)))
-        (λ (past : seat_count c.mutators c.helpers ≤ seat). absurd (let none = seats seat past in omega (arith, is, none)))
-        (cases_lt seat (seat_count c.mutators c.helpers));
-  }
+  unseated : (seat r : ℕ) → k (Current seat) ≡ r + 1 → out r ≡ false
+  unseated seat r is = ⊎_elim
+      (λ (below : seat < seat_count c.mutators c.helpers).
+      false_from_ne_true (out r) (λ told. ((dead_is_dead c k r).0 told).nobodys (seat, below, is)))
+      (λ (past : seat_count c.mutators c.helpers ≤ seat). absurd (let none = seats seat past in omega (arith, is, none)))
+      (cases_lt seat (seat_count c.mutators c.helpers))
+
+  can : CanFree c out k block
+  can =
+      calm_can_free c out k block owner p g held marking.uncollected
+      (λ a reached. kept_alive a (reached_object c k block owner p g held marking.uncollected a reached) (through.reachable a reached)) unseated
 
   pub ended_holds : HoldsBy c n left (freed_owner out owner) p g
-  ended_holds = freed_holds c out k block owner p g held marking.uncollected can
+  ended_holds = freed_holds c out k block owner p g held can
 
   -- what is kept and left was kept before, and what was kept is kept
 
@@ -90,12 +92,12 @@ module _ (c : Config) (m : Word → ℕ) (block : Plot) (owner : ℕ → Option 
   reached_was = reach_ind c n left (freed_owner out owner) p g ended_holds marking.uncollected (CanBeReached c k)
       (λ word is some.
       root_reached c k block owner p g held marking.uncollected word
-      (ap (λ xs. has xs word) (sym (same_roots c out k block owner p g held marking.uncollected can)) ∙ is) some)
+      (ap (λ xs. has xs word) (sym (same_roots c out k block owner p g held can)) ∙ is) some)
       (λ a i reached before few some. field_reached c k block owner p g held marking.uncollected a i before few some)
 
   object_was : (a : ℕ) → IsObjectAt n left a → (out (region_with c a) ≡ false) × IsObjectAt k block a
   object_was a is =
-      let was = piece_was c out k block owner p g held marking.uncollected can a _ is.here in
+      let was = piece_was c out k block owner p g held can a _ is.here in
       (was.0, record { name = is.name; refs = is.refs; nums = is.nums; here = was.1; shape = is.shape; few_refs = is.few_refs; few_nums = is.few_nums })
 
   object_is : (a : ℕ) → out (region_with c a) ≡ false → IsObjectAt k block a → IsObjectAt n left a
@@ -104,7 +106,7 @@ module _ (c : Config) (m : Word → ℕ) (block : Plot) (owner : ℕ → Option 
         name = is.name;
         refs = is.refs;
         nums = is.nums;
-        here = piece_stays c out k block owner p g held marking.uncollected can a alive ∙ is.here;
+        here = piece_stays c out k block owner p g held can a alive ∙ is.here;
         shape = is.shape;
         few_refs = is.few_refs;
         few_nums = is.few_nums;

@@ -1,19 +1,19 @@
 -- Words that hold a graph hold it after regions were freed in which nothing can be reached.
 use Rattle.std.proofs.Common.{◌≡◌, ◌≢◌, ℕ, ◌+◌, ◌-◌, ◌<◌, ◌≤◌, ◌⊎◌, cond, max, Bool, true, false, Some, None, Option, inl, inr, ⊎_elim, refl, sym, ap, ◌∙◌, subst, arith}
 use Rattle.std.specs.Int.{bit_at}
-use Rattle.std.proofs.lemmas.Bool.{cond-true, cond-false, cases_Bool}
+use Rattle.std.proofs.lemmas.Bool.{cond-true, cond-false, cases_Bool, false_from_ne_true, true≢false}
 use Rattle.std.proofs.lemmas.Nat.{or_lt}
 use Rattle.std.proofs.lemmas.Nat.Bits.{bit_at_or, bit_at-zero, bit_at-lt}
 use Rattle.std.proofs.lemmas.Option.{none-some, slice_get_within}
 use Rattle.heap_words.specs.declared.config.Config.{Config}
 use Rattle.heap_words.specs.Words.{Word, Cset, Free, Top, Current, Root, Answer, Heap}
-use Rattle.heap_words.specs.Encoding.{is_forwarded, refs_in}
+use Rattle.heap_words.specs.Encoding.{is_forwarded, forwardee_in, refs_in}
 use Rattle.regions.specs.Place.{base_of, region_with}
 use Rattle.regions.specs.Sets.{IsIn}
 use Rattle.regions.proofs.PlaceLemmas.{regions_tile}
 use Rattle.shen_graph.specs.declared.name.Name.{Name}
 use Rattle.shen_graph.specs.Graph.{Graph, Reference, Object}
-use Rattle.heap_world.specs.World.{Plot, Block, thing, hand, promised, filler, name_at, words_of, Points, IsPlotted, IsFilled, IsFreeWord, AreCurrent, IsThing}
+use Rattle.heap_world.specs.World.{Plot, Block, thing, name_at, words_of, Points, IsPlotted, IsFilled, IsFreeWord, AreCurrent, IsThing}
 use Rattle.full_words.proofs.Named.{thing_at}
 use Rattle.full_words.specs.Held.{IsAmong, HoldsGraph}
 use Rattle.full_words.specs.Full.{now_in, root_words}
@@ -28,7 +28,7 @@ use Rattle.cycle_words.specs.Marking.WhileMarking.{CanBeReached}
 use Rattle.cycle_words.specs.Marking.Final.{freed, freed_block, freed_owner}
 use Rattle.cycle_words.proofs.Marking.Alike.{same_root_words}
 use Rattle.cycle_words.proofs.Marking.Bits.{one, bits_small, bits_at}
-use Rattle.cycle_words.proofs.Marking.Plain.{below_top, own_copy, root_reached, field_reached}
+use Rattle.cycle_words.proofs.Marking.Plain.{below_top, root_reached, field_reached}
 
 -- an optional value that is left where a test is not true
 some_left : {A : Type 0} (b : Bool) (o : Option A) (x : A) → cond b None o ≡ Some x → (b ≡ false) × (o ≡ Some x)
@@ -75,12 +75,29 @@ module _ (c : Config) (out : ℕ → Bool) (m : Word → ℕ) where
       one_few true = omega arith
       one_few false = omega arith
 
--- What is freed: regions in which nothing that can be reached lies, and that are nobody's current ones.
-pub record CanFree (c : Config) (out : ℕ → Bool) (m : Word → ℕ) : Type 0 where
-  pub unreached : (a : ℕ) → CanBeReached c m a → out (region_with c a) ≡ false
+-- What is freed: regions in which nothing lies that a root, or a field of what can be reached, names, and that are nobody's current ones. All
+-- that has moved lies there.
+pub record CanFree (c : Config) (out : ℕ → Bool) (m : Word → ℕ) (block : Plot) : Type 0 where
   pub unseated : (seat r : ℕ) → m (Current seat) ≡ r + 1 → out r ≡ false
+  pub unnamed_roots : (word : ℕ) → IsAmong (root_words c m) word → word ≢ 0 → out (region_with c word) ≡ false
+  pub unnamed_fields : (a i : ℕ) → CanBeReached c m a → i < refs_in (m (Heap (a + 1))) → m (Heap (a + 3 + i)) ≢ 0 → out (region_with c (m (Heap (a + 3 + i)))) ≡ false
+  pub unmoved : (a refs nums : ℕ) (name : Name) → block a ≡ Some (thing name refs nums) → out (region_with c a) ≡ false → is_forwarded (m (Heap a)) ≡ false
 
-module _ (c : Config) (out : ℕ → Bool) (m : Word → ℕ) (block : Plot) (owner : ℕ → Option ℕ) (p : Promises) (g : Graph) (holds : HoldsBy c m block owner p g) (calm : m Cset ≡ 0) (can : CanFree c out m) where
+-- While no region is in the collection set it is enough that nothing that can be reached lies there.
+pub calm_can_free : (c : Config) (out : ℕ → Bool) (m : Word → ℕ) (block : Plot) (owner : ℕ → Option ℕ) (p : Promises) (g : Graph) → HoldsBy c m block owner p g → m Cset ≡ 0
+    → ((a : ℕ) → CanBeReached c m a → out (region_with c a) ≡ false) → ((seat r : ℕ) → m (Current seat) ≡ r + 1 → out r ≡ false) → CanFree c out m block
+calm_can_free c out m block owner p g holds calm unreached unseated = record {
+  unseated = unseated;
+  unnamed_roots = λ word among some. unreached word (root_reached c m block owner p g holds calm word among some);
+  unnamed_fields = λ a i held few some. unreached (m (Heap (a + 3 + i))) (field_reached c m block owner p g holds calm a i held few some);
+  unmoved = λ a refs nums name is left. false_from_ne_true (is_forwarded (m (Heap a))) (λ forwarded.
+      let was = holds.moved a refs nums name is forwarded in
+      let none : bit_at (m Cset) (region_with c a) ≡ 0 = ap (λ k. bit_at k (region_with c a)) calm ∙ bit_at-zero (region_with c a) in
+      let set = was.in_set in
+      omega (arith, set, none));
+}
+
+module _ (c : Config) (out : ℕ → Bool) (m : Word → ℕ) (block : Plot) (owner : ℕ → Option ℕ) (p : Promises) (g : Graph) (holds : HoldsBy c m block owner p g) (can : CanFree c out m block) where
   abbrev n : Word → ℕ
   n = freed c out m
 
@@ -110,12 +127,9 @@ module _ (c : Config) (out : ℕ → Bool) (m : Word → ℕ) (block : Plot) (ow
   pub piece_stays : (a : ℕ) → out (region_with c a) ≡ false → left a ≡ block a
   piece_stays a is = left_is (out (region_with c a)) (block a) is
 
-  -- what can be reached stands as before
-  reached_stays : (a : ℕ) → CanBeReached c m a → left a ≡ block a
-  reached_stays a held = piece_stays a (can.unreached a held)
-
+  -- what a root names stands as before
   root_stays : (word : ℕ) → IsRoot word → word ≢ 0 → left word ≡ block word
-  root_stays word among some = reached_stays word (root_reached c m block owner p g holds calm word among some)
+  root_stays word among some = piece_stays word (can.unnamed_roots word among some)
 
   top_left : (r : ℕ) → out r ≡ false → cond (out r) 0 (top r) ≡ top r
   top_left r is = cond-false (out r) 0 (top r) is
@@ -179,7 +193,7 @@ module _ (c : Config) (out : ℕ → Bool) (m : Word → ℕ) (block : Plot) (ow
         let few = slice_get_within o.refs i r there in
         let shape : refs_in (heap (a + 1)) ≡ refs = ap refs_in is.shape ∙ refs_read refs nums is.few_refs is.few_nums in
         points_stay (heap (a + 3 + i)) r
-        (λ some. reached_stays (heap (a + 3 + i)) (field_reached c m block owner p g holds calm a i held (omega (arith, few, shape, is.refs_are)) some))
+        (λ some. piece_stays (heap (a + 3 + i)) (can.unnamed_fields a i held (omega (arith, few, shape, is.refs_are)) some))
         (is.references i r there);
     numbers = is.numbers;
   }
@@ -190,7 +204,7 @@ module _ (c : Config) (out : ℕ → Bool) (m : Word → ℕ) (block : Plot) (ow
     current = λ word name is.
         let piece = thing_at left (λ a b here. holds.things a b (piece_was a b here).1) word name is in
         let was = piece_was word (thing name piece.0 piece.1) piece.2 in
-        let own = own_copy c m block owner p g holds calm word piece.0 piece.1 name was.1 in
+        let own = cond-false (is_forwarded (heap word)) (forwardee_in (heap word)) word (can.unmoved word piece.0 piece.1 name was.1 was.0) in
         (piece.0, piece.1, ap left own ∙ piece.2);
     each = λ a refs nums name held is.
         let was = piece_was a (thing name refs nums) is in
@@ -228,12 +242,12 @@ module _ (c : Config) (out : ℕ → Bool) (m : Word → ℕ) (block : Plot) (ow
     no_more_promised = holds.rooted.no_more_promised;
   }
 
-  -- no object has moved
+  -- no object that is left has moved
+  pub left_unmoved : (a refs nums : ℕ) (name : Name) → left a ≡ Some (thing name refs nums) → is_forwarded (heap a) ≡ false
+  left_unmoved a refs nums name is = let was = piece_was a (thing name refs nums) is in can.unmoved a refs nums name was.1 was.0
+
   moved : (a refs nums : ℕ) (name : Name) → left a ≡ Some (thing name refs nums) → is_forwarded (heap a) ≡ true → HasMoved c n left a refs nums name
-  moved a refs nums name is forwarded =
-      let was = holds.moved a refs nums name (piece_was a (thing name refs nums) is).1 forwarded in
-      let none : bit_at (m Cset) (region_with c a) ≡ 0 = ap (λ k. bit_at k (region_with c a)) calm ∙ bit_at-zero (region_with c a) in
-      absurd (let set = was.in_set in omega (arith, set, none))
+  moved a refs nums name is forwarded = absurd (true≢false (sym forwarded ∙ left_unmoved a refs nums name is))
 
   free_word : IsFreeWord c (n Free) (λ r. n (Top r)) owned
   free_word = record {
