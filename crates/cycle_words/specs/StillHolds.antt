@@ -2,10 +2,12 @@
 use Rattle.std.specs.Prelude.{ℕ, ◌≡◌, ◌≢◌, ◌+◌, ◌<◌, ◌≤◌, Option, Some, true, false}
 use Rattle.heap_words.specs.declared.config.Config.{Config}
 use Rattle.heap_words.specs.Words.{Word, Phase, Cset, Top, Tams, Current, Heap}
-use Rattle.heap_words.specs.Encoding.{is_forwarded}
+use Rattle.heap_words.specs.Encoding.{is_forwarded, refs_in}
 use Rattle.shen_graph.specs.Graph.{Graph}
 use Rattle.regions.specs.Sets.{IsIn}
 use Rattle.heap_world.specs.World.{Block, Plot, IsCollected}
+use Rattle.full_words.specs.Held.{IsAmong}
+use Rattle.full_words.specs.Full.{root_words}
 use Rattle.full_words.specs.Promised.{Promises}
 use Rattle.image_graph.specs.Holds.{HoldsBy, AreSized, Holds}
 use Rattle.cycle_words.specs.Marking.Marks.{is_black, IsKept}
@@ -42,6 +44,22 @@ UpdatingHolds c before after = (block : Plot) (owner : ℕ → Option ℕ) (p : 
 -- What is marked in the collection set are pieces.
 abbrev pub AreMarkedPieces : Config → (Word → ℕ) → Plot → Type 0
 AreMarkedPieces c memory block = (a : ℕ) → is_collected c memory a ≡ true → is_black c memory a ≡ true → (b : Block) × (block a ≡ Some b)
+
+-- They hold it in the same way where the updating of references begins, ..
+abbrev pub LimitsHold : Config → (before after : Word → ℕ) → Type 0
+LimitsHold c before after = (block : Plot) (owner : ℕ → Option ℕ) (p : Promises) (g : Graph) → HoldsBy c before block owner p g → HoldsBy c after block owner p g
+
+-- Nothing names an address of the collection set: no root and no answer, and no field of what can be reached; and no seat has a region of
+-- the set as its current one.
+pub record NothingNames (c : Config) (memory : Word → ℕ) : Type 0 where
+  pub roots : (word : ℕ) → IsAmong (root_words c memory) word → word ≢ 0 → IsCollected c (memory Cset) word → ⊥
+  pub fields : (a i : ℕ) → CanBeReached c memory a → i < refs_in (memory (Heap (a + 1))) → memory (Heap (a + 3 + i)) ≢ 0
+      → IsCollected c (memory Cset) (memory (Heap (a + 3 + i))) → ⊥
+  pub unseated : (seat r : ℕ) → memory (Current seat) ≡ r + 1 → IsIn (memory Cset) r → ⊥
+
+-- .. and in some way once the set was freed, where nothing names it.
+abbrev pub EndingHolds : Config → (before after : Word → ℕ) → Type 0
+EndingHolds c before after = (block : Plot) (owner : ℕ → Option ℕ) (p : Promises) (g : Graph) → HoldsBy c before block owner p g → NothingNames c before → Holds c after g
 
 -- While a region is in the collection set: what is marked there are pieces; each object that can be reached is kept; nothing was allocated
 -- in the set since marking began, and it is nobody's; and once objects are not evacuated any more nothing that can be reached lies there.

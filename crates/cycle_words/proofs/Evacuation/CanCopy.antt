@@ -10,13 +10,19 @@ use Rattle.regions.specs.Sets.{IsIn}
 use Rattle.shen_graph.specs.Graph.{Graph}
 use Rattle.heap_world.specs.World.{Block, thing, words_of, Plot}
 use Rattle.heap_world.proofs.Pointing.{piece_inside}
-use Rattle.full_words.specs.Promised.{Promises}
+use Rattle.full_words.specs.Promised.{Promises, with_promised}
 use Rattle.image_graph.specs.Holds.{HoldsBy, AreSized}
-use Rattle.cycle_words.specs.Marking.Marks.{is_black}
+use Rattle.full_words.specs.Held.{IsAmong}
+use Rattle.full_words.specs.Full.{now_in, root_words}
+use Rattle.full_words.proofs.Reached.{held_is_reached}
+use Rattle.cycle_words.specs.Marking.Marks.{is_black, IsNew}
 use Rattle.cycle_words.proofs.Marking.Plain.{below_top}
-use Rattle.cycle_words.specs.Evacuation.Live.{words_at, marked_words}
+use Rattle.cycle_words.specs.Evacuation.Live.{words_at, marked_words, live_words, is_candidate}
+use Rattle.cycle_words.specs.Evacuation.Choice.{copy_limit}
+use Rattle.cycle_words.proofs.Evacuation.Candidate.{candidate_is_candidate}
+use Rattle.cycle_words.proofs.Evacuation.Front.{member_is}
 use Rattle.cycle_words.specs.Evacuation.Copied.{CanCopyOut, copy_room, copied_in, copied_out, IsCopiedOut}
-use Rattle.cycle_words.specs.Evacuation.Laws.{ObjectCanBeCopied, piece_words, marked_in, LiveIsMarked}
+use Rattle.cycle_words.specs.Evacuation.Laws.{ObjectCanBeCopied, piece_words, marked_in, LiveIsMarked, ChosenAreLive}
 use Rattle.cycle_words.specs.StillHolds.{HoldsStill, CopyingHolds}
 use Rattle.cycle_words.proofs.Evacuation.RegionAddresses.{some_words, from_base}
 use Rattle.cycle_words.proofs.Evacuation.CopiedOut.{copies_out}
@@ -72,7 +78,7 @@ pub copying_holds : (c : Config) (m : Word → ℕ) (a : ℕ) → CanCopyOut c m
 copying_holds c m a can block owner p g holds sized b here plain = still_holds c m a can.above can.in_set block owner p g holds sized b here plain
 
 pub live_is_marked : LiveIsMarked
-live_is_marked c m block sized marked r = sum_same (λ k. marked_words c m (base_of c r + k)) (λ k. marked_in c m block (base_of c r + k)) c.region_words (λ k below. each (base_of c r + k))
+live_is_marked c m r block sized marked = sum_same (λ k. marked_words c m (base_of c r + k)) (λ k. marked_in c m block (base_of c r + k)) c.region_words (λ k below. each (base_of c r + k))
   where
     each : (a : ℕ) → marked_words c m a ≡ marked_in c m block a
     each a = ⊎_elim
@@ -81,3 +87,16 @@ live_is_marked c m block sized marked r = sum_same (λ k. marked_words c m (base
         cond-true (is_black c m a) (words_at m a) 0 yes ∙ sized a piece.0 piece.1 ∙ sym (ap piece_words piece.1) ∙ sym (cond-true (is_black c m a) (piece_words (block a)) 0 yes))
         (λ (no : is_black c m a ≡ false). cond-false (is_black c m a) (words_at m a) 0 no ∙ sym (cond-false (is_black c m a) (piece_words (block a)) 0 no))
         (cases_Bool (is_black c m a))
+
+pub chosen_are_live : ChosenAreLive
+chosen_are_live c m block owner p g holds through a reached inside = ⊎_elim
+    (λ (black : is_black c m a ≡ true). black)
+    (λ (fresh : IsNew c m a).
+    let at = held_is_reached c (λ r. m (Top r)) (λ y. m (Heap y)) block (now_in m) (IsAmong (root_words c m)) (with_promised g p) holds.objects a reached in
+    let below = below_top c (λ r. m (Top r)) block holds.objects.plotted a (thing at.0 at.1 at.2) at.3 (omega arith) in
+    let front = member_is c.regions (copy_limit c m) (live_words c m) (is_candidate c m) (region_with c a) inside in
+    let no_new = ((candidate_is_candidate c m (region_with c a)).0 front.1).no_new in
+    let from = below.1 in
+    let end = below.2 in
+    absurd (omega (arith, fresh, no_new, from, end)))
+    (through.reachable a reached)

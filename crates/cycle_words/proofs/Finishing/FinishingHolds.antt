@@ -27,14 +27,14 @@ use Rattle.cycle_words.specs.Evacuation.Begun.{is_collected}
 use Rattle.cycle_words.specs.Finishing.Updated.{updated_word, is_kept_field, all_updated}
 use Rattle.cycle_words.specs.Finishing.Copies.{all_copied, is_room_for_all}
 use Rattle.cycle_words.specs.Finishing.Finish.{set_freed, cycle_finished, finished}
-use Rattle.cycle_words.specs.StillHolds.{FinishingHolds}
+use Rattle.cycle_words.specs.StillHolds.{NothingNames, FinishingHolds}
 use Rattle.cycle_words.proofs.Evacuation.RenamedInPlace as renamed
 use Rattle.cycle_words.proofs.Finishing.Fields.{low_spared}
 use Rattle.cycle_words.proofs.Finishing.UpdatedHolds.{updated_holds, renaming, word_stays}
 use Rattle.cycle_words.proofs.Finishing.KeptFields.{is_field}
 use Rattle.cycle_words.proofs.Finishing.CopiesHold.{copies_all_hold}
 use Rattle.cycle_words.proofs.Finishing.Emptied.{IsEmptied, some_set, emptied_then}
-use Rattle.cycle_words.proofs.Finishing.SetFreed.{NothingNames, left, owned, set_freed_holds}
+use Rattle.cycle_words.proofs.Finishing.SetFreed.{left, owned, set_freed_holds}
 
 -- Once the set was emptied and all references were updated nothing names it.
 module _ (c : Config) (m : Word → ℕ) (block : Plot) (owner : ℕ → Option ℕ) (p : Promises) (g : Graph) (is : IsEmptied c m block owner p g) where

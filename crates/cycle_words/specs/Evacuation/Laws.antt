@@ -9,7 +9,7 @@ use Rattle.heap_world.specs.World.{Block, Plot, words_of}
 use Rattle.full_words.specs.Promised.{Promises}
 use Rattle.image_graph.specs.Holds.{HoldsBy, AreSized}
 use Rattle.cycle_words.specs.Marking.Marks.{is_black}
-use Rattle.cycle_words.specs.Marking.WhileMarking.{IsObjectAt, IsMarking, IsMarkedThrough}
+use Rattle.cycle_words.specs.Marking.WhileMarking.{IsObjectAt, CanBeReached, IsMarking, IsMarkedThrough}
 use Rattle.cycle_words.specs.Marking.Final.{final_marked}
 use Rattle.cycle_words.specs.Marking.Laws.{HasNoMoreSeats}
 use Rattle.regions.specs.Place.{base_of, region_with}
@@ -75,7 +75,7 @@ abbrev pub ObjectCanBeCopied : Type 0
 ObjectCanBeCopied = (c : Config) (memory : Word → ℕ) (block : Plot) (owner : ℕ → Option ℕ) (p : Promises) (g : Graph) → HoldsBy c memory block owner p g → AreSized memory block
     → (a : ℕ) (b : Block) → block a ≡ Some b → IsIn (memory Cset) (region_with c a) → CanCopyOut c memory a
 
--- The live words of a region are those of the pieces there that are marked, where the words hold a graph and what is marked are pieces.
+-- The words of a piece, if there is one, and those of the piece at an address if it is marked.
 abbrev pub piece_words : Option Block → ℕ
 piece_words None = 0
 piece_words (Some b) = words_of b
@@ -83,6 +83,21 @@ piece_words (Some b) = words_of b
 abbrev pub marked_in : Config → (Word → ℕ) → Plot → ℕ → ℕ
 marked_in c memory block a = if is_black c memory a then piece_words (block a) else 0
 
+-- So many words are those of the pieces of a region that are marked, where what is marked are pieces.
+abbrev pub IsMarkedIn : Config → (Word → ℕ) → (region words : ℕ) → Type 0
+IsMarkedIn c memory r words = (block : Plot) → AreSized memory block → ((a : ℕ) → is_black c memory a ≡ true → (b : Block) × (block a ≡ Some b))
+    → words ≡ sum_below (λ k. marked_in c memory block (base_of c r + k)) c.region_words
+
+-- That is what lives in the region.
 abbrev pub LiveIsMarked : Type 0
-LiveIsMarked = (c : Config) (memory : Word → ℕ) (block : Plot) → AreSized memory block → ((a : ℕ) → is_black c memory a ≡ true → (b : Block) × (block a ≡ Some b))
-    → (r : ℕ) → live_words c memory r ≡ sum_below (λ k. marked_in c memory block (base_of c r + k)) c.region_words
+LiveIsMarked = (c : Config) (memory : Word → ℕ) (r : ℕ) → IsMarkedIn c memory r (live_words c memory r)
+
+-- Where the words hold a graph, and what can be reached is kept, each object of a set's regions that can be reached is marked, so that it
+-- counts as live there.
+abbrev pub ReachableAreLive : Config → (Word → ℕ) → (set : ℕ) → Type 0
+ReachableAreLive c memory set = (block : Plot) (owner : ℕ → Option ℕ) (p : Promises) (g : Graph) → HoldsBy c memory block owner p g → IsMarkedThrough c memory block
+    → (a : ℕ) → CanBeReached c memory a → IsIn set (region_with c a) → is_black c memory a ≡ true
+
+-- So it is in the regions that are chosen, as nothing new is there.
+abbrev pub ChosenAreLive : Type 0
+ChosenAreLive = (c : Config) (memory : Word → ℕ) → ReachableAreLive c memory (chosen c memory)
