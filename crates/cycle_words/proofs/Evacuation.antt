@@ -18,3 +18,4 @@ pub mod CopyHolds
 pub mod RenamedInPlace
 pub mod ClearedHolds
 pub mod CanCopy
+pub mod EndedCollects

@@ -1,7 +1,7 @@
 //! Which regions are evacuated, in words and numbers: how much of a region lives, which regions are candidates, which of
 //! these are chosen, and that there is room for all that lives in them. Laws, as theorems and no code.
 
-ghost use Rattle.cycle_words.specs.Evacuation.Laws.{CandidateIsCandidate, ChosenIsTheChoice, ChoiceIsTaken, RoomIsFound, CopyingCopies, EachIsCopied, RootsAreCleared, EvacuationCanBegin, MarkedCanBegin, ObjectCanBeCopied, LiveIsMarked, ChosenAreLive};
+ghost use Rattle.cycle_words.specs.Evacuation.Laws.{CandidateIsCandidate, ChosenIsTheChoice, ChoiceIsTaken, RoomIsFound, CopyingCopies, EachIsCopied, RootsAreCleared, EvacuationCanBegin, MarkedCanBegin, ObjectCanBeCopied, LiveIsMarked, ChosenAreLive, EvacuationCollects};
 
 /// A law: the test of candidates tells a region that is in use, nobody's current one, without an object that is new, and
 /// with garbage of a quarter of its words; and it tells each such region.
@@ -68,4 +68,10 @@ pub fn live_is_marked()
 /// A law: what can be reached in the chosen regions is marked, so that it counts as live there.
 pub fn chosen_are_live()
     ensures { ChosenAreLive }
+{}
+
+/// A law: once marking was ended and evacuation begun, by the one call and then the other, the words hold the same graph, and are
+/// such that finishing the cycle keeps it.
+pub fn evacuation_collects()
+    ensures { EvacuationCollects }
 {}

@@ -177,7 +177,7 @@ module _ (c : Config) (m : Word → ℕ) (block : Plot) (owner : ℕ → Option 
       let dead : IsDead c k (region_with c a) = (dead_is_dead c k (region_with c a)).0 told in
       true≢false (sym black ∙ dead.unmarked a (record { from = at.1; before = omega (arith, at.1, at.2, most) })))
 
-  marked_object : (a : ℕ) → is_black c n a ≡ true → IsObjectAt n left a
+  pub marked_object : (a : ℕ) → is_black c n a ≡ true → IsObjectAt n left a
   marked_object a black =
       let is = marked_was a black in
       record {

@@ -1,12 +1,12 @@
 -- Evacuation begins: words that held a graph hold it once roots and answers were cleared of the collection set.
-use Rattle.std.proofs.Common.{◌≡◌, ◌≢◌, ℕ, ◌+◌, ◌<◌, ◌≤◌, ◌==◌, nat_le, true, false, List, [], ◌∷◌, Option, Some, inr, refl, sym, ap, ◌∙◌, subst, ⊎_elim, arith}
+use Rattle.std.proofs.Common.{◌≡◌, ◌≢◌, ℕ, ◌+◌, ◌<◌, ◌≤◌, ◌==◌, ◌&&◌, if◌then◌else◌, nat_le, true, false, List, [], ◌∷◌, Option, Some, inl, inr, refl, sym, ap, ◌∙◌, subst, ⊎_elim, arith}
 use Rattle.std.specs.Prelude.{Contains}
 use Rattle.std.specs.Int.{bit_at}
 use Rattle.std.proofs.Math.Path.{fun_ext}
-use Rattle.std.proofs.lemmas.Bool.{cases_Bool, cases_eq, false_from_ne_true, true≢false, cond-true, cond-false, and_parts, leb-true, eqb-true, eq-eqb, ne_eqb}
+use Rattle.std.proofs.lemmas.Bool.{cases_Bool, cases_eq, cases_lt, false_from_ne_true, true≢false, cond-true, cond-false, and_parts, leb-true, eqb-true, eq-eqb, ne_eqb}
 use Rattle.std.proofs.lemmas.Nat.Bits.{bit_at-zero}
 use Rattle.heap_words.specs.declared.config.Config.{Config}
-use Rattle.heap_words.specs.Words.{Word, Cset, Top, Root, Answer, Heap}
+use Rattle.heap_words.specs.Words.{Word, Cset, Top, Tams, Current, Root, Answer, Black, Heap}
 use Rattle.heap_words.specs.Encoding.{is_forwarded, forwardee_in, object_words}
 use Rattle.regions.specs.Place.{region_with}
 use Rattle.shen_graph.specs.declared.name.Name.{Name}
@@ -20,10 +20,10 @@ use Rattle.full_words.specs.Serving.{AreAsking}
 use Rattle.full_words.proofs.Named.{thing_at}
 use Rattle.full_words.proofs.Reached.{words_read}
 use Rattle.full_words.proofs.Roots.{root_among, answer_among, answer_names}
-use Rattle.image_graph.specs.Holds.{HoldsBy}
+use Rattle.image_graph.specs.Holds.{HoldsBy, AreSized}
 use Rattle.cycle_words.proofs.Marking.Alike.{same_root_words, holds_alike}
-use Rattle.cycle_words.specs.Evacuation.Live.{words_at}
-use Rattle.cycle_words.specs.Evacuation.Choice.{chosen}
+use Rattle.cycle_words.specs.Evacuation.Live.{words_at, live_words, is_candidate, IsCandidate}
+use Rattle.cycle_words.specs.Evacuation.Choice.{copy_limit, chosen}
 use Rattle.cycle_words.specs.Evacuation.Copied.{copy_room, copied_out, IsCopiedOut}
 use Rattle.cycle_words.specs.Evacuation.Begun.{CanBegin, CanClear, CanClearInTurn, naming_places, IsNaming, is_collected, moved_out, cleared_at, cleared_in_turn, with_set, roots_cleared, evac_spared, evac_started, evac_begun}
 use Rattle.cycle_words.proofs.Evacuation.Naming.{copied_naming, is_later, is_first}
@@ -33,8 +33,32 @@ use Rattle.cycle_words.proofs.Evacuation.Copies.{cleared_is, spared_is}
 use Rattle.cycle_words.proofs.Evacuation.Clearing.{can_clear_in_turn}
 use Rattle.cycle_words.proofs.Evacuation.Carried.{IsRenamed}
 use Rattle.cycle_words.proofs.Evacuation.CopyHolds as copy
-use Rattle.cycle_words.proofs.Evacuation.RenamedInPlace.{root_renamed, answer_renamed}
-use Rattle.cycle_words.specs.StillHolds.{HoldsStill}
+use Rattle.cycle_words.proofs.Evacuation.RenamedInPlace.{root_renamed, root_reached, answer_renamed, answer_reached}
+use Rattle.cycle_words.specs.StillHolds.{HoldsStill, AreMarkedPieces}
+use Rattle.cycle_words.specs.Evacuation.Laws.{HoldsCollecting}
+use Rattle.cycle_words.specs.Marking.Marks.{is_black, IsKept}
+use Rattle.cycle_words.specs.Marking.WhileMarking.{IsObjectAt, CanBeReached, IsMarkedThrough}
+use Rattle.cycle_words.specs.Marking.Laws.{HasNoMoreSeats}
+use Rattle.cycle_words.proofs.Evacuation.Candidate.{candidate_is_candidate}
+use Rattle.cycle_words.proofs.Evacuation.Front.{member_is}
+use Rattle.regions.specs.Sets.{IsIn}
+use Rattle.regions.specs.Marks.{mark_word, mark_bit}
+use Rattle.heap_words.specs.Ranges.{seat_count}
+
+-- What holds of the set from one object to the next.
+pub record IsInOrder (c : Config) (m : Word → ℕ) (block : Plot) : Type 0 where
+  pub marked : AreMarkedPieces c m block
+  pub reachable : (a : ℕ) → CanBeReached c m a → IsKept c m a
+  pub no_new : (r : ℕ) → IsIn (m Cset) r → m (Top r) ≡ m (Tams r)
+  pub floors : (r : ℕ) → r < c.regions → m (Tams r) ≤ m (Top r)
+  pub unseated : (seat r : ℕ) → m (Current seat) ≡ r + 1 → IsIn (m Cset) r → ⊥
+
+-- the words hold the graph still, and what holds of the set does
+record StillSo (c : Config) (before after : Word → ℕ) (block : Plot) (owner : ℕ → Option ℕ) (p : Promises) (g : Graph) : Type 0 where
+  pieces : Plot
+  holds : HoldsBy c after pieces owner p g
+  sized : AreSized before block → AreSized after pieces
+  order : IsInOrder c before block → IsInOrder c after pieces
 
 module _ (c : Config) (m : Word → ℕ) (block : Plot) (owner : ℕ → Option ℕ) (p : Promises) (g : Graph) (holds : HoldsBy c m block owner p g) where
   abbrev top : ℕ → ℕ
@@ -44,8 +68,8 @@ module _ (c : Config) (m : Word → ℕ) (block : Plot) (owner : ℕ → Option 
   IsLed = IsLedTo (now_in m) (λ a. m (Heap a)) (IsAmong (root_words c m))
 
   -- what held stays where nothing changes
-  as_it_is : HoldsStill c m m block owner p g
-  as_it_is = record { pieces = block; holds = holds; sized = λ sized. sized }
+  as_it_is : StillSo c m m block owner p g
+  as_it_is = record { pieces = block; holds = holds; sized = λ sized. sized; order = λ order. order }
 
   -- an object of the set to which a root or an answer leads is copied out, unless it was before
   module _ (a refs nums : ℕ) (name : Name) (here : block a ≡ Some (thing name refs nums)) (led : IsLed (now_in m a)) (collected : is_collected c m a ≡ true) (can : CanClear c m a) where
@@ -65,22 +89,34 @@ module _ (c : Config) (m : Word → ℕ) (block : Plot) (owner : ℕ → Option 
       out : IsCopiedOut c m (copied_out c m a) a
       out = copies_out c m a above inside (can.room collected plain)
 
-      copied : HoldsStill c m (copied_out c m a) block owner p g
+      copied : StillSo c m (copied_out c m a) block owner p g
       copied = record {
         pieces = copy.plot c m block owner p g holds a refs nums name here inside plain size out;
         holds = copy.copied_holds c m block owner p g holds a refs nums name here inside plain size out;
         sized = copy.copied_sized c m block owner p g holds a refs nums name here inside plain size out;
+        order = λ order. record {
+          marked = λ y collected_now black_now.
+              let was_in = ap (λ k. nat_le c.region_words y && (bit_at k (region_with c y) == 1)) (sym (out.copied.others Cset (λ never. never))) ∙ collected_now in
+              let was_black = ap (λ k. nat_le c.region_words y && (bit_at k (mark_bit c y) == 1)) (sym (out.copied.others (Black (mark_word c y)) (λ never. never))) ∙ black_now in
+              let was = order.marked y was_in was_black in
+              (was.0, copy.stays c m block owner p g holds a refs nums name here inside plain size out y was.0 was.1);
+          reachable = λ y reached. copy.kept_still c m block owner p g holds a refs nums name here inside plain size out order.floors y
+              (⊎_elim (λ new. inl new) (λ old. inr (order.reachable y old)) (copy.reached_was c m block owner p g holds a refs nums name here inside plain size out y reached));
+          no_new = copy.no_new_still c m block owner p g holds a refs nums name here inside plain size out order.no_new;
+          floors = copy.floors_still c m block owner p g holds a refs nums name here inside plain size out order.floors;
+          unseated = copy.unseated_still c m block owner p g holds a refs nums name here inside plain size out order.unseated;
+        };
       }
 
       is_copied : copied_out c m a ≡ moved_out c m a
       is_copied = fun_ext (λ word. sym (cond-false (is_forwarded (m (Heap a))) (m word) (copied_out c m a word) plain))
 
-    moved : HoldsStill c m (moved_out c m a) block owner p g
+    moved : StillSo c m (moved_out c m a) block owner p g
     moved = ⊎_elim
         (λ (before : is_forwarded (m (Heap a)) ≡ true).
         let same : m ≡ moved_out c m a = fun_ext (λ word. sym (cond-true (is_forwarded (m (Heap a))) (m word) (copied_out c m a word) before)) in
-        subst (λ n. HoldsStill c m n block owner p g) same as_it_is)
-        (λ (plain : is_forwarded (m (Heap a)) ≡ false). subst (λ n. HoldsStill c m n block owner p g) (is_copied plain) (copied plain))
+        subst (λ n. StillSo c m n block owner p g) same as_it_is)
+        (λ (plain : is_forwarded (m (Heap a)) ≡ false). subst (λ n. StillSo c m n block owner p g) (is_copied plain) (copied plain))
         (cases_Bool (is_forwarded (m (Heap a))))
 
     -- a word that names objects is as it was
@@ -101,7 +137,7 @@ module _ (c : Config) (m : Word → ℕ) (block : Plot) (owner : ℕ → Option 
         }
 
   -- a root is cleared
-  root_cleared : (t i : ℕ) → t < c.mutators → i < 16 → CanClear c m (m (Root t i)) → is_collected c m (m (Root t i)) ≡ true → HoldsStill c m (cleared_at c m (Root t i)) block owner p g
+  root_cleared : (t i : ℕ) → t < c.mutators → i < 16 → CanClear c m (m (Root t i)) → is_collected c m (m (Root t i)) ≡ true → StillSo c m (cleared_at c m (Root t i)) block owner p g
   root_cleared t i within few can collected =
       let least = leb-true c.region_words (m (Root t i)) (and_parts (nat_le c.region_words (m (Root t i))) (bit_at (m Cset) (region_with c (m (Root t i))) == 1) collected).0 in
       let some : m (Root t i) ≢ 0 = λ none. (let long = c.in_range.least_words in omega (arith, none, least, long)) in
@@ -109,16 +145,27 @@ module _ (c : Config) (m : Word → ℕ) (block : Plot) (owner : ℕ → Option 
       let at = thing_at block holds.things (m (Root t i)) named.0 named.2 in
       let led : IsLed (now_in m (m (Root t i))) = from_root (m (Root t i)) (root_among c top m block g p holds.objects.plotted holds.rooted t i within few) some in
       let out = moved (m (Root t i)) at.0 at.1 named.0 at.2 led collected can in
-      subst (λ n. HoldsStill c m n block owner p g) (sym (cleared_is c m (Root t i) collected))
+      subst (λ n. StillSo c m n block owner p g) (sym (cleared_is c m (Root t i) collected))
       (record {
         pieces = out.pieces;
         holds = root_renamed c (moved_out c m (m (Root t i))) out.pieces owner p g out.holds (now_in (moved_out c m (m (Root t i))) (m (Root t i))) t i
             (renamed (m (Root t i)) at.0 at.1 named.0 at.2 led collected can (Root t i) tt refl);
         sized = λ sized b x is. out.sized sized b x is;
+        order = λ order.
+            let next = out.order order in
+            record {
+              marked = next.marked;
+              reachable = λ y reached. next.reachable y
+                  (root_reached c (moved_out c m (m (Root t i))) out.pieces owner p g out.holds (now_in (moved_out c m (m (Root t i))) (m (Root t i))) t i
+                  (renamed (m (Root t i)) at.0 at.1 named.0 at.2 led collected can (Root t i) tt refl) y reached);
+              no_new = next.no_new;
+              floors = next.floors;
+              unseated = next.unseated;
+            };
       })
 
   -- an answer is cleared
-  answer_cleared : (t : ℕ) → t < c.mutators → CanClear c m (m (Answer t)) → is_collected c m (m (Answer t)) ≡ true → HoldsStill c m (cleared_at c m (Answer t)) block owner p g
+  answer_cleared : (t : ℕ) → t < c.mutators → CanClear c m (m (Answer t)) → is_collected c m (m (Answer t)) ≡ true → StillSo c m (cleared_at c m (Answer t)) block owner p g
   answer_cleared t within can collected =
       let least = leb-true c.region_words (m (Answer t)) (and_parts (nat_le c.region_words (m (Answer t))) (bit_at (m Cset) (region_with c (m (Answer t))) == 1) collected).0 in
       let big : 1 < m (Answer t) = (let long = c.in_range.least_words in omega (arith, least, long)) in
@@ -126,18 +173,29 @@ module _ (c : Config) (m : Word → ℕ) (block : Plot) (owner : ℕ → Option 
       let at = thing_at block holds.things (m (Answer t)) named.0 named.2 in
       let led : IsLed (now_in m (m (Answer t))) = from_root (m (Answer t)) (answer_among c top m block g p holds.objects.plotted holds.rooted t within big) (λ none. omega (arith, none, big)) in
       let out = moved (m (Answer t)) at.0 at.1 named.0 at.2 led collected can in
-      subst (λ n. HoldsStill c m n block owner p g) (sym (cleared_is c m (Answer t) collected))
+      subst (λ n. StillSo c m n block owner p g) (sym (cleared_is c m (Answer t) collected))
       (record {
         pieces = out.pieces;
         holds = answer_renamed c (moved_out c m (m (Answer t))) out.pieces owner p g out.holds (now_in (moved_out c m (m (Answer t))) (m (Answer t))) t
             (renamed (m (Answer t)) at.0 at.1 named.0 at.2 led collected can (Answer t) tt refl);
         sized = λ sized b x is. out.sized sized b x is;
+        order = λ order.
+            let next = out.order order in
+            record {
+              marked = next.marked;
+              reachable = λ y reached. next.reachable y
+                  (answer_reached c (moved_out c m (m (Answer t))) out.pieces owner p g out.holds (now_in (moved_out c m (m (Answer t))) (m (Answer t))) t
+                  (renamed (m (Answer t)) at.0 at.1 named.0 at.2 led collected can (Answer t) tt refl) y reached);
+              no_new = next.no_new;
+              floors = next.floors;
+              unseated = next.unseated;
+            };
       })
 
-  spared : (place : Word) → is_collected c m (m place) ≡ false → HoldsStill c m (cleared_at c m place) block owner p g
-  spared place outside = subst (λ n. HoldsStill c m n block owner p g) (sym (spared_is c m place outside)) as_it_is
+  spared : (place : Word) → is_collected c m (m place) ≡ false → StillSo c m (cleared_at c m place) block owner p g
+  spared place outside = subst (λ n. StillSo c m n block owner p g) (sym (spared_is c m place outside)) as_it_is
 
-  place_cleared : (place : Word) → IsPlace c place → CanClear c m (m place) → HoldsStill c m (cleared_at c m place) block owner p g
+  place_cleared : (place : Word) → IsPlace c place → CanClear c m (m place) → StillSo c m (cleared_at c m place) block owner p g
   place_cleared (Root t i) at can = ⊎_elim
       (λ (collected : is_collected c m (m (Root t i)) ≡ true). root_cleared t i at.0 at.1 can collected)
       (λ (outside : is_collected c m (m (Root t i)) ≡ false). spared (Root t i) outside)
@@ -151,13 +209,13 @@ module _ (c : Config) (m : Word → ℕ) (block : Plot) (owner : ℕ → Option 
 -- All places are cleared, one after the other.
 all_cleared : (c : Config) (owner : ℕ → Option ℕ) (p : Promises) (g : Graph) (places : List Word) (m : Word → ℕ) (block : Plot)
     → ((place : Word) → Contains places place → IsPlace c place) → HoldsBy c m block owner p g → CanClearInTurn c m places
-    → HoldsStill c m (cleared_in_turn c m places) block owner p g
+    → StillSo c m (cleared_in_turn c m places) block owner p g
 unfolding cleared_in_turn CanClearInTurn
-all_cleared c owner p g [] m block are holds can = record { pieces = block; holds = holds; sized = λ sized. sized }
+all_cleared c owner p g [] m block are holds can = record { pieces = block; holds = holds; sized = λ sized. sized; order = λ order. order }
 all_cleared c owner p g (place ∷ places) m block are holds can =
     let next = place_cleared c m block owner p g holds place (are place (is_first place places)) can.0 in
     let rest = all_cleared c owner p g places (cleared_at c m place) next.pieces (λ q has. are q (is_later place places q has)) next.holds can.1 in
-    record { pieces = rest.pieces; holds = rest.holds; sized = λ sized. rest.sized (next.sized sized) }
+    record { pieces = rest.pieces; holds = rest.holds; sized = λ sized. rest.sized (next.sized sized); order = λ order. rest.order (next.order order) }
 
 -- A collection set may be stored where no object has moved.
 module _ (c : Config) (m : Word → ℕ) (block : Plot) (owner : ℕ → Option ℕ) (p : Promises) (g : Graph) (holds : HoldsBy c m block owner p g)
@@ -200,17 +258,20 @@ module _ (c : Config) (m : Word → ℕ) (block : Plot) (owner : ℕ → Option 
   set_holds : HoldsBy c with block owner p g
   set_holds = set_stored_holds c m block owner p g holds unmoved set
 
-  begun_some : HoldsStill c m (evac_started (roots_cleared c m set)) block owner p g
-  begun_some =
-      let all = all_cleared c owner p g (naming_places c) with block (are_places c) set_holds (can_clear_in_turn c m can) in
-      let cleared : Word → ℕ = roots_cleared c m set in
-      record {
-        pieces = all.pieces;
-        holds = holds_alike cleared (evac_started cleared)
-            (record { heap = λ a. refl; top = λ r. refl; root = λ t i. refl; answer = λ t. refl; wait = λ t. refl; current = λ s. refl; free = refl; cset = refl })
-            c all.pieces owner p g all.holds;
-        sized = λ sized b x is. all.sized (λ q z here. sized q z here) b x is;
-      }
+  abbrev cleared : Word → ℕ
+  cleared = roots_cleared c m set
+
+  all : StillSo c with cleared block owner p g
+  all = all_cleared c owner p g (naming_places c) with block (are_places c) set_holds (can_clear_in_turn c m can)
+
+  begun_some : HoldsStill c m (evac_started cleared) block owner p g
+  begun_some = record {
+    pieces = all.pieces;
+    holds = holds_alike cleared (evac_started cleared)
+        (record { heap = λ a. refl; top = λ r. refl; root = λ t i. refl; answer = λ t. refl; wait = λ t. refl; current = λ s. refl; free = refl; cset = refl })
+        c all.pieces owner p g all.holds;
+    sized = λ sized b x is. all.sized (λ q z here. sized q z here) b x is;
+  }
 
   begun_none : HoldsStill c m (evac_spared m) block owner p g
   begun_none = record {
@@ -221,13 +282,79 @@ module _ (c : Config) (m : Word → ℕ) (block : Plot) (owner : ℕ → Option 
     sized = λ sized b x is. sized b x is;
   }
 
+  none_is : set ≡ 0 → evac_spared m ≡ evac_begun c m set
+  none_is none = fun_ext (λ word. sym (cond-true (set == 0) (evac_spared m word) (evac_started cleared word) (eq-eqb set 0 none)))
+
+  some_is : set ≢ 0 → evac_started cleared ≡ evac_begun c m set
+  some_is some = fun_ext (λ word. sym (cond-false (set == 0) (evac_spared m word) (evac_started cleared word) (ne_eqb set 0 some)))
+
   pub begun_holds : HoldsStill c m (evac_begun c m set) block owner p g
   begun_holds = ⊎_elim
-      (λ (none : set ≡ 0).
-      let same : evac_spared m ≡ evac_begun c m set = fun_ext (λ word. sym (cond-true (set == 0) (evac_spared m word) (evac_started (roots_cleared c m set) word) (eq-eqb set 0 none))) in
-      subst (λ n. HoldsStill c m n block owner p g) same begun_none)
-      (λ (some : set ≢ 0).
-      let same : evac_started (roots_cleared c m set) ≡ evac_begun c m set =
-      fun_ext (λ word. sym (cond-false (set == 0) (evac_spared m word) (evac_started (roots_cleared c m set) word) (ne_eqb set 0 some))) in
-      subst (λ n. HoldsStill c m n block owner p g) same begun_some)
+      (λ (none : set ≡ 0). subst (λ n. HoldsStill c m n block owner p g) (none_is none) begun_none)
+      (λ (some : set ≢ 0). subst (λ n. HoldsStill c m n block owner p g) (some_is some) begun_some)
       (cases_eq set 0)
+
+  -- Where marking has ended, what finishing a cycle asks for holds then.
+  module _ (sized : AreSized m block) (through : IsMarkedThrough c m block) (marked : (a : ℕ) → is_black c m a ≡ true → IsObjectAt m block a)
+      (floors : (r : ℕ) → r < c.regions → m (Tams r) ≤ m (Top r)) (seats : HasNoMoreSeats c m) where
+    chosen_is : (r : ℕ) → IsIn set r → IsCandidate c m r
+    chosen_is r member = (candidate_is_candidate c m r).0 (member_is c.regions (copy_limit c m) (live_words c m) (is_candidate c m) r member).1
+
+    -- reaching goes by roots, answers and the heap
+    reached_same : (n w : Word → ℕ) → root_words c n ≡ root_words c w → ((a : ℕ) → n (Heap a) ≡ w (Heap a)) → (a : ℕ) → CanBeReached c n a → CanBeReached c w a
+    reached_same n w roots heap a =
+        subst (λ xs. IsLedTo (now_in n) (λ y. n (Heap y)) (IsAmong xs) a → CanBeReached c w a) (sym roots)
+        (subst (λ (f : ℕ → ℕ). IsLedTo (λ y. if is_forwarded (f y) then forwardee_in (f y) else y) f (IsAmong (root_words c w)) a → CanBeReached c w a) (sym (fun_ext heap)) (λ reached. reached))
+
+    order_first : IsInOrder c with block
+    order_first = record {
+      marked = λ a collected black. let is = marked a black in (thing is.name is.refs is.nums, is.here);
+      reachable = λ a reached. through.reachable a (reached_same with m (same_root_words m with (λ t i. refl) (λ t. refl) c) (λ y. refl) a reached);
+      no_new = λ r member. (chosen_is r member).no_new;
+      floors = floors;
+      unseated = λ seat r is member. ⊎_elim
+          (λ (below : seat < seat_count c.mutators c.helpers). (chosen_is r member).nobodys (seat, below, is))
+          (λ (past : seat_count c.mutators c.helpers ≤ seat). (let none = seats seat past in omega (arith, is, none)))
+          (cases_lt seat (seat_count c.mutators c.helpers));
+    }
+
+    collecting_some : HoldsCollecting c (evac_started cleared) owner p g
+    unfolding begun_some
+    collecting_some =
+        let order = all.order order_first in
+        record {
+          pieces = all.pieces;
+          holds = begun_some.holds;
+          sized = begun_some.sized sized;
+          collecting = record {
+            marked = order.marked;
+            reachable = λ some a reached. order.reachable a
+                (reached_same (evac_started cleared) cleared (same_root_words cleared (evac_started cleared) (λ t i. refl) (λ t. refl) c) (λ y. refl) a reached);
+            no_new = order.no_new;
+            floors = λ some. order.floors;
+            unseated = order.unseated;
+            outside = λ off. absurd (off refl);
+          };
+        }
+
+    collecting_none : HoldsCollecting c (evac_spared m) owner p g
+    unfolding begun_none
+    collecting_none = record {
+      pieces = block;
+      holds = begun_none.holds;
+      sized = begun_none.sized sized;
+      collecting = record {
+        marked = λ a collected black. let is = marked a black in (thing is.name is.refs is.nums, is.here);
+        reachable = λ some. absurd (some refl);
+        no_new = λ r member. absurd (let none = bit_at-zero r in omega (arith, member, none));
+        floors = λ some. absurd (some refl);
+        unseated = λ seat r is member. (let none = bit_at-zero r in omega (arith, member, none));
+        outside = λ off a reached member. (let none = bit_at-zero (region_with c a) in omega (arith, member, none));
+      };
+    }
+
+    pub begun_collecting : HoldsCollecting c (evac_begun c m set) owner p g
+    begun_collecting = ⊎_elim
+        (λ (none : set ≡ 0). subst (λ n. HoldsCollecting c n owner p g) (none_is none) collecting_none)
+        (λ (some : set ≢ 0). subst (λ n. HoldsCollecting c n owner p g) (some_is some) collecting_some)
+        (cases_eq set 0)

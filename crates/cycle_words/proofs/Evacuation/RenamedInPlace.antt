@@ -87,8 +87,8 @@ module _ (c : Config) (m n : Word → ℕ) (block : Plot) (owner : ℕ → Optio
 
 -- A root is renamed, or an answer.
 module _ (c : Config) (m : Word → ℕ) (block : Plot) (owner : ℕ → Option ℕ) (p : Promises) (g : Graph) (holds : HoldsBy c m block owner p g) (v : ℕ) where
-  pub root_renamed : (t i : ℕ) → IsRenamed m (m (Root t i)) v → HoldsBy c (write m (Root t i) v) block owner p g
-  root_renamed t i renamed = renamed_holds c m (write m (Root t i) v) block owner p g holds (record {
+  root_renaming : (t i : ℕ) → IsRenamed m (m (Root t i)) v → IsRenaming c m (write m (Root t i) v) block
+  root_renaming t i renamed = record {
     headers = λ a refs nums name here. refl;
     words = λ a k refs nums name here reads below other. refl;
     fields = λ a j refs nums name here few. not_renamed m (m (Heap (a + 3 + j))) (m (Heap (a + 3 + j))) refl;
@@ -105,10 +105,16 @@ module _ (c : Config) (m : Word → ℕ) (block : Plot) (owner : ℕ → Option 
     free = refl;
     cset = refl;
     currents = λ s. refl;
-  })
+  }
 
-  pub answer_renamed : (t : ℕ) → IsRenamed m (m (Answer t)) v → HoldsBy c (write m (Answer t) v) block owner p g
-  answer_renamed t renamed = renamed_holds c m (write m (Answer t) v) block owner p g holds (record {
+  pub root_renamed : (t i : ℕ) → IsRenamed m (m (Root t i)) v → HoldsBy c (write m (Root t i) v) block owner p g
+  root_renamed t i renamed = renamed_holds c m (write m (Root t i) v) block owner p g holds (root_renaming t i renamed)
+
+  pub root_reached : (t i : ℕ) → IsRenamed m (m (Root t i)) v → (x : ℕ) → CanBeReached c (write m (Root t i) v) x → CanBeReached c m x
+  root_reached t i renamed = reached_was c m (write m (Root t i) v) block owner p g holds (root_renaming t i renamed)
+
+  answer_renaming : (t : ℕ) → IsRenamed m (m (Answer t)) v → IsRenaming c m (write m (Answer t) v) block
+  answer_renaming t renamed = record {
     headers = λ a refs nums name here. refl;
     words = λ a k refs nums name here reads below other. refl;
     fields = λ a j refs nums name here few. not_renamed m (m (Heap (a + 3 + j))) (m (Heap (a + 3 + j))) refl;
@@ -124,4 +130,10 @@ module _ (c : Config) (m : Word → ℕ) (block : Plot) (owner : ℕ → Option 
     free = refl;
     cset = refl;
     currents = λ s. refl;
-  })
+  }
+
+  pub answer_renamed : (t : ℕ) → IsRenamed m (m (Answer t)) v → HoldsBy c (write m (Answer t) v) block owner p g
+  answer_renamed t renamed = renamed_holds c m (write m (Answer t) v) block owner p g holds (answer_renaming t renamed)
+
+  pub answer_reached : (t : ℕ) → IsRenamed m (m (Answer t)) v → (x : ℕ) → CanBeReached c (write m (Answer t) v) x → CanBeReached c m x
+  answer_reached t renamed = reached_was c m (write m (Answer t) v) block owner p g holds (answer_renaming t renamed)

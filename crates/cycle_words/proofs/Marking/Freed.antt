@@ -31,7 +31,7 @@ use Rattle.cycle_words.proofs.Marking.Bits.{one, bits_small, bits_at}
 use Rattle.cycle_words.proofs.Marking.Plain.{below_top, root_reached, field_reached}
 
 -- an optional value that is left where a test is not true
-some_left : {A : Type 0} (b : Bool) (o : Option A) (x : A) → cond b None o ≡ Some x → (b ≡ false) × (o ≡ Some x)
+pub some_left : {A : Type 0} (b : Bool) (o : Option A) (x : A) → cond b None o ≡ Some x → (b ≡ false) × (o ≡ Some x)
 some_left true o x is = absurd (none-some x is)
 some_left false o x is = (refl, is)
 

@@ -10,7 +10,7 @@ use Rattle.full_words.specs.Promised.{Promises}
 use Rattle.image_graph.specs.Holds.{HoldsBy, AreSized}
 use Rattle.cycle_words.specs.Marking.Marks.{is_black}
 use Rattle.cycle_words.specs.Marking.WhileMarking.{IsObjectAt, CanBeReached, IsMarking, IsMarkedThrough}
-use Rattle.cycle_words.specs.Marking.Final.{final_marked}
+use Rattle.cycle_words.specs.Marking.Final.{dead_in, freed_owner, final_marked}
 use Rattle.cycle_words.specs.Marking.Laws.{HasNoMoreSeats}
 use Rattle.regions.specs.Place.{base_of, region_with}
 use Rattle.regions.specs.Sets.{IsIn}
@@ -19,7 +19,8 @@ use Rattle.cycle_words.specs.Evacuation.Front.{FrontsAreTaken}
 use Rattle.cycle_words.specs.Evacuation.Choice.{IsChoice, chosen}
 use Rattle.cycle_words.specs.Evacuation.Copying.{AreToCopy, FindsRoom}
 use Rattle.cycle_words.specs.Evacuation.Copied.{CanCopyOut, copy_room, copied_out, copied_by, IsCopiedOut}
-use Rattle.cycle_words.specs.Evacuation.Begun.{with_set, roots_cleared, FreeAreEmpty, CanBegin, AreCleared}
+use Rattle.cycle_words.specs.Evacuation.Begun.{with_set, roots_cleared, evac_begun, FreeAreEmpty, CanBegin, AreCleared}
+use Rattle.cycle_words.specs.StillHolds.{WhileCollecting}
 
 -- The test of a candidate says what it is to be one.
 abbrev pub CandidateIsCandidate : Type 0
@@ -101,3 +102,16 @@ ReachableAreLive c memory set = (block : Plot) (owner : ℕ → Option ℕ) (p :
 -- So it is in the regions that are chosen, as nothing new is there.
 abbrev pub ChosenAreLive : Type 0
 ChosenAreLive = (c : Config) (memory : Word → ℕ) → ReachableAreLive c memory (chosen c memory)
+
+-- The words hold the graph, each piece says how many words it has, and what finishing a cycle asks for holds.
+pub record HoldsCollecting (c : Config) (memory : Word → ℕ) (owner : ℕ → Option ℕ) (p : Promises) (g : Graph) : Type 0 where
+  pub pieces : Plot
+  pub holds : HoldsBy c memory pieces owner p g
+  pub sized : AreSized memory pieces
+  pub collecting : WhileCollecting c memory pieces
+
+-- So it is once marking was ended and evacuation begun, by the one call and then the other.
+abbrev pub EvacuationCollects : Type 0
+EvacuationCollects = (c : Config) (memory : Word → ℕ) (block : Plot) (owner : ℕ → Option ℕ) (p : Promises) (g : Graph) → HoldsBy c memory block owner p g → AreSized memory block
+    → IsMarking c memory block → HasNoMoreSeats c memory
+    → HoldsCollecting c (evac_begun c (final_marked c memory) (chosen c (final_marked c memory))) (freed_owner (dead_in c memory) owner) p g
