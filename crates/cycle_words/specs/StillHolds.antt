@@ -32,7 +32,7 @@ abbrev pub BeginningHolds : Config → (before after : Word → ℕ) → Type 0
 BeginningHolds c before after = (block : Plot) (owner : ℕ → Option ℕ) (p : Promises) (g : Graph) → HoldsBy c before block owner p g → before Cset ≡ 0
     → HoldsStill c before after block owner p g
 
--- .. and once all references were updated, in the same way.
+-- .. once all references were updated, in the same way, ..
 pub record HoldsUpdated (c : Config) (after : Word → ℕ) (block : Plot) (owner : ℕ → Option ℕ) (p : Promises) (g : Graph) : Type 0 where
   pub holds : HoldsBy c after block owner p g
   pub sized : AreSized after block
@@ -41,11 +41,7 @@ abbrev pub UpdatingHolds : Config → (before after : Word → ℕ) → Type 0
 UpdatingHolds c before after = (block : Plot) (owner : ℕ → Option ℕ) (p : Promises) (g : Graph) → HoldsBy c before block owner p g → AreSized before block
     → HoldsUpdated c after block owner p g
 
--- What is marked in the collection set are pieces.
-abbrev pub AreMarkedPieces : Config → (Word → ℕ) → Plot → Type 0
-AreMarkedPieces c memory block = (a : ℕ) → is_collected c memory a ≡ true → is_black c memory a ≡ true → (b : Block) × (block a ≡ Some b)
-
--- They hold it in the same way where the updating of references begins, ..
+-- .. where the updating of references begins, in the same way, ..
 abbrev pub LimitsHold : Config → (before after : Word → ℕ) → Type 0
 LimitsHold c before after = (block : Plot) (owner : ℕ → Option ℕ) (p : Promises) (g : Graph) → HoldsBy c before block owner p g → HoldsBy c after block owner p g
 
@@ -60,6 +56,10 @@ pub record NothingNames (c : Config) (memory : Word → ℕ) : Type 0 where
 -- .. and in some way once the set was freed, where nothing names it.
 abbrev pub EndingHolds : Config → (before after : Word → ℕ) → Type 0
 EndingHolds c before after = (block : Plot) (owner : ℕ → Option ℕ) (p : Promises) (g : Graph) → HoldsBy c before block owner p g → NothingNames c before → Holds c after g
+
+-- What is marked in the collection set are pieces.
+abbrev pub AreMarkedPieces : Config → (Word → ℕ) → Plot → Type 0
+AreMarkedPieces c memory block = (a : ℕ) → is_collected c memory a ≡ true → is_black c memory a ≡ true → (b : Block) × (block a ≡ Some b)
 
 -- While a region is in the collection set: what is marked there are pieces; each object that can be reached is kept; nothing was allocated
 -- in the set since marking began, and it is nobody's; and once objects are not evacuated any more nothing that can be reached lies there.

@@ -1,12 +1,12 @@
 -- Evacuation begins: words that held a graph hold it once roots and answers were cleared of the collection set.
-use Rattle.std.proofs.Common.{◌≡◌, ◌≢◌, ℕ, ◌+◌, ◌<◌, ◌≤◌, ◌==◌, ◌&&◌, if◌then◌else◌, nat_le, true, false, List, [], ◌∷◌, Option, Some, inl, inr, refl, sym, ap, ◌∙◌, subst, ⊎_elim, arith}
+use Rattle.std.proofs.Common.{◌≡◌, ◌≢◌, ℕ, ◌+◌, ◌<◌, ◌≤◌, ◌==◌, if◌then◌else◌, nat_le, true, false, List, [], ◌∷◌, Option, Some, inr, refl, sym, ap, ◌∙◌, subst, ⊎_elim, arith}
 use Rattle.std.specs.Prelude.{Contains}
 use Rattle.std.specs.Int.{bit_at}
 use Rattle.std.proofs.Math.Path.{fun_ext}
 use Rattle.std.proofs.lemmas.Bool.{cases_Bool, cases_eq, cases_lt, false_from_ne_true, true≢false, cond-true, cond-false, and_parts, leb-true, eqb-true, eq-eqb, ne_eqb}
 use Rattle.std.proofs.lemmas.Nat.Bits.{bit_at-zero}
 use Rattle.heap_words.specs.declared.config.Config.{Config}
-use Rattle.heap_words.specs.Words.{Word, Cset, Top, Tams, Current, Root, Answer, Black, Heap}
+use Rattle.heap_words.specs.Words.{Word, Cset, Top, Tams, Root, Answer, Heap}
 use Rattle.heap_words.specs.Encoding.{is_forwarded, forwardee_in, object_words}
 use Rattle.regions.specs.Place.{region_with}
 use Rattle.shen_graph.specs.declared.name.Name.{Name}
@@ -33,25 +33,17 @@ use Rattle.cycle_words.proofs.Evacuation.Copies.{cleared_is, spared_is}
 use Rattle.cycle_words.proofs.Evacuation.Clearing.{can_clear_in_turn}
 use Rattle.cycle_words.proofs.Evacuation.Carried.{IsRenamed}
 use Rattle.cycle_words.proofs.Evacuation.CopyHolds as copy
+use Rattle.cycle_words.proofs.Evacuation.CopyHolds.{IsInOrder}
 use Rattle.cycle_words.proofs.Evacuation.RenamedInPlace.{root_renamed, root_reached, answer_renamed, answer_reached}
-use Rattle.cycle_words.specs.StillHolds.{HoldsStill, AreMarkedPieces}
+use Rattle.cycle_words.specs.StillHolds.{HoldsStill}
 use Rattle.cycle_words.specs.Evacuation.Laws.{HoldsCollecting}
-use Rattle.cycle_words.specs.Marking.Marks.{is_black, IsKept}
+use Rattle.cycle_words.specs.Marking.Marks.{is_black}
 use Rattle.cycle_words.specs.Marking.WhileMarking.{IsObjectAt, CanBeReached, IsMarkedThrough}
 use Rattle.cycle_words.specs.Marking.Laws.{HasNoMoreSeats}
 use Rattle.cycle_words.proofs.Evacuation.Candidate.{candidate_is_candidate}
 use Rattle.cycle_words.proofs.Evacuation.Front.{member_is}
 use Rattle.regions.specs.Sets.{IsIn}
-use Rattle.regions.specs.Marks.{mark_word, mark_bit}
 use Rattle.heap_words.specs.Ranges.{seat_count}
-
--- What holds of the set from one object to the next.
-pub record IsInOrder (c : Config) (m : Word → ℕ) (block : Plot) : Type 0 where
-  pub marked : AreMarkedPieces c m block
-  pub reachable : (a : ℕ) → CanBeReached c m a → IsKept c m a
-  pub no_new : (r : ℕ) → IsIn (m Cset) r → m (Top r) ≡ m (Tams r)
-  pub floors : (r : ℕ) → r < c.regions → m (Tams r) ≤ m (Top r)
-  pub unseated : (seat r : ℕ) → m (Current seat) ≡ r + 1 → IsIn (m Cset) r → ⊥
 
 -- the words hold the graph still, and what holds of the set does
 record StillSo (c : Config) (before after : Word → ℕ) (block : Plot) (owner : ℕ → Option ℕ) (p : Promises) (g : Graph) : Type 0 where
@@ -94,18 +86,7 @@ module _ (c : Config) (m : Word → ℕ) (block : Plot) (owner : ℕ → Option 
         pieces = copy.plot c m block owner p g holds a refs nums name here inside plain size out;
         holds = copy.copied_holds c m block owner p g holds a refs nums name here inside plain size out;
         sized = copy.copied_sized c m block owner p g holds a refs nums name here inside plain size out;
-        order = λ order. record {
-          marked = λ y collected_now black_now.
-              let was_in = ap (λ k. nat_le c.region_words y && (bit_at k (region_with c y) == 1)) (sym (out.copied.others Cset (λ never. never))) ∙ collected_now in
-              let was_black = ap (λ k. nat_le c.region_words y && (bit_at k (mark_bit c y) == 1)) (sym (out.copied.others (Black (mark_word c y)) (λ never. never))) ∙ black_now in
-              let was = order.marked y was_in was_black in
-              (was.0, copy.stays c m block owner p g holds a refs nums name here inside plain size out y was.0 was.1);
-          reachable = λ y reached. copy.kept_still c m block owner p g holds a refs nums name here inside plain size out order.floors y
-              (⊎_elim (λ new. inl new) (λ old. inr (order.reachable y old)) (copy.reached_was c m block owner p g holds a refs nums name here inside plain size out y reached));
-          no_new = copy.no_new_still c m block owner p g holds a refs nums name here inside plain size out order.no_new;
-          floors = copy.floors_still c m block owner p g holds a refs nums name here inside plain size out order.floors;
-          unseated = copy.unseated_still c m block owner p g holds a refs nums name here inside plain size out order.unseated;
-        };
+        order = copy.order_still c m block owner p g holds a refs nums name here inside plain size out;
       }
 
       is_copied : copied_out c m a ≡ moved_out c m a

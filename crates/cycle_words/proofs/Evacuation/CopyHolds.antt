@@ -30,9 +30,19 @@ use Rattle.cycle_words.specs.Marking.Marks.{is_black, IsNew, IsKept}
 use Rattle.cycle_words.specs.Marking.WhileMarking.{CanBeReached}
 use Rattle.cycle_words.specs.Evacuation.Live.{words_at}
 use Rattle.cycle_words.specs.Evacuation.Copied.{MayChange, top_address, copied_to, copied_out, IsCopiedOut}
+use Rattle.cycle_words.specs.Evacuation.Begun.{is_collected}
+use Rattle.cycle_words.specs.StillHolds.{AreMarkedPieces}
 use Rattle.cycle_words.proofs.Evacuation.CopiedOut.{copied_as}
 use Rattle.cycle_words.proofs.Evacuation.Copies.{header_forwarded, now_is, now_same}
 use Rattle.cycle_words.proofs.Evacuation.Carried.{not_renamed, IsCarried, led_comes, carried_holds}
+
+-- What holds of the collection set from one object to the next.
+pub record IsInOrder (c : Config) (m : Word → ℕ) (block : Plot) : Type 0 where
+  pub marked : AreMarkedPieces c m block
+  pub reachable : (a : ℕ) → CanBeReached c m a → IsKept c m a
+  pub no_new : (r : ℕ) → IsIn (m Cset) r → m (Top r) ≡ m (Tams r)
+  pub floors : (r : ℕ) → r < c.regions → m (Tams r) ≤ m (Top r)
+  pub unseated : (seat r : ℕ) → m (Current seat) ≡ r + 1 → IsIn (m Cset) r → ⊥
 
 module _ (c : Config) (m : Word → ℕ) (block : Plot) (owner : ℕ → Option ℕ) (p : Promises) (g : Graph) (holds : HoldsBy c m block owner p g)
     (a refs nums : ℕ) (name : Name) (here : block a ≡ Some (thing name refs nums)) (inside : IsCollected c (m Cset) a) (plain : is_forwarded (m (Heap a)) ≡ false)
@@ -333,7 +343,7 @@ module _ (c : Config) (m : Word → ℕ) (block : Plot) (owner : ℕ → Option 
       (cases q z is)
 
   -- what can be reached is the copy, or could be reached
-  pub reached_was : (y : ℕ) → CanBeReached c n y → (y ≡ to) ⊎ CanBeReached c m y
+  reached_was : (y : ℕ) → CanBeReached c n y → (y ≡ to) ⊎ CanBeReached c m y
   reached_was y reached = ⊎_elim
       (λ (new : y ≡ to). inl new)
       (λ (old : y ≢ to).
@@ -341,23 +351,25 @@ module _ (c : Config) (m : Word → ℕ) (block : Plot) (owner : ℕ → Option 
       inr (subst (CanBeReached c m) (origin_else y old) from.led))
       (cases_eq y to)
 
+  pub black_same : (y : ℕ) → is_black c n y ≡ is_black c m y
+  black_same y = ap (λ k. nat_le c.region_words y && (bit_at k (mark_bit c y) == 1)) (word_same (Black (mark_word c y)) (λ never. never))
+
   -- and is kept still, for the copy is new
-  pub kept_still : ((q : ℕ) → q < c.regions → m (Tams q) ≤ m (Top q)) → (y : ℕ) → (y ≡ to) ⊎ IsKept c m y → IsKept c n y
+  kept_still : ((q : ℕ) → q < c.regions → m (Tams q) ≤ m (Top q)) → (y : ℕ) → (y ≡ to) ⊎ IsKept c m y → IsKept c n y
   kept_still floors y is = ⊎_elim
       (λ (new : y ≡ to).
       let floor = floors r out.below in
       let same : n (Tams r) ≡ m (Tams r) = word_same (Tams r) (λ never. never) in
       inr (subst (IsNew c n) (sym new) (subst (λ q. n (Tams q) ≤ to - base_of c q) (sym region_is) (omega (arith, floor, same)))))
       (λ (old : IsKept c m y). ⊎_elim
-      (λ (black : is_black c m y ≡ true).
-      inl (ap (λ k. nat_le c.region_words y && (bit_at k (mark_bit c y) == 1)) (word_same (Black (mark_word c y)) (λ never. never)) ∙ black))
+      (λ (black : is_black c m y ≡ true). inl (black_same y ∙ black))
       (λ (fresh : IsNew c m y).
       inr (let same : n (Tams (region_with c y)) ≡ m (Tams (region_with c y)) = word_same (Tams (region_with c y)) (λ never. never) in omega (arith, fresh, same)))
       old)
       is
 
   -- tops grow outside of the set alone
-  pub floors_still : ((q : ℕ) → q < c.regions → m (Tams q) ≤ m (Top q)) → (q : ℕ) → q < c.regions → n (Tams q) ≤ n (Top q)
+  floors_still : ((q : ℕ) → q < c.regions → m (Tams q) ≤ m (Top q)) → (q : ℕ) → q < c.regions → n (Tams q) ≤ n (Top q)
   floors_still floors q below =
       let tams : n (Tams q) ≡ m (Tams q) = word_same (Tams q) (λ never. never) in
       let floor = floors q below in
@@ -366,13 +378,13 @@ module _ (c : Config) (m : Word → ℕ) (block : Plot) (owner : ℕ → Option 
       (λ (other : q ≢ r). (let stays = top_same q other in omega (arith, floor, stays, tams)))
       (cases_eq q r)
 
-  pub no_new_still : ((q : ℕ) → IsIn (m Cset) q → m (Top q) ≡ m (Tams q)) → (q : ℕ) → IsIn (n Cset) q → n (Top q) ≡ n (Tams q)
+  no_new_still : ((q : ℕ) → IsIn (m Cset) q → m (Top q) ≡ m (Tams q)) → (q : ℕ) → IsIn (n Cset) q → n (Top q) ≡ n (Tams q)
   no_new_still no_new q is =
       let was : IsIn (m Cset) q = subst (λ s. IsIn s q) set_same is in
       let other : q ≢ r = λ same. (let there : bit_at (m Cset) r ≡ 1 = subst (IsIn (m Cset)) same was in let away = out.outside in omega (arith, there, away)) in
       top_same q other ∙ no_new q was ∙ sym (word_same (Tams q) (λ never. never))
 
-  pub unseated_still : ((seat q : ℕ) → m (Current seat) ≡ q + 1 → IsIn (m Cset) q → ⊥) → (seat q : ℕ) → n (Current seat) ≡ q + 1 → IsIn (n Cset) q → ⊥
+  unseated_still : ((seat q : ℕ) → m (Current seat) ≡ q + 1 → IsIn (m Cset) q → ⊥) → (seat q : ℕ) → n (Current seat) ≡ q + 1 → IsIn (n Cset) q → ⊥
   unseated_still unseated seat q is member = unseated seat q (sym (word_same (Current seat) (λ never. never)) ∙ is) (subst (λ s. IsIn s q) set_same member)
 
   -- the header of another piece stays, and the object's own leads on
@@ -381,3 +393,20 @@ module _ (c : Config) (m : Word → ℕ) (block : Plot) (owner : ℕ → Option 
 
   pub moved_now : is_forwarded (n (Heap a)) ≡ true
   moved_now = ap is_forwarded out.copied.forwarded ∙ header_forwarded to
+
+  pub collected_same : (y : ℕ) → is_collected c n y ≡ is_collected c m y
+  collected_same y = ap (λ k. nat_le c.region_words y && (bit_at k (region_with c y) == 1)) set_same
+
+  pub marked_still : AreMarkedPieces c m block → AreMarkedPieces c n plot
+  marked_still marked y collected black =
+      let was = marked y (sym (collected_same y) ∙ collected) (sym (black_same y) ∙ black) in
+      (was.0, stays y was.0 was.1)
+
+  pub order_still : IsInOrder c m block → IsInOrder c n plot
+  order_still order = record {
+    marked = marked_still order.marked;
+    reachable = λ y reached. kept_still order.floors y (⊎_elim (λ new. inl new) (λ old. inr (order.reachable y old)) (reached_was y reached));
+    no_new = no_new_still order.no_new;
+    floors = floors_still order.floors;
+    unseated = unseated_still order.unseated;
+  }

@@ -4,10 +4,9 @@ use Rattle.std.specs.Int.{bit_at}
 use Rattle.std.proofs.Math.Path.{fun_ext}
 use Rattle.std.proofs.lemmas.Bool.{cases_Bool, cases_eq, cond-true, cond-false, and_parts, leb-true, eqb-true, eq-eqb, ne_eqb, not-true}
 use Rattle.heap_words.specs.declared.config.Config.{Config}
-use Rattle.heap_words.specs.Words.{Word, Phase, Cset, Black, Heap}
+use Rattle.heap_words.specs.Words.{Word, Phase, Cset, Heap}
 use Rattle.heap_words.specs.Encoding.{is_forwarded}
 use Rattle.regions.specs.Place.{region_with}
-use Rattle.regions.specs.Marks.{mark_word, mark_bit}
 use Rattle.shen_graph.specs.declared.name.Name.{Name}
 use Rattle.shen_graph.specs.Graph.{Graph}
 use Rattle.heap_world.specs.World.{Block, thing, words_of, Plot, IsCollected}
@@ -50,15 +49,6 @@ module _ (c : Config) (owner : ℕ → Option ℕ) (p : Promises) (g : Graph) wh
     abbrev n : Word → ℕ
     n = copied_out c m a
 
-    set_same : n Cset ≡ m Cset
-    set_same = out.copied.others Cset (λ never. never)
-
-    pub black_same : (y : ℕ) → is_black c n y ≡ is_black c m y
-    black_same y = ap (λ k. nat_le c.region_words y && (bit_at k (mark_bit c y) == 1)) (out.copied.others (Black (mark_word c y)) (λ never. never))
-
-    pub collected_same : (y : ℕ) → is_collected c n y ≡ is_collected c m y
-    collected_same y = ap (λ k. nat_le c.region_words y && (bit_at k (region_with c y) == 1)) set_same
-
     pub piece : (b : Block) × (block a ≡ Some b)
     piece = so_far.marked a parts.0 parts.1
 
@@ -79,9 +69,7 @@ module _ (c : Config) (owner : ℕ → Option ℕ) (p : Promises) (g : Graph) wh
     one_copied = record {
       holds = copy.copied_holds c m block owner p g so_far.holds a object.1 object.2 object.0 stands inside parts.2 words out;
       sized = copy.copied_sized c m block owner p g so_far.holds a object.1 object.2 object.0 stands inside parts.2 words out so_far.sized;
-      marked = λ y collected black.
-          let was = so_far.marked y (sym (collected_same y) ∙ collected) (sym (black_same y) ∙ black) in
-          (was.0, copy.stays c m block owner p g so_far.holds a object.1 object.2 object.0 stands inside parts.2 words out y was.0 was.1);
+      marked = copy.marked_still c m block owner p g so_far.holds a object.1 object.2 object.0 stands inside parts.2 words out so_far.marked;
     }
 
   -- address by address

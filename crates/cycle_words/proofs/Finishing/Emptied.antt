@@ -1,11 +1,11 @@
 -- Once all that is left of the collection set was copied out, nothing that can be reached lies there.
-use Rattle.std.proofs.Common.{◌≡◌, ◌≢◌, ℕ, ◌+◌, ◌*◌, ◌<◌, ◌≤◌, ◌==◌, ◌&&◌, nat_le, true, false, not, zero, suc, inl, inr, Option, Some, sym, ap, ◌∙◌, subst, ⊎_elim, arith}
+use Rattle.std.proofs.Common.{◌≡◌, ◌≢◌, ℕ, ◌+◌, ◌*◌, ◌<◌, ◌≤◌, ◌==◌, ◌&&◌, nat_le, true, false, not, zero, suc, Option, Some, sym, ap, ◌∙◌, subst, ⊎_elim, arith}
 use Rattle.std.specs.Int.{bit_at}
 use Rattle.std.proofs.Math.Path.{fun_ext}
 use Rattle.std.proofs.lemmas.Bool.{cases_Bool, cases_eq, cond-true, cond-false, and_parts, and_from, and_left, and_right, le-leb, eq-eqb, ne_eqb, not-true, not_from_false, true≢false, false_from_ne_true}
 use Rattle.std.proofs.lemmas.Nat.Bits.{bit_at-zero}
 use Rattle.heap_words.specs.declared.config.Config.{Config}
-use Rattle.heap_words.specs.Words.{Word, Phase, Cset, Top, Tams, Current, Heap}
+use Rattle.heap_words.specs.Words.{Word, Phase, Cset, Top, Current, Heap}
 use Rattle.heap_words.specs.Encoding.{is_forwarded}
 use Rattle.regions.specs.Place.{region_with}
 use Rattle.regions.specs.Sets.{IsIn}
@@ -27,6 +27,7 @@ use Rattle.cycle_words.specs.Evacuation.Copied.{copied_out, IsCopiedOut}
 use Rattle.cycle_words.specs.Finishing.Copies.{is_left, has_copy_room, copied_from, is_room_from, all_copied, is_room_for_all}
 use Rattle.cycle_words.specs.StillHolds.{WhileCollecting}
 use Rattle.cycle_words.proofs.Evacuation.CopyHolds as copy
+use Rattle.cycle_words.proofs.Evacuation.CopyHolds.{IsInOrder}
 use Rattle.cycle_words.proofs.Finishing.Copies.{copied_none, copied_next, copied_skips, room_if, room_skips}
 use Rattle.cycle_words.proofs.Finishing.CopiesHold as copies
 use Rattle.cycle_words.proofs.Finishing.CopiesHold.{IsCopiedSoFar}
@@ -35,10 +36,7 @@ use Rattle.cycle_words.proofs.Finishing.Fields.{collected_low}
 -- What holds between two objects, and that nothing is left at the addresses that were passed.
 pub record IsGoingOn (c : Config) (n : Word → ℕ) (plot : Plot) (owner : ℕ → Option ℕ) (p : Promises) (g : Graph) (passed : ℕ) : Type 0 where
   pub so_far : IsCopiedSoFar c n plot owner p g
-  pub reachable : (a : ℕ) → CanBeReached c n a → IsKept c n a
-  pub no_new : (r : ℕ) → IsIn (n Cset) r → n (Top r) ≡ n (Tams r)
-  pub floors : (r : ℕ) → r < c.regions → n (Tams r) ≤ n (Top r)
-  pub unseated : (seat r : ℕ) → n (Current seat) ≡ r + 1 → IsIn (n Cset) r → ⊥
+  pub order : IsInOrder c n plot
   pub none_left : (y : ℕ) → y < passed → is_left c n y ≡ false
 
 module _ (c : Config) (owner : ℕ → Option ℕ) (p : Promises) (g : Graph) where
@@ -73,8 +71,8 @@ module _ (c : Config) (owner : ℕ → Option ℕ) (p : Promises) (g : Graph) wh
     left_was y now =
         let three = and_parts (is_collected c n y && is_black c n y) (not (is_forwarded (n (Heap y)))) now in
         let two = and_parts (is_collected c n y) (is_black c n y) three.0 in
-        let collected : is_collected c m y ≡ true = sym (copies.collected_same c owner p g m block so_far a left room y) ∙ two.0 in
-        let black : is_black c m y ≡ true = sym (copies.black_same c owner p g m block so_far a left room y) ∙ two.1 in
+        let collected : is_collected c m y ≡ true = sym (copy.collected_same c m block owner p g so_far.holds a is.1 is.2 is.0 stands inside parts.2 words out y) ∙ two.0 in
+        let black : is_black c m y ≡ true = sym (copy.black_same c m block owner p g so_far.holds a is.1 is.2 is.0 stands inside parts.2 words out y) ∙ two.1 in
         let plain : is_forwarded (n (Heap y)) ≡ false = not-true (is_forwarded (n (Heap y))) three.1 in
         let other : y ≢ a = λ same.
         true≢false (sym (copy.moved_now c m block owner p g so_far.holds a is.1 is.2 is.0 stands inside parts.2 words out) ∙ ap (λ k. is_forwarded (n (Heap k))) (sym same) ∙ plain) in
@@ -90,13 +88,7 @@ module _ (c : Config) (owner : ℕ → Option ℕ) (p : Promises) (g : Graph) wh
       copy.plot c m block owner p g so_far.holds a is.1 is.2 is.0 stands inside parts.2 words out,
       record {
         so_far = copies.one_copied c owner p g m block so_far a left room;
-        reachable = λ y reached.
-            copy.kept_still c m block owner p g so_far.holds a is.1 is.2 is.0 stands inside parts.2 words out on.floors y
-            (⊎_elim (λ new. inl new) (λ old. inr (on.reachable y old))
-            (copy.reached_was c m block owner p g so_far.holds a is.1 is.2 is.0 stands inside parts.2 words out y reached));
-        no_new = copy.no_new_still c m block owner p g so_far.holds a is.1 is.2 is.0 stands inside parts.2 words out on.no_new;
-        floors = copy.floors_still c m block owner p g so_far.holds a is.1 is.2 is.0 stands inside parts.2 words out on.floors;
-        unseated = copy.unseated_still c m block owner p g so_far.holds a is.1 is.2 is.0 stands inside parts.2 words out on.unseated;
+        order = copy.order_still c m block owner p g so_far.holds a is.1 is.2 is.0 stands inside parts.2 words out on.order;
         none_left = λ y below. false_from_ne_true (is_left c n y) (λ now.
             let was = left_was y now in
             let other = was.0 in
@@ -121,10 +113,7 @@ module _ (c : Config) (owner : ℕ → Option ℕ) (p : Promises) (g : Graph) wh
       (λ (other : is_left c m a ≡ false).
       let next : IsGoingOn c m block owner p g (a + 1) = record {
         so_far = on.so_far;
-        reachable = on.reachable;
-        no_new = on.no_new;
-        floors = on.floors;
-        unseated = on.unseated;
+        order = on.order;
         none_left = λ y below. ⊎_elim
             (λ (here : y ≡ a). ap (is_left c m) here ∙ other)
             (λ (before : y ≢ a). on.none_left y (omega (arith, below, before)))
@@ -166,18 +155,18 @@ module _ (c : Config) (n : Word → ℕ) (plot : Plot) (owner : ℕ → Option �
       true≢false (sym left ∙ on.none_left a (let end = lies.1 in omega (arith, end, all))))
       (λ (fresh : IsNew c n a).
       let below = below_top c (λ r. n (Top r)) plot on.so_far.holds.objects.plotted a (thing at.0 at.1 at.2) at.3 (omega arith) in
-      let old = on.no_new (region_with c a) inside in
+      let old = on.order.no_new (region_with c a) inside in
       let from = below.1 in
       let end = below.2 in
       omega (arith, fresh, old, from, end))
-      (on.reachable a reached)
+      (on.order.reachable a reached)
 
   emptied : IsEmptied c n plot owner p g
   emptied = record {
     holds = on.so_far.holds;
     sized = on.so_far.sized;
-    reachable = λ some. on.reachable;
-    unseated = on.unseated;
+    reachable = λ some. on.order.reachable;
+    unseated = on.order.unseated;
     outside = nothing_inside;
   }
 
@@ -193,10 +182,7 @@ module _ (c : Config) (m : Word → ℕ) (block : Plot) (owner : ℕ → Option 
   in_phase at some =
       let begins : IsGoingOn c m block owner p g c.region_words = record {
         so_far = at_first;
-        reachable = while.reachable some;
-        no_new = while.no_new;
-        floors = while.floors some;
-        unseated = while.unseated;
+        order = record { marked = while.marked; reachable = while.reachable some; no_new = while.no_new; floors = while.floors some; unseated = while.unseated };
         none_left = λ y below. and_left (is_collected c m y && is_black c m y) (not (is_forwarded (m (Heap y)))) (and_left (is_collected c m y) (is_black c m y) (collected_low c m y below));
       } in
       let found : is_room_from c m c.region_words (c.regions * c.region_words) ≡ true =
