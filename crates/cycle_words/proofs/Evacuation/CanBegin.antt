@@ -38,15 +38,15 @@ use Rattle.cycle_words.proofs.Evacuation.Front.{member_is}
 use Rattle.cycle_words.proofs.Evacuation.RegionAddresses.{some_words, from_base}
 
 -- which words name objects
-in_row : (f : ℕ → Word) (n : ℕ) (place : Word) → Contains (map f (range_with_len 0 n)) place → (i : ℕ) × (i < n) × (f i ≡ place)
+pub in_row : (f : ℕ → Word) (n : ℕ) (place : Word) → Contains (map f (range_with_len 0 n)) place → (i : ℕ) × (i < n) × (f i ≡ place)
 in_row f n place has =
     let below : has.0 < n = omega (arith, has.1, length-map-range_with_len f 0 n) in
     (has.0, below, sym (get_or-map-range_with_len f 0 n has.0 has.0 place below (omega arith)) ∙ has.2)
 
-abbrev IsRoot : ℕ → Word → Type 0
+abbrev pub IsRoot : ℕ → Word → Type 0
 IsRoot mutators place = (t : ℕ) × (i : ℕ) × (t < mutators) × (i < 16) × (Root t i ≡ place)
 
-in_rows : (mutators : ℕ) (place : Word) → Contains (root_places mutators) place → IsRoot mutators place
+pub in_rows : (mutators : ℕ) (place : Word) → Contains (root_places mutators) place → IsRoot mutators place
 in_rows zero place has = absurd (omega (arith, has.1))
 in_rows (suc t) place has = ⊎_elim
     (λ (earlier : Contains (root_places t) place). (let at = in_rows t place earlier in (at.0, at.1, omega (arith, at.2), at.3, at.4)))

@@ -1,9 +1,8 @@
 -- The end of marking keeps the graph, and each object that can be reached is kept.
-use Rattle.std.proofs.Common.{◌≡◌, ℕ, ◌+◌, ◌<◌, ◌≤◌, cond, Bool, true, false, Option, inl, inr, ⊎_elim, sym, ap, ◌∙◌, arith}
-use Rattle.std.proofs.lemmas.Bool.{cases_lt, cond-false, false_from_ne_true}
+use Rattle.std.proofs.Common.{◌≡◌, ℕ, ◌+◌, ◌≤◌, cond, Bool, true, false, Option, inl, inr, ⊎_elim, sym, ap, ◌∙◌, arith}
+use Rattle.std.proofs.lemmas.Bool.{cond-false}
 use Rattle.heap_words.specs.declared.config.Config.{Config}
 use Rattle.heap_words.specs.Words.{Word, Tams, Heap}
-use Rattle.heap_words.specs.Ranges.{seat_count}
 use Rattle.regions.specs.Place.{region_with}
 use Rattle.shen_graph.specs.Graph.{Graph}
 use Rattle.heap_graph.specs.Walk.{has}
@@ -17,7 +16,7 @@ use Rattle.cycle_words.specs.Marking.Final.{dead_in, freed_block, freed_owner, f
 use Rattle.cycle_words.specs.Marking.Laws.{HasNoMoreSeats}
 use Rattle.cycle_words.proofs.Marking.Plain.{reached_object, reach_ind, root_reached, field_reached}
 use Rattle.cycle_words.proofs.Marking.Closed.{closed_holds, closed_through, object_alive, object_back}
-use Rattle.cycle_words.proofs.Marking.Dead.{dead_is_dead}
+use Rattle.cycle_words.proofs.Marking.Dead.{current_alive}
 use Rattle.cycle_words.proofs.Marking.Vanished.{piece_was, piece_stays}
 use Rattle.cycle_words.proofs.Marking.Freed.{CanFree, same_roots, freed_holds}
 
@@ -48,11 +47,7 @@ module _ (c : Config) (m : Word → ℕ) (block : Plot) (owner : ℕ → Option 
   can : CanFree c out k
   can = record {
     unreached = λ a reached. alive a (reached_object c k block owner p g held marking.uncollected a reached);
-    unseated = λ seat r is. ⊎_elim
-        (λ (below : seat < seat_count c.mutators c.helpers).
-        false_from_ne_true (out r) (λ told. ((dead_is_dead c k r).0 told).nobodys (seat, below, is)))
-        (λ (past : seat_count c.mutators c.helpers ≤ seat). absurd (let none = seats seat past in omega (arith, is, none)))
-        (cases_lt seat (seat_count c.mutators c.helpers));
+    unseated = current_alive c m seats;
   }
 
   pub ended_holds : HoldsBy c n left (freed_owner out owner) p g

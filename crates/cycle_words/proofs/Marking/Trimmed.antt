@@ -1,5 +1,5 @@
 -- Words that hold a graph hold it by other pieces, too, where what can be reached stands as it stood and no new object does.
-use Rattle.std.proofs.Common.{◌≡◌, ◌≢◌, ℕ, ◌+◌, ◌<◌, ◌≤◌, true, Some, None, Option, inl, inr, ⊎_elim, ap, ◌∙◌, arith}
+use Rattle.std.proofs.Common.{slice_get, ◌≡◌, ◌≢◌, ℕ, ◌+◌, ◌<◌, ◌≤◌, true, Some, None, Option, inl, inr, ⊎_elim, ap, ◌∙◌, arith}
 use Rattle.std.specs.Int.{bit_at}
 use Rattle.std.proofs.lemmas.Nat.Bits.{bit_at-zero}
 use Rattle.std.proofs.lemmas.Option.{slice_get_within}
@@ -19,6 +19,22 @@ use Rattle.full_words.proofs.Roots.{root_among, answer_among}
 use Rattle.image_graph.specs.Holds.{HoldsBy}
 use Rattle.cycle_words.specs.Marking.WhileMarking.{CanBeReached}
 use Rattle.cycle_words.proofs.Marking.Plain.{own_copy, root_reached, field_reached}
+
+-- an object reads as before where each of its fields stands for what it stood for
+pub object_stands : (heap : ℕ → ℕ) (block left : Plot) (a refs nums : ℕ) (name : Name) (o : Object)
+    → ((i : ℕ) (r : Reference) → slice_get o.refs i ≡ Some r → i < refs → Points block (heap (a + 3 + i)) r → Points left (heap (a + 3 + i)) r)
+    → IsThing heap block a refs nums name o → IsThing heap left a refs nums name o
+object_stands heap block left a refs nums name o stays is = record {
+  header = is.header;
+  shape = is.shape;
+  name_word = is.name_word;
+  few_refs = is.few_refs;
+  few_nums = is.few_nums;
+  refs_are = is.refs_are;
+  nums_are = is.nums_are;
+  references = λ i r there. (let within = slice_get_within o.refs i r there in stays i r there (omega (arith, within, is.refs_are)) (is.references i r there));
+  numbers = is.numbers;
+}
 
 module _ (c : Config) (m : Word → ℕ) (block : Plot) (owner : ℕ → Option ℕ) (p : Promises) (g : Graph) (holds : HoldsBy c m block owner p g) (calm : m Cset ≡ 0)
     (new_top : ℕ → ℕ) (left : Plot) (plotted : IsPlotted c new_top left) (reached_stays : (a : ℕ) → CanBeReached c m a → left a ≡ block a)
@@ -49,22 +65,13 @@ module _ (c : Config) (m : Word → ℕ) (block : Plot) (owner : ℕ → Option 
       named_stays word (stays some) ∙ points
 
   object_stays : (a refs nums : ℕ) (name : Name) (o : Object) → CanBeReached c m a → IsThing heap block a refs nums name o → IsThing heap left a refs nums name o
-  object_stays a refs nums name o held is = record {
-    header = is.header;
-    shape = is.shape;
-    name_word = is.name_word;
-    few_refs = is.few_refs;
-    few_nums = is.few_nums;
-    refs_are = is.refs_are;
-    nums_are = is.nums_are;
-    references = λ i r there.
-        let few = slice_get_within o.refs i r there in
-        let shape : refs_in (heap (a + 1)) ≡ refs = ap refs_in is.shape ∙ refs_read refs nums is.few_refs is.few_nums in
-        points_stay (heap (a + 3 + i)) r
-        (λ some. reached_stays (heap (a + 3 + i)) (field_reached c m block owner p g holds calm a i held (omega (arith, few, shape, is.refs_are)) some))
-        (is.references i r there);
-    numbers = is.numbers;
-  }
+  object_stays a refs nums name o held is =
+      let shape : refs_in (heap (a + 1)) ≡ refs = ap refs_in is.shape ∙ refs_read refs nums is.few_refs is.few_nums in
+      object_stands heap block left a refs nums name o
+      (λ i r there below points. points_stay (heap (a + 3 + i)) r
+      (λ some. reached_stays (heap (a + 3 + i)) (field_reached c m block owner p g holds calm a i held (omega (arith, below, shape)) some))
+      points)
+      is
 
   pub trimmed_objects : HoldsGraph c new_top heap left (now_in m) IsRoot more
   trimmed_objects = record {
