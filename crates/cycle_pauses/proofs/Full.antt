@@ -4,7 +4,6 @@ pub mod Promises
 pub mod Mapped
 pub mod Before
 pub mod Current
-pub mod Dead
 pub mod Holding
 pub mod After
 pub mod Made

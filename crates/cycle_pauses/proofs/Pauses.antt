@@ -25,12 +25,12 @@ use Rattle.cycle_pauses.proofs.Full.Outside.{IsZeroOutside}
 use Rattle.cycle_pauses.proofs.Full.Images.{holds_outside}
 use Rattle.cycle_pauses.proofs.Full.Pauses.{paused}
 use Rattle.cycle_pauses.proofs.Full.Promises.{promises_of}
-use Rattle.cycle_pauses.proofs.Full.Dead.{plain}
+use Rattle.cycle_pauses.proofs.Full.Before.{live}
 use Rattle.cycle_pauses.proofs.Full.Holding.{holds_by}
 use Rattle.cycle_words.specs.Marking.Init.{init_marked}
 use Rattle.cycle_words.specs.Marking.Final.{final_marked}
 use Rattle.cycle_words.specs.Marking.Laws.{HasNoMoreSeats}
-use Rattle.cycle_pauses.proofs.Marking.Chains.{is_marking}
+use Rattle.cycle_pauses.proofs.Marking.FromSnapshot.{is_marking}
 use Rattle.cycle_pauses.proofs.Marking.Outside.{init_outside, final_outside}
 use Rattle.cycle_pauses.proofs.Marking.WhileMarking.{beginning_represents}
 use Rattle.cycle_words.specs.Evacuation.Choice.{chosen}
@@ -75,7 +75,7 @@ past_marking_represents c m g asking r seats = ⊎_elim
     (cases_Bool (m Phase == 1))
 
 can_collect : (c : Config) (m : Word → ℕ) (g : Graph) (asking : ℕ → Asking) (r : Represents c m g asking) → HasNoMoreSeats c m
-    → CanPause c m (plain c m g asking (by_copies c m g asking r)) r.ghost.owner (promises_of c g asking) g
+    → CanPause c m (live c m g asking (by_copies c m g asking r)) r.ghost.owner (promises_of c g asking) g
 can_collect c m g asking r seats = record {
   holds = holds_by c m g asking (by_copies c m g asking r);
   phase_is = r.shared.phased.phase_is;
@@ -87,7 +87,7 @@ can_collect c m g asking r seats = record {
 pub representing_can_collect : RepresentingCanCollect
 representing_can_collect c image g asking r =
     let m : Word → ℕ = image_view c image in
-    ∣ (g, plain c m g asking (by_copies c m g asking r), r.ghost.owner, promises_of c g asking, can_collect c (image_view c image) g asking r (no_more_seats c (replicate (image_start c) 0 ++ image))) ∣₁
+    ∣ (g, live c m g asking (by_copies c m g asking r), r.ghost.owner, promises_of c g asking, can_collect c (image_view c image) g asking r (no_more_seats c (replicate (image_start c) 0 ++ image))) ∣₁
 
 can_begin_prop : (c : Config) (m : Word → ℕ) → IsProp (CanBegin c m)
 can_begin_prop c m = hlevel (le_prop, ℕ_set, Bool-set)

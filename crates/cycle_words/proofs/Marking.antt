@@ -1,6 +1,10 @@
 pub mod Bits
 pub mod Alike
 pub mod Plain
+pub mod Trimmed
+pub mod Vanished
+pub mod Pruned
+pub mod FirstSnapshot
 pub mod Begun
 pub mod Traced
 pub mod Ranges

@@ -17,6 +17,7 @@ use Rattle.full_words.specs.Full.{now_in, root_words, kept_in, packed_in, full}
 use Rattle.full_words.specs.Promised.{Promises, with_promised}
 use Rattle.full_words.specs.Image.{ImageStands}
 use Rattle.full_words.specs.Serving.{asked_name, served_block, served_promises}
+use Rattle.full_words.proofs.Named.{named_things}
 use Rattle.full_words.proofs.Reached.{reached_is_held}
 use Rattle.full_words.proofs.Promised.{same_reference-true, old_object}
 use Rattle.full_words.proofs.ImagesStand.{standing_holds}
@@ -84,7 +85,7 @@ module _ (c : Config) (m : Word → ℕ) (block : Plot) (owner : ℕ → Option 
             let object = stands.objects.each a refs nums name is in
             absurd (true≢false (sym forwarded ∙ ap is_forwarded object.2.header));
         filled = stands.filled;
-        things = stands.things;
+        pieces = named_things plot stands.things;
         free_word = stands.free_word;
         currents = record {
           within = λ seat r is. absurd (omega (arith, is, full_current c m seat));

@@ -17,7 +17,6 @@ use Rattle.full_words.specs.Pack.{CanPack}
 use Rattle.full_words.specs.Plot.{heap_end}
 use Rattle.full_words.specs.Full.{now_in, root_words, copies_of, field_words, kept_in}
 use Rattle.full_words.specs.Promised.{Promises, with_promised}
-use Rattle.full_words.proofs.Named.{thing_at}
 use Rattle.full_words.proofs.Reached.{held_is_reached, can_pack, refs_read}
 use Rattle.full_words.proofs.Origin.{kept_inside, lie_apart}
 use Rattle.full_words.proofs.Found.{has_at, found_held}
@@ -69,7 +68,7 @@ module _ (c : Config) (memory : Word → ℕ) (block : Plot) (owner : ℕ → Op
   -- a word that stands for a name is an address of the heap
   named_inside : (word : ℕ) (name : Name) → name_at (block word) ≡ Some name → (c.region_words ≤ word) × (word < heap_end c)
   named_inside word name is =
-      let piece = thing_at block holds.things word name is in
+      let piece = holds.pieces.named word name is in
       let inside = piece_inside c top block holds.objects.plotted word (thing name piece.0 piece.1) piece.2 in
       (inside.0, omega (arith, inside.1))
 

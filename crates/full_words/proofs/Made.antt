@@ -14,15 +14,16 @@ use Rattle.regions.specs.Sets.{all_but}
 use Rattle.shen_graph.specs.declared.name.Name.{Name}
 use Rattle.shen_graph.specs.Graph.{Graph, Object, Reference, blank, same_name, same_reference}
 use Rattle.shen_graph.proofs.PlainLemmas.{same_name-true, same_name-itself}
-use Rattle.heap_world.specs.World.{Block, thing, moved, spent, hand, promised, filler, words_of, Plot, name_at, Points, IsPlotted, IsThing, AreObjects, IsFreeWord}
+use Rattle.heap_world.specs.World.{Block, thing, hand, promised, words_of, Plot, name_at, Points, IsPlotted, IsThing, AreObjects, IsFreeWord}
 use Rattle.heap_world.proofs.Updates.{updated, updated_else, updated_there}
 use Rattle.heap_world.proofs.Keeping.{points_stay}
+use Rattle.heap_world.proofs.Pointing.{named_piece}
 use Rattle.heap_world.proofs.Pieces.{beside, piece_cases, object_reads}
 use Rattle.heap_world.proofs.FreeRegions.{free_without}
 use Rattle.heap_world.proofs.Joined as joined
 use Rattle.heap_world.proofs.Joined.{CanJoin}
-use Rattle.full_words.specs.Plot.{AreThings}
-use Rattle.full_words.proofs.Named.{no_spent, no_hand, no_promised, no_filler}
+use Rattle.full_words.specs.Plot.{AreThings, NamedAreThings}
+use Rattle.full_words.proofs.Named.{named_things}
 use Rattle.full_words.specs.Full.{made_word, made_in}
 use Rattle.full_words.specs.Promised.{Promises, with_promised}
 use Rattle.full_words.specs.Image.{AnswerStands, RootsStand, ImageStands}
@@ -83,14 +84,14 @@ abbrev PieceAt : (ℕ → ℕ) → Plot → (Name → Option Object) → ℕ →
 PieceAt heap block object a (thing name refs nums) = (o : Object) × (object name ≡ Some o) × IsThing heap block a refs nums name o
 PieceAt heap block object a _ = Unit {0}
 
--- What making an object stands on: the pieces are objects, and roots and answers stand for what they should.
+-- What making an object stands on: the pieces that stand for a name are objects, and roots and answers stand for what they should.
 pub record CanMake (c : Config) (m : Word → ℕ) (block : Plot) (g : Graph) (p : Promises) : Type 0 where
   pub plotted : IsPlotted c (λ r. m (Top r)) block
-  pub things : AreThings block
+  pub pieces : NamedAreThings block
   pub rooted : RootsStand c m block g p
 
 pub can_make : (c : Config) (m : Word → ℕ) (block : Plot) (g : Graph) (p : Promises) → ImageStands c m block g p → CanMake c m block g p
-can_make c m block g p stands = record { plotted = stands.plotted; things = stands.things; rooted = stands.rooted }
+can_make c m block g p stands = record { plotted = stands.plotted; pieces = named_things block stands.things; rooted = stands.rooted }
 
 module _ (c : Config) (m : Word → ℕ) (block : Plot) (g : Graph) (p : Promises) (stands : CanMake c m block g p) (t r : ℕ) (inside : t < c.mutators)
     (asking : IsAsking m g p t) (within : r < c.regions) (room : m (Top r) + object_words (asked_shape m t) ≤ c.region_words) where
@@ -121,20 +122,12 @@ module _ (c : Config) (m : Word → ℕ) (block : Plot) (g : Graph) (p : Promise
   pub can : CanJoin c top block r (m (Top r)) piece
   can = record {
     plotted = stands.plotted;
-    long = long;
+    long = stands.pieces.some;
     within = within;
     top_is = refl;
     room = room;
     some = omega arith;
   }
-    where
-      long : (a : ℕ) (b : Block) → block a ≡ Some b → 1 ≤ words_of b
-      long a (thing name refs nums) is = omega arith
-      long a (moved name refs nums to) is = omega arith
-      long a (spent words to) is = absurd (no_spent block stands.things a words to is)
-      long a (hand seat words) is = absurd (no_hand block stands.things a seat words is)
-      long a (promised seat words) is = absurd (no_promised block stands.things a seat words is)
-      long a (filler words) is = absurd (no_filler block stands.things a words is)
 
   pub names_stay : (a : ℕ) (name : Name) → name_at (block a) ≡ Some name → name_at (new_block a) ≡ Some name
   names_stay = joined.names_stay c top block r (m (Top r)) piece can
@@ -245,11 +238,37 @@ module _ (c : Config) (m : Word → ℕ) (block : Plot) (g : Graph) (p : Promise
     object_reads heap (λ x. after (Heap x)) block new_block a refs nums name o.0 (λ k below. old_word a k (thing name refs nums) is below) names_stay o.2,
   )
 
-  pub are_things : AreThings new_block
-  are_things a other is = ⊎_elim
-      (λ (made : (a ≡ address) × (piece ≡ other)). (new, refs_in (asked_shape m t), nums_in (asked_shape m t), sym made.1))
-      (λ (old : (a ≢ address) × (block a ≡ Some other)). stands.things a other old.1)
-      (cases a other is)
+  pub named_again : (a : ℕ) (name : Name) → name_at (new_block a) ≡ Some name → (refs : ℕ) × (nums : ℕ) × (new_block a ≡ Some (thing name refs nums))
+  named_again a name is =
+      let at = named_piece (new_block a) name is in
+      ⊎_elim
+      (λ (made : (a ≡ address) × (piece ≡ at.0)).
+      let same : new ≡ name = same_Some new name (ap name_at (ap Some made.1) ∙ at.2) in (
+        refs_in (asked_shape m t),
+        nums_in (asked_shape m t),
+        at.1 ∙ ap Some (sym made.1) ∙ ap (λ k. Some (thing k (refs_in (asked_shape m t)) (nums_in (asked_shape m t)))) same,
+      ))
+      (λ (old : (a ≢ address) × (block a ≡ Some at.0)).
+      let was = stands.pieces.named a name (ap name_at old.1 ∙ at.2) in
+      (was.0, was.1, at.1 ∙ sym old.1 ∙ was.2))
+      (cases a at.0 at.1)
+
+  pub pieces_again : NamedAreThings new_block
+  pieces_again = record {
+    named = named_again;
+    unpromised = λ a seat words is. ⊎_elim
+        (λ (made : (a ≡ address) × (piece ≡ promised seat words)). absurd (let same = made.1 in cc))
+        (λ (old : (a ≢ address) × (block a ≡ Some (promised seat words))). stands.pieces.unpromised a seat words old.1)
+        (cases a (promised seat words) is);
+    unheld = λ a seat words is. ⊎_elim
+        (λ (made : (a ≡ address) × (piece ≡ hand seat words)). absurd (let same = made.1 in cc))
+        (λ (old : (a ≢ address) × (block a ≡ Some (hand seat words))). stands.pieces.unheld a seat words old.1)
+        (cases a (hand seat words) is);
+    some = λ a other is. ⊎_elim
+        (λ (made : (a ≡ address) × (piece ≡ other)). let long = ap words_of made.1 in omega (arith, long))
+        (λ (old : (a ≢ address) × (block a ≡ Some other)). stands.pieces.some a other old.1)
+        (cases a other is);
+  }
 
   pub free_less : (owner : ℕ → Option ℕ) → IsFreeWord c (m Free) top owner → IsFreeWord c (bit_and (m Free) (all_but r)) (updated top r (m (Top r) + words_of piece)) owner
   free_less owner free_word =
@@ -346,6 +365,12 @@ module _ (c : Config) (m : Word → ℕ) (block : Plot) (g : Graph) (p : Promise
         not_old a name refs nums is same =
             let o = whole.objects.each a refs nums name is in
             none-some o.0 (sym asking.new ∙ ap (with_promised g p).object same ∙ o.1)
+
+    are_things : AreThings new_block
+    are_things a other is = ⊎_elim
+        (λ (made : (a ≡ address) × (piece ≡ other)). (new, refs_in (asked_shape m t), nums_in (asked_shape m t), sym made.1))
+        (λ (old : (a ≢ address) × (block a ≡ Some other)). whole.things a other old.1)
+        (cases a other is)
 
     pub made_stands : ImageStands c after new_block g more
     unfolding made_in

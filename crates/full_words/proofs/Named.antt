@@ -1,10 +1,10 @@
 -- Where each piece is an object, whatever stands for a name is one.
-use Rattle.std.proofs.Common.{◌≡◌, ℕ, Some, sym, ap, ◌∙◌}
+use Rattle.std.proofs.Common.{◌≡◌, ℕ, ◌≤◌, Some, sym, ap, ◌∙◌, arith}
 use Rattle.std.proofs.lemmas.Option.{same_Some}
 use Rattle.shen_graph.specs.declared.name.Name.{Name}
-use Rattle.heap_world.specs.World.{thing, moved, spent, hand, promised, filler, Plot, name_at}
+use Rattle.heap_world.specs.World.{Block, thing, moved, spent, hand, promised, filler, words_of, Plot, name_at}
 use Rattle.heap_world.proofs.Pointing.{named_piece}
-use Rattle.full_words.specs.Plot.{AreThings}
+use Rattle.full_words.specs.Plot.{AreThings, NamedAreThings}
 
 module _ (block : Plot) (things : AreThings block) where
   -- what stands for a name is the object of that name
@@ -30,3 +30,10 @@ module _ (block : Plot) (things : AreThings block) where
 
   pub no_filler : (a words : ℕ) → block a ≡ Some (filler words) → ⊥
   no_filler a words is = let found = (things a (filler words) is).3 in cc
+
+  -- so what stands for a name is an object
+  some_words : (a : ℕ) (piece : Block) → block a ≡ Some piece → 1 ≤ words_of piece
+  some_words a piece is = let size = ap words_of (things a piece is).3 in omega (arith, size)
+
+  pub named_things : NamedAreThings block
+  named_things = record { named = thing_at; unpromised = no_promised; unheld = no_hand; some = some_words }

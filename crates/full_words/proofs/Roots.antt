@@ -22,14 +22,14 @@ use Rattle.full_words.proofs.Found.{has_map, map_has, range_has}
 pub has_either : (xs ys : List ℕ) (q : ℕ) → has (xs ++ ys) q ≡ true → (has xs q ≡ true) ⊎ (has ys q ≡ true)
 has_either xs ys q is = or_cases (has xs q) (has ys q) (sym (list_any-append (nat_eq q) xs ys) ∙ is)
 
-has_first : (xs ys : List ℕ) (q : ℕ) → has xs q ≡ true → has (xs ++ ys) q ≡ true
+pub has_first : (xs ys : List ℕ) (q : ℕ) → has xs q ≡ true → has (xs ++ ys) q ≡ true
 has_first xs ys q is = list_any-append (nat_eq q) xs ys ∙ or_left (has xs q) (has ys q) is
 
-has_second : (xs ys : List ℕ) (q : ℕ) → has ys q ≡ true → has (xs ++ ys) q ≡ true
+pub has_second : (xs ys : List ℕ) (q : ℕ) → has ys q ≡ true → has (xs ++ ys) q ≡ true
 has_second xs ys q is = list_any-append (nat_eq q) xs ys ∙ or_right (has xs q) (has ys q) is
 
 -- a list of one
-has_one : (x q : ℕ) → has (x ∷ []) q ≡ true → q ≡ x
+pub has_one : (x q : ℕ) → has (x ∷ []) q ≡ true → q ≡ x
 has_one x q is = ⊎_elim (λ (here : nat_eq q x ≡ true). eqb-true q x here) (λ (none : has [] q ≡ true). absurd (false≢true none)) (or_cases (nat_eq q x) (has [] q) is)
 
 module _ (memory : Word → ℕ) where

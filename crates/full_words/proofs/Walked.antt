@@ -70,7 +70,7 @@ module _ (c : Config) (memory : Word → ℕ) (block : Plot) (g : Graph)
       let at = copy_of (field a index.0) q other (ap copy index.2 ∙ word.2) in
       subst Held at.1 (from_field a index.0 held (omega (arith, few.1)) at.0)
 
-  held_is_found : (a : ℕ) → Held a → has (held_in c memory) a ≡ true
+  pub held_is_found : (a : ℕ) → Held a → has (held_in c memory) a ≡ true
   held_is_found _ (from_root word is some) =
       let inside = held_inside (now word) (from_root word is some) in
       roots_found fields roots (c.regions * c.region_words) (now word) (omega (arith, inside.0, c.in_range.least_words))
@@ -84,12 +84,15 @@ module _ (c : Config) (memory : Word → ℕ) (block : Plot) (g : Graph)
       (omega (arith, inside.0, c.in_range.least_words))
       (ap (has (fields a)) (sym (copied word some)) ∙ map_has copy (field_words memory a) word is)
 
+  pub found_is_held : (a : ℕ) → has (held_in c memory) a ≡ true → Held a
+  found_is_held a is = found_held fields roots Held root_held field_held (c.regions * c.region_words) a is
+
   -- exactly the held objects are kept, by their words
   pub walk_keeps : AreHeldKept heap Held (kept_in c memory)
   walk_keeps = record {
     words = λ a held. cond-true (has (held_in c memory) a) (object_words (heap (a + 1))) 0 (held_is_found a held);
     only = λ a some. ⊎_elim
-        (λ (is : has (held_in c memory) a ≡ true). found_held fields roots Held root_held field_held (c.regions * c.region_words) a is)
+        (λ (is : has (held_in c memory) a ≡ true). found_is_held a is)
         (λ (none : has (held_in c memory) a ≡ false).
         absurd (let zero' : kept_in c memory a ≡ 0 = cond-false (has (held_in c memory) a) (object_words (heap (a + 1))) 0 none in omega (arith, zero', some)))
         (cases_Bool (has (held_in c memory) a));

@@ -22,6 +22,7 @@ use Rattle.full_words.specs.Promised.{Promises}
 use Rattle.full_words.specs.Image.{RootsStand, ImageStands}
 use Rattle.full_words.specs.Serving.{asked_name, IsAsking}
 use Rattle.full_words.proofs.Found.{index_of, has_at}
+use Rattle.full_words.proofs.Named.{named_things}
 use Rattle.full_words.proofs.ImagesStand.{standing_holds}
 use Rattle.image_graph.specs.Holds.{HoldsBy, HoldsSome}
 use Rattle.image_check.specs.Laid.{laid_words, used_end, IsReference, LiesRight, ReadsRight, IsLaidOut}
@@ -390,7 +391,7 @@ module _ (c : Config) (m : Word → ℕ) (objects : List ℕ) (laid : IsLaidOut 
         let at = piece_at a (thing n refs nums) is in
         absurd (false≢true (sym (ap is_forwarded (reads a at.0).header) ∙ forwarded));
     filled = filled;
-    things = stands.things;
+    pieces = named_things block stands.things;
     free_word = stands.free_word;
     currents = record { within = λ s r is. absurd (nobody s r is); own = λ s r is. absurd (nobody s r is) };
     asking = λ t from inside waits. is_asking t inside waits;

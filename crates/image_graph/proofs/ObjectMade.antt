@@ -1,6 +1,6 @@
 -- An object is made for a thread that waits: words that held a graph hold it with the object as a further piece, which is promised.
 use Rattle.std.proofs.Common.{◌≡◌, ◌≢◌, ℕ, ◌+◌, ◌<◌, ◌≤◌, ◌⊎◌, ◌==◌, cond, true, inl, inr, slice_get, get_or, Option, Some, None, ⊎_elim, refl, sym, ap, ◌∙◌, subst, arith}
-use Rattle.std.proofs.lemmas.Bool.{cond-true, cond-false, cases_eq, eq-eqb, ne_eqb, true≢false}
+use Rattle.std.proofs.lemmas.Bool.{cond-true, cond-false, cases_eq, cases_lt, eq-eqb, ne_eqb, true≢false}
 use Rattle.std.proofs.lemmas.Option.{none-some, same_Some, slice_get-get_or}
 use Rattle.heap_words.specs.declared.config.Config.{Config}
 use Rattle.heap_words.specs.Words.{Word, Cset, Free, Top, Current, Root, Wait, Answer, Heap}
@@ -19,7 +19,6 @@ use Rattle.full_words.specs.Held.{IsLedTo, from_root, from_field, IsAmong, IsCop
 use Rattle.full_words.specs.Full.{now_in, roots_below, answers_below, root_words, made_in}
 use Rattle.full_words.specs.Promised.{Promises, with_promised, AreFresh}
 use Rattle.full_words.specs.Serving.{asked_shape, asked_name, asked_piece, made_block, made_promise, IsAsking, AreAsking}
-use Rattle.full_words.proofs.Named.{thing_at}
 use Rattle.full_words.proofs.Promised.{old_object}
 use Rattle.full_words.proofs.Reached as reached
 use Rattle.full_words.proofs.Reached.{refs_read, reached_is_held}
@@ -42,7 +41,7 @@ reaches_more c m block owner p g holds n (reach.from_field k _ field reached is)
 module _ (c : Config) (m : Word → ℕ) (block : Plot) (owner : ℕ → Option ℕ) (p : Promises) (g : Graph) (holds : HoldsBy c m block owner p g)
     (t r : ℕ) (inside : t < c.mutators) (waits : m (Wait t) ≢ 0) (within : r < c.regions) (room : m (Top r) + object_words (asked_shape m t) ≤ c.region_words) where
   abbrev can : CanMake c m block g p
-  can = record { plotted = holds.objects.plotted; things = holds.things; rooted = holds.rooted }
+  can = record { plotted = holds.objects.plotted; pieces = holds.pieces; rooted = holds.rooted }
 
   asks : IsAsking m g p t
   asks = holds.asking t (omega arith) inside waits
@@ -102,7 +101,7 @@ module _ (c : Config) (m : Word → ℕ) (block : Plot) (owner : ℕ → Option 
   now_stays a refs nums name is = ap (λ header. cond (is_forwarded header) (forwardee_in header) a) (header_stays a refs nums name is)
 
   now_named : (word : ℕ) (name : Name) → name_at (block word) ≡ Some name → now_in n word ≡ now_in m word
-  now_named word name named = let piece' = thing_at block holds.things word name named in now_stays word piece'.0 piece'.1 name piece'.2
+  now_named word name named = let piece' = holds.pieces.named word name named in now_stays word piece'.0 piece'.1 name piece'.2
 
   -- the new object has not moved
   new_header : after address ≡ plain_header
@@ -210,7 +209,7 @@ module _ (c : Config) (m : Word → ℕ) (block : Plot) (owner : ℕ → Option 
 
   current_again : (word : ℕ) (name : Name) → name_at (plot word) ≡ Some name → IsCopy plot (now_in n word) name
   current_again word name named =
-      let at = thing_at plot (made.are_things c m block g p can t r inside asks within room) word name named in
+      let at = made.named_again c m block g p can t r inside asks within room word name named in
       ⊎_elim
       (λ (new : (word ≡ address) × (piece ≡ thing name at.0 at.1)).
       (at.0, at.1, ap (λ k. plot (now_in n k)) new.0 ∙ ap plot (now_new ∙ sym new.0) ∙ at.2))
@@ -323,7 +322,7 @@ module _ (c : Config) (m : Word → ℕ) (block : Plot) (owner : ℕ → Option 
     rooted = made.rooted_more c m block g p can t r inside asks within room;
     moved = moved_again;
     filled = filled_again;
-    things = made.are_things c m block g p can t r inside asks within room;
+    pieces = made.pieces_again c m block g p can t r inside asks within room;
     free_word = free_again;
     currents = record {
       within = λ seat q is. holds.currents.within seat q (sym (same_current seat) ∙ is);
@@ -344,8 +343,8 @@ module _ (c : Config) (m : Word → ℕ) (block : Plot) (owner : ℕ → Option 
   pub made_sized : AreSized m block → AreSized n plot
   made_sized sized a b is = ⊎_elim
       (λ (new : (a ≡ address) × (piece ≡ b)). ap (λ k. object_words (after (k + 1))) new.0 ∙ ap object_words new_shape ∙ ap words_of new.1)
-      (λ (old : (a ≢ address) × (block a ≡ Some b)).
-      let at = holds.things a b old.1 in
-      let long = ap words_of at.3 in
-      ap object_words (old_word a 1 b old.1 (omega (arith, long))) ∙ sized a b old.1)
+      (λ (old : (a ≢ address) × (block a ≡ Some b)). ⊎_elim
+      (λ (long : 1 < words_of b). ap object_words (old_word a 1 b old.1 long) ∙ sized a b old.1)
+      (λ (short : words_of b ≤ 1). absurd (let size = sized a b old.1 in omega (arith, size, short)))
+      (cases_lt 1 (words_of b)))
       (cases a b is)

@@ -13,8 +13,7 @@ use Rattle.shen_graph.proofs.PlainLemmas.{same_name-itself}
 use Rattle.shen_graph.specs.Reach.{IsReachable}
 use Rattle.shen_graph.specs.Reach as reach
 use Rattle.heap_world.specs.Roots.{is_root_of, HasNoMore}
-use Rattle.heap_world.specs.World.{Block, thing, moved, spent, hand, promised, filler, Plot, name_at, Points, IsThing}
-use Rattle.full_words.proofs.Named.{thing_at}
+use Rattle.heap_world.specs.World.{Block, thing, moved, Plot, name_at, Points, IsThing}
 use Rattle.heap_graph.specs.Walk.{has}
 use Rattle.heap_graph.specs.Shows.{WordsStand}
 use Rattle.heap_world.specs.Objects.{IsObject}
@@ -40,18 +39,13 @@ abbrev IsOld : Promises → Option Block → Block → Type 0
 IsOld p o b = (n : Name) × (refs : ℕ) × (nums : ℕ) × (b ≡ thing n refs nums) × (o ≡ Some (thing n refs nums)) × (same_reference (p.ref n.thread) (Some n) ≡ false)
 
 old_from : (p : Promises) (o : Option Block) (b : Block) → old_piece p o ≡ Some b → IsOld p o b
-old_from p None b is = absurd (none-some b is)
-old_from p (Some (moved n refs nums to)) b is = absurd (none-some b is)
-old_from p (Some (spent words to)) b is = absurd (none-some b is)
-old_from p (Some (hand seat words)) b is = absurd (none-some b is)
-old_from p (Some (promised seat words)) b is = absurd (none-some b is)
-old_from p (Some (filler words)) b is = absurd (none-some b is)
 old_from p (Some (thing n refs nums)) b is = ⊎_elim
     (λ (yes : same_reference (p.ref n.thread) (Some n) ≡ true). absurd (none-some b (sym (cond-true (same_reference (p.ref n.thread) (Some n)) None (Some (thing n refs nums)) yes) ∙ is)))
     (λ (other : same_reference (p.ref n.thread) (Some n) ≡ false).
     let same : thing n refs nums ≡ b = same_Some (thing n refs nums) b (sym (cond-false (same_reference (p.ref n.thread) (Some n)) None (Some (thing n refs nums)) other) ∙ is) in
     (n, refs, nums, sym same, refl, other))
     (cases_Bool (same_reference (p.ref n.thread) (Some n)))
+old_from p _ b is = absurd (none-some b is)
 
 module _ (c : Config) (m : Word → ℕ) (block : Plot) (owner : ℕ → Option ℕ) (p : Promises) (g : Graph) (holds : HoldsBy c m block owner p g) where
   abbrev heap : ℕ → ℕ
@@ -120,7 +114,7 @@ module _ (c : Config) (m : Word → ℕ) (block : Plot) (owner : ℕ → Option 
   -- a word that leads to an object that the graph reaches shows it
   shows_name : (word : ℕ) (n : Name) → IsReachable g n → Held (now_in m word) → name_at (block word) ≡ Some n → name_at (shown word) ≡ Some n
   shows_name word n reached held is =
-      let piece = thing_at block holds.things word n is in
+      let piece = holds.pieces.named word n is in
       let old : same_reference (p.ref n.thread) (Some n) ≡ false = ⊎_elim
       (λ (yes : same_reference (p.ref n.thread) (Some n) ≡ true). absurd (holds.unreached.fresh n.thread n (same_reference-true (p.ref n.thread) n yes) reached))
       (λ (other : same_reference (p.ref n.thread) (Some n) ≡ false). other)

@@ -9,7 +9,7 @@ use Rattle.shen_graph.specs.declared.name.Name.{Name}
 use Rattle.shen_graph.specs.Graph.{Graph, Object, fresh}
 use Rattle.heap_world.specs.World.{Block, Plot, thing, words_of, IsFilled, IsFreeWord, AreCurrent, IsGiven}
 use Rattle.full_words.specs.Held.{IsAmong, HoldsGraph}
-use Rattle.full_words.specs.Plot.{AreThings}
+use Rattle.full_words.specs.Plot.{NamedAreThings}
 use Rattle.full_words.specs.Full.{now_in, root_words}
 use Rattle.full_words.specs.Promised.{Promises, with_promised, AreFresh}
 use Rattle.full_words.specs.Image.{RootsStand}
@@ -29,7 +29,7 @@ pub record AreNext (c : Config) (memory : Word → ℕ) (g : Graph) (p : Promise
   pub given : (name : Name) (o : Object) → g.object name ≡ Some o → IsGiven c g.count name
 
 -- The words of an image hold a graph, by a division of its regions into pieces, what each region's owner is, and what
--- threads have been promised. Pieces fill each region from its base to its top and are objects.
+-- threads have been promised. Pieces fill each region from its base to its top, and those that stand for a name are objects.
 -- What roots and answers lead to is the graph with the promised objects, by current copies. Nothing is asked of objects
 -- that nothing leads to.
 pub record HoldsBy (c : Config) (memory : Word → ℕ) (block : Plot) (owner : ℕ → Option ℕ) (p : Promises) (g : Graph) : Type 0 where
@@ -37,7 +37,7 @@ pub record HoldsBy (c : Config) (memory : Word → ℕ) (block : Plot) (owner : 
   pub rooted : RootsStand c memory block g p
   pub moved : (a refs nums : ℕ) (name : Name) → block a ≡ Some (thing name refs nums) → is_forwarded (memory (Heap a)) ≡ true → HasMoved c memory block a refs nums name
   pub filled : IsFilled c (λ r. memory (Top r)) block
-  pub things : AreThings block
+  pub pieces : NamedAreThings block
   pub free_word : IsFreeWord c (memory Free) (λ r. memory (Top r)) owner
   pub currents : AreCurrent c (λ s. memory (Current s)) owner
   pub asking : AreAsking c memory g p 0

@@ -20,7 +20,7 @@ use Rattle.cycle_words.specs.Marking.Close.{IsTraced, traced_in, closed}
 use Rattle.cycle_words.specs.Marking.WhileMarking.{IsObjectAt, IsMarking}
 use Rattle.cycle_words.proofs.Marking.Plain.{object_above}
 use Rattle.cycle_words.proofs.Marking.Traced.{listed_traced}
-use Rattle.cycle_words.proofs.Marking.Closed.{followed}
+use Rattle.cycle_words.proofs.Marking.Closed.{markable_object, traced_markable}
 use Rattle.mark_core.specs.Steps.{marked, emptied}
 use Rattle.mark_core.specs.Trace.{CanTrace}
 use Rattle.mark_core.specs.Result.{MarksSome}
@@ -31,7 +31,7 @@ use Rattle.mark_core.proofs.MarkingBegun.{below_and_past}
 -- where marking runs, what tracing comes to can be found
 module _ (c : Config) (m : Word → ℕ) (block : Plot) (owner : ℕ → Option ℕ) (p : Promises) (g : Graph) (holds : HoldsBy c m block owner p g) (marking : IsMarking c m block) where
   object : (a : ℕ) → IsTraced c m a → IsObjectAt m block a
-  object a traced = marking.objects a (followed c m block owner p g holds marking a traced)
+  object a traced = markable_object c m block owner p g holds marking a (traced_markable c m block owner p g holds marking a traced)
 
   can_trace : CanTrace c m
   can_trace = record {
@@ -41,7 +41,7 @@ module _ (c : Config) (m : Word → ℕ) (block : Plot) (owner : ℕ → Option 
         let refs : refs_in (m (Heap (a + 1))) ≡ is.refs = ap refs_in is.shape ∙ refs_read is.refs is.nums is.few_refs is.few_nums in
         let end = (object_above c m block owner p g holds marking.uncollected a is.refs is.nums is.name is.here).1 in
         omega (arith, refs, end);
-    counts = marking.counts;
+    counts = (marking.marked.entries refl).few;
   }
 
 trace_prop : (c : Config) (m : Word → ℕ) → IsProp (CanTrace c m)

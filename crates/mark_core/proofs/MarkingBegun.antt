@@ -13,7 +13,6 @@ use Rattle.heap_graph.specs.Walk.{has, with_addresses}
 use Rattle.heap_graph.proofs.Marks as found
 use Rattle.heap_world.specs.World.{Plot, thing}
 use Rattle.heap_world.proofs.Pointing.{piece_inside}
-use Rattle.full_words.proofs.Named.{thing_at}
 use Rattle.full_words.specs.Held.{IsAmong}
 use Rattle.full_words.specs.Full.{root_words}
 use Rattle.full_words.specs.Promised.{Promises}
@@ -48,7 +47,7 @@ module _ (c : Config) (m : Word → ℕ) (block : Plot) (owner : ℕ → Option 
   pub named_inside : (word : ℕ) → IsAmong (root_words c m) word → IsNullOrInside c word
   named_inside word among some =
       let named = holds.objects.root_named word among some in
-      let piece = thing_at block holds.things word named.2 named.4 in
+      let piece = holds.pieces.named word named.2 named.4 in
       let inside = piece_inside c top block holds.objects.plotted word (thing named.2 piece.0 piece.1) piece.2 in
       (inside.0, omega (arith, inside.1))
 

@@ -15,9 +15,9 @@ use Rattle.cycle_words.specs.Marking.Laws.{BeginsMarking, AreClosed}
 abbrev pub MarksSome : Config → (Word → ℕ) → Type 0
 MarksSome c memory = ∥ ((g : Graph) × (block : Plot) × (owner : ℕ → Option ℕ) × (p : Promises) × HoldsBy c memory block owner p g × IsMarking c memory block) ∥₁
 
--- whatever graph the words held, in whatever way, they hold it afterwards in the same way, and marking runs
+-- whatever graph the words held, in whatever way, they hold it afterwards in the same way, and without garbage, and marking runs
 abbrev pub BeginsToMark : Config → (before after : Word → ℕ) → Type 0
-BeginsToMark c before after = (block : Plot) (owner : ℕ → Option ℕ) (p : Promises) (g : Graph) → HoldsBy c before block owner p g → BeginsMarking c after block owner p g
+BeginsToMark c before after = (block : Plot) (owner : ℕ → Option ℕ) (p : Promises) (g : Graph) → HoldsBy c before block owner p g → BeginsMarking c before after block owner p g
 
 -- exactly what tracing comes to has become grey and black
 abbrev pub MarksTheTraced : Config → (before after : Word → ℕ) → Type 0

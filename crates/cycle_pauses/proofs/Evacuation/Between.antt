@@ -41,78 +41,51 @@ IsLive _ = ⊥
 -- what is left of it where it was
 abbrev pub old_of : Block → ℕ → Block
 old_of (thing name refs nums) to = moved name refs nums to
-old_of (promised seat words) to = spent words to
 old_of (moved name refs nums at) to = moved name refs nums to
-old_of (spent words at) to = spent words to
-old_of (hand seat words) to = spent words to
-old_of (filler words) to = spent words to
+old_of x to = spent (words_of x) to
 
 pub old_words : (x : Block) (to : ℕ) → words_of (old_of x to) ≡ words_of x
 old_words (thing name refs nums) to = refl
-old_words (promised seat words) to = refl
 old_words (moved name refs nums at) to = refl
-old_words (spent words at) to = refl
-old_words (hand seat words) to = refl
-old_words (filler words) to = refl
+old_words _ to = refl
 
 pub old_name : (x : Block) (to : ℕ) → IsLive x → name_at (Some (old_of x to)) ≡ name_at (Some x)
 old_name (thing name refs nums) to live = refl
 old_name (promised seat words) to live = refl
-old_name (moved name refs nums at) to live = absurd live
-old_name (spent words at) to live = absurd live
-old_name (hand seat words) to live = absurd live
-old_name (filler words) to live = absurd live
+old_name _ to live = absurd live
 
 -- an old copy is none of these
 pub old_is_old : (x : Block) (to : ℕ) → ((name : Name) (refs nums : ℕ) → old_of x to ≡ thing name refs nums → ⊥) × ((seat words : ℕ) → old_of x to ≡ promised seat words → ⊥)
     × ((seat words : ℕ) → old_of x to ≡ hand seat words → ⊥) × ((words : ℕ) → old_of x to ≡ filler words → ⊥)
 old_is_old (thing n r s) to = (λ name refs nums is. cc, λ seat words is. cc, λ seat words is. cc, λ words is. cc)
-old_is_old (promised s w) to = (λ name refs nums is. cc, λ seat words is. cc, λ seat words is. cc, λ words is. cc)
 old_is_old (moved n r s at) to = (λ name refs nums is. cc, λ seat words is. cc, λ seat words is. cc, λ words is. cc)
-old_is_old (spent w at) to = (λ name refs nums is. cc, λ seat words is. cc, λ seat words is. cc, λ words is. cc)
-old_is_old (hand s w) to = (λ name refs nums is. cc, λ seat words is. cc, λ seat words is. cc, λ words is. cc)
-old_is_old (filler w) to = (λ name refs nums is. cc, λ seat words is. cc, λ seat words is. cc, λ words is. cc)
+old_is_old _ to = (λ name refs nums is. cc, λ seat words is. cc, λ seat words is. cc, λ words is. cc)
 
 -- where it is one of an object, the object was there; where it is one of an object that was promised, that was
 pub was_thing : (x : Block) (to : ℕ) → IsLive x → (name : Name) (refs nums at : ℕ) → old_of x to ≡ moved name refs nums at → (x ≡ thing name refs nums) × (at ≡ to)
 was_thing (thing n r s) to live name refs nums at is = (cc, cc)
 was_thing (promised s w) to live name refs nums at is = cc
-was_thing (moved n r s k) to live name refs nums at is = absurd live
-was_thing (spent w k) to live name refs nums at is = absurd live
-was_thing (hand s w) to live name refs nums at is = absurd live
-was_thing (filler w) to live name refs nums at is = absurd live
+was_thing _ to live name refs nums at is = absurd live
 
 pub was_promised : (x : Block) (to : ℕ) → IsLive x → (words at : ℕ) → old_of x to ≡ spent words at → (seat : ℕ) × (x ≡ promised seat words) × (at ≡ to)
 was_promised (thing n r s) to live words at is = cc
 was_promised (promised s w) to live words at is = (s, cc, cc)
-was_promised (moved n r s k) to live words at is = absurd live
-was_promised (spent w k) to live words at is = absurd live
-was_promised (hand s w) to live words at is = absurd live
-was_promised (filler w) to live words at is = absurd live
+was_promised _ to live words at is = absurd live
 
 -- a live piece is none of these
 pub live_is_live : (x : Block) → IsLive x → ((name : Name) (refs nums to : ℕ) → x ≡ moved name refs nums to → ⊥) × ((words to : ℕ) → x ≡ spent words to → ⊥)
     × ((seat words : ℕ) → x ≡ hand seat words → ⊥) × ((words : ℕ) → x ≡ filler words → ⊥)
 live_is_live (thing n r s) live = (λ name refs nums to is. cc, λ words to is. cc, λ seat words is. cc, λ words is. cc)
 live_is_live (promised s w) live = (λ name refs nums to is. cc, λ words to is. cc, λ seat words is. cc, λ words is. cc)
-live_is_live (moved n r s k) live = absurd live
-live_is_live (spent w k) live = absurd live
-live_is_live (hand s w) live = absurd live
-live_is_live (filler w) live = absurd live
+live_is_live _ live = absurd live
 
 -- it may be marked, and what is left of it is a copy
 pub live_markable : (block : Plot) (a : ℕ) (x : Block) → IsLive x → block a ≡ Some x → IsMarkable block a
 live_markable block a (thing n r s) live is = IsMarkable.object n r s is
 live_markable block a (promised s w) live is = IsMarkable.to_come s w is
-live_markable block a (moved n r s k) live is = absurd live
-live_markable block a (spent w k) live is = absurd live
-live_markable block a (hand s w) live is = absurd live
-live_markable block a (filler w) live is = absurd live
+live_markable block a _ live is = absurd live
 
 pub old_has_copy : (block : Plot) (a to : ℕ) (x : Block) → IsLive x → block a ≡ Some (old_of x to) → HasCopy block a
 old_has_copy block a to (thing n r s) live is = HasCopy.copy (record { name = n; refs = r; nums = s }) (ap body_at is)
 old_has_copy block a to (promised s w) live is = HasCopy.spent_copy w to is
-old_has_copy block a to (moved n r s k) live is = absurd live
-old_has_copy block a to (spent w k) live is = absurd live
-old_has_copy block a to (hand s w) live is = absurd live
-old_has_copy block a to (filler w) live is = absurd live
+old_has_copy block a to _ live is = absurd live

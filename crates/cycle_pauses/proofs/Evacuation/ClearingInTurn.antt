@@ -35,10 +35,10 @@ pub record IsClearing (c : Config) (first m : Word → ℕ) (block : Plot) (owne
   pub same : (word : Word) → (MayChange word → ⊥) → (IsNaming word → ⊥) → m word ≡ first word
 
 -- headers, and where an object is by its header
-plain_is_plain : (header : ℕ) → header ≡ plain_header → is_forwarded header ≡ false
+pub plain_is_plain : (header : ℕ) → header ≡ plain_header → is_forwarded header ≡ false
 plain_is_plain header is = ap is_forwarded is
 
-led_is_forwarded : (header to : ℕ) → header ≡ header_word to → is_forwarded header ≡ true
+pub led_is_forwarded : (header to : ℕ) → header ≡ header_word to → is_forwarded header ≡ true
 led_is_forwarded header to is = ap is_forwarded is ∙ eq-eqb (header_word to % 4) 3 (omega arith)
 
 pub now_is : (m : Word → ℕ) (a to : ℕ) → m (Heap a) ≡ header_word to → now_in m a ≡ to

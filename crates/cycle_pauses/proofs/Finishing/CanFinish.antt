@@ -5,10 +5,9 @@ use Rattle.std.proofs.lemmas.Bool.{cases_eq, cases_lt}
 use Rattle.std.proofs.lemmas.Nat.{div-add-mod', mod_below, pow_pos}
 use Rattle.std.proofs.lemmas.Nat.Bits.{bit_at-lt, bit_at_above, bit_at_cat_low, same_from_bits}
 use Rattle.heap_words.specs.declared.config.Config.{Config}
-use Rattle.heap_words.specs.Words.{Word, Cset, Top, Current}
-use Rattle.heap_words.specs.Encoding.{shape_word, object_words}
+use Rattle.heap_words.specs.Words.{Word, Cset, Top, Current, Heap}
 use Rattle.shen_graph.specs.Graph.{Graph}
-use Rattle.heap_world.specs.World.{Block, thing, moved, spent, hand, promised, filler, words_of, IsCollected}
+use Rattle.heap_world.specs.World.{Block, words_of, IsCollected}
 use Rattle.heap_world.specs.Asking.{Asking}
 use Rattle.heap_world.specs.Represents.{RepresentsByCopies}
 use Rattle.heap_world.proofs.Pieces.{some_words}
@@ -17,6 +16,7 @@ use Rattle.cycle_words.specs.Finishing.Updated.{CanUpdateAll}
 use Rattle.cycle_words.specs.Finishing.Copies.{all_copied}
 use Rattle.cycle_words.proofs.Finishing.CanUpdate as updates
 use Rattle.cycle_pauses.specs.Finishing.Laws.{RepresentingCanFinish}
+use Rattle.cycle_pauses.proofs.Finishing.Sizes.{piece_sizes}
 use Rattle.cycle_pauses.proofs.Finishing.CopyingKeeps.{copying_keeps, left_can_be_copied}
 
 -- a number whose bits are all below another one is small
@@ -37,24 +37,12 @@ few_bits x n each =
     omega (arith, same, low)
 
 module _ (c : Config) (m : Word → ℕ) (g : Graph) (asking : ℕ → Asking) (r : RepresentsByCopies c m g asking) where
-  shape_words : (refs nums : ℕ) → refs ≤ 16 → nums ≤ 16 → object_words (shape_word refs nums) ≡ 3 + refs + nums
-  shape_words refs nums few less = omega (arith, few, less)
-
   some : (a : ℕ) (x : Block) → r.block a ≡ Some x → 1 ≤ words_of x
   some = some_words c (λ q. m (Top q)) (λ q. m (Current q)) r.block r.shared.parsable r.shared.owned.rooms
 
   -- a piece outside of the set has as many words as its shape word says
   sizes : (a : ℕ) (x : Block) → r.block a ≡ Some x → (IsCollected c (m Cset) a → ⊥) → words_at m a ≡ words_of x
-  sizes a (thing name refs nums) is away =
-      let o = r.shared.contents.objects.each a refs nums name is in
-      ap object_words o.2.shape ∙ shape_words refs nums o.2.few_refs o.2.few_nums
-  sizes a (moved name refs nums to) is away = absurd (away (r.shared.evacuated.moved.moveds a refs nums to name is).inside)
-  sizes a (spent words to) is away = absurd (away (r.shared.evacuated.moved.spents a words to is).inside)
-  sizes a (hand seat words) is away = absurd (r.none a seat words is)
-  sizes a (promised seat words) is away =
-      let blank = r.shared.unwritten.blanks a seat words is in
-      ap object_words blank.shape ∙ shape_words blank.refs blank.nums blank.few_refs blank.few_nums ∙ sym blank.long
-  sizes a (filler words) is away = r.shared.unwritten.lengths a words is
+  sizes = piece_sizes c (m Cset) (λ a. m (Heap a)) r.block g.object r.shared.contents.objects r.shared.unwritten r.shared.evacuated.moved r.none
 
   can_update : CanUpdateAll c m
   can_update = updates.can_update c m r.block r.shared.parsable.plotted r.shared.parsable.filled some sizes (few_bits (m Cset) c.regions r.shared.evacuated.aside.in_heap)

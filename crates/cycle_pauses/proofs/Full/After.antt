@@ -1,5 +1,5 @@
 -- Words that stand for a graph with promised objects represent it: the promised objects are no objects of the graph any more.
-use Rattle.std.proofs.Common.{zero, suc, length, replicate, subst, ◌≡◌, ℕ, ◌+◌, ◌-◌, ◌<◌, ◌⊎◌, Bool, true, false, slice_get, Some, None, inl, inr, ⊎_elim, refl, sym, ap, ◌∙◌, arith}
+use Rattle.std.proofs.Common.{zero, suc, length, replicate, subst, ◌≡◌, ℕ, ◌+◌, ◌-◌, ◌<◌, Bool, true, false, slice_get, Some, None, ⊎_elim, refl, sym, ap, ◌∙◌, arith}
 use Rattle.std.specs.Prelude.{if◌then◌else◌}
 use Rattle.std.proofs.lemmas.Bool.{cond-true, cond-false, cases_Bool}
 use Rattle.std.proofs.lemmas.List.{length-replicate}
@@ -15,8 +15,9 @@ use Rattle.heap_world.proofs.Copies.{none_evacuated}
 use Rattle.heap_world.proofs.Unmarked.{none_marked}
 use Rattle.full_words.specs.Promised.{Promises, with_promised}
 use Rattle.full_words.specs.Image.{ImageStands}
-use Rattle.full_words.proofs.Named.{thing_at, no_moved, no_spent, no_hand, no_promised, no_filler}
+use Rattle.full_words.proofs.Named.{thing_at}
 use Rattle.full_words.proofs.Promised.{same_reference-true}
+use Rattle.cycle_words.proofs.Marking.Trimmed.{object_stands}
 use Rattle.cycle_pauses.proofs.Full.Mapped.{mapped, mapped_at, mapped_from, plotted_alike, filled_alike}
 
 -- an element of a list of equal ones
@@ -32,11 +33,7 @@ is_promised p n = same_reference (p.ref n.thread) (Some n)
 -- an object of the larger graph as a piece: a promised one is of no graph
 abbrev pub as_promised : Promises → Block → Block
 as_promised p (thing name refs nums) = if is_promised p name then promised (name.thread - 1) (3 + refs + nums) else thing name refs nums
-as_promised p (moved name refs nums to) = moved name refs nums to
-as_promised p (spent words to) = spent words to
-as_promised p (hand seat words) = hand seat words
-as_promised p (promised seat words) = promised seat words
-as_promised p (filler words) = filler words
+as_promised p piece = piece
 
 -- a name has an object
 abbrev pub IsKnown : Graph → Name → Type 0
@@ -76,16 +73,14 @@ module _ (c : Config) (m : Word → ℕ) (block : Plot) (g : Graph) (p : Promise
   taken = mapped (as_promised p) block
 
   -- a piece keeps its words
+  same_words_of : (n : Name) (refs nums : ℕ) (b : Bool) → is_promised p n ≡ b → words_of (as_promised p (thing n refs nums)) ≡ 3 + refs + nums
+  same_words_of n refs nums true taken_one = ap words_of (cond-true (is_promised p n) (promised (n.thread - 1) (3 + refs + nums)) (thing n refs nums) taken_one)
+  same_words_of n refs nums false other = ap words_of (cond-false (is_promised p n) (promised (n.thread - 1) (3 + refs + nums)) (thing n refs nums) other)
+
   pub same_words : (a : ℕ) (b : Block) → block a ≡ Some b → words_of (as_promised p b) ≡ words_of b
-  same_words a (thing name refs nums) is = ⊎_elim
-      (λ (yes : is_promised p name ≡ true). ap words_of (cond-true (is_promised p name) (promised (name.thread - 1) (3 + refs + nums)) (thing name refs nums) yes))
-      (λ (no : is_promised p name ≡ false). ap words_of (cond-false (is_promised p name) (promised (name.thread - 1) (3 + refs + nums)) (thing name refs nums) no))
-      (cases_Bool (is_promised p name))
-  same_words a (moved name refs nums to) is = refl
-  same_words a (spent words to) is = refl
-  same_words a (hand seat words) is = refl
-  same_words a (promised seat words) is = refl
-  same_words a (filler words) is = refl
+  same_words a b is =
+      let t = stands.things a b is in
+      subst (λ x. words_of (as_promised p x) ≡ words_of x) (sym t.3) (same_words_of t.0 t.1 t.2 (is_promised p t.0) refl)
 
   -- a name that has an object is no promised one
   pub not_promised : (n : Name) → IsKnown g n → is_promised p n ≡ false
@@ -110,69 +105,48 @@ module _ (c : Config) (m : Word → ℕ) (block : Plot) (g : Graph) (p : Promise
   points_on word None known points = points
   points_on word (Some n) known points = known_stays word n (known n refl) points
 
-  -- an object that is left is an old one
-  left_of : (a refs nums : ℕ) (n : Name) (b : Block) → block a ≡ Some b → as_promised p b ≡ thing n refs nums → IsOld block p a refs nums n
-  left_of a refs nums n (thing name more_refs more_nums) is same = ⊎_elim
-      (λ (yes : is_promised p name ≡ true).
-      let gone : promised (name.thread - 1) (3 + more_refs + more_nums) ≡ thing n refs nums =
-      sym (cond-true (is_promised p name) (promised (name.thread - 1) (3 + more_refs + more_nums)) (thing name more_refs more_nums) yes) ∙ same in
-      cc)
-      (λ (no : is_promised p name ≡ false).
-      let stays : thing name more_refs more_nums ≡ thing n refs nums =
-      sym (cond-false (is_promised p name) (promised (name.thread - 1) (3 + more_refs + more_nums)) (thing name more_refs more_nums) no) ∙ same in
-      let name_is : name ≡ n = same_Some name n (ap (λ b. name_at (Some b)) stays) in
-      (is ∙ ap Some stays, ap (is_promised p) (sym name_is) ∙ no))
-      (cases_Bool (is_promised p name))
-  left_of a refs nums n (moved name more_refs more_nums to) is same = absurd (no_moved block stands.things a more_refs more_nums to name is)
-  left_of a refs nums n (spent words to) is same = absurd (no_spent block stands.things a words to is)
-  left_of a refs nums n (hand seat words) is same = absurd (no_hand block stands.things a seat words is)
-  left_of a refs nums n (promised seat words) is same = absurd (no_promised block stands.things a seat words is)
-  left_of a refs nums n (filler words) is same = absurd (no_filler block stands.things a words is)
+  -- Each piece is an old object that is left, or a promised one.
+  data TakenPiece (a : ℕ) (x : Block) : Type 0 where
+    stays_old : (n : Name) (refs nums : ℕ) → block a ≡ Some (thing n refs nums) → is_promised p n ≡ false → x ≡ thing n refs nums → TakenPiece a x
+    is_taken : (n : Name) (refs nums : ℕ) → block a ≡ Some (thing n refs nums) → is_promised p n ≡ true → x ≡ promised (n.thread - 1) (3 + refs + nums) → TakenPiece a x
+
+  taken_of : (a : ℕ) (n : Name) (refs nums : ℕ) (x : Block) → block a ≡ Some (thing n refs nums) → as_promised p (thing n refs nums) ≡ x → TakenPiece a x
+  taken_of a n refs nums x is same = ⊎_elim
+      (λ (yes : is_promised p n ≡ true). is_taken n refs nums is yes (sym same ∙ cond-true (is_promised p n) (promised (n.thread - 1) (3 + refs + nums)) (thing n refs nums) yes))
+      (λ (no : is_promised p n ≡ false). stays_old n refs nums is no (sym same ∙ cond-false (is_promised p n) (promised (n.thread - 1) (3 + refs + nums)) (thing n refs nums) no))
+      (cases_Bool (is_promised p n))
+
+  taken_at : (a : ℕ) (x : Block) → taken a ≡ Some x → TakenPiece a x
+  taken_at a x is =
+      let was = mapped_from (as_promised p) block a x is in
+      let t = stands.things a was.0 was.1 in
+      taken_of a t.0 t.1 t.2 x (was.1 ∙ ap Some t.3) (ap (as_promised p) (sym t.3) ∙ was.2)
+
+  left_of : (a refs nums : ℕ) (n : Name) → TakenPiece a (thing n refs nums) → IsOld block p a refs nums n
+  left_of a refs nums n (stays_old name more less here other same) =
+      let name_is : n ≡ name = same_Some n name (ap (λ b. name_at (Some b)) same) in
+      (here ∙ ap Some (sym same), ap (is_promised p) name_is ∙ other)
+  left_of a refs nums n (is_taken name more less here test wrong) = (let differ = wrong in cc)
 
   pub left : (a refs nums : ℕ) (n : Name) → taken a ≡ Some (thing n refs nums) → IsOld block p a refs nums n
-  left a refs nums n is = let was = mapped_from (as_promised p) block a (thing n refs nums) is in left_of a refs nums n was.0 was.1 was.2
+  left a refs nums n is = left_of a refs nums n (taken_at a (thing n refs nums) is)
 
   -- a promised piece is a promised object
-  gone_of : (a seat words : ℕ) (b : Block) → block a ≡ Some b → as_promised p b ≡ promised seat words → IsPromisedThing block p a seat words
-  gone_of a seat words (thing name refs nums) is same = ⊎_elim
-      (λ (yes : is_promised p name ≡ true).
-      let gone : promised (name.thread - 1) (3 + refs + nums) ≡ promised seat words =
-      sym (cond-true (is_promised p name) (promised (name.thread - 1) (3 + refs + nums)) (thing name refs nums) yes) ∙ same in
-      record { name = name; refs = refs; nums = nums; here = is; named = same_reference-true (p.ref name.thread) name yes; seat_is = cc; words_are = cc })
-      (λ (no : is_promised p name ≡ false).
-      let stays : thing name refs nums ≡ promised seat words =
-      sym (cond-false (is_promised p name) (promised (name.thread - 1) (3 + refs + nums)) (thing name refs nums) no) ∙ same in
-      cc)
-      (cases_Bool (is_promised p name))
-  gone_of a seat words (moved name more_refs more_nums to) is same = absurd (no_moved block stands.things a more_refs more_nums to name is)
-  gone_of a seat words (spent more to) is same = absurd (no_spent block stands.things a more to is)
-  gone_of a seat words (hand other more) is same = absurd (no_hand block stands.things a other more is)
-  gone_of a seat words (promised other more) is same = absurd (no_promised block stands.things a other more is)
-  gone_of a seat words (filler more) is same = absurd (no_filler block stands.things a more is)
+  gone_of : (a seat words : ℕ) → TakenPiece a (promised seat words) → IsPromisedThing block p a seat words
+  gone_of a seat words (stays_old name refs nums here other wrong) = (let differ = wrong in cc)
+  gone_of a seat words (is_taken name refs nums here test same) =
+      record { name = name; refs = refs; nums = nums; here = here; named = same_reference-true (p.ref name.thread) name test; seat_is = cc; words_are = cc }
 
   pub gone : (a seat words : ℕ) → taken a ≡ Some (promised seat words) → IsPromisedThing block p a seat words
-  gone a seat words is = let was = mapped_from (as_promised p) block a (promised seat words) is in gone_of a seat words was.0 was.1 was.2
-
-  -- each piece is an object, or promised
-  either : (a : ℕ) (b x : Block) → block a ≡ Some b → as_promised p b ≡ x → ((name : Name) × (refs : ℕ) × (nums : ℕ) × (x ≡ thing name refs nums)) ⊎ ((seat : ℕ) × (words : ℕ) × (x ≡ promised seat words))
-  either a b x is same =
-      let found = stands.things a b is in
-      let here : as_promised p (thing found.0 found.1 found.2) ≡ x = ap (as_promised p) (sym found.3) ∙ same in
-      ⊎_elim
-      (λ (yes : is_promised p found.0 ≡ true).
-      inr (found.0.thread - 1, 3 + found.1 + found.2, sym here ∙ cond-true (is_promised p found.0) (promised (found.0.thread - 1) (3 + found.1 + found.2)) (thing found.0 found.1 found.2) yes))
-      (λ (no : is_promised p found.0 ≡ false).
-      inl (found.0, found.1, found.2, sym here ∙ cond-false (is_promised p found.0) (promised (found.0.thread - 1) (3 + found.1 + found.2)) (thing found.0 found.1 found.2) no))
-      (cases_Bool (is_promised p found.0))
+  gone a seat words is = gone_of a seat words (taken_at a (promised seat words) is)
 
   -- and of no other kind
   no_other : (a : ℕ) (x : Block) → ((name : Name) (refs nums : ℕ) → x ≡ thing name refs nums → ⊥) → ((seat words : ℕ) → x ≡ promised seat words → ⊥) → taken a ≡ Some x → ⊥
-  no_other a x unlike unpromised is =
-      let was = mapped_from (as_promised p) block a x is in
-      ⊎_elim
-      (λ (one : (name : Name) × (refs : ℕ) × (nums : ℕ) × (x ≡ thing name refs nums)). unlike one.0 one.1 one.2 one.3)
-      (λ (one : (seat : ℕ) × (words : ℕ) × (x ≡ promised seat words)). unpromised one.0 one.1 one.2)
-      (either a was.0 x was.1 was.2)
+  no_other a x unlike unpromised is = by_kind (taken_at a x is)
+    where
+      by_kind : TakenPiece a x → ⊥
+      by_kind (stays_old name refs nums here other same) = unlike name refs nums same
+      by_kind (is_taken name refs nums here test same) = unpromised (name.thread - 1) (3 + refs + nums) same
 
   pub no_hands : (a seat words : ℕ) → taken a ≡ Some (hand seat words) → ⊥
   no_hands a seat words = no_other a (hand seat words) (λ name refs nums wrong. (let differ = wrong in cc)) (λ other more wrong. (let differ = wrong in cc))
@@ -199,18 +173,9 @@ module _ (c : Config) (m : Word → ℕ) (block : Plot) (g : Graph) (p : Promise
         let object : g.object n ≡ Some o.0 = old_object n o.0 old.1 o.1 in (
           o.0,
           object,
-          record {
-            header = o.2.header;
-            shape = o.2.shape;
-            name_word = o.2.name_word;
-            few_refs = o.2.few_refs;
-            few_nums = o.2.few_nums;
-            refs_are = o.2.refs_are;
-            nums_are = o.2.nums_are;
-            references = λ i reference there.
-                points_on (heap (a + 3 + i)) reference (λ f same. is_after.fields a refs nums i n f o.0 old.0 object (there ∙ ap Some same)) (o.2.references i reference there);
-            numbers = o.2.numbers;
-          },
+          object_stands heap block taken a refs nums n o.0
+              (λ i reference there below points.
+              points_on (heap (a + 3 + i)) reference (λ f same. is_after.fields a refs nums i n f o.0 old.0 object (there ∙ ap Some same)) points) o.2,
         );
     once = λ a b refs nums more_refs more_nums n is_a is_b.
         stands.objects.once a b refs nums more_refs more_nums n (left a refs nums n is_a).0 (left b more_refs more_nums n is_b).0;

@@ -1,10 +1,10 @@
 -- The words of an image before a pause: promised objects are objects of a larger graph, and an old copy is an object as its current
 -- copy is.
-use Rattle.std.proofs.Common.{◌≡◌, ℕ, ◌+◌, ◌-◌, ◌<◌, ◌⊎◌, ◌&&◌, inl, inr, true, false, nat_le, nat_lt, Option, Some, ⊎_elim, refl, sym, ap, ◌∙◌, subst, arith}
+use Rattle.std.proofs.Common.{◌≡◌, ℕ, ◌+◌, ◌-◌, ◌<◌, ◌≤◌, ◌⊎◌, ◌&&◌, inl, inr, true, false, nat_le, nat_lt, Option, Some, ⊎_elim, refl, sym, ap, ◌∙◌, subst, arith}
 use Rattle.std.proofs.lemmas.Bool.{cond-true, cond-false, cases_Bool, and_parts, leb-true, ltb-true}
 use Rattle.std.proofs.lemmas.Option.{none-some, same_Some}
 use Rattle.heap_words.specs.declared.config.Config.{Config}
-use Rattle.heap_words.specs.Words.{Word, Top, Root, Answer, Heap}
+use Rattle.heap_words.specs.Words.{Word, Top, Current, Root, Answer, Heap}
 use Rattle.shen_graph.specs.declared.name.Name.{Name}
 use Rattle.shen_graph.specs.Graph.{Graph, Object, blank, fresh, same_reference}
 use Rattle.shen_graph.proofs.PlainLemmas.{same_name-itself}
@@ -13,14 +13,14 @@ use Rattle.heap_world.specs.Asking.{Asking, nothing, asks, refused, given, IsPro
 use Rattle.heap_world.specs.Roots.{is_root_of}
 use Rattle.heap_world.specs.Represents.{RepresentsByCopies}
 use Rattle.heap_world.proofs.Pointing.{named_body, copy_cases}
-use Rattle.heap_world.proofs.Pieces.{object_reads}
+use Rattle.heap_world.proofs.Pieces.{some_words, object_reads}
 use Rattle.heap_world.proofs.Keeping.{points_stay}
 use Rattle.heap_world.proofs.NewObject.{new_object}
 use Rattle.full_words.specs.Promised.{Promises, with_promised}
 use Rattle.full_words.specs.Image.{AnswerStands, RootsStand}
 use Rattle.full_words.proofs.Promised.{same_reference-true}
 use Rattle.cycle_pauses.proofs.Full.Promises.{promised_ref, promised_refs, promised_nums, promises_of, ref_of, refs_of, nums_of, promised_one}
-use Rattle.cycle_pauses.proofs.Full.Mapped.{mapped, mapped_at, plotted_alike, filled_alike}
+use Rattle.cycle_pauses.proofs.Full.Mapped.{mapped, mapped_at, mapped_from, plotted_alike, filled_alike}
 
 -- what is at the address of a current copy, as an object of the larger graph: a promised object has its thread's next name
 abbrev pub as_current : Graph → (ℕ → Asking) → Option Block → Block → Block
@@ -33,9 +33,31 @@ abbrev pub as_object : Graph → (ℕ → Asking) → Plot → Block → Block
 as_object g asking block (thing name refs nums) = thing name refs nums
 as_object g asking block (moved name refs nums to) = thing name refs nums
 as_object g asking block (spent words to) = as_current g asking (block to) (filler words)
-as_object g asking block (hand seat words) = hand seat words
-as_object g asking block (filler words) = filler words
 as_object g asking block (promised seat words) = thing (fresh g (seat + 1)) (promised_refs (asking seat)) (promised_nums (asking seat))
+as_object g asking block piece = piece
+
+-- a piece that is no object, old or new, nor room in hand
+abbrev pub OnlyFills : Block → Type 0
+OnlyFills (thing name refs nums) = ⊥
+OnlyFills (moved name refs nums to) = ⊥
+OnlyFills (spent words to) = ⊥
+OnlyFills (hand seat words) = ⊥
+OnlyFills (promised seat words) = ⊥
+OnlyFills _ = Unit {0}
+
+-- it is no object of the larger graph
+pub fills_still : (g : Graph) (asking : ℕ → Asking) (block : Plot) (b : Block) → OnlyFills b → as_object g asking block b ≡ b
+fills_still g asking block (thing name refs nums) fills = absurd fills
+fills_still g asking block (moved name refs nums to) fills = absurd fills
+fills_still g asking block (spent words to) fills = absurd fills
+fills_still g asking block (hand seat words) fills = absurd fills
+fills_still g asking block (promised seat words) fills = absurd fills
+fills_still g asking block _ fills = refl
+
+pub fills_unnamed : (b : Block) (name : Name) → OnlyFills b → name_at (Some b) ≡ Some name → ⊥
+fills_unnamed (thing n refs nums) name fills is = fills
+fills_unnamed (moved n refs nums to) name fills is = fills
+fills_unnamed _ name fills is = none-some name is
 
 -- what the words at an address are as a piece
 abbrev ObjectAt : (ℕ → ℕ) → Plot → (Name → Option Object) → ℕ → Block → Type 0
@@ -101,19 +123,16 @@ module _ (c : Config) (m : Word → ℕ) (g : Graph) (asking : ℕ → Asking) (
 
   -- a piece keeps its words
   pub same_words : (a : ℕ) (b : Block) → r.block a ≡ Some b → words_of (as_object g asking r.block b) ≡ words_of b
-  same_words a (thing name refs nums) is = refl
-  same_words a (moved name refs nums to) is = refl
   same_words a (spent words to) is = let old = r.shared.evacuated.moved.spents a words to is in spent_words to words old.copy (λ b here. ap words_of (same_Some b old.piece (sym here ∙ old.there)) ∙ old.long)
-  same_words a (hand seat words) is = refl
-  same_words a (filler words) is = refl
   same_words a (promised seat words) is = promised_words a seat words is
+  same_words a _ is = refl
 
   -- objects stand where they stood
   pub live_at : (a : ℕ) (b : Block) → r.block a ≡ Some b → live a ≡ Some (as_object g asking r.block b)
   live_at a b is = mapped_at (as_object g asking r.block) r.block a b is
 
   -- a piece that is no object of the larger graph only fills
-  pub pieces_are : (a : ℕ) (b : Block) → r.block a ≡ Some b → ((name : Name) × (refs : ℕ) × (nums : ℕ) × (as_object g asking r.block b ≡ thing name refs nums)) ⊎ ((words : ℕ) × (b ≡ filler words))
+  pub pieces_are : (a : ℕ) (b : Block) → r.block a ≡ Some b → ((name : Name) × (refs : ℕ) × (nums : ℕ) × (as_object g asking r.block b ≡ thing name refs nums)) ⊎ OnlyFills b
   pieces_are a (thing name refs nums) is = inl (name, refs, nums, refl)
   pieces_are a (moved name refs nums to) is = inl (name, refs, nums, refl)
   pieces_are a (spent words to) is = inl (by_copy (r.shared.evacuated.moved.spents a words to is).copy)
@@ -122,8 +141,8 @@ module _ (c : Config) (m : Word → ℕ) (g : Graph) (asking : ℕ → Asking) (
       by_copy (IsMarkable.object name refs nums here) = (name, refs, nums, ap (λ o. as_current g asking o (filler words)) here)
       by_copy (IsMarkable.to_come seat more here) = (fresh g (seat + 1), promised_refs (asking seat), promised_nums (asking seat), ap (λ o. as_current g asking o (filler words)) here)
   pieces_are a (hand seat words) is = absurd (r.none a seat words is)
-  pieces_are a (filler words) is = inr (words, refl)
   pieces_are a (promised seat words) is = inl (fresh g (seat + 1), promised_refs (asking seat), promised_nums (asking seat), refl)
+  pieces_are a _ is = inr tt
 
   pub names_stay : (a : ℕ) (n : Name) → name_at (r.block a) ≡ Some n → name_at (live a) ≡ Some n
   names_stay a n is =
@@ -240,3 +259,41 @@ module _ (c : Config) (m : Word → ℕ) (g : Graph) (asking : ℕ → Asking) (
 
   pub live_filled : IsFilled c (λ q. m (Top q)) live
   live_filled = filled_alike c (λ q. m (Top q)) r.block (as_object g asking r.block) same_words r.shared.parsable.filled
+
+  -- what is no object of the larger graph was there, and only fills
+  live_cases : (a : ℕ) (x : Block) → live a ≡ Some x → ((name : Name) × (refs : ℕ) × (nums : ℕ) × (x ≡ thing name refs nums)) ⊎ ((r.block a ≡ Some x) × OnlyFills x)
+  live_cases a x is =
+      let was = mapped_from (as_object g asking r.block) r.block a x is in
+      ⊎_elim
+      (λ (one : (name : Name) × (refs : ℕ) × (nums : ℕ) × (as_object g asking r.block was.0 ≡ thing name refs nums)). inl (one.0, one.1, one.2, sym was.2 ∙ one.3))
+      (λ (fills : OnlyFills was.0).
+      let same : was.0 ≡ x = sym (fills_still g asking r.block was.0 fills) ∙ was.2 in
+      inr (was.1 ∙ ap Some same, subst OnlyFills same fills))
+      (pieces_are a was.0 was.1)
+
+  pub live_unpromised : (a seat words : ℕ) → live a ≡ Some (promised seat words) → ⊥
+  live_unpromised a seat words is = ⊎_elim
+      (λ (one : (name : Name) × (refs : ℕ) × (nums : ℕ) × (promised seat words ≡ thing name refs nums)). (let differ = one.3 in cc))
+      (λ (fills : (r.block a ≡ Some (promised seat words)) × OnlyFills (promised seat words)). fills.1)
+      (live_cases a (promised seat words) is)
+
+  pub live_unheld : (a seat words : ℕ) → live a ≡ Some (hand seat words) → ⊥
+  live_unheld a seat words is = ⊎_elim
+      (λ (one : (name : Name) × (refs : ℕ) × (nums : ℕ) × (hand seat words ≡ thing name refs nums)). (let differ = one.3 in cc))
+      (λ (fills : (r.block a ≡ Some (hand seat words)) × OnlyFills (hand seat words)). fills.1)
+      (live_cases a (hand seat words) is)
+
+  pub live_filler : (a words : ℕ) → live a ≡ Some (filler words) → r.block a ≡ Some (filler words)
+  live_filler a words is = ⊎_elim
+      (λ (one : (name : Name) × (refs : ℕ) × (nums : ℕ) × (filler words ≡ thing name refs nums)). absurd (let differ = one.3 in cc))
+      (λ (fills : (r.block a ≡ Some (filler words)) × OnlyFills (filler words)). fills.0)
+      (live_cases a (filler words) is)
+
+  -- each piece has some words
+  pub live_some : (a : ℕ) (b : Block) → live a ≡ Some b → 1 ≤ words_of b
+  live_some a b is =
+      let was = mapped_from (as_object g asking r.block) r.block a b is in
+      let long = some_words c (λ q. m (Top q)) (λ s. m (Current s)) r.block r.shared.parsable r.shared.owned.rooms a was.0 was.1 in
+      let same = same_words a was.0 was.1 in
+      let now = ap words_of was.2 in
+      omega (arith, long, same, now)

@@ -19,7 +19,7 @@ use Rattle.full_words.specs.Served.{tops_at_turn, given_in}
 use Rattle.full_words.proofs.Served.{tops_are_served, requests_are_answered}
 use Rattle.full_words.proofs.Crowded.{full_is_crowded}
 use Rattle.cycle_pauses.proofs.Full.Promises.{promised_ref, promised_refs, promised_nums, promises_of, ref_of, refs_of, nums_of}
-use Rattle.cycle_pauses.proofs.Full.Dead.{plain}
+use Rattle.cycle_pauses.proofs.Full.Before.{live}
 use Rattle.cycle_pauses.proofs.Full.Holding.{request_reads, waits_for, are_fresh, holds_by}
 use Rattle.full_words.proofs.Still.{packed_wait}
 use Rattle.cycle_pauses.proofs.Full.Paused.{then_of, asked_then}
@@ -177,7 +177,7 @@ module _ (c : Config) (m : Word → ℕ) (g : Graph) (asking : ℕ → Asking) (
         let holds = holds_by c m g asking r in
         let words : asked_in m t ≡ 3 + refs + nums = same_words (packed_wait c m t) ∙ asked_words t refs nums request in
         let short : asked_in m t ≤ c.region_words = omega (arith, words, request.few_refs, request.few_nums, c.in_range.least_words) in
-        let crowd = full_is_crowded c m (plain c m g asking r) g p reached.0 holds.objects (are_fresh c m g asking r) reached.1 t inside
+        let crowd = full_is_crowded c m (live c m g asking r) g p reached.0 holds.objects (are_fresh c m g asking r) reached.1 t inside
         (waits_for m g.count t refs nums request) short is_one in
         let product : c.regions * (c.region_words - asked_in m t + 1) ≡ c.regions * (c.region_words - (3 + refs + nums) + 1) = ap (λ (n : ℕ). c.regions * (c.region_words - n + 1)) words in
         (reached.0, reached.1, omega (arith, crowd, product, sum_others))

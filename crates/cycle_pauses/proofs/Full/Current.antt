@@ -2,7 +2,7 @@
 -- promised objects.
 use Rattle.std.proofs.Common.{◌≡◌, ◌≢◌, ℕ, ◌+◌, ◌%◌, ◌<◌, get_or, slice_get, Some, None, ⊎_elim, sym, ap, ◌∙◌, subst, arith}
 use Rattle.std.proofs.lemmas.Bool.{cond-true, eq-eqb}
-use Rattle.std.proofs.lemmas.Option.{none-some, same_Some, slice_get-get_or}
+use Rattle.std.proofs.lemmas.Option.{same_Some, slice_get-get_or}
 use Rattle.heap_words.specs.declared.config.Config.{Config}
 use Rattle.heap_words.specs.Words.{Word, Cset, Top, Root, Heap}
 use Rattle.heap_words.specs.Encoding.{plain_header, header_word, is_forwarded, forwardee_in, refs_in}
@@ -10,7 +10,7 @@ use Rattle.shen_graph.specs.declared.name.Name.{Name}
 use Rattle.shen_graph.specs.Graph.{Graph, Object, Reference}
 use Rattle.shen_graph.specs.Reach.{IsReachable}
 use Rattle.shen_graph.specs.Reach as reach
-use Rattle.heap_world.specs.World.{Block, thing, moved, spent, hand, promised, filler, Plot, name_at, body_of, Points, IsCollected, IsMarkable}
+use Rattle.heap_world.specs.World.{Block, thing, moved, spent, promised, filler, Plot, name_at, body_of, Points, IsCollected, IsMarkable}
 use Rattle.heap_world.specs.Asking.{Asking}
 use Rattle.heap_world.specs.Represents.{RepresentsByCopies}
 use Rattle.heap_world.proofs.Pointing.{named_body, named_piece, named_if_not_0, copy_cases}
@@ -22,7 +22,7 @@ use Rattle.full_words.proofs.Roots.{root_named, root_held}
 use Rattle.full_words.proofs.ImagesStand.{own_copy}
 use Rattle.cycle_pauses.proofs.Full.Promises.{promises_of}
 use Rattle.cycle_pauses.proofs.Full.Mapped.{mapped_from}
-use Rattle.cycle_pauses.proofs.Full.Before.{as_current, as_object, live, live_at, pieces_are, names_stay, promised_at, object_at, once_each, live_rooted, live_plotted}
+use Rattle.cycle_pauses.proofs.Full.Before.{as_current, as_object, OnlyFills, fills_still, fills_unnamed, live, live_at, pieces_are, names_stay, promised_at, object_at, once_each, live_rooted, live_plotted}
 
 -- where a header leads to an address, the current copy is there
 pub led_to : (memory : Word → ℕ) (a to : ℕ) → memory (Heap a) ≡ header_word to → now_in memory a ≡ to
@@ -83,9 +83,8 @@ module _ (c : Config) (m : Word → ℕ) (g : Graph) (asking : ℕ → Asking) (
   kind_of a refs nums name (spent words to) is same =
       let was = r.shared.evacuated.moved.spents a words to is in
       is_old to (record { header = was.header; inside = was.inside; copy = was.copy; outside = was.outside; same = spent_same words to was.copy ∙ ap Some same })
-  kind_of a refs nums name (hand seat words) is same = absurd (r.none a seat words is)
-  kind_of a refs nums name (filler words) is same = cc
   kind_of a refs nums name (promised seat words) is same = is_current (IsMarkable.to_come seat words is)
+  kind_of a refs nums name _ is same = cc
 
   pub kind_at : (a refs nums : ℕ) (name : Name) → old a ≡ Some (thing name refs nums) → Kind a refs nums name
   kind_at a refs nums name is =
@@ -105,7 +104,7 @@ module _ (c : Config) (m : Word → ℕ) (g : Graph) (asking : ℕ → Asking) (
   now_is a refs nums name is = now_of a refs nums name is (kind_at a refs nums name is)
 
   -- what stands for a name is an object of that name
-  old_thing : (word : ℕ) (name : Name) → name_at (old word) ≡ Some name → (refs : ℕ) × (nums : ℕ) × (old word ≡ Some (thing name refs nums))
+  pub old_thing : (word : ℕ) (name : Name) → name_at (old word) ≡ Some name → (refs : ℕ) × (nums : ℕ) × (old word ≡ Some (thing name refs nums))
   old_thing word name is =
       let piece = named_piece (old word) name is in
       let was = mapped_from (as_object g asking r.block) r.block word piece.0 piece.1 in
@@ -114,8 +113,9 @@ module _ (c : Config) (m : Word → ℕ) (g : Graph) (asking : ℕ → Asking) (
       let here : piece.0 ≡ thing one.0 one.1 one.2 = sym was.2 ∙ one.3 in
       let same : one.0 ≡ name = same_Some one.0 name (ap (λ x. name_at (Some x)) (sym here) ∙ piece.2) in
       (one.1, one.2, piece.1 ∙ ap Some here ∙ ap (λ n. Some (thing n one.1 one.2)) same))
-      (λ (other : (words : ℕ) × (was.0 ≡ filler words)).
-      absurd (none-some name (sym (ap (λ b. name_at (Some (as_object g asking r.block b))) other.1) ∙ ap (λ x. name_at (Some x)) was.2 ∙ piece.2)))
+      (λ (fills : OnlyFills was.0).
+      let same : was.0 ≡ piece.0 = sym (fills_still g asking r.block was.0 fills) ∙ was.2 in
+      absurd (fills_unnamed piece.0 name (subst OnlyFills same fills) piece.2))
       (pieces_are c m g asking r word was.0 was.1)
 
   now_named : (word : ℕ) (name : Name) → name_at (old word) ≡ Some name → Current (now_in m word) × IsCopy old (now_in m word) name

@@ -24,9 +24,9 @@ use Rattle.image_graph.specs.Holds.{HasMoved, HoldsBy, HoldsSome, AreSized}
 use Rattle.cycle_words.specs.Marking.Marks.{IsKept}
 use Rattle.cycle_words.specs.StillHolds.{AreMarkedPieces, WhileCollecting}
 use Rattle.cycle_pauses.proofs.Full.Promises.{promised_ref, promises_of, ref_of, promised_one}
-use Rattle.cycle_pauses.proofs.Full.Before.{not_next}
-use Rattle.cycle_pauses.proofs.Full.Current.{led_to, header_of, held_current, Kind, is_current, is_old, kind_at, reached_at}
-use Rattle.cycle_pauses.proofs.Full.Dead.{plain, IsPlain, is_live, is_dead, plain_at, plain_live, plain_rooted, plain_holds, plain_filled, plain_things, plain_words, plain_piece}
+use Rattle.cycle_pauses.proofs.Full.Mapped.{mapped_from}
+use Rattle.cycle_pauses.proofs.Full.Before.{as_object, live, live_at, same_words, not_next, live_rooted, live_filled, live_unpromised, live_unheld, live_some}
+use Rattle.cycle_pauses.proofs.Full.Current.{led_to, header_of, held_current, Kind, is_current, is_old, kind_at, old_thing, live_holds, reached_at}
 use Rattle.cycle_pauses.proofs.Full.ByCopies.{by_copies}
 use Rattle.cycle_pauses.specs.Full.Laws.{RepresentingIsSized}
 
@@ -132,29 +132,25 @@ module _ (c : Config) (m : Word → ℕ) (g : Graph) (asking : ℕ → Asking) (
   }
 
   -- where a header leads on, an old copy is
-  moved_live : (a refs nums : ℕ) (name : Name) → is_forwarded (m (Heap a)) ≡ true → Kind c m g asking r a refs nums name → HasMoved c m (plain c m g asking r) a refs nums name
-  moved_live a refs nums name forwarded (is_current here) = absurd (true≢false (sym forwarded ∙ ap is_forwarded (header_of c m g asking r a here)))
-  moved_live a refs nums name forwarded (is_old to was) =
+  moved_by : (a refs nums : ℕ) (name : Name) → is_forwarded (m (Heap a)) ≡ true → Kind c m g asking r a refs nums name → HasMoved c m (live c m g asking r) a refs nums name
+  moved_by a refs nums name forwarded (is_current here) = absurd (true≢false (sym forwarded ∙ ap is_forwarded (header_of c m g asking r a here)))
+  moved_by a refs nums name forwarded (is_old to was) =
       let there = led_to m a to was.header in
       record {
         in_set = was.inside;
-        copy = ap (plain c m g asking r) there ∙ plain_live c m g asking r to refs nums name was.same;
+        copy = ap (live c m g asking r) there ∙ was.same;
         outside = not_in (m Cset) (region_with c (now_in m a)) (λ inside. was.outside (subst (λ k. IsCollected c (m Cset) k) there inside));
         current = ap (λ k. is_forwarded (m (Heap k))) there ∙ ap is_forwarded (header_of c m g asking r to was.copy);
       }
 
-  moved_by : (a refs nums : ℕ) (name : Name) → is_forwarded (m (Heap a)) ≡ true → IsPlain c m g asking r a refs nums name → HasMoved c m (plain c m g asking r) a refs nums name
-  moved_by a refs nums name forwarded (is_live here) = moved_live a refs nums name forwarded (kind_at c m g asking r a refs nums name here)
-  moved_by a refs nums name forwarded (is_dead words here) = absurd (true≢false (sym forwarded ∙ ap is_forwarded (r.shared.unwritten.headers a words here)))
-
   -- so the image holds the graph
-  pub holds_by : HoldsBy c m (plain c m g asking r) r.ghost.owner p g
+  pub holds_by : HoldsBy c m (live c m g asking r) r.ghost.owner p g
   holds_by = record {
-    objects = plain_holds c m g asking r;
-    rooted = plain_rooted c m g asking r;
-    moved = λ a refs nums name is forwarded. moved_by a refs nums name forwarded (plain_at c m g asking r a refs nums name is);
-    filled = plain_filled c m g asking r;
-    things = plain_things c m g asking r;
+    objects = live_holds c m g asking r;
+    rooted = live_rooted c m g asking r;
+    moved = λ a refs nums name is forwarded. moved_by a refs nums name forwarded (kind_at c m g asking r a refs nums name is);
+    filled = live_filled c m g asking r;
+    pieces = record { named = old_thing c m g asking r; unpromised = live_unpromised c m g asking r; unheld = live_unheld c m g asking r; some = live_some c m g asking r };
     free_word = r.shared.owned.free_word;
     currents = r.shared.owned.currents;
     asking = λ t from inside waits. are_asking t inside waits;
@@ -167,7 +163,7 @@ module _ (c : Config) (m : Word → ℕ) (g : Graph) (asking : ℕ → Asking) (
   }
 
   pub holds_some : HoldsSome c m
-  holds_some = ∣ (g, (plain c m g asking r, r.ghost.owner, p, holds_by)) ∣₁
+  holds_some = ∣ (g, (live c m g asking r, r.ghost.owner, p, holds_by)) ∣₁
 
   -- each piece says how many words it has
   size_of : (a : ℕ) (b : Block) → r.block a ≡ Some b → object_words (m (Heap (a + 1))) ≡ words_of b
@@ -184,11 +180,13 @@ module _ (c : Config) (m : Word → ℕ) (g : Graph) (asking : ℕ → Asking) (
       ap object_words blank.shape ∙ words_read blank.refs blank.nums blank.few_refs blank.few_nums ∙ sym blank.long
   size_of a (filler words) is = r.shared.unwritten.lengths a words is
 
-  pub are_sized : AreSized m (plain c m g asking r)
-  are_sized a b is = let was = plain_words c m g asking r a b is in size_of a was.0 was.1 ∙ was.2
+  pub are_sized : AreSized m (live c m g asking r)
+  are_sized a b is =
+      let was = mapped_from (as_object g asking r.block) r.block a b is in
+      size_of a was.0 was.1 ∙ sym (same_words c m g asking r a was.0 was.1) ∙ ap words_of was.2
 
   -- what is marked in the collection set are pieces
-  pub are_marked : AreMarkedPieces c m (plain c m g asking r)
+  pub are_marked : AreMarkedPieces c m (live c m g asking r)
   are_marked a collected black = ⊎_elim
       (λ (low : m Phase < 2).
       let none : bit_at (m Cset) (region_with c a) ≡ 0 = ap (λ k. bit_at k (region_with c a)) (r.shared.phased.cset_is low) ∙ bit_at-zero (region_with c a) in
@@ -208,9 +206,9 @@ module _ (c : Config) (m : Word → ℕ) (g : Graph) (asking : ℕ → Asking) (
       mark : HasMark c (λ n. m (Black n)) a
       mark = eqb-true (bit_at (m (Black (mark_word c a))) (mark_bit c a)) 1 (and_parts (nat_le c.region_words a) (bit_at (m (Black (mark_word c a))) (mark_bit c a) == 1) black).1
 
-      of_copy : HasCopy r.block a → (b : Block) × (plain c m g asking r a ≡ Some b)
-      of_copy (HasCopy.copy body is) = let piece = body_piece (r.block a) body is in plain_piece c m g asking r a piece.0 piece.1
-      of_copy (HasCopy.spent_copy words to is) = plain_piece c m g asking r a (spent words to) is
+      of_copy : HasCopy r.block a → (b : Block) × (live c m g asking r a ≡ Some b)
+      of_copy (HasCopy.copy body is) = let piece = body_piece (r.block a) body is in (as_object g asking r.block piece.0, live_at c m g asking r a piece.0 piece.1)
+      of_copy (HasCopy.spent_copy words to is) = (as_object g asking r.block (spent words to), live_at c m g asking r a (spent words to) is)
 
   -- a region in the set means that one of the phases of evacuation and updating runs
   high_phase : m Cset ≢ 0 → 2 ≤ m Phase
@@ -240,7 +238,7 @@ module _ (c : Config) (m : Word → ℕ) (g : Graph) (asking : ℕ → Asking) (
       (r.shared.updated (omega (arith, off, high, most))).outside a refs nums name is member
   outside_of off a (IsMarkable.to_come seat words is) member = r.shared.evacuated.aside.no_promises a seat words is member
 
-  pub while_collecting : WhileCollecting c m (plain c m g asking r)
+  pub while_collecting : WhileCollecting c m (live c m g asking r)
   while_collecting = record {
     marked = are_marked;
     reachable = λ some a reached. kept_of some a (held_current c m g asking r a reached);
@@ -253,4 +251,4 @@ module _ (c : Config) (m : Word → ℕ) (g : Graph) (asking : ℕ → Asking) (
 pub representing_is_sized : RepresentingIsSized
 representing_is_sized c m g asking r =
     let by = by_copies c m g asking r in
-    (plain c m g asking by, by.ghost.owner, promises_of c g asking, holds_by c m g asking by, are_sized c m g asking by, while_collecting c m g asking by)
+    (live c m g asking by, by.ghost.owner, promises_of c g asking, holds_by c m g asking by, are_sized c m g asking by, while_collecting c m g asking by)

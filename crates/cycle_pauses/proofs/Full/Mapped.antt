@@ -1,10 +1,10 @@
 -- A plot in which each piece is another one of as many words.
-use Rattle.std.proofs.Common.{◌≡◌, ℕ, ◌+◌, Option, Some, None, refl, sym, ap, ◌∙◌, subst, arith}
+use Rattle.std.proofs.Common.{◌≡◌, ℕ, ◌+◌, Some, sym, ap, ◌∙◌, subst, arith}
 use Rattle.std.specs.Option.{option_map}
-use Rattle.std.proofs.lemmas.Option.{none-some, same_Some}
 use Rattle.heap_words.specs.declared.config.Config.{Config}
 use Rattle.regions.specs.Place.{base_of}
 use Rattle.heap_world.specs.World.{Block, words_of, Plot, IsInUse, IsPlotted, IsFilled}
+use Rattle.cycle_words.proofs.Marking.Pruned.{from_option}
 
 abbrev pub mapped : (Block → Block) → Plot → Plot
 mapped f block a = option_map f (block a)
@@ -13,10 +13,6 @@ pub mapped_at : (f : Block → Block) (block : Plot) (a : ℕ) (x : Block) → b
 mapped_at f block a x is = ap (option_map f) is
 
 -- the piece that there was
-pub from_option : (f : Block → Block) (o : Option Block) (b : Block) → option_map f o ≡ Some b → (x : Block) × (o ≡ Some x) × (f x ≡ b)
-from_option f None b is = absurd (none-some b is)
-from_option f (Some x) b is = (x, refl, same_Some (f x) b is)
-
 pub mapped_from : (f : Block → Block) (block : Plot) (a : ℕ) (b : Block) → mapped f block a ≡ Some b → (x : Block) × (block a ≡ Some x) × (f x ≡ b)
 mapped_from f block a b is = from_option f (block a) b is
 

@@ -29,9 +29,8 @@ use Rattle.full_words.proofs.Served.{requests_are_answered}
 use Rattle.full_words.proofs.Serving.{full_stands}
 use Rattle.full_words.proofs.Walked.{walk_keeps}
 use Rattle.cycle_pauses.proofs.Full.Promises.{promises_of, promised_one}
-use Rattle.cycle_pauses.proofs.Full.Before.{not_next, current_kind}
+use Rattle.cycle_pauses.proofs.Full.Before.{live, not_next, current_kind}
 use Rattle.cycle_pauses.proofs.Full.Current.{held_current, has_current, reached_at}
-use Rattle.cycle_pauses.proofs.Full.Dead.{plain, held_live}
 use Rattle.cycle_pauses.proofs.Full.Holding.{next_asked, holds_by}
 use Rattle.full_words.proofs.Turned.{SamePromise, IsPromisedAsAsked, promise_after, piece_after}
 use Rattle.cycle_pauses.proofs.Full.After.{IsKnown, IsAfter, taken}
@@ -63,14 +62,14 @@ module _ (c : Config) (m : Word → ℕ) (g : Graph) (asking : ℕ → Asking) (
   kept = kept_in c m
 
   abbrev pub plot : Plot
-  plot = served_block c after (packed_block c kept (plain c m g asking r)) c.mutators
+  plot = served_block c after (packed_block c kept (live c m g asking r)) c.mutators
 
   abbrev pub asked_then : ℕ → Asking
   asked_then t = then_of (asking t) (full c m (Answer t))
 
   -- the words after it stand for the graph with what is promised then
   stands : ImageStands c (full c m) plot g q
-  stands = (let holds = holds_by c m g asking r in full_stands c m (plain c m g asking r) g p holds.objects holds.rooted holds.asking)
+  stands = (let holds = holds_by c m g asking r in full_stands c m (live c m g asking r) g p holds.objects holds.rooted holds.asking)
 
   -- what a mutator asks for after packing is its next object
   asked_next : (t : ℕ) → t < c.mutators → after (Wait t) ≢ 0 → asked_name after t ≡ fresh g (t + 1)
@@ -90,26 +89,26 @@ module _ (c : Config) (m : Word → ℕ) (g : Graph) (asking : ℕ → Asking) (
       (promise_after c after p at.0 c.mutators)
 
   kept_are : AreHeldKept (λ a. m (Heap a)) (IsLedTo (now_in m) (λ a. m (Heap a)) (IsAmong (root_words c m))) kept
-  kept_are = walk_keeps c m (plain c m g asking r) (with_promised g p) (holds_by c m g asking r).objects
+  kept_are = walk_keeps c m (live c m g asking r) (with_promised g p) (holds_by c m g asking r).objects
 
   -- an object that has a piece then had one before
-  can : CanPack c (λ s. m (Top s)) (λ a. m (Heap a)) (plain c m g asking r) (with_promised g p).object (now_in m) kept
+  can : CanPack c (λ s. m (Top s)) (λ a. m (Heap a)) (live c m g asking r) (with_promised g p).object (now_in m) kept
   can =
       let holds = holds_by c m g asking r in
-      can_pack c (λ s. m (Top s)) (λ a. m (Heap a)) (plain c m g asking r) (now_in m) (IsAmong (root_words c m)) (with_promised g p) holds.objects kept kept_are
+      can_pack c (λ s. m (Top s)) (λ a. m (Heap a)) (live c m g asking r) (now_in m) (IsAmong (root_words c m)) (with_promised g p) holds.objects kept kept_are
 
   had_piece : (a refs nums : ℕ) (n : Name) (o : Object) → plot a ≡ Some (thing n refs nums) → g.object n ≡ Some o → (b : ℕ) × (r.block b ≡ Some (thing n refs nums))
   had_piece a refs nums n o there object = ⊎_elim
-      (λ (old : packed_block c kept (plain c m g asking r) a ≡ Some (thing n refs nums)).
-      let from = block_from c (λ s. m (Top s)) (λ x. m (Heap x)) (plain c m g asking r) (with_promised g p).object (now_in m) kept can a (thing n refs nums) old in
+      (λ (old : packed_block c kept (live c m g asking r) a ≡ Some (thing n refs nums)).
+      let from = block_from c (λ s. m (Top s)) (λ x. m (Heap x)) (live c m g asking r) (with_promised g p).object (now_in m) kept can a (thing n refs nums) old in
       ⊎_elim
       (λ (is : r.block from.0 ≡ Some (thing n refs nums)). (from.0, is))
       (λ (new : (seat : ℕ) × (words : ℕ) × (r.block from.0 ≡ Some (promised seat words)) × (n ≡ fresh g (seat + 1))).
       absurd (not_next c m g asking r n o new.0 object new.3))
-      (let held = kept_are.only from.0 from.1 in current_kind c m g asking r from.0 refs nums n (held_current c m g asking r from.0 held) (held_live c m g asking r from.0 refs nums n held from.4)))
+      (let held = kept_are.only from.0 from.1 in current_kind c m g asking r from.0 refs nums n (held_current c m g asking r from.0 held) from.4))
       (λ (made : (t : ℕ) × (t < c.mutators) × (after (Wait t) ≢ 0) × (Some n ≡ Some (asked_name after t))).
       absurd (not_next c m g asking r n o made.0 object (same_Some n (asked_name after made.0) made.3 ∙ asked_next made.0 made.1 made.2)))
-      (piece_after c after (packed_block c kept (plain c m g asking r)) c.mutators a (thing n refs nums) there)
+      (piece_after c after (packed_block c kept (live c m g asking r)) c.mutators a (thing n refs nums) there)
 
   known_at : (a : ℕ) (n : Name) → name_at (r.block a) ≡ Some n → IsKnown g n
   known_at a n is =

@@ -1,12 +1,11 @@
 -- The names that a graph reaches, as a list in their order: those of the pieces that the words of an image hold.
-use Rattle.std.proofs.Common.{◌≡◌, ◌≢◌, ℕ, ◌+◌, ◌==◌, ◌⊎◌, inl, inr, true, false, nat_eq, slice_get, List, [], ◌∷◌, Option, Some, None, ⊎_elim, refl, sym, ap, ◌∙◌, subst, arith}
+use Rattle.std.proofs.Common.{◌≡◌, ◌≢◌, ℕ, ◌+◌, ◌==◌, ◌⊎◌, inl, inr, true, nat_eq, slice_get, List, [], ◌∷◌, Option, Some, None, ⊎_elim, refl, sym, ap, ◌∙◌, subst, arith}
 use Rattle.std.specs.Prelude.{Contains}
-use Rattle.std.proofs.lemmas.Bool.{cond-true, cond-false, cases_Bool, or_cases, or_left, or_right, eqb-true, eq-eqb, ne_eqb, false≢true}
+use Rattle.std.proofs.lemmas.Bool.{cond-false, or_cases, or_left, or_right, eqb-true, eq-eqb, ne_eqb, false≢true}
 use Rattle.std.proofs.lemmas.List.Elements.{Contains-append_right}
 use Rattle.std.proofs.lemmas.Option.{none-some, same_Some}
 use Rattle.heap_words.specs.declared.config.Config.{Config}
 use Rattle.heap_words.specs.Words.{Word, Top, Heap}
-use Rattle.heap_words.specs.Encoding.{object_words}
 use Rattle.shen_graph.specs.declared.name.Name.{Name}
 use Rattle.shen_graph.specs.Graph.{Graph, Object, fresh}
 use Rattle.shen_graph.specs.Reach.{IsReachable, IsReach}
@@ -16,11 +15,11 @@ use Rattle.heap_graph.specs.Walk.{has}
 use Rattle.heap_world.specs.World.{thing, promised, Plot, name_at}
 use Rattle.heap_world.specs.Asking.{Asking}
 use Rattle.heap_world.specs.Represents.{RepresentsByCopies}
-use Rattle.full_words.specs.Held.{IsLedTo, IsAmong, AreHeldKept, HoldsGraph}
-use Rattle.full_words.specs.Full.{now_in, root_words, held_in, kept_in}
+use Rattle.full_words.specs.Held.{IsLedTo, IsAmong, HoldsGraph}
+use Rattle.full_words.specs.Full.{now_in, root_words, held_in}
 use Rattle.full_words.specs.Promised.{Promises, with_promised}
 use Rattle.full_words.proofs.Reached.{held_is_reached, reached_is_held}
-use Rattle.full_words.proofs.Walked.{walk_keeps}
+use Rattle.full_words.proofs.Walked.{found_is_held, held_is_found}
 use Rattle.full_words.proofs.Promised.{old_object, reaches_promised}
 use Rattle.cycle_pauses.proofs.Full.Sorted.{sorted_names}
 use Rattle.cycle_pauses.proofs.Full.Promises.{promises_of, promised_one}
@@ -82,9 +81,6 @@ module _ (c : Config) (m : Word → ℕ) (g : Graph) (asking : ℕ → Asking) (
   holds : HoldsGraph c (λ s. m (Top s)) heap block (now_in m) IsRoot more
   holds = live_holds c m g asking r
 
-  are : AreHeldKept heap (IsLedTo (now_in m) heap IsRoot) (kept_in c m)
-  are = walk_keeps c m block more holds
-
   -- the larger graph reaches what the graph does
   reach_more : (n : Name) → IsReachable g n → IsReachable more n
   reach_more n (reach.from_root t i _ is) =
@@ -97,17 +93,10 @@ module _ (c : Config) (m : Word → ℕ) (g : Graph) (asking : ℕ → Asking) (
 
   -- what was found is held, and the other way round
   pub found_held : (a : ℕ) → has (held_in c m) a ≡ true → IsLedTo (now_in m) heap IsRoot a
-  found_held a found =
-      let size : kept_in c m a ≡ object_words (heap (a + 1)) = cond-true (has (held_in c m) a) (object_words (heap (a + 1))) 0 found in
-      are.only a (omega (arith, size))
+  found_held = found_is_held c m block more holds
 
   pub held_found : (a : ℕ) → IsLedTo (now_in m) heap IsRoot a → has (held_in c m) a ≡ true
-  held_found a held = ⊎_elim
-      (λ (yes : has (held_in c m) a ≡ true). yes)
-      (λ (other : has (held_in c m) a ≡ false).
-      let none : kept_in c m a ≡ 0 = cond-false (has (held_in c m) a) (object_words (heap (a + 1))) 0 other in
-      absurd (omega (arith, are.words a held, none)))
-      (cases_Bool (has (held_in c m) a))
+  held_found = held_is_found c m block more holds
 
   abbrev found : List Name
   found = names_at (λ a. name_at (r.block a)) (held_in c m)

@@ -1,16 +1,12 @@
 -- The beginning of marking: the words represent the same graph, and the snapshot is what can be reached.
-use Rattle.std.proofs.Common.{◌≡◌, ◌≢◌, ℕ, ◌+◌, ◌*◌, ◌<◌, ◌≤◌, ◌&&◌, nat_le, Bool, true, false, Some, None, inl, refl, sym, ap, ◌∙◌, subst, arith}
-use Rattle.std.proofs.lemmas.Bool.{and_parts, and_from, le-leb, leb-true}
-use Rattle.std.proofs.lemmas.Nat.Bits.{bit_at-zero}
-use Rattle.std.proofs.lemmas.Option.{slice_get_within}
+use Rattle.std.proofs.Common.{◌≡◌, ◌≢◌, ℕ, ◌+◌, ◌<◌, ◌≤◌, Bool, true, Some, None, refl, sym, ap, ◌∙◌, subst, arith}
 use Rattle.heap_words.specs.declared.config.Config.{Config}
 use Rattle.heap_words.specs.Words.{Word, Phase, Cset, Free, Evac, Top, Tams, Root, Count, Buffer, Answer, Grey, Black, Heap}
 use Rattle.heap_words.specs.Encoding.{refs_in, object_words}
 use Rattle.shen_graph.specs.declared.name.Name.{Name}
 use Rattle.shen_graph.specs.Graph.{Graph, Object, Reference}
-use Rattle.regions.specs.Marks.{mark_bit}
 use Rattle.heap_graph.specs.Walk.{has}
-use Rattle.heap_world.specs.World.{Block, thing, moved, promised, filler, Plot, Snapshot, Ghost, name_at, Points, IsThing, AreObjects, AreUnwritten, AreMarks, IsMarkable, IsYoung, IsNoted, IsToScan, IsTracedAt, IsLed, KeepsSnapshot, IsEvacuating, IsUsable, AreUsable}
+use Rattle.heap_world.specs.World.{Block, moved, promised, filler, words_of, Plot, Snapshot, Ghost, name_at, Points, IsThing, AreObjects, AreUnwritten, IsMarkable, IsYoung, IsLed, KeepsSnapshot, IsEvacuating, IsUsable, AreUsable}
 use Rattle.heap_world.specs.Asking.{Asking, asks, given, IsAsked}
 use Rattle.heap_world.specs.Represents.{Represents, RepresentsByCopies}
 use Rattle.heap_world.proofs.Keeping.{usable_now}
@@ -23,21 +19,17 @@ use Rattle.full_words.proofs.Roots.{root_among, answer_among}
 use Rattle.image_graph.specs.Holds.{HoldsBy}
 use Rattle.cycle_pauses.proofs.Full.ByCopies.{by_copies}
 use Rattle.cycle_pauses.proofs.Full.Promises.{promises_of}
-use Rattle.cycle_pauses.proofs.Full.Before.{promised_at}
-use Rattle.cycle_pauses.proofs.Full.Dead.{plain}
+use Rattle.cycle_pauses.proofs.Full.Before.{live, promised_at}
 use Rattle.cycle_pauses.proofs.Full.Holding.{holds_by}
 use Rattle.cycle_pauses.proofs.Full.Reached.{found_held, held_found}
-use Rattle.cycle_words.specs.Marking.Init.{init_marked}
+use Rattle.cycle_words.specs.Marking.Init.{init_marked, pruned}
 use Rattle.cycle_words.specs.Marking.WhileMarking.{CanBeReached}
-use Rattle.cycle_words.proofs.Marking.Bits.{one, bits_small, bits_at, mark_at}
 use Rattle.cycle_words.proofs.Marking.Plain.{root_reached, field_reached, reach_ind}
-use Rattle.cycle_pauses.proofs.Marking.Asked.{asked_stays}
-use Rattle.cycle_pauses.proofs.Marking.Chains.{no_moved, no_spent, thing_at, piece_below, piece_above, markable_piece, reached_markable}
-use Rattle.cycle_pauses.proofs.Marking.Pruned.{pruned, WasFiller, thing_stays, promised_stays, thing_was, hand_was, promised_was, moved_was, spent_was, filler_was, pruned_from, pruned_plotted, pruned_filled}
-
-one_is : (b : Bool) → one b ≡ 1 → b ≡ true
-one_is true is = refl
-one_is false is = absurd (omega (arith, is))
+use Rattle.cycle_pauses.proofs.Evacuation.Asked.{asked_stays}
+use Rattle.cycle_pauses.proofs.Marking.FromSnapshot.{no_moved, no_spent, thing_at, piece_below, piece_above, markable_piece, reached_markable}
+use Rattle.cycle_words.proofs.Marking.Trimmed.{object_stands}
+use Rattle.cycle_words.proofs.Marking.Pruned.{WasPiece, piece_was, thing_stays, promised_stays, thing_was, hand_was, promised_was, moved_was, spent_was, pruned_from, pruned_plotted, pruned_filled}
+use Rattle.cycle_words.proofs.Marking.FirstSnapshot.{first, first_snapshot, is_first, first_marked}
 
 module _ (c : Config) (m : Word → ℕ) (g : Graph) (asking : ℕ → Asking) (r : Represents c m g asking) (rests : m Phase ≡ 0) where
   -- the same words by copies
@@ -63,7 +55,7 @@ module _ (c : Config) (m : Word → ℕ) (g : Graph) (asking : ℕ → Asking) (
   p = promises_of c g asking
 
   abbrev before : Plot
-  before = plain c m g asking copies
+  before = live c m g asking copies
 
   abbrev found : ℕ → Bool
   found = has (held_in c m)
@@ -99,21 +91,10 @@ module _ (c : Config) (m : Word → ℕ) (g : Graph) (asking : ℕ → Asking) (
 
   -- objects that can be reached read as before
   thing_again : (a refs nums : ℕ) (name : Name) (o : Object) → CanBeReached c m a → IsThing heap r.block a refs nums name o → IsThing heap plot a refs nums name o
-  thing_again a refs nums name o held is = record {
-    header = is.header;
-    shape = is.shape;
-    name_word = is.name_word;
-    few_refs = is.few_refs;
-    few_nums = is.few_nums;
-    refs_are = is.refs_are;
-    nums_are = is.nums_are;
-    references = λ i reference there.
-        let within = slice_get_within o.refs i reference there in
-        let shape : refs_in (heap (a + 1)) ≡ refs = ap refs_in is.shape ∙ refs_read refs nums is.few_refs is.few_nums in
-        let few : i < refs_in (heap (a + 1)) = omega (arith, within, is.refs_are, shape) in
-        points_again (heap (a + 3 + i)) reference (field_led a i held few) (is.references i reference there);
-    numbers = is.numbers;
-  }
+  thing_again a refs nums name o held is =
+      let shape : refs_in (heap (a + 1)) ≡ refs = ap refs_in is.shape ∙ refs_read refs nums is.few_refs is.few_nums in
+      object_stands heap r.block plot a refs nums name o
+      (λ i reference there below points. points_again (heap (a + 3 + i)) reference (field_led a i held (omega (arith, below, shape))) points) is
 
   objects_again : AreObjects heap plot g.object
   objects_again = record {
@@ -126,16 +107,17 @@ module _ (c : Config) (m : Word → ℕ) (g : Graph) (asking : ℕ → Asking) (
   }
 
   -- words that only fill are at least as many as an object has, begin with a header, and have a shape word of so many
-  filler_long : (a words : ℕ) (x : Block) → r.block a ≡ Some x → WasFiller x words → (3 ≤ words) × (heap a ≡ 1) × (object_words (heap (a + 1)) ≡ words)
-  filler_long a words x is (WasFiller.did same) =
+  filler_of : (a words : ℕ) (x : Block) → r.block a ≡ Some x → WasPiece (found a) x (filler words) → (3 ≤ words) × (heap a ≡ 1) × (object_words (heap (a + 1)) ≡ words)
+  filler_of a words x is (WasPiece.was_left same is_live) =
       let was : r.block a ≡ Some (filler words) = is ∙ ap Some same in
       (r.shared.parsable.fillers a words was, r.shared.unwritten.headers a words was, r.shared.unwritten.lengths a words was)
-  filler_long a words x is (WasFiller.was_thing name refs nums same long) =
+  filler_of a words x is (WasPiece.was_object name refs nums same fills) =
       let o = r.shared.contents.objects.each a refs nums name (is ∙ ap Some same) in
+      let long : words ≡ 3 + refs + nums = ap words_of fills in
       (omega (arith, long), o.2.header, ap object_words o.2.shape ∙ words_read refs nums o.2.few_refs o.2.few_nums ∙ sym long)
 
   filler_at : (a words : ℕ) → plot a ≡ Some (filler words) → (3 ≤ words) × (heap a ≡ 1) × (object_words (heap (a + 1)) ≡ words)
-  filler_at a words is = let was = filler_was found r.block a words is in filler_long a words was.0 was.1 was.2
+  filler_at a words is = let was = piece_was found r.block a (filler words) is in filler_of a words was.0 was.1 was.2
 
   unwritten_again : AreUnwritten heap plot
   unwritten_again = record {
@@ -145,11 +127,8 @@ module _ (c : Config) (m : Word → ℕ) (g : Graph) (asking : ℕ → Asking) (
   }
 
   -- The snapshot: the objects that can be reached, and what roots and answers name.
-  abbrev first : ℕ → Bool
-  first a = nat_le c.region_words a && has (root_words c m) a
-
   abbrev snapshot : Snapshot
-  snapshot = record { block = plot; heap = heap; starts = first; top = top }
+  snapshot = first_snapshot c m plot
 
   -- nothing of it is young
   none_young : (a : ℕ) (b : Block) → plot a ≡ Some b → IsYoung c top a → ⊥
@@ -159,9 +138,6 @@ module _ (c : Config) (m : Word → ℕ) (g : Graph) (asking : ℕ → Asking) (
   reached_above a held =
       let piece = markable_piece c m g asking r calm a (reached_markable c m g asking r calm a held) in
       piece_above c m g asking r calm a piece.0 piece.1
-
-  root_first : (word : ℕ) → IsAmong (root_words c m) word → word ≢ 0 → first word ≡ true
-  root_first word is some = and_from (nat_le c.region_words word) (has (root_words c m) word) (le-leb c.region_words word (reached_above word (root_led word is some))) is
 
   -- roots and answers lead to what can be reached
   led_on : (a i : ℕ) → IsMarkable r.block a → CanBeReached c m a → IsLed snapshot a → i < refs_in (heap (a + 1)) → heap (a + 3 + i) ≢ 0 → IsLed snapshot (heap (a + 3 + i))
@@ -176,66 +152,39 @@ module _ (c : Config) (m : Word → ℕ) (g : Graph) (asking : ℕ → Asking) (
 
   led : (a : ℕ) → CanBeReached c m a → IsLed snapshot a
   led = reach_ind c m before r.ghost.owner p g holds calm (IsLed snapshot)
-      (λ word is some. IsLed.by_start word (root_first word is some))
+      (λ word is some. IsLed.by_start word (is_first c m plot word (reached_above word (root_led word is some)) is))
       (λ a i held so_far few some. led_on a i (reached_markable c m g asking r calm a held) held so_far few some)
 
   -- an answer names what is promised
-  promise_first : (a seat words : ℕ) → r.block a ≡ Some (promised seat words) → first a ≡ true
+  promise_first : (a seat words : ℕ) → r.block a ≡ Some (promised seat words) → first c m plot a ≡ true
   promise_first a seat words is =
       let at = promised_at c m g asking copies a seat words is in
       let asked : IsAsked m r.block g.count seat (given at.refs at.nums) = subst (λ x. IsAsked m r.block g.count seat x) at.is_given (r.asked seat at.inside) in
       let same : a ≡ m (Answer seat) = asked.2.only a words is in
       let among = answer_among c top m before g p holds.objects.plotted holds.rooted seat at.inside asked.1 in
-      and_from (nat_le c.region_words a) (has (root_words c m) a) (le-leb c.region_words a (piece_above c m g asking r calm a (promised seat words) is))
-      (ap (has (root_words c m)) same ∙ among)
+      is_first c m plot a (piece_above c m g asking r calm a (promised seat words) is) (ap (has (root_words c m)) same ∙ among)
 
-  -- what roots and answers name is grey
-  first_noted : (a : ℕ) → first a ≡ true → IsNoted c (λ q. n (Grey q)) (λ t. n (Count t)) (λ t k. n (Buffer t k)) r.ghost.recording a
-  first_noted a is =
-      let both = and_parts (nat_le c.region_words a) (has (root_words c m) a) is in
-      IsNoted.by_mark (mark_at c (has (root_words c m)) a (leb-true c.region_words a both.0) ∙ ap one both.1)
-
-  -- and nothing else
+  -- what can be reached can still be marked
   markable_again : (a : ℕ) → CanBeReached c m a → IsMarkable r.block a → IsMarkable plot a
   markable_again a held (IsMarkable.object name refs nums is) = IsMarkable.object name refs nums (thing_stays found r.block a refs nums name (held_found c m g asking copies a held) is)
   markable_again a held (IsMarkable.to_come seat words is) = IsMarkable.to_come seat words (promised_stays found r.block a seat words is)
 
-  greys_are : AreMarks c (λ q. n (Grey q)) plot
-  greys_are = record {
-    small = λ q. bits_small (has (root_words c m)) (c.region_words + 64 * q) 64;
-    of_objects = λ q k below set.
-        let a : ℕ = c.region_words + 64 * q + k in
-        let among = one_is (has (root_words c m) a) (sym (bits_at (has (root_words c m)) (c.region_words + 64 * q) 64 k below) ∙ set) in
-        let long = c.in_range.least_words in
-        let held = root_led a among (λ none. omega (arith, none, long)) in
-        markable_again a held (reached_markable c m g asking r calm a held);
-  }
+  root_markable : (a : ℕ) → IsAmong (root_words c m) a → a ≢ 0 → IsMarkable plot a
+  root_markable a among some = (let held = root_led a among some in markable_again a held (reached_markable c m g asking r calm a held))
 
   marked : KeepsSnapshot c (n Phase) (λ q. n (Grey q)) (λ q. n (Black q)) (λ t. n (Count t)) (λ t k. n (Buffer t k)) (λ q. n (Top q)) (λ q. n (Tams q)) (λ a. n (Heap a)) plot snapshot
       r.ghost.recording r.ghost.scanning
-  marked = record {
-    empty = λ other. absurd (other refl);
-    traced = record {
-      edges = λ a refs nums k name is below. IsTracedAt.stands refl (IsToScan.is_white (bit_at-zero (mark_bit c a)));
-      starts = first_noted;
-    };
-    led = λ a refs nums name is. led a (found_held c m g asking copies a (thing_was found r.block a refs nums name is).1);
-    old = λ a refs nums name is. none_young a (thing name refs nums) is;
-    kept = λ a refs nums name is. is;
-    older = λ on a refs nums name is. inl is;
-    promises = λ on a seat words is. promise_first a seat words (promised_was found r.block a seat words is);
-    fillers = λ on a words is. none_young a (filler words) is;
-    young = λ on a seat words is. absurd (r.none a seat words (hand_was found r.block a seat words is));
-    floors = λ q inside. omega arith;
-    tams_are = λ on q inside. refl;
-    greys = λ on. greys_are;
-    blacks = λ on. record { small = λ q. omega arith; of_objects = λ q k below set. absurd (let none = bit_at-zero k in omega (arith, none, set)) };
-    entries = λ on. record { few = λ t inside. omega arith; of_objects = λ t k inside below. absurd (omega (arith, below)) };
-  }
+  marked =
+      first_marked c m plot r.ghost.recording r.ghost.scanning
+      (λ a refs nums name is. led a (found_held c m g asking copies a (thing_was found r.block a refs nums name is).1))
+      root_markable
+      (λ a seat words is. promise_first a seat words (promised_was found r.block a seat words is))
+      (λ a seat words is. r.none a seat words (hand_was found r.block a seat words is))
+      none_young
 
   -- what is asked and promised stays
   asked_again : (t : ℕ) → IsAsked m r.block g.count t (asking t) → IsAsked n plot g.count t (asking t)
-  asked_again t asked = asked_stays m n r.block plot g.count t refl refl (λ a. refl) (λ a words is. promised_stays found r.block a t words is) (λ a words is. promised_was found r.block a t words is) (asking t) asked
+  asked_again t asked = asked_stays m n r.block plot g.count t refl refl (λ a words k is below. refl) (λ a words is. promised_stays found r.block a t words is) (λ a words is. promised_was found r.block a t words is) (asking t) asked
 
   abbrev ghost : Ghost
   ghost = record { owner = r.ghost.owner; snapshot = snapshot; recording = r.ghost.recording; scanning = r.ghost.scanning; copying = r.ghost.copying; working = r.ghost.working }

@@ -1,4 +1,4 @@
--- Words that represent a graph while objects are marked: marking comes to each object, and what the pauses of marking leave.
+-- Words that represent a graph while objects are marked, and what the pauses of marking leave.
 use Rattle.std.proofs.Common.{◌≡◌, ℕ, arith}
 use Rattle.heap_words.specs.declared.config.Config.{Config}
 use Rattle.heap_words.specs.Words.{Word, Phase, Cset}
@@ -9,11 +9,11 @@ use Rattle.heap_world.specs.Represents.{Represents}
 use Rattle.full_words.specs.Promised.{Promises}
 use Rattle.cycle_pauses.proofs.Full.ByCopies.{by_copies}
 use Rattle.cycle_pauses.proofs.Full.Promises.{promises_of}
-use Rattle.cycle_pauses.proofs.Full.Dead.{plain}
+use Rattle.cycle_pauses.proofs.Full.Before.{live}
 use Rattle.cycle_pauses.proofs.Full.Holding.{holds_by}
 use Rattle.cycle_words.proofs.Marking.Closed.{closed_holds, closed_through}
 use Rattle.cycle_pauses.specs.Marking.Laws.{MarkingStands, ReachableAreMarked, BeginningRepresents, EndGives}
-use Rattle.cycle_pauses.proofs.Marking.Chains.{is_marking}
+use Rattle.cycle_pauses.proofs.Marking.FromSnapshot.{is_marking}
 use Rattle.cycle_pauses.proofs.Marking.Beginning.{begun}
 use Rattle.cycle_pauses.proofs.Marking.Ending.{plot, ghost, marked_out}
 
@@ -23,11 +23,11 @@ calm_at c m g asking r on = r.shared.phased.cset_is (omega (arith, on))
 
 pub marking_stands : MarkingStands
 marking_stands c m g asking r on =
-    (plain c m g asking (by_copies c m g asking r), r.ghost.owner, promises_of c g asking, holds_by c m g asking (by_copies c m g asking r), is_marking c m g asking r (calm_at c m g asking r on) on)
+    (live c m g asking (by_copies c m g asking r), r.ghost.owner, promises_of c g asking, holds_by c m g asking (by_copies c m g asking r), is_marking c m g asking r (calm_at c m g asking r on) on)
 
 pub reachable_are_marked : ReachableAreMarked
 reachable_are_marked c m g asking r on =
-    let block : Plot = plain c m g asking (by_copies c m g asking r) in
+    let block : Plot = live c m g asking (by_copies c m g asking r) in
     let p : Promises = promises_of c g asking in
     let holds = holds_by c m g asking (by_copies c m g asking r) in
     let marking = is_marking c m g asking r (calm_at c m g asking r on) on in

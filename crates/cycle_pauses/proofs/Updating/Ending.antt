@@ -1,23 +1,24 @@
 -- The end of updating: nothing names an old copy any more, so the collection set is freed as it is, and the words represent the same
 -- graph.
 use Rattle.std.proofs.Common.{◌≡◌, ℕ, ◌+◌, ◌<◌, ◌≤◌, Bool, true, false, Option, Some, None, inl, inr, refl, sym, ap, ◌∙◌, subst, arith}
-use Rattle.std.proofs.lemmas.Option.{slice_get_within}
 use Rattle.heap_words.specs.declared.config.Config.{Config}
 use Rattle.heap_words.specs.Words.{Word, Phase, Cset, Free, Evac, Claim, Top, Tams, Current, Root, Count, Buffer, Grey, Black, Heap}
 use Rattle.regions.specs.Place.{region_with}
 use Rattle.shen_graph.specs.declared.name.Name.{Name}
 use Rattle.shen_graph.specs.Graph.{Graph, Object, Reference}
-use Rattle.heap_world.specs.World.{Block, thing, moved, spent, hand, promised, Plot, Ghost, no_snapshot, Points, name_at, IsCollected, IsThing, AreObjects, AreRooms, IsCurrent, IsEvacuating, IsUsable}
+use Rattle.heap_world.specs.World.{Block, thing, moved, spent, hand, promised, words_of, Plot, Ghost, no_snapshot, Points, name_at, IsCollected, IsThing, AreObjects, IsCurrent, IsEvacuating, IsUsable}
 use Rattle.heap_world.specs.Asking.{Asking}
 use Rattle.heap_world.specs.Represents.{Represents}
+use Rattle.heap_world.proofs.Pieces.{some_words}
 use Rattle.heap_world.proofs.Copies.{none_evacuated}
 use Rattle.heap_world.proofs.Keeping.{usable_now}
 use Rattle.heap_world.proofs.Unmarked.{none_marked_in}
 use Rattle.heap_world.proofs.Units.{all_is_current}
 use Rattle.full_words.proofs.Reached.{none_at_0}
 use Rattle.cycle_words.specs.Marking.Final.{freed_block}
-use Rattle.cycle_pauses.proofs.Marking.Asked.{asked_stays}
-use Rattle.cycle_pauses.proofs.Marking.Freed as freed
+use Rattle.cycle_pauses.proofs.Evacuation.Asked.{asked_stays}
+use Rattle.cycle_words.proofs.Marking.Trimmed.{object_stands}
+use Rattle.cycle_words.proofs.Marking.Vanished as freed
 use Rattle.cycle_words.specs.Updating.Changes.{is_chosen, final_updated}
 use Rattle.cycle_pauses.specs.Updating.Laws.{UpdatingEnds}
 use Rattle.cycle_pauses.proofs.Updating.Freeing.{spared_if, not_in_set, in_set}
@@ -52,15 +53,15 @@ module _ (c : Config) (m : Word → ℕ) (g : Graph) (asking : ℕ → Asking) (
   no_copier : m Evac ≡ 0
   no_copier = r.shared.phased.evac_is (λ evacuates. omega (arith, on, evacuates))
 
-  rooms : AreRooms c (λ q. m (Top q)) (λ s. m (Current s)) r.block
-  rooms = r.shared.owned.rooms
+  some : (a : ℕ) (b : Block) → r.block a ≡ Some b → 1 ≤ words_of b
+  some = some_words c (λ q. m (Top q)) (λ s. m (Current s)) r.block r.shared.parsable r.shared.owned.rooms
 
   -- a piece that is left lies outside of the set, and those outside are left
   left : (a : ℕ) (b : Block) → plot a ≡ Some b → (out (region_with c a) ≡ false) × (r.block a ≡ Some b)
-  left = freed.left c out m r.block r.shared.parsable rooms
+  left = freed.piece_was c out r.block
 
   stays : (a : ℕ) → (IsCollected c (m Cset) a → ⊥) → plot a ≡ r.block a
-  stays a away = freed.stays c out m r.block r.shared.parsable rooms a (spared_if m (region_with c a) away)
+  stays a away = freed.piece_stays c out r.block a (spared_if m (region_with c a) away)
 
   thing_stays : (a refs nums : ℕ) (name : Name) → r.block a ≡ Some (thing name refs nums) → plot a ≡ Some (thing name refs nums)
   thing_stays a refs nums name is = stays a ((r.shared.updated on).outside a refs nums name is) ∙ is
@@ -94,20 +95,9 @@ module _ (c : Config) (m : Word → ℕ) (g : Graph) (asking : ℕ → Asking) (
 
   -- so objects read as before
   thing_again : (a refs nums : ℕ) (name : Name) (o : Object) → r.block a ≡ Some (thing name refs nums) → IsThing heap r.block a refs nums name o → IsThing heap plot a refs nums name o
-  thing_again a refs nums name o here is = record {
-    header = is.header;
-    shape = is.shape;
-    name_word = is.name_word;
-    few_refs = is.few_refs;
-    few_nums = is.few_nums;
-    refs_are = is.refs_are;
-    nums_are = is.nums_are;
-    references = λ i reference there.
-        let within = slice_get_within o.refs i reference there in
-        let below : i < refs = omega (arith, within, is.refs_are) in
-        points_still (heap (a + 3 + i)) reference (fields_current a refs nums i name here below) (is.references i reference there);
-    numbers = is.numbers;
-  }
+  thing_again a refs nums name o here is =
+      object_stands heap r.block plot a refs nums name o
+      (λ i reference there below points. points_still (heap (a + 3 + i)) reference (fields_current a refs nums i name here below) points) is
 
   objects_again : AreObjects heap plot g.object
   objects_again = record {
@@ -139,15 +129,15 @@ module _ (c : Config) (m : Word → ℕ) (g : Graph) (asking : ℕ → Asking) (
     block = plot;
     ghost = bare;
     shared = record {
-      parsable = freed.parsable_again c out m r.block r.shared.parsable rooms;
+      parsable = freed.parsable_again c out m r.block r.shared.parsable.plotted some r.shared.parsable;
       contents = record { objects = objects_again; given = r.shared.contents.given };
       owned = record {
-        free_word = freed.free_again c out m r.block r.shared.parsable rooms r.ghost.owner r.ghost.owner r.shared.owned.free_word set_nobodys (λ q none. none);
+        free_word = freed.free_again c out m r.block r.shared.parsable.plotted some r.ghost.owner r.ghost.owner r.shared.owned.free_word set_nobodys (λ q none. none);
         currents = r.shared.owned.currents;
         rooms = λ a seat words is. absurd (no_hand a seat words is);
       };
       phased = record { phase_is = omega arith; cset_is = λ low. refl; evac_is = λ other. no_copier };
-      unwritten = freed.unwritten_again c out m r.block r.shared.parsable rooms r.shared.unwritten;
+      unwritten = freed.unwritten_again c out m r.block r.shared.parsable.plotted some r.shared.unwritten;
       marked = none_marked_in c 0 (λ q. m (Grey q)) (λ q. m (Black q)) (λ t. m (Count t)) (λ t k. m (Buffer t k)) (λ q. n (Top q)) (λ q. n (Tams q)) heap plot r.ghost.recording r.ghost.scanning
           (λ is. omega (arith, is));
       evacuated = evacuated_no_more;
@@ -157,7 +147,7 @@ module _ (c : Config) (m : Word → ℕ) (g : Graph) (asking : ℕ → Asking) (
     usable = λ t i inside few. usable_now c (m Evac) plot no_moved (m (Root t i)) (g.root (t + 1) i) (roots_again t i inside few);
     none = no_hand;
     asked = λ t inside.
-        asked_stays m n r.block plot g.count t refl refl (λ a. refl) (λ a words is. promised_stays a t words is) (λ a words is. (left a (promised t words) is).1) (asking t) (r.asked t inside);
+        asked_stays m n r.block plot g.count t refl refl (λ a words k is below. refl) (λ a words is. promised_stays a t words is) (λ a words is. (left a (promised t words) is).1) (asking t) (r.asked t inside);
     heard = r.heard;
     promised_to = λ a seat words is. r.promised_to a seat words (left a (promised seat words) is).1;
     unmarking = record { records_none = r.unmarking.records_none; scans_none = r.unmarking.scans_none };

@@ -4,8 +4,7 @@ use Rattle.std.specs.Int.{bit_at}
 use Rattle.std.proofs.lemmas.Bool.{eq-eqb, eqb-true, ne_eqb, true≢false}
 use Rattle.heap_words.specs.Words.{Word, Cset, Free}
 use Rattle.regions.specs.Sets.{IsIn}
-use Rattle.cycle_words.proofs.Marking.Freed.{free_was, free_is}
-use Rattle.cycle_pauses.proofs.Marking.Freed.{top_out, top_stays, tams_out, tams_stays, limit_out, limit_stays}
+use Rattle.cycle_words.proofs.Marking.Vanished.{free_was, free_is, top_out, top_stays, tams_out, tams_stays, limit_out, limit_stays}
 use Rattle.cycle_words.specs.Updating.Changes.{is_chosen}
 use Rattle.cycle_pauses.specs.Updating.Laws.{SetIsFreed}
 

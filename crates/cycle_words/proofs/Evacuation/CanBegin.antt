@@ -1,9 +1,9 @@
 -- Where marking has run, evacuation can begin once it is ended.
-use Rattle.std.proofs.Common.{◌≡◌, ◌≢◌, ℕ, ◌+◌, ◌<◌, ◌≤◌, ◌==◌, nat_le, Bool, true, false, Option, None, map, sym, ap, ◌∙◌, subst, ⊎_elim, arith}
+use Rattle.std.proofs.Common.{◌≡◌, ◌≢◌, ℕ, ◌+◌, ◌<◌, ◌≤◌, ◌==◌, nat_le, Bool, true, false, Option, None, map, ap, ◌∙◌, subst, ⊎_elim, arith}
 use Rattle.std.specs.Prelude.{Contains}
 use Rattle.std.specs.List.{range_with_len}
 use Rattle.std.specs.Int.{bit_at}
-use Rattle.std.proofs.lemmas.Bool.{cases_Bool, cond-false, cond_both, and_parts, leb-true, eqb-true, false_from_ne_true, true≢false}
+use Rattle.std.proofs.lemmas.Bool.{cases_Bool, cond-false, cond_both, and_parts, leb-true, eqb-true, false_from_ne_true}
 use Rattle.std.proofs.lemmas.List.Elements.{Contains-append_cases}
 use Rattle.std.proofs.lemmas.Nat.Bits.{bit_at-zero}
 use Rattle.heap_words.specs.declared.config.Config.{Config}
@@ -21,13 +21,12 @@ use Rattle.full_words.proofs.Roots.{root_among, answer_among}
 use Rattle.full_words.proofs.Reached.{words_read}
 use Rattle.image_graph.specs.Holds.{HoldsBy}
 use Rattle.cycle_words.specs.Marking.Marks.{is_black, IsNew}
-use Rattle.cycle_words.specs.Marking.Close.{IsTraced, closed}
-use Rattle.cycle_words.specs.Marking.WhileMarking.{IsObjectAt, IsMarking, IsMarkedThrough, from_black}
-use Rattle.cycle_words.specs.Marking.Final.{IsDead, dead_in, freed_block, freed_owner, final_marked}
+use Rattle.cycle_words.specs.Marking.Close.{IsTraced}
+use Rattle.cycle_words.specs.Marking.WhileMarking.{IsObjectAt, IsMarking, IsMarkedThrough}
+use Rattle.cycle_words.specs.Marking.Final.{dead_in, freed_block, freed_owner, final_marked}
 use Rattle.cycle_words.specs.Marking.Laws.{HasNoMoreSeats}
 use Rattle.cycle_words.proofs.Marking.Plain.{below_top, object_below, reached_object, root_reached}
-use Rattle.cycle_words.proofs.Marking.Closed.{closed_holds, followed, are_closed}
-use Rattle.cycle_words.proofs.Marking.Dead.{dead_is_dead}
+use Rattle.cycle_words.proofs.Marking.Closed.{object_alive, markable_object, black_markable, traced_markable, are_closed}
 use Rattle.cycle_words.proofs.Marking.Ended.{ended_holds, ended_through}
 use Rattle.cycle_words.specs.Evacuation.Live.{words_at, marked_words, live_words, is_candidate}
 use Rattle.cycle_words.specs.Evacuation.Choice.{copy_limit, chosen}
@@ -140,9 +139,6 @@ module _ (c : Config) (n : Word → ℕ) (left : Plot) (owner : ℕ → Option �
   }
 
 module _ (c : Config) (m : Word → ℕ) (block : Plot) (owner : ℕ → Option ℕ) (p : Promises) (g : Graph) (holds : HoldsBy c m block owner p g) (marking : IsMarking c m block) (seats : HasNoMoreSeats c m) where
-  abbrev k : Word → ℕ
-  k = closed c m
-
   abbrev n : Word → ℕ
   n = final_marked c m
 
@@ -158,24 +154,15 @@ module _ (c : Config) (m : Word → ℕ) (block : Plot) (owner : ℕ → Option 
   through : IsMarkedThrough c n left
   through = ended_through c m block owner p g holds marking seats
 
-  held : HoldsBy c k block owner p g
-  held = closed_holds c m block owner p g holds marking
-
   -- what is marked is an object, which is left
   marked_was : (a : ℕ) → is_black c n a ≡ true → IsObjectAt m block a
   marked_was a black = ⊎_elim
-      (λ (before : is_black c m a ≡ true). marking.objects a (from_black a before))
-      (λ (traced : IsTraced c m a). marking.objects a (followed c m block owner p g holds marking a traced))
+      (λ (before : is_black c m a ≡ true). markable_object c m block owner p g holds marking a (black_markable c m block owner p g holds marking a before))
+      (λ (traced : IsTraced c m a). markable_object c m block owner p g holds marking a (traced_markable c m block owner p g holds marking a traced))
       (((are_closed c m block owner p g holds marking).black a).0 black)
 
   marked_alive : (a : ℕ) → is_black c n a ≡ true → out (region_with c a) ≡ false
-  marked_alive a black =
-      let is = marked_was a black in
-      let at = object_below c k block owner p g held marking.uncollected a is.refs is.nums is.name is.here in
-      let most = held.objects.plotted.tops (region_with c a) at.0 in
-      false_from_ne_true (out (region_with c a)) (λ told.
-      let dead : IsDead c k (region_with c a) = (dead_is_dead c k (region_with c a)).0 told in
-      true≢false (sym black ∙ dead.unmarked a (record { from = at.1; before = omega (arith, at.1, at.2, most) })))
+  marked_alive a black = object_alive c m block owner p g holds marking a (marked_was a black)
 
   pub marked_object : (a : ℕ) → is_black c n a ≡ true → IsObjectAt n left a
   marked_object a black =

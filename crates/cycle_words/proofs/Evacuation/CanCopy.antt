@@ -30,10 +30,8 @@ use Rattle.cycle_words.proofs.Evacuation.CopyHolds as copy
 
 pub object_can_be_copied : ObjectCanBeCopied
 object_can_be_copied c m block owner p g holds sized a b here inside =
-    let is = holds.things a b here in
     let size = sized a b here in
-    let words = ap words_of is.3 in
-    let at = below_top c (λ r. m (Top r)) block holds.objects.plotted a b here (omega (arith, words)) in
+    let at = below_top c (λ r. m (Top r)) block holds.objects.plotted a b here (holds.pieces.some a b here) in
     let most = holds.objects.plotted.tops (region_with c a) at.0 in
     let lies = piece_inside c (λ r. m (Top r)) block holds.objects.plotted a b here in
     let again = from_base c.region_words a (some_words c) lies.0 in
@@ -52,15 +50,11 @@ module _ (c : Config) (m : Word → ℕ) (a : ℕ) (above : c.region_words ≤ a
   size = sized a b here
 
   with_room : IsCopiedOut c m (copied_out c m a) a → HoldsStill c m (copied_out c m a) block owner p g
-  with_room out =
-      let is = holds.things a b here in
-      let stands : block a ≡ Some (thing is.0 is.1 is.2) = here ∙ ap Some is.3 in
-      let words : words_at m a ≡ 3 + is.1 + is.2 = size ∙ ap words_of is.3 in
-      record {
-        pieces = copy.plot c m block owner p g holds a is.1 is.2 is.0 stands inside plain words out;
-        holds = copy.copied_holds c m block owner p g holds a is.1 is.2 is.0 stands inside plain words out;
-        sized = copy.copied_sized c m block owner p g holds a is.1 is.2 is.0 stands inside plain words out;
-      }
+  with_room out = record {
+    pieces = copy.plot c m block owner p g holds a b here inside plain size out;
+    holds = copy.copied_holds c m block owner p g holds a b here inside plain size out;
+    sized = copy.copied_sized c m block owner p g holds a b here inside plain size out;
+  }
 
   by_room : (o : Option ℕ) → copy_room c m a ≡ o → HoldsStill c m (copied_out c m a) block owner p g
   by_room None none =

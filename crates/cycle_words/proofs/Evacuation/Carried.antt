@@ -11,12 +11,11 @@ use Rattle.heap_graph.specs.Walk.{has}
 use Rattle.heap_world.specs.World.{thing, Plot, name_at, Points, IsPlotted, IsFilled, IsThing, IsFreeWord, AreCurrent}
 use Rattle.heap_world.proofs.Pointing.{named_piece, named_if_not_0, piece_inside}
 use Rattle.full_words.specs.Held.{IsLedTo, from_root, from_field, IsAmong, IsCopy, HoldsGraph}
-use Rattle.full_words.specs.Plot.{AreThings}
+use Rattle.full_words.specs.Plot.{NamedAreThings}
 use Rattle.full_words.specs.Full.{now_in, roots_below, answers_below, root_words}
 use Rattle.full_words.specs.Promised.{Promises, with_promised}
 use Rattle.full_words.specs.Image.{AnswerStands, RootsStand}
 use Rattle.full_words.specs.Serving.{asked_shape, AreAsking}
-use Rattle.full_words.proofs.Named.{thing_at}
 use Rattle.full_words.proofs.Reached.{refs_read}
 use Rattle.full_words.proofs.Roots as roots
 use Rattle.full_words.proofs.Roots.{has_either, root_in, answer_in, root_among, answer_among, answer_names}
@@ -73,7 +72,7 @@ module _ (c : Config) (m n : Word → ℕ) (block plot : Plot) (owner : ℕ → 
   now_own : (v : ℕ) (name : Name) → name_at (block v) ≡ Some name → now_in m (now_in m v) ≡ now_in m v
   now_own v name named = ⊎_elim
       (λ (moved : is_forwarded (heap v) ≡ true).
-      let piece = thing_at block holds.things v name named in
+      let piece = holds.pieces.named v name named in
       let was = holds.moved v piece.0 piece.1 name piece.2 moved in
       cond-false (is_forwarded (heap (now_in m v))) (forwardee_in (heap (now_in m v))) (now_in m v) was.current)
       (λ (plain : is_forwarded (heap v) ≡ false). ap (now_in m) (cond-false (is_forwarded (heap v)) (forwardee_in (heap v)) v plain))
@@ -246,14 +245,14 @@ module _ (c : Config) (m n : Word → ℕ) (block plot : Plot) (owner : ℕ → 
 
   -- so the words hold the graph, where the regions are as they should be
   pub carried_holds : ((a refs nums : ℕ) (name : Name) → plot a ≡ Some (thing name refs nums) → is_forwarded (after a) ≡ true → HasMoved c n plot a refs nums name)
-      → IsFilled c (λ r. n (Top r)) plot → AreThings plot → IsFreeWord c (n Free) (λ r. n (Top r)) owner → AreCurrent c (λ s. n (Current s)) owner
+      → IsFilled c (λ r. n (Top r)) plot → NamedAreThings plot → IsFreeWord c (n Free) (λ r. n (Top r)) owner → AreCurrent c (λ s. n (Current s)) owner
       → HoldsBy c n plot owner p g
-  carried_holds moved filled things free_word currents = record {
+  carried_holds moved filled pieces free_word currents = record {
     objects = objects_again;
     rooted = rooted_again;
     moved = moved;
     filled = filled;
-    things = things;
+    pieces = pieces;
     free_word = free_word;
     currents = currents;
     asking = asking_again;

@@ -17,7 +17,6 @@ use Rattle.full_words.specs.Held.{IsLedTo, from_root, IsAmong, HoldsGraph}
 use Rattle.full_words.specs.Full.{now_in, root_words}
 use Rattle.full_words.specs.Promised.{Promises, with_promised}
 use Rattle.full_words.specs.Serving.{AreAsking}
-use Rattle.full_words.proofs.Named.{thing_at}
 use Rattle.full_words.proofs.Reached.{words_read}
 use Rattle.full_words.proofs.Roots.{root_among, answer_among, answer_names}
 use Rattle.image_graph.specs.Holds.{HoldsBy, AreSized}
@@ -83,10 +82,10 @@ module _ (c : Config) (m : Word → ℕ) (block : Plot) (owner : ℕ → Option 
 
       copied : StillSo c m (copied_out c m a) block owner p g
       copied = record {
-        pieces = copy.plot c m block owner p g holds a refs nums name here inside plain size out;
-        holds = copy.copied_holds c m block owner p g holds a refs nums name here inside plain size out;
-        sized = copy.copied_sized c m block owner p g holds a refs nums name here inside plain size out;
-        order = copy.order_still c m block owner p g holds a refs nums name here inside plain size out;
+        pieces = copy.plot c m block owner p g holds a (thing name refs nums) here inside plain size out;
+        holds = copy.copied_holds c m block owner p g holds a (thing name refs nums) here inside plain size out;
+        sized = copy.copied_sized c m block owner p g holds a (thing name refs nums) here inside plain size out;
+        order = copy.order_still c m block owner p g holds a (thing name refs nums) here inside plain size out;
       }
 
       is_copied : copied_out c m a ≡ moved_out c m a
@@ -123,7 +122,7 @@ module _ (c : Config) (m : Word → ℕ) (block : Plot) (owner : ℕ → Option 
       let least = leb-true c.region_words (m (Root t i)) (and_parts (nat_le c.region_words (m (Root t i))) (bit_at (m Cset) (region_with c (m (Root t i))) == 1) collected).0 in
       let some : m (Root t i) ≢ 0 = λ none. (let long = c.in_range.least_words in omega (arith, none, least, long)) in
       let named = named_if_not_0 c top block holds.objects.plotted (m (Root t i)) (g.root (t + 1) i) (holds.rooted.roots t i within few) some in
-      let at = thing_at block holds.things (m (Root t i)) named.0 named.2 in
+      let at = holds.pieces.named (m (Root t i)) named.0 named.2 in
       let led : IsLed (now_in m (m (Root t i))) = from_root (m (Root t i)) (root_among c top m block g p holds.objects.plotted holds.rooted t i within few) some in
       let out = moved (m (Root t i)) at.0 at.1 named.0 at.2 led collected can in
       subst (λ n. StillSo c m n block owner p g) (sym (cleared_is c m (Root t i) collected))
@@ -151,7 +150,7 @@ module _ (c : Config) (m : Word → ℕ) (block : Plot) (owner : ℕ → Option 
       let least = leb-true c.region_words (m (Answer t)) (and_parts (nat_le c.region_words (m (Answer t))) (bit_at (m Cset) (region_with c (m (Answer t))) == 1) collected).0 in
       let big : 1 < m (Answer t) = (let long = c.in_range.least_words in omega (arith, least, long)) in
       let named = answer_names c top m block g p holds.objects.plotted holds.rooted (m (Answer t)) (p.ref (t + 1)) big (holds.rooted.answers t within) in
-      let at = thing_at block holds.things (m (Answer t)) named.0 named.2 in
+      let at = holds.pieces.named (m (Answer t)) named.0 named.2 in
       let led : IsLed (now_in m (m (Answer t))) = from_root (m (Answer t)) (answer_among c top m block g p holds.objects.plotted holds.rooted t within big) (λ none. omega (arith, none, big)) in
       let out = moved (m (Answer t)) at.0 at.1 named.0 at.2 led collected can in
       subst (λ n. StillSo c m n block owner p g) (sym (cleared_is c m (Answer t) collected))
@@ -213,7 +212,7 @@ module _ (c : Config) (m : Word → ℕ) (block : Plot) (owner : ℕ → Option 
     rooted = record { roots = holds.rooted.roots; answers = holds.rooted.answers; no_more_roots = holds.rooted.no_more_roots; no_more_promised = holds.rooted.no_more_promised };
     moved = λ a refs nums name is forwarded. absurd (true≢false (sym forwarded ∙ plain a refs nums name is));
     filled = holds.filled;
-    things = holds.things;
+    pieces = holds.pieces;
     free_word = holds.free_word;
     currents = record { within = holds.currents.within; own = holds.currents.own };
     asking = asking;

@@ -1,5 +1,5 @@
--- An object is copied out of the collection set: words that held a graph hold it, with the copy as a further piece.
-use Rattle.std.proofs.Common.{◌≡◌, ◌≢◌, ℕ, ◌+◌, ◌-◌, ◌<◌, ◌≤◌, ◌⊎◌, ◌==◌, ◌&&◌, nat_le, true, false, inl, inr, Option, Some, ⊎_elim, refl, sym, ap, ◌∙◌, subst, arith}
+-- A piece is copied out of the collection set: words that held a graph hold it, with the copy as a further piece.
+use Rattle.std.proofs.Common.{◌≡◌, ◌≢◌, ℕ, ◌+◌, ◌<◌, ◌≤◌, ◌⊎◌, ◌==◌, ◌&&◌, nat_le, true, false, inl, inr, Option, Some, ⊎_elim, refl, sym, ap, ◌∙◌, subst, arith}
 use Rattle.std.specs.Prelude.{bit_and}
 use Rattle.std.specs.Int.{bit_at}
 use Rattle.std.proofs.Math.Path.{fun_ext}
@@ -14,17 +14,17 @@ use Rattle.regions.specs.Marks.{mark_word, mark_bit}
 use Rattle.regions.proofs.PlaceLemmas.{regions_tile}
 use Rattle.shen_graph.specs.declared.name.Name.{Name}
 use Rattle.shen_graph.specs.Graph.{Graph}
-use Rattle.heap_world.specs.World.{Block, thing, words_of, Plot, name_at, IsCollected, IsPlotted, IsFilled, IsFreeWord, AreCurrent}
+use Rattle.heap_world.specs.World.{Block, thing, hand, promised, words_of, Plot, name_at, IsCollected, IsPlotted, IsFilled, IsFreeWord, AreCurrent}
 use Rattle.heap_world.proofs.Updates.{updated, updated_same, updated_there, updated_else}
 use Rattle.heap_world.proofs.Pieces.{beside, piece_cases}
+use Rattle.heap_world.proofs.Pointing.{named_piece}
 use Rattle.heap_world.proofs.Apart.{far}
 use Rattle.heap_world.proofs.Joined as joined
 use Rattle.heap_world.proofs.Joined.{CanJoin}
 use Rattle.full_words.specs.Held.{IsCopy}
-use Rattle.full_words.specs.Plot.{AreThings}
+use Rattle.full_words.specs.Plot.{NamedAreThings}
 use Rattle.full_words.specs.Full.{now_in}
 use Rattle.full_words.specs.Promised.{Promises}
-use Rattle.full_words.proofs.Named.{thing_at}
 use Rattle.image_graph.specs.Holds.{HasMoved, HoldsBy, AreSized}
 use Rattle.cycle_words.specs.Marking.Marks.{is_black, IsNew, IsKept}
 use Rattle.cycle_words.specs.Marking.WhileMarking.{CanBeReached}
@@ -45,8 +45,8 @@ pub record IsInOrder (c : Config) (m : Word → ℕ) (block : Plot) : Type 0 whe
   pub unseated : (seat r : ℕ) → m (Current seat) ≡ r + 1 → IsIn (m Cset) r → ⊥
 
 module _ (c : Config) (m : Word → ℕ) (block : Plot) (owner : ℕ → Option ℕ) (p : Promises) (g : Graph) (holds : HoldsBy c m block owner p g)
-    (a refs nums : ℕ) (name : Name) (here : block a ≡ Some (thing name refs nums)) (inside : IsCollected c (m Cset) a) (plain : is_forwarded (m (Heap a)) ≡ false)
-    (size : words_at m a ≡ 3 + refs + nums) (out : IsCopiedOut c m (copied_out c m a) a) where
+    (a : ℕ) (x : Block) (here : block a ≡ Some x) (inside : IsCollected c (m Cset) a) (plain : is_forwarded (m (Heap a)) ≡ false)
+    (size : words_at m a ≡ words_of x) (out : IsCopiedOut c m (copied_out c m a) a) where
   abbrev n : Word → ℕ
   n = copied_out c m a
 
@@ -56,9 +56,6 @@ module _ (c : Config) (m : Word → ℕ) (block : Plot) (owner : ℕ → Option 
   -- where the copy lies
   abbrev pub to : ℕ
   to = top_address c m out.region
-
-  abbrev x : Block
-  x = thing name refs nums
 
   abbrev top : ℕ → ℕ
   top q = m (Top q)
@@ -81,7 +78,10 @@ module _ (c : Config) (m : Word → ℕ) (block : Plot) (owner : ℕ → Option 
   Lands k = k ≢ a
 
   long : (q : ℕ) (z : Block) → block q ≡ Some z → 1 ≤ words_of z
-  long q z is = let at = holds.things q z is in let words = ap words_of at.3 in omega (arith, words)
+  long = holds.pieces.some
+
+  own : 1 ≤ words_of x
+  own = long a x here
 
   joins : CanJoin c top block r (m (Top r)) x
   joins = record {
@@ -90,7 +90,7 @@ module _ (c : Config) (m : Word → ℕ) (block : Plot) (owner : ℕ → Option 
     within = out.below;
     top_is = refl;
     room = (let room = out.room in omega (arith, room, size));
-    some = omega arith;
+    some = own;
   }
 
   pub stays : (q : ℕ) (z : Block) → block q ≡ Some z → plot q ≡ Some z
@@ -102,7 +102,7 @@ module _ (c : Config) (m : Word → ℕ) (block : Plot) (owner : ℕ → Option 
       let some = long to z is in
       let where_is = beside c top block holds.objects.plotted r to z is in
       let room = out.room in
-      omega (arith, some, where_is, room, size)
+      omega (arith, some, own, where_is, room, size)
 
   elsewhere : to ≢ a
   elsewhere same = none_there x (ap block same ∙ here)
@@ -134,7 +134,7 @@ module _ (c : Config) (m : Word → ℕ) (block : Plot) (owner : ℕ → Option 
 
   kept : (q k : ℕ) (z : Block) → q ≢ a → block q ≡ Some z → k < words_of z → after (q + k) ≡ heap (q + k)
   kept q k z other is below =
-      let apart : q + k ≢ a + 0 = far c top block holds.objects.plotted q a k 0 z x is here other below (omega arith) in
+      let apart : q + k ≢ a + 0 = far c top block holds.objects.plotted q a k 0 z x is here other below (omega (arith, own)) in
       word_stays q k z is below (λ same. apart (omega (arith, same)))
 
   header_stays : (q : ℕ) (z : Block) → q ≢ a → block q ≡ Some z → after q ≡ heap q
@@ -192,17 +192,41 @@ module _ (c : Config) (m : Word → ℕ) (block : Plot) (owner : ℕ → Option 
 
   -- the copy lies outside the set
   region_is : region_with c to ≡ r
-  region_is = let room = out.room in regions_tile.of_no_other c r to (record { from = omega arith; before = omega (arith, room, size) })
+  region_is = let room = out.room in regions_tile.of_no_other c r to (record { from = omega arith; before = omega (arith, own, room, size) })
 
-  things_again : AreThings plot
-  things_again q z is = ⊎_elim
-      (λ (new : (q ≡ to) × (x ≡ z)). (name, refs, nums, sym new.1))
-      (λ (old : (q ≢ to) × (block q ≡ Some z)). holds.things q z old.1)
-      (cases q z is)
+  named_again : (q : ℕ) (named : Name) → name_at (plot q) ≡ Some named → (refs : ℕ) × (nums : ℕ) × (plot q ≡ Some (thing named refs nums))
+  named_again q named is =
+      let at = named_piece (plot q) named is in
+      ⊎_elim
+      (λ (new : (q ≡ to) × (x ≡ at.0)).
+      let same : block a ≡ Some at.0 = here ∙ ap Some new.1 in
+      let was = holds.pieces.named a named (ap name_at same ∙ at.2) in
+      (was.0, was.1, at.1 ∙ sym same ∙ was.2))
+      (λ (old : (q ≢ to) × (block q ≡ Some at.0)).
+      let was = holds.pieces.named q named (ap name_at old.1 ∙ at.2) in
+      (was.0, was.1, at.1 ∙ sym old.1 ∙ was.2))
+      (cases q at.0 at.1)
+
+  pieces_again : NamedAreThings plot
+  pieces_again = record {
+    named = named_again;
+    unpromised = λ q seat words is. ⊎_elim
+        (λ (new : (q ≡ to) × (x ≡ promised seat words)). holds.pieces.unpromised a seat words (here ∙ ap Some new.1))
+        (λ (old : (q ≢ to) × (block q ≡ Some (promised seat words))). holds.pieces.unpromised q seat words old.1)
+        (cases q (promised seat words) is);
+    unheld = λ q seat words is. ⊎_elim
+        (λ (new : (q ≡ to) × (x ≡ hand seat words)). holds.pieces.unheld a seat words (here ∙ ap Some new.1))
+        (λ (old : (q ≢ to) × (block q ≡ Some (hand seat words))). holds.pieces.unheld q seat words old.1)
+        (cases q (hand seat words) is);
+    some = λ q z is. ⊎_elim
+        (λ (new : (q ≡ to) × (x ≡ z)). subst (λ b. 1 ≤ words_of b) new.1 own)
+        (λ (old : (q ≢ to) × (block q ≡ Some z)). long q z old.1)
+        (cases q z is);
+  }
 
   current_again : (q : ℕ) (named : Name) → name_at (plot q) ≡ Some named → IsCopy plot (now_in n q) named
   current_again q named is =
-      let at = thing_at plot things_again q named is in
+      let at = named_again q named is in
       ⊎_elim
       (λ (new : (q ≡ to) × (x ≡ thing named at.0 at.1)). (at.0, at.1, ap (λ k. plot (now_in n k)) new.0 ∙ ap plot now_new ∙ new_there ∙ ap Some new.1))
       (λ (old : (q ≢ to) × (block q ≡ Some (thing named at.0 at.1))). ⊎_elim
@@ -217,7 +241,7 @@ module _ (c : Config) (m : Word → ℕ) (block : Plot) (owner : ℕ → Option 
   -- where an address leads comes from where it led
   now_from : (q : ℕ) (named : Name) → name_at (block q) ≡ Some named → (origin (now_in n q) ≡ now_in m q) × (now_in n q ≢ a)
   now_from q named is =
-      let at = thing_at block holds.things q named is in
+      let at = holds.pieces.named q named is in
       ⊎_elim
       (λ (same : q ≡ a). (
         ap (λ k. origin (now_in n k)) same ∙ ap origin now_there ∙ origin_there ∙ sym now_here ∙ ap (now_in m) (sym same),
@@ -270,7 +294,7 @@ module _ (c : Config) (m : Word → ℕ) (block : Plot) (owner : ℕ → Option 
       all_words : (q k more less : ℕ) (named : Name) → plot q ≡ Some (thing named more less) → q ≢ a → 0 < k → k < 3 + more + less → after (q + k) ≡ heap (origin q + k)
       all_words q k more less named is away some below = ⊎_elim
           (λ (new : (q ≡ to) × (x ≡ thing named more less)).
-          let words : 3 + refs + nums ≡ 3 + more + less = ap words_of new.1 in
+          let words : words_of x ≡ 3 + more + less = ap words_of new.1 in
           ap (λ y. after (y + k)) new.0 ∙ out.copied.words k some (omega (arith, below, words, size)) ∙ ap (λ y. heap (y + k)) (sym origin_there ∙ ap origin (sym new.0)))
           (λ (old : (q ≢ to) × (block q ≡ Some (thing named more less))).
           kept q k (thing named more less) away old.1 below ∙ ap (λ y. heap (y + k)) (sym (origin_else q old.0)))
@@ -330,15 +354,14 @@ module _ (c : Config) (m : Word → ℕ) (block : Plot) (owner : ℕ → Option 
   copied_holds =
       carried_holds c m n block plot owner p g holds origin Lands carried moved_again
       (subst (λ t. IsFilled c t plot) (sym tops_are) (joined.filled_more c top block r (m (Top r)) x joins holds.filled))
-      things_again free_again currents_again
+      pieces_again free_again currents_again
 
   pub copied_sized : AreSized m block → AreSized n plot
   copied_sized sized q z is = ⊎_elim
       (λ (new : (q ≡ to) × (x ≡ z)).
       ap (λ k. object_words (after (k + 1))) new.0 ∙ ap object_words (out.copied.words 1 (omega arith) (omega arith)) ∙ size ∙ ap words_of new.1)
       (λ (old : (q ≢ to) × (block q ≡ Some z)).
-      let at = holds.things q z old.1 in
-      let words = ap words_of at.3 in
+      let words = sized q z old.1 in
       ap object_words (shape_stays q z old.1 (omega (arith, words))) ∙ sized q z old.1)
       (cases q z is)
 
@@ -360,7 +383,7 @@ module _ (c : Config) (m : Word → ℕ) (block : Plot) (owner : ℕ → Option 
       (λ (new : y ≡ to).
       let floor = floors r out.below in
       let same : n (Tams r) ≡ m (Tams r) = word_same (Tams r) (λ never. never) in
-      inr (subst (IsNew c n) (sym new) (subst (λ q. n (Tams q) ≤ to - base_of c q) (sym region_is) (omega (arith, floor, same)))))
+      inr (subst (IsNew c n) (sym new) (subst (λ q. base_of c q + n (Tams q) ≤ to) (sym region_is) (omega (arith, floor, same)))))
       (λ (old : IsKept c m y). ⊎_elim
       (λ (black : is_black c m y ≡ true). inl (black_same y ∙ black))
       (λ (fresh : IsNew c m y).

@@ -13,7 +13,6 @@ use Rattle.shen_graph.specs.Graph.{Graph}
 use Rattle.heap_world.specs.World.{thing, Plot, name_at, IsPlotted, IsFilled, IsFreeWord, AreCurrent}
 use Rattle.full_words.specs.Full.{now_in}
 use Rattle.full_words.specs.Promised.{Promises}
-use Rattle.full_words.proofs.Named.{thing_at}
 use Rattle.image_graph.specs.Holds.{HasMoved, HoldsBy}
 use Rattle.cycle_words.specs.Marking.WhileMarking.{CanBeReached}
 use Rattle.cycle_words.proofs.Evacuation.Copies.{now_same}
@@ -38,7 +37,7 @@ module _ (c : Config) (m n : Word → ℕ) (block : Plot) (owner : ℕ → Optio
   tops_are = fun_ext is.tops
 
   now_again : (a : ℕ) (name : Name) → name_at (block a) ≡ Some name → now_in n a ≡ now_in m a
-  now_again a name named = let at = thing_at block holds.things a name named in now_same n m a (is.headers a at.0 at.1 name at.2)
+  now_again a name named = let at = holds.pieces.named a name named in now_same n m a (is.headers a at.0 at.1 name at.2)
 
   abbrev same_place : ℕ → ℕ
   same_place x = x
@@ -77,7 +76,7 @@ module _ (c : Config) (m n : Word → ℕ) (block : Plot) (owner : ℕ → Optio
   pub renamed_holds : HoldsBy c n block owner p g
   renamed_holds =
       carried_holds c m n block block owner p g holds same_place Anywhere carried moved_again
-      (subst (λ t. IsFilled c t block) (sym tops_are) holds.filled) holds.things
+      (subst (λ t. IsFilled c t block) (sym tops_are) holds.filled) holds.pieces
       (subst (λ t. IsFreeWord c (n Free) t owner) (sym tops_are) (subst (λ f. IsFreeWord c f (λ r. m (Top r)) owner) (sym is.free) holds.free_word))
       (subst (λ s. AreCurrent c s owner) (sym (fun_ext is.currents)) holds.currents)
 

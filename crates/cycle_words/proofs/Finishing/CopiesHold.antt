@@ -1,5 +1,5 @@
 -- All that is left of the collection set is copied out, or what finds room: words that held a graph hold it.
-use Rattle.std.proofs.Common.{◌≡◌, ◌≢◌, ℕ, ◌+◌, ◌*◌, ◌≤◌, ◌==◌, ◌&&◌, nat_le, true, false, not, zero, suc, Option, Some, sym, ap, ◌∙◌, subst, ⊎_elim}
+use Rattle.std.proofs.Common.{◌≡◌, ◌≢◌, ℕ, ◌+◌, ◌*◌, ◌≤◌, ◌==◌, ◌&&◌, nat_le, true, false, not, zero, suc, Option, Some, sym, subst, ⊎_elim}
 use Rattle.std.specs.Int.{bit_at}
 use Rattle.std.proofs.Math.Path.{fun_ext}
 use Rattle.std.proofs.lemmas.Bool.{cases_Bool, cases_eq, cond-true, cond-false, and_parts, leb-true, eqb-true, eq-eqb, ne_eqb, not-true}
@@ -7,9 +7,8 @@ use Rattle.heap_words.specs.declared.config.Config.{Config}
 use Rattle.heap_words.specs.Words.{Word, Phase, Cset, Heap}
 use Rattle.heap_words.specs.Encoding.{is_forwarded}
 use Rattle.regions.specs.Place.{region_with}
-use Rattle.shen_graph.specs.declared.name.Name.{Name}
 use Rattle.shen_graph.specs.Graph.{Graph}
-use Rattle.heap_world.specs.World.{Block, thing, words_of, Plot, IsCollected}
+use Rattle.heap_world.specs.World.{Block, words_of, Plot, IsCollected}
 use Rattle.full_words.specs.Promised.{Promises}
 use Rattle.image_graph.specs.Holds.{HoldsBy, AreSized}
 use Rattle.cycle_words.specs.Marking.Marks.{is_black}
@@ -52,24 +51,18 @@ module _ (c : Config) (owner : ℕ → Option ℕ) (p : Promises) (g : Graph) wh
     pub piece : (b : Block) × (block a ≡ Some b)
     piece = so_far.marked a parts.0 parts.1
 
-    pub object : (name : Name) × (refs : ℕ) × (nums : ℕ) × (piece.0 ≡ thing name refs nums)
-    object = so_far.holds.things a piece.0 piece.1
-
-    pub stands : block a ≡ Some (thing object.0 object.1 object.2)
-    stands = piece.1 ∙ ap Some object.3
-
-    pub words : words_at m a ≡ 3 + object.1 + object.2
-    words = so_far.sized a piece.0 piece.1 ∙ ap words_of object.3
+    pub words : words_at m a ≡ words_of piece.0
+    words = so_far.sized a piece.0 piece.1
 
     -- the pieces with the copy
     abbrev pub more : Plot
-    more = copy.plot c m block owner p g so_far.holds a object.1 object.2 object.0 stands inside parts.2 words out
+    more = copy.plot c m block owner p g so_far.holds a piece.0 piece.1 inside parts.2 words out
 
     pub one_copied : IsCopiedSoFar c n more owner p g
     one_copied = record {
-      holds = copy.copied_holds c m block owner p g so_far.holds a object.1 object.2 object.0 stands inside parts.2 words out;
-      sized = copy.copied_sized c m block owner p g so_far.holds a object.1 object.2 object.0 stands inside parts.2 words out so_far.sized;
-      marked = copy.marked_still c m block owner p g so_far.holds a object.1 object.2 object.0 stands inside parts.2 words out so_far.marked;
+      holds = copy.copied_holds c m block owner p g so_far.holds a piece.0 piece.1 inside parts.2 words out;
+      sized = copy.copied_sized c m block owner p g so_far.holds a piece.0 piece.1 inside parts.2 words out so_far.sized;
+      marked = copy.marked_still c m block owner p g so_far.holds a piece.0 piece.1 inside parts.2 words out so_far.marked;
     }
 
   -- address by address

@@ -9,9 +9,8 @@ use Rattle.heap_words.specs.Words.{Word, Phase, Cset, Top, Current, Heap}
 use Rattle.heap_words.specs.Encoding.{is_forwarded}
 use Rattle.regions.specs.Place.{region_with}
 use Rattle.regions.specs.Sets.{IsIn}
-use Rattle.shen_graph.specs.declared.name.Name.{Name}
 use Rattle.shen_graph.specs.Graph.{Graph}
-use Rattle.heap_world.specs.World.{thing, Plot, IsCollected}
+use Rattle.heap_world.specs.World.{Block, thing, words_of, Plot, IsCollected}
 use Rattle.heap_world.proofs.Pointing.{piece_inside}
 use Rattle.full_words.specs.Held.{IsAmong}
 use Rattle.full_words.specs.Full.{now_in, root_words}
@@ -57,13 +56,10 @@ module _ (c : Config) (owner : ℕ → Option ℕ) (p : Promises) (g : Graph) wh
     abbrev inside : IsCollected c (m Cset) a
     inside = copies.inside c owner p g m block so_far a left room
 
-    abbrev is : (name : Name) × (refs : ℕ) × (nums : ℕ) × ((copies.piece c owner p g m block so_far a left room).0 ≡ thing name refs nums)
-    is = copies.object c owner p g m block so_far a left room
+    abbrev piece : (b : Block) × (block a ≡ Some b)
+    piece = copies.piece c owner p g m block so_far a left room
 
-    abbrev stands : block a ≡ Some (thing is.0 is.1 is.2)
-    stands = copies.stands c owner p g m block so_far a left room
-
-    abbrev words : words_at m a ≡ 3 + is.1 + is.2
+    abbrev words : words_at m a ≡ words_of piece.0
     words = copies.words c owner p g m block so_far a left room
 
     -- what is left was left, and is another object
@@ -71,13 +67,13 @@ module _ (c : Config) (owner : ℕ → Option ℕ) (p : Promises) (g : Graph) wh
     left_was y now =
         let three = and_parts (is_collected c n y && is_black c n y) (not (is_forwarded (n (Heap y)))) now in
         let two = and_parts (is_collected c n y) (is_black c n y) three.0 in
-        let collected : is_collected c m y ≡ true = sym (copy.collected_same c m block owner p g so_far.holds a is.1 is.2 is.0 stands inside parts.2 words out y) ∙ two.0 in
-        let black : is_black c m y ≡ true = sym (copy.black_same c m block owner p g so_far.holds a is.1 is.2 is.0 stands inside parts.2 words out y) ∙ two.1 in
+        let collected : is_collected c m y ≡ true = sym (copy.collected_same c m block owner p g so_far.holds a piece.0 piece.1 inside parts.2 words out y) ∙ two.0 in
+        let black : is_black c m y ≡ true = sym (copy.black_same c m block owner p g so_far.holds a piece.0 piece.1 inside parts.2 words out y) ∙ two.1 in
         let plain : is_forwarded (n (Heap y)) ≡ false = not-true (is_forwarded (n (Heap y))) three.1 in
         let other : y ≢ a = λ same.
-        true≢false (sym (copy.moved_now c m block owner p g so_far.holds a is.1 is.2 is.0 stands inside parts.2 words out) ∙ ap (λ k. is_forwarded (n (Heap k))) (sym same) ∙ plain) in
+        true≢false (sym (copy.moved_now c m block owner p g so_far.holds a piece.0 piece.1 inside parts.2 words out) ∙ ap (λ k. is_forwarded (n (Heap k))) (sym same) ∙ plain) in
         let was = so_far.marked y collected black in
-        let same : n (Heap y) ≡ m (Heap y) = copy.header_same c m block owner p g so_far.holds a is.1 is.2 is.0 stands inside parts.2 words out y was.0 other was.1 in (
+        let same : n (Heap y) ≡ m (Heap y) = copy.header_same c m block owner p g so_far.holds a piece.0 piece.1 inside parts.2 words out y was.0 other was.1 in (
           other,
           and_from (is_collected c m y && is_black c m y) (not (is_forwarded (m (Heap y)))) (and_from (is_collected c m y) (is_black c m y) collected black)
               (not_from_false (is_forwarded (m (Heap y))) (ap is_forwarded (sym same) ∙ plain)),
@@ -85,10 +81,10 @@ module _ (c : Config) (owner : ℕ → Option ℕ) (p : Promises) (g : Graph) wh
 
     one_more : (plot : Plot) × IsGoingOn c n plot owner p g (a + 1)
     one_more = (
-      copy.plot c m block owner p g so_far.holds a is.1 is.2 is.0 stands inside parts.2 words out,
+      copy.plot c m block owner p g so_far.holds a piece.0 piece.1 inside parts.2 words out,
       record {
         so_far = copies.one_copied c owner p g m block so_far a left room;
-        order = copy.order_still c m block owner p g so_far.holds a is.1 is.2 is.0 stands inside parts.2 words out on.order;
+        order = copy.order_still c m block owner p g so_far.holds a piece.0 piece.1 inside parts.2 words out on.order;
         none_left = λ y below. false_from_ne_true (is_left c n y) (λ now.
             let was = left_was y now in
             let other = was.0 in

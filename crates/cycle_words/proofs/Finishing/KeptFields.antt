@@ -12,6 +12,7 @@ use Rattle.heap_world.specs.World.{Block, words_of, Plot, IsCollected}
 use Rattle.full_words.specs.Promised.{Promises}
 use Rattle.image_graph.specs.Holds.{HoldsBy, AreSized}
 use Rattle.cycle_words.specs.Marking.Marks.{is_black, IsNew, IsKept}
+use Rattle.cycle_words.proofs.Marking.Plain.{below_top}
 use Rattle.cycle_words.specs.Evacuation.Live.{words_at}
 use Rattle.cycle_words.proofs.Evacuation.RegionAddresses as regions
 use Rattle.cycle_words.proofs.Evacuation.RegionAddresses.{from_base}
@@ -21,17 +22,17 @@ use Rattle.cycle_words.proofs.Finishing.Fields.{covered, same_region, kept_field
 use Rattle.cycle_words.proofs.Finishing.UpdatedHolds.{some_words}
 
 -- the test of a kept object says that it is one
-kept_is : (c : Config) (m : Word → ℕ) (a : ℕ) → is_kept c m a ≡ true → IsKept c m a
-kept_is c m a is = ⊎_elim
+kept_is : (c : Config) (m : Word → ℕ) (a : ℕ) → base_of c (region_with c a) ≤ a → is_kept c m a ≡ true → IsKept c m a
+kept_is c m a above is = ⊎_elim
     (λ (black : is_black c m a ≡ true). inl black)
-    (λ (fresh : nat_le (m (Tams (region_with c a))) (a - base_of c (region_with c a)) ≡ true). inr (leb-true (m (Tams (region_with c a))) (a - base_of c (region_with c a)) fresh))
+    (λ (fresh : nat_le (m (Tams (region_with c a))) (a - base_of c (region_with c a)) ≡ true). inr (let high = leb-true (m (Tams (region_with c a))) (a - base_of c (region_with c a)) fresh in omega (arith, high, above)))
     (or_cases (is_black c m a) (nat_le (m (Tams (region_with c a))) (a - base_of c (region_with c a))) is)
 
 is_kept_is : (c : Config) (m : Word → ℕ) (a : ℕ) → IsKept c m a → is_kept c m a ≡ true
 is_kept_is c m a kept = ⊎_elim
     (λ (black : is_black c m a ≡ true). or_left (is_black c m a) (nat_le (m (Tams (region_with c a))) (a - base_of c (region_with c a))) black)
     (λ (fresh : IsNew c m a).
-    or_right (is_black c m a) (nat_le (m (Tams (region_with c a))) (a - base_of c (region_with c a))) (le-leb (m (Tams (region_with c a))) (a - base_of c (region_with c a)) fresh))
+    or_right (is_black c m a) (nat_le (m (Tams (region_with c a))) (a - base_of c (region_with c a))) (le-leb (m (Tams (region_with c a))) (a - base_of c (region_with c a)) (omega (arith, fresh))))
     kept
 
 module _ (c : Config) (m : Word → ℕ) (block : Plot) (owner : ℕ → Option ℕ) (p : Promises) (g : Graph) (holds : HoldsBy c m block owner p g) (sized : AreSized m block) where
@@ -92,7 +93,7 @@ module _ (c : Config) (m : Word → ℕ) (block : Plot) (owner : ℕ → Option 
       piece = found.0;
       here = found.1;
       outside = ap (bit_at (m Cset)) region_is ∙ lies.2;
-      kept = kept_is c m a parts.0.1;
+      kept = kept_is c m a (below_top c (λ q. m (Top q)) block holds.objects.plotted a found.0 found.1 (some a found.0 found.1)).1 parts.0.1;
       field = x - (a + 3);
       few = (let low = bounds.0 in let high = bounds.1 in omega (arith, low, high));
       at = (let low = bounds.0 in omega (arith, low));

@@ -18,7 +18,8 @@ use Rattle.cycle_words.specs.Finishing.Finish.{set_freed}
 use Rattle.cycle_words.specs.Evacuation.Begun.{with_set}
 use Rattle.cycle_words.proofs.Evacuation.ClearedHolds.{set_stored_holds}
 use Rattle.cycle_words.proofs.Marking.Alike.{holds_alike}
-use Rattle.cycle_words.proofs.Marking.Freed.{CanFree, piece_was, left_unmoved, freed_holds}
+use Rattle.cycle_words.proofs.Marking.Vanished.{piece_was}
+use Rattle.cycle_words.proofs.Marking.Freed.{CanFree, left_unmoved, freed_holds}
 
 module _ (c : Config) (m : Word → ℕ) (block : Plot) (owner : ℕ → Option ℕ) (p : Promises) (g : Graph) (holds : HoldsBy c m block owner p g) (nothing : NothingNames c m) where
   abbrev out : ℕ → Bool
@@ -61,7 +62,7 @@ module _ (c : Config) (m : Word → ℕ) (block : Plot) (owner : ℕ → Option 
       c left owned p g calm_holds
 
   pub set_freed_sized : AreSized m block → AreSized (set_freed c m) left
-  set_freed_sized sized a b is = let was = piece_was c out m block owner p g holds can a b is in sized a b was.1
+  set_freed_sized sized a b is = let was = piece_was c out block a b is in sized a b was.1
 
 pub ending_holds : (c : Config) (m : Word → ℕ) → EndingHolds c m (final_updated c m)
 ending_holds c m block owner p g holds nothing = (left c m block owner p g holds nothing, owned c m block owner p g holds nothing, p, set_ended_holds c m block owner p g holds nothing)

@@ -35,7 +35,7 @@ module _ (c : Config) (m : Word → ℕ) (block : Plot) (owner : ℕ → Option 
   heap y = m (Heap y)
 
   pub some_words : (a : ℕ) (b : Block) → block a ≡ Some b → 1 ≤ words_of b
-  some_words a b is = let at = holds.things a b is in let words = ap words_of at.3 in omega (arith, words)
+  some_words = holds.pieces.some
 
   -- the words of a piece that are no references stay
   not_reference : (a k refs : ℕ) → (k < 3) ⊎ ((3 + refs ≤ k) × (refs_in (heap (a + 1)) ≡ refs)) → is_reference m a (a + k) ≡ false
@@ -87,6 +87,5 @@ module _ (c : Config) (m : Word → ℕ) (block : Plot) (owner : ℕ → Option 
 
   pub updated_sized : AreSized n block
   updated_sized a b is =
-      let at = holds.things a b is in
-      let words = ap words_of at.3 in
+      let words = sized a b is in
       ap object_words (word_stays a 1 0 b is (omega (arith, words)) (inl (omega arith))) ∙ sized a b is

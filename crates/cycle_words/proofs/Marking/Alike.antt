@@ -102,7 +102,7 @@ module _ (m n : Word → ℕ) (alike : AreAlike m n) where
             current = ap is_forwarded (ap (λ b. n (Heap b)) (now_same a) ∙ alike.heap (now_in m a)) ∙ was.current;
           };
       filled = subst (λ f. IsFilled c f block) (sym top_is) holds.filled;
-      things = holds.things;
+      pieces = holds.pieces;
       free_word = subst (λ f. IsFreeWord c (n Free) f owner) (sym top_is) (subst (λ k. IsFreeWord c k (λ r. m (Top r)) owner) (sym alike.free) holds.free_word);
       currents = subst (λ f. AreCurrent c f owner) (sym (fun_ext alike.current)) holds.currents;
       asking = asking_again;

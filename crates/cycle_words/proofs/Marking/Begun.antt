@@ -1,37 +1,28 @@
 -- The beginning of marking keeps the graph, and what holds while marking runs holds after it.
-use Rattle.std.proofs.Common.{◌≡◌, ℕ, ◌+◌, ◌≤◌, ◌==◌, ◌&&◌, nat_le, true, false, Some, Option, Bool, inl, inr, ⊎_elim, refl, sym, ap, ◌∙◌, arith}
-use Rattle.std.proofs.lemmas.Bool.{and_parts, and_from, le-leb, leb-true, true≢false}
-use Rattle.std.proofs.lemmas.Nat.Bits.{bit_at-zero}
+use Rattle.std.proofs.Common.{◌≡◌, ◌≢◌, ℕ, ◌+◌, Bool, true, Option, Some, refl, sym, ap, ◌∙◌, arith}
+use Rattle.std.proofs.lemmas.Bool.{true≢false}
 use Rattle.heap_words.specs.declared.config.Config.{Config}
-use Rattle.heap_words.specs.Words.{Word, Cset, Heap}
+use Rattle.heap_words.specs.Words.{Word, Cset, Top, Heap}
+use Rattle.heap_words.specs.Encoding.{refs_in}
 use Rattle.shen_graph.specs.declared.name.Name.{Name}
 use Rattle.shen_graph.specs.Graph.{Graph}
 use Rattle.heap_graph.specs.Walk.{has}
-use Rattle.heap_world.specs.World.{Plot, thing}
-use Rattle.full_words.specs.Held.{IsAmong}
-use Rattle.full_words.specs.Full.{root_words}
-use Rattle.full_words.specs.Promised.{Promises}
+use Rattle.heap_world.specs.World.{Plot, Block, thing, moved, no_ghost, name_at, IsPlotted, AreObjects, IsMarkable, IsYoung, IsLed}
+use Rattle.heap_world.proofs.Pointing.{named_thing}
+use Rattle.full_words.specs.Held.{IsAmong, IsCopy}
+use Rattle.full_words.specs.Full.{root_words, held_in}
+use Rattle.full_words.specs.Promised.{Promises, with_promised}
+use Rattle.full_words.proofs.Reached.{refs_read}
+use Rattle.full_words.proofs.Walked.{held_is_found, found_is_held}
 use Rattle.image_graph.specs.Holds.{HoldsBy}
-use Rattle.regions.specs.Marks.{mark_bit}
-use Rattle.cycle_words.specs.Marking.Marks.{is_grey, is_black, IsNew, IsKept}
-use Rattle.cycle_words.specs.Marking.Init.{init_marked}
-use Rattle.cycle_words.specs.Marking.WhileMarking.{IsObjectAt, CanBeReached, IsOpen, IsChained, begins, goes_on, IsFollowed, from_grey, from_black, from_entry, from_new, from_field, IsMarking}
+use Rattle.cycle_words.specs.Marking.Init.{init_marked, pruned}
+use Rattle.cycle_words.specs.Marking.WhileMarking.{CanBeReached, IsMarking}
 use Rattle.cycle_words.specs.Marking.Laws.{BeginsMarking}
-use Rattle.cycle_words.proofs.Marking.Bits.{one, mark_at}
-use Rattle.cycle_words.proofs.Marking.Alike.{AreAlike, holds_alike, root_words_same}
-use Rattle.cycle_words.proofs.Marking.Plain.{reached_object, root_reached, field_reached, object_below, object_above, reach_ind}
-
-pub and_false : (b : Bool) → (b && false) ≡ false
-and_false true = refl
-and_false false = refl
-
-pub one_true : (b : Bool) → (one b == 1) ≡ true → b ≡ true
-one_true true is = refl
-one_true false is = is
-
-pub true_one : (b : Bool) → b ≡ true → (one b == 1) ≡ true
-true_one true is = refl
-true_one false is = is
+use Rattle.cycle_words.proofs.Marking.Alike.{AreAlike, holds_alike}
+use Rattle.cycle_words.proofs.Marking.Plain.{below_top, reached_object, root_reached, object_above, reach_ind}
+use Rattle.cycle_words.proofs.Marking.Trimmed.{IsTrimmed, calm_trimmed, trimmed_objects, trimmed_rooted}
+use Rattle.cycle_words.proofs.Marking.Pruned.{thing_stays, thing_was, hand_was, promised_was, moved_was, pruned_from, pruned_plotted, pruned_filled}
+use Rattle.cycle_words.proofs.Marking.FirstSnapshot.{first_snapshot, is_first, first_marked}
 
 module _ (c : Config) (m : Word → ℕ) (block : Plot) (owner : ℕ → Option ℕ) (p : Promises) (g : Graph) (holds : HoldsBy c m block owner p g) (calm : m Cset ≡ 0) where
   abbrev n : Word → ℕ
@@ -49,67 +40,109 @@ module _ (c : Config) (m : Word → ℕ) (block : Plot) (owner : ℕ → Option 
     cset = refl;
   }
 
-  again : HoldsBy c n block owner p g
-  again = holds_alike m n alike c block owner p g holds
+  abbrev heap : ℕ → ℕ
+  heap a = m (Heap a)
 
-  unmarked : (a : ℕ) → is_black c n a ≡ false
-  unmarked a = ap (λ k. nat_le c.region_words a && (k == 1)) (bit_at-zero (mark_bit c a)) ∙ and_false (nat_le c.region_words a)
+  abbrev top : ℕ → ℕ
+  top q = m (Top q)
 
-  not_new : (a refs nums : ℕ) (name : Name) → block a ≡ Some (thing name refs nums) → IsNew c n a → ⊥
-  not_new a refs nums name is fresh = let at = object_below c n block owner p g again calm a refs nums name is in omega (arith, at.2, fresh)
+  abbrev found : ℕ → Bool
+  found = has (held_in c m)
 
-  not_kept : (a : ℕ) → IsObjectAt n block a → IsKept c n a → ⊥
-  not_kept a is kept = ⊎_elim (λ (black : is_black c n a ≡ true). true≢false (sym black ∙ unmarked a)) (not_new a is.refs is.nums is.name is.here) kept
+  abbrev left : Plot
+  left = pruned found block
 
-  is_open : (a : ℕ) → CanBeReached c n a → IsOpen c n a
-  is_open a held = record { unmarked = unmarked a; old = let at = reached_object c n block owner p g again calm a held in not_new a at.refs at.nums at.name at.here }
+  reached : (a : ℕ) → found a ≡ true → CanBeReached c m a
+  reached = found_is_held c m block (with_promised g p) holds.objects
 
-  -- an object lies in the heap
-  above : (a : ℕ) → CanBeReached c n a → c.region_words ≤ a
-  above a held =
-      let at = reached_object c n block owner p g again calm a held in
-      (object_above c n block owner p g again calm a at.refs at.nums at.name at.here).0
+  -- what can be reached stays an object, and no other
+  reached_stays : (a : ℕ) → CanBeReached c m a → left a ≡ block a
+  reached_stays a held =
+      let at = reached_object c m block owner p g holds calm a held in
+      thing_stays found block a at.refs at.nums at.name (held_is_found c m block (with_promised g p) holds.objects a held) at.here ∙ sym at.here
 
-  among_old : (word : ℕ) → IsAmong (root_words c n) word → has (root_words c m) word ≡ true
-  among_old word is = ap (λ xs. has xs word) (sym (root_words_same m n alike c)) ∙ is
+  was : (a refs nums : ℕ) (name : Name) → left a ≡ Some (thing name refs nums) → block a ≡ Some (thing name refs nums)
+  was a refs nums name is = (thing_was found block a refs nums name is).0
 
-  root_grey : (word : ℕ) → c.region_words ≤ word → has (root_words c m) word ≡ true → is_grey c n word ≡ true
-  root_grey word high is =
-      and_from (nat_le c.region_words word) _ (le-leb c.region_words word high)
-      (ap (λ k. k == 1) (mark_at c (has (root_words c m)) word high) ∙ true_one (has (root_words c m) word) is)
+  unmoved : (a refs nums to : ℕ) (name : Name) → left a ≡ Some (moved name refs nums to) → ⊥
+  unmoved a refs nums to name is =
+      let there = moved_was found block a refs nums to name is in
+      let object = holds.pieces.named a name (ap name_at there) in
+      let differ = sym there ∙ object.2 in
+      cc
 
-  grey_root : (a : ℕ) → is_grey c n a ≡ true → (c.region_words ≤ a) × IsAmong (root_words c n) a
-  grey_root a is =
-      let both = and_parts (nat_le c.region_words a) _ is in
-      let high : c.region_words ≤ a = leb-true c.region_words a both.0 in
-      let old = one_true (has (root_words c m) a) (ap (λ k. k == 1) (sym (mark_at c (has (root_words c m)) a high)) ∙ both.1) in
-      (high, ap (λ xs. has xs a) (root_words_same m n alike c) ∙ old)
+  named : (a : ℕ) (name : Name) → name_at (left a) ≡ Some name → IsCopy left a name
+  named a name is = named_thing (left a) name (λ refs nums to. unmoved a refs nums to name) is
 
-  chained : (a : ℕ) → CanBeReached c n a → IsChained c n a
-  chained = reach_ind c n block owner p g again calm (IsChained c n)
-      (λ word is some.
-      let held = root_reached c n block owner p g again calm word is some in
-      begins word (inl (root_grey word (above word held) (among_old word is))) (is_open word held))
-      (λ a i held before few some. goes_on a i before few some (is_open (m (Heap (a + 3 + i))) (field_reached c n block owner p g again calm a i held few some)))
+  plotted : IsPlotted c top left
+  plotted = pruned_plotted found block c top holds.objects.plotted
 
-  followed : (a : ℕ) → IsFollowed c n block a → CanBeReached c n a
-  followed _ (from_grey a is) =
-      let at = grey_root a is in
-      root_reached c n block owner p g again calm a at.1 (let long = c.in_range.least_words in λ e. omega (arith, at.0, long, e))
-  followed _ (from_black a is) = absurd (true≢false (sym is ∙ unmarked a))
-  followed _ (from_entry a is) = absurd (omega (arith, is.3))
-  followed _ (from_new a name refs nums is fresh) = absurd (not_new a refs nums name is fresh)
-  followed _ (from_field a i before few some) = field_reached c n block owner p g again calm a i (followed a before) few some
+  trimmed : IsTrimmed c m block top left
+  trimmed = calm_trimmed c m block owner p g holds calm top left plotted reached_stays named was
 
-  marking : IsMarking c n block
-  marking = record {
-    reachable = λ a held. inr (chained a held);
-    fields = λ a i is kept few some. absurd (not_kept a is kept);
-    counts = λ t below. omega arith;
-    tams = λ r below. omega arith;
-    uncollected = calm;
-    objects = λ a is. reached_object c n block owner p g again calm a (followed a is);
+  left_holds : HoldsBy c m left owner p g
+  left_holds = record {
+    objects = trimmed_objects c m block owner p g holds top left trimmed;
+    rooted = trimmed_rooted c m block owner p g holds top left trimmed;
+    moved = λ a refs nums name is forwarded. absurd (true≢false (sym forwarded ∙ trimmed.unmoved a refs nums name is));
+    filled = pruned_filled found block c top holds.filled;
+    pieces = record {
+      named = named;
+      unpromised = λ a seat words is. holds.pieces.unpromised a seat words (promised_was found block a seat words is);
+      unheld = λ a seat words is. holds.pieces.unheld a seat words (hand_was found block a seat words is);
+      some = λ a b is. (let from = pruned_from found block a b is in let long = holds.pieces.some a from.0 from.1 in omega (arith, long, from.2));
+    };
+    free_word = holds.free_word;
+    currents = holds.currents;
+    asking = holds.asking;
+    next = holds.next;
+    unreached = holds.unreached;
   }
 
-  pub init_marks : BeginsMarking c n block owner p g
-  init_marks = record { holds = again; marking = marking }
+  -- each object that is left can be reached, so it is one of the graph
+  thing_reached : (a refs nums : ℕ) (name : Name) → left a ≡ Some (thing name refs nums) → CanBeReached c m a
+  thing_reached a refs nums name is = reached a (thing_was found block a refs nums name is).1
+
+  objects : AreObjects heap left (with_promised g p).object
+  objects = record {
+    each = λ a refs nums name is. left_holds.objects.each a refs nums name (thing_reached a refs nums name is) is;
+    once = λ a b refs nums more_refs more_nums name is_a is_b.
+        left_holds.objects.once a b refs nums more_refs more_nums name (thing_reached a refs nums name is_a) (thing_reached b more_refs more_nums name is_b) is_a is_b;
+  }
+
+  reached_thing : (a : ℕ) → CanBeReached c m a → IsMarkable left a
+  reached_thing a held = let at = reached_object c m left owner p g left_holds calm a held in IsMarkable.object at.name at.refs at.nums at.here
+
+  root_markable : (a : ℕ) → IsAmong (root_words c m) a → a ≢ 0 → IsMarkable left a
+  root_markable a among some = reached_thing a (root_reached c m left owner p g left_holds calm a among some)
+
+  -- roots and answers lead to it
+  led : (a : ℕ) → CanBeReached c m a → IsLed (first_snapshot c m left) a
+  led = reach_ind c m left owner p g left_holds calm (IsLed (first_snapshot c m left))
+      (λ word is some.
+      let at = reached_object c m left owner p g left_holds calm word (root_reached c m left owner p g left_holds calm word is some) in
+      IsLed.by_start word (is_first c m left word (object_above c m left owner p g left_holds calm word at.refs at.nums at.name at.here).0 is))
+      (λ a i held so_far few some.
+      let at = reached_object c m left owner p g left_holds calm a held in
+      let shape : refs_in (heap (a + 1)) ≡ at.refs = ap refs_in at.shape ∙ refs_read at.refs at.nums at.few_refs at.few_nums in
+      IsLed.by_field a at.refs at.nums i at.name so_far at.here (omega (arith, few, shape)) some)
+
+  none_young : (a : ℕ) (b : Block) → left a ≡ Some b → IsYoung c top a → ⊥
+  none_young a b is young =
+      let at = below_top c top left plotted a b is (left_holds.pieces.some a b is) in
+      let long = left_holds.pieces.some a b is in
+      omega (arith, young, at.2, long)
+
+  marking : IsMarking c n left
+  marking = record {
+    ghost = record { owner = no_ghost.owner; snapshot = first_snapshot c m left; recording = no_ghost.recording; scanning = no_ghost.scanning; copying = no_ghost.copying; working = no_ghost.working };
+    object = (with_promised g p).object;
+    marked = first_marked c m left no_ghost.recording no_ghost.scanning (λ a refs nums name is. led a (thing_reached a refs nums name is)) root_markable
+        (λ a seat words is. absurd (left_holds.pieces.unpromised a seat words is)) left_holds.pieces.unheld none_young;
+    unmarking = record { records_none = λ seat inside. refl; scans_none = λ seat inside. refl };
+    objects = objects;
+    uncollected = calm;
+  }
+
+  pub init_marks : BeginsMarking c m n block owner p g
+  init_marks = record { holds = holds_alike m n alike c block owner p g holds; left = holds_alike m n alike c left owner p g left_holds; marking = marking }

@@ -1,27 +1,33 @@
--- Closing the marks: what becomes black and grey, and that each object that can be reached is then kept.
-use Rattle.std.proofs.Common.{◌≡◌, ◌≢◌, ℕ, ◌+◌, ◌*◌, ◌<◌, ◌≤◌, ◌⊎◌, ◌==◌, ◌&&◌, nat_le, max, true, false, Bool, Option, inl, inr, ⊎_elim, refl, sym, ap, ◌∙◌, subst, arith}
+-- Closing the marks: what becomes black and grey, and that each object is then kept.
+use Rattle.std.proofs.Common.{◌≡◌, ◌≢◌, ℕ, ◌+◌, ◌*◌, ◌<◌, ◌≤◌, ◌⊎◌, ◌==◌, ◌&&◌, nat_le, max, true, false, Bool, Option, Some, None, get_or, slice_get, inl, inr, ⊎_elim, refl, sym, ap, ◌∙◌, subst, arith}
 use Rattle.std.specs.Int.{bit_at}
 use Rattle.std.specs.Int.RustNames.{bit_or}
-use Rattle.std.proofs.lemmas.Bool.{and_parts, and_from, le-leb, leb-true, eqb-true, eq-eqb, cases_Bool, true≢false}
+use Rattle.std.proofs.lemmas.Bool.{and_parts, and_from, le-leb, leb-true, eqb-true, eq-eqb, false_from_ne_true, true≢false}
 use Rattle.std.proofs.lemmas.Nat.Bits.{bit_at_or, bit_at-lt}
+use Rattle.std.proofs.lemmas.Option.{none-some, slice_get-get_or}
 use Rattle.heap_words.specs.declared.config.Config.{Config}
-use Rattle.heap_words.specs.Words.{Word, Buffer, Grey, Black, Heap}
+use Rattle.heap_words.specs.Words.{Word, Top, Count, Buffer, Grey, Black, Heap}
 use Rattle.heap_words.specs.Encoding.{refs_in}
-use Rattle.shen_graph.specs.Graph.{Graph}
-use Rattle.heap_graph.specs.Walk.{has}
-use Rattle.heap_world.specs.World.{Plot}
-use Rattle.full_words.specs.Promised.{Promises}
-use Rattle.image_graph.specs.Holds.{HoldsBy}
+use Rattle.regions.specs.Place.{region_with}
 use Rattle.regions.specs.Marks.{mark_word, mark_bit}
+use Rattle.shen_graph.specs.declared.name.Name.{Name}
+use Rattle.shen_graph.specs.Graph.{Graph, Reference}
+use Rattle.heap_graph.specs.Walk.{has}
+use Rattle.heap_world.specs.World.{Plot, thing, Snapshot, AreMarks, IsMarkable, IsYoung, IsNoted, was_at, IsToScan, IsTracedAt, IsLed}
+use Rattle.heap_world.proofs.Pointing.{named_if_not_0}
+use Rattle.full_words.specs.Promised.{Promises}
+use Rattle.full_words.proofs.Reached.{refs_read}
+use Rattle.image_graph.specs.Holds.{HoldsBy}
 use Rattle.cycle_words.specs.Marking.Marks.{is_grey, is_black, mark_bits, IsNew, IsKept}
-use Rattle.cycle_words.specs.Marking.Close.{IsTraced, traced_in, closed}
-use Rattle.cycle_words.specs.Marking.Close as close
-use Rattle.cycle_words.specs.Marking.WhileMarking.{IsObjectAt, CanBeReached, IsChained, begins, goes_on, IsSafe, IsEntry, IsFollowed, from_grey, from_black, from_entry, from_new, from_field, IsMarking, IsMarkedThrough}
+use Rattle.cycle_words.specs.Marking.Close.{IsTraced, from_grey, from_buffer, from_field, traced_in, closed}
+use Rattle.cycle_words.specs.Marking.WhileMarking.{IsObjectAt, CanBeReached, IsMarking, IsMarkedThrough}
+use Rattle.cycle_words.specs.Marking.Final.{IsDead, dead_in}
 use Rattle.cycle_words.specs.Marking.Laws.{AreClosed}
-use Rattle.cycle_words.proofs.Marking.Bits.{one, mark_at}
+use Rattle.cycle_words.proofs.Marking.Bits.{one, mark_at, address_again}
 use Rattle.cycle_words.proofs.Marking.Alike.{AreAlike, holds_alike, root_words_same}
-use Rattle.cycle_words.proofs.Marking.Plain.{object_above, reach_ind, root_reached, field_reached}
+use Rattle.cycle_words.proofs.Marking.Plain.{object_above, object_below, reached_object, reach_ind, root_reached, field_reached}
 use Rattle.cycle_words.proofs.Marking.Traced.{listed_traced, traced_listed}
+use Rattle.cycle_words.proofs.Marking.Dead.{dead_is_dead}
 
 -- a bit of two words together
 or_true : (x : ℕ) (b : Bool) → (max x (one b) == 1) ≡ true → x < 2 → ((x == 1) ≡ true) ⊎ (b ≡ true)
@@ -42,10 +48,49 @@ module _ (c : Config) (m : Word → ℕ) (block : Plot) (owner : ℕ → Option 
   pub closed_holds : HoldsBy c n block owner p g
   closed_holds = holds_alike m n alike c block owner p g holds
 
-  pub followed : (a : ℕ) → IsTraced c m a → IsFollowed c m block a
-  followed _ (close.from_grey a is) = from_grey a is
-  followed _ (close.from_buffer t i below few some) = from_entry (m (Buffer t i)) (t, i, below, few, refl)
-  followed _ (close.from_field a i traced plain few some) = from_field a i (followed a traced) few some
+  abbrev heap : ℕ → ℕ
+  heap a = m (Heap a)
+
+  -- what can be marked is an object
+  object_at : (a refs nums : ℕ) (name : Name) → block a ≡ Some (thing name refs nums) → IsObjectAt m block a
+  object_at a refs nums name is =
+      let o = marking.objects.each a refs nums name is in
+      record { name = name; refs = refs; nums = nums; here = is; shape = o.2.shape; few_refs = o.2.few_refs; few_nums = o.2.few_nums }
+
+  pub markable_object : (a : ℕ) → IsMarkable block a → IsObjectAt m block a
+  markable_object a (IsMarkable.object name refs nums is) = object_at a refs nums name is
+  markable_object a (IsMarkable.to_come seat words is) = absurd (holds.pieces.unpromised a seat words is)
+
+  object_refs : (a refs nums : ℕ) (name : Name) → block a ≡ Some (thing name refs nums) → refs_in (heap (a + 1)) ≡ refs
+  object_refs a refs nums name is =
+      let o = marking.objects.each a refs nums name is in
+      ap refs_in o.2.shape ∙ refs_read refs nums o.2.few_refs o.2.few_nums
+
+  -- and what a field of an object names is one
+  field_markable : (a i : ℕ) → IsObjectAt m block a → i < refs_in (heap (a + 1)) → heap (a + 3 + i) ≢ 0 → IsMarkable block (heap (a + 3 + i))
+  field_markable a i is few some =
+      let o = marking.objects.each a is.refs is.nums is.name is.here in
+      let shape = object_refs a is.refs is.nums is.name is.here in
+      let reference : Reference = get_or o.0.refs i None in
+      let there : slice_get o.0.refs i ≡ Some reference = slice_get-get_or o.0.refs i None (omega (arith, few, shape, o.2.refs_are)) in
+      let to = named_if_not_0 c (λ r. m (Top r)) block holds.objects.plotted (heap (a + 3 + i)) reference (o.2.references i reference there) some in
+      let piece = holds.pieces.named (heap (a + 3 + i)) to.0 to.2 in
+      IsMarkable.object to.0 piece.0 piece.1 piece.2
+
+  -- so what is grey, black or an entry, and what tracing comes to, can be marked
+  marked_at : (marks : ℕ → ℕ) (a : ℕ) → AreMarks c marks block → (nat_le c.region_words a && (bit_at (marks (mark_word c a)) (mark_bit c a) == 1)) ≡ true → IsMarkable block a
+  marked_at marks a are is =
+      let both = and_parts (nat_le c.region_words a) (bit_at (marks (mark_word c a)) (mark_bit c a) == 1) is in
+      subst (IsMarkable block) (address_again c a (leb-true c.region_words a both.0))
+      (are.of_objects (mark_word c a) (mark_bit c a) (omega arith) (eqb-true (bit_at (marks (mark_word c a)) (mark_bit c a)) 1 both.1))
+
+  pub black_markable : (a : ℕ) → is_black c m a ≡ true → IsMarkable block a
+  black_markable a is = marked_at (λ k. m (Black k)) a (marking.marked.blacks refl) is
+
+  pub traced_markable : (a : ℕ) → IsTraced c m a → IsMarkable block a
+  traced_markable _ (from_grey a is) = marked_at (λ k. m (Grey k)) a (marking.marked.greys refl) is
+  traced_markable _ (from_buffer t i below few some) = (marking.marked.entries refl).of_objects t i below few
+  traced_markable _ (from_field a i traced plain few some) = field_markable a i (markable_object a (traced_markable a traced)) few some
 
   object_inside : (a : ℕ) → IsObjectAt m block a → (c.region_words ≤ a) × (a < c.region_words + c.regions * c.region_words)
   object_inside a is =
@@ -53,7 +98,7 @@ module _ (c : Config) (m : Word → ℕ) (block : Plot) (owner : ℕ → Option 
       (at.0, omega (arith, at.1))
 
   pub inside : (a : ℕ) → IsTraced c m a → (c.region_words ≤ a) × (a < c.region_words + c.regions * c.region_words)
-  inside a traced = object_inside a (marking.objects a (followed a traced))
+  inside a traced = object_inside a (markable_object a (traced_markable a traced))
 
   listed : (a : ℕ) → IsTraced c m a → has (traced_in c m) a ≡ true
   listed = traced_listed c m inside
@@ -98,7 +143,7 @@ module _ (c : Config) (m : Word → ℕ) (block : Plot) (owner : ℕ → Option 
   are_closed = record {
     black = λ a. (black_after a, λ is. ⊎_elim (black_stays a) (traced_black a) is);
     grey = λ a. (
-      (λ is. ⊎_elim (λ (old : is_grey c m a ≡ true). close.from_grey a old) (λ (new : IsTraced c m a). new) (was (m (Grey (mark_word c a))) a is)),
+      (λ is. ⊎_elim (λ (old : is_grey c m a ≡ true). from_grey a old) (λ (new : IsTraced c m a). new) (was (m (Grey (mark_word c a))) a is)),
       (λ is. made (m (Grey (mark_word c a))) a (inside a is).0 (inr is)),
     );
   }
@@ -106,26 +151,67 @@ module _ (c : Config) (m : Word → ℕ) (block : Plot) (owner : ℕ → Option 
   not_null : (a : ℕ) → IsObjectAt m block a → a ≢ 0
   not_null a is zero' = let at = object_inside a is in let long = c.in_range.least_words in omega (arith, at.0, zero', long)
 
-  -- a chain is of objects that are not black, and is traced to its end
-  chain_open : (a : ℕ) → IsChained c m a → is_black c m a ≡ false
-  chain_open _ (begins a start is) = is.unmarked
-  chain_open _ (goes_on a i before few some is) = is.unmarked
+  abbrev s : Snapshot
+  s = marking.ghost.snapshot
 
-  chain_traced : (a : ℕ) → IsChained c m a → IsTraced c m a
-  chain_traced _ (begins a start is) = ⊎_elim
-      (λ (grey : is_grey c m a ≡ true). close.from_grey a grey)
-      (λ (entry : IsEntry c m a).
-      let some = not_null a (marking.objects a (from_entry a entry)) in
-      subst (IsTraced c m) entry.4 (close.from_buffer entry.0 entry.1 entry.2 entry.3 (λ e. some (sym entry.4 ∙ e))))
-      start
-  chain_traced _ (goes_on a i before few some is) = close.from_field a i (chain_traced a before) (chain_open a before) few some
+  abbrev Noted : ℕ → Type 0
+  Noted = IsNoted c (λ k. m (Grey k)) (λ t. m (Count t)) (λ t k. m (Buffer t k)) marking.ghost.recording
 
-  -- what is safe is kept afterwards
-  pub safe_kept : (a : ℕ) → IsSafe c m a → IsKept c n a
-  safe_kept a safe = ⊎_elim
-      (λ (kept : IsKept c m a). ⊎_elim (λ (black : is_black c m a ≡ true). inl (black_stays a black)) (λ (fresh : IsNew c m a). inr fresh) kept)
-      (λ (chain : IsChained c m a). inl (traced_black a (chain_traced a chain)))
-      safe
+  -- what is noted becomes black
+  noted_black : (a : ℕ) → IsMarkable block a → Noted a → is_black c n a ≡ true
+  noted_black a now (IsNoted.by_mark mark) =
+      let at = object_inside a (markable_object a now) in
+      traced_black a (from_grey a (and_from (nat_le c.region_words a) _ (le-leb c.region_words a at.0) (eq-eqb (bit_at (m (Grey (mark_word c a))) (mark_bit c a)) 1 mark)))
+  noted_black a now (IsNoted.by_entry t k inside' below is) =
+      let some = not_null a (markable_object a now) in
+      subst (λ x. is_black c n x ≡ true) is (traced_black (m (Buffer t k)) (from_buffer t k inside' below (λ e. some (sym is ∙ e))))
+  noted_black a now (IsNoted.by_hand t inside' is) = absurd (none-some a (sym (marking.unmarking.records_none t (omega (arith, inside'))) ∙ is))
+
+  -- A field of an object of the snapshot that becomes black: what it named then becomes black.
+  module _ (a refs nums k : ℕ) (name : Name) (here : s.block a ≡ Some (thing name refs nums)) (below : k < refs) (some : was_at s a k ≢ 0) (now : IsMarkable block (was_at s a k)) (black : is_black c n a ≡ true) where
+    from_white : heap (a + 3 + k) ≡ was_at s a k → is_black c m a ≡ false → is_black c n (was_at s a k) ≡ true
+    from_white same white =
+        let traced_one : IsTraced c m a = ⊎_elim (λ (old : is_black c m a ≡ true). absurd (true≢false (sym old ∙ white))) (λ (new : IsTraced c m a). new) (black_after a black) in
+        let shape = object_refs a refs nums name (marking.marked.kept a refs nums name here) in
+        subst (λ x. is_black c n x ≡ true) same (traced_black (heap (a + 3 + k)) (from_field a k traced_one white (omega (arith, below, shape)) (λ none. some (sym same ∙ none))))
+
+    from_scan : heap (a + 3 + k) ≡ was_at s a k → IsToScan c (λ q. m (Black q)) marking.ghost.scanning a k → is_black c n (was_at s a k) ≡ true
+    from_scan same (IsToScan.is_white white) = from_white same (false_from_ne_true (is_black c m a) (λ old.
+        let bit = eqb-true (bit_at (m (Black (mark_word c a))) (mark_bit c a)) 1 (and_parts (nat_le c.region_words a) _ old).1 in
+        omega (arith, bit, white)))
+    from_scan same (IsToScan.in_scan seat at inside' is before) = absurd (none-some _ (sym (marking.unmarking.scans_none seat inside') ∙ is))
+
+    from_edge : IsTracedAt c s heap (λ q. m (Black q)) marking.ghost.scanning Noted a k → is_black c n (was_at s a k) ≡ true
+    from_edge (IsTracedAt.done is) = ⊎_elim (λ (null : was_at s a k ≡ 0). absurd (some null)) (λ (noted : Noted (was_at s a k)). noted_black (was_at s a k) now noted) is
+    from_edge (IsTracedAt.stands same scan) = from_scan same scan
+
+  -- so what the snapshot leads to becomes black
+  led_black : (a : ℕ) → IsLed s a → IsMarkable block a → is_black c n a ≡ true
+  led_black _ (IsLed.by_start a is) now = noted_black a now (marking.marked.traced.starts a is)
+  led_black _ (IsLed.by_field a refs nums k name led here below some) now =
+      from_edge a refs nums k name here below some now (led_black a led (IsMarkable.object name refs nums (marking.marked.kept a refs nums name here)))
+      (marking.marked.traced.edges a refs nums k name here below)
+
+  young_new : (a refs nums : ℕ) (name : Name) → block a ≡ Some (thing name refs nums) → IsYoung c s.top a → IsNew c n a
+  young_new a refs nums name is young =
+      let at = object_below c m block owner p g holds marking.uncollected a refs nums name is in
+      let floor = marking.marked.tams_are refl (region_with c a) at.0 in
+      omega (arith, young, floor, at.1)
+
+  -- and each object is kept afterwards
+  thing_kept : (a refs nums : ℕ) (name : Name) → block a ≡ Some (thing name refs nums) → IsKept c n a
+  thing_kept a refs nums name is =
+      let now : IsMarkable block a = IsMarkable.object name refs nums is in
+      ⊎_elim
+      (λ (old : s.block a ≡ Some (thing name refs nums)). inl (led_black a (marking.marked.led a refs nums name old) now))
+      (λ (other : (s.starts a ≡ true) ⊎ IsYoung c s.top a). ⊎_elim
+      (λ (start : s.starts a ≡ true). inl (noted_black a now (marking.marked.traced.starts a start)))
+      (λ (young : IsYoung c s.top a). inr (young_new a refs nums name is young))
+      other)
+      (marking.marked.older refl a refs nums name is)
+
+  pub object_kept : (a : ℕ) → IsObjectAt m block a → IsKept c n a
+  object_kept a is = thing_kept a is.refs is.nums is.name is.here
 
   -- each object that can be reached
   reached_before : (a : ℕ) → CanBeReached c n a → CanBeReached c m a
@@ -133,34 +219,28 @@ module _ (c : Config) (m : Word → ℕ) (block : Plot) (owner : ℕ → Option 
       (λ word is some. root_reached c m block owner p g holds marking.uncollected word (ap (λ xs. has xs word) (sym (root_words_same m n alike c)) ∙ is) some)
       (λ a i held before few some. field_reached c m block owner p g holds marking.uncollected a i before few some)
 
-  -- and what the fields of a kept object name
-  field_kept : (a i : ℕ) → IsObjectAt m block a → IsKept c n a → i < refs_in (m (Heap (a + 1))) → m (Heap (a + 3 + i)) ≢ 0
-      → IsFollowed c m block (m (Heap (a + 3 + i))) × IsKept c n (m (Heap (a + 3 + i)))
-  field_kept a i is kept few some = ⊎_elim
-      (λ (black : is_black c n a ≡ true). ⊎_elim
-      (λ (old : is_black c m a ≡ true).
-      (from_field a i (from_black a old) few some, safe_kept (m (Heap (a + 3 + i))) (marking.fields a i is (inl old) few some)))
-      (λ (new : IsTraced c m a). ⊎_elim
-      (λ (also : is_black c m a ≡ true).
-      (from_field a i (from_black a also) few some, safe_kept (m (Heap (a + 3 + i))) (marking.fields a i is (inl also) few some)))
-      (λ (plain : is_black c m a ≡ false).
-      (from_field a i (followed a new) few some, inl (traced_black (m (Heap (a + 3 + i))) (close.from_field a i new plain few some))))
-      (cases_Bool (is_black c m a)))
-      (black_after a black))
-      (λ (fresh : IsNew c m a).
-      (from_field a i (from_new a is.name is.refs is.nums is.here fresh) few some, safe_kept (m (Heap (a + 3 + i))) (marking.fields a i is (inr fresh) few some)))
-      kept
+  -- so none lies in a dead region
+  pub object_alive : (a : ℕ) → IsObjectAt m block a → dead_in c m (region_with c a) ≡ false
+  object_alive a is =
+      let at = object_below c m block owner p g holds marking.uncollected a is.refs is.nums is.name is.here in
+      let most = holds.objects.plotted.tops (region_with c a) at.0 in
+      false_from_ne_true (dead_in c m (region_with c a)) (λ told.
+      let dead : IsDead c n (region_with c a) = (dead_is_dead c n (region_with c a)).0 told in
+      ⊎_elim
+      (λ (black : is_black c n a ≡ true). true≢false (sym black ∙ dead.unmarked a (record { from = at.1; before = omega (arith, at.1, at.2, most) })))
+      (λ (fresh : IsNew c n a). omega (arith, fresh, at.2, dead.no_new))
+      (object_kept a is))
 
   object_same : (a : ℕ) → IsObjectAt m block a → IsObjectAt n block a
   object_same a is = record { name = is.name; refs = is.refs; nums = is.nums; here = is.here; shape = is.shape; few_refs = is.few_refs; few_nums = is.few_nums }
 
-  object_back : (a : ℕ) → IsObjectAt n block a → IsObjectAt m block a
+  pub object_back : (a : ℕ) → IsObjectAt n block a → IsObjectAt m block a
   object_back a is = record { name = is.name; refs = is.refs; nums = is.nums; here = is.here; shape = is.shape; few_refs = is.few_refs; few_nums = is.few_nums }
 
   pub closed_through : IsMarkedThrough c n block
   closed_through = record {
-    reachable = λ a held. safe_kept a (marking.reachable a (reached_before a held));
+    reachable = λ a held. object_kept a (reached_object c m block owner p g holds marking.uncollected a (reached_before a held));
     fields = λ a i is kept few some.
-        let at = field_kept a i (object_back a is) kept few some in
-        (object_same (m (Heap (a + 3 + i))) (marking.objects (m (Heap (a + 3 + i))) at.0), at.1);
+        let at = markable_object (heap (a + 3 + i)) (field_markable a i (object_back a is) few some) in
+        (object_same (heap (a + 3 + i)) at, object_kept (heap (a + 3 + i)) at);
   }

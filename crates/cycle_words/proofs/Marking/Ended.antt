@@ -1,9 +1,8 @@
 -- The end of marking keeps the graph, and each object that can be reached is kept.
-use Rattle.std.proofs.Common.{◌≡◌, ℕ, ◌+◌, ◌<◌, ◌≤◌, cond, Bool, true, false, Option, inl, inr, ⊎_elim, sym, ap, ◌∙◌, arith}
-use Rattle.std.proofs.lemmas.Bool.{cases_lt, cond-false, false_from_ne_true, true≢false}
+use Rattle.std.proofs.Common.{◌≡◌, ℕ, ◌+◌, ◌≤◌, cond, Bool, true, false, Option, inl, inr, ⊎_elim, sym, ap, ◌∙◌, arith}
+use Rattle.std.proofs.lemmas.Bool.{cond-false}
 use Rattle.heap_words.specs.declared.config.Config.{Config}
-use Rattle.heap_words.specs.Words.{Word, Tams, Current, Heap}
-use Rattle.heap_words.specs.Ranges.{seat_count}
+use Rattle.heap_words.specs.Words.{Word, Tams, Heap}
 use Rattle.regions.specs.Place.{region_with}
 use Rattle.shen_graph.specs.Graph.{Graph}
 use Rattle.heap_graph.specs.Walk.{has}
@@ -13,12 +12,13 @@ use Rattle.image_graph.specs.Holds.{HoldsBy}
 use Rattle.cycle_words.specs.Marking.Marks.{is_black, IsNew, IsKept}
 use Rattle.cycle_words.specs.Marking.Close.{closed}
 use Rattle.cycle_words.specs.Marking.WhileMarking.{IsObjectAt, CanBeReached, IsMarking, IsMarkedThrough}
-use Rattle.cycle_words.specs.Marking.Final.{IsDead, dead_in, freed_block, freed_owner, final_marked}
+use Rattle.cycle_words.specs.Marking.Final.{dead_in, freed_block, freed_owner, final_marked}
 use Rattle.cycle_words.specs.Marking.Laws.{HasNoMoreSeats}
-use Rattle.cycle_words.proofs.Marking.Plain.{object_below, reached_object, reach_ind, root_reached, field_reached}
-use Rattle.cycle_words.proofs.Marking.Closed.{closed_holds, closed_through}
-use Rattle.cycle_words.proofs.Marking.Dead.{dead_is_dead}
-use Rattle.cycle_words.proofs.Marking.Freed.{CanFree, calm_can_free, piece_was, piece_stays, same_roots, freed_holds}
+use Rattle.cycle_words.proofs.Marking.Plain.{reached_object, reach_ind, root_reached, field_reached}
+use Rattle.cycle_words.proofs.Marking.Closed.{closed_holds, closed_through, object_alive, object_back}
+use Rattle.cycle_words.proofs.Marking.Dead.{current_alive}
+use Rattle.cycle_words.proofs.Marking.Vanished.{piece_was, piece_stays}
+use Rattle.cycle_words.proofs.Marking.Freed.{CanFree, calm_can_free, same_roots, freed_holds}
 
 module _ (c : Config) (m : Word → ℕ) (block : Plot) (owner : ℕ → Option ℕ) (p : Promises) (g : Graph) (holds : HoldsBy c m block owner p g) (marking : IsMarking c m block) (seats : HasNoMoreSeats c m) where
   -- the words once the marks are closed, and once the dead regions are freed
@@ -40,29 +40,14 @@ module _ (c : Config) (m : Word → ℕ) (block : Plot) (owner : ℕ → Option 
   through : IsMarkedThrough c k block
   through = closed_through c m block owner p g holds marking
 
-  -- no kept object lies in a dead region
-  kept_alive : (a : ℕ) → IsObjectAt k block a → IsKept c k a → out (region_with c a) ≡ false
-  kept_alive a is kept =
-      let at = object_below c k block owner p g held marking.uncollected a is.refs is.nums is.name is.here in
-      let most = held.objects.plotted.tops (region_with c a) at.0 in
-      false_from_ne_true (out (region_with c a)) (λ told.
-      let dead : IsDead c k (region_with c a) = (dead_is_dead c k (region_with c a)).0 told in
-      ⊎_elim
-      (λ (black : is_black c k a ≡ true). true≢false (sym black ∙ dead.unmarked a (record { from = at.1; before = omega (arith, at.1, at.2, most) })))
-      (λ (fresh : IsNew c k a). omega (arith, fresh, at.2, dead.no_new))
-      kept)
-
-  unseated : (seat r : ℕ) → k (Current seat) ≡ r + 1 → out r ≡ false
-  unseated seat r is = ⊎_elim
-      (λ (below : seat < seat_count c.mutators c.helpers).
-      false_from_ne_true (out r) (λ told. ((dead_is_dead c k r).0 told).nobodys (seat, below, is)))
-      (λ (past : seat_count c.mutators c.helpers ≤ seat). absurd (let none = seats seat past in omega (arith, is, none)))
-      (cases_lt seat (seat_count c.mutators c.helpers))
+  -- no object lies in a dead region
+  alive : (a : ℕ) → IsObjectAt k block a → out (region_with c a) ≡ false
+  alive a is = object_alive c m block owner p g holds marking a (object_back c m block owner p g holds marking a is)
 
   can : CanFree c out k block
   can =
       calm_can_free c out k block owner p g held marking.uncollected
-      (λ a reached. kept_alive a (reached_object c k block owner p g held marking.uncollected a reached) (through.reachable a reached)) unseated
+      (λ a reached. alive a (reached_object c k block owner p g held marking.uncollected a reached)) (current_alive c m seats)
 
   pub ended_holds : HoldsBy c n left (freed_owner out owner) p g
   ended_holds = freed_holds c out k block owner p g held can
@@ -70,10 +55,10 @@ module _ (c : Config) (m : Word → ℕ) (block : Plot) (owner : ℕ → Option 
   -- what is kept and left was kept before, and what was kept is kept
 
   kept_was : (a : ℕ) → out (region_with c a) ≡ false → IsKept c n a → IsKept c k a
-  kept_was a alive kept = ⊎_elim
+  kept_was a stays kept = ⊎_elim
       (λ (black : is_black c n a ≡ true). inl black)
       (λ (fresh : IsNew c n a).
-      inr (let same : cond (out (region_with c a)) 0 (k (Tams (region_with c a))) ≡ k (Tams (region_with c a)) = cond-false (out (region_with c a)) 0 (k (Tams (region_with c a))) alive in
+      inr (let same : cond (out (region_with c a)) 0 (k (Tams (region_with c a))) ≡ k (Tams (region_with c a)) = cond-false (out (region_with c a)) 0 (k (Tams (region_with c a))) stays in
       omega (arith, fresh, same)))
       kept
 
@@ -97,16 +82,16 @@ module _ (c : Config) (m : Word → ℕ) (block : Plot) (owner : ℕ → Option 
 
   object_was : (a : ℕ) → IsObjectAt n left a → (out (region_with c a) ≡ false) × IsObjectAt k block a
   object_was a is =
-      let was = piece_was c out k block owner p g held can a _ is.here in
+      let was = piece_was c out block a _ is.here in
       (was.0, record { name = is.name; refs = is.refs; nums = is.nums; here = was.1; shape = is.shape; few_refs = is.few_refs; few_nums = is.few_nums })
 
   object_is : (a : ℕ) → out (region_with c a) ≡ false → IsObjectAt k block a → IsObjectAt n left a
-  object_is a alive is =
+  object_is a stays is =
       record {
         name = is.name;
         refs = is.refs;
         nums = is.nums;
-        here = piece_stays c out k block owner p g held can a alive ∙ is.here;
+        here = piece_stays c out block a stays ∙ is.here;
         shape = is.shape;
         few_refs = is.few_refs;
         few_nums = is.few_nums;
@@ -118,5 +103,5 @@ module _ (c : Config) (m : Word → ℕ) (block : Plot) (owner : ℕ → Option 
     fields = λ a i is kept few some.
         let was = object_was a is in
         let field = through.fields a i was.1 (kept_was a was.0 kept) few some in
-        (object_is (k (Heap (a + 3 + i))) (kept_alive (k (Heap (a + 3 + i))) field.0 field.1) field.0, kept_is (k (Heap (a + 3 + i))) field.1);
+        (object_is (k (Heap (a + 3 + i))) (alive (k (Heap (a + 3 + i))) field.0) field.0, kept_is (k (Heap (a + 3 + i))) field.1);
   }

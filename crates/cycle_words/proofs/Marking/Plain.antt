@@ -13,7 +13,6 @@ use Rattle.shen_graph.specs.declared.name.Name.{Name}
 use Rattle.shen_graph.specs.Graph.{Graph, Reference}
 use Rattle.heap_world.specs.World.{Plot, Block, thing, words_of, IsPlotted}
 use Rattle.heap_world.proofs.Pointing.{piece_inside, named_if_not_0}
-use Rattle.full_words.proofs.Named.{thing_at}
 use Rattle.full_words.specs.Held.{from_root, from_field, IsAmong}
 use Rattle.full_words.specs.Plot.{heap_end}
 use Rattle.full_words.specs.Full.{now_in, root_words}
@@ -63,7 +62,7 @@ module _ (c : Config) (m : Word → ℕ) (block : Plot) (owner : ℕ → Option 
   pub root_own : (word : ℕ) → IsAmong (root_words c m) word → word ≢ 0 → now_in m word ≡ word
   root_own word is some =
       let named = holds.objects.root_named word is some in
-      let piece = thing_at block holds.things word named.2 named.4 in
+      let piece = holds.pieces.named word named.2 named.4 in
       own_copy word piece.0 piece.1 named.2 piece.2
 
   pub field_own : (a i : ℕ) → CanBeReached c m a → i < refs_in (heap (a + 1)) → heap (a + 3 + i) ≢ 0 → now_in m (heap (a + 3 + i)) ≡ heap (a + 3 + i)
@@ -75,7 +74,7 @@ module _ (c : Config) (m : Word → ℕ) (block : Plot) (owner : ℕ → Option 
       let r : Reference = get_or object.0.refs i None in
       let there : slice_get object.0.refs i ≡ Some r = slice_get-get_or object.0.refs i None (omega (arith, few, shape, is.refs_are)) in
       let to = named_if_not_0 c top block holds.objects.plotted (heap (a + 3 + i)) r (is.references i r there) some in
-      let piece = thing_at block holds.things (heap (a + 3 + i)) to.0 to.2 in
+      let piece = holds.pieces.named (heap (a + 3 + i)) to.0 to.2 in
       own_copy (heap (a + 3 + i)) piece.0 piece.1 to.0 piece.2
 
   -- in a simpler form

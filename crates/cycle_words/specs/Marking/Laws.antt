@@ -4,24 +4,28 @@ use Rattle.heap_words.specs.declared.config.Config.{Config}
 use Rattle.heap_words.specs.Words.{Word, Cset, Current}
 use Rattle.heap_words.specs.Ranges.{seat_count}
 use Rattle.shen_graph.specs.Graph.{Graph}
+use Rattle.heap_graph.specs.Walk.{has}
 use Rattle.heap_world.specs.World.{Plot}
+use Rattle.full_words.specs.Full.{held_in}
 use Rattle.full_words.specs.Promised.{Promises}
 use Rattle.image_graph.specs.Holds.{HoldsBy}
 use Rattle.cycle_words.specs.Marking.Marks.{is_grey, is_black}
-use Rattle.cycle_words.specs.Marking.Init.{init_marked}
+use Rattle.cycle_words.specs.Marking.Init.{init_marked, pruned}
 use Rattle.cycle_words.specs.Marking.Close.{IsTraced, closed}
 use Rattle.cycle_words.specs.Marking.WhileMarking.{IsMarking, IsMarkedThrough}
 use Rattle.cycle_words.specs.Marking.Final.{IsDead, is_dead, dead_in, freed_block, freed_owner, final_marked}
 
--- the words stand for the same graph, and marking runs
-pub record BeginsMarking (c : Config) (after : Word → ℕ) (block : Plot) (owner : ℕ → Option ℕ) (p : Promises) (g : Graph) : Type 0 where
+-- The words stand for the same graph, also where objects that nothing leads to only fill; and of these pieces what holds while marking
+-- runs holds.
+pub record BeginsMarking (c : Config) (before after : Word → ℕ) (block : Plot) (owner : ℕ → Option ℕ) (p : Promises) (g : Graph) : Type 0 where
   pub holds : HoldsBy c after block owner p g
-  pub marking : IsMarking c after block
+  pub left : HoldsBy c after (pruned (has (held_in c before)) block) owner p g
+  pub marking : IsMarking c after (pruned (has (held_in c before)) block)
 
--- The beginning of marking: the words stand for the same graph, and what holds while marking runs holds.
+-- So it is where marking begins.
 abbrev pub InitMarks : Type 0
 InitMarks = (c : Config) (memory : Word → ℕ) (block : Plot) (owner : ℕ → Option ℕ) (p : Promises) (g : Graph) → HoldsBy c memory block owner p g → memory Cset ≡ 0
-    → BeginsMarking c (init_marked c memory) block owner p g
+    → BeginsMarking c memory (init_marked c memory) block owner p g
 
 -- Closing the marks blackens exactly what tracing comes to, ..
 pub record AreClosed (c : Config) (before after : Word → ℕ) : Type 0 where

@@ -1,10 +1,10 @@
 -- The mark bits of addresses: what is grey, what is black, and what marking keeps.
-use Rattle.std.specs.Prelude.{ℕ, ◌≡◌, ◌+◌, ◌-◌, ◌*◌, ◌^◌, ◌≤◌, ◌⊎◌, ◌==◌, ◌&&◌, nat_le, if◌then◌else◌, Bool, true, zero, suc}
+use Rattle.std.specs.Prelude.{ℕ, ◌≡◌, ◌+◌, ◌*◌, ◌^◌, ◌⊎◌, ◌==◌, ◌&&◌, nat_le, if◌then◌else◌, Bool, true, zero, suc}
 use Rattle.std.specs.Int.{bit_at}
 use Rattle.heap_words.specs.declared.config.Config.{Config}
 use Rattle.heap_words.specs.Words.{Word, Tams, Grey, Black}
-use Rattle.regions.specs.Place.{base_of, region_with}
 use Rattle.regions.specs.Marks.{mark_word, mark_bit}
+use Rattle.heap_world.specs.World.{IsYoung}
 
 -- an address is grey: it was found by marking. Grey and not black, it has still to be scanned.
 abbrev pub is_grey : Config → (Word → ℕ) → ℕ → Bool
@@ -16,7 +16,7 @@ is_black c memory a = nat_le c.region_words a && (bit_at (memory (Black (mark_wo
 
 -- an address is at or above the top at mark start of its region: what begins there was allocated since
 abbrev pub IsNew : Config → (Word → ℕ) → ℕ → Type 0
-IsNew c memory a = memory (Tams (region_with c a)) ≤ a - base_of c (region_with c a)
+IsNew c memory = IsYoung c (λ r. memory (Tams r))
 
 -- marking keeps what is marked and what is new
 abbrev pub IsKept : Config → (Word → ℕ) → ℕ → Type 0

@@ -52,7 +52,7 @@ returns-clause-words c =
 
 pub returns-clause-begins : goal.returns-clause-begins
 returns-clause-begins c = λ block owner p graph holds.
-    subst (λ n. BeginsMarking (config_of c.args.image.now) n block owner p graph) (sym (returns-clause-words c))
+    subst (λ n. BeginsMarking (config_of c.args.image.now) (memory_of c.args.image.now) n block owner p graph) (sym (returns-clause-words c))
     (init_marks (config_of c.args.image.now) (memory_of c.args.image.now) block owner p graph holds c.requires.calm)
 
 pub returns-clause-marks : goal.returns-clause-marks

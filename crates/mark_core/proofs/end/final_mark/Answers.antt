@@ -7,7 +7,7 @@ use Rattle.cycle_words.specs.Marking.Close.{closed}
 use Rattle.cycle_words.specs.Marking.WhileMarking.{IsMarkedThrough}
 use Rattle.cycle_words.specs.Marking.Final.{IsDead, dead_in, freed_block, freed_owner}
 use Rattle.cycle_words.proofs.Marking.Dead.{dead_is_dead}
-use Rattle.cycle_words.proofs.Marking.Freed.{free_was, free_is}
+use Rattle.cycle_words.proofs.Marking.Vanished.{free_was, free_is}
 use Rattle.cycle_words.proofs.Marking.Ended.{ended_holds, ended_through}
 use Rattle.mark_core.proofs.MarkingEnded.{no_more_seats, final_words}
 use Rattle.mark_core.proofs.Some.{holds_ended}

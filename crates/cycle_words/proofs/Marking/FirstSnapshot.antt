@@ -1,0 +1,73 @@
+-- The snapshot of the words with which marking begins: the pieces, and what roots and answers name.
+use Rattle.std.proofs.Common.{◌≡◌, ◌≢◌, ℕ, ◌+◌, ◌*◌, ◌≤◌, ◌&&◌, nat_le, Bool, true, false, Option, Some, inl, refl, sym, ap, ◌∙◌, arith}
+use Rattle.std.proofs.lemmas.Bool.{and_parts, and_from, le-leb, leb-true}
+use Rattle.std.proofs.lemmas.Nat.Bits.{bit_at-zero}
+use Rattle.heap_words.specs.declared.config.Config.{Config}
+use Rattle.heap_words.specs.Words.{Word, Top, Buffer, Heap}
+use Rattle.shen_graph.specs.declared.name.Name.{Name}
+use Rattle.regions.specs.Marks.{mark_bit}
+use Rattle.heap_graph.specs.Walk.{has}
+use Rattle.heap_world.specs.World.{Block, thing, hand, promised, filler, Plot, Scan, Snapshot, AreMarks, IsMarkable, IsYoung, IsNoted, IsToScan, IsTracedAt, IsLed, KeepsSnapshot}
+use Rattle.full_words.specs.Held.{IsAmong}
+use Rattle.full_words.specs.Full.{root_words}
+use Rattle.cycle_words.specs.Marking.Marks.{mark_bits}
+use Rattle.cycle_words.proofs.Marking.Bits.{one, bits_small, bits_at, mark_at}
+
+one_is : (b : Bool) → one b ≡ 1 → b ≡ true
+one_is true is = refl
+one_is false is = absurd (omega (arith, is))
+
+module _ (c : Config) (m : Word → ℕ) (plot : Plot) where
+  abbrev named : ℕ → Bool
+  named = has (root_words c m)
+
+  abbrev pub first : ℕ → Bool
+  first a = nat_le c.region_words a && named a
+
+  abbrev pub first_snapshot : Snapshot
+  first_snapshot = record { block = plot; heap = λ a. m (Heap a); starts = first; top = λ q. m (Top q) }
+
+  pub is_first : (a : ℕ) → c.region_words ≤ a → IsAmong (root_words c m) a → first a ≡ true
+  is_first a above is = and_from (nat_le c.region_words a) (named a) (le-leb c.region_words a above) is
+
+  -- Where its objects are those that it leads to, what roots and answers name can be marked, and what is promised is so named.
+  module _ (recording : ℕ → Option ℕ) (scanning : ℕ → Option Scan) (led : (a refs nums : ℕ) (name : Name) → plot a ≡ Some (thing name refs nums) → IsLed first_snapshot a)
+      (markable : (a : ℕ) → IsAmong (root_words c m) a → a ≢ 0 → IsMarkable plot a) (promises : (a seat words : ℕ) → plot a ≡ Some (promised seat words) → first a ≡ true)
+      (unheld : (a seat words : ℕ) → plot a ≡ Some (hand seat words) → ⊥) (none_young : (a : ℕ) (b : Block) → plot a ≡ Some b → IsYoung c (λ q. m (Top q)) a → ⊥) where
+    -- what roots and answers name is grey
+    first_noted : (a : ℕ) → first a ≡ true → IsNoted c (mark_bits c named) (λ t. 0) (λ t k. m (Buffer t k)) recording a
+    first_noted a is =
+        let both = and_parts (nat_le c.region_words a) (named a) is in
+        IsNoted.by_mark (mark_at c named a (leb-true c.region_words a both.0) ∙ ap one both.1)
+
+    -- and nothing else
+    greys_are : AreMarks c (mark_bits c named) plot
+    greys_are = record {
+      small = λ q. bits_small named (c.region_words + 64 * q) 64;
+      of_objects = λ q k below set.
+          let a : ℕ = c.region_words + 64 * q + k in
+          let among = one_is (named a) (sym (bits_at named (c.region_words + 64 * q) 64 k below) ∙ set) in
+          let long = c.in_range.least_words in
+          markable a among (λ none. omega (arith, none, long));
+    }
+
+    pub first_marked : KeepsSnapshot c 1 (mark_bits c named) (λ q. 0) (λ t. 0) (λ t k. m (Buffer t k)) (λ q. m (Top q)) (λ q. m (Top q)) (λ a. m (Heap a)) plot first_snapshot recording scanning
+    first_marked = record {
+      empty = λ other. absurd (other refl);
+      traced = record {
+        edges = λ a refs nums k name is below. IsTracedAt.stands refl (IsToScan.is_white (bit_at-zero (mark_bit c a)));
+        starts = first_noted;
+      };
+      led = led;
+      old = λ a refs nums name is. none_young a (thing name refs nums) is;
+      kept = λ a refs nums name is. is;
+      older = λ on a refs nums name is. inl is;
+      promises = λ on a seat words is. promises a seat words is;
+      fillers = λ on a words is. none_young a (filler words) is;
+      young = λ on a seat words is. absurd (unheld a seat words is);
+      floors = λ q inside. omega arith;
+      tams_are = λ on q inside. refl;
+      greys = λ on. greys_are;
+      blacks = λ on. record { small = λ q. omega arith; of_objects = λ q k below set. absurd (let none = bit_at-zero k in omega (arith, none, set)) };
+      entries = λ on. record { few = λ t inside. omega arith; of_objects = λ t k inside below. absurd (omega (arith, below)) };
+    }
