@@ -8,6 +8,7 @@ ghost use Rattle.image_graph.specs.State.{config_of, words_of, memory_of};
 ghost use Rattle.cycle_words.specs.Evacuation.Choice.{chosen};
 ghost use Rattle.cycle_words.specs.Evacuation.Begun as begun;
 ghost use Rattle.cycle_words.specs.Evacuation.Begun.{CanBegin, CanClear, CanClearInTurn, moved_out, cleared_at, cleared_in_turn, root_places, evac_started, evac_spared, evac_begun};
+ghost use Rattle.cycle_words.specs.StillHolds.{BeginningHolds};
 
 use crate::copy::copy_out;
 use heap_words::{Config, forwarded, forwardee};
@@ -125,13 +126,15 @@ fn spare(image: &mut Image)
 
 /// Begins evacuation: the regions of a set are to be evacuated, and each object in them that a root or an answer names is
 /// copied out, so that none of these names an object there. No copier is counted and no unit claimed. Without a region to
-/// evacuate the cycle ends. The set is what `choose` gives, and there is room for each object that is copied. Takes no
-/// memory, and time linear in the words of the heap and the number of roots.
+/// evacuate the cycle ends. The set is what `choose` gives, and there is room for each object that is copied. Where the image
+/// holds a graph, and no region was in the collection set, it holds the same graph afterwards. Takes no memory, and time
+/// linear in the words of the heap and the number of roots.
 pub fn begin_evac(image: &mut Image, set: u64)
     requires set { set ≡ chosen (config_of image.old) (memory_of image.old) }
     requires can { CanBegin (config_of image.old) (memory_of image.old) }
     ensures config { config_of image.new ≡ config_of image.old }
     ensures words { memory_of image.new ≡ evac_begun (config_of image.old) (memory_of image.old) set }
+    ensures holds { BeginningHolds (config_of image.old) (memory_of image.old) (memory_of image.new) }
 {
     if set == 0 {
         spare(image);

@@ -10,6 +10,7 @@ ghost use Rattle.cycle_words.specs.Evacuation.Live as lives;
 ghost use Rattle.cycle_words.specs.Evacuation.Front as front;
 ghost use Rattle.cycle_words.specs.Evacuation.Choice as choices;
 ghost use Rattle.cycle_words.specs.Evacuation.Begun.{CanBegin};
+ghost use Rattle.cycle_words.specs.Evacuation.Laws.{ReachableAreLive};
 ghost use Rattle.cset_choice.specs.Tables.{AreLive, adds, up_to};
 
 use crate::live::live_words;
@@ -133,12 +134,14 @@ fn is_taken(config: Config, live: &[u64], candidates: u64, limit: u64, region: u
 
 /// The collection set: of the candidates, in the order of their live words and then of their numbers, as many from the first
 /// one on as can be copied to the free regions together. Candidates are in use, nobody's current region, without a new
-/// object, and have garbage of a quarter of a region. No word changes. Takes time linear in the words of the heap, and
+/// object, and have garbage of a quarter of a region. What can be reached in its regions is marked, where the image holds a
+/// graph and marking has ended. No word changes. Takes time linear in the words of the heap, and
 /// quadratic in the number of regions.
 pub fn choose(image: &Image) -> u64
     requires { CanBegin (config_of image.now) (memory_of image.now) }
     ensures value { result ≡ choices.chosen (config_of image.now) (memory_of image.now) }
     ensures choice { choices.IsChoice (config_of image.now) (memory_of image.now) result }
+    ensures live { ReachableAreLive (config_of image.now) (memory_of image.now) result }
 {
     let config = image.config();
     let live = live_of_all(image);

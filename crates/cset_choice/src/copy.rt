@@ -9,6 +9,7 @@ ghost use Rattle.cycle_words.specs.Evacuation.Live.{words_at};
 ghost use Rattle.cycle_words.specs.Evacuation.Copying.{tops_outside};
 ghost use Rattle.regions.specs.Sets.{IsOutside};
 ghost use Rattle.cycle_words.specs.Evacuation.Copied.{CanCopyOut, copy_address, top_address, copied_out, copied_to};
+ghost use Rattle.cycle_words.specs.StillHolds.{CopyingHolds};
 ghost use Rattle.cset_choice.specs.Steps.{words_copied};
 
 use heap_words::{header_to, words_of};
@@ -83,12 +84,14 @@ fn copy_to(image: &mut Image, address: u64, region: usize) -> u64
 
 /// Copies the object at an address out of the collection set, to the top of the lowest region outside that has room for it,
 /// and gives the address of the copy. The old header names the copy then. Where no such region has room, nothing changes.
-/// The object lies in one region, which is of the collection set. Takes no memory.
+/// The object lies in one region, which is of the collection set. Where the image holds a graph, and the address is that of an
+/// object that has not moved, it holds the same graph afterwards. Takes no memory.
 pub fn copy_out(image: &mut Image, address: u64) -> Option<u64>
     requires { CanCopyOut (config_of image.old) (memory_of image.old) address }
     ensures config { config_of image.new ≡ config_of image.old }
     ensures words { memory_of image.new ≡ copied_out (config_of image.old) (memory_of image.old) address }
     ensures copy { result ≡ copy_address (config_of image.old) (memory_of image.old) address }
+    ensures holds { CopyingHolds (config_of image.old) (memory_of image.old) (memory_of image.new) address }
 {
     let words = words_of(image.word(image.config().heap_at(address + 1)));
     match room_outside(image, words) {

@@ -6,6 +6,7 @@ ghost use Rattle.packing.specs.Places.{LieApart};
 ghost use Rattle.image_graph.specs.State.{config_of, memory_of};
 ghost use Rattle.cycle_words.specs.Marking.Marks as marks;
 ghost use Rattle.cycle_words.specs.Evacuation.Live as lives;
+ghost use Rattle.cycle_words.specs.Evacuation.Laws.{IsMarkedIn};
 
 use heap_words::words_of;
 use image_graph::Image;
@@ -35,12 +36,13 @@ fn marked_words(image: &Image, address: u64) -> u64
     0
 }
 
-/// The live words of a region, which is counted from 0, once the marks are closed: those of its marked objects. Marked
-/// objects lie apart, each in one region. Takes time linear in the words of a region.
+/// The live words of a region, which is counted from 0, once the marks are closed: those of its marked objects, so of the marked
+/// pieces of the region where the image holds a graph. Marked objects lie apart, each in one region. Takes time linear in the words of a region.
 pub fn live_words(image: &Image, region: usize) -> u64
     requires region { region < (config_of image.now).regions }
     requires apart { LieApart (config_of image.now).region_words (lives.marked_words (config_of image.now) (memory_of image.now)) }
     ensures value { result ≡ lives.live_words (config_of image.now) (memory_of image.now) region }
+    ensures marked { IsMarkedIn (config_of image.now) (memory_of image.now) region result }
     ensures bound { result ≤ 525312 }
 {
     let first = base(image.config(), region);

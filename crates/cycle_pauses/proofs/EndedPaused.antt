@@ -47,7 +47,7 @@ set_is_freed_first c m g asking r whole =
 
 -- words that represent a graph are such that a cycle can be ended
 pub can_end : (c : Config) (m : Word → ℕ) (g : Graph) (asking : ℕ → Asking) → Represents c m g asking → CanEnd c m
-can_end c m g asking r = record { finishes = representing_can_finish c m g asking r; holds = λ short. (short_is_pause c m g asking r short).holds }
+can_end c m g asking r = record { finishes = representing_can_finish c m g asking r; holds = λ short. ∣ (g, (short_is_pause c m g asking r short).holds) ∣₁ }
 
 -- That a cycle can be ended is one fact.
 can_copy_out_prop : (c : Config) (m : Word → ℕ) (a : ℕ) → IsProp (CanCopyOut c m a)

@@ -3,7 +3,6 @@ pub mod Copied
 pub mod Between
 pub mod CopiedOut
 pub mod Asked
-pub mod NamingPlaces
 pub mod ClearingInTurn
 pub mod Started
 pub mod Outside

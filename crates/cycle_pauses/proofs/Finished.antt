@@ -18,7 +18,7 @@ use Rattle.cycle_pauses.proofs.Full.Images.{full_before}
 use Rattle.cycle_pauses.proofs.Full.Outside.{IsZeroOutside, served_outside, full_outside}
 use Rattle.cycle_words.specs.Evacuation.Copied.{MayChange, copied_out}
 use Rattle.cycle_pauses.proofs.Evacuation.Outside.{of_two, copied_outside, copied_same}
-use Rattle.cycle_pauses.proofs.Evacuation.ClearingInTurn.{copies_out}
+use Rattle.cycle_words.proofs.Evacuation.CopiedOut.{copies_out}
 use Rattle.cycle_pauses.proofs.Updating.Outside.{final_outside}
 use Rattle.cycle_words.specs.Finishing.Updated.{updated_word, is_kept_field, all_updated}
 use Rattle.cycle_words.specs.Finishing.Copies.{is_left, has_copy_room, copied_from, CanCopyFrom, all_copied, is_room_for_all}

@@ -1,3 +1,4 @@
+pub mod Sizes
 pub mod Copying
 pub mod CopyingKeeps
 pub mod Updating

@@ -1,5 +1,4 @@
 pub mod FromSnapshot
-pub mod Asked
 pub mod Beginning
 pub mod Ending
 pub mod WhileMarking

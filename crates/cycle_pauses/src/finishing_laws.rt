@@ -21,7 +21,7 @@ pub fn whole_is_pause()
     ensures { WholeIsPause }
 {}
 
-/// A law: where something found no room, the words that finishing a cycle leaves still hold the graph, and a full collection
+/// A law: where something found no room, the words that finishing a cycle leaves hold the same graph, and a full collection
 /// of them does what a pause owes.
 pub fn short_is_pause()
     ensures { ShortIsPause }

@@ -1,11 +1,17 @@
 //! What a full collection does to a heap in a pause: it keeps the graph, and answers who waits. Laws, as theorems and no
 //! code.
 
-ghost use Rattle.cycle_pauses.specs.Full.Laws.{RepresentingHolds, ImageIsFull, TableIsFull, FullFromCopies, FullIsPause};
+ghost use Rattle.cycle_pauses.specs.Full.Laws.{RepresentingHolds, RepresentingIsSized, ImageIsFull, TableIsFull, FullFromCopies, FullIsPause};
 
 /// A law: words that represent a graph, with what mutators have asked for, hold a graph in the sense of the full collection.
 pub fn representing_holds()
     ensures { RepresentingHolds }
+{}
+
+/// A law: they do so in a way in which each piece says how many words it has, and what finishing a cycle asks for holds. So the
+/// single calls of a pause keep the graph, as their contracts say.
+pub fn representing_is_sized()
+    ensures { RepresentingIsSized }
 {}
 
 /// A law: the words of an image after a full collection are, by their names, those that a full collection makes of its

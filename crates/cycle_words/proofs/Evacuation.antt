@@ -9,6 +9,13 @@ pub mod Fits
 pub mod CopiedOut
 pub mod CopiedInTurn
 pub mod Naming
+pub mod NamingPlaces
 pub mod Copies
 pub mod Clearing
 pub mod CanBegin
+pub mod Carried
+pub mod CopyHolds
+pub mod RenamedInPlace
+pub mod ClearedHolds
+pub mod CanCopy
+pub mod EndedCollects

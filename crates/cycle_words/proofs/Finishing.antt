@@ -3,3 +3,10 @@ pub mod Fields
 pub mod Copies
 pub mod Whole
 pub mod Causes
+pub mod UpdatedHolds
+pub mod KeptFields
+pub mod CanUpdate
+pub mod CopiesHold
+pub mod SetFreed
+pub mod Emptied
+pub mod FinishingHolds

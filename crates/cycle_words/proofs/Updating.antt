@@ -1,1 +1,1 @@
--- Lemmas.
+pub mod LimitsNoted

@@ -2,3 +2,4 @@ pub mod Marking
 pub mod Evacuation
 pub mod Updating
 pub mod Finishing
+pub mod StillHolds

@@ -1,7 +1,7 @@
 //! Which regions are evacuated, in words and numbers: how much of a region lives, which regions are candidates, which of
 //! these are chosen, and that there is room for all that lives in them. Laws, as theorems and no code.
 
-ghost use Rattle.cycle_words.specs.Evacuation.Laws.{CandidateIsCandidate, ChosenIsTheChoice, ChoiceIsTaken, RoomIsFound, CopyingCopies, EachIsCopied, RootsAreCleared, EvacuationCanBegin};
+ghost use Rattle.cycle_words.specs.Evacuation.Laws.{CandidateIsCandidate, ChosenIsTheChoice, ChoiceIsTaken, RoomIsFound, CopyingCopies, EachIsCopied, RootsAreCleared, EvacuationCanBegin, MarkedCanBegin, ObjectCanBeCopied, LiveIsMarked, ChosenAreLive, EvacuationCollects};
 
 /// A law: the test of candidates tells a region that is in use, nobody's current one, without an object that is new, and
 /// with garbage of a quarter of its words; and it tells each such region.
@@ -47,4 +47,31 @@ pub fn roots_are_cleared()
 /// A law: where marking has run and is ended, what beginning evacuation asks for holds.
 pub fn evacuation_can_begin()
     ensures { EvacuationCanBegin }
+{}
+
+/// A law: evacuation can begin wherever the words hold a graph, no region is collected, what can be reached is kept, and what is
+/// marked is an object.
+pub fn marked_can_begin()
+    ensures { MarkedCanBegin }
+{}
+
+/// A law: an object of the collection set can be copied out, where the words hold a graph and each piece says how many words it has.
+pub fn object_can_be_copied()
+    ensures { ObjectCanBeCopied }
+{}
+
+/// A law: the live words of a region are those of the pieces there that are marked.
+pub fn live_is_marked()
+    ensures { LiveIsMarked }
+{}
+
+/// A law: what can be reached in the chosen regions is marked, so that it counts as live there.
+pub fn chosen_are_live()
+    ensures { ChosenAreLive }
+{}
+
+/// A law: once marking was ended and evacuation begun, by the one call and then the other, the words hold the same graph, and are
+/// such that finishing the cycle keeps it.
+pub fn evacuation_collects()
+    ensures { EvacuationCollects }
 {}

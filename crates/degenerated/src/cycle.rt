@@ -3,6 +3,7 @@
 ghost use Rattle.std.specs.Prelude.{◌≡◌, ◌↔◌, true};
 ghost use Rattle.image_graph.specs.State.{config_of, memory_of};
 ghost use Rattle.cycle_words.specs.Finishing.Finish.{CanFinish, finished, is_whole, set_freed};
+ghost use Rattle.cycle_words.specs.StillHolds.{FinishingHolds};
 
 use crate::copies::copy_rest;
 use crate::update::update_all;
@@ -32,11 +33,13 @@ fn end_cycle(image: &mut Image)
 
 /// Ends a cycle in one pause. While objects are evacuated, what is left of the collection set is copied out: Short where an
 /// object finds no room. Then all references are updated, the set is freed, and the cycle is over. At last who waits is
-/// served: Short where a request finds no room. Takes no memory, and time linear in the words of the heap.
+/// served: Short where a request finds no room. Where the image holds a graph, it holds the same graph afterwards, whole or
+/// short. Takes no memory, and time linear in the words of the heap.
 pub fn finish(image: &mut Image) -> Finished
     requires { CanFinish (config_of image.old) (memory_of image.old) }
     ensures config { config_of image.new ≡ config_of image.old }
     ensures words { memory_of image.new ≡ finished (config_of image.old) (memory_of image.old) }
+    ensures holds { FinishingHolds (config_of image.old) (memory_of image.old) (memory_of image.new) }
     ensures whole { (result ≡ Finished.Whole) ↔ (is_whole (config_of image.old) (memory_of image.old) ≡ true) }
 {
     if !copy_rest(image) {

@@ -4,6 +4,7 @@ ghost use Rattle.std.specs.Prelude.{◌≡◌, ◌^◌, ◌<◌};
 ghost use Rattle.heap_words.specs.Words.{Word, Cset, IsWord, word_at, table_words, write};
 ghost use Rattle.image_graph.specs.State.{config_of, memory_of};
 ghost use Rattle.cycle_words.specs.Finishing.Updated.{CanUpdateAll, all_updated, updated_word};
+ghost use Rattle.cycle_words.specs.StillHolds.{UpdatingHolds};
 ghost use Rattle.degenerated.specs.Steps.{row_updated, roots_updated, answers_updated};
 
 use crate::fields::{update_fields, updated};
@@ -59,11 +60,13 @@ fn update_answers(image: &mut Image)
 
 /// Updates all references: each reference of a kept object outside the collection set, and each root and answer, that names
 /// an object of the set that has moved names its copy then. No other word changes. Outside the set each object lies below the
-/// top of its region. Takes no memory, and time linear in the words of the heap.
+/// top of its region. Where the image holds a graph, and each piece of its regions says how many words it has, it holds the
+/// same graph afterwards. Takes no memory, and time linear in the words of the heap.
 pub fn update_all(image: &mut Image)
     requires { CanUpdateAll (config_of image.old) (memory_of image.old) }
     ensures config { config_of image.new ≡ config_of image.old }
     ensures words { memory_of image.new ≡ all_updated (config_of image.old) (memory_of image.old) }
+    ensures holds { UpdatingHolds (config_of image.old) (memory_of image.old) (memory_of image.new) }
 {
     update_fields(image);
     update_all_roots(image);

@@ -14,18 +14,19 @@ use Rattle.regions.specs.Sets.{all_but}
 use Rattle.shen_graph.specs.declared.name.Name.{Name}
 use Rattle.shen_graph.specs.Graph.{Graph, Object, Reference, blank, same_name, same_reference}
 use Rattle.shen_graph.proofs.PlainLemmas.{same_name-true, same_name-itself}
-use Rattle.heap_world.specs.World.{Block, thing, words_of, Plot, name_at, Points, IsThing, AreObjects, IsFreeWord}
+use Rattle.heap_world.specs.World.{Block, thing, hand, promised, words_of, Plot, name_at, Points, IsPlotted, IsThing, AreObjects, IsFreeWord}
 use Rattle.heap_world.proofs.Updates.{updated, updated_else, updated_there}
 use Rattle.heap_world.proofs.Keeping.{points_stay}
+use Rattle.heap_world.proofs.Pointing.{named_piece}
 use Rattle.heap_world.proofs.Pieces.{beside, piece_cases, object_reads}
 use Rattle.heap_world.proofs.FreeRegions.{free_without}
 use Rattle.heap_world.proofs.Joined as joined
 use Rattle.heap_world.proofs.Joined.{CanJoin}
-use Rattle.full_words.specs.Plot.{AreThings}
+use Rattle.full_words.specs.Plot.{AreThings, NamedAreThings}
 use Rattle.full_words.proofs.Named.{named_things}
 use Rattle.full_words.specs.Full.{made_word, made_in}
 use Rattle.full_words.specs.Promised.{Promises, with_promised}
-use Rattle.full_words.specs.Image.{AnswerStands, ImageStands}
+use Rattle.full_words.specs.Image.{AnswerStands, RootsStand, ImageStands}
 use Rattle.full_words.specs.Serving.{asked_shape, asked_name, asked_piece, made_block, made_promise, IsAsking}
 
 -- the words of a new object, and the others
@@ -43,12 +44,12 @@ inside_fresh a shape name before x low high =
     cond-true (nat_le a x && nat_lt x (a + object_words shape)) (cond (a == x) plain_header (cond (a + 1 == x) shape (cond (a + 2 == x) name 0))) before
     (and_from (nat_le a x) (nat_lt x (a + object_words shape)) (le-leb a x low) (lt-ltb x (a + object_words shape) high))
 
-fresh_header : (a shape name before : ℕ) → made_word a shape name before a ≡ plain_header
+pub fresh_header : (a shape name before : ℕ) → made_word a shape name before a ≡ plain_header
 fresh_header a shape name before =
     inside_fresh a shape name before a (omega arith) (omega arith)
     ∙ cond-true (a == a) plain_header (cond (a + 1 == a) shape (cond (a + 2 == a) name 0)) (eq-eqb a a refl)
 
-fresh_shape : (a shape name before : ℕ) → made_word a shape name before (a + 1) ≡ shape
+pub fresh_shape : (a shape name before : ℕ) → made_word a shape name before (a + 1) ≡ shape
 fresh_shape a shape name before =
     inside_fresh a shape name before (a + 1) (omega arith) (omega arith)
     ∙ cond-false (a == a + 1) plain_header (cond (a + 1 == a + 1) shape (cond (a + 2 == a + 1) name 0)) (ne_eqb a (a + 1) (λ e. omega (arith, e)))
@@ -61,7 +62,7 @@ fresh_name a shape name before =
     ∙ cond-false (a + 1 == a + 2) shape (cond (a + 2 == a + 2) name 0) (ne_eqb (a + 1) (a + 2) (λ e. omega (arith, e)))
     ∙ cond-true (a + 2 == a + 2) name 0 (eq-eqb (a + 2) (a + 2) refl)
 
-fresh_field : (a shape name before x : ℕ) → a + 3 ≤ x → x < a + object_words shape → made_word a shape name before x ≡ 0
+pub fresh_field : (a shape name before x : ℕ) → a + 3 ≤ x → x < a + object_words shape → made_word a shape name before x ≡ 0
 fresh_field a shape name before x low high =
     inside_fresh a shape name before x (omega (arith, low)) high
     ∙ cond-false (a == x) plain_header (cond (a + 1 == x) shape (cond (a + 2 == x) name 0)) (ne_eqb a x (λ e. omega (arith, e, low)))
@@ -83,7 +84,16 @@ abbrev PieceAt : (ℕ → ℕ) → Plot → (Name → Option Object) → ℕ →
 PieceAt heap block object a (thing name refs nums) = (o : Object) × (object name ≡ Some o) × IsThing heap block a refs nums name o
 PieceAt heap block object a _ = Unit {0}
 
-module _ (c : Config) (m : Word → ℕ) (block : Plot) (g : Graph) (p : Promises) (stands : ImageStands c m block g p) (t r : ℕ) (inside : t < c.mutators)
+-- What making an object stands on: the pieces that stand for a name are objects, and roots and answers stand for what they should.
+pub record CanMake (c : Config) (m : Word → ℕ) (block : Plot) (g : Graph) (p : Promises) : Type 0 where
+  pub plotted : IsPlotted c (λ r. m (Top r)) block
+  pub pieces : NamedAreThings block
+  pub rooted : RootsStand c m block g p
+
+pub can_make : (c : Config) (m : Word → ℕ) (block : Plot) (g : Graph) (p : Promises) → ImageStands c m block g p → CanMake c m block g p
+can_make c m block g p stands = record { plotted = stands.plotted; pieces = named_things block stands.things; rooted = stands.rooted }
+
+module _ (c : Config) (m : Word → ℕ) (block : Plot) (g : Graph) (p : Promises) (stands : CanMake c m block g p) (t r : ℕ) (inside : t < c.mutators)
     (asking : IsAsking m g p t) (within : r < c.regions) (room : m (Top r) + object_words (asked_shape m t) ≤ c.region_words) where
   abbrev top : ℕ → ℕ
   top q = m (Top q)
@@ -109,17 +119,17 @@ module _ (c : Config) (m : Word → ℕ) (block : Plot) (g : Graph) (p : Promise
   abbrev after : Word → ℕ
   after = made_in c m t r
 
-  can : CanJoin c top block r (m (Top r)) piece
+  pub can : CanJoin c top block r (m (Top r)) piece
   can = record {
     plotted = stands.plotted;
-    long = (named_things block stands.things).some;
+    long = stands.pieces.some;
     within = within;
     top_is = refl;
     room = room;
     some = omega arith;
   }
 
-  names_stay : (a : ℕ) (name : Name) → name_at (block a) ≡ Some name → name_at (new_block a) ≡ Some name
+  pub names_stay : (a : ℕ) (name : Name) → name_at (block a) ≡ Some name → name_at (new_block a) ≡ Some name
   names_stay = joined.names_stay c top block r (m (Top r)) piece can
 
   -- the thread was promised nothing
@@ -166,7 +176,7 @@ module _ (c : Config) (m : Word → ℕ) (block : Plot) (g : Graph) (p : Promise
       (cases_eq (t + 1) name.thread)
 
   -- the words of old pieces stay
-  old_word : (a k : ℕ) (b : Block) → block a ≡ Some b → k < words_of b → after (Heap (a + k)) ≡ heap (a + k)
+  pub old_word : (a k : ℕ) (b : Block) → block a ≡ Some b → k < words_of b → after (Heap (a + k)) ≡ heap (a + k)
   unfolding made_in
   old_word a k b is below =
       outside_fresh address (asked_shape m t) (name_code (t + 1) (request_count_in (m (Wait t)))) (heap (a + k)) (a + k)
@@ -179,7 +189,7 @@ module _ (c : Config) (m : Word → ℕ) (block : Plot) (g : Graph) (p : Promise
       (beside c top block stands.plotted r a b is))
 
   -- the new words are a blank object
-  new_words : IsThing (λ x. after (Heap x)) new_block address (refs_in (asked_shape m t)) (nums_in (asked_shape m t)) new (blank (refs_in (asked_shape m t)) (nums_in (asked_shape m t)))
+  pub new_words : IsThing (λ x. after (Heap x)) new_block address (refs_in (asked_shape m t)) (nums_in (asked_shape m t)) new (blank (refs_in (asked_shape m t)) (nums_in (asked_shape m t)))
   unfolding made_in
   new_words =
       let shape = asked_shape m t in
@@ -204,52 +214,65 @@ module _ (c : Config) (m : Word → ℕ) (block : Plot) (g : Graph) (p : Promise
       }
 
   -- a piece is the new one or an old one
-  cases : (a : ℕ) (b : Block) → new_block a ≡ Some b → ((a ≡ address) × (piece ≡ b)) ⊎ ((a ≢ address) × (block a ≡ Some b))
+  pub cases : (a : ℕ) (b : Block) → new_block a ≡ Some b → ((a ≡ address) × (piece ≡ b)) ⊎ ((a ≢ address) × (block a ≡ Some b))
   cases a b is = piece_cases block address piece a b is
 
-  objects_more : AreObjects (λ x. after (Heap x)) new_block (with_promised g more).object
-  objects_more = record {
-    each = λ a refs nums name is. ⊎_elim
-        (λ (made : (a ≡ address) × (piece ≡ thing name refs nums)).
-        subst (λ k. PieceAt (λ x. after (Heap x)) new_block (with_promised g more).object k (thing name refs nums)) (sym made.0)
-        (subst (PieceAt (λ x. after (Heap x)) new_block (with_promised g more).object address) made.1
-        (blank (refs_in (asked_shape m t)) (nums_in (asked_shape m t)), new_object, new_words)))
-        (λ (old : (a ≢ address) × (block a ≡ Some (thing name refs nums))).
-        let o = stands.objects.each a refs nums name old.1 in (
-          o.0,
-          object_stays name o.0 o.1,
-          object_reads heap (λ x. after (Heap x)) block new_block a refs nums name o.0 (λ k below. old_word a k (thing name refs nums) old.1 below) names_stay o.2,
-        ))
-        (cases a (thing name refs nums) is);
-    once = λ a b refs nums more_refs more_nums name is_a is_b. ⊎_elim
-        (λ (made_a : (a ≡ address) × (piece ≡ thing name refs nums)). ⊎_elim
-        (λ (made_b : (b ≡ address) × (piece ≡ thing name more_refs more_nums)). made_a.0 ∙ sym made_b.0)
-        (λ (old_b : (b ≢ address) × (block b ≡ Some (thing name more_refs more_nums))). absurd (not_old b name more_refs more_nums old_b.1 (named name refs nums made_a.1)))
-        (cases b (thing name more_refs more_nums) is_b))
-        (λ (old_a : (a ≢ address) × (block a ≡ Some (thing name refs nums))). ⊎_elim
-        (λ (made_b : (b ≡ address) × (piece ≡ thing name more_refs more_nums)). absurd (not_old a name refs nums old_a.1 (named name more_refs more_nums made_b.1)))
-        (λ (old_b : (b ≢ address) × (block b ≡ Some (thing name more_refs more_nums))). stands.objects.once a b refs nums more_refs more_nums name old_a.1 old_b.1)
-        (cases b (thing name more_refs more_nums) is_b))
-        (cases a (thing name refs nums) is_a);
+  -- the new piece is a blank object, ..
+  pub new_piece : (a refs nums : ℕ) (name : Name) → (a ≡ address) × (piece ≡ thing name refs nums)
+      → (o : Object) × ((with_promised g more).object name ≡ Some o) × IsThing (λ x. after (Heap x)) new_block a refs nums name o
+  new_piece a refs nums name made =
+      subst (λ k. PieceAt (λ x. after (Heap x)) new_block (with_promised g more).object k (thing name refs nums)) (sym made.0)
+      (subst (PieceAt (λ x. after (Heap x)) new_block (with_promised g more).object address) made.1
+      (blank (refs_in (asked_shape m t)) (nums_in (asked_shape m t)), new_object, new_words))
+
+  -- .. of the new name, and an old one is the object that it was
+  pub new_name : (name : Name) (refs nums : ℕ) → piece ≡ thing name refs nums → new ≡ name
+  new_name name refs nums same = same_Some new name (ap (λ b. name_at (Some b)) same)
+
+  pub old_piece : (a refs nums : ℕ) (name : Name) → block a ≡ Some (thing name refs nums)
+      → (o : Object) × ((with_promised g p).object name ≡ Some o) × IsThing heap block a refs nums name o
+      → (o : Object) × ((with_promised g more).object name ≡ Some o) × IsThing (λ x. after (Heap x)) new_block a refs nums name o
+  old_piece a refs nums name is o = (
+    o.0,
+    object_stays name o.0 o.1,
+    object_reads heap (λ x. after (Heap x)) block new_block a refs nums name o.0 (λ k below. old_word a k (thing name refs nums) is below) names_stay o.2,
+  )
+
+  pub named_again : (a : ℕ) (name : Name) → name_at (new_block a) ≡ Some name → (refs : ℕ) × (nums : ℕ) × (new_block a ≡ Some (thing name refs nums))
+  named_again a name is =
+      let at = named_piece (new_block a) name is in
+      ⊎_elim
+      (λ (made : (a ≡ address) × (piece ≡ at.0)).
+      let same : new ≡ name = same_Some new name (ap name_at (ap Some made.1) ∙ at.2) in (
+        refs_in (asked_shape m t),
+        nums_in (asked_shape m t),
+        at.1 ∙ ap Some (sym made.1) ∙ ap (λ k. Some (thing k (refs_in (asked_shape m t)) (nums_in (asked_shape m t)))) same,
+      ))
+      (λ (old : (a ≢ address) × (block a ≡ Some at.0)).
+      let was = stands.pieces.named a name (ap name_at old.1 ∙ at.2) in
+      (was.0, was.1, at.1 ∙ sym old.1 ∙ was.2))
+      (cases a at.0 at.1)
+
+  pub pieces_again : NamedAreThings new_block
+  pieces_again = record {
+    named = named_again;
+    unpromised = λ a seat words is. ⊎_elim
+        (λ (made : (a ≡ address) × (piece ≡ promised seat words)). absurd (let same = made.1 in cc))
+        (λ (old : (a ≢ address) × (block a ≡ Some (promised seat words))). stands.pieces.unpromised a seat words old.1)
+        (cases a (promised seat words) is);
+    unheld = λ a seat words is. ⊎_elim
+        (λ (made : (a ≡ address) × (piece ≡ hand seat words)). absurd (let same = made.1 in cc))
+        (λ (old : (a ≢ address) × (block a ≡ Some (hand seat words))). stands.pieces.unheld a seat words old.1)
+        (cases a (hand seat words) is);
+    some = λ a other is. ⊎_elim
+        (λ (made : (a ≡ address) × (piece ≡ other)). let long = ap words_of made.1 in omega (arith, long))
+        (λ (old : (a ≢ address) × (block a ≡ Some other)). stands.pieces.some a other old.1)
+        (cases a other is);
   }
-    where
-      named : (name : Name) (refs nums : ℕ) → piece ≡ thing name refs nums → new ≡ name
-      named name refs nums same = same_Some new name (ap (λ b. name_at (Some b)) same)
 
-      not_old : (a : ℕ) (name : Name) (refs nums : ℕ) → block a ≡ Some (thing name refs nums) → new ≡ name → ⊥
-      not_old a name refs nums is same =
-          let o = stands.objects.each a refs nums name is in
-          none-some o.0 (sym asking.new ∙ ap (with_promised g p).object same ∙ o.1)
-
-  are_things : AreThings new_block
-  are_things a other is = ⊎_elim
-      (λ (made : (a ≡ address) × (piece ≡ other)). (new, refs_in (asked_shape m t), nums_in (asked_shape m t), sym made.1))
-      (λ (old : (a ≢ address) × (block a ≡ Some other)). stands.things a other old.1)
-      (cases a other is)
-
-  free_less : IsFreeWord c (bit_and (m Free) (all_but r)) (updated top r (m (Top r) + words_of piece)) (λ q. None)
-  free_less =
-      let less = free_without c (m Free) r top (λ q. None) (λ q. None) within (λ q other. refl) stands.free_word in
+  pub free_less : (owner : ℕ → Option ℕ) → IsFreeWord c (m Free) top owner → IsFreeWord c (bit_and (m Free) (all_but r)) (updated top r (m (Top r) + words_of piece)) owner
+  free_less owner free_word =
+      let less = free_without c (m Free) r top owner owner within (λ q other. refl) free_word in
       let few = c.in_range.most_regions in
       record {
         no_more = less.no_more;
@@ -260,7 +283,7 @@ module _ (c : Config) (m : Word → ℕ) (block : Plot) (g : Graph) (p : Promise
             omega (arith, gone, here)
             in
             updated_else top r (m (Top r) + words_of piece) q other ∙ less.empty q below bit;
-        nobodys = λ q below bit. refl;
+        nobodys = less.nobodys;
       }
 
   -- an answer of another thread stands for what it stood for
@@ -296,17 +319,8 @@ module _ (c : Config) (m : Word → ℕ) (block : Plot) (g : Graph) (p : Promise
   unfolding made_in
   roots_more u i below few = points_stay block new_block names_stay (m (Root u i)) (g.root (u + 1) i) (stands.rooted.roots u i below few)
 
-  -- the image stands for the graph with the promise
-  pub made_stands : ImageStands c after new_block g more
-  unfolding made_in
-  made_stands = record {
-    plotted = joined.plotted_more c top block r (m (Top r)) piece can;
-    filled = joined.filled_more c top block r (m (Top r)) piece can stands.filled;
-    objects = objects_more;
-    things = are_things;
-    free_word = free_less;
-    rooted = record { roots = roots_more; answers = answers_more; no_more_roots = stands.rooted.no_more_roots; no_more_promised = promised_to };
-  }
+  pub rooted_more : RootsStand c after new_block g more
+  rooted_more = record { roots = roots_more; answers = answers_more; no_more_roots = stands.rooted.no_more_roots; no_more_promised = promised_to }
 
   -- another thread's words are as they were
   pub other_words : (u : ℕ) → t ≢ u → (after (Wait u) ≡ m (Wait u)) × (after (Answer u) ≡ m (Answer u))
@@ -326,3 +340,45 @@ module _ (c : Config) (m : Word → ℕ) (block : Plot) (g : Graph) (p : Promise
         unanswered = words.1 ∙ asks.unanswered;
         new = same_object name (λ e. another (omega (arith, e))) ∙ ap (with_promised g p).object same ∙ asks.new;
       }
+
+  -- where the image stands for a graph, it stands for it with the promise
+  module _ (whole : ImageStands c m block g p) where
+    objects_more : AreObjects (λ x. after (Heap x)) new_block (with_promised g more).object
+    objects_more = record {
+      each = λ a refs nums name is. ⊎_elim
+          (λ (made : (a ≡ address) × (piece ≡ thing name refs nums)). new_piece a refs nums name made)
+          (λ (old : (a ≢ address) × (block a ≡ Some (thing name refs nums))). old_piece a refs nums name old.1 (whole.objects.each a refs nums name old.1))
+          (cases a (thing name refs nums) is);
+      once = λ a b refs nums more_refs more_nums name is_a is_b. ⊎_elim
+          (λ (made_a : (a ≡ address) × (piece ≡ thing name refs nums)). ⊎_elim
+          (λ (made_b : (b ≡ address) × (piece ≡ thing name more_refs more_nums)). made_a.0 ∙ sym made_b.0)
+          (λ (old_b : (b ≢ address) × (block b ≡ Some (thing name more_refs more_nums))). absurd (not_old b name more_refs more_nums old_b.1 (new_name name refs nums made_a.1)))
+          (cases b (thing name more_refs more_nums) is_b))
+          (λ (old_a : (a ≢ address) × (block a ≡ Some (thing name refs nums))). ⊎_elim
+          (λ (made_b : (b ≡ address) × (piece ≡ thing name more_refs more_nums)). absurd (not_old a name refs nums old_a.1 (new_name name more_refs more_nums made_b.1)))
+          (λ (old_b : (b ≢ address) × (block b ≡ Some (thing name more_refs more_nums))). whole.objects.once a b refs nums more_refs more_nums name old_a.1 old_b.1)
+          (cases b (thing name more_refs more_nums) is_b))
+          (cases a (thing name refs nums) is_a);
+    }
+      where
+        not_old : (a : ℕ) (name : Name) (refs nums : ℕ) → block a ≡ Some (thing name refs nums) → new ≡ name → ⊥
+        not_old a name refs nums is same =
+            let o = whole.objects.each a refs nums name is in
+            none-some o.0 (sym asking.new ∙ ap (with_promised g p).object same ∙ o.1)
+
+    are_things : AreThings new_block
+    are_things a other is = ⊎_elim
+        (λ (made : (a ≡ address) × (piece ≡ other)). (new, refs_in (asked_shape m t), nums_in (asked_shape m t), sym made.1))
+        (λ (old : (a ≢ address) × (block a ≡ Some other)). whole.things a other old.1)
+        (cases a other is)
+
+    pub made_stands : ImageStands c after new_block g more
+    unfolding made_in
+    made_stands = record {
+      plotted = joined.plotted_more c top block r (m (Top r)) piece can;
+      filled = joined.filled_more c top block r (m (Top r)) piece can whole.filled;
+      objects = objects_more;
+      things = are_things;
+      free_word = free_less (λ q. None) whole.free_word;
+      rooted = rooted_more;
+    }

@@ -19,22 +19,22 @@ use Rattle.full_words.specs.Image.{AnswerStands, RootsStand}
 use Rattle.full_words.proofs.Found.{has_map, map_has, range_has}
 
 -- a list behind another has what either has
-has_either : (xs ys : List ℕ) (q : ℕ) → has (xs ++ ys) q ≡ true → (has xs q ≡ true) ⊎ (has ys q ≡ true)
+pub has_either : (xs ys : List ℕ) (q : ℕ) → has (xs ++ ys) q ≡ true → (has xs q ≡ true) ⊎ (has ys q ≡ true)
 has_either xs ys q is = or_cases (has xs q) (has ys q) (sym (list_any-append (nat_eq q) xs ys) ∙ is)
 
-has_first : (xs ys : List ℕ) (q : ℕ) → has xs q ≡ true → has (xs ++ ys) q ≡ true
+pub has_first : (xs ys : List ℕ) (q : ℕ) → has xs q ≡ true → has (xs ++ ys) q ≡ true
 has_first xs ys q is = list_any-append (nat_eq q) xs ys ∙ or_left (has xs q) (has ys q) is
 
-has_second : (xs ys : List ℕ) (q : ℕ) → has ys q ≡ true → has (xs ++ ys) q ≡ true
+pub has_second : (xs ys : List ℕ) (q : ℕ) → has ys q ≡ true → has (xs ++ ys) q ≡ true
 has_second xs ys q is = list_any-append (nat_eq q) xs ys ∙ or_right (has xs q) (has ys q) is
 
 -- a list of one
-has_one : (x q : ℕ) → has (x ∷ []) q ≡ true → q ≡ x
+pub has_one : (x q : ℕ) → has (x ∷ []) q ≡ true → q ≡ x
 has_one x q is = ⊎_elim (λ (here : nat_eq q x ≡ true). eqb-true q x here) (λ (none : has [] q ≡ true). absurd (false≢true none)) (or_cases (nat_eq q x) (has [] q) is)
 
 module _ (memory : Word → ℕ) where
   -- the words of the roots
-  root_in : (n q : ℕ) → has (roots_below memory n) q ≡ true → (t : ℕ) × (i : ℕ) × (t < n) × (i < 16) × (memory (Root t i) ≡ q)
+  pub root_in : (n q : ℕ) → has (roots_below memory n) q ≡ true → (t : ℕ) × (i : ℕ) × (t < n) × (i < 16) × (memory (Root t i) ≡ q)
   root_in zero q is = absurd (false≢true is)
   root_in (suc n) q is = ⊎_elim
       (λ (earlier : has (roots_below memory n) q ≡ true). let at = root_in n q earlier in (at.0, at.1, omega (arith, at.2), at.3, at.4))
@@ -59,7 +59,7 @@ module _ (memory : Word → ℕ) where
   abbrev one_answer : ℕ → List ℕ
   one_answer t = cond (nat_le (memory (Answer t)) 1) [] (memory (Answer t) ∷ [])
 
-  answer_in : (n q : ℕ) → has (answers_below memory n) q ≡ true → (t : ℕ) × (t < n) × (1 < memory (Answer t)) × (memory (Answer t) ≡ q)
+  pub answer_in : (n q : ℕ) → has (answers_below memory n) q ≡ true → (t : ℕ) × (t < n) × (1 < memory (Answer t)) × (memory (Answer t) ≡ q)
   answer_in zero q is = absurd (false≢true is)
   answer_in (suc n) q is = ⊎_elim
       (λ (earlier : has (answers_below memory n) q ≡ true). let at = answer_in n q earlier in (at.0, omega (arith, at.1), at.2, at.3))
@@ -100,7 +100,7 @@ module _ (c : Config) (top : ℕ → ℕ) (memory : Word → ℕ) (block : Plot)
   extra_root : (t : ℕ) → more.root t 16 ≡ p.ref t
   extra_root t = cond-true (16 == 16) (p.ref t) (g.root t 16) refl
 
-  answer_names : (word : ℕ) (r : Reference) → 1 < word → AnswerStands block word r → (name : Name) × (r ≡ Some name) × (name_at (block word) ≡ Some name)
+  pub answer_names : (word : ℕ) (r : Reference) → 1 < word → AnswerStands block word r → (name : Name) × (r ≡ Some name) × (name_at (block word) ≡ Some name)
   answer_names word r some stands = ⊎_elim
       (λ (none : (word ≤ 1) × (r ≡ None)). absurd (omega (arith, none.0, some)))
       (λ (is : (1 < word) × (name : Name) × (r ≡ Some name) × (name_at (block word) ≡ Some name)). (is.1, is.2, is.3))

@@ -19,14 +19,14 @@ use Rattle.full_words.specs.Image.{AnswerStands, RootsStand, ImageStands}
 use Rattle.full_words.specs.Serving.{asked_shape, made_block, made_promise, turn_room, served_block, served_promises, AreAsking}
 use Rattle.full_words.proofs.ImagesStand.{packed_stands}
 use Rattle.full_words.proofs.Served.{served_first, turn_idle, turn_waits, before_turn, after_turn, own_wait}
-use Rattle.full_words.proofs.Made.{made_stands, other_words, other_asks}
+use Rattle.full_words.proofs.Made.{can_make, made_stands, other_words, other_asks}
 
 -- the words of an image stand for the graph, and who has not had a turn asks for an object that can be
 abbrev Stands : Config → Graph → (Word → ℕ) → Plot → Promises → ℕ → Type 0
 Stands c g m block p n = ImageStands c m block g p × AreAsking c m g p n
 
 -- a thread that finds a region waits, and the region has room
-finds_room : (c : Config) (m : Word → ℕ) (t r : ℕ) → turn_room c m t ≡ Some r
+pub finds_room : (c : Config) (m : Word → ℕ) (t r : ℕ) → turn_room c m t ≡ Some r
     → (m (Wait t) ≢ 0) × (r < c.regions) × (m (Top r) + object_words (asked_shape m t) ≤ c.region_words)
 finds_room c m t r is = ⊎_elim
     (λ (none : m (Wait t) ≡ 0). absurd (none-some r (sym (cond-true (m (Wait t) == 0) None (room_for c m t) (eq-eqb (m (Wait t)) 0 none)) ∙ is)))
@@ -42,15 +42,15 @@ one_turn c g m block p n None below stands is = (stands.0, λ t later inside som
 one_turn c g m block p n (Some r) below stands is =
     let room = finds_room c m n r is in
     let asking = stands.1 n (omega arith) below room.0 in (
-      made_stands c m block g p stands.0 n r below asking room.1 room.2,
+      made_stands c m block g p (can_make c m block g p stands.0) n r below asking room.1 room.2 stands.0,
       λ t later inside some.
           let other : n ≢ t = λ same. omega (arith, same, later) in
-          let words = other_words c m block g p stands.0 n r below asking room.1 room.2 t other in
-          other_asks c m block g p stands.0 n r below asking room.1 room.2 t other (stands.1 t (omega (arith, later)) inside (λ zero'. some (words.0 ∙ zero'))),
+          let words = other_words c m block g p (can_make c m block g p stands.0) n r below asking room.1 room.2 t other in
+          other_asks c m block g p (can_make c m block g p stands.0) n r below asking room.1 room.2 t other (stands.1 t (omega (arith, later)) inside (λ zero'. some (words.0 ∙ zero'))),
     )
 
 -- the words after a turn, by the region that was found
-turn_is : (c : Config) (m : Word → ℕ) (n : ℕ) → served c m (suc n) ≡ served_in c (served c m n) n (turn_room c (served c m n) n)
+pub turn_is : (c : Config) (m : Word → ℕ) (n : ℕ) → served c m (suc n) ≡ served_in c (served c m n) n (turn_room c (served c m n) n)
 turn_is c m n = fun_ext (λ word. ⊎_elim
     (λ (none : served c m n (Wait n) ≡ 0).
     turn_idle c m n word none

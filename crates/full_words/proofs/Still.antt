@@ -11,7 +11,7 @@ module _ (c : Config) (word : Word) (made : (m : Word → ℕ) (t r : ℕ) → m
   turn_still m t None = refl
   turn_still m t (Some r) = made m t r
 
-  served_still : (m : Word → ℕ) (n : ℕ) → served c m n word ≡ m word
+  pub served_still : (m : Word → ℕ) (n : ℕ) → served c m n word ≡ m word
   served_still m zero = served_first c m word
   served_still m (suc n) = ⊎_elim
       (λ (none : served c m n (Wait n) ≡ 0). turn_idle c m n word none ∙ served_still m n)

@@ -6,3 +6,5 @@ pub mod Packed
 pub mod Shown
 pub mod SameWords
 pub mod Read
+pub mod ObjectMade
+pub mod ServedHolds

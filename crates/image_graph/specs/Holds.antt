@@ -2,12 +2,12 @@
 use Rattle.std.specs.Prelude.{ℕ, ◌≡◌, ◌≢◌, ◌+◌, ◌<◌, Option, Some, false, true}
 use Rattle.heap_words.specs.declared.config.Config.{Config}
 use Rattle.heap_words.specs.Words.{Word, Cset, Free, Top, Current, Wait, Heap}
-use Rattle.heap_words.specs.Encoding.{is_forwarded, request_count_in}
+use Rattle.heap_words.specs.Encoding.{is_forwarded, object_words, request_count_in}
 use Rattle.regions.specs.Place.{region_with}
 use Rattle.regions.specs.Sets.{IsIn, IsOutside}
 use Rattle.shen_graph.specs.declared.name.Name.{Name}
 use Rattle.shen_graph.specs.Graph.{Graph, Object, fresh}
-use Rattle.heap_world.specs.World.{Plot, thing, IsFilled, IsFreeWord, AreCurrent, IsGiven}
+use Rattle.heap_world.specs.World.{Block, Plot, thing, words_of, IsFilled, IsFreeWord, AreCurrent, IsGiven}
 use Rattle.full_words.specs.Held.{IsAmong, HoldsGraph}
 use Rattle.full_words.specs.Plot.{NamedAreThings}
 use Rattle.full_words.specs.Full.{now_in, root_words}
@@ -43,6 +43,10 @@ pub record HoldsBy (c : Config) (memory : Word → ℕ) (block : Plot) (owner : 
   pub asking : AreAsking c memory g p 0
   pub next : AreNext c memory g p
   pub unreached : AreFresh c.mutators g p
+
+-- Each piece says by its shape word how many words it has, also one that nothing leads to.
+abbrev pub AreSized : (Word → ℕ) → Plot → Type 0
+AreSized memory block = (a : ℕ) (b : Block) → block a ≡ Some b → object_words (memory (Heap (a + 1))) ≡ words_of b
 
 -- they hold it in some way
 abbrev pub Holds : Config → (Word → ℕ) → Graph → Type 0

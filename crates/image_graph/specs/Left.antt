@@ -13,7 +13,7 @@ use Rattle.heap_world.specs.World.{Plot}
 use Rattle.full_words.specs.Promised.{Promises}
 use Rattle.full_words.specs.Image.{ImageStands}
 use Rattle.full_words.specs.Serving.{AreAsking, served_block, served_promises}
-use Rattle.image_graph.specs.Holds.{HoldsBy}
+use Rattle.image_graph.specs.Holds.{HoldsBy, AreSized}
 
 -- a thread waits, and when its turn comes each region has less room than it asks for
 pub record IsLeft (c : Config) (memory : Word → ℕ) (t : ℕ) : Type 0 where
@@ -25,6 +25,16 @@ pub record IsLeft (c : Config) (memory : Word → ℕ) (t : ℕ) : Type 0 where
 abbrev pub IsServedGraph : Config → (before after : Word → ℕ) → Type 0
 IsServedGraph c before after = (block : Plot) (g : Graph) (p : Promises) → ImageStands c before block g p → AreAsking c before g p 0
     → ImageStands c after (served_block c before block c.mutators) g (served_promises c before p c.mutators)
+
+-- Whatever graph the words held, in whatever way, they hold it afterwards, with the objects that were made as further pieces, which
+-- are promised; and where each piece said how many words it has, each does.
+pub record HoldsServed (c : Config) (before after : Word → ℕ) (block : Plot) (owner : ℕ → Option ℕ) (p : Promises) (g : Graph) : Type 0 where
+  pub holds : HoldsBy c after (served_block c before block c.mutators) owner (served_promises c before p c.mutators) g
+  pub sized : AreSized before block → AreSized after (served_block c before block c.mutators)
+
+abbrev pub ServingHolds : Config → (before after : Word → ℕ) → Type 0
+ServingHolds c before after = (block : Plot) (owner : ℕ → Option ℕ) (p : Promises) (g : Graph) → HoldsBy c before block owner p g
+    → HoldsServed c before after block owner p g
 
 -- the words of heap and roots of a table stand for some graph
 abbrev pub StandsForSome : Config → List ℕ → Type 0

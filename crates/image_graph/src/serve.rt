@@ -7,7 +7,7 @@ ghost use Rattle.packing.specs.Rooms.{lowest_room, NoneHasRoom};
 ghost use Rattle.full_words.specs.Full.{made_in, served, served_in, room_for};
 ghost use Rattle.image_graph.specs.State.{config_of, memory_of};
 ghost use Rattle.image_graph.specs.Holds.{HoldsSome};
-ghost use Rattle.image_graph.specs.Left.{IsLeft, IsServedGraph};
+ghost use Rattle.image_graph.specs.Left.{IsLeft, IsServedGraph, ServingHolds};
 ghost use Rattle.image_graph.specs.Make.{heap_cleared, AreInHeap, AreWithin};
 
 use crate::image::Image;
@@ -113,6 +113,7 @@ impl Image {
         ensures config { config_of self.new ≡ config_of self.old }
         ensures words { memory_of self.new ≡ served (config_of self.old) (memory_of self.old) (config_of self.old).mutators }
         ensures graph { IsServedGraph (config_of self.old) (memory_of self.old) (memory_of self.new) }
+        ensures holds { ServingHolds (config_of self.old) (memory_of self.old) (memory_of self.new) }
         ensures left { result ≡ false → (t : ℕ) × IsLeft (config_of self.old) (memory_of self.old) t }
         ensures served { result ≡ true → (t : ℕ) → IsLeft (config_of self.old) (memory_of self.old) t → ⊥ }
     {

@@ -3,6 +3,7 @@
 ghost use Rattle.std.specs.Prelude.{◌≡◌, ◌<◌};
 ghost use Rattle.image_graph.specs.State.{config_of, memory_of};
 ghost use Rattle.cycle_words.specs.Updating.Changes.{init_updated};
+ghost use Rattle.cycle_words.specs.StillHolds.{LimitsHold};
 ghost use Rattle.update_refs.specs.Steps.{limit_in, limited, update_started};
 
 use image_graph::Image;
@@ -43,11 +44,12 @@ fn start(image: &mut Image)
 }
 
 /// Begins the updating of references: the limit of each region outside of the collection set is its top, and that of each
-/// region of the set is 0. No copier is counted and no unit claimed. All other words stay. Takes no memory, and time linear
-/// in the number of regions.
+/// region of the set is 0. No copier is counted and no unit claimed. All other words stay, and so does the graph that the
+/// image holds. Takes no memory, and time linear in the number of regions.
 pub fn init_update(image: &mut Image)
     ensures config { config_of image.new ≡ config_of image.old }
     ensures words { memory_of image.new ≡ init_updated (memory_of image.old) }
+    ensures holds { LimitsHold (config_of image.old) (memory_of image.old) (memory_of image.new) }
 {
     note_limits(image);
     start(image);

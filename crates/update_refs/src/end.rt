@@ -5,6 +5,7 @@ ghost use Rattle.image_graph.specs.State.{config_of, memory_of};
 ghost use Rattle.cycle_words.specs.Marking.Final.{freed};
 ghost use Rattle.mark_core.specs.Steps.{freed_one};
 ghost use Rattle.cycle_words.specs.Updating.Changes.{is_chosen, cycle_ended, final_updated};
+ghost use Rattle.cycle_words.specs.StillHolds.{EndingHolds};
 
 use image_graph::Image;
 use mark_core::free_region;
@@ -45,10 +46,12 @@ fn end_cycle(image: &mut Image)
 }
 
 /// Ends the updating of references, and the cycle with it: the regions of the collection set are freed, the set is empty, and
-/// no unit is claimed. All other words stay. Takes no memory, and time linear in the number of regions.
+/// no unit is claimed. All other words stay. Where the image holds a graph, and nothing names the set, it holds the same graph
+/// afterwards. Takes no memory, and time linear in the number of regions.
 pub fn final_update(image: &mut Image)
     ensures config { config_of image.new ≡ config_of image.old }
     ensures words { memory_of image.new ≡ final_updated (config_of image.old) (memory_of image.old) }
+    ensures holds { EndingHolds (config_of image.old) (memory_of image.old) (memory_of image.new) }
 {
     free_set(image);
     end_cycle(image);

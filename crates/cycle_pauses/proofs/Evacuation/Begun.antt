@@ -22,8 +22,8 @@ use Rattle.cycle_words.proofs.Evacuation.Front.{member_is}
 use Rattle.cycle_words.proofs.Evacuation.Clearing.{roots_are_cleared, can_clear_in_turn}
 use Rattle.cycle_words.proofs.Evacuation.CanBegin.{evacuation_can_begin}
 use Rattle.cycle_pauses.specs.Evacuation.Collect.{evac_next}
-use Rattle.cycle_pauses.specs.Evacuation.Laws.{EvacuationRepresents, EvacuationBegins}
-use Rattle.cycle_pauses.proofs.Evacuation.NamingPlaces.{IsPlace, are_places, places_have}
+use Rattle.cycle_pauses.specs.Evacuation.Laws.{EvacuationRepresents, EvacuationAloneRepresents, EvacuationBegins}
+use Rattle.cycle_words.proofs.Evacuation.NamingPlaces.{IsPlace, are_places, places_have}
 use Rattle.cycle_pauses.proofs.Evacuation.ClearingInTurn.{IsClearing, all_cleared}
 use Rattle.cycle_pauses.proofs.Evacuation.Started.{clearing_begins, evacuation_starts, cycle_ends}
 
@@ -55,6 +55,9 @@ module _ (c : Config) (m : Word → ℕ) (block : Plot) (ghost : Ghost) (g : Gra
       subst (λ n. Represents c n g asking) (sym (fun_ext (λ word. cond-false (set == 0) (evac_spared m word) (evac_started (roots_cleared c m set) word) some)))
       (evacuation_starts c m block ghost g asking out set (roots_cleared c m set) ended.0 ended.1 cleared))
       (cases_Bool (set == 0))
+
+pub evacuation_alone_represents : EvacuationAloneRepresents
+evacuation_alone_represents = begun
 
 -- evacuation can begin where marking is ended
 pub can_begin : (c : Config) (m : Word → ℕ) (g : Graph) (asking : ℕ → Asking) → Represents c m g asking → m Phase ≡ 1 → HasNoMoreSeats c m → CanBegin c (final_marked c m)

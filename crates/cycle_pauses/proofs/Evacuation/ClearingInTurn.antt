@@ -18,12 +18,13 @@ use Rattle.heap_world.specs.Asking.{Asking, given, IsPromise, IsAsked}
 use Rattle.heap_world.proofs.Pointing.{named_body, copy_cases, piece_inside}
 use Rattle.heap_world.proofs.Keeping.{points_stay}
 use Rattle.cycle_words.specs.Evacuation.Live.{words_at}
-use Rattle.cycle_words.specs.Evacuation.Copied.{MayChange, copy_room, copied_out, IsCopiedOut}
+use Rattle.cycle_words.specs.Evacuation.Copied.{MayChange, copied_out, IsCopiedOut}
 use Rattle.cycle_words.specs.Evacuation.Begun.{IsNaming, is_collected, moved_out, cleared_at, cleared_in_turn, CanClear, CanClearInTurn}
-use Rattle.cycle_words.proofs.Evacuation.CopiedOut.{copying_copies}
+use Rattle.cycle_words.proofs.Evacuation.CopiedOut.{copies_out}
+use Rattle.cycle_words.proofs.Evacuation.Copies.{cleared_is, spared_is}
 use Rattle.cycle_pauses.proofs.Evacuation.Between.{AreBetween}
 use Rattle.cycle_pauses.proofs.Evacuation.CopiedOut.{HasCopied, copied_out_of}
-use Rattle.cycle_pauses.proofs.Evacuation.NamingPlaces.{IsPlace}
+use Rattle.cycle_words.proofs.Evacuation.NamingPlaces.{IsPlace}
 use Rattle.cycle_pauses.proofs.Evacuation.Asked.{asked_stays, was_given}
 
 -- the words between two turns: they stand for the graph, and but for pieces, roots and answers they are as at first
@@ -34,10 +35,10 @@ pub record IsClearing (c : Config) (first m : Word → ℕ) (block : Plot) (owne
   pub same : (word : Word) → (MayChange word → ⊥) → (IsNaming word → ⊥) → m word ≡ first word
 
 -- headers, and where an object is by its header
-plain_is_plain : (header : ℕ) → header ≡ plain_header → is_forwarded header ≡ false
+pub plain_is_plain : (header : ℕ) → header ≡ plain_header → is_forwarded header ≡ false
 plain_is_plain header is = ap is_forwarded is
 
-led_is_forwarded : (header to : ℕ) → header ≡ header_word to → is_forwarded header ≡ true
+pub led_is_forwarded : (header to : ℕ) → header ≡ header_word to → is_forwarded header ≡ true
 led_is_forwarded header to is = ap is_forwarded is ∙ eq-eqb (header_word to % 4) 3 (omega arith)
 
 pub now_is : (m : Word → ℕ) (a to : ℕ) → m (Heap a) ≡ header_word to → now_in m a ≡ to
@@ -50,16 +51,6 @@ moved_out_plain c m a is = fun_ext (λ word. cond-false (is_forwarded (m (Heap a
 
 moved_out_led : (c : Config) (m : Word → ℕ) (a to : ℕ) → m (Heap a) ≡ header_word to → moved_out c m a ≡ m
 moved_out_led c m a to is = fun_ext (λ word. cond-true (is_forwarded (m (Heap a))) (m word) (copied_out c m a word) (led_is_forwarded (m (Heap a)) to is))
-
--- what a place is cleared to
-pub cleared_is : (c : Config) (m : Word → ℕ) (place : Word) → is_collected c m (m place) ≡ true
-    → cleared_at c m place ≡ write (moved_out c m (m place)) place (now_in (moved_out c m (m place)) (m place))
-unfolding cleared_at
-cleared_is c m place is = fun_ext (λ word. cond-true (is_collected c m (m place)) (write (moved_out c m (m place)) place (now_in (moved_out c m (m place)) (m place)) word) (m word) is)
-
-pub spared_is : (c : Config) (m : Word → ℕ) (place : Word) → is_collected c m (m place) ≡ false → cleared_at c m place ≡ m
-unfolding cleared_at
-spared_is c m place is = fun_ext (λ word. cond-false (is_collected c m (m place)) (write (moved_out c m (m place)) place (now_in (moved_out c m (m place)) (m place)) word) (m word) is)
 
 -- where it is copied out for that
 copied_then : (c : Config) (m : Word → ℕ) (place : Word) (to : ℕ) → is_collected c m (m place) ≡ true → m (Heap (m place)) ≡ plain_header
@@ -85,14 +76,6 @@ not_written n place v word naming other = ⊎_elim
     (λ (is : same_word place word ≡ true). absurd (other (subst IsNaming (same_word_true place word is) naming)))
     (λ (differs : same_word place word ≡ false). cond-false (same_word place word) v (n word) differs)
     (cases_Bool (same_word place word))
-
--- copying copies, where there is room
-pub copies_out : (c : Config) (m : Word → ℕ) (a : ℕ) → c.region_words ≤ a → IsCollected c (m Cset) a → copy_room c m a ≢ None → IsCopiedOut c m (copied_out c m a) a
-copies_out c m a above inside room = by_room (copy_room c m a) refl
-  where
-    by_room : (found : Option ℕ) → copy_room c m a ≡ found → IsCopiedOut c m (copied_out c m a) a
-    by_room None none = absurd (room none)
-    by_room (Some r) found = copying_copies c m a r above inside found
 
 -- What a place names in the set.
 record IsNamed (c : Config) (m : Word → ℕ) (a : ℕ) : Type 0 where

@@ -19,8 +19,10 @@ use Rattle.cycle_words.specs.Evacuation.Copied.{MayChange, CanCopyOut, copy_room
 use Rattle.cycle_words.specs.Evacuation.Begun.{naming_places, is_collected, moved_out, cleared_at, cleared_in_turn, with_set, evac_started, evac_spared, evac_begun, CanClear, CanClearInTurn}
 use Rattle.cycle_words.proofs.Evacuation.RegionAddresses.{some_words, of_its_region}
 use Rattle.cycle_pauses.specs.Evacuation.Collect.{evac_next}
-use Rattle.cycle_pauses.proofs.Evacuation.NamingPlaces.{IsPlace, are_places}
-use Rattle.cycle_pauses.proofs.Evacuation.ClearingInTurn.{cleared_is, spared_is, copies_out, is_first, is_later}
+use Rattle.cycle_words.proofs.Evacuation.NamingPlaces.{IsPlace, are_places}
+use Rattle.cycle_words.proofs.Evacuation.CopiedOut.{copies_out}
+use Rattle.cycle_words.proofs.Evacuation.Copies.{cleared_is, spared_is}
+use Rattle.cycle_pauses.proofs.Evacuation.ClearingInTurn.{is_first, is_later}
 
 -- a word of the table is one
 no_word : (c : Config) (r x : ℕ) → r < c.regions → IsOf c r x → is_word c (Heap x) ≡ false → ⊥

@@ -18,7 +18,7 @@ use Rattle.cycle_pauses.specs.Marking.MarkedOut.{IsMarkedOut}
 use Rattle.cycle_words.specs.Evacuation.Live.{IsCandidate}
 use Rattle.cycle_words.specs.Evacuation.Begun.{is_collected, with_set, evac_started, evac_spared}
 use Rattle.cycle_pauses.proofs.Evacuation.Asked.{asked_stays}
-use Rattle.cycle_pauses.proofs.Evacuation.NamingPlaces.{IsPlace}
+use Rattle.cycle_words.proofs.Evacuation.NamingPlaces.{IsPlace}
 use Rattle.cycle_pauses.proofs.Evacuation.ClearingInTurn.{IsClearing}
 
 -- whoever is promised an object was given it, and its answer says where it is

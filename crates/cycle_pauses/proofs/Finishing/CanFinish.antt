@@ -1,25 +1,22 @@
 -- Words that represent a graph are such that a cycle can be finished.
-use Rattle.std.proofs.Common.{◌≡◌, ◌≢◌, ℕ, ◌+◌, ◌*◌, ◌/◌, ◌%◌, ◌^◌, ◌<◌, ◌≤◌, Some, ⊎_elim, sym, ap, ◌∙◌, subst, arith}
+use Rattle.std.proofs.Common.{◌≡◌, ◌≢◌, ℕ, ◌+◌, ◌*◌, ◌/◌, ◌%◌, ◌^◌, ◌<◌, ◌≤◌, Some, ⊎_elim, sym, ap, ◌∙◌, arith}
 use Rattle.std.specs.Int.{bit_at}
 use Rattle.std.proofs.lemmas.Bool.{cases_eq, cases_lt}
 use Rattle.std.proofs.lemmas.Nat.{div-add-mod', mod_below, pow_pos}
 use Rattle.std.proofs.lemmas.Nat.Bits.{bit_at-lt, bit_at_above, bit_at_cat_low, same_from_bits}
 use Rattle.heap_words.specs.declared.config.Config.{Config}
 use Rattle.heap_words.specs.Words.{Word, Cset, Top, Current, Heap}
-use Rattle.heap_words.specs.Encoding.{shape_word, object_words}
-use Rattle.regions.specs.Place.{base_of, region_with}
-use Rattle.regions.specs.Sets.{IsIn}
-use Rattle.regions.proofs.PlaceLemmas.{regions_tile}
 use Rattle.shen_graph.specs.Graph.{Graph}
-use Rattle.heap_world.specs.World.{Block, thing, moved, spent, hand, promised, filler, words_of, IsCollected}
+use Rattle.heap_world.specs.World.{Block, words_of, IsCollected}
 use Rattle.heap_world.specs.Asking.{Asking}
 use Rattle.heap_world.specs.Represents.{RepresentsByCopies}
-use Rattle.heap_world.proofs.Pieces.{some_words, beside}
+use Rattle.heap_world.proofs.Pieces.{some_words}
 use Rattle.cycle_words.specs.Evacuation.Live.{words_at}
-use Rattle.cycle_words.specs.Finishing.Updated.{start_of, CanUpdateAll}
+use Rattle.cycle_words.specs.Finishing.Updated.{CanUpdateAll}
 use Rattle.cycle_words.specs.Finishing.Copies.{all_copied}
-use Rattle.cycle_words.proofs.Finishing.Fields.{covered}
+use Rattle.cycle_words.proofs.Finishing.CanUpdate as updates
 use Rattle.cycle_pauses.specs.Finishing.Laws.{RepresentingCanFinish}
+use Rattle.cycle_pauses.proofs.Finishing.Sizes.{piece_sizes}
 use Rattle.cycle_pauses.proofs.Finishing.CopyingKeeps.{copying_keeps, left_can_be_copied}
 
 -- a number whose bits are all below another one is small
@@ -40,52 +37,15 @@ few_bits x n each =
     omega (arith, same, low)
 
 module _ (c : Config) (m : Word → ℕ) (g : Graph) (asking : ℕ → Asking) (r : RepresentsByCopies c m g asking) where
-  shape_words : (refs nums : ℕ) → refs ≤ 16 → nums ≤ 16 → object_words (shape_word refs nums) ≡ 3 + refs + nums
-  shape_words refs nums few less = omega (arith, few, less)
-
   some : (a : ℕ) (x : Block) → r.block a ≡ Some x → 1 ≤ words_of x
   some = some_words c (λ q. m (Top q)) (λ q. m (Current q)) r.block r.shared.parsable r.shared.owned.rooms
 
   -- a piece outside of the set has as many words as its shape word says
   sizes : (a : ℕ) (x : Block) → r.block a ≡ Some x → (IsCollected c (m Cset) a → ⊥) → words_at m a ≡ words_of x
-  sizes a (thing name refs nums) is away =
-      let o = r.shared.contents.objects.each a refs nums name is in
-      ap object_words o.2.shape ∙ shape_words refs nums o.2.few_refs o.2.few_nums
-  sizes a (moved name refs nums to) is away = absurd (away (r.shared.evacuated.moved.moveds a refs nums to name is).inside)
-  sizes a (spent words to) is away = absurd (away (r.shared.evacuated.moved.spents a words to is).inside)
-  sizes a (hand seat words) is away = absurd (r.none a seat words is)
-  sizes a (promised seat words) is away =
-      let blank = r.shared.unwritten.blanks a seat words is in
-      ap object_words blank.shape ∙ shape_words blank.refs blank.nums blank.few_refs blank.few_nums ∙ sym blank.long
-  sizes a (filler words) is away = r.shared.unwritten.lengths a words is
+  sizes = piece_sizes c (m Cset) (λ a. m (Heap a)) r.block g.object r.shared.contents.objects r.shared.unwritten r.shared.evacuated.moved r.none
 
   can_update : CanUpdateAll c m
-  can_update = record {
-    set = few_bits (m Cset) c.regions r.shared.evacuated.aside.in_heap;
-    within = r.shared.parsable.plotted.tops;
-    objects = λ q k inside outside below begins.
-        let away : IsIn (m Cset) q → ⊥ = λ member. omega (arith, member, outside) in
-        let piece = covered c m r.block r.shared.parsable.plotted r.shared.parsable.filled some sizes q k inside away below in
-        let place : base_of c q + start_of (λ a. m (Heap a)) (base_of c q) k ≡ base_of c q + k = ap (λ j. base_of c q + j) begins in
-        let here : r.block (base_of c q + k) ≡ Some piece.0 = sym (ap r.block place) ∙ piece.1 in
-        let most = r.shared.parsable.plotted.tops q inside in
-        let long = some (base_of c q + k) piece.0 here in
-        ⊎_elim
-        (λ (before : base_of c q + k + words_of piece.0 ≤ base_of c q). absurd (omega (arith, before, long)))
-        (λ rest. ⊎_elim
-        (λ (within : (base_of c q ≤ base_of c q + k) × (base_of c q + k + words_of piece.0 ≤ base_of c q + m (Top q))).
-        let size = own_size q k piece.0 inside away below here in
-        omega (arith, within.1, size))
-        (λ (behind : base_of c q + c.region_words ≤ base_of c q + k). absurd (omega (arith, behind, below, most)))
-        rest)
-        (beside c (λ s. m (Top s)) r.block r.shared.parsable.plotted q (base_of c q + k) piece.0 here);
-  }
-    where
-      own_size : (q k : ℕ) (x : Block) → q < c.regions → (IsIn (m Cset) q → ⊥) → k < m (Top q) → r.block (base_of c q + k) ≡ Some x → words_at m (base_of c q + k) ≡ words_of x
-      own_size q k x inside away below here =
-          let most = r.shared.parsable.plotted.tops q inside in
-          let same : region_with c (base_of c q + k) ≡ q = regions_tile.of_no_other c q (base_of c q + k) (record { from = omega arith; before = omega (arith, below, most) }) in
-          sizes (base_of c q + k) x here (λ inside_set. away (subst (IsIn (m Cset)) same inside_set))
+  can_update = updates.can_update c m r.block r.shared.parsable.plotted r.shared.parsable.filled some sizes (few_bits (m Cset) c.regions r.shared.evacuated.aside.in_heap)
 
 pub representing_can_finish : RepresentingCanFinish
 representing_can_finish c m g asking r = record {

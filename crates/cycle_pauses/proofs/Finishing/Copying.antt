@@ -1,12 +1,12 @@
 -- What is left of the collection set is copied out, one object after the other: the words stand for the same graph meanwhile.
-use Rattle.std.proofs.Common.{◌≡◌, ◌≢◌, ℕ, ◌+◌, ◌%◌, ◌<◌, ◌≤◌, ◌==◌, ◌&&◌, nat_le, true, false, Option, Some, zero, suc, inl, inr, ⊎_elim, sym, ap, ◌∙◌, subst, arith}
+use Rattle.std.proofs.Common.{◌≡◌, ◌≢◌, ℕ, ◌+◌, ◌<◌, ◌≤◌, ◌==◌, ◌&&◌, nat_le, true, false, Option, Some, zero, suc, inl, inr, ⊎_elim, sym, ap, ◌∙◌, subst, arith}
 use Rattle.std.specs.Prelude.{not}
 use Rattle.std.specs.Int.{bit_at}
 use Rattle.std.proofs.lemmas.Bool.{cases_Bool, cases_eq, true≢false, and_from, and_parts, not-true, not_from_false, le-leb, leb-true, eq-eqb, eqb-true}
 use Rattle.std.proofs.lemmas.Option.{same_Some}
 use Rattle.heap_words.specs.declared.config.Config.{Config}
 use Rattle.heap_words.specs.Words.{Word, Phase, Cset, Evac, Claim, Top, Tams, Root, Wait, Answer, Black, Heap}
-use Rattle.heap_words.specs.Encoding.{plain_header, header_word, is_forwarded, object_words}
+use Rattle.heap_words.specs.Encoding.{plain_header, is_forwarded, object_words}
 use Rattle.regions.specs.Place.{base_of, region_with}
 use Rattle.regions.specs.Sets.{IsIn}
 use Rattle.regions.proofs.PlaceLemmas.{regions_tile}
@@ -27,7 +27,8 @@ use Rattle.cycle_words.proofs.Evacuation.RegionAddresses.{from_base}
 use Rattle.cycle_pauses.proofs.Evacuation.Asked.{asked_stays}
 use Rattle.cycle_pauses.proofs.Evacuation.Between.{AreBetween}
 use Rattle.cycle_pauses.proofs.Evacuation.CopiedOut.{HasCopied, copied_out_of}
-use Rattle.cycle_pauses.proofs.Evacuation.ClearingInTurn.{copies_out}
+use Rattle.cycle_pauses.proofs.Evacuation.ClearingInTurn.{plain_is_plain, led_is_forwarded}
+use Rattle.cycle_words.proofs.Evacuation.CopiedOut.{copies_out}
 use Rattle.cycle_words.specs.Finishing.Copies.{is_left, has_copy_room, copied_from, is_room_from, CanCopyFrom}
 use Rattle.cycle_words.proofs.Finishing.Copies.{room_found, copied_none, copied_next, copied_stuck, copied_skips, room_if, room_skips}
 
@@ -41,13 +42,6 @@ pub record IsCopying (c : Config) (first m : Word → ℕ) (block : Plot) (owner
   pub no_promises : (a seat words : ℕ) → block a ≡ Some (promised seat words) → IsCollected c (m Cset) a → ⊥
   pub swept : (a refs nums : ℕ) (name : Name) → block a ≡ Some (thing name refs nums) → IsCollected c (m Cset) a → passed ≤ a
   pub units : m Phase ≡ 2 → (r : ℕ) → r < m Claim → IsIn (m Cset) r → IsSweptTo c (m Evac) block r (base_of c (r + 1))
-
--- headers
-plain_is_plain : (header : ℕ) → header ≡ plain_header → is_forwarded header ≡ false
-plain_is_plain header is = ap is_forwarded is
-
-led_is_forwarded : (header to : ℕ) → header ≡ header_word to → is_forwarded header ≡ true
-led_is_forwarded header to is = ap is_forwarded is ∙ eq-eqb (header_word to % 4) 3 (omega arith)
 
 -- what is left at an address
 record IsLeft (c : Config) (m : Word → ℕ) (a : ℕ) : Type 0 where

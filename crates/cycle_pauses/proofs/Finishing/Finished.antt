@@ -1,7 +1,7 @@
 -- A cycle that was finished in its pause: who asks was given what it asks for, or a full collection follows.
-use Rattle.std.proofs.Common.{◌≡◌, ◌≢◌, ℕ, ◌<◌, ◌⊎◌, true, false, Option, Some, None, zero, suc, inl, inr, ⊎_elim, refl, sym, ap, ◌∙◌, subst, arith}
+use Rattle.std.proofs.Common.{◌≡◌, ◌≢◌, ℕ, ◌<◌, ◌⊎◌, true, false, Option, inl, inr, ⊎_elim, refl, sym, ap, ◌∙◌, subst, arith}
 use Rattle.std.proofs.Math.Path.{fun_ext}
-use Rattle.std.proofs.lemmas.Bool.{cond-true, cond-false, cases_Bool, cases_eq, and_parts}
+use Rattle.std.proofs.lemmas.Bool.{cond-true, cond-false, cases_Bool, and_parts}
 use Rattle.heap_words.specs.declared.config.Config.{Config}
 use Rattle.heap_words.specs.Words.{Word, Pause, Left, End, State, Phase, Cset, Free, Evac, Claim, Ask, Top, Tams, Limit, Current, Root, Count, Buffer, Wait, Answer, Grey, Black, Heap}
 use Rattle.regions.specs.Sets.{IsIn}
@@ -12,12 +12,12 @@ use Rattle.heap_world.specs.Represents.{Represents}
 use Rattle.heap_world.specs.Change.{Answers, IsPaused}
 use Rattle.full_words.specs.Full.{packed, packed_in, made_in, served_in, room_for, served, full}
 use Rattle.full_words.specs.Full as image
-use Rattle.full_words.proofs.Served.{served_first, turn_idle, turn_waits}
-use Rattle.image_graph.specs.Holds.{HoldsSome}
+use Rattle.full_words.proofs.Still.{served_still}
+use Rattle.image_graph.specs.Holds.{Holds}
 use Rattle.cycle_pauses.proofs.Full.ByCopies.{by_copies}
 use Rattle.cycle_pauses.proofs.Full.Promises.{promises_of}
 use Rattle.cycle_pauses.proofs.Full.Before.{live}
-use Rattle.cycle_pauses.proofs.Full.Holding.{waits_for, holds_by, holds_some}
+use Rattle.cycle_pauses.proofs.Full.Holding.{waits_for, holds_by}
 use Rattle.cycle_pauses.proofs.Full.Pauses.{paused}
 use Rattle.cycle_words.proofs.Marking.Alike.{holds_alike}
 use Rattle.cycle_pauses.proofs.Evacuation.Asked.{asked_stays}
@@ -32,18 +32,6 @@ use Rattle.cycle_pauses.proofs.Finishing.Serving.{IsIdle, IsServedSo, turns_idle
 use Rattle.cycle_pauses.proofs.Finishing.Idle.{idle_represents, finished_idle}
 
 -- Words that serving leaves.
-module _ (c : Config) (word : Word) (made : (m : Word → ℕ) (t r : ℕ) → made_in c m t r word ≡ m word) where
-  turn_still : (m : Word → ℕ) (t : ℕ) (o : Option ℕ) → served_in c m t o word ≡ m word
-  turn_still m t None = refl
-  turn_still m t (Some r) = made m t r
-
-  served_still : (m : Word → ℕ) (n : ℕ) → served c m n word ≡ m word
-  served_still m zero = served_first c m word
-  served_still m (suc n) = ⊎_elim
-      (λ (none : served c m n (Wait n) ≡ 0). turn_idle c m n word none ∙ served_still m n)
-      (λ (some : served c m n (Wait n) ≢ 0). turn_waits c m n word some ∙ turn_still (served c m n) n (room_for c (served c m n) n) ∙ served_still m n)
-      (cases_eq (served c m n (Wait n)) 0)
-
 phase_still : (c : Config) (m : Word → ℕ) (n : ℕ) → served c m n Phase ≡ m Phase
 unfolding made_in
 phase_still c = served_still c Phase (λ w t r. refl)
@@ -205,24 +193,20 @@ module _ (c : Config) (m : Word → ℕ) (g : Graph) (asking : ℕ → Asking) (
         (served_so (asking t) (then t) (turns.4 t) refs nums is);
   }
 
-  served_holds : HoldsSome c w
+  served_holds : Holds c w g
   served_holds =
       let stands = by_copies c asked_word g then asked_stands in
-      let holds = holds_by c asked_word g then stands in
-      ∣ (
-        g,
-        (
-          live c asked_word g then stands,
-          stands.ghost.owner,
-          promises_of c g then,
-          holds_alike asked_word w (record { heap = λ a. refl; top = λ q. refl; root = λ t i. refl; answer = λ t. refl; wait = λ t. refl; current = λ s. refl; free = refl; cset = refl })
-              c (live c asked_word g then stands) stands.ghost.owner (promises_of c g then) g holds,
-        ),
-      ) ∣₁
+      let holds = holds_by c asked_word g then stands in (
+        live c asked_word g then stands,
+        stands.ghost.owner,
+        promises_of c g then,
+        holds_alike asked_word w (record { heap = λ a. refl; top = λ q. refl; root = λ t i. refl; answer = λ t. refl; wait = λ t. refl; current = λ s. refl; free = refl; cset = refl })
+            c (live c asked_word g then stands) stands.ghost.owner (promises_of c g then) g holds,
+      )
 
   pub served_short : ShortHolds c m g asking
   served_short = record {
-    holds = subst (HoldsSome c) (sym finished_is) served_holds;
+    holds = subst (λ v. Holds c v g) (sym finished_is) served_holds;
     paused = subst (λ v. IsPaused c m (full c v) g asking) (sym finished_is) (subst (λ v. IsPaused c m v g asking) full_same full_paused);
   }
 
@@ -236,7 +220,8 @@ module _ (c : Config) (m : Word → ℕ) (g : Graph) (asking : ℕ → Asking) (
       let stands = (copying_keeps c m g asking r).stands in
       let paused_then = paused c (all_copied c m) g asking stands in
       record {
-        holds = subst (HoldsSome c) (sym finished_early) (holds_some c (all_copied c m) g asking stands);
+        holds = subst (λ v. Holds c v g) (sym finished_early)
+            (live c (all_copied c m) g asking stands, stands.ghost.owner, promises_of c g asking, holds_by c (all_copied c m) g asking stands);
         paused = subst (λ v. IsPaused c m (full c v) g asking) (sym finished_early)
             (record { asked_then = paused_then.asked_then; stands = paused_then.stands; answers = paused_then.answers; crowded = paused_then.crowded });
       }

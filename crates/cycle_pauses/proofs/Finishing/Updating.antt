@@ -6,11 +6,11 @@ use Rattle.std.proofs.lemmas.Bool.{cases_Bool, cases_eq, and_from, and_left, and
 use Rattle.std.proofs.lemmas.Option.{slice_get_within, slice_get-get_or}
 use Rattle.heap_words.specs.declared.config.Config.{Config}
 use Rattle.heap_words.specs.Words.{Word, Phase, Cset, Evac, Claim, Ask, Top, Tams, Limit, Current, Root, Count, Buffer, Answer, Grey, Black, Heap}
-use Rattle.heap_words.specs.Encoding.{shape_word, refs_in, object_words}
+use Rattle.heap_words.specs.Encoding.{refs_in, object_words}
 use Rattle.regions.specs.Place.{region_with}
 use Rattle.shen_graph.specs.declared.name.Name.{Name}
 use Rattle.shen_graph.specs.Graph.{Graph, Object, Reference}
-use Rattle.heap_world.specs.World.{Block, thing, moved, spent, hand, promised, filler, words_of, Plot, no_ghost, with_owner, Points, name_at, body_of, body_at, IsCollected, IsThing, AreObjects, AreUnwritten, HaveMoved, IsMarkable, HasCopy, IsUsable, IsCurrent}
+use Rattle.heap_world.specs.World.{Block, thing, moved, spent, promised, filler, words_of, Plot, no_ghost, with_owner, Points, name_at, body_of, body_at, IsCollected, IsThing, AreObjects, AreUnwritten, HaveMoved, IsMarkable, HasCopy, IsUsable, IsCurrent}
 use Rattle.heap_world.specs.Asking.{Asking, nothing, asks, refused, given, IsAsked}
 use Rattle.heap_world.specs.Roots.{HasNoMore}
 use Rattle.heap_world.specs.Represents.{Represents}
@@ -22,7 +22,9 @@ use Rattle.cycle_words.specs.Evacuation.Live.{words_at}
 use Rattle.cycle_pauses.proofs.Evacuation.Asked.{asked_stays}
 use Rattle.cycle_words.specs.Finishing.Updated.{updated_word, is_reference, all_updated}
 use Rattle.cycle_words.proofs.Finishing.Fields.{collected_none, word_spared, low_spared, word_renewed, other_stays, dead_stays, field_updated, collected_stays}
-use Rattle.cycle_pauses.proofs.Finishing.Copying.{IsCopying, thing_words}
+use Rattle.full_words.proofs.Reached.{refs_read}
+use Rattle.cycle_pauses.proofs.Finishing.Sizes.{piece_sizes}
+use Rattle.cycle_pauses.proofs.Finishing.Copying.{IsCopying}
 
 -- the words of a phase of updating whose units are all claimed
 abbrev pub as_updated : Config → (Word → ℕ) → Word → ℕ
@@ -46,22 +48,9 @@ module _ (c : Config) (first m : Word → ℕ) (block : Plot) (owner : ℕ → O
   some : (a : ℕ) (x : Block) → block a ≡ Some x → 1 ≤ words_of x
   some = some_words c (λ q. m (Top q)) (λ q. m (Current q)) block s.between.parsable s.between.owned.rooms
 
-  shape_words : (refs nums : ℕ) → refs ≤ 16 → nums ≤ 16 → object_words (shape_word refs nums) ≡ 3 + refs + nums
-  shape_words refs nums few less = omega (arith, few, less)
-
-  shape_refs : (refs nums : ℕ) → refs ≤ 16 → nums ≤ 16 → refs_in (shape_word refs nums) ≡ refs
-  shape_refs refs nums few less = omega (arith, few, less)
-
   -- a piece outside of the set has as many words as its shape word says
   sizes : (a : ℕ) (x : Block) → block a ≡ Some x → (IsCollected c (m Cset) a → ⊥) → words_at m a ≡ words_of x
-  sizes a (thing name refs nums) is away = (thing_words c m block owner g s.between a refs nums name is).1
-  sizes a (moved name refs nums to) is away = absurd (away (s.between.moves.moveds a refs nums to name is).inside)
-  sizes a (spent words to) is away = absurd (away (s.between.moves.spents a words to is).inside)
-  sizes a (hand seat words) is away = absurd (s.between.no_hands a seat words is)
-  sizes a (promised seat words) is away =
-      let blank = s.between.unwritten.blanks a seat words is in
-      ap object_words blank.shape ∙ shape_words blank.refs blank.nums blank.few_refs blank.few_nums ∙ sym blank.long
-  sizes a (filler words) is away = s.between.unwritten.lengths a words is
+  sizes = piece_sizes c (m Cset) heap block g.object s.between.contents.objects s.between.unwritten s.between.moves s.between.no_hands
 
   not_reference : (a k refs : ℕ) → refs_in (heap (a + 1)) ≡ refs → (k < 3) ⊎ (3 + refs ≤ k) → is_reference m a (a + k) ≡ false
   not_reference a k refs shape out = ⊎_elim
@@ -78,7 +67,7 @@ module _ (c : Config) (first m : Word → ℕ) (block : Plot) (owner : ℕ → O
     object = s.between.contents.objects.each a refs nums name here
 
     refs_are : refs_in (heap (a + 1)) ≡ refs
-    refs_are = ap refs_in object.2.shape ∙ shape_refs refs nums object.2.few_refs object.2.few_nums
+    refs_are = ap refs_in object.2.shape ∙ refs_read refs nums object.2.few_refs object.2.few_nums
 
     word_stays : (k : ℕ) → k < 3 + refs + nums → (k < 3) ⊎ (3 + refs ≤ k) → after (a + k) ≡ heap (a + k)
     word_stays k below out =
@@ -100,7 +89,7 @@ module _ (c : Config) (first m : Word → ℕ) (block : Plot) (owner : ℕ → O
   promised_word a seat words k here below =
       let blank = s.between.unwritten.blanks a seat words here in
       let away : IsCollected c (m Cset) a → ⊥ = s.no_promises a seat words here in
-      let refs_are : refs_in (heap (a + 1)) ≡ blank.refs = ap refs_in blank.shape ∙ shape_refs blank.refs blank.nums blank.few_refs blank.few_nums in
+      let refs_are : refs_in (heap (a + 1)) ≡ blank.refs = ap refs_in blank.shape ∙ refs_read blank.refs blank.nums blank.few_refs blank.few_nums in
       ⊎_elim
       (λ (reference : is_reference m a (a + k) ≡ true).
       let parts = and_parts (nat_le (a + 3) (a + k)) (nat_lt (a + k) (a + 3 + refs_in (heap (a + 1)))) reference in

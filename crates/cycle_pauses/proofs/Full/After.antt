@@ -17,6 +17,7 @@ use Rattle.full_words.specs.Promised.{Promises, with_promised}
 use Rattle.full_words.specs.Image.{ImageStands}
 use Rattle.full_words.proofs.Named.{thing_at}
 use Rattle.full_words.proofs.Promised.{same_reference-true}
+use Rattle.cycle_words.proofs.Marking.Trimmed.{object_stands}
 use Rattle.cycle_pauses.proofs.Full.Mapped.{mapped, mapped_at, mapped_from, plotted_alike, filled_alike}
 
 -- an element of a list of equal ones
@@ -172,18 +173,9 @@ module _ (c : Config) (m : Word → ℕ) (block : Plot) (g : Graph) (p : Promise
         let object : g.object n ≡ Some o.0 = old_object n o.0 old.1 o.1 in (
           o.0,
           object,
-          record {
-            header = o.2.header;
-            shape = o.2.shape;
-            name_word = o.2.name_word;
-            few_refs = o.2.few_refs;
-            few_nums = o.2.few_nums;
-            refs_are = o.2.refs_are;
-            nums_are = o.2.nums_are;
-            references = λ i reference there.
-                points_on (heap (a + 3 + i)) reference (λ f same. is_after.fields a refs nums i n f o.0 old.0 object (there ∙ ap Some same)) (o.2.references i reference there);
-            numbers = o.2.numbers;
-          },
+          object_stands heap block taken a refs nums n o.0
+              (λ i reference there below points.
+              points_on (heap (a + 3 + i)) reference (λ f same. is_after.fields a refs nums i n f o.0 old.0 object (there ∙ ap Some same)) points) o.2,
         );
     once = λ a b refs nums more_refs more_nums n is_a is_b.
         stands.objects.once a b refs nums more_refs more_nums n (left a refs nums n is_a).0 (left b more_refs more_nums n is_b).0;

@@ -1,25 +1,34 @@
 -- Words that represent a graph hold it: the condition of a full collection.
-use Rattle.std.proofs.Common.{◌≡◌, ◌≢◌, ℕ, ◌+◌, ◌<◌, ◌≤◌, true, ⊎_elim, Option, Some, None, refl, sym, ap, ◌∙◌, subst, arith}
+use Rattle.std.proofs.Common.{◌≡◌, ◌≢◌, ℕ, ◌+◌, ◌<◌, ◌≤◌, ◌==◌, nat_le, true, inl, inr, ⊎_elim, Option, Some, None, refl, sym, ap, ◌∙◌, subst, arith}
 use Rattle.std.specs.Int.{bit_at}
-use Rattle.std.proofs.lemmas.Bool.{cond-false, cases_eq, true≢false}
+use Rattle.std.proofs.lemmas.Bool.{cond-false, cases_eq, cases_lt, and_parts, and_from, leb-true, le-leb, eqb-true, eq-eqb, true≢false}
+use Rattle.std.proofs.lemmas.Nat.Bits.{bit_at-zero}
 use Rattle.heap_words.specs.declared.config.Config.{Config}
-use Rattle.heap_words.specs.Words.{Word, Cset, Wait, Answer, Heap}
-use Rattle.heap_words.specs.Encoding.{is_forwarded, shape_word, refs_in, nums_in, request_code, request_count_in, request_shape_in}
+use Rattle.heap_words.specs.Words.{Word, Phase, Cset, Top, Tams, Wait, Answer, Black, Heap}
+use Rattle.heap_words.specs.Encoding.{is_forwarded, object_words, shape_word, refs_in, nums_in, request_code, request_count_in, request_shape_in}
 use Rattle.regions.specs.Place.{region_with}
 use Rattle.regions.specs.Sets.{IsIn, IsOutside}
+use Rattle.regions.specs.Marks.{HasMark, mark_word, mark_bit}
 use Rattle.heap_words.proofs.Shapes.{refs_in-shape_word, nums_in-shape_word}
 use Rattle.shen_graph.specs.declared.name.Name.{Name}
 use Rattle.shen_graph.specs.Graph.{Graph, Object, blank, fresh, same_reference}
-use Rattle.heap_world.specs.World.{IsCollected}
+use Rattle.heap_world.specs.World.{Block, thing, moved, spent, hand, promised, filler, words_of, IsCollected, IsMarkable, IsYoung, HasCopy}
+use Rattle.heap_world.proofs.Pointing.{body_piece, piece_inside}
+use Rattle.full_words.proofs.Reached.{words_read}
 use Rattle.heap_world.specs.Asking.{Asking, nothing, asks, refused, given, IsRequest, IsAsked}
 use Rattle.heap_world.specs.Represents.{RepresentsByCopies}
 use Rattle.full_words.specs.Full.{now_in}
 use Rattle.full_words.specs.Promised.{Promises, AreFresh}
 use Rattle.full_words.specs.Serving.{asked_shape, asked_name, IsAsking}
-use Rattle.image_graph.specs.Holds.{HasMoved, HoldsBy, HoldsSome}
+use Rattle.image_graph.specs.Holds.{HasMoved, HoldsBy, HoldsSome, AreSized}
+use Rattle.cycle_words.specs.Marking.Marks.{IsKept}
+use Rattle.cycle_words.specs.StillHolds.{AreMarkedPieces, WhileCollecting}
 use Rattle.cycle_pauses.proofs.Full.Promises.{promised_ref, promises_of, ref_of, promised_one}
-use Rattle.cycle_pauses.proofs.Full.Before.{live, not_next, live_rooted, live_filled, live_unpromised, live_unheld, live_some}
-use Rattle.cycle_pauses.proofs.Full.Current.{led_to, header_of, Kind, is_current, is_old, kind_at, old_thing, live_holds, reached_at}
+use Rattle.cycle_pauses.proofs.Full.Mapped.{mapped_from}
+use Rattle.cycle_pauses.proofs.Full.Before.{as_object, live, live_at, same_words, not_next, live_rooted, live_filled, live_unpromised, live_unheld, live_some}
+use Rattle.cycle_pauses.proofs.Full.Current.{led_to, header_of, held_current, Kind, is_current, is_old, kind_at, old_thing, live_holds, reached_at}
+use Rattle.cycle_pauses.proofs.Full.ByCopies.{by_copies}
+use Rattle.cycle_pauses.specs.Full.Laws.{RepresentingIsSized}
 
 -- A request reads as what it was made of.
 pub record ReadsAs (memory : Word → ℕ) (t count refs nums : ℕ) : Type 0 where
@@ -155,3 +164,91 @@ module _ (c : Config) (m : Word → ℕ) (g : Graph) (asking : ℕ → Asking) (
 
   pub holds_some : HoldsSome c m
   holds_some = ∣ (g, (live c m g asking r, r.ghost.owner, p, holds_by)) ∣₁
+
+  -- each piece says how many words it has
+  size_of : (a : ℕ) (b : Block) → r.block a ≡ Some b → object_words (m (Heap (a + 1))) ≡ words_of b
+  size_of a (thing name refs nums) is =
+      let o = r.shared.contents.objects.each a refs nums name is in
+      ap object_words o.2.shape ∙ words_read refs nums o.2.few_refs o.2.few_nums
+  size_of a (moved name refs nums to) is =
+      let was = r.shared.evacuated.moved.moveds a refs nums to name is in
+      ap object_words was.shape ∙ words_read refs nums was.few_refs was.few_nums
+  size_of a (spent words to) is = (r.shared.evacuated.moved.spents a words to is).shape
+  size_of a (hand seat words) is = absurd (r.none a seat words is)
+  size_of a (promised seat words) is =
+      let blank = r.shared.unwritten.blanks a seat words is in
+      ap object_words blank.shape ∙ words_read blank.refs blank.nums blank.few_refs blank.few_nums ∙ sym blank.long
+  size_of a (filler words) is = r.shared.unwritten.lengths a words is
+
+  pub are_sized : AreSized m (live c m g asking r)
+  are_sized a b is =
+      let was = mapped_from (as_object g asking r.block) r.block a b is in
+      size_of a was.0 was.1 ∙ sym (same_words c m g asking r a was.0 was.1) ∙ ap words_of was.2
+
+  -- what is marked in the collection set are pieces
+  pub are_marked : AreMarkedPieces c m (live c m g asking r)
+  are_marked a collected black = ⊎_elim
+      (λ (low : m Phase < 2).
+      let none : bit_at (m Cset) (region_with c a) ≡ 0 = ap (λ k. bit_at k (region_with c a)) (r.shared.phased.cset_is low) ∙ bit_at-zero (region_with c a) in
+      absurd (omega (arith, none, set)))
+      (λ (high : 2 ≤ m Phase). of_copy (r.shared.evacuated.kept.only high a above mark set))
+      (cases_lt (m Phase) 2)
+    where
+      parts : (nat_le c.region_words a ≡ true) × ((bit_at (m Cset) (region_with c a) == 1) ≡ true)
+      parts = and_parts (nat_le c.region_words a) (bit_at (m Cset) (region_with c a) == 1) collected
+
+      above : c.region_words ≤ a
+      above = leb-true c.region_words a parts.0
+
+      set : IsCollected c (m Cset) a
+      set = eqb-true (bit_at (m Cset) (region_with c a)) 1 parts.1
+
+      mark : HasMark c (λ n. m (Black n)) a
+      mark = eqb-true (bit_at (m (Black (mark_word c a))) (mark_bit c a)) 1 (and_parts (nat_le c.region_words a) (bit_at (m (Black (mark_word c a))) (mark_bit c a) == 1) black).1
+
+      of_copy : HasCopy r.block a → (b : Block) × (live c m g asking r a ≡ Some b)
+      of_copy (HasCopy.copy body is) = let piece = body_piece (r.block a) body is in (as_object g asking r.block piece.0, live_at c m g asking r a piece.0 piece.1)
+      of_copy (HasCopy.spent_copy words to is) = (as_object g asking r.block (spent words to), live_at c m g asking r a (spent words to) is)
+
+  -- a region in the set means that one of the phases of evacuation and updating runs
+  high_phase : m Cset ≢ 0 → 2 ≤ m Phase
+  high_phase some = ⊎_elim (λ (low : m Phase < 2). absurd (some (r.shared.phased.cset_is low))) (λ (high : 2 ≤ m Phase). high) (cases_lt (m Phase) 2)
+
+  set_member : (q : ℕ) → IsIn (m Cset) q → m Cset ≢ 0
+  set_member q member none = (let bit : bit_at (m Cset) q ≡ 0 = ap (λ k. bit_at k q) none ∙ bit_at-zero q in omega (arith, bit, member))
+
+  -- what can be reached is marked, or new
+  kept_of : m Cset ≢ 0 → (a : ℕ) → IsMarkable r.block a → IsKept c m a
+  kept_of some a markable = ⊎_elim
+      (λ (mark : HasMark c (λ n. m (Black n)) a).
+      inl (and_from (nat_le c.region_words a) (bit_at (m (Black (mark_word c a))) (mark_bit c a) == 1) (le-leb c.region_words a (lies markable))
+      (eq-eqb (bit_at (m (Black (mark_word c a))) (mark_bit c a)) 1 mark)))
+      (λ (young : IsYoung c (λ q. m (Tams q)) a). inr (omega (arith, young)))
+      (r.shared.evacuated.kept.objects (high_phase some) a markable)
+    where
+      lies : IsMarkable r.block a → c.region_words ≤ a
+      lies (IsMarkable.object name refs nums is) = (piece_inside c (λ q. m (Top q)) r.block r.shared.parsable.plotted a (thing name refs nums) is).0
+      lies (IsMarkable.to_come seat words is) = (piece_inside c (λ q. m (Top q)) r.block r.shared.parsable.plotted a (promised seat words) is).0
+
+  -- and once objects are not evacuated any more lies outside of the set
+  outside_of : m Phase ≢ 2 → (a : ℕ) → IsMarkable r.block a → IsCollected c (m Cset) a → ⊥
+  outside_of off a (IsMarkable.object name refs nums is) member =
+      let high = high_phase (set_member (region_with c a) member) in
+      let most = r.shared.phased.phase_is in
+      (r.shared.updated (omega (arith, off, high, most))).outside a refs nums name is member
+  outside_of off a (IsMarkable.to_come seat words is) member = r.shared.evacuated.aside.no_promises a seat words is member
+
+  pub while_collecting : WhileCollecting c m (live c m g asking r)
+  while_collecting = record {
+    marked = are_marked;
+    reachable = λ some a reached. kept_of some a (held_current c m g asking r a reached);
+    no_new = r.shared.evacuated.aside.no_new;
+    floors = λ some. r.shared.evacuated.kept.floors (high_phase some);
+    unseated = λ seat q is. r.shared.evacuated.aside.nobodys q seat (r.shared.owned.currents.own seat q is);
+    outside = λ off a reached. outside_of off a (held_current c m g asking r a reached);
+  }
+
+pub representing_is_sized : RepresentingIsSized
+representing_is_sized c m g asking r =
+    let by = by_copies c m g asking r in
+    (live c m g asking by, by.ghost.owner, promises_of c g asking, holds_by c m g asking by, are_sized c m g asking by, while_collecting c m g asking by)

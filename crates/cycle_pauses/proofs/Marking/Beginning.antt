@@ -1,6 +1,5 @@
 -- The beginning of marking: the words represent the same graph, and the snapshot is what can be reached.
 use Rattle.std.proofs.Common.{◌≡◌, ◌≢◌, ℕ, ◌+◌, ◌<◌, ◌≤◌, Bool, true, Some, None, refl, sym, ap, ◌∙◌, subst, arith}
-use Rattle.std.proofs.lemmas.Option.{slice_get_within}
 use Rattle.heap_words.specs.declared.config.Config.{Config}
 use Rattle.heap_words.specs.Words.{Word, Phase, Cset, Free, Evac, Top, Tams, Root, Count, Buffer, Answer, Grey, Black, Heap}
 use Rattle.heap_words.specs.Encoding.{refs_in, object_words}
@@ -26,8 +25,9 @@ use Rattle.cycle_pauses.proofs.Full.Reached.{found_held, held_found}
 use Rattle.cycle_words.specs.Marking.Init.{init_marked, pruned}
 use Rattle.cycle_words.specs.Marking.WhileMarking.{CanBeReached}
 use Rattle.cycle_words.proofs.Marking.Plain.{root_reached, field_reached, reach_ind}
-use Rattle.cycle_pauses.proofs.Marking.Asked.{asked_stays}
+use Rattle.cycle_pauses.proofs.Evacuation.Asked.{asked_stays}
 use Rattle.cycle_pauses.proofs.Marking.FromSnapshot.{no_moved, no_spent, thing_at, piece_below, piece_above, markable_piece, reached_markable}
+use Rattle.cycle_words.proofs.Marking.Trimmed.{object_stands}
 use Rattle.cycle_words.proofs.Marking.Pruned.{WasPiece, piece_was, thing_stays, promised_stays, thing_was, hand_was, promised_was, moved_was, spent_was, pruned_from, pruned_plotted, pruned_filled}
 use Rattle.cycle_words.proofs.Marking.FirstSnapshot.{first, first_snapshot, is_first, first_marked}
 
@@ -91,21 +91,10 @@ module _ (c : Config) (m : Word → ℕ) (g : Graph) (asking : ℕ → Asking) (
 
   -- objects that can be reached read as before
   thing_again : (a refs nums : ℕ) (name : Name) (o : Object) → CanBeReached c m a → IsThing heap r.block a refs nums name o → IsThing heap plot a refs nums name o
-  thing_again a refs nums name o held is = record {
-    header = is.header;
-    shape = is.shape;
-    name_word = is.name_word;
-    few_refs = is.few_refs;
-    few_nums = is.few_nums;
-    refs_are = is.refs_are;
-    nums_are = is.nums_are;
-    references = λ i reference there.
-        let within = slice_get_within o.refs i reference there in
-        let shape : refs_in (heap (a + 1)) ≡ refs = ap refs_in is.shape ∙ refs_read refs nums is.few_refs is.few_nums in
-        let few : i < refs_in (heap (a + 1)) = omega (arith, within, is.refs_are, shape) in
-        points_again (heap (a + 3 + i)) reference (field_led a i held few) (is.references i reference there);
-    numbers = is.numbers;
-  }
+  thing_again a refs nums name o held is =
+      let shape : refs_in (heap (a + 1)) ≡ refs = ap refs_in is.shape ∙ refs_read refs nums is.few_refs is.few_nums in
+      object_stands heap r.block plot a refs nums name o
+      (λ i reference there below points. points_again (heap (a + 3 + i)) reference (field_led a i held (omega (arith, below, shape))) points) is
 
   objects_again : AreObjects heap plot g.object
   objects_again = record {
@@ -195,7 +184,7 @@ module _ (c : Config) (m : Word → ℕ) (g : Graph) (asking : ℕ → Asking) (
 
   -- what is asked and promised stays
   asked_again : (t : ℕ) → IsAsked m r.block g.count t (asking t) → IsAsked n plot g.count t (asking t)
-  asked_again t asked = asked_stays m n r.block plot g.count t refl refl (λ a. refl) (λ a words is. promised_stays found r.block a t words is) (λ a words is. promised_was found r.block a t words is) (asking t) asked
+  asked_again t asked = asked_stays m n r.block plot g.count t refl refl (λ a words k is below. refl) (λ a words is. promised_stays found r.block a t words is) (λ a words is. promised_was found r.block a t words is) (asking t) asked
 
   abbrev ghost : Ghost
   ghost = record { owner = r.ghost.owner; snapshot = snapshot; recording = r.ghost.recording; scanning = r.ghost.scanning; copying = r.ghost.copying; working = r.ghost.working }

@@ -1,10 +1,9 @@
 -- The end of marking: each object is marked or new, so none lies in a dead region, and the words stand for the same graph.
 use Rattle.std.proofs.Common.{◌≡◌, ℕ, ◌+◌, ◌<◌, ◌≤◌, ◌⊎◌, Bool, true, false, Option, Some, None, inl, inr, ⊎_elim, refl, sym, ap, ◌∙◌, arith}
 use Rattle.std.specs.Prelude.{if◌then◌else◌}
-use Rattle.std.proofs.lemmas.Bool.{cond-true, cond-false, cases_Bool, cases_lt}
+use Rattle.std.proofs.lemmas.Bool.{cond-true, cond-false, cases_Bool}
 use Rattle.std.proofs.lemmas.Option.{none-some}
 use Rattle.heap_words.specs.declared.config.Config.{Config}
-use Rattle.heap_words.specs.Ranges.{seat_count}
 use Rattle.heap_words.specs.Words.{Word, Phase, Cset, Free, Top, Tams, Current, Root, Black, Heap}
 use Rattle.regions.specs.Place.{region_with}
 use Rattle.shen_graph.specs.declared.name.Name.{Name}
@@ -18,10 +17,10 @@ use Rattle.regions.specs.Marks.{HasMark}
 use Rattle.image_graph.specs.State.{IsSomeSeats}
 use Rattle.cycle_words.specs.Marking.Marks.{is_black, IsNew}
 use Rattle.cycle_words.specs.Marking.Close.{closed}
-use Rattle.cycle_words.specs.Marking.Final.{is_current, IsDead, dead_in, freed_block, freed_owner, final_marked}
+use Rattle.cycle_words.specs.Marking.Final.{is_current, dead_in, freed_block, freed_owner, final_marked}
 use Rattle.cycle_words.specs.Marking.Laws.{HasNoMoreSeats}
-use Rattle.cycle_words.proofs.Marking.Dead.{current_is, is_current_of, dead_is_dead}
-use Rattle.cycle_pauses.proofs.Marking.Asked.{asked_stays}
+use Rattle.cycle_words.proofs.Marking.Dead.{current_is, is_current_of, seated, current_alive}
+use Rattle.cycle_pauses.proofs.Evacuation.Asked.{asked_stays}
 use Rattle.cycle_words.proofs.Marking.Vanished as freed
 use Rattle.cycle_pauses.proofs.Marking.FromSnapshot.{mark_is, is_mark, no_moved, no_spent, thing_at, piece_below, markable_piece, markable_kept, markable_alive, closed_markable}
 use Rattle.cycle_pauses.specs.Marking.MarkedOut.{IsMarkedOut}
@@ -105,25 +104,11 @@ module _ (c : Config) (m : Word → ℕ) (g : Graph) (asking : ℕ → Asking) (
 
   -- nobody's current region is dead
   module _ (no_more : HasNoMoreSeats c m) where
-    seated : (seat q : ℕ) → m (Current seat) ≡ q + 1 → IsSomeSeats c m q
-    seated seat q is = ⊎_elim
-        (λ (inside : seat < seat_count c.mutators c.helpers). (seat, inside, is))
-        (λ (past : seat_count c.mutators c.helpers ≤ seat). absurd (let none = no_more seat past in omega (arith, none, is)))
-        (cases_lt seat (seat_count c.mutators c.helpers))
-
-    current_alive : (seat q : ℕ) → m (Current seat) ≡ q + 1 → out q ≡ false
-    current_alive seat q is = ⊎_elim
-        (λ (dead : out q ≡ true).
-        let facts : IsDead c (closed c m) q = (dead_is_dead c (closed c m) q).0 dead in
-        absurd (facts.nobodys (seated seat q is)))
-        (λ (other : out q ≡ false). other)
-        (cases_Bool (out q))
-
     owns : (seat q : ℕ) → m (Current seat) ≡ q + 1 → owner q ≡ Some seat
     owns seat q is =
         let none : Option ℕ = None in
-        cond-true (is_current c m q) (freed_owner out r.ghost.owner q) none (is_current_of c m q (seated seat q is))
-        ∙ owner_stays q (current_alive seat q is) ∙ r.shared.owned.currents.own seat q is
+        cond-true (is_current c m q) (freed_owner out r.ghost.owner q) none (is_current_of c m q (seated c m no_more seat q is))
+        ∙ owner_stays q (current_alive c m no_more seat q is) ∙ r.shared.owned.currents.own seat q is
 
     currents_again : AreCurrent c (λ s. m (Current s)) owner
     currents_again = record { within = r.shared.owned.currents.within; own = owns }
@@ -180,7 +165,7 @@ module _ (c : Config) (m : Word → ℕ) (g : Graph) (asking : ℕ → Asking) (
 
   -- what is asked and promised stays
   asked_again : (t : ℕ) → IsAsked m r.block g.count t (asking t) → IsAsked n plot g.count t (asking t)
-  asked_again t asked = asked_stays m n r.block plot g.count t refl refl (λ a. refl) (λ a words is. promised_stays a t words is) (λ a words is. (left a (promised t words) is).1) (asking t) asked
+  asked_again t asked = asked_stays m n r.block plot g.count t refl refl (λ a words k is below. refl) (λ a words is. promised_stays a t words is) (λ a words is. (left a (promised t words) is).1) (asking t) asked
 
   abbrev pub ghost : Ghost
   ghost = record {

@@ -17,7 +17,7 @@ use Rattle.heap_world.proofs.Copies.{counted_none}
 use Rattle.heap_world.proofs.Unmarked.{none_marked_in}
 use Rattle.heap_world.proofs.Units.{none_is_left}
 use Rattle.cycle_words.proofs.Marking.Plain.{below_top}
-use Rattle.cycle_pauses.proofs.Marking.Asked.{asked_stays}
+use Rattle.cycle_pauses.proofs.Evacuation.Asked.{asked_stays}
 use Rattle.cycle_words.specs.Updating.Changes.{is_chosen, init_updated}
 use Rattle.cycle_pauses.specs.Updating.Laws.{UpdatingBegins}
 
@@ -103,7 +103,7 @@ module _ (c : Config) (m : Word → ℕ) (g : Graph) (asking : ℕ → Asking) (
     roots = r.roots;
     usable = λ t i inside few. usable_still (m (Root t i)) (r.usable t i inside few);
     none = r.none;
-    asked = λ t inside. asked_stays m n r.block r.block g.count t refl refl (λ a. refl) (λ a words is. is) (λ a words is. is) (asking t) (r.asked t inside);
+    asked = λ t inside. asked_stays m n r.block r.block g.count t refl refl (λ a words k is below. refl) (λ a words is. is) (λ a words is. is) (asking t) (r.asked t inside);
     heard = r.heard;
     promised_to = r.promised_to;
     unmarking = record { records_none = r.unmarking.records_none; scans_none = r.unmarking.scans_none };

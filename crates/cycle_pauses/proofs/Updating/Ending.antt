@@ -1,7 +1,6 @@
 -- The end of updating: nothing names an old copy any more, so the collection set is freed as it is, and the words represent the same
 -- graph.
 use Rattle.std.proofs.Common.{◌≡◌, ℕ, ◌+◌, ◌<◌, ◌≤◌, Bool, true, false, Option, Some, None, inl, inr, refl, sym, ap, ◌∙◌, subst, arith}
-use Rattle.std.proofs.lemmas.Option.{slice_get_within}
 use Rattle.heap_words.specs.declared.config.Config.{Config}
 use Rattle.heap_words.specs.Words.{Word, Phase, Cset, Free, Evac, Claim, Top, Tams, Current, Root, Count, Buffer, Grey, Black, Heap}
 use Rattle.regions.specs.Place.{region_with}
@@ -17,7 +16,8 @@ use Rattle.heap_world.proofs.Unmarked.{none_marked_in}
 use Rattle.heap_world.proofs.Units.{all_is_current}
 use Rattle.full_words.proofs.Reached.{none_at_0}
 use Rattle.cycle_words.specs.Marking.Final.{freed_block}
-use Rattle.cycle_pauses.proofs.Marking.Asked.{asked_stays}
+use Rattle.cycle_pauses.proofs.Evacuation.Asked.{asked_stays}
+use Rattle.cycle_words.proofs.Marking.Trimmed.{object_stands}
 use Rattle.cycle_words.proofs.Marking.Vanished as freed
 use Rattle.cycle_words.specs.Updating.Changes.{is_chosen, final_updated}
 use Rattle.cycle_pauses.specs.Updating.Laws.{UpdatingEnds}
@@ -95,20 +95,9 @@ module _ (c : Config) (m : Word → ℕ) (g : Graph) (asking : ℕ → Asking) (
 
   -- so objects read as before
   thing_again : (a refs nums : ℕ) (name : Name) (o : Object) → r.block a ≡ Some (thing name refs nums) → IsThing heap r.block a refs nums name o → IsThing heap plot a refs nums name o
-  thing_again a refs nums name o here is = record {
-    header = is.header;
-    shape = is.shape;
-    name_word = is.name_word;
-    few_refs = is.few_refs;
-    few_nums = is.few_nums;
-    refs_are = is.refs_are;
-    nums_are = is.nums_are;
-    references = λ i reference there.
-        let within = slice_get_within o.refs i reference there in
-        let below : i < refs = omega (arith, within, is.refs_are) in
-        points_still (heap (a + 3 + i)) reference (fields_current a refs nums i name here below) (is.references i reference there);
-    numbers = is.numbers;
-  }
+  thing_again a refs nums name o here is =
+      object_stands heap r.block plot a refs nums name o
+      (λ i reference there below points. points_still (heap (a + 3 + i)) reference (fields_current a refs nums i name here below) points) is
 
   objects_again : AreObjects heap plot g.object
   objects_again = record {
@@ -158,7 +147,7 @@ module _ (c : Config) (m : Word → ℕ) (g : Graph) (asking : ℕ → Asking) (
     usable = λ t i inside few. usable_now c (m Evac) plot no_moved (m (Root t i)) (g.root (t + 1) i) (roots_again t i inside few);
     none = no_hand;
     asked = λ t inside.
-        asked_stays m n r.block plot g.count t refl refl (λ a. refl) (λ a words is. promised_stays a t words is) (λ a words is. (left a (promised t words) is).1) (asking t) (r.asked t inside);
+        asked_stays m n r.block plot g.count t refl refl (λ a words k is below. refl) (λ a words is. promised_stays a t words is) (λ a words is. (left a (promised t words) is).1) (asking t) (r.asked t inside);
     heard = r.heard;
     promised_to = λ a seat words is. r.promised_to a seat words (left a (promised seat words) is).1;
     unmarking = record { records_none = r.unmarking.records_none; scans_none = r.unmarking.scans_none };

@@ -4,16 +4,25 @@ use Rattle.std.specs.Int.{bit_at}
 use Rattle.heap_words.specs.declared.config.Config.{Config}
 use Rattle.heap_words.specs.Words.{Word, Phase, Ask}
 use Rattle.shen_graph.specs.Graph.{Graph}
+use Rattle.heap_world.specs.World.{Plot, Ghost}
 use Rattle.heap_world.specs.Asking.{Asking}
 use Rattle.heap_world.specs.Represents.{Represents}
 use Rattle.heap_world.specs.Change.{IsPaused}
 use Rattle.cycle_words.specs.Marking.Laws.{HasNoMoreSeats}
+use Rattle.cycle_words.specs.Evacuation.Choice.{chosen}
+use Rattle.cycle_words.specs.Evacuation.Begun.{CanBegin, evac_begun}
+use Rattle.cycle_pauses.specs.Marking.MarkedOut.{IsMarkedOut}
 use Rattle.cycle_pauses.specs.Evacuation.Collect.{evac_next}
 
 -- The words that it leaves represent the same graph, with what mutators have asked for, also where one of them waits.
 abbrev pub EvacuationRepresents : Type 0
 EvacuationRepresents = (c : Config) (memory : Word → ℕ) (g : Graph) (asking : ℕ → Asking) → Represents c memory g asking → memory Phase ≡ 1 → HasNoMoreSeats c memory
     → Represents c (evac_next c memory) g asking
+
+-- So do those that the beginning of evacuation leaves by itself, of any words that the end of marking may leave.
+abbrev pub EvacuationAloneRepresents : Type 0
+EvacuationAloneRepresents = (c : Config) (memory : Word → ℕ) (block : Plot) (ghost : Ghost) (g : Graph) (asking : ℕ → Asking) → IsMarkedOut c memory block ghost g asking
+    → CanBegin c memory → Represents c (evac_begun c memory (chosen c memory)) g asking
 
 -- So it is what a pause owes, where no mutator waits.
 abbrev pub EvacuationBegins : Type 0

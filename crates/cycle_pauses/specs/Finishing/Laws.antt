@@ -8,7 +8,7 @@ use Rattle.heap_world.specs.Asking.{Asking, asks, given}
 use Rattle.heap_world.specs.Represents.{Represents}
 use Rattle.heap_world.specs.Change.{IsPaused}
 use Rattle.full_words.specs.Full.{full}
-use Rattle.image_graph.specs.Holds.{HoldsSome}
+use Rattle.image_graph.specs.Holds.{Holds}
 use Rattle.cycle_pauses.specs.Updating.Freed.{IsFreed}
 use Rattle.cycle_words.specs.Finishing.Copies.{is_room_for_all}
 use Rattle.cycle_words.specs.Finishing.Finish.{cycle_finished, finished, is_whole, CanFinish}
@@ -23,9 +23,9 @@ abbrev pub WholeIsPause : Type 0
 WholeIsPause = (c : Config) (memory : Word → ℕ) (g : Graph) (asking : ℕ → Asking) → Represents c memory g asking → is_whole c memory ≡ true
     → IsWholePause c memory (finished c memory) g asking
 
--- Else a full collection of the words that it leaves does what the pause owes: they still hold the graph.
+-- Else a full collection of the words that it leaves does what the pause owes: they hold the same graph still.
 pub record ShortHolds (c : Config) (memory : Word → ℕ) (g : Graph) (asking : ℕ → Asking) : Type 0 where
-  pub holds : HoldsSome c (finished c memory)
+  pub holds : Holds c (finished c memory) g
   pub paused : IsPaused c memory (full c (finished c memory)) g asking
 
 abbrev pub ShortIsPause : Type 0

@@ -1,18 +1,27 @@
 -- That a full collection does what a pause owes.
-use Rattle.std.specs.Prelude.{ℕ, ◌≡◌, ◌++◌, List, length, replicate}
+use Rattle.std.specs.Prelude.{ℕ, ◌≡◌, ◌++◌, Option, List, length, replicate}
 use Rattle.heap_words.specs.declared.config.Config.{Config}
 use Rattle.heap_words.specs.Words.{Word, image_start, table_words, view}
 use Rattle.shen_graph.specs.Graph.{Graph}
+use Rattle.heap_world.specs.World.{Plot}
 use Rattle.heap_world.specs.Asking.{Asking}
 use Rattle.heap_world.specs.Represents.{Represents, RepresentsByCopies}
 use Rattle.heap_world.specs.Change.{image_words, image_view, IsPaused, IsPause}
 use Rattle.full_words.specs.Full.{full}
-use Rattle.image_graph.specs.Holds.{HoldsSome}
+use Rattle.full_words.specs.Promised.{Promises}
+use Rattle.image_graph.specs.Holds.{HoldsBy, AreSized, HoldsSome}
+use Rattle.cycle_words.specs.StillHolds.{WhileCollecting}
 use Rattle.cycle_pauses.specs.Full.Image.{full_image}
 
 -- Words that represent a graph, with what mutators have asked for, hold a graph in the sense of the full collection.
 abbrev pub RepresentingHolds : Type 0
 RepresentingHolds = (c : Config) (memory : Word → ℕ) (g : Graph) (asking : ℕ → Asking) → Represents c memory g asking → HoldsSome c memory
+
+-- They do so in a way in which each piece says how many words it has, and what finishing a cycle asks for holds: what the single calls of a
+-- pause ask for where they keep the graph.
+abbrev pub RepresentingIsSized : Type 0
+RepresentingIsSized = (c : Config) (memory : Word → ℕ) (g : Graph) (asking : ℕ → Asking) → Represents c memory g asking
+    → (block : Plot) × (owner : ℕ → Option ℕ) × (p : Promises) × HoldsBy c memory block owner p g × AreSized memory block × WhileCollecting c memory block
 
 -- By their names the words of an image after a full collection are those that a full collection makes of its words.
 abbrev pub ImageIsFull : Type 0

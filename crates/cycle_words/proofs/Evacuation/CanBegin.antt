@@ -1,14 +1,13 @@
 -- Where marking has run, evacuation can begin once it is ended.
-use Rattle.std.proofs.Common.{◌≡◌, ◌≢◌, ℕ, ◌+◌, ◌<◌, ◌≤◌, ◌==◌, nat_le, Bool, true, false, Option, None, zero, suc, map, sym, ap, ◌∙◌, subst, ⊎_elim, arith}
+use Rattle.std.proofs.Common.{◌≡◌, ◌≢◌, ℕ, ◌+◌, ◌<◌, ◌≤◌, ◌==◌, nat_le, Bool, true, false, Option, None, map, ap, ◌∙◌, subst, ⊎_elim, arith}
 use Rattle.std.specs.Prelude.{Contains}
 use Rattle.std.specs.List.{range_with_len}
 use Rattle.std.specs.Int.{bit_at}
 use Rattle.std.proofs.lemmas.Bool.{cases_Bool, cond-false, cond_both, and_parts, leb-true, eqb-true, false_from_ne_true}
-use Rattle.std.proofs.lemmas.List.FromFn.{length-map-range_with_len, get_or-map-range_with_len}
 use Rattle.std.proofs.lemmas.List.Elements.{Contains-append_cases}
 use Rattle.std.proofs.lemmas.Nat.Bits.{bit_at-zero}
 use Rattle.heap_words.specs.declared.config.Config.{Config}
-use Rattle.heap_words.specs.Words.{Word, Cset, Top, Root, Answer, Heap}
+use Rattle.heap_words.specs.Words.{Word, Cset, Top, Answer, Heap}
 use Rattle.heap_words.specs.Encoding.{is_forwarded, object_words}
 use Rattle.packing.specs.Places.{LieApart}
 use Rattle.regions.specs.Place.{region_with}
@@ -32,68 +31,17 @@ use Rattle.cycle_words.proofs.Marking.Ended.{ended_holds, ended_through}
 use Rattle.cycle_words.specs.Evacuation.Live.{words_at, marked_words, live_words, is_candidate}
 use Rattle.cycle_words.specs.Evacuation.Choice.{copy_limit, chosen}
 use Rattle.cycle_words.specs.Evacuation.Begun.{root_places, naming_places, is_collected, with_set, IsCopyable, CanBegin}
-use Rattle.cycle_words.specs.Evacuation.Laws.{EvacuationCanBegin}
+use Rattle.cycle_words.specs.Evacuation.Laws.{EvacuationCanBegin, MarkedCanBegin}
+use Rattle.cycle_words.proofs.Evacuation.NamingPlaces.{in_row, in_rows}
 use Rattle.cycle_words.proofs.Evacuation.Candidate.{candidate_is_candidate}
 use Rattle.cycle_words.proofs.Evacuation.Front.{member_is}
 use Rattle.cycle_words.proofs.Evacuation.RegionAddresses.{some_words, from_base}
 
--- which words name objects
-in_row : (f : ℕ → Word) (n : ℕ) (place : Word) → Contains (map f (range_with_len 0 n)) place → (i : ℕ) × (i < n) × (f i ≡ place)
-in_row f n place has =
-    let below : has.0 < n = omega (arith, has.1, length-map-range_with_len f 0 n) in
-    (has.0, below, sym (get_or-map-range_with_len f 0 n has.0 has.0 place below (omega arith)) ∙ has.2)
-
-abbrev IsRoot : ℕ → Word → Type 0
-IsRoot mutators place = (t : ℕ) × (i : ℕ) × (t < mutators) × (i < 16) × (Root t i ≡ place)
-
-in_rows : (mutators : ℕ) (place : Word) → Contains (root_places mutators) place → IsRoot mutators place
-in_rows zero place has = absurd (omega (arith, has.1))
-in_rows (suc t) place has = ⊎_elim
-    (λ (earlier : Contains (root_places t) place). (let at = in_rows t place earlier in (at.0, at.1, omega (arith, at.2), at.3, at.4)))
-    (λ (last : Contains (map (Root t) (range_with_len 0 16)) place). (let at = in_row (Root t) 16 place last in (t, at.0, omega arith, at.1, at.2)))
-    (Contains-append_cases (root_places t) (map (Root t) (range_with_len 0 16)) place has)
-
-module _ (c : Config) (m : Word → ℕ) (block : Plot) (owner : ℕ → Option ℕ) (p : Promises) (g : Graph) (holds : HoldsBy c m block owner p g) (marking : IsMarking c m block) (seats : HasNoMoreSeats c m) where
-  abbrev n : Word → ℕ
-  n = final_marked c m
-
-  abbrev out : ℕ → Bool
-  out = dead_in c m
-
-  abbrev left : Plot
-  left = freed_block c out block
-
+-- Words that hold a graph once marking has ended: what can be reached is kept, and what is marked is an object.
+module _ (c : Config) (n : Word → ℕ) (left : Plot) (owner : ℕ → Option ℕ) (p : Promises) (g : Graph) (after : HoldsBy c n left owner p g) (calm : n Cset ≡ 0)
+    (through : IsMarkedThrough c n left) (marked_object : (a : ℕ) → is_black c n a ≡ true → IsObjectAt n left a) where
   abbrev top : ℕ → ℕ
   top r = n (Top r)
-
-  after : HoldsBy c n left (freed_owner out owner) p g
-  after = ended_holds c m block owner p g holds marking seats
-
-  through : IsMarkedThrough c n left
-  through = ended_through c m block owner p g holds marking seats
-
-  -- what is marked is an object, which is left
-  marked_was : (a : ℕ) → is_black c n a ≡ true → IsObjectAt m block a
-  marked_was a black = ⊎_elim
-      (λ (before : is_black c m a ≡ true). markable_object c m block owner p g holds marking a (black_markable c m block owner p g holds marking a before))
-      (λ (traced : IsTraced c m a). markable_object c m block owner p g holds marking a (traced_markable c m block owner p g holds marking a traced))
-      (((are_closed c m block owner p g holds marking).black a).0 black)
-
-  marked_alive : (a : ℕ) → is_black c n a ≡ true → out (region_with c a) ≡ false
-  marked_alive a black = object_alive c m block owner p g holds marking a (marked_was a black)
-
-  marked_object : (a : ℕ) → is_black c n a ≡ true → IsObjectAt n left a
-  marked_object a black =
-      let is = marked_was a black in
-      record {
-        name = is.name;
-        refs = is.refs;
-        nums = is.nums;
-        here = cond-false (out (region_with c a)) None (block a) (marked_alive a black) ∙ is.here;
-        shape = is.shape;
-        few_refs = is.few_refs;
-        few_nums = is.few_nums;
-      }
 
   -- the words of an object by its shape
   words_are : (a : ℕ) (is : IsObjectAt n left a) → words_at n a ≡ 3 + is.refs + is.nums
@@ -129,9 +77,6 @@ module _ (c : Config) (m : Word → ℕ) (block : Plot) (owner : ℕ → Option 
         omega (arith, lie, counted_words a one);
   }
 
-  calm : n Cset ≡ 0
-  calm = marking.uncollected
-
   unmoved : (a : ℕ) → is_black c n a ≡ true → is_forwarded (n (Heap a)) ≡ false
   unmoved a black =
       let is = marked_object a black in
@@ -144,12 +89,12 @@ module _ (c : Config) (m : Word → ℕ) (block : Plot) (owner : ℕ → Option 
   -- what a root or an answer names in a chosen region is marked, for nothing new is there
   module _ (a : ℕ) (among : IsAmong (root_words c n) a) (some : a ≢ 0) (member : IsIn (chosen c n) (region_with c a)) where
     is_object : IsObjectAt n left a
-    is_object = reached_object c n left (freed_owner out owner) p g after calm a (root_reached c n left (freed_owner out owner) p g after calm a among some)
+    is_object = reached_object c n left owner p g after calm a (root_reached c n left owner p g after calm a among some)
 
     old : IsNew c n a → ⊥
     old fresh =
         let is = is_object in
-        let at = object_below c n left (freed_owner out owner) p g after calm a is.refs is.nums is.name is.here in
+        let at = object_below c n left owner p g after calm a is.refs is.nums is.name is.here in
         let front = member_is c.regions (copy_limit c n) (live_words c n) (is_candidate c n) (region_with c a) member in
         let no_new = ((candidate_is_candidate c n (region_with c a)).0 front.1).no_new in
         omega (arith, fresh, at.2, no_new)
@@ -160,7 +105,7 @@ module _ (c : Config) (m : Word → ℕ) (block : Plot) (owner : ℕ → Option 
         let black : is_black c n a ≡ true = ⊎_elim
         (λ (marked : is_black c n a ≡ true). marked)
         (λ (fresh : IsNew c n a). absurd (old fresh))
-        (through.reachable a (root_reached c n left (freed_owner out owner) p g after calm a among some)) in
+        (through.reachable a (root_reached c n left owner p g after calm a among some)) in
         let front = member_is c.regions (copy_limit c n) (live_words c n) (is_candidate c n) (region_with c a) member in
         let size = words_are a is in
         record { marked = black; of_region = front.0; short = (let refs = is.few_refs in let nums = is.few_nums in omega (arith, size, refs, nums)) }
@@ -183,8 +128,8 @@ module _ (c : Config) (m : Word → ℕ) (block : Plot) (owner : ℕ → Option 
       (Contains-append_cases (root_places c.mutators) (map Answer (range_with_len 0 c.mutators)) place has) in
       copyable (n place) among some member
 
-  pub can_begin : CanBegin c n
-  can_begin = record {
+  pub ended_can_begin : CanBegin c n
+  ended_can_begin = record {
     free = after.free_word.no_more;
     empty = after.free_word.empty;
     within = after.objects.plotted.tops;
@@ -193,5 +138,50 @@ module _ (c : Config) (m : Word → ℕ) (block : Plot) (owner : ℕ → Option 
     copyable = named_copyable;
   }
 
+module _ (c : Config) (m : Word → ℕ) (block : Plot) (owner : ℕ → Option ℕ) (p : Promises) (g : Graph) (holds : HoldsBy c m block owner p g) (marking : IsMarking c m block) (seats : HasNoMoreSeats c m) where
+  abbrev n : Word → ℕ
+  n = final_marked c m
+
+  abbrev out : ℕ → Bool
+  out = dead_in c m
+
+  abbrev left : Plot
+  left = freed_block c out block
+
+  after : HoldsBy c n left (freed_owner out owner) p g
+  after = ended_holds c m block owner p g holds marking seats
+
+  through : IsMarkedThrough c n left
+  through = ended_through c m block owner p g holds marking seats
+
+  -- what is marked is an object, which is left
+  marked_was : (a : ℕ) → is_black c n a ≡ true → IsObjectAt m block a
+  marked_was a black = ⊎_elim
+      (λ (before : is_black c m a ≡ true). markable_object c m block owner p g holds marking a (black_markable c m block owner p g holds marking a before))
+      (λ (traced : IsTraced c m a). markable_object c m block owner p g holds marking a (traced_markable c m block owner p g holds marking a traced))
+      (((are_closed c m block owner p g holds marking).black a).0 black)
+
+  marked_alive : (a : ℕ) → is_black c n a ≡ true → out (region_with c a) ≡ false
+  marked_alive a black = object_alive c m block owner p g holds marking a (marked_was a black)
+
+  pub marked_object : (a : ℕ) → is_black c n a ≡ true → IsObjectAt n left a
+  marked_object a black =
+      let is = marked_was a black in
+      record {
+        name = is.name;
+        refs = is.refs;
+        nums = is.nums;
+        here = cond-false (out (region_with c a)) None (block a) (marked_alive a black) ∙ is.here;
+        shape = is.shape;
+        few_refs = is.few_refs;
+        few_nums = is.few_nums;
+      }
+
+  pub can_begin : CanBegin c n
+  can_begin = ended_can_begin c n left (freed_owner out owner) p g after marking.uncollected through marked_object
+
 pub evacuation_can_begin : EvacuationCanBegin
 evacuation_can_begin c m block owner p g holds marking seats = can_begin c m block owner p g holds marking seats
+
+pub marked_can_begin : MarkedCanBegin
+marked_can_begin c n left owner p g after through calm marked = ended_can_begin c n left owner p g after calm through marked

@@ -1,5 +1,5 @@
 -- What copying one object makes of the words.
-use Rattle.std.proofs.Common.{◌≡◌, ◌≢◌, ℕ, ◌+◌, ◌-◌, ◌%◌, ◌<◌, ◌≤◌, ◌⊎◌, ◌==◌, ◌&&◌, nat_lt, Some, refl, sym, ap, ◌∙◌, subst, ⊎_elim, arith, w64}
+use Rattle.std.proofs.Common.{◌≡◌, ◌≢◌, ℕ, ◌+◌, ◌-◌, ◌%◌, ◌<◌, ◌≤◌, ◌⊎◌, ◌==◌, ◌&&◌, nat_lt, Option, Some, None, refl, sym, ap, ◌∙◌, subst, ⊎_elim, arith, w64}
 use Rattle.std.specs.Int.{bit_at}
 use Rattle.std.proofs.lemmas.Bool.{cases_eq, cond-true, cond-false, eq-eqb, ne_eqb, and_from, and_left, and_right, lt-ltb, le-ltb}
 use Rattle.std.proofs.lemmas.Nat.{mod_below}
@@ -10,6 +10,7 @@ use Rattle.heap_words.specs.Encoding.{header_word, plain_header}
 use Rattle.packing.proofs.Rooms.{has_room}
 use Rattle.regions.specs.Place.{region_with, IsOf}
 use Rattle.regions.specs.Sets.{IsIn, IsOutside}
+use Rattle.heap_world.specs.World.{IsCollected}
 use Rattle.cycle_words.specs.Evacuation.Live.{words_at}
 use Rattle.cycle_words.specs.Evacuation.Copying.{tops_outside}
 use Rattle.cycle_words.specs.Evacuation.Copied.{copy_room, top_address, copied_word, copied_to, copied_in, copied_out, MayChange, IsCopiedTo, IsCopiedOut}
@@ -109,3 +110,11 @@ copying_copies c memory a r above member found =
       room = room;
       copied = subst (λ after. IsCopiedTo c memory after a r) (sym (copied_as c memory a r found)) (is_copied_to c memory a r apart lowest.below);
     }
+
+-- copying copies, where there is room
+pub copies_out : (c : Config) (m : Word → ℕ) (a : ℕ) → c.region_words ≤ a → IsCollected c (m Cset) a → copy_room c m a ≢ None → IsCopiedOut c m (copied_out c m a) a
+copies_out c m a above inside room = by_room (copy_room c m a) refl
+  where
+    by_room : (found : Option ℕ) → copy_room c m a ≡ found → IsCopiedOut c m (copied_out c m a) a
+    by_room None none = absurd (room none)
+    by_room (Some r) found = copying_copies c m a r above inside found

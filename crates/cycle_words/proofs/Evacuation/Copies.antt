@@ -2,10 +2,10 @@
 use Rattle.std.proofs.Common.{◌≡◌, ℕ, ◌+◌, ◌*◌, ◌%◌, ◌≤◌, ◌==◌, if◌then◌else◌, nat_le, bit_and, true, false, zero, suc, List, ◌++◌, length, get_or, Option, Some, None, refl, ap, ◌∙◌, arith}
 use Rattle.std.specs.Int.{bit_at}
 use Rattle.std.proofs.Math.Path.{fun_ext}
-use Rattle.std.proofs.lemmas.Bool.{cond-true, eq-eqb, ne_eqb, and_right}
+use Rattle.std.proofs.lemmas.Bool.{cond-true, cond-false, eq-eqb, ne_eqb, and_right}
 use Rattle.std.proofs.lemmas.List.{get_or_append_left}
 use Rattle.heap_words.specs.declared.config.Config.{Config}
-use Rattle.heap_words.specs.Words.{Word, Cset, Free, Top, Heap}
+use Rattle.heap_words.specs.Words.{Word, Cset, Free, Top, Heap, write}
 use Rattle.heap_words.specs.Encoding.{header_word, is_forwarded, forwardee_in, object_words}
 use Rattle.packing.specs.Rooms.{lowest_room}
 use Rattle.regions.specs.Place.{base_of, region_with}
@@ -14,7 +14,7 @@ use Rattle.full_words.specs.Full.{now_in}
 use Rattle.cycle_words.specs.Evacuation.Live.{words_at}
 use Rattle.cycle_words.specs.Evacuation.Copying.{tops_outside}
 use Rattle.cycle_words.specs.Evacuation.Copied.{copy_room, top_address, copied_word, copied_in, copied_to, copied_out, copied_by}
-use Rattle.cycle_words.specs.Evacuation.Begun.{IsNaming, is_collected}
+use Rattle.cycle_words.specs.Evacuation.Begun.{IsNaming, is_collected, moved_out, cleared_at}
 
 -- a header that was written reads back
 pub header_forwarded : (to : ℕ) → is_forwarded (header_word to) ≡ true
@@ -87,3 +87,13 @@ copied_front c m objects more (suc k) below =
 pub copied_next : (c : Config) (m : Word → ℕ) (objects : List ℕ) (k : ℕ) → copied_by c m objects (suc k) ≡ copied_out c (copied_by c m objects k) (get_or objects k 0)
 unfolding copied_by
 copied_next c m objects k = refl
+
+-- what a place is cleared to
+pub cleared_is : (c : Config) (m : Word → ℕ) (place : Word) → is_collected c m (m place) ≡ true
+    → cleared_at c m place ≡ write (moved_out c m (m place)) place (now_in (moved_out c m (m place)) (m place))
+unfolding cleared_at
+cleared_is c m place is = fun_ext (λ word. cond-true (is_collected c m (m place)) (write (moved_out c m (m place)) place (now_in (moved_out c m (m place)) (m place)) word) (m word) is)
+
+pub spared_is : (c : Config) (m : Word → ℕ) (place : Word) → is_collected c m (m place) ≡ false → cleared_at c m place ≡ m
+unfolding cleared_at
+spared_is c m place is = fun_ext (λ word. cond-false (is_collected c m (m place)) (write (moved_out c m (m place)) place (now_in (moved_out c m (m place)) (m place)) word) (m word) is)

@@ -176,10 +176,17 @@ module _ (c : Config) (m : Word → ℕ) (block : Plot) (plotted : IsPlotted c (
           no_field : is_kept_field c m (a + j) ≡ false
           no_field = and_left _ (is_reference m (object_of c m (a + j)) (a + j)) (and_right (is_outside c m (a + j)) (is_kept c m (object_of c m (a + j))) (ap (is_kept c m) object_is ∙ not_kept))
 
-      -- a reference of a kept piece is updated
+      -- a reference of a kept piece is one for the walk, ..
+      pub kept_field : is_kept c m a ≡ true → is_reference m a (a + j) ≡ true → is_kept_field c m (a + j) ≡ true
+      kept_field kept reference =
+          and_from _ (is_reference m (object_of c m (a + j)) (a + j))
+          (and_from (is_outside c m (a + j)) (is_kept c m (object_of c m (a + j))) outside_is (ap (is_kept c m) object_is ∙ kept))
+          (ap (λ b. is_reference m b (a + j)) object_is ∙ reference)
+
+      -- .. and is updated
       pub field_updated : HasMark c (λ n. m (Black n)) a ⊎ IsYoung c (λ r. m (Tams r)) a → is_reference m a (a + j) ≡ true
           → all_updated c m (Heap (a + j)) ≡ updated_word c m (m (Heap (a + j)))
-      field_updated kept reference = cond-true (is_kept_field c m (a + j)) (updated_word c m (m (Heap (a + j)))) (m (Heap (a + j))) field
+      field_updated kept reference = cond-true (is_kept_field c m (a + j)) (updated_word c m (m (Heap (a + j)))) (m (Heap (a + j))) (kept_field kept_is reference)
         where
           kept_is : is_kept c m a ≡ true
           kept_is =
@@ -194,12 +201,6 @@ module _ (c : Config) (m : Word → ℕ) (block : Plot) (plotted : IsPlotted c (
               or_right (is_black c m a) (nat_le (m (Tams (region_with c a))) (a - base_of c (region_with c a)))
               (le-leb (m (Tams (region_with c a))) (a - base_of c (region_with c a)) (omega (arith, young, from))))
               kept
-
-          field : is_kept_field c m (a + j) ≡ true
-          field =
-              and_from _ (is_reference m (object_of c m (a + j)) (a + j))
-              (and_from (is_outside c m (a + j)) (is_kept c m (object_of c m (a + j))) outside_is (ap (is_kept c m) object_is ∙ kept_is))
-              (ap (λ b. is_reference m b (a + j)) object_is ∙ reference)
 
     -- a word of the collection set stays
     pub collected_stays : IsCollected c (m Cset) a → all_updated c m (Heap (a + j)) ≡ m (Heap (a + j))

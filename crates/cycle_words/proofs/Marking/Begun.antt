@@ -1,5 +1,6 @@
 -- The beginning of marking keeps the graph, and what holds while marking runs holds after it.
 use Rattle.std.proofs.Common.{◌≡◌, ◌≢◌, ℕ, ◌+◌, Bool, true, Option, Some, refl, sym, ap, ◌∙◌, arith}
+use Rattle.std.proofs.lemmas.Bool.{true≢false}
 use Rattle.heap_words.specs.declared.config.Config.{Config}
 use Rattle.heap_words.specs.Words.{Word, Cset, Top, Heap}
 use Rattle.heap_words.specs.Encoding.{refs_in}
@@ -19,7 +20,7 @@ use Rattle.cycle_words.specs.Marking.WhileMarking.{CanBeReached, IsMarking}
 use Rattle.cycle_words.specs.Marking.Laws.{BeginsMarking}
 use Rattle.cycle_words.proofs.Marking.Alike.{AreAlike, holds_alike}
 use Rattle.cycle_words.proofs.Marking.Plain.{below_top, reached_object, root_reached, object_above, reach_ind}
-use Rattle.cycle_words.proofs.Marking.Trimmed.{trimmed_objects, trimmed_rooted, trimmed_unmoved}
+use Rattle.cycle_words.proofs.Marking.Trimmed.{IsTrimmed, calm_trimmed, trimmed_objects, trimmed_rooted}
 use Rattle.cycle_words.proofs.Marking.Pruned.{thing_stays, thing_was, hand_was, promised_was, moved_was, pruned_from, pruned_plotted, pruned_filled}
 use Rattle.cycle_words.proofs.Marking.FirstSnapshot.{first_snapshot, is_first, first_marked}
 
@@ -76,11 +77,14 @@ module _ (c : Config) (m : Word → ℕ) (block : Plot) (owner : ℕ → Option 
   plotted : IsPlotted c top left
   plotted = pruned_plotted found block c top holds.objects.plotted
 
+  trimmed : IsTrimmed c m block top left
+  trimmed = calm_trimmed c m block owner p g holds calm top left plotted reached_stays named was
+
   left_holds : HoldsBy c m left owner p g
   left_holds = record {
-    objects = trimmed_objects c m block owner p g holds calm top left plotted reached_stays named was;
-    rooted = trimmed_rooted c m block owner p g holds calm top left plotted reached_stays named was;
-    moved = λ a refs nums name is forwarded. absurd (trimmed_unmoved c m block owner p g holds calm top left plotted reached_stays named was a refs nums name is forwarded);
+    objects = trimmed_objects c m block owner p g holds top left trimmed;
+    rooted = trimmed_rooted c m block owner p g holds top left trimmed;
+    moved = λ a refs nums name is forwarded. absurd (true≢false (sym forwarded ∙ trimmed.unmoved a refs nums name is));
     filled = pruned_filled found block c top holds.filled;
     pieces = record {
       named = named;

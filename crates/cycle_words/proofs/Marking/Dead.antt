@@ -1,14 +1,16 @@
 -- The test of a dead region says what it is to be dead.
-use Rattle.std.proofs.Common.{◌≡◌, ℕ, ◌+◌, ◌-◌, ◌==◌, ◌&&◌, ◌↔◌, not, Bool, true, false, sym, ap, ◌∙◌, arith}
+use Rattle.std.proofs.Common.{◌≡◌, ℕ, ◌+◌, ◌-◌, ◌<◌, ◌≤◌, ◌==◌, ◌&&◌, ◌↔◌, not, Bool, true, false, ⊎_elim, sym, ap, ◌∙◌, arith}
 use Rattle.std.specs.Int.{bit_at}
-use Rattle.std.proofs.lemmas.Bool.{and_parts, and_from, eqb-true, eq-eqb, not-true, not_from_false, false_from_ne_true, true≢false}
+use Rattle.std.proofs.lemmas.Bool.{cases_lt, and_parts, and_from, eqb-true, eq-eqb, not-true, not_from_false, false_from_ne_true, true≢false}
 use Rattle.heap_words.specs.declared.config.Config.{Config}
 use Rattle.heap_words.specs.Words.{Word, Free, Top, Tams, Current}
 use Rattle.heap_words.specs.Ranges.{seat_count}
 use Rattle.regions.specs.Place.{base_of, IsOf}
 use Rattle.image_graph.specs.State.{IsSomeSeats}
 use Rattle.cycle_words.specs.Marking.Marks.{is_black}
-use Rattle.cycle_words.specs.Marking.Final.{is_current, has_black, is_dead, IsDead}
+use Rattle.cycle_words.specs.Marking.Close.{closed}
+use Rattle.cycle_words.specs.Marking.Final.{is_current, has_black, is_dead, IsDead, dead_in}
+use Rattle.cycle_words.specs.Marking.Laws.{HasNoMoreSeats}
 use Rattle.cycle_words.proofs.Marking.Ranges.{any_at, any_is}
 
 module _ (c : Config) (m : Word → ℕ) (r : ℕ) where
@@ -76,3 +78,14 @@ module _ (c : Config) (m : Word → ℕ) (r : ℕ) where
       ap (λ b. b && unseated && filled && bare) (eq-eqb (bit_at (m Free) r) 0 free)
       ∙ ap (λ b. not b && filled && bare) seat
       ∙ ap (λ b. b && bare) (eq-eqb (m (Top r)) (m (Tams r)) top)
+
+-- no seat's current region is dead once the marks are closed
+module _ (c : Config) (m : Word → ℕ) (seats : HasNoMoreSeats c m) where
+  pub seated : (seat r : ℕ) → m (Current seat) ≡ r + 1 → IsSomeSeats c m r
+  seated seat r is = ⊎_elim
+      (λ (inside : seat < seat_count c.mutators c.helpers). (seat, inside, is))
+      (λ (past : seat_count c.mutators c.helpers ≤ seat). absurd (let none = seats seat past in omega (arith, none, is)))
+      (cases_lt seat (seat_count c.mutators c.helpers))
+
+  pub current_alive : (seat r : ℕ) → m (Current seat) ≡ r + 1 → dead_in c m r ≡ false
+  current_alive seat r is = false_from_ne_true (dead_in c m r) (λ told. ((dead_is_dead c (closed c m) r).0 told).nobodys (seated seat r is))

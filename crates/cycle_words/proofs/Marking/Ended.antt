@@ -1,9 +1,8 @@
 -- The end of marking keeps the graph, and each object that can be reached is kept.
-use Rattle.std.proofs.Common.{◌≡◌, ℕ, ◌+◌, ◌<◌, ◌≤◌, cond, Bool, true, false, Option, inl, inr, ⊎_elim, sym, ap, ◌∙◌, arith}
-use Rattle.std.proofs.lemmas.Bool.{cases_lt, cond-false, false_from_ne_true}
+use Rattle.std.proofs.Common.{◌≡◌, ℕ, ◌+◌, ◌≤◌, cond, Bool, true, false, Option, inl, inr, ⊎_elim, sym, ap, ◌∙◌, arith}
+use Rattle.std.proofs.lemmas.Bool.{cond-false}
 use Rattle.heap_words.specs.declared.config.Config.{Config}
 use Rattle.heap_words.specs.Words.{Word, Tams, Heap}
-use Rattle.heap_words.specs.Ranges.{seat_count}
 use Rattle.regions.specs.Place.{region_with}
 use Rattle.shen_graph.specs.Graph.{Graph}
 use Rattle.heap_graph.specs.Walk.{has}
@@ -17,9 +16,9 @@ use Rattle.cycle_words.specs.Marking.Final.{dead_in, freed_block, freed_owner, f
 use Rattle.cycle_words.specs.Marking.Laws.{HasNoMoreSeats}
 use Rattle.cycle_words.proofs.Marking.Plain.{reached_object, reach_ind, root_reached, field_reached}
 use Rattle.cycle_words.proofs.Marking.Closed.{closed_holds, closed_through, object_alive, object_back}
-use Rattle.cycle_words.proofs.Marking.Dead.{dead_is_dead}
+use Rattle.cycle_words.proofs.Marking.Dead.{current_alive}
 use Rattle.cycle_words.proofs.Marking.Vanished.{piece_was, piece_stays}
-use Rattle.cycle_words.proofs.Marking.Freed.{CanFree, same_roots, freed_holds}
+use Rattle.cycle_words.proofs.Marking.Freed.{CanFree, calm_can_free, same_roots, freed_holds}
 
 module _ (c : Config) (m : Word → ℕ) (block : Plot) (owner : ℕ → Option ℕ) (p : Promises) (g : Graph) (holds : HoldsBy c m block owner p g) (marking : IsMarking c m block) (seats : HasNoMoreSeats c m) where
   -- the words once the marks are closed, and once the dead regions are freed
@@ -45,18 +44,13 @@ module _ (c : Config) (m : Word → ℕ) (block : Plot) (owner : ℕ → Option 
   alive : (a : ℕ) → IsObjectAt k block a → out (region_with c a) ≡ false
   alive a is = object_alive c m block owner p g holds marking a (object_back c m block owner p g holds marking a is)
 
-  can : CanFree c out k
-  can = record {
-    unreached = λ a reached. alive a (reached_object c k block owner p g held marking.uncollected a reached);
-    unseated = λ seat r is. ⊎_elim
-        (λ (below : seat < seat_count c.mutators c.helpers).
-        false_from_ne_true (out r) (λ told. ((dead_is_dead c k r).0 told).nobodys (seat, below, is)))
-        (λ (past : seat_count c.mutators c.helpers ≤ seat). absurd (let none = seats seat past in omega (arith, is, none)))
-        (cases_lt seat (seat_count c.mutators c.helpers));
-  }
+  can : CanFree c out k block
+  can =
+      calm_can_free c out k block owner p g held marking.uncollected
+      (λ a reached. alive a (reached_object c k block owner p g held marking.uncollected a reached)) (current_alive c m seats)
 
   pub ended_holds : HoldsBy c n left (freed_owner out owner) p g
-  ended_holds = freed_holds c out k block owner p g held marking.uncollected can
+  ended_holds = freed_holds c out k block owner p g held can
 
   -- what is kept and left was kept before, and what was kept is kept
 
@@ -83,7 +77,7 @@ module _ (c : Config) (m : Word → ℕ) (block : Plot) (owner : ℕ → Option 
   reached_was = reach_ind c n left (freed_owner out owner) p g ended_holds marking.uncollected (CanBeReached c k)
       (λ word is some.
       root_reached c k block owner p g held marking.uncollected word
-      (ap (λ xs. has xs word) (sym (same_roots c out k block owner p g held marking.uncollected can)) ∙ is) some)
+      (ap (λ xs. has xs word) (sym (same_roots c out k block owner p g held can)) ∙ is) some)
       (λ a i reached before few some. field_reached c k block owner p g held marking.uncollected a i before few some)
 
   object_was : (a : ℕ) → IsObjectAt n left a → (out (region_with c a) ≡ false) × IsObjectAt k block a

@@ -1,8 +1,9 @@
 -- Words that hold a graph hold it after regions were freed in which nothing can be reached.
-use Rattle.std.proofs.Common.{◌≡◌, ℕ, ◌+◌, Bool, true, false, Some, None, Option, ⊎_elim, refl, sym, ap, ◌∙◌, subst}
-use Rattle.std.proofs.lemmas.Bool.{cond-true, cond-false, cases_Bool}
+use Rattle.std.proofs.Common.{◌≡◌, ◌≢◌, ℕ, ◌+◌, ◌<◌, Bool, true, false, Some, None, Option, ⊎_elim, refl, sym, ap, ◌∙◌, subst}
+use Rattle.std.proofs.lemmas.Bool.{cond-true, cond-false, cases_Bool, true≢false}
 use Rattle.heap_words.specs.declared.config.Config.{Config}
 use Rattle.heap_words.specs.Words.{Word, Cset, Top, Current, Heap}
+use Rattle.heap_words.specs.Encoding.{is_forwarded, refs_in}
 use Rattle.regions.specs.Place.{region_with}
 use Rattle.shen_graph.specs.declared.name.Name.{Name}
 use Rattle.shen_graph.specs.Graph.{Graph}
@@ -17,15 +18,29 @@ use Rattle.image_graph.specs.Holds.{HoldsBy}
 use Rattle.cycle_words.specs.Marking.WhileMarking.{CanBeReached}
 use Rattle.cycle_words.specs.Marking.Final.{freed, freed_block, freed_owner}
 use Rattle.cycle_words.proofs.Marking.Alike.{same_root_words}
-use Rattle.cycle_words.proofs.Marking.Trimmed.{trimmed_objects, trimmed_rooted, trimmed_unmoved}
+use Rattle.cycle_words.proofs.Marking.Plain.{root_reached, field_reached}
+use Rattle.cycle_words.proofs.Marking.Trimmed.{IsTrimmed, calm_unmoved, trimmed_objects, trimmed_rooted}
 use Rattle.cycle_words.proofs.Marking.Vanished.{piece_was, piece_stays, plotted_again, filled_again, free_again}
 
--- What is freed: regions in which nothing that can be reached lies, and that are nobody's current ones.
-pub record CanFree (c : Config) (out : ℕ → Bool) (m : Word → ℕ) : Type 0 where
-  pub unreached : (a : ℕ) → CanBeReached c m a → out (region_with c a) ≡ false
+-- What is freed: regions in which nothing lies that a root, or a field of what can be reached, names, and that are nobody's current ones. All
+-- that has moved lies there.
+pub record CanFree (c : Config) (out : ℕ → Bool) (m : Word → ℕ) (block : Plot) : Type 0 where
   pub unseated : (seat r : ℕ) → m (Current seat) ≡ r + 1 → out r ≡ false
+  pub unnamed_roots : (word : ℕ) → IsAmong (root_words c m) word → word ≢ 0 → out (region_with c word) ≡ false
+  pub unnamed_fields : (a i : ℕ) → CanBeReached c m a → i < refs_in (m (Heap (a + 1))) → m (Heap (a + 3 + i)) ≢ 0 → out (region_with c (m (Heap (a + 3 + i)))) ≡ false
+  pub unmoved : (a refs nums : ℕ) (name : Name) → block a ≡ Some (thing name refs nums) → out (region_with c a) ≡ false → is_forwarded (m (Heap a)) ≡ false
 
-module _ (c : Config) (out : ℕ → Bool) (m : Word → ℕ) (block : Plot) (owner : ℕ → Option ℕ) (p : Promises) (g : Graph) (holds : HoldsBy c m block owner p g) (calm : m Cset ≡ 0) (can : CanFree c out m) where
+-- While no region is in the collection set it is enough that nothing that can be reached lies there.
+pub calm_can_free : (c : Config) (out : ℕ → Bool) (m : Word → ℕ) (block : Plot) (owner : ℕ → Option ℕ) (p : Promises) (g : Graph) → HoldsBy c m block owner p g → m Cset ≡ 0
+    → ((a : ℕ) → CanBeReached c m a → out (region_with c a) ≡ false) → ((seat r : ℕ) → m (Current seat) ≡ r + 1 → out r ≡ false) → CanFree c out m block
+calm_can_free c out m block owner p g holds calm unreached unseated = record {
+  unseated = unseated;
+  unnamed_roots = λ word among some. unreached word (root_reached c m block owner p g holds calm word among some);
+  unnamed_fields = λ a i held few some. unreached (m (Heap (a + 3 + i))) (field_reached c m block owner p g holds calm a i held few some);
+  unmoved = λ a refs nums name is left. calm_unmoved c m block owner p g holds calm a refs nums name is;
+}
+
+module _ (c : Config) (out : ℕ → Bool) (m : Word → ℕ) (block : Plot) (owner : ℕ → Option ℕ) (p : Promises) (g : Graph) (holds : HoldsBy c m block owner p g) (can : CanFree c out m block) where
   abbrev n : Word → ℕ
   n = freed c out m
 
@@ -47,10 +62,6 @@ module _ (c : Config) (out : ℕ → Bool) (m : Word → ℕ) (block : Plot) (ow
   abbrev more : Graph
   more = with_promised g p
 
-  -- what can be reached stands as before
-  reached_stays : (a : ℕ) → CanBeReached c m a → left a ≡ block a
-  reached_stays a held = piece_stays c out block a (can.unreached a held)
-
   plotted : IsPlotted c (λ r. n (Top r)) left
   plotted = plotted_again c out m block holds.objects.plotted holds.pieces.some
 
@@ -62,14 +73,25 @@ module _ (c : Config) (out : ℕ → Bool) (m : Word → ℕ) (block : Plot) (ow
       let was = holds.pieces.named word name (sym (ap name_at stays) ∙ is) in
       (was.0, was.1, stays ∙ was.2)
 
-  was : (a refs nums : ℕ) (name : Name) → left a ≡ Some (thing name refs nums) → block a ≡ Some (thing name refs nums)
-  was a refs nums name is = (piece_was c out block a (thing name refs nums) is).1
+  -- no object that is left has moved
+  pub left_unmoved : (a refs nums : ℕ) (name : Name) → left a ≡ Some (thing name refs nums) → is_forwarded (heap a) ≡ false
+  left_unmoved a refs nums name is = let was = piece_was c out block a (thing name refs nums) is in can.unmoved a refs nums name was.1 was.0
+
+  trimmed : IsTrimmed c m block (λ r. n (Top r)) left
+  trimmed = record {
+    plotted = plotted;
+    roots = λ word among some. piece_stays c out block word (can.unnamed_roots word among some);
+    fields = λ a i held few some. piece_stays c out block (m (Heap (a + 3 + i))) (can.unnamed_fields a i held few some);
+    named = named;
+    was = λ a refs nums name is. (piece_was c out block a (thing name refs nums) is).1;
+    unmoved = left_unmoved;
+  }
 
   objects : HoldsGraph c (λ r. n (Top r)) heap left (now_in m) IsRoot more
-  objects = trimmed_objects c m block owner p g holds calm (λ r. n (Top r)) left plotted reached_stays named was
+  objects = trimmed_objects c m block owner p g holds (λ r. n (Top r)) left trimmed
 
   rooted : RootsStand c m left g p
-  rooted = trimmed_rooted c m block owner p g holds calm (λ r. n (Top r)) left plotted reached_stays named was
+  rooted = trimmed_rooted c m block owner p g holds (λ r. n (Top r)) left trimmed
 
   owned_by : (r : ℕ) → out r ≡ false → owned r ≡ owner r
   owned_by r other = let none : Option ℕ = None in cond-false (out r) none (owner r) other
@@ -98,7 +120,7 @@ module _ (c : Config) (out : ℕ → Bool) (m : Word → ℕ) (block : Plot) (ow
   freed_holds = record {
     objects = subst (λ xs. HoldsGraph c (λ r. n (Top r)) heap left (now_in m) (IsAmong xs) more) (sym same_roots) objects;
     rooted = record { roots = rooted.roots; answers = rooted.answers; no_more_roots = rooted.no_more_roots; no_more_promised = rooted.no_more_promised };
-    moved = λ a refs nums name is forwarded. absurd (trimmed_unmoved c m block owner p g holds calm (λ r. n (Top r)) left plotted reached_stays named was a refs nums name is forwarded);
+    moved = λ a refs nums name is forwarded. absurd (true≢false (sym forwarded ∙ left_unmoved a refs nums name is));
     filled = filled_again c out m block holds.objects.plotted holds.pieces.some holds.filled;
     pieces = record {
       named = named;

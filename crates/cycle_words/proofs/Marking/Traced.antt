@@ -1,8 +1,7 @@
 -- Tracing comes to exactly what the list has that it finds.
-use Rattle.std.proofs.Common.{◌≡◌, ◌≢◌, ℕ, ◌+◌, ◌-◌, ◌*◌, ◌<◌, ◌≤◌, ◌⊎◌, ◌++◌, ◌∷◌, [], true, false, zero, suc, cond, Bool, List, map, nat_eq, ⊎_elim, refl, sym, ap, ◌∙◌, subst, arith}
+use Rattle.std.proofs.Common.{◌≡◌, ◌≢◌, ℕ, ◌+◌, ◌-◌, ◌*◌, ◌<◌, ◌≤◌, ◌∷◌, [], true, false, zero, suc, cond, Bool, List, map, nat_eq, ⊎_elim, refl, sym, ap, ◌∙◌, subst, arith}
 use Rattle.std.specs.List.{range_with_len}
-use Rattle.std.proofs.lemmas.Bool.{cond-true, cond-false, cases_Bool, cases_eq, eq-eqb, eqb-true, or_cases, or_left, or_right, false≢true}
-use Rattle.std.proofs.lemmas.List.Folds.{list_any-append}
+use Rattle.std.proofs.lemmas.Bool.{cond-true, cond-false, cases_Bool, cases_eq, eq-eqb, or_left, false≢true}
 use Rattle.heap_words.specs.declared.config.Config.{Config}
 use Rattle.heap_words.specs.Words.{Word, Count, Buffer, Heap}
 use Rattle.heap_words.specs.Encoding.{refs_in}
@@ -10,20 +9,9 @@ use Rattle.heap_graph.specs.Walk.{has}
 use Rattle.heap_graph.proofs.Marks.{has-range}
 use Rattle.full_words.specs.Full.{field_words}
 use Rattle.full_words.proofs.Found.{has_map, map_has, range_has, roots_found, found_held, found_closed}
+use Rattle.full_words.proofs.Roots.{has_either, has_first, has_second, has_one}
 use Rattle.cycle_words.specs.Marking.Marks.{is_grey, is_black}
 use Rattle.cycle_words.specs.Marking.Close.{IsTraced, from_grey, from_buffer, from_field, greys_below, entries_below, starts_in, open_fields, traced_by, traced_in}
-
-has_either : (xs ys : List ℕ) (q : ℕ) → has (xs ++ ys) q ≡ true → (has xs q ≡ true) ⊎ (has ys q ≡ true)
-has_either xs ys q is = or_cases (has xs q) (has ys q) (sym (list_any-append (nat_eq q) xs ys) ∙ is)
-
-has_first : (xs ys : List ℕ) (q : ℕ) → has xs q ≡ true → has (xs ++ ys) q ≡ true
-has_first xs ys q is = list_any-append (nat_eq q) xs ys ∙ or_left (has xs q) (has ys q) is
-
-has_second : (xs ys : List ℕ) (q : ℕ) → has ys q ≡ true → has (xs ++ ys) q ≡ true
-has_second xs ys q is = list_any-append (nat_eq q) xs ys ∙ or_right (has xs q) (has ys q) is
-
-has_one : (x q : ℕ) → has (x ∷ []) q ≡ true → q ≡ x
-has_one x q is = ⊎_elim (λ (here : nat_eq q x ≡ true). eqb-true q x here) (λ (none : has [] q ≡ true). absurd (false≢true none)) (or_cases (nat_eq q x) (has [] q) is)
 
 one_has : (x : ℕ) → has (x ∷ []) x ≡ true
 one_has x = or_left (nat_eq x x) (has [] x) (eq-eqb x x refl)

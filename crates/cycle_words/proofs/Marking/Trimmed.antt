@@ -1,11 +1,12 @@
 -- Words that hold a graph hold it by other pieces, too, where what can be reached stands as it stood and no new object does.
-use Rattle.std.proofs.Common.{◌≡◌, ◌≢◌, ℕ, ◌+◌, ◌<◌, ◌≤◌, true, Some, None, Option, inl, inr, ⊎_elim, ap, ◌∙◌, arith}
+use Rattle.std.proofs.Common.{slice_get, ◌≡◌, ◌≢◌, ℕ, ◌+◌, ◌<◌, ◌≤◌, false, Some, None, Option, inl, inr, ⊎_elim, ap, ◌∙◌, arith}
 use Rattle.std.specs.Int.{bit_at}
+use Rattle.std.proofs.lemmas.Bool.{cond-false, false_from_ne_true}
 use Rattle.std.proofs.lemmas.Nat.Bits.{bit_at-zero}
 use Rattle.std.proofs.lemmas.Option.{slice_get_within}
 use Rattle.heap_words.specs.declared.config.Config.{Config}
 use Rattle.heap_words.specs.Words.{Word, Cset, Top, Root, Answer, Heap}
-use Rattle.heap_words.specs.Encoding.{is_forwarded, refs_in}
+use Rattle.heap_words.specs.Encoding.{is_forwarded, forwardee_in, refs_in}
 use Rattle.regions.specs.Place.{region_with}
 use Rattle.shen_graph.specs.declared.name.Name.{Name}
 use Rattle.shen_graph.specs.Graph.{Graph, Reference, Object}
@@ -18,12 +19,58 @@ use Rattle.full_words.proofs.Reached.{refs_read, none_at_0}
 use Rattle.full_words.proofs.Roots.{root_among, answer_among}
 use Rattle.image_graph.specs.Holds.{HoldsBy}
 use Rattle.cycle_words.specs.Marking.WhileMarking.{CanBeReached}
-use Rattle.cycle_words.proofs.Marking.Plain.{own_copy, root_reached, field_reached}
+use Rattle.cycle_words.proofs.Marking.Plain.{root_reached, field_reached}
 
-module _ (c : Config) (m : Word → ℕ) (block : Plot) (owner : ℕ → Option ℕ) (p : Promises) (g : Graph) (holds : HoldsBy c m block owner p g) (calm : m Cset ≡ 0)
-    (new_top : ℕ → ℕ) (left : Plot) (plotted : IsPlotted c new_top left) (reached_stays : (a : ℕ) → CanBeReached c m a → left a ≡ block a)
-    (named : (a : ℕ) (name : Name) → name_at (left a) ≡ Some name → IsCopy left a name)
-    (was : (a refs nums : ℕ) (name : Name) → left a ≡ Some (thing name refs nums) → block a ≡ Some (thing name refs nums)) where
+-- an object reads as before where each of its fields stands for what it stood for
+pub object_stands : (heap : ℕ → ℕ) (block left : Plot) (a refs nums : ℕ) (name : Name) (o : Object)
+    → ((i : ℕ) (r : Reference) → slice_get o.refs i ≡ Some r → i < refs → Points block (heap (a + 3 + i)) r → Points left (heap (a + 3 + i)) r)
+    → IsThing heap block a refs nums name o → IsThing heap left a refs nums name o
+object_stands heap block left a refs nums name o stays is = record {
+  header = is.header;
+  shape = is.shape;
+  name_word = is.name_word;
+  few_refs = is.few_refs;
+  few_nums = is.few_nums;
+  refs_are = is.refs_are;
+  nums_are = is.nums_are;
+  references = λ i r there. (let within = slice_get_within o.refs i r there in stays i r there (omega (arith, within, is.refs_are)) (is.references i r there));
+  numbers = is.numbers;
+}
+
+-- while no region is in the collection set no object has moved
+pub calm_unmoved : (c : Config) (m : Word → ℕ) (block : Plot) (owner : ℕ → Option ℕ) (p : Promises) (g : Graph) → HoldsBy c m block owner p g → m Cset ≡ 0
+    → (a refs nums : ℕ) (name : Name) → block a ≡ Some (thing name refs nums) → is_forwarded (m (Heap a)) ≡ false
+calm_unmoved c m block owner p g holds calm a refs nums name is = false_from_ne_true (is_forwarded (m (Heap a))) (λ forwarded.
+    let moved = holds.moved a refs nums name is forwarded in
+    let none : bit_at (m Cset) (region_with c a) ≡ 0 = ap (λ k. bit_at k (region_with c a)) calm ∙ bit_at-zero (region_with c a) in
+    let set = moved.in_set in
+    omega (arith, set, none))
+
+-- What names lead to stands as it stood, each piece that stands for a name is an object and was one, and none has moved.
+pub record IsTrimmed (c : Config) (m : Word → ℕ) (block : Plot) (new_top : ℕ → ℕ) (left : Plot) : Type 0 where
+  pub plotted : IsPlotted c new_top left
+  pub roots : (word : ℕ) → IsAmong (root_words c m) word → word ≢ 0 → left word ≡ block word
+  pub fields : (a i : ℕ) → CanBeReached c m a → i < refs_in (m (Heap (a + 1))) → m (Heap (a + 3 + i)) ≢ 0 → left (m (Heap (a + 3 + i))) ≡ block (m (Heap (a + 3 + i)))
+  pub named : (a : ℕ) (name : Name) → name_at (left a) ≡ Some name → IsCopy left a name
+  pub was : (a refs nums : ℕ) (name : Name) → left a ≡ Some (thing name refs nums) → block a ≡ Some (thing name refs nums)
+  pub unmoved : (a refs nums : ℕ) (name : Name) → left a ≡ Some (thing name refs nums) → is_forwarded (m (Heap a)) ≡ false
+
+-- so it is while no region is in the collection set, where what can be reached stands as it stood
+pub calm_trimmed : (c : Config) (m : Word → ℕ) (block : Plot) (owner : ℕ → Option ℕ) (p : Promises) (g : Graph) → HoldsBy c m block owner p g → m Cset ≡ 0
+    → (new_top : ℕ → ℕ) (left : Plot) → IsPlotted c new_top left → ((a : ℕ) → CanBeReached c m a → left a ≡ block a)
+    → ((a : ℕ) (name : Name) → name_at (left a) ≡ Some name → IsCopy left a name)
+    → ((a refs nums : ℕ) (name : Name) → left a ≡ Some (thing name refs nums) → block a ≡ Some (thing name refs nums)) → IsTrimmed c m block new_top left
+calm_trimmed c m block owner p g holds calm new_top left plotted reached_stays named was = record {
+  plotted = plotted;
+  roots = λ word among some. reached_stays word (root_reached c m block owner p g holds calm word among some);
+  fields = λ a i held few some. reached_stays (m (Heap (a + 3 + i))) (field_reached c m block owner p g holds calm a i held few some);
+  named = named;
+  was = was;
+  unmoved = λ a refs nums name is. calm_unmoved c m block owner p g holds calm a refs nums name (was a refs nums name is);
+}
+
+module _ (c : Config) (m : Word → ℕ) (block : Plot) (owner : ℕ → Option ℕ) (p : Promises) (g : Graph) (holds : HoldsBy c m block owner p g)
+    (new_top : ℕ → ℕ) (left : Plot) (is_trimmed : IsTrimmed c m block new_top left) where
   abbrev heap : ℕ → ℕ
   heap a = m (Heap a)
 
@@ -36,9 +83,6 @@ module _ (c : Config) (m : Word → ℕ) (block : Plot) (owner : ℕ → Option 
   abbrev more : Graph
   more = with_promised g p
 
-  root_stays : (word : ℕ) → IsRoot word → word ≢ 0 → left word ≡ block word
-  root_stays word among some = reached_stays word (root_reached c m block owner p g holds calm word among some)
-
   named_stays : (word : ℕ) → left word ≡ block word → name_at (left word) ≡ name_at (block word)
   named_stays word stays = ap name_at stays
 
@@ -49,42 +93,33 @@ module _ (c : Config) (m : Word → ℕ) (block : Plot) (owner : ℕ → Option 
       named_stays word (stays some) ∙ points
 
   object_stays : (a refs nums : ℕ) (name : Name) (o : Object) → CanBeReached c m a → IsThing heap block a refs nums name o → IsThing heap left a refs nums name o
-  object_stays a refs nums name o held is = record {
-    header = is.header;
-    shape = is.shape;
-    name_word = is.name_word;
-    few_refs = is.few_refs;
-    few_nums = is.few_nums;
-    refs_are = is.refs_are;
-    nums_are = is.nums_are;
-    references = λ i r there.
-        let few = slice_get_within o.refs i r there in
-        let shape : refs_in (heap (a + 1)) ≡ refs = ap refs_in is.shape ∙ refs_read refs nums is.few_refs is.few_nums in
-        points_stay (heap (a + 3 + i)) r
-        (λ some. reached_stays (heap (a + 3 + i)) (field_reached c m block owner p g holds calm a i held (omega (arith, few, shape, is.refs_are)) some))
-        (is.references i r there);
-    numbers = is.numbers;
-  }
+  object_stays a refs nums name o held is =
+      let shape : refs_in (heap (a + 1)) ≡ refs = ap refs_in is.shape ∙ refs_read refs nums is.few_refs is.few_nums in
+      object_stands heap block left a refs nums name o
+      (λ i r there below points. points_stay (heap (a + 3 + i)) r
+      (λ some. is_trimmed.fields a i held (omega (arith, below, shape)) some)
+      points)
+      is
 
   pub trimmed_objects : HoldsGraph c new_top heap left (now_in m) IsRoot more
   trimmed_objects = record {
-    plotted = plotted;
+    plotted = is_trimmed.plotted;
     current = λ word name is.
-        let piece = named word name is in
-        let own = own_copy c m block owner p g holds calm word piece.0 piece.1 name (was word piece.0 piece.1 name piece.2) in
+        let piece = is_trimmed.named word name is in
+        let own = cond-false (is_forwarded (heap word)) (forwardee_in (heap word)) word (is_trimmed.unmoved word piece.0 piece.1 name piece.2) in
         (piece.0, piece.1, ap left own ∙ piece.2);
     each = λ a refs nums name held is.
-        let object = holds.objects.each a refs nums name held (was a refs nums name is) in
+        let object = holds.objects.each a refs nums name held (is_trimmed.was a refs nums name is) in
         (object.0, object.1, object_stays a refs nums name object.0 held object.2);
     once = λ a b refs nums more_refs more_nums name held other first second.
-        holds.objects.once a b refs nums more_refs more_nums name held other (was a refs nums name first) (was b more_refs more_nums name second);
+        holds.objects.once a b refs nums more_refs more_nums name held other (is_trimmed.was a refs nums name first) (is_trimmed.was b more_refs more_nums name second);
     root_named = λ word among some.
         let named_then = holds.objects.root_named word among some in
-        (named_then.0, named_then.1, named_then.2, named_then.3, named_stays word (root_stays word among some) ∙ named_then.4);
+        (named_then.0, named_then.1, named_then.2, named_then.3, named_stays word (is_trimmed.roots word among some) ∙ named_then.4);
     root_held = λ t i name is.
         let held = holds.objects.root_held t i name is in
         let some = none_at_0 c top block holds.objects.plotted held.0 name held.2 in
-        (held.0, held.1, named_stays held.0 (root_stays held.0 held.1 some) ∙ held.2);
+        (held.0, held.1, named_stays held.0 (is_trimmed.roots held.0 held.1 some) ∙ held.2);
   }
 
   answer_stays : (word : ℕ) (r : Reference) → (1 < word → left word ≡ block word) → AnswerStands block word r → AnswerStands left word r
@@ -98,20 +133,12 @@ module _ (c : Config) (m : Word → ℕ) (block : Plot) (owner : ℕ → Option 
   trimmed_rooted = record {
     roots = λ t i below few.
         points_stay (m (Root t i)) (g.root (t + 1) i)
-        (root_stays (m (Root t i)) (root_among c top m block g p holds.objects.plotted holds.rooted t i below few))
+        (is_trimmed.roots (m (Root t i)) (root_among c top m block g p holds.objects.plotted holds.rooted t i below few))
         (holds.rooted.roots t i below few);
     answers = λ t below.
         answer_stays (m (Answer t)) (p.ref (t + 1))
-        (λ some. root_stays (m (Answer t)) (answer_among c top m block g p holds.objects.plotted holds.rooted t below some) (λ zero'. omega (arith, some, zero')))
+        (λ some. is_trimmed.roots (m (Answer t)) (answer_among c top m block g p holds.objects.plotted holds.rooted t below some) (λ zero'. omega (arith, some, zero')))
         (holds.rooted.answers t below);
     no_more_roots = holds.rooted.no_more_roots;
     no_more_promised = holds.rooted.no_more_promised;
   }
-
-  -- no object has moved
-  pub trimmed_unmoved : (a refs nums : ℕ) (name : Name) → left a ≡ Some (thing name refs nums) → is_forwarded (heap a) ≡ true → ⊥
-  trimmed_unmoved a refs nums name is forwarded =
-      let moved = holds.moved a refs nums name (was a refs nums name is) forwarded in
-      let none : bit_at (m Cset) (region_with c a) ≡ 0 = ap (λ k. bit_at k (region_with c a)) calm ∙ bit_at-zero (region_with c a) in
-      let set = moved.in_set in
-      omega (arith, set, none)

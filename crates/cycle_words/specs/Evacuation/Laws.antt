@@ -1,23 +1,26 @@
 -- That the choice is exactly the longest front of the candidates that fits, and that what it has can be copied.
-use Rattle.std.specs.Prelude.{ℕ, ◌≡◌, ◌+◌, ◌<◌, ◌≤◌, ◌↔◌, Option, true, Bool, List, length, slice_index, Some}
+use Rattle.std.specs.Prelude.{ℕ, ◌≡◌, ◌+◌, ◌<◌, ◌≤◌, ◌↔◌, Option, true, Bool, if◌then◌else◌, List, length, slice_index, Some, None}
 use Rattle.heap_words.specs.declared.config.Config.{Config}
 use Rattle.heap_words.specs.Words.{Word, Cset}
 use Rattle.packing.specs.Places.{LieApart}
+use Rattle.packing.specs.Tops.{sum_below}
 use Rattle.shen_graph.specs.Graph.{Graph}
-use Rattle.heap_world.specs.World.{Plot}
+use Rattle.heap_world.specs.World.{Block, Plot, words_of}
 use Rattle.full_words.specs.Promised.{Promises}
-use Rattle.image_graph.specs.Holds.{HoldsBy}
-use Rattle.cycle_words.specs.Marking.WhileMarking.{IsMarking}
-use Rattle.cycle_words.specs.Marking.Final.{final_marked}
+use Rattle.image_graph.specs.Holds.{HoldsBy, AreSized}
+use Rattle.cycle_words.specs.Marking.Marks.{is_black}
+use Rattle.cycle_words.specs.Marking.WhileMarking.{IsObjectAt, CanBeReached, IsMarking, IsMarkedThrough}
+use Rattle.cycle_words.specs.Marking.Final.{dead_in, freed_owner, final_marked}
 use Rattle.cycle_words.specs.Marking.Laws.{HasNoMoreSeats}
-use Rattle.regions.specs.Place.{region_with}
+use Rattle.regions.specs.Place.{base_of, region_with}
 use Rattle.regions.specs.Sets.{IsIn}
-use Rattle.cycle_words.specs.Evacuation.Live.{marked_words, is_candidate, IsCandidate}
+use Rattle.cycle_words.specs.Evacuation.Live.{marked_words, live_words, is_candidate, IsCandidate}
 use Rattle.cycle_words.specs.Evacuation.Front.{FrontsAreTaken}
 use Rattle.cycle_words.specs.Evacuation.Choice.{IsChoice, chosen}
 use Rattle.cycle_words.specs.Evacuation.Copying.{AreToCopy, FindsRoom}
-use Rattle.cycle_words.specs.Evacuation.Copied.{copy_room, copied_out, copied_by, IsCopiedOut}
-use Rattle.cycle_words.specs.Evacuation.Begun.{with_set, roots_cleared, FreeAreEmpty, CanBegin, AreCleared}
+use Rattle.cycle_words.specs.Evacuation.Copied.{CanCopyOut, copy_room, copied_out, copied_by, IsCopiedOut}
+use Rattle.cycle_words.specs.Evacuation.Begun.{with_set, roots_cleared, evac_begun, FreeAreEmpty, CanBegin, AreCleared}
+use Rattle.cycle_words.specs.StillHolds.{WhileCollecting}
 
 -- The test of a candidate says what it is to be one.
 abbrev pub CandidateIsCandidate : Type 0
@@ -61,3 +64,54 @@ RootsAreCleared = (c : Config) (memory : Word → ℕ) → CanBegin c memory
 abbrev pub EvacuationCanBegin : Type 0
 EvacuationCanBegin = (c : Config) (memory : Word → ℕ) (block : Plot) (owner : ℕ → Option ℕ) (p : Promises) (g : Graph)
     → HoldsBy c memory block owner p g → IsMarking c memory block → HasNoMoreSeats c memory → CanBegin c (final_marked c memory)
+
+-- So it can begin wherever the words hold a graph, no region is collected, what can be reached is kept, and what is marked is an object.
+abbrev pub MarkedCanBegin : Type 0
+MarkedCanBegin = (c : Config) (memory : Word → ℕ) (block : Plot) (owner : ℕ → Option ℕ) (p : Promises) (g : Graph)
+    → HoldsBy c memory block owner p g → IsMarkedThrough c memory block → memory Cset ≡ 0
+    → ((a : ℕ) → is_black c memory a ≡ true → IsObjectAt memory block a) → CanBegin c memory
+
+-- An object of the collection set can be copied out.
+abbrev pub ObjectCanBeCopied : Type 0
+ObjectCanBeCopied = (c : Config) (memory : Word → ℕ) (block : Plot) (owner : ℕ → Option ℕ) (p : Promises) (g : Graph) → HoldsBy c memory block owner p g → AreSized memory block
+    → (a : ℕ) (b : Block) → block a ≡ Some b → IsIn (memory Cset) (region_with c a) → CanCopyOut c memory a
+
+-- The words of a piece, if there is one, and those of the piece at an address if it is marked.
+abbrev pub piece_words : Option Block → ℕ
+piece_words None = 0
+piece_words (Some b) = words_of b
+
+abbrev pub marked_in : Config → (Word → ℕ) → Plot → ℕ → ℕ
+marked_in c memory block a = if is_black c memory a then piece_words (block a) else 0
+
+-- So many words are those of the pieces of a region that are marked, where what is marked are pieces.
+abbrev pub IsMarkedIn : Config → (Word → ℕ) → (region words : ℕ) → Type 0
+IsMarkedIn c memory r words = (block : Plot) → AreSized memory block → ((a : ℕ) → is_black c memory a ≡ true → (b : Block) × (block a ≡ Some b))
+    → words ≡ sum_below (λ k. marked_in c memory block (base_of c r + k)) c.region_words
+
+-- That is what lives in the region.
+abbrev pub LiveIsMarked : Type 0
+LiveIsMarked = (c : Config) (memory : Word → ℕ) (r : ℕ) → IsMarkedIn c memory r (live_words c memory r)
+
+-- Where the words hold a graph, and what can be reached is kept, each object of a set's regions that can be reached is marked, so that it
+-- counts as live there.
+abbrev pub ReachableAreLive : Config → (Word → ℕ) → (set : ℕ) → Type 0
+ReachableAreLive c memory set = (block : Plot) (owner : ℕ → Option ℕ) (p : Promises) (g : Graph) → HoldsBy c memory block owner p g → IsMarkedThrough c memory block
+    → (a : ℕ) → CanBeReached c memory a → IsIn set (region_with c a) → is_black c memory a ≡ true
+
+-- So it is in the regions that are chosen, as nothing new is there.
+abbrev pub ChosenAreLive : Type 0
+ChosenAreLive = (c : Config) (memory : Word → ℕ) → ReachableAreLive c memory (chosen c memory)
+
+-- The words hold the graph, each piece says how many words it has, and what finishing a cycle asks for holds.
+pub record HoldsCollecting (c : Config) (memory : Word → ℕ) (owner : ℕ → Option ℕ) (p : Promises) (g : Graph) : Type 0 where
+  pub pieces : Plot
+  pub holds : HoldsBy c memory pieces owner p g
+  pub sized : AreSized memory pieces
+  pub collecting : WhileCollecting c memory pieces
+
+-- So it is once marking was ended and evacuation begun, by the one call and then the other.
+abbrev pub EvacuationCollects : Type 0
+EvacuationCollects = (c : Config) (memory : Word → ℕ) (block : Plot) (owner : ℕ → Option ℕ) (p : Promises) (g : Graph) → HoldsBy c memory block owner p g → AreSized memory block
+    → IsMarking c memory block → HasNoMoreSeats c memory
+    → HoldsCollecting c (evac_begun c (final_marked c memory) (chosen c (final_marked c memory))) (freed_owner (dead_in c memory) owner) p g

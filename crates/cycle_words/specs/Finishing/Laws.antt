@@ -1,12 +1,21 @@
--- Why finishing a cycle falls short: an object found no room to be copied to, or a request none to be served.
-use Rattle.std.specs.Prelude.{ℕ, ◌≡◌, ◌≢◌, ◌<◌, ◌↔◌, true, false, None}
+-- Why finishing a cycle falls short: an object found no room to be copied to, or a request none to be served. And which fields are updated.
+use Rattle.std.specs.Prelude.{ℕ, ◌≡◌, ◌≢◌, ◌+◌, ◌^◌, ◌<◌, ◌↔◌, true, false, Option, Some, None}
 use Rattle.heap_words.specs.declared.config.Config.{Config}
-use Rattle.heap_words.specs.Words.{Word, Wait}
+use Rattle.heap_words.specs.Words.{Word, Cset, Wait, Heap}
+use Rattle.heap_words.specs.Encoding.{refs_in}
+use Rattle.regions.specs.Place.{region_with}
+use Rattle.regions.specs.Sets.{IsOutside}
+use Rattle.shen_graph.specs.Graph.{Graph}
+use Rattle.heap_world.specs.World.{Block, Plot}
 use Rattle.full_words.specs.Full.{served}
+use Rattle.full_words.specs.Promised.{Promises}
 use Rattle.image_graph.specs.Left.{IsLeft}
+use Rattle.image_graph.specs.Holds.{HoldsBy, AreSized}
+use Rattle.cycle_words.specs.Marking.Marks.{IsKept}
 use Rattle.cycle_words.specs.Evacuation.Copied.{copy_room}
 use Rattle.cycle_words.specs.Finishing.Copies.{is_left, all_copied, is_room_for_all}
 use Rattle.cycle_words.specs.Finishing.Finish.{nobody_waits}
+use Rattle.cycle_words.specs.Finishing.Updated.{is_kept_field, CanUpdateAll}
 
 -- An object is left in the collection set, and no region outside has room for it.
 pub record IsStuck (c : Config) (memory : Word → ℕ) : Type 0 where
@@ -25,3 +34,25 @@ pub record ServesAll (c : Config) (memory : Word → ℕ) : Type 0 where
 
 abbrev pub ServingServesAll : Type 0
 ServingServesAll = (c : Config) (memory : Word → ℕ) → ServesAll c memory
+
+-- An address is that of a reference of a kept object outside the collection set: a piece lies there that is marked, or was allocated since
+-- marking began, and the address is one of the references that its shape word counts.
+pub record IsFieldOfKept (c : Config) (memory : Word → ℕ) (block : Plot) (x : ℕ) : Type 0 where
+  pub object : ℕ
+  pub piece : Block
+  pub here : block object ≡ Some piece
+  pub outside : IsOutside (memory Cset) (region_with c object)
+  pub kept : IsKept c memory object
+  pub field : ℕ
+  pub few : field < refs_in (memory (Heap (object + 1)))
+  pub at : x ≡ object + 3 + field
+
+-- Where the words hold a graph these are the fields that updating all references changes, though it finds them by walking over the regions.
+abbrev pub KeptFieldsAreFields : Type 0
+KeptFieldsAreFields = (c : Config) (memory : Word → ℕ) (block : Plot) (owner : ℕ → Option ℕ) (p : Promises) (g : Graph) → HoldsBy c memory block owner p g → AreSized memory block
+    → (x : ℕ) → (is_kept_field c memory x ≡ true) ↔ IsFieldOfKept c memory block x
+
+-- And references can be updated.
+abbrev pub ReferencesCanBeUpdated : Type 0
+ReferencesCanBeUpdated = (c : Config) (memory : Word → ℕ) (block : Plot) (owner : ℕ → Option ℕ) (p : Promises) (g : Graph) → HoldsBy c memory block owner p g → AreSized memory block
+    → memory Cset < 2 ^ c.regions → CanUpdateAll c memory

@@ -5,8 +5,10 @@ use Rattle.heap_words.specs.Words.{Word, Cset, Answer}
 use Rattle.image_graph.specs.State.{config_of, memory_of}
 use Rattle.image_graph.proofs.NamedStores.{stored}
 use Rattle.cycle_words.specs.Evacuation.Choice.{chosen}
-use Rattle.cycle_words.specs.Evacuation.Begun.{CanClearInTurn, with_set, cleared_in_turn, root_places, evac_started}
+use Rattle.cycle_words.specs.Evacuation.Begun.{CanClearInTurn, with_set, cleared_in_turn, root_places, evac_started, evac_begun}
 use Rattle.cycle_words.proofs.Evacuation.Clearing.{can_clear_in_turn}
+use Rattle.cycle_words.specs.StillHolds.{HoldsStill}
+use Rattle.cycle_words.proofs.Evacuation.ClearedHolds.{begun_holds}
 use Rattle.cset_choice.proofs.ClearedInTurn.{can_front, can_back, turn_both}
 use Rattle.cset_choice.proofs.EvacuationBegun.{set_stored, begun, not_begun}
 use Rattle.cset_choice.proofs.begin.begin_evac.Goals as goal
@@ -67,3 +69,17 @@ returns-clause-words c =
     ∙ ap (λ (n : Word → ℕ). cleared_in_turn g n (answers g)) roots
     ∙ sym (turn_both g (root_places g.mutators) (answers g) (with_set m set)) in
     c.start.ensures.words ∙ ap evac_started all ∙ begun g m set c.if-set-eq0.false
+
+pub returns-then-set-eq0-clause-holds : goal.returns-then-set-eq0-clause-holds
+returns-then-set-eq0-clause-holds c = λ block owner p graph holds calm.
+    let g = config_of c.args.image.now in
+    let m : Word → ℕ = memory_of c.args.image.now in
+    subst (λ (n : Word → ℕ). HoldsStill g m n block owner p graph) (sym (returns-then-set-eq0-clause-words c ∙ ap (evac_begun g m) c.requires.set))
+    (begun_holds g m block owner p graph holds calm c.requires.can)
+
+pub returns-clause-holds : goal.returns-clause-holds
+returns-clause-holds c = λ block owner p graph holds calm.
+    let g = config_of c.args.image.now in
+    let m : Word → ℕ = memory_of c.args.image.now in
+    subst (λ (n : Word → ℕ). HoldsStill g m n block owner p graph) (sym (returns-clause-words c ∙ ap (evac_begun g m) c.requires.set))
+    (begun_holds g m block owner p graph holds calm c.requires.can)

@@ -9,6 +9,8 @@ use Rattle.cycle_words.specs.Evacuation.Live.{live_words, is_candidate}
 use Rattle.cycle_words.specs.Evacuation.Choice.{copy_limit, IsChoice, chosen}
 use Rattle.cycle_words.specs.Evacuation.Front.{is_in_front}
 use Rattle.cycle_words.proofs.Evacuation.Front.{front_is_longest}
+use Rattle.cycle_words.specs.Evacuation.Laws.{ReachableAreLive}
+use Rattle.cycle_words.proofs.Evacuation.CanCopy.{chosen_are_live}
 use Rattle.cset_choice.specs.Tables.{up_to}
 use Rattle.cset_choice.proofs.Choosing.{bits_none_yet, bits_next, fits_is}
 use Rattle.cset_choice.proofs.choice.choose.Goals as goal
@@ -49,3 +51,12 @@ returns-clause-choice c =
     omega (arith, c.loop-region-test.false, c.loop-region.auto.region-end, c.regions-region-end.ensures, ap (λ (k : Config). k.regions) c.config-config.ensures) in
     let value : c.loop-region.set ≡ chosen g m = c.loop-region.invariant ∙ ap (bits_of (taken g m) 0) all in
     subst (IsChoice g m) (sym value) (front_is_longest g.regions (copy_limit g m) (live_words g m) (is_candidate g m))
+
+pub returns-clause-live : goal.returns-clause-live
+returns-clause-live c =
+    let g = config_of c.args.image.now in
+    let m : Word → ℕ = memory_of c.args.image.now in
+    let all : c.loop-region.region ≡ g.regions =
+    omega (arith, c.loop-region-test.false, c.loop-region.auto.region-end, c.regions-region-end.ensures, ap (λ (k : Config). k.regions) c.config-config.ensures) in
+    let value : c.loop-region.set ≡ chosen g m = c.loop-region.invariant ∙ ap (bits_of (taken g m) 0) all in
+    subst (ReachableAreLive g m) (sym value) (chosen_are_live g m)

@@ -1,4 +1,4 @@
-use Rattle.std.proofs.Common.{◌≡◌, ◌+◌, ℕ, Option, Some, None, sym, ap, ◌∙◌, arith}
+use Rattle.std.proofs.Common.{◌≡◌, ◌+◌, ℕ, Option, Some, None, sym, ap, ◌∙◌, subst, arith}
 use Rattle.heap_words.specs.declared.config.Config.{Config}
 use Rattle.heap_words.specs.Words.{Word, Cset, Top, Heap, IsWord, word_at}
 use Rattle.heap_words.specs.Encoding.{object_words}
@@ -8,6 +8,8 @@ use Rattle.cycle_words.specs.Evacuation.Live.{words_at}
 use Rattle.cycle_words.specs.Evacuation.Copying.{tops_outside}
 use Rattle.cycle_words.specs.Evacuation.Copied.{CanCopyOut, copy_room, copy_in, copied_in}
 use Rattle.cycle_words.proofs.Evacuation.CopiedOut.{copied_as}
+use Rattle.cycle_words.specs.StillHolds.{CopyingHolds}
+use Rattle.cycle_words.proofs.Evacuation.CanCopy.{copying_holds}
 use Rattle.cset_choice.proofs.Objects.{object_in_heap, word_of_heap}
 use Rattle.cset_choice.proofs.CopyStores.{found_room}
 use Rattle.cset_choice.proofs.copy.copy_out.Goals as goal
@@ -79,3 +81,15 @@ returns-in-None-clause-copy c =
     let a = c.args.address in
     let read = c.word.ensures.named (Heap (a + 1)) (shape_is g m a c.requires) (ap (λ (k : Config). word_at k (Heap (a + 1))) (sym c.config.ensures) ∙ sym c.heap_at.ensures) in
     sym (ap (copy_in g m) (same_room g m a c.word.result c.words_of-words.result c.room_outside.result None read c.words_of-words.ensures c.room_outside.ensures c.in-None.is))
+
+pub returns-in-Some-clause-holds : goal.returns-in-Some-clause-holds
+returns-in-Some-clause-holds c =
+    let g = config_of c.args.image.now in
+    let m : Word → ℕ = memory_of c.args.image.now in
+    subst (λ (n : Word → ℕ). CopyingHolds g m n c.args.address) (sym (returns-in-Some-clause-words c)) (copying_holds g m c.args.address c.requires)
+
+pub returns-in-None-clause-holds : goal.returns-in-None-clause-holds
+returns-in-None-clause-holds c =
+    let g = config_of c.args.image.now in
+    let m : Word → ℕ = memory_of c.args.image.now in
+    subst (λ (n : Word → ℕ). CopyingHolds g m n c.args.address) (sym (returns-in-None-clause-words c)) (copying_holds g m c.args.address c.requires)

@@ -9,6 +9,8 @@ use Rattle.image_graph.specs.Make.{AreWithin}
 use Rattle.cycle_words.specs.Finishing.Updated.{all_updated}
 use Rattle.cycle_words.specs.Finishing.Copies.{is_room_for_all, all_copied}
 use Rattle.cycle_words.specs.Finishing.Finish.{set_freed, cycle_finished, is_whole}
+use Rattle.cycle_words.specs.StillHolds.{FinishingHolds}
+use Rattle.cycle_words.proofs.Finishing.FinishingHolds.{finishing_holds}
 use Rattle.degenerated.proofs.Finishing.{stops_short, goes_through, all_served, not_all_served, whole_is, within_still}
 use Rattle.degenerated.proofs.cycle.finish.Goals as goal
 
@@ -98,3 +100,21 @@ returns-else-give_turns-clause-whole c =
     subst (λ (n : Word → ℕ). IsLeft g n told.0) words (subst (λ (k : Config). IsLeft k (memory_of three) told.0) config told.1) in
     let short : is_whole g m ≡ false = whole_is g m room ∙ not_all_served g (cycle_finished g m) told.0 left in
     (λ same. search, λ whole. absurd (true≢false (sym whole ∙ short)))
+
+pub returns-then-not-copy_rest-clause-holds : goal.returns-then-not-copy_rest-clause-holds
+returns-then-not-copy_rest-clause-holds c =
+    let g = config_of c.args.image.now in
+    let m : Word → ℕ = memory_of c.args.image.now in
+    subst (λ (n : Word → ℕ). FinishingHolds g m n) (sym (returns-then-not-copy_rest-clause-words c)) (finishing_holds g m)
+
+pub returns-then-give_turns-clause-holds : goal.returns-then-give_turns-clause-holds
+returns-then-give_turns-clause-holds c =
+    let g = config_of c.args.image.now in
+    let m : Word → ℕ = memory_of c.args.image.now in
+    subst (λ (n : Word → ℕ). FinishingHolds g m n) (sym (returns-then-give_turns-clause-words c)) (finishing_holds g m)
+
+pub returns-else-give_turns-clause-holds : goal.returns-else-give_turns-clause-holds
+returns-else-give_turns-clause-holds c =
+    let g = config_of c.args.image.now in
+    let m : Word → ℕ = memory_of c.args.image.now in
+    subst (λ (n : Word → ℕ). FinishingHolds g m n) (sym (returns-else-give_turns-clause-words c)) (finishing_holds g m)

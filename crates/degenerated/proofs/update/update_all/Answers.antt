@@ -2,6 +2,8 @@ use Rattle.std.proofs.Common.{◌≡◌, ◌^◌, ◌<◌, ℕ, sym, ap, ◌∙�
 use Rattle.heap_words.specs.declared.config.Config.{Config}
 use Rattle.heap_words.specs.Words.{Word, Cset}
 use Rattle.image_graph.specs.State.{config_of, words_of, memory_of}
+use Rattle.cycle_words.specs.StillHolds.{HoldsUpdated}
+use Rattle.cycle_words.proofs.Finishing.UpdatedHolds.{updated_holds, updated_sized}
 use Rattle.degenerated.specs.Steps.{fields_updated, is_of_first, roots_updated, answers_updated}
 use Rattle.degenerated.proofs.Naming.{all}
 use Rattle.degenerated.proofs.update.update_all.Goals as goal
@@ -37,3 +39,10 @@ returns-clause-words c =
     ∙ ap (λ (k : Config). answers_updated k k.mutators (memory_of two)) config_two
     ∙ ap (answers_updated g g.mutators) to_two
     ∙ all g (words_of c.args.image.now) c.requires
+
+pub returns-clause-holds : goal.returns-clause-holds
+returns-clause-holds c = λ block owner p graph holds sized.
+    let g = config_of c.args.image.now in
+    let m : Word → ℕ = memory_of c.args.image.now in
+    subst (λ (n : Word → ℕ). HoldsUpdated g n block owner p graph) (sym (returns-clause-words c))
+    (record { holds = updated_holds g m block owner p graph holds sized; sized = updated_sized g m block owner p graph holds sized })

@@ -4,6 +4,8 @@ use Rattle.full_words.specs.Image.{ImageStands}
 use Rattle.full_words.specs.Serving.{served_block, served_promises}
 use Rattle.full_words.proofs.Serving.{served_stands}
 use Rattle.image_graph.specs.State.{config_of, memory_of}
+use Rattle.image_graph.specs.Left.{HoldsServed}
+use Rattle.image_graph.proofs.ServedHolds.{serving_holds}
 use Rattle.image_graph.proofs.Turns.{holds_within}
 use Rattle.image_graph.proofs.image.Image.serve.Goals as goal
 
@@ -16,3 +18,9 @@ returns-clause-graph c = λ block g p stands asking.
     let m : Word → ℕ = memory_of c.args.self.now in
     subst (λ (k : Word → ℕ). ImageStands config k (served_block config m block config.mutators) g (served_promises config m p config.mutators)) (sym c.give_turns.ensures.words)
     (served_stands config g m block p stands asking config.mutators (omega arith))
+
+pub returns-clause-holds : goal.returns-clause-holds
+returns-clause-holds c = λ block owner p g holds.
+    let config = config_of c.args.self.now in
+    let m : Word → ℕ = memory_of c.args.self.now in
+    subst (λ (k : Word → ℕ). HoldsServed config m k block owner p g) (sym c.give_turns.ensures.words) (serving_holds config m block owner p g holds)

@@ -16,7 +16,7 @@ IsPlace c (Answer t) = t < c.mutators
 IsPlace c word = ⊥
 
 -- what is in a row, and that it is
-in_row : (f : ℕ → Word) (n : ℕ) (place : Word) → Contains (map f (range_with_len 0 n)) place → (i : ℕ) × (i < n) × (f i ≡ place)
+pub in_row : (f : ℕ → Word) (n : ℕ) (place : Word) → Contains (map f (range_with_len 0 n)) place → (i : ℕ) × (i < n) × (f i ≡ place)
 in_row f n place has =
     let below : has.0 < n = omega (arith, has.1, length-map-range_with_len f 0 n) in
     (has.0, below, sym (get_or-map-range_with_len f 0 n has.0 has.0 place below (omega arith)) ∙ has.2)
@@ -24,7 +24,7 @@ in_row f n place has =
 row_has : (f : ℕ → Word) (n i : ℕ) → i < n → Contains (map f (range_with_len 0 n)) (f i)
 row_has f n i below = (i, (let long = length-map-range_with_len f 0 n in omega (arith, below, long)), get_or-map-range_with_len f 0 n i i (f i) below (omega arith))
 
-in_rows : (mutators : ℕ) (place : Word) → Contains (root_places mutators) place → (t : ℕ) × (i : ℕ) × (t < mutators) × (i < 16) × (Root t i ≡ place)
+pub in_rows : (mutators : ℕ) (place : Word) → Contains (root_places mutators) place → (t : ℕ) × (i : ℕ) × (t < mutators) × (i < 16) × (Root t i ≡ place)
 in_rows zero place has = absurd (omega (arith, has.1))
 in_rows (suc t) place has = ⊎_elim
     (λ (earlier : Contains (root_places t) place). (let at = in_rows t place earlier in (at.0, at.1, omega (arith, at.2), at.3, at.4)))

@@ -1,0 +1,96 @@
+-- An object of the collection set can be copied out, and keeps the graph; and what lives in a region is what is marked there.
+use Rattle.std.proofs.Common.{◌≡◌, ℕ, ◌+◌, ◌≤◌, true, false, Option, Some, None, refl, sym, ap, ◌∙◌, subst, ⊎_elim, arith}
+use Rattle.std.proofs.lemmas.Bool.{cases_Bool, cond-true, cond-false}
+use Rattle.heap_words.specs.declared.config.Config.{Config}
+use Rattle.heap_words.specs.Words.{Word, Cset, Top, Heap}
+use Rattle.heap_words.specs.Encoding.{is_forwarded}
+use Rattle.packing.proofs.Sums.{sum_same}
+use Rattle.regions.specs.Place.{base_of, region_with}
+use Rattle.regions.specs.Sets.{IsIn}
+use Rattle.shen_graph.specs.Graph.{Graph}
+use Rattle.heap_world.specs.World.{Block, thing, words_of, Plot}
+use Rattle.heap_world.proofs.Pointing.{piece_inside}
+use Rattle.full_words.specs.Promised.{Promises, with_promised}
+use Rattle.image_graph.specs.Holds.{HoldsBy, AreSized}
+use Rattle.full_words.specs.Held.{IsAmong}
+use Rattle.full_words.specs.Full.{now_in, root_words}
+use Rattle.full_words.proofs.Reached.{held_is_reached}
+use Rattle.cycle_words.specs.Marking.Marks.{is_black, IsNew}
+use Rattle.cycle_words.proofs.Marking.Plain.{below_top}
+use Rattle.cycle_words.specs.Evacuation.Live.{words_at, marked_words, live_words, is_candidate}
+use Rattle.cycle_words.specs.Evacuation.Choice.{copy_limit}
+use Rattle.cycle_words.proofs.Evacuation.Candidate.{candidate_is_candidate}
+use Rattle.cycle_words.proofs.Evacuation.Front.{member_is}
+use Rattle.cycle_words.specs.Evacuation.Copied.{CanCopyOut, copy_room, copied_in, copied_out, IsCopiedOut}
+use Rattle.cycle_words.specs.Evacuation.Laws.{ObjectCanBeCopied, piece_words, marked_in, LiveIsMarked, ChosenAreLive}
+use Rattle.cycle_words.specs.StillHolds.{HoldsStill, CopyingHolds}
+use Rattle.cycle_words.proofs.Evacuation.RegionAddresses.{some_words, from_base}
+use Rattle.cycle_words.proofs.Evacuation.CopiedOut.{copies_out}
+use Rattle.cycle_words.proofs.Evacuation.CopyHolds as copy
+
+pub object_can_be_copied : ObjectCanBeCopied
+object_can_be_copied c m block owner p g holds sized a b here inside =
+    let size = sized a b here in
+    let at = below_top c (λ r. m (Top r)) block holds.objects.plotted a b here (holds.pieces.some a b here) in
+    let most = holds.objects.plotted.tops (region_with c a) at.0 in
+    let lies = piece_inside c (λ r. m (Top r)) block holds.objects.plotted a b here in
+    let again = from_base c.region_words a (some_words c) lies.0 in
+    record {
+      above = lies.0;
+      of_region = at.0;
+      in_set = inside;
+      lies = (let end = at.2 in omega (arith, end, most, again, size));
+      tops = holds.objects.plotted.tops;
+    }
+
+-- where a region has room, and where none has
+module _ (c : Config) (m : Word → ℕ) (a : ℕ) (above : c.region_words ≤ a) (inside : IsIn (m Cset) (region_with c a)) (block : Plot) (owner : ℕ → Option ℕ) (p : Promises) (g : Graph)
+    (holds : HoldsBy c m block owner p g) (sized : AreSized m block) (b : Block) (here : block a ≡ Some b) (plain : is_forwarded (m (Heap a)) ≡ false) where
+  size : words_at m a ≡ words_of b
+  size = sized a b here
+
+  with_room : IsCopiedOut c m (copied_out c m a) a → HoldsStill c m (copied_out c m a) block owner p g
+  with_room out = record {
+    pieces = copy.plot c m block owner p g holds a b here inside plain size out;
+    holds = copy.copied_holds c m block owner p g holds a b here inside plain size out;
+    sized = copy.copied_sized c m block owner p g holds a b here inside plain size out;
+  }
+
+  by_room : (o : Option ℕ) → copy_room c m a ≡ o → HoldsStill c m (copied_out c m a) block owner p g
+  by_room None none =
+      let same : m ≡ copied_out c m a = sym (ap (copied_in c m a) none) in
+      subst (λ n. HoldsStill c m n block owner p g) same (record { pieces = block; holds = holds; sized = λ k. k })
+  by_room (Some r) found = with_room (copies_out c m a above inside (λ none. absurd (differ r (sym none ∙ found))))
+    where
+      differ : (k : ℕ) → ◌≡◌ {A = Option ℕ} None (Some k) → ⊥
+      differ k is = cc
+
+  pub still_holds : HoldsStill c m (copied_out c m a) block owner p g
+  still_holds = by_room (copy_room c m a) refl
+
+pub copying_holds : (c : Config) (m : Word → ℕ) (a : ℕ) → CanCopyOut c m a → CopyingHolds c m (copied_out c m a) a
+copying_holds c m a can block owner p g holds sized b here plain = still_holds c m a can.above can.in_set block owner p g holds sized b here plain
+
+pub live_is_marked : LiveIsMarked
+live_is_marked c m r block sized marked = sum_same (λ k. marked_words c m (base_of c r + k)) (λ k. marked_in c m block (base_of c r + k)) c.region_words (λ k below. each (base_of c r + k))
+  where
+    each : (a : ℕ) → marked_words c m a ≡ marked_in c m block a
+    each a = ⊎_elim
+        (λ (yes : is_black c m a ≡ true).
+        let piece = marked a yes in
+        cond-true (is_black c m a) (words_at m a) 0 yes ∙ sized a piece.0 piece.1 ∙ sym (ap piece_words piece.1) ∙ sym (cond-true (is_black c m a) (piece_words (block a)) 0 yes))
+        (λ (no : is_black c m a ≡ false). cond-false (is_black c m a) (words_at m a) 0 no ∙ sym (cond-false (is_black c m a) (piece_words (block a)) 0 no))
+        (cases_Bool (is_black c m a))
+
+pub chosen_are_live : ChosenAreLive
+chosen_are_live c m block owner p g holds through a reached inside = ⊎_elim
+    (λ (black : is_black c m a ≡ true). black)
+    (λ (fresh : IsNew c m a).
+    let at = held_is_reached c (λ r. m (Top r)) (λ y. m (Heap y)) block (now_in m) (IsAmong (root_words c m)) (with_promised g p) holds.objects a reached in
+    let below = below_top c (λ r. m (Top r)) block holds.objects.plotted a (thing at.0 at.1 at.2) at.3 (omega arith) in
+    let front = member_is c.regions (copy_limit c m) (live_words c m) (is_candidate c m) (region_with c a) inside in
+    let no_new = ((candidate_is_candidate c m (region_with c a)).0 front.1).no_new in
+    let from = below.1 in
+    let end = below.2 in
+    absurd (omega (arith, fresh, no_new, from, end)))
+    (through.reachable a reached)

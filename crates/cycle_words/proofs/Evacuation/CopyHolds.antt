@@ -1,0 +1,435 @@
+-- A piece is copied out of the collection set: words that held a graph hold it, with the copy as a further piece.
+use Rattle.std.proofs.Common.{◌≡◌, ◌≢◌, ℕ, ◌+◌, ◌<◌, ◌≤◌, ◌⊎◌, ◌==◌, ◌&&◌, nat_le, true, false, inl, inr, Option, Some, ⊎_elim, refl, sym, ap, ◌∙◌, subst, arith}
+use Rattle.std.specs.Prelude.{bit_and}
+use Rattle.std.specs.Int.{bit_at}
+use Rattle.std.proofs.Math.Path.{fun_ext}
+use Rattle.std.proofs.lemmas.Bool.{cases_eq, cases_Bool, cond-false, true≢false}
+use Rattle.std.proofs.lemmas.Nat.{and_le_l}
+use Rattle.heap_words.specs.declared.config.Config.{Config}
+use Rattle.heap_words.specs.Words.{Word, Cset, Free, Top, Tams, Current, Root, Wait, Answer, Black, Heap}
+use Rattle.heap_words.specs.Encoding.{is_forwarded, forwardee_in, object_words}
+use Rattle.regions.specs.Place.{base_of, region_with}
+use Rattle.regions.specs.Sets.{IsIn, IsOutside, all_but}
+use Rattle.regions.specs.Marks.{mark_word, mark_bit}
+use Rattle.regions.proofs.PlaceLemmas.{regions_tile}
+use Rattle.shen_graph.specs.declared.name.Name.{Name}
+use Rattle.shen_graph.specs.Graph.{Graph}
+use Rattle.heap_world.specs.World.{Block, thing, hand, promised, words_of, Plot, name_at, IsCollected, IsPlotted, IsFilled, IsFreeWord, AreCurrent}
+use Rattle.heap_world.proofs.Updates.{updated, updated_same, updated_there, updated_else}
+use Rattle.heap_world.proofs.Pieces.{beside, piece_cases}
+use Rattle.heap_world.proofs.Pointing.{named_piece}
+use Rattle.heap_world.proofs.Apart.{far}
+use Rattle.heap_world.proofs.Joined as joined
+use Rattle.heap_world.proofs.Joined.{CanJoin}
+use Rattle.full_words.specs.Held.{IsCopy}
+use Rattle.full_words.specs.Plot.{NamedAreThings}
+use Rattle.full_words.specs.Full.{now_in}
+use Rattle.full_words.specs.Promised.{Promises}
+use Rattle.image_graph.specs.Holds.{HasMoved, HoldsBy, AreSized}
+use Rattle.cycle_words.specs.Marking.Marks.{is_black, IsNew, IsKept}
+use Rattle.cycle_words.specs.Marking.WhileMarking.{CanBeReached}
+use Rattle.cycle_words.specs.Evacuation.Live.{words_at}
+use Rattle.cycle_words.specs.Evacuation.Copied.{MayChange, top_address, copied_to, copied_out, IsCopiedOut}
+use Rattle.cycle_words.specs.Evacuation.Begun.{is_collected}
+use Rattle.cycle_words.specs.StillHolds.{AreMarkedPieces}
+use Rattle.cycle_words.proofs.Evacuation.CopiedOut.{copied_as}
+use Rattle.cycle_words.proofs.Evacuation.Copies.{header_forwarded, now_is, now_same}
+use Rattle.cycle_words.proofs.Evacuation.Carried.{not_renamed, IsCarried, led_comes, carried_holds}
+
+-- What holds of the collection set from one object to the next.
+pub record IsInOrder (c : Config) (m : Word → ℕ) (block : Plot) : Type 0 where
+  pub marked : AreMarkedPieces c m block
+  pub reachable : (a : ℕ) → CanBeReached c m a → IsKept c m a
+  pub no_new : (r : ℕ) → IsIn (m Cset) r → m (Top r) ≡ m (Tams r)
+  pub floors : (r : ℕ) → r < c.regions → m (Tams r) ≤ m (Top r)
+  pub unseated : (seat r : ℕ) → m (Current seat) ≡ r + 1 → IsIn (m Cset) r → ⊥
+
+module _ (c : Config) (m : Word → ℕ) (block : Plot) (owner : ℕ → Option ℕ) (p : Promises) (g : Graph) (holds : HoldsBy c m block owner p g)
+    (a : ℕ) (x : Block) (here : block a ≡ Some x) (inside : IsCollected c (m Cset) a) (plain : is_forwarded (m (Heap a)) ≡ false)
+    (size : words_at m a ≡ words_of x) (out : IsCopiedOut c m (copied_out c m a) a) where
+  abbrev n : Word → ℕ
+  n = copied_out c m a
+
+  abbrev r : ℕ
+  r = out.region
+
+  -- where the copy lies
+  abbrev pub to : ℕ
+  to = top_address c m out.region
+
+  abbrev top : ℕ → ℕ
+  top q = m (Top q)
+
+  abbrev heap : ℕ → ℕ
+  heap y = m (Heap y)
+
+  abbrev after : ℕ → ℕ
+  after y = n (Heap y)
+
+  -- the pieces with the copy
+  abbrev pub plot : Plot
+  plot = updated block to (Some x)
+
+  -- where an object comes from
+  abbrev origin : ℕ → ℕ
+  origin = updated (λ k. k) to a
+
+  abbrev Lands : ℕ → Type 0
+  Lands k = k ≢ a
+
+  long : (q : ℕ) (z : Block) → block q ≡ Some z → 1 ≤ words_of z
+  long = holds.pieces.some
+
+  own : 1 ≤ words_of x
+  own = long a x here
+
+  joins : CanJoin c top block r (m (Top r)) x
+  joins = record {
+    plotted = holds.objects.plotted;
+    long = long;
+    within = out.below;
+    top_is = refl;
+    room = (let room = out.room in omega (arith, room, size));
+    some = own;
+  }
+
+  pub stays : (q : ℕ) (z : Block) → block q ≡ Some z → plot q ≡ Some z
+  stays = joined.stays c top block r (m (Top r)) x joins
+
+  -- nothing stood where the copy lies
+  none_there : (z : Block) → block to ≡ Some z → ⊥
+  none_there z is =
+      let some = long to z is in
+      let where_is = beside c top block holds.objects.plotted r to z is in
+      let room = out.room in
+      omega (arith, some, own, where_is, room, size)
+
+  elsewhere : to ≢ a
+  elsewhere same = none_there x (ap block same ∙ here)
+
+  new_there : plot to ≡ Some x
+  new_there = updated_there block to (Some x)
+
+  cases : (q : ℕ) (z : Block) → plot q ≡ Some z → ((q ≡ to) × (x ≡ z)) ⊎ ((q ≢ to) × (block q ≡ Some z))
+  cases q z is = piece_cases block to x q z is
+
+  origin_there : origin to ≡ a
+  origin_there = updated_there (λ k. k) to a
+
+  origin_else : (q : ℕ) → q ≢ to → origin q ≡ q
+  origin_else q other = updated_else (λ k. k) to a q (λ e. other (sym e))
+
+  -- words of pieces stay, but for the header
+  word_stays : (q k : ℕ) (z : Block) → block q ≡ Some z → k < words_of z → q + k ≢ a → after (q + k) ≡ heap (q + k)
+  word_stays q k z is below other =
+      let room = out.room in
+      out.copied.elsewhere (q + k) other
+      (⊎_elim
+      (λ (before : q + words_of z ≤ base_of c r). inl (omega (arith, before, below)))
+      (λ (rest : ((base_of c r ≤ q) × (q + words_of z ≤ base_of c r + top r)) ⊎ (base_of c r + c.region_words ≤ q)). ⊎_elim
+      (λ (within : (base_of c r ≤ q) × (q + words_of z ≤ base_of c r + top r)). inl (omega (arith, within.1, below)))
+      (λ (behind : base_of c r + c.region_words ≤ q). inr (omega (arith, behind, room)))
+      rest)
+      (beside c top block holds.objects.plotted r q z is))
+
+  kept : (q k : ℕ) (z : Block) → q ≢ a → block q ≡ Some z → k < words_of z → after (q + k) ≡ heap (q + k)
+  kept q k z other is below =
+      let apart : q + k ≢ a + 0 = far c top block holds.objects.plotted q a k 0 z x is here other below (omega (arith, own)) in
+      word_stays q k z is below (λ same. apart (omega (arith, same)))
+
+  header_stays : (q : ℕ) (z : Block) → q ≢ a → block q ≡ Some z → after q ≡ heap q
+  header_stays q z other is =
+      let first : q + 0 ≡ q = omega arith in
+      sym (ap after first) ∙ kept q 0 z other is (long q z is) ∙ ap heap first
+
+  shape_stays : (q : ℕ) (z : Block) → block q ≡ Some z → 2 ≤ words_of z → after (q + 1) ≡ heap (q + 1)
+  shape_stays q z is some = ⊎_elim
+      (λ (same : q ≡ a). word_stays q 1 z is (omega (arith, some)) (λ e. omega (arith, e, same)))
+      (λ (other : q ≢ a). kept q 1 z other is (omega (arith, some)))
+      (cases_eq q a)
+
+  -- current copies
+  now_there : now_in n a ≡ to
+  now_there = now_is n a to out.copied.forwarded
+
+  now_new : now_in n to ≡ to
+  now_new = cond-false (is_forwarded (after to)) (forwardee_in (after to)) to (ap is_forwarded out.copied.header)
+
+  now_here : now_in m a ≡ a
+  now_here = cond-false (is_forwarded (heap a)) (forwardee_in (heap a)) a plain
+
+  now_else : (q : ℕ) (z : Block) → q ≢ a → block q ≡ Some z → now_in n q ≡ now_in m q
+  now_else q z other is = now_same n m q (header_stays q z other is)
+
+  now_not_old : (q more less : ℕ) (named : Name) → q ≢ a → block q ≡ Some (thing named more less) → now_in m q ≢ a
+  now_not_old q more less named other is same = ⊎_elim
+      (λ (moved : is_forwarded (heap q) ≡ true).
+      let away = (holds.moved q more less named is moved).outside in
+      let out_of : bit_at (m Cset) (region_with c a) ≡ 0 = subst (λ k. bit_at (m Cset) (region_with c k) ≡ 0) same away in
+      omega (arith, out_of, inside))
+      (λ (stands : is_forwarded (heap q) ≡ false). other (sym (cond-false (is_forwarded (heap q)) (forwardee_in (heap q)) q stands) ∙ same))
+      (cases_Bool (is_forwarded (heap q)))
+
+  now_not_new : (q : ℕ) (named : Name) → name_at (block q) ≡ Some named → now_in m q ≢ to
+  now_not_new q named is same = let copy = holds.objects.current q named is in none_there (thing named copy.0 copy.1) (ap block (sym same) ∙ copy.2)
+
+  -- other words stay
+  word_same : (word : Word) → (MayChange word → ⊥) → n word ≡ m word
+  word_same word = out.copied.others word
+
+  set_same : n Cset ≡ m Cset
+  set_same = word_same Cset (λ never. never)
+
+  top_same : (q : ℕ) → q ≢ r → n (Top q) ≡ m (Top q)
+  top_same = out.copied.other_tops
+
+  tops_are : (λ q. n (Top q)) ≡ updated top r (m (Top r) + words_of x)
+  tops_are = fun_ext (λ q. ⊎_elim
+      (λ (same : r ≡ q).
+      ap (λ k. n (Top k)) (sym same) ∙ out.copied.top ∙ ap (λ w. m (Top r) + w) size ∙ sym (updated_same top r (m (Top r) + words_of x) q same))
+      (λ (other : r ≢ q). top_same q (λ e. other (sym e)) ∙ sym (updated_else top r (m (Top r) + words_of x) q other))
+      (cases_eq r q))
+
+  -- the copy lies outside the set
+  region_is : region_with c to ≡ r
+  region_is = let room = out.room in regions_tile.of_no_other c r to (record { from = omega arith; before = omega (arith, own, room, size) })
+
+  named_again : (q : ℕ) (named : Name) → name_at (plot q) ≡ Some named → (refs : ℕ) × (nums : ℕ) × (plot q ≡ Some (thing named refs nums))
+  named_again q named is =
+      let at = named_piece (plot q) named is in
+      ⊎_elim
+      (λ (new : (q ≡ to) × (x ≡ at.0)).
+      let same : block a ≡ Some at.0 = here ∙ ap Some new.1 in
+      let was = holds.pieces.named a named (ap name_at same ∙ at.2) in
+      (was.0, was.1, at.1 ∙ sym same ∙ was.2))
+      (λ (old : (q ≢ to) × (block q ≡ Some at.0)).
+      let was = holds.pieces.named q named (ap name_at old.1 ∙ at.2) in
+      (was.0, was.1, at.1 ∙ sym old.1 ∙ was.2))
+      (cases q at.0 at.1)
+
+  pieces_again : NamedAreThings plot
+  pieces_again = record {
+    named = named_again;
+    unpromised = λ q seat words is. ⊎_elim
+        (λ (new : (q ≡ to) × (x ≡ promised seat words)). holds.pieces.unpromised a seat words (here ∙ ap Some new.1))
+        (λ (old : (q ≢ to) × (block q ≡ Some (promised seat words))). holds.pieces.unpromised q seat words old.1)
+        (cases q (promised seat words) is);
+    unheld = λ q seat words is. ⊎_elim
+        (λ (new : (q ≡ to) × (x ≡ hand seat words)). holds.pieces.unheld a seat words (here ∙ ap Some new.1))
+        (λ (old : (q ≢ to) × (block q ≡ Some (hand seat words))). holds.pieces.unheld q seat words old.1)
+        (cases q (hand seat words) is);
+    some = λ q z is. ⊎_elim
+        (λ (new : (q ≡ to) × (x ≡ z)). subst (λ b. 1 ≤ words_of b) new.1 own)
+        (λ (old : (q ≢ to) × (block q ≡ Some z)). long q z old.1)
+        (cases q z is);
+  }
+
+  current_again : (q : ℕ) (named : Name) → name_at (plot q) ≡ Some named → IsCopy plot (now_in n q) named
+  current_again q named is =
+      let at = named_again q named is in
+      ⊎_elim
+      (λ (new : (q ≡ to) × (x ≡ thing named at.0 at.1)). (at.0, at.1, ap (λ k. plot (now_in n k)) new.0 ∙ ap plot now_new ∙ new_there ∙ ap Some new.1))
+      (λ (old : (q ≢ to) × (block q ≡ Some (thing named at.0 at.1))). ⊎_elim
+      (λ (same : q ≡ a).
+      (at.0, at.1, ap (λ k. plot (now_in n k)) same ∙ ap plot now_there ∙ new_there ∙ sym here ∙ ap block (sym same) ∙ old.1))
+      (λ (other : q ≢ a).
+      let copy = holds.objects.current q named (ap name_at old.1) in
+      (copy.0, copy.1, ap plot (now_else q (thing named at.0 at.1) other old.1) ∙ stays (now_in m q) (thing named copy.0 copy.1) copy.2))
+      (cases_eq q a))
+      (cases q (thing named at.0 at.1) at.2)
+
+  -- where an address leads comes from where it led
+  now_from : (q : ℕ) (named : Name) → name_at (block q) ≡ Some named → (origin (now_in n q) ≡ now_in m q) × (now_in n q ≢ a)
+  now_from q named is =
+      let at = holds.pieces.named q named is in
+      ⊎_elim
+      (λ (same : q ≡ a). (
+        ap (λ k. origin (now_in n k)) same ∙ ap origin now_there ∙ origin_there ∙ sym now_here ∙ ap (now_in m) (sym same),
+        λ back. elsewhere (sym (ap (now_in n) same ∙ now_there) ∙ back),
+      ))
+      (λ (other : q ≢ a).
+      let now = now_else q (thing named at.0 at.1) other at.2 in (
+        ap origin now ∙ origin_else (now_in m q) (now_not_new q named is),
+        λ back. now_not_old q at.0 at.1 named other at.2 (sym now ∙ back),
+      ))
+      (cases_eq q a)
+
+  carried : IsCarried c m n block plot origin Lands
+  carried = record {
+    plotted = subst (λ t. IsPlotted c t plot) (sym tops_are) (joined.plotted_more c top block r (m (Top r)) x joins);
+    names = joined.names_stay c top block r (m (Top r)) x joins;
+    current = current_again;
+    now = λ q named is. (now_from q named is).0;
+    lands = λ q named is. (now_from q named is).1;
+    one = λ y z out_y out_z same. ⊎_elim
+        (λ (new_y : y ≡ to). ⊎_elim
+        (λ (new_z : z ≡ to). new_y ∙ sym new_z)
+        (λ (old_z : z ≢ to). absurd (out_z (sym (sym origin_there ∙ ap origin (sym new_y) ∙ same ∙ origin_else z old_z))))
+        (cases_eq z to))
+        (λ (old_y : y ≢ to). ⊎_elim
+        (λ (new_z : z ≡ to). absurd (out_y (sym (origin_else y old_y) ∙ same ∙ ap origin new_z ∙ origin_there)))
+        (λ (old_z : z ≢ to). sym (origin_else y old_y) ∙ same ∙ origin_else z old_z)
+        (cases_eq z to))
+        (cases_eq y to);
+    pieces = λ q more less named is. ⊎_elim
+        (λ (new : (q ≡ to) × (x ≡ thing named more less)). ap (λ k. block (origin k)) new.0 ∙ ap block origin_there ∙ here ∙ ap Some new.1)
+        (λ (old : (q ≢ to) × (block q ≡ Some (thing named more less))). ap block (origin_else q old.0) ∙ old.1)
+        (cases q (thing named more less) is);
+    header = λ q more less named is away was. ⊎_elim
+        (λ (new : (q ≡ to) × (x ≡ thing named more less)). ap after new.0 ∙ out.copied.header)
+        (λ (old : (q ≢ to) × (block q ≡ Some (thing named more less))).
+        header_stays q (thing named more less) away old.1 ∙ ap heap (sym (origin_else q old.0)) ∙ was)
+        (cases q (thing named more less) is);
+    words = λ q k more less named is away reads some below other. all_words q k more less named is away some below;
+    fields = λ q i more less named is away few.
+        let place : q + (3 + i) ≡ q + 3 + i = omega arith in
+        let back : origin q + (3 + i) ≡ origin q + 3 + i = omega arith in
+        not_renamed m (heap (origin q + 3 + i)) (after (q + 3 + i))
+        (sym (ap after place) ∙ all_words q (3 + i) more less named is away (omega arith) (omega (arith, few)) ∙ ap heap back);
+    roots = λ t i below few. not_renamed m (m (Root t i)) (n (Root t i)) (word_same (Root t i) (λ never. never));
+    answers = λ t below. not_renamed m (m (Answer t)) (n (Answer t)) (word_same (Answer t) (λ never. never));
+    waits = λ t. word_same (Wait t) (λ never. never);
+  }
+    where
+      all_words : (q k more less : ℕ) (named : Name) → plot q ≡ Some (thing named more less) → q ≢ a → 0 < k → k < 3 + more + less → after (q + k) ≡ heap (origin q + k)
+      all_words q k more less named is away some below = ⊎_elim
+          (λ (new : (q ≡ to) × (x ≡ thing named more less)).
+          let words : words_of x ≡ 3 + more + less = ap words_of new.1 in
+          ap (λ y. after (y + k)) new.0 ∙ out.copied.words k some (omega (arith, below, words, size)) ∙ ap (λ y. heap (y + k)) (sym origin_there ∙ ap origin (sym new.0)))
+          (λ (old : (q ≢ to) × (block q ≡ Some (thing named more less))).
+          kept q k (thing named more less) away old.1 below ∙ ap (λ y. heap (y + k)) (sym (origin_else q old.0)))
+          (cases q (thing named more less) is)
+
+  moved_again : (q more less : ℕ) (named : Name) → plot q ≡ Some (thing named more less) → is_forwarded (after q) ≡ true → HasMoved c n plot q more less named
+  moved_again q more less named is forwarded = ⊎_elim
+      (λ (new : (q ≡ to) × (x ≡ thing named more less)).
+      absurd (true≢false (sym forwarded ∙ ap (λ k. is_forwarded (after k)) new.0 ∙ ap is_forwarded out.copied.header)))
+      (λ (old : (q ≢ to) × (block q ≡ Some (thing named more less))). ⊎_elim
+      (λ (same : q ≡ a).
+      let now : now_in n q ≡ to = ap (now_in n) same ∙ now_there in
+      record {
+        in_set = subst (λ s. IsIn s (region_with c q)) (sym set_same) (subst (IsCollected c (m Cset)) (sym same) inside);
+        copy = ap plot now ∙ new_there ∙ sym here ∙ ap block (sym same) ∙ old.1;
+        outside = subst (λ k. IsOutside (n Cset) (region_with c k)) (sym now)
+            (subst (IsOutside (n Cset)) (sym region_is) (subst (λ s. IsOutside s r) (sym set_same) out.outside));
+        current = ap (λ k. is_forwarded (after k)) now ∙ ap is_forwarded out.copied.header;
+      })
+      (λ (other : q ≢ a).
+      let was = holds.moved q more less named old.1 (ap is_forwarded (sym (header_stays q (thing named more less) other old.1)) ∙ forwarded) in
+      let now : now_in n q ≡ now_in m q = now_else q (thing named more less) other old.1 in
+      record {
+        in_set = subst (λ s. IsIn s (region_with c q)) (sym set_same) was.in_set;
+        copy = ap plot now ∙ stays (now_in m q) (thing named more less) was.copy;
+        outside = subst (λ k. IsOutside (n Cset) (region_with c k)) (sym now) (subst (λ s. IsOutside s (region_with c (now_in m q))) (sym set_same) was.outside);
+        current = ap (λ k. is_forwarded (after k)) now
+            ∙ ap is_forwarded (header_stays (now_in m q) (thing named more less) (now_not_old q more less named other old.1) was.copy) ∙ was.current;
+      })
+      (cases_eq q a))
+      (cases q (thing named more less) is)
+
+  -- a region that is free was, and is another
+  free_was : (q : ℕ) → q < c.regions → IsIn (n Free) q → (q ≢ r) × IsIn (m Free) q
+  free_was q below is =
+      let differs : q ≢ r = λ same. (let member : bit_at (n Free) r ≡ 1 = subst (IsIn (n Free)) same is in let used = out.copied.in_use in omega (arith, member, used)) in
+      (differs, sym (out.copied.others_free q below differs) ∙ is)
+
+  free_is : n Free ≡ bit_and (m Free) (all_but r)
+  unfolding copied_to
+  free_is = ap (λ (f : Word → ℕ). f Free) (copied_as c m a r out.found)
+
+  free_again : IsFreeWord c (n Free) (λ q. n (Top q)) owner
+  free_again = record {
+    no_more = (let was = holds.free_word.no_more in let less = and_le_l (m Free) (all_but r) in let is = free_is in omega (arith, was, less, is));
+    empty = λ q below is. let was = free_was q below is in top_same q was.0 ∙ holds.free_word.empty q below was.1;
+    nobodys = λ q below is. holds.free_word.nobodys q below (free_was q below is).1;
+  }
+
+  currents_again : AreCurrent c (λ s. n (Current s)) owner
+  currents_again = record {
+    within = λ seat q is. holds.currents.within seat q (sym (word_same (Current seat) (λ never. never)) ∙ is);
+    own = λ seat q is. holds.currents.own seat q (sym (word_same (Current seat) (λ never. never)) ∙ is);
+  }
+
+  pub copied_holds : HoldsBy c n plot owner p g
+  copied_holds =
+      carried_holds c m n block plot owner p g holds origin Lands carried moved_again
+      (subst (λ t. IsFilled c t plot) (sym tops_are) (joined.filled_more c top block r (m (Top r)) x joins holds.filled))
+      pieces_again free_again currents_again
+
+  pub copied_sized : AreSized m block → AreSized n plot
+  copied_sized sized q z is = ⊎_elim
+      (λ (new : (q ≡ to) × (x ≡ z)).
+      ap (λ k. object_words (after (k + 1))) new.0 ∙ ap object_words (out.copied.words 1 (omega arith) (omega arith)) ∙ size ∙ ap words_of new.1)
+      (λ (old : (q ≢ to) × (block q ≡ Some z)).
+      let words = sized q z old.1 in
+      ap object_words (shape_stays q z old.1 (omega (arith, words))) ∙ sized q z old.1)
+      (cases q z is)
+
+  -- what can be reached is the copy, or could be reached
+  reached_was : (y : ℕ) → CanBeReached c n y → (y ≡ to) ⊎ CanBeReached c m y
+  reached_was y reached = ⊎_elim
+      (λ (new : y ≡ to). inl new)
+      (λ (old : y ≢ to).
+      let from = led_comes c m n block plot owner p g holds origin Lands carried y reached in
+      inr (subst (CanBeReached c m) (origin_else y old) from.led))
+      (cases_eq y to)
+
+  pub black_same : (y : ℕ) → is_black c n y ≡ is_black c m y
+  black_same y = ap (λ k. nat_le c.region_words y && (bit_at k (mark_bit c y) == 1)) (word_same (Black (mark_word c y)) (λ never. never))
+
+  -- and is kept still, for the copy is new
+  kept_still : ((q : ℕ) → q < c.regions → m (Tams q) ≤ m (Top q)) → (y : ℕ) → (y ≡ to) ⊎ IsKept c m y → IsKept c n y
+  kept_still floors y is = ⊎_elim
+      (λ (new : y ≡ to).
+      let floor = floors r out.below in
+      let same : n (Tams r) ≡ m (Tams r) = word_same (Tams r) (λ never. never) in
+      inr (subst (IsNew c n) (sym new) (subst (λ q. base_of c q + n (Tams q) ≤ to) (sym region_is) (omega (arith, floor, same)))))
+      (λ (old : IsKept c m y). ⊎_elim
+      (λ (black : is_black c m y ≡ true). inl (black_same y ∙ black))
+      (λ (fresh : IsNew c m y).
+      inr (let same : n (Tams (region_with c y)) ≡ m (Tams (region_with c y)) = word_same (Tams (region_with c y)) (λ never. never) in omega (arith, fresh, same)))
+      old)
+      is
+
+  -- tops grow outside of the set alone
+  floors_still : ((q : ℕ) → q < c.regions → m (Tams q) ≤ m (Top q)) → (q : ℕ) → q < c.regions → n (Tams q) ≤ n (Top q)
+  floors_still floors q below =
+      let tams : n (Tams q) ≡ m (Tams q) = word_same (Tams q) (λ never. never) in
+      let floor = floors q below in
+      ⊎_elim
+      (λ (same : q ≡ r). (let grown = out.copied.top in let at : n (Top q) ≡ n (Top r) = ap (λ k. n (Top k)) same in let was : m (Top q) ≡ m (Top r) = ap (λ k. m (Top k)) same in omega (arith, floor, grown, tams, at, was)))
+      (λ (other : q ≢ r). (let stays = top_same q other in omega (arith, floor, stays, tams)))
+      (cases_eq q r)
+
+  no_new_still : ((q : ℕ) → IsIn (m Cset) q → m (Top q) ≡ m (Tams q)) → (q : ℕ) → IsIn (n Cset) q → n (Top q) ≡ n (Tams q)
+  no_new_still no_new q is =
+      let was : IsIn (m Cset) q = subst (λ s. IsIn s q) set_same is in
+      let other : q ≢ r = λ same. (let there : bit_at (m Cset) r ≡ 1 = subst (IsIn (m Cset)) same was in let away = out.outside in omega (arith, there, away)) in
+      top_same q other ∙ no_new q was ∙ sym (word_same (Tams q) (λ never. never))
+
+  unseated_still : ((seat q : ℕ) → m (Current seat) ≡ q + 1 → IsIn (m Cset) q → ⊥) → (seat q : ℕ) → n (Current seat) ≡ q + 1 → IsIn (n Cset) q → ⊥
+  unseated_still unseated seat q is member = unseated seat q (sym (word_same (Current seat) (λ never. never)) ∙ is) (subst (λ s. IsIn s q) set_same member)
+
+  -- the header of another piece stays, and the object's own leads on
+  pub header_same : (q : ℕ) (z : Block) → q ≢ a → block q ≡ Some z → n (Heap q) ≡ m (Heap q)
+  header_same = header_stays
+
+  pub moved_now : is_forwarded (n (Heap a)) ≡ true
+  moved_now = ap is_forwarded out.copied.forwarded ∙ header_forwarded to
+
+  pub collected_same : (y : ℕ) → is_collected c n y ≡ is_collected c m y
+  collected_same y = ap (λ k. nat_le c.region_words y && (bit_at k (region_with c y) == 1)) set_same
+
+  pub marked_still : AreMarkedPieces c m block → AreMarkedPieces c n plot
+  marked_still marked y collected black =
+      let was = marked y (sym (collected_same y) ∙ collected) (sym (black_same y) ∙ black) in
+      (was.0, stays y was.0 was.1)
+
+  pub order_still : IsInOrder c m block → IsInOrder c n plot
+  order_still order = record {
+    marked = marked_still order.marked;
+    reachable = λ y reached. kept_still order.floors y (⊎_elim (λ new. inl new) (λ old. inr (order.reachable y old)) (reached_was y reached));
+    no_new = no_new_still order.no_new;
+    floors = floors_still order.floors;
+    unseated = unseated_still order.unseated;
+  }

@@ -1,0 +1,234 @@
+-- Once all that is left of the collection set was copied out, nothing that can be reached lies there.
+use Rattle.std.proofs.Common.{◌≡◌, ◌≢◌, ℕ, ◌+◌, ◌*◌, ◌<◌, ◌≤◌, ◌==◌, ◌&&◌, nat_le, true, false, not, zero, suc, Option, Some, sym, ap, ◌∙◌, subst, ⊎_elim, arith}
+use Rattle.std.specs.Int.{bit_at}
+use Rattle.std.proofs.Math.Path.{fun_ext}
+use Rattle.std.proofs.lemmas.Bool.{cases_Bool, cases_eq, cond-true, cond-false, and_parts, and_from, and_left, and_right, le-leb, eq-eqb, ne_eqb, not-true, not_from_false, true≢false, false_from_ne_true}
+use Rattle.std.proofs.lemmas.Nat.Bits.{bit_at-zero}
+use Rattle.heap_words.specs.declared.config.Config.{Config}
+use Rattle.heap_words.specs.Words.{Word, Phase, Cset, Top, Current, Heap}
+use Rattle.heap_words.specs.Encoding.{is_forwarded}
+use Rattle.regions.specs.Place.{region_with}
+use Rattle.regions.specs.Sets.{IsIn}
+use Rattle.shen_graph.specs.Graph.{Graph}
+use Rattle.heap_world.specs.World.{Block, thing, words_of, Plot, IsCollected}
+use Rattle.heap_world.proofs.Pointing.{piece_inside}
+use Rattle.full_words.specs.Held.{IsAmong}
+use Rattle.full_words.specs.Full.{now_in, root_words}
+use Rattle.full_words.specs.Promised.{Promises, with_promised}
+use Rattle.full_words.proofs.Reached.{held_is_reached}
+use Rattle.image_graph.specs.Holds.{HoldsBy, AreSized}
+use Rattle.cycle_words.specs.Marking.Marks.{is_black, IsNew, IsKept}
+use Rattle.cycle_words.specs.Marking.WhileMarking.{CanBeReached}
+use Rattle.cycle_words.proofs.Marking.Plain.{below_top}
+use Rattle.cycle_words.specs.Evacuation.Live.{words_at}
+use Rattle.cycle_words.specs.Evacuation.Begun.{is_collected}
+use Rattle.cycle_words.specs.Evacuation.Copied.{copied_out, IsCopiedOut}
+use Rattle.cycle_words.specs.Finishing.Copies.{is_left, has_copy_room, copied_from, is_room_from, all_copied, is_room_for_all}
+use Rattle.cycle_words.specs.StillHolds.{WhileCollecting}
+use Rattle.cycle_words.proofs.Evacuation.CopyHolds as copy
+use Rattle.cycle_words.proofs.Evacuation.CopyHolds.{IsInOrder}
+use Rattle.cycle_words.proofs.Finishing.Copies.{copied_none, copied_next, copied_skips, room_if, room_skips}
+use Rattle.cycle_words.proofs.Finishing.CopiesHold as copies
+use Rattle.cycle_words.proofs.Finishing.CopiesHold.{IsCopiedSoFar}
+use Rattle.cycle_words.proofs.Finishing.Fields.{collected_low}
+
+-- What holds between two objects, and that nothing is left at the addresses that were passed.
+pub record IsGoingOn (c : Config) (n : Word → ℕ) (plot : Plot) (owner : ℕ → Option ℕ) (p : Promises) (g : Graph) (passed : ℕ) : Type 0 where
+  pub so_far : IsCopiedSoFar c n plot owner p g
+  pub order : IsInOrder c n plot
+  pub none_left : (y : ℕ) → y < passed → is_left c n y ≡ false
+
+module _ (c : Config) (owner : ℕ → Option ℕ) (p : Promises) (g : Graph) where
+  -- An object is left, and there is room.
+  module _ (m : Word → ℕ) (block : Plot) (a : ℕ) (on : IsGoingOn c m block owner p g a) (left : is_left c m a ≡ true) (room : has_copy_room c m a ≡ true) where
+    abbrev so_far : IsCopiedSoFar c m block owner p g
+    so_far = on.so_far
+
+    abbrev n : Word → ℕ
+    n = copied_out c m a
+
+    abbrev out : IsCopiedOut c m (copied_out c m a) a
+    out = copies.out c owner p g m block so_far a left room
+
+    abbrev parts : (is_collected c m a ≡ true) × (is_black c m a ≡ true) × (is_forwarded (m (Heap a)) ≡ false)
+    parts = copies.parts c owner p g m block so_far a left room
+
+    abbrev inside : IsCollected c (m Cset) a
+    inside = copies.inside c owner p g m block so_far a left room
+
+    abbrev piece : (b : Block) × (block a ≡ Some b)
+    piece = copies.piece c owner p g m block so_far a left room
+
+    abbrev words : words_at m a ≡ words_of piece.0
+    words = copies.words c owner p g m block so_far a left room
+
+    -- what is left was left, and is another object
+    left_was : (y : ℕ) → is_left c n y ≡ true → (y ≢ a) × (is_left c m y ≡ true)
+    left_was y now =
+        let three = and_parts (is_collected c n y && is_black c n y) (not (is_forwarded (n (Heap y)))) now in
+        let two = and_parts (is_collected c n y) (is_black c n y) three.0 in
+        let collected : is_collected c m y ≡ true = sym (copy.collected_same c m block owner p g so_far.holds a piece.0 piece.1 inside parts.2 words out y) ∙ two.0 in
+        let black : is_black c m y ≡ true = sym (copy.black_same c m block owner p g so_far.holds a piece.0 piece.1 inside parts.2 words out y) ∙ two.1 in
+        let plain : is_forwarded (n (Heap y)) ≡ false = not-true (is_forwarded (n (Heap y))) three.1 in
+        let other : y ≢ a = λ same.
+        true≢false (sym (copy.moved_now c m block owner p g so_far.holds a piece.0 piece.1 inside parts.2 words out) ∙ ap (λ k. is_forwarded (n (Heap k))) (sym same) ∙ plain) in
+        let was = so_far.marked y collected black in
+        let same : n (Heap y) ≡ m (Heap y) = copy.header_same c m block owner p g so_far.holds a piece.0 piece.1 inside parts.2 words out y was.0 other was.1 in (
+          other,
+          and_from (is_collected c m y && is_black c m y) (not (is_forwarded (m (Heap y)))) (and_from (is_collected c m y) (is_black c m y) collected black)
+              (not_from_false (is_forwarded (m (Heap y))) (ap is_forwarded (sym same) ∙ plain)),
+        )
+
+    one_more : (plot : Plot) × IsGoingOn c n plot owner p g (a + 1)
+    one_more = (
+      copy.plot c m block owner p g so_far.holds a piece.0 piece.1 inside parts.2 words out,
+      record {
+        so_far = copies.one_copied c owner p g m block so_far a left room;
+        order = copy.order_still c m block owner p g so_far.holds a piece.0 piece.1 inside parts.2 words out on.order;
+        none_left = λ y below. false_from_ne_true (is_left c n y) (λ now.
+            let was = left_was y now in
+            let other = was.0 in
+            true≢false (sym was.1 ∙ on.none_left y (omega (arith, below, other))));
+      },
+    )
+
+  -- address by address, where each object finds room
+  all_passed : (n : ℕ) (m : Word → ℕ) (block : Plot) (a : ℕ) → IsGoingOn c m block owner p g a → is_room_from c m a n ≡ true
+      → (plot : Plot) × IsGoingOn c (copied_from c m a n) plot owner p g (a + n)
+  all_passed zero m block a on room =
+      (block, subst (λ w. IsGoingOn c w block owner p g (a + 0)) (sym (copied_none c m a 0)) (subst (IsGoingOn c m block owner p g) (omega arith) on))
+  all_passed (suc n) m block a on room = ⊎_elim
+      (λ (left : is_left c m a ≡ true).
+      let both = room_if c m a n left room in
+      let one = one_more m block a on left both.0 in
+      let rest = all_passed n (copied_out c m a) one.0 (a + 1) one.1 both.1 in (
+        rest.0,
+        subst (λ w. IsGoingOn c w rest.0 owner p g (a + suc n)) (sym (copied_next c m a n left both.0))
+            (subst (IsGoingOn c (copied_from c (copied_out c m a) (a + 1) n) rest.0 owner p g) (omega arith) rest.1),
+      ))
+      (λ (other : is_left c m a ≡ false).
+      let next : IsGoingOn c m block owner p g (a + 1) = record {
+        so_far = on.so_far;
+        order = on.order;
+        none_left = λ y below. ⊎_elim
+            (λ (here : y ≡ a). ap (is_left c m) here ∙ other)
+            (λ (before : y ≢ a). on.none_left y (omega (arith, below, before)))
+            (cases_eq y a);
+      } in
+      let rest = all_passed n m block (a + 1) next (room_skips c m a n other room) in (
+        rest.0,
+        subst (λ w. IsGoingOn c w rest.0 owner p g (a + suc n)) (sym (copied_skips c m a n other))
+            (subst (IsGoingOn c (copied_from c m (a + 1) n) rest.0 owner p g) (omega arith) rest.1),
+      ))
+      (cases_Bool (is_left c m a))
+
+-- What is left once all found room: nothing that can be reached lies in the set.
+pub record IsEmptied (c : Config) (n : Word → ℕ) (plot : Plot) (owner : ℕ → Option ℕ) (p : Promises) (g : Graph) : Type 0 where
+  pub holds : HoldsBy c n plot owner p g
+  pub sized : AreSized n plot
+  pub reachable : n Cset ≢ 0 → (a : ℕ) → CanBeReached c n a → IsKept c n a
+  pub unseated : (seat r : ℕ) → n (Current seat) ≡ r + 1 → IsIn (n Cset) r → ⊥
+  pub outside : (a : ℕ) → CanBeReached c n a → IsCollected c (n Cset) a → ⊥
+
+-- a set that has a region is not empty
+pub some_set : (c : Config) (set a : ℕ) → IsCollected c set a → set ≢ 0
+some_set c set a inside none = (let zero' : bit_at set (region_with c a) ≡ 0 = ap (λ k. bit_at k (region_with c a)) none ∙ bit_at-zero (region_with c a) in omega (arith, zero', inside))
+
+module _ (c : Config) (n : Word → ℕ) (plot : Plot) (owner : ℕ → Option ℕ) (p : Promises) (g : Graph) (passed : ℕ) (on : IsGoingOn c n plot owner p g passed)
+    (all : (c.regions + 1) * c.region_words ≤ passed) where
+  nothing_inside : (a : ℕ) → CanBeReached c n a → IsCollected c (n Cset) a → ⊥
+  nothing_inside a reached inside =
+      let at = held_is_reached c (λ r. n (Top r)) (λ y. n (Heap y)) plot (now_in n) (IsAmong (root_words c n)) (with_promised g p) on.so_far.holds.objects a reached in
+      let object = on.so_far.holds.objects.each a at.1 at.2 at.0 reached at.3 in
+      let lies = piece_inside c (λ r. n (Top r)) plot on.so_far.holds.objects.plotted a (thing at.0 at.1 at.2) at.3 in
+      ⊎_elim
+      (λ (black : is_black c n a ≡ true).
+      let left : is_left c n a ≡ true =
+      and_from (is_collected c n a && is_black c n a) (not (is_forwarded (n (Heap a))))
+      (and_from (is_collected c n a) (is_black c n a)
+      (and_from (nat_le c.region_words a) (bit_at (n Cset) (region_with c a) == 1) (le-leb c.region_words a lies.0) (eq-eqb (bit_at (n Cset) (region_with c a)) 1 inside)) black)
+      (not_from_false (is_forwarded (n (Heap a))) (ap is_forwarded object.2.header)) in
+      true≢false (sym left ∙ on.none_left a (let end = lies.1 in omega (arith, end, all))))
+      (λ (fresh : IsNew c n a).
+      let below = below_top c (λ r. n (Top r)) plot on.so_far.holds.objects.plotted a (thing at.0 at.1 at.2) at.3 (omega arith) in
+      let old = on.order.no_new (region_with c a) inside in
+      let from = below.1 in
+      let end = below.2 in
+      omega (arith, fresh, old, from, end))
+      (on.order.reachable a reached)
+
+  emptied : IsEmptied c n plot owner p g
+  emptied = record {
+    holds = on.so_far.holds;
+    sized = on.so_far.sized;
+    reachable = λ some. on.order.reachable;
+    unseated = on.order.unseated;
+    outside = nothing_inside;
+  }
+
+module _ (c : Config) (m : Word → ℕ) (block : Plot) (owner : ℕ → Option ℕ) (p : Promises) (g : Graph) (holds : HoldsBy c m block owner p g) (sized : AreSized m block)
+    (while : WhileCollecting c m block) (room : is_room_for_all c m ≡ true) where
+  as_it_is : ((a : ℕ) → CanBeReached c m a → IsCollected c (m Cset) a → ⊥) → IsEmptied c m block owner p g
+  as_it_is outside = record { holds = holds; sized = sized; reachable = while.reachable; unseated = while.unseated; outside = outside }
+
+  at_first : IsCopiedSoFar c m block owner p g
+  at_first = record { holds = holds; sized = sized; marked = while.marked }
+
+  in_phase : m Phase ≡ 2 → m Cset ≢ 0 → (plot : Plot) × IsEmptied c (all_copied c m) plot owner p g
+  in_phase at some =
+      let begins : IsGoingOn c m block owner p g c.region_words = record {
+        so_far = at_first;
+        order = record { marked = while.marked; reachable = while.reachable some; no_new = while.no_new; floors = while.floors some; unseated = while.unseated };
+        none_left = λ y below. and_left (is_collected c m y && is_black c m y) (not (is_forwarded (m (Heap y)))) (and_left (is_collected c m y) (is_black c m y) (collected_low c m y below));
+      } in
+      let found : is_room_from c m c.region_words (c.regions * c.region_words) ≡ true =
+      sym (cond-true (m Phase == 2) (is_room_from c m c.region_words (c.regions * c.region_words)) true (eq-eqb (m Phase) 2 at)) ∙ room in
+      let all = all_passed c owner p g (c.regions * c.region_words) m block c.region_words begins found in
+      let same : copied_from c m c.region_words (c.regions * c.region_words) ≡ all_copied c m =
+      fun_ext (λ word. sym (cond-true (m Phase == 2) (copied_from c m c.region_words (c.regions * c.region_words) word) (m word) (eq-eqb (m Phase) 2 at))) in (
+        all.0,
+        subst (λ w. IsEmptied c w all.0 owner p g) same
+            (emptied c (copied_from c m c.region_words (c.regions * c.region_words)) all.0 owner p g (c.region_words + c.regions * c.region_words) all.1 (omega arith)),
+      )
+
+  -- without a set, and in other phases
+  without : m Cset ≡ 0 → (plot : Plot) × IsEmptied c (all_copied c m) plot owner p g
+  without none =
+      let all = copies.all_copied_hold c owner p g m block at_first in
+      let same : all_copied c m Cset ≡ m Cset = ⊎_elim
+      (λ (at : m Phase ≡ 2). cond-true (m Phase == 2) (copied_from c m c.region_words (c.regions * c.region_words) Cset) (m Cset) (eq-eqb (m Phase) 2 at)
+      ∙ nothing_copied c (c.regions * c.region_words) m c.region_words none Cset)
+      (λ (off : m Phase ≢ 2). cond-false (m Phase == 2) (copied_from c m c.region_words (c.regions * c.region_words) Cset) (m Cset) (ne_eqb (m Phase) 2 off))
+      (cases_eq (m Phase) 2) in
+      let zero' : all_copied c m Cset ≡ 0 = same ∙ none in (
+        all.0,
+        record {
+          holds = all.1.holds;
+          sized = all.1.sized;
+          reachable = λ some. absurd (some zero');
+          unseated = λ seat r is member. absurd (let bit : bit_at (all_copied c m Cset) r ≡ 0 = ap (λ k. bit_at k r) zero' ∙ bit_at-zero r in omega (arith, bit, member));
+          outside = λ a reached inside. some_set c (all_copied c m Cset) a inside zero';
+        },
+      )
+    where
+      -- no address is in an empty set
+      nothing_copied : (d : Config) (k : ℕ) (w : Word → ℕ) (a : ℕ) → w Cset ≡ 0 → (word : Word) → copied_from d w a k word ≡ w word
+      nothing_copied d zero w a none word = ap (λ (f : Word → ℕ). f word) (copied_none d w a 0)
+      nothing_copied d (suc k) w a none word =
+          let bit : bit_at (w Cset) (region_with d a) ≡ 0 = ap (λ s. bit_at s (region_with d a)) none ∙ bit_at-zero (region_with d a) in
+          let out : is_left d w a ≡ false =
+          and_left (is_collected d w a && is_black d w a) (not (is_forwarded (w (Heap a))))
+          (and_left (is_collected d w a) (is_black d w a) (and_right (nat_le d.region_words a) (bit_at (w Cset) (region_with d a) == 1) (ne_eqb (bit_at (w Cset) (region_with d a)) 1 (λ e. omega (arith, e, bit))))) in
+          ap (λ (f : Word → ℕ). f word) (copied_skips d w a k out) ∙ nothing_copied d k w (a + 1) none word
+
+  other_phase : m Phase ≢ 2 → (plot : Plot) × IsEmptied c (all_copied c m) plot owner p g
+  other_phase off =
+      let same : m ≡ all_copied c m =
+      fun_ext (λ word. sym (cond-false (m Phase == 2) (copied_from c m c.region_words (c.regions * c.region_words) word) (m word) (ne_eqb (m Phase) 2 off))) in
+      (block, subst (λ w. IsEmptied c w block owner p g) same (as_it_is (while.outside off)))
+
+  pub emptied_then : (plot : Plot) × IsEmptied c (all_copied c m) plot owner p g
+  emptied_then = ⊎_elim
+      (λ (none : m Cset ≡ 0). without none)
+      (λ (some : m Cset ≢ 0). ⊎_elim (λ (at : m Phase ≡ 2). in_phase at some) (λ (off : m Phase ≢ 2). other_phase off) (cases_eq (m Phase) 2))
+      (cases_eq (m Cset) 0)

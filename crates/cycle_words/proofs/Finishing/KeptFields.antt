@@ -1,0 +1,117 @@
+-- The fields that updating all references changes are those of kept objects outside the collection set.
+use Rattle.std.proofs.Common.{◌≡◌, ℕ, ◌+◌, ◌-◌, ◌<◌, ◌≤◌, ◌==◌, nat_le, nat_lt, true, inl, inr, Option, Some, sym, ap, ◌∙◌, subst, ⊎_elim, arith}
+use Rattle.std.specs.Int.{bit_at}
+use Rattle.std.proofs.lemmas.Bool.{and_parts, and_from, or_cases, or_left, or_right, leb-true, ltb-true, le-leb, lt-ltb, eqb-true}
+use Rattle.heap_words.specs.declared.config.Config.{Config}
+use Rattle.heap_words.specs.Words.{Word, Cset, Top, Tams, Heap}
+use Rattle.heap_words.specs.Encoding.{refs_in}
+use Rattle.regions.specs.Place.{base_of, region_with}
+use Rattle.regions.specs.Sets.{IsIn}
+use Rattle.shen_graph.specs.Graph.{Graph}
+use Rattle.heap_world.specs.World.{Block, words_of, Plot, IsCollected}
+use Rattle.full_words.specs.Promised.{Promises}
+use Rattle.image_graph.specs.Holds.{HoldsBy, AreSized}
+use Rattle.cycle_words.specs.Marking.Marks.{is_black, IsNew, IsKept}
+use Rattle.cycle_words.proofs.Marking.Plain.{below_top}
+use Rattle.cycle_words.specs.Evacuation.Live.{words_at}
+use Rattle.cycle_words.proofs.Evacuation.RegionAddresses as regions
+use Rattle.cycle_words.proofs.Evacuation.RegionAddresses.{from_base}
+use Rattle.cycle_words.specs.Finishing.Updated.{object_of, is_kept, is_reference, is_outside, is_kept_field}
+use Rattle.cycle_words.specs.Finishing.Laws.{IsFieldOfKept, KeptFieldsAreFields}
+use Rattle.cycle_words.proofs.Finishing.Fields.{covered, same_region, kept_field}
+use Rattle.cycle_words.proofs.Finishing.UpdatedHolds.{some_words}
+
+-- the test of a kept object says that it is one
+kept_is : (c : Config) (m : Word → ℕ) (a : ℕ) → base_of c (region_with c a) ≤ a → is_kept c m a ≡ true → IsKept c m a
+kept_is c m a above is = ⊎_elim
+    (λ (black : is_black c m a ≡ true). inl black)
+    (λ (fresh : nat_le (m (Tams (region_with c a))) (a - base_of c (region_with c a)) ≡ true). inr (let high = leb-true (m (Tams (region_with c a))) (a - base_of c (region_with c a)) fresh in omega (arith, high, above)))
+    (or_cases (is_black c m a) (nat_le (m (Tams (region_with c a))) (a - base_of c (region_with c a))) is)
+
+is_kept_is : (c : Config) (m : Word → ℕ) (a : ℕ) → IsKept c m a → is_kept c m a ≡ true
+is_kept_is c m a kept = ⊎_elim
+    (λ (black : is_black c m a ≡ true). or_left (is_black c m a) (nat_le (m (Tams (region_with c a))) (a - base_of c (region_with c a))) black)
+    (λ (fresh : IsNew c m a).
+    or_right (is_black c m a) (nat_le (m (Tams (region_with c a))) (a - base_of c (region_with c a))) (le-leb (m (Tams (region_with c a))) (a - base_of c (region_with c a)) (omega (arith, fresh))))
+    kept
+
+module _ (c : Config) (m : Word → ℕ) (block : Plot) (owner : ℕ → Option ℕ) (p : Promises) (g : Graph) (holds : HoldsBy c m block owner p g) (sized : AreSized m block) where
+  some : (a : ℕ) (b : Block) → block a ≡ Some b → 1 ≤ words_of b
+  some = some_words c m block owner p g holds sized
+
+  sizes : (a : ℕ) (b : Block) → block a ≡ Some b → (IsCollected c (m Cset) a → ⊥) → words_at m a ≡ words_of b
+  sizes a b is away = sized a b is
+
+  -- what the walk finds is a field of a kept object
+  module _ (x : ℕ) (is : is_kept_field c m x ≡ true) where
+    abbrev r : ℕ
+    r = region_with c x
+
+    abbrev a : ℕ
+    a = object_of c m x
+
+    parts : ((is_outside c m x ≡ true) × (is_kept c m a ≡ true)) × (is_reference m a x ≡ true)
+    parts = let both = and_parts _ (is_reference m a x) is in (and_parts (is_outside c m x) (is_kept c m a) both.0, both.1)
+
+    lies : (c.region_words ≤ x) × (r < c.regions) × (bit_at (m Cset) r ≡ 0) × (x - base_of c r < m (Top r))
+    lies =
+        let last = and_parts _ (nat_lt (x - base_of c r) (m (Top r))) parts.0.0 in
+        let set = and_parts _ (bit_at (m Cset) r == 0) last.0 in
+        let first = and_parts (nat_le c.region_words x) (nat_lt r c.regions) set.0 in
+        (leb-true c.region_words x first.0, ltb-true r c.regions first.1, eqb-true (bit_at (m Cset) r) 0 set.1, ltb-true (x - base_of c r) (m (Top r)) last.1)
+
+    from : base_of c r ≤ x
+    from = let again = from_base c.region_words x (regions.some_words c) lies.0 in omega (arith, again)
+
+    outside : IsIn (m Cset) r → ⊥
+    outside member = let none = lies.2 in omega (arith, member, none)
+
+    found : (b : Block) × (block a ≡ Some b) × (a ≤ x) × (x < a + words_of b)
+    found =
+        let at = covered c m block holds.objects.plotted holds.filled some sizes r (x - base_of c r) lies.1 outside lies.3 in
+        let start = from in
+        let low = at.2 in
+        let high = at.3 in
+        (at.0, at.1, omega (arith, start, low), omega (arith, start, high))
+
+    region_is : region_with c a ≡ r
+    region_is =
+        let low = found.2 in
+        let high = found.3 in
+        let offset : ℕ = x - a in
+        let back : a + (x - a) ≡ x = omega (arith, low) in
+        sym (same_region c m block holds.objects.plotted holds.filled some sizes a (x - a) found.0 found.1 (omega (arith, low, high))) ∙ ap (region_with c) back
+
+    bounds : (a + 3 ≤ x) × (x < a + 3 + refs_in (m (Heap (a + 1))))
+    bounds =
+        let both = and_parts (nat_le (a + 3) x) (nat_lt x (a + 3 + refs_in (m (Heap (a + 1))))) parts.1 in
+        (leb-true (a + 3) x both.0, ltb-true x (a + 3 + refs_in (m (Heap (a + 1)))) both.1)
+
+    pub field_is : IsFieldOfKept c m block x
+    field_is = record {
+      object = a;
+      piece = found.0;
+      here = found.1;
+      outside = ap (bit_at (m Cset)) region_is ∙ lies.2;
+      kept = kept_is c m a (below_top c (λ q. m (Top q)) block holds.objects.plotted a found.0 found.1 (some a found.0 found.1)).1 parts.0.1;
+      field = x - (a + 3);
+      few = (let low = bounds.0 in let high = bounds.1 in omega (arith, low, high));
+      at = (let low = bounds.0 in omega (arith, low));
+    }
+
+  -- and the walk finds each
+  pub is_field : (x : ℕ) → IsFieldOfKept c m block x → is_kept_field c m x ≡ true
+  is_field x field =
+      let away : IsCollected c (m Cset) field.object → ⊥ = λ member. (let none = field.outside in omega (arith, member, none)) in
+      let size = sized field.object field.piece field.here in
+      let few = field.few in
+      let place : field.object + (3 + field.field) ≡ x = (let at = field.at in omega (arith, at)) in
+      let below : 3 + field.field < words_of field.piece = omega (arith, size, few) in
+      subst (λ y. is_kept_field c m y ≡ true) place
+      (kept_field c m block holds.objects.plotted holds.filled some sizes field.object (3 + field.field) field.piece field.here below away (is_kept_is c m field.object field.kept)
+      (and_from (nat_le (field.object + 3) (field.object + (3 + field.field))) (nat_lt (field.object + (3 + field.field)) (field.object + 3 + refs_in (m (Heap (field.object + 1)))))
+      (le-leb (field.object + 3) (field.object + (3 + field.field)) (omega arith))
+      (lt-ltb (field.object + (3 + field.field)) (field.object + 3 + refs_in (m (Heap (field.object + 1)))) (omega (arith, few)))))
+
+pub kept_fields_are_fields : KeptFieldsAreFields
+kept_fields_are_fields c m block owner p g holds sized x = (field_is c m block owner p g holds sized x, is_field c m block owner p g holds sized x)
