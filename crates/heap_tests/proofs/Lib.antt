@@ -1,1 +1,2 @@
+pub mod LeftAtRest
 pub mod SharedHeap

@@ -1,0 +1,245 @@
+-- A heap of one mutator in which nobody does anything: another one can begin from its words, also once they were collected.
+use Rattle.std.proofs.Common.{◌≡◌, ◌≢◌, ℕ, ◌+◌, ◌<◌, Bool, true, false, List, [], ◌∷◌, length, map, Option, Some, None, refl, sym, ap, ◌∙◌, subst, arith}
+use Rattle.std.specs.Prelude.{slice_get, slice_index, slice_index_or, nat_lt, if◌then◌else◌}
+use Rattle.std.specs.Option.{option_map}
+use Rattle.std.proofs.lemmas.Option.{slice_get_within, slice_get-map, get_or_from_slice_get}
+use Rattle.std.proofs.lemmas.Bool.Decides.{nat_tests}
+use Rattle.heap_words.specs.declared.config.Config.{Config}
+use Rattle.heap_words.specs.Ranges.{seat_count}
+use Rattle.heap_words.specs.Words.{Word, Pause, Left, State, view, write}
+use Rattle.steps_base.specs.Steps.{Stage}
+use Rattle.shen_graph.specs.declared.command.Reply.{Reply}
+use Rattle.shen_graph.specs.Graph.{Graph}
+use Rattle.mutator.specs.declared.spot.Spot.{Spot}
+use Rattle.mutator.specs.declared.spot.Spot.TheVariants.{Rest, Ended, Gone}
+use Rattle.mutator.specs.Orders.{is_between_calls, takes_commands}
+use Rattle.mutator.specs.Rows.{Mutating, fresh_mutator, reply_at}
+use Rattle.handshake.specs.Standing.{is_within}
+use Rattle.control_rows.specs.Rows.{Controlling}
+use Rattle.heap_world.specs.Asking.{Asking, nothing, IsAsked}
+use Rattle.heap_world.specs.Change.{Answers}
+use Rattle.heap_world.specs.Represents.{Represents, RepresentsByCopies}
+use Rattle.full_words.specs.Full.{full}
+use Rattle.image_graph.specs.Holds.{HoldsSome}
+use Rattle.cycle_pauses.proofs.Full.Pauses.{from_copies, representing_holds}
+use Rattle.step_core.specs.Actor.{Machine, mutating, controlling, fresh_helper, fresh_control, Actor}
+use Rattle.step_core.specs.AtRest.{IsAtRest}
+use Rattle.step_core.specs.Opening.{first_free, opening_machine, opening}
+use Rattle.step_core.specs.Begins.{Run, ending, history_in, graph_after}
+use Rattle.step_core.specs.Machines.{is_resting, may_begin, made_of_machine, reply_in, standing_of, HasNumber}
+use Rattle.step_core.specs.Seats.{is_working}
+use Rattle.step_core.specs.Standing.{standing_at}
+use Rattle.step_core.specs.Settled.{settled, settled_by, image_of, image_read, control_number}
+use Rattle.step_core.specs.Sound.{IsSound}
+use Rattle.step_core.proofs.Theorem.EveryList.{run_sound, run_rests}
+use Rattle.heap_machines.specs.Pause.{pause_image}
+use Rattle.heap_machines.specs.Shown.{no_machine}
+use Rattle.heap_machines.proofs.Pauses.{heap_pauses}
+use Rattle.heap_machines.proofs.Openings.{first_actor, first_rests, first_free_to_begin, first_made}
+use Rattle.shen_core.specs.Runs.{WordsShow}
+use Rattle.shen_core.specs.FromImage.{CanBeginFrom}
+
+-- a mutator between two calls that has given a reply rests, and may begin a call
+pub replied_rests : (m : Machine) (reply : Reply) → reply_in m ≡ Some reply → (is_resting m ≡ true) × (may_begin m ≡ true)
+replied_rests (mutating m) reply is = by_spot m.spot is
+  where
+    by_spot : (spot : Spot) → reply_at spot ≡ Some reply → (is_between_calls spot ≡ true) × (takes_commands spot ≡ true)
+    by_spot (Ended given) is = (refl, refl)
+    by_spot _ is = absurd cc
+replied_rests _ reply is = absurd cc
+
+-- who rests is not in the heap
+resting_outside : (m : Machine) → is_resting m ≡ true → is_within (standing_of m) ≡ false
+resting_outside (mutating m) rest = by_spot m.spot rest
+  where
+    by_spot : (spot : Spot) → is_between_calls spot ≡ true → is_within (standing_at spot) ≡ false
+    by_spot Rest rest = refl
+    by_spot (Ended reply) rest = refl
+    by_spot Gone rest = refl
+    by_spot _ rest = absurd cc
+resting_outside _ rest = absurd cc
+
+-- the graph of words that represent one, and how many objects the first thread has made in it
+abbrev pub LeftGraph : Config → (Word → ℕ) → ℕ → Type 0
+LeftGraph c memory made = (g : Graph) × Represents c memory g (λ t. nothing) × (g.count 1 ≡ made)
+
+module _ (c : Config) (words : List ℕ) (machines : List Machine) (free : ℕ) (one : c.mutators ≡ 1) (alone : c.helpers ≡ 0) (rest : is_resting (slice_index_or machines 0 no_machine) ≡ true)
+    (control : slice_index_or machines 1 no_machine ≡ fresh_control free) (run : Run c) (shows : WordsShow words machines (ending pause_image c run)) where
+  abbrev s : Stage Actor
+  s = ending pause_image c run
+
+  abbrev sound : IsSound c run.graph s (history_in pause_image c run)
+  sound = run_sound pause_image heap_pauses c run
+
+  rests : (t : ℕ) → t < c.mutators → is_resting (slice_index_or machines t no_machine) ≡ true
+  rests t below =
+      let first : 0 ≡ t = omega (arith, below, one) in
+      subst (λ (k : ℕ). is_resting (slice_index_or machines k no_machine) ≡ true) first rest
+
+  last : 1 ≡ control_number c
+  last = omega (arith, one, alone)
+
+  its_control : slice_index_or machines (control_number c) no_machine ≡ fresh_control free
+  its_control = subst (λ (k : ℕ). slice_index_or machines k no_machine ≡ fresh_control free) last control
+
+  -- the machine of an actor
+  machine_is : (number : ℕ) (a : Actor) → slice_get s.machines number ≡ Some a → a.machine ≡ slice_index_or machines number no_machine
+  machine_is number a here =
+      let there : slice_get machines number ≡ Some a.machine =
+      ap (λ ms. slice_get ms number) (sym shows.machines_are) ∙ slice_get-map (λ b. b.machine) s.machines number ∙ ap (option_map (λ b. b.machine)) here in
+      sym (get_or_from_slice_get machines number a.machine no_machine there)
+
+  -- the control stores no image
+  is_calm : image_of (slice_get s.machines (control_number c)) ≡ None
+  is_calm = by_actor (slice_get s.machines (control_number c)) refl
+    where
+      by_actor : (o : Option Actor) → slice_get s.machines (control_number c) ≡ o → image_of o ≡ None
+      by_actor None here = refl
+      by_actor (Some a) here = ap image_read (machine_is (control_number c) a here) ∙ ap image_read its_control
+
+  -- the control is the one with which a heap begins
+  control_is : (number : ℕ) (a : Actor) (k : Controlling) → slice_get s.machines number ≡ Some a → a.machine ≡ controlling k → controlling k ≡ fresh_control free
+  control_is number a k here is =
+      let at : number ≡ c.mutators + c.helpers = subst (HasNumber c number) is (sound.of_heap.roles number a here) in
+      sym is ∙ machine_is number a here ∙ ap (λ (n : ℕ). slice_index_or machines n no_machine) at ∙ its_control
+
+  at_rest : IsAtRest c s
+  at_rest = record {
+    calls = λ number a m mutator. ap is_resting (sym mutator.is) ∙ ap is_resting (machine_is number a mutator.here) ∙ rests number (sound.of_heap.numbers number a m mutator).1;
+    outside = λ number a here other.
+        let within : number < length s.machines = slice_get_within s.machines number a here in
+        let seats = sound.of_heap.machines in
+        let below : number < c.mutators = omega (arith, within, seats, other) in
+        resting_outside a.machine (ap is_resting (machine_is number a here) ∙ rests number below);
+    no_unit = λ number a k here is. ap (λ (m : Machine). works_of m) (control_is number a k here is);
+    no_image = λ number a k here is. ap image_read (control_is number a k here is);
+  }
+    where
+      works_of : Machine → Bool
+      works_of (controlling k) = is_working k.spot
+      works_of _ = false
+
+  -- the words of the table count
+  counts : settled c s ≡ view c s.words
+  counts = ap (settled_by c s.words) is_calm
+
+  represents : Represents c (view c words) (graph_after pause_image c run) (λ t. nothing)
+  represents = subst (λ (ws : List ℕ). Represents c (view c ws) (graph_after pause_image c run) (λ t. nothing)) shows.words_are
+      (subst (λ (memory : Word → ℕ). Represents c memory (graph_after pause_image c run) (λ t. nothing)) counts (run_rests pause_image heap_pauses c run.start run.graph run.begins run.events at_rest))
+
+  made : (graph_after pause_image c run).count 1 ≡ made_of_machine (slice_index_or machines 0 no_machine)
+  made =
+      let below : 0 < c.mutators = omega (arith, one) in
+      let there = sound.of_heap.mutators 0 below in
+      let seat : there.mutator.seat ≡ 0 = (sound.of_heap.numbers 0 there.actor there.mutator there.here).0 in
+      subst (λ (n : ℕ). (graph_after pause_image c run).count (n + 1) ≡ there.mutator.made) seat (sound.stands.mutators 0 there.actor there.mutator there.here).made
+      ∙ ap made_of_machine (sym there.here.is) ∙ ap made_of_machine (machine_is 0 there.actor there.here.here)
+
+  pub left : LeftGraph c (view c words) (made_of_machine (slice_index_or machines 0 no_machine))
+  left = (graph_after pause_image c run, represents, made)
+
+-- a full collection leaves the graph
+nothing_only : (a : Asking) → Answers nothing a → a ≡ nothing
+nothing_only nothing is = refl
+nothing_only _ is = absurd is
+
+by_copies : (c : Config) (memory : Word → ℕ) (g : Graph) (asking : ℕ → Asking) → Represents c memory g asking → RepresentsByCopies c memory g asking
+by_copies c memory g asking r = record {
+  block = r.block;
+  ghost = r.ghost;
+  shared = r.shared;
+  roots = r.roots;
+  usable = tt;
+  none = r.none;
+  asked = r.asked;
+  heard = r.heard;
+  promised_to = r.promised_to;
+  unmarking = r.unmarking;
+  uncopying = r.uncopying;
+  no_more = r.no_more;
+}
+
+pub left_holds : (c : Config) (memory : Word → ℕ) (made : ℕ) → LeftGraph c memory made → HoldsSome c memory
+left_holds c memory made left = representing_holds c memory left.0 (λ t. nothing) left.1
+
+pub left_collected : (c : Config) (memory : Word → ℕ) (made : ℕ) → LeftGraph c memory made → LeftGraph c (full c memory) made
+left_collected c memory made left =
+    let paused = from_copies c memory left.0 (λ t. nothing) (by_copies c memory left.0 (λ t. nothing) left.1) in
+    let stands = paused.stands in (
+      left.0,
+      record {
+        block = stands.block;
+        ghost = stands.ghost;
+        shared = stands.shared;
+        roots = stands.roots;
+        usable = stands.usable;
+        none = stands.none;
+        asked = λ t below. subst (IsAsked (full c memory) stands.block left.0.count t) (nothing_only (paused.asked_then t) (paused.answers t below)) (stands.asked t below);
+        heard = λ t refs nums below is. absurd cc;
+        promised_to = stands.promised_to;
+        unmarking = stands.unmarking;
+        uncopying = stands.uncopying;
+        no_more = stands.no_more;
+      },
+      left.2,
+    )
+
+-- the words before those of the image are as they are before the first event
+abbrev pub opened : (Word → ℕ) → Word → ℕ
+opened memory = write (write (write memory Pause 0) (State 0) 0) Left 1
+
+-- a heap can begin from the words then
+pub left_can_begin : (c : Config) (memory : Word → ℕ) (made : ℕ) → c.mutators ≡ 1 → c.helpers ≡ 0 → (left : LeftGraph c memory made) → CanBeginFrom c (opened memory) (made ∷ []) left.0
+left_can_begin c memory made one alone left =
+    let r = left.1 in
+    record {
+      stands = record {
+        block = r.block;
+        ghost = r.ghost;
+        shared = r.shared;
+        roots = r.roots;
+        usable = r.usable;
+        none = r.none;
+        asked = r.asked;
+        heard = r.heard;
+        promised_to = r.promised_to;
+        unmarking = r.unmarking;
+        uncopying = r.uncopying;
+        no_more = r.no_more;
+      };
+      outside = record {
+        pause = refl;
+        states = λ seat below. let first : 0 ≡ seat = omega (arith, below, one, alone) in subst (λ (k : ℕ). opened memory (State k) ≡ 0) first refl;
+        left = sym one;
+      };
+      counts_are = λ t below. let first : 0 ≡ t = omega (arith, below, one) in subst (λ (k : ℕ). left.0.count (k + 1) ≡ slice_index (made ∷ []) k) first left.2;
+    }
+
+-- a machine of a heap before the first event
+opened_machine : (c : Config) (machines : List Machine) (number : ℕ) → map (λ a. a.machine) (opening c).machines ≡ machines → number < seat_count c.mutators c.helpers
+    → slice_index_or machines number no_machine ≡ opening_machine c number
+opened_machine c machines number is below =
+    let there : slice_get machines number ≡ Some (opening_machine c number) =
+    ap (λ ms. slice_get ms number) (sym is) ∙ slice_get-map (λ b. b.machine) (opening c).machines number ∙ ap (option_map (λ b. b.machine)) (first_actor c number below) in
+    get_or_from_slice_get machines number (opening_machine c number) no_machine there
+
+module _ (c : Config) (machines : List Machine) (is : map (λ a. a.machine) (opening c).machines ≡ machines) (one : c.mutators ≡ 1) (alone : c.helpers ≡ 0) where
+  first_is : slice_index_or machines 0 no_machine ≡ opening_machine c 0
+  first_is = opened_machine c machines 0 is (omega arith)
+
+  pub opened_rests : is_resting (slice_index_or machines 0 no_machine) ≡ true
+  opened_rests = ap is_resting first_is ∙ first_rests c 0 (omega (arith, one))
+
+  pub opened_begins : may_begin (slice_index_or machines 0 no_machine) ≡ true
+  opened_begins = ap may_begin first_is ∙ first_free_to_begin c 0 (omega (arith, one))
+
+  pub opened_made : made_of_machine (slice_index_or machines 0 no_machine) ≡ 0
+  opened_made = ap made_of_machine first_is ∙ first_made c 0
+
+  pub opened_control : slice_index_or machines 1 no_machine ≡ fresh_control (first_free c.regions)
+  opened_control =
+      let mutator : nat_lt 1 c.mutators ≡ false = grind (arith, nat_tests, one) in
+      let helper : nat_lt 1 (c.mutators + c.helpers) ≡ false = grind (arith, nat_tests, one, alone) in
+      opened_machine c machines 1 is (omega (arith, one, alone))
+      ∙ ap (λ (b : Bool). if b then mutating (fresh_mutator 1) else (if nat_lt 1 (c.mutators + c.helpers) then fresh_helper 1 else fresh_control (first_free c.regions))) mutator
+      ∙ ap (λ (b : Bool). if b then fresh_helper 1 else fresh_control (first_free c.regions)) helper

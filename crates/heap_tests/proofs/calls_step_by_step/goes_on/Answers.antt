@@ -1,0 +1,61 @@
+use Rattle.std.proofs.Common.{◌≡◌, ℕ, ◌<◌, ◌+◌, List, [], ◌∷◌, map, refl, sym, ap, ◌∙◌, subst, arith}
+use Rattle.std.specs.Prelude.{slice_index, slice_index_or, nat_lt, if◌then◌else◌}
+use Rattle.std.specs.List.{range_with_len}
+use Rattle.std.proofs.Math.Logic.{∥∥₁_map}
+use Rattle.std.proofs.lemmas.Bool.{lt-ltb}
+use Rattle.std.proofs.lemmas.List.FromFn.{get_or-map-range_with_len}
+use Rattle.std.proofs.lemmas.Simd.{map-map}
+use Rattle.heap_words.specs.declared.config.Config.{Config}
+use Rattle.heap_words.specs.Ranges.{seat_count}
+use Rattle.heap_words.specs.Words.{Word, Pause, State, Left, view, write}
+use Rattle.mutator.specs.Rows.{mutator_after}
+use Rattle.heap_machines.specs.Shown.{no_machine}
+use Rattle.image_graph.specs.State as images
+use Rattle.image_graph.proofs.NamedStores.{stored}
+use Rattle.step_core.specs.Actor as actors
+use Rattle.step_core.specs.Machines.{may_begin, made_of_machine}
+use Rattle.shen_core.specs.FromImage.{CanBeginFrom, control_from, machine_from, actor_from, stage_from}
+use Rattle.shen_core.specs.State.{machines_of}
+use Rattle.heap_tests.proofs.LeftAtRest.{LeftGraph, opened, left_can_begin}
+use Rattle.heap_tests.proofs.calls_step_by_step.goes_on.Goals as goal
+
+-- the first machine is a mutator, whose thread has made so many objects
+first_from : (c : Config) (words counts : List ℕ) (machines : List actors.Machine) → map (λ a. a.machine) (stage_from c words counts).machines ≡ machines → 0 < c.mutators
+    → slice_index_or machines 0 no_machine ≡ actors.mutating (mutator_after 0 (slice_index counts 0))
+unfolding stage_from
+first_from c words counts machines is some =
+    let made = machine_from c counts (view c words) in
+    ap (λ ms. slice_index_or ms 0 no_machine) (sym is ∙ map-map (λ a. a.machine) (actor_from c counts (view c words)) (range_with_len 0 (seat_count c.mutators c.helpers)))
+    ∙ get_or-map-range_with_len made 0 (seat_count c.mutators c.helpers) 0 0 no_machine (omega arith) refl
+    ∙ ap (λ b. if b then actors.mutating (mutator_after 0 (slice_index counts 0)) else (if nat_lt 0 (c.mutators + c.helpers) then actors.fresh_helper 0 else control_from (view c words))) (lt-ltb 0 c.mutators some)
+
+pub open_from-requires-clause-begins : goal.open_from-requires-clause-begins
+open_from-requires-clause-begins c =
+    let g = c.config-config.result in
+    let e0 : images.config_of c.args.image ≡ g = sym c.config-config.ensures in
+    let e1 : images.config_of c.set_word.new.self ≡ g = c.set_word.ensures.config ∙ e0 in
+    let e2 : images.config_of c.set_word-2.new.self ≡ g = c.set_word-2.ensures.config ∙ e1 in
+    let seat : 0 < g.mutators + g.helpers = (let one = ap (λ (k : Config). k.mutators) (sym e0) ∙ c.requires.seats.0 in omega (arith, one)) in
+    let s1 = stored (images.config_of c.args.image) g _ _ Pause c.pause_at.result 0 e0 tt c.pause_at.ensures c.set_word.ensures.named in
+    let s2 = stored (images.config_of c.set_word.new.self) g _ _ (State 0) c.state_at.result 0 e1 seat c.state_at.ensures c.set_word-2.ensures.named in
+    let s3 = stored (images.config_of c.set_word-2.new.self) g _ _ Left c.left_at.result 1 e2 tt c.left_at.ensures c.set_word-3.ensures.named in
+    let words : images.memory_of c.set_word-3.new.self ≡ opened (images.memory_of c.args.image) = s3 ∙ ap (λ n. write n Left 1) (s2 ∙ ap (λ n. write n (State 0) 0) s1) in
+    let config : images.config_of c.set_word-3.new.self ≡ images.config_of c.args.image = c.set_word-3.ensures.config ∙ e2 ∙ sym e0 in
+    ∥∥₁_map c.requires.stands (λ (left : LeftGraph (images.config_of c.args.image) (images.memory_of c.args.image) c.args.made). (
+      left.0,
+      subst (λ (k : Config). CanBeginFrom k (images.memory_of c.set_word-3.new.self) (c.args.made ∷ []) left.0) (sym config)
+          (subst (λ (m : Word → ℕ). CanBeginFrom (images.config_of c.args.image) m (c.args.made ∷ []) left.0) (sym words)
+          (left_can_begin (images.config_of c.args.image) (images.memory_of c.args.image) c.args.made c.requires.seats.0 c.requires.seats.1 left)),
+    ))
+
+pub returns-clause-rest : goal.returns-clause-rest
+returns-clause-rest c =
+    let config = c.set_word-3.ensures.config ∙ c.set_word-2.ensures.config ∙ c.set_word.ensures.config in
+    ap may_begin (first_from (images.config_of c.set_word-3.new.self) (images.words_of c.set_word-3.new.self) (c.args.made ∷ []) (machines_of c.in_ok-plain.plain) c.in_ok-plain.ensures.stage.machines_are
+    (let one = ap (λ (k : Config). k.mutators) config ∙ c.requires.seats.0 in omega (arith, one)))
+
+pub returns-clause-made : goal.returns-clause-made
+returns-clause-made c =
+    let config = c.set_word-3.ensures.config ∙ c.set_word-2.ensures.config ∙ c.set_word.ensures.config in
+    ap made_of_machine (first_from (images.config_of c.set_word-3.new.self) (images.words_of c.set_word-3.new.self) (c.args.made ∷ []) (machines_of c.in_ok-plain.plain) c.in_ok-plain.ensures.stage.machines_are
+    (let one = ap (λ (k : Config). k.mutators) config ∙ c.requires.seats.0 in omega (arith, one)))

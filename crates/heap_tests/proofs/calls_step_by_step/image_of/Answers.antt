@@ -1,0 +1,26 @@
+use Rattle.std.proofs.Common.{◌≡◌, ℕ, ◌<◌, List, length, take, sym, ap, ◌∙◌, subst, arith}
+use Rattle.std.proofs.Math.Logic.{∥∥₁_map}
+use Rattle.std.proofs.lemmas.List.{take_all}
+use Rattle.heap_words.specs.Words.{Word, view, table_words}
+use Rattle.image_graph.specs.State as images
+use Rattle.step_core.specs.Machines.{made_of_machine}
+use Rattle.step_core.specs.Opening.{first_free}
+use Rattle.shen_core.specs.Runs.{IsShownBySome}
+use Rattle.shen_core.specs.State.{config_of, words_of, machines_of, machine_at}
+use Rattle.heap_tests.proofs.LeftAtRest.{LeftGraph, left}
+use Rattle.heap_tests.proofs.calls_step_by_step.image_of.Goals as goal
+
+pub returns-clause-stands : goal.returns-clause-stands
+returns-clause-stands c =
+    let p = c.args.plain.now in
+    let image = c.loop-at.image in
+    let whole = image.all_words ∙ ap table_words c.loop-at.invariant.config in
+    let all = ap table_words c.config-config.ensures in
+    let words : images.words_of image ≡ words_of p =
+    sym (take_all c.loop-at.at (images.words_of image) (omega (arith, whole, all, c.loop-at-test.false, c.table_words-at-end.ensures)))
+    ∙ c.loop-at.invariant.words
+    ∙ take_all c.loop-at.at (words_of p) (omega (arith, p.all_words, all, c.loop-at-test.false, c.table_words-at-end.ensures)) in
+    let memory : view (config_of p) (words_of p) ≡ images.memory_of image =
+    sym (ap (λ k. view k (images.words_of image)) c.loop-at.invariant.config ∙ ap (view (config_of p)) words) in
+    ∥∥₁_map p.reached (λ (some : IsShownBySome (config_of p) (words_of p) (machines_of p)). subst (λ (m : Word → ℕ). LeftGraph (config_of p) m (made_of_machine (machine_at p 0))) memory
+    (left (config_of p) (words_of p) (machines_of p) (first_free (config_of p).regions) c.requires.seats.0 c.requires.seats.1 c.requires.rest c.requires.control some.run some.shows))
