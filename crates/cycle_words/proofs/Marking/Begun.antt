@@ -145,4 +145,9 @@ module _ (c : Config) (m : Word → ℕ) (block : Plot) (owner : ℕ → Option 
   }
 
   pub init_marks : BeginsMarking c m n block owner p g
-  init_marks = record { holds = holds_alike m n alike c block owner p g holds; left = holds_alike m n alike c left owner p g left_holds; marking = marking }
+  init_marks = record {
+    holds = holds_alike m n alike c block owner p g holds;
+    left = holds_alike m n alike c left owner p g left_holds;
+    marking = marking;
+    sized = λ sized a b is. let from = pruned_from found block a b is in sized a from.0 from.1 ∙ from.2;
+  }

@@ -8,7 +8,7 @@ use Rattle.heap_graph.specs.Walk.{has}
 use Rattle.heap_world.specs.World.{Plot}
 use Rattle.full_words.specs.Full.{held_in}
 use Rattle.full_words.specs.Promised.{Promises}
-use Rattle.image_graph.specs.Holds.{HoldsBy}
+use Rattle.image_graph.specs.Holds.{HoldsBy, AreSized}
 use Rattle.cycle_words.specs.Marking.Marks.{is_grey, is_black}
 use Rattle.cycle_words.specs.Marking.Init.{init_marked, pruned}
 use Rattle.cycle_words.specs.Marking.Close.{IsTraced, closed}
@@ -16,11 +16,12 @@ use Rattle.cycle_words.specs.Marking.WhileMarking.{IsMarking, IsMarkedThrough}
 use Rattle.cycle_words.specs.Marking.Final.{IsDead, is_dead, dead_in, freed_block, freed_owner, final_marked}
 
 -- The words stand for the same graph, also where objects that nothing leads to only fill; and of these pieces what holds while marking
--- runs holds.
+-- runs holds. Where each piece said how many words it has, each of these does.
 pub record BeginsMarking (c : Config) (before after : Word → ℕ) (block : Plot) (owner : ℕ → Option ℕ) (p : Promises) (g : Graph) : Type 0 where
   pub holds : HoldsBy c after block owner p g
   pub left : HoldsBy c after (pruned (has (held_in c before)) block) owner p g
   pub marking : IsMarking c after (pruned (has (held_in c before)) block)
+  pub sized : AreSized before block → AreSized after (pruned (has (held_in c before)) block)
 
 -- So it is where marking begins.
 abbrev pub InitMarks : Type 0
