@@ -33,12 +33,13 @@ fn begin_with(first: &str, words: &[String]) -> bool
 
 /// Runs the program on these words of the command line, which are without the program's name. `replay` and `run` read a trace
 /// from the source to its end, run it on a heap that collects in pauses, and write the replies and the final graph to the
-/// sink. `replay` makes the steps of the schedule and then of rounds on the caller's thread; with `--steps N` it makes N steps
-/// at most. `run` gives each machine a thread of its own, and takes no notice of the schedule; with `--workers K` the machines are
-/// dealt to K threads at most, of which the caller's is one. `churn SEED COUNT` reads nothing: it makes the scripts of three
-/// threads from the two numbers, runs them as `run` does, and writes what is told of the run in eight lines. Each step of a
-/// machine passes the gate there. Any other words are refused before anything is read. Where there is no answer one line says
-/// why; if that cannot be written either, the status is `WriteFault`.
+/// sink. `replay` makes the steps of the schedule and then of rounds on the caller's thread; with `--steps N` it makes N
+/// steps at most, and with `--history`, which comes last, it writes the history behind the answer. `run` gives each machine a
+/// thread of its own, and takes no notice of the schedule; with `--workers K` the machines are dealt to K threads at most, of
+/// which the caller's is one. `churn SEED COUNT` reads nothing: it makes the scripts of three threads from the two numbers,
+/// runs them as `run` does, and writes what is told of the run in eight lines. Each step of a machine passes the gate there.
+/// Any other words are refused before anything is read. Where there is no answer one line says why; if that cannot be written
+/// either, the status is `WriteFault`.
 pub fn shenrun<R: Threads + Wait + Sync, S: Source, K: Sink, G: Gate>(
     rt: &R,
     alloc: Global,
