@@ -2,7 +2,8 @@
 """Tries what the merge gate does not try: the wrong bodies of bench/edits and the wrong protocols of bench/protocols.
 
 usage: wrong_bodies.py [--jobs N] [NAME..]   tries them all, or the bodies of these crates and the protocols of these names
-       wrong_bodies.py --check               says which have to be tried again; it ends with 1 where there are such
+       wrong_bodies.py --check               says which have to be tried again; it ends with 1 where there are such that
+                                             bench/behind.txt does not name, and where that names one that is tried
 
 A wrong body, bench/edits/CRATE/NAME.edit, changes the code of one crate, so that its own contract must refuse it. The gate tries those
 of crates/NAME/must-fail, three or more for each crate with code; those here each show what no other shows. They are tried on a throwaway
@@ -331,11 +332,25 @@ def stale_protocols(stands_on):
 def say_stale(stands_on, sums):
     noted = tried(EDITS)
     stale = [name for name in sums if noted.get(name, ("",))[0] != sums[name]] + stale_protocols(stands_on)
+    behind = owed()
     if stale:
         print(f"these have to be tried again: bench/wrong_bodies.py {' '.join(stale)}")
+        print(f"{len([it for it in stale if it in behind])} of these {len(stale)} are named in bench/behind.txt, as tried on an older text alone")
     else:
         print(f"the edits of bench/edits, of {len(sums)} crates, and {len(protocol_names())} wrong protocols were tried on the contracts as they stand")
-    return bool(stale)
+    settled = [it for it in behind if it not in stale]
+    if settled:
+        print(f"bench/behind.txt names what is tried: {' '.join(settled)}")
+    return bool(settled) or any(it not in behind for it in stale)
+
+
+def owed():
+    """What bench/behind.txt says was tried on an older text alone. Nothing else may be stale, and nothing that is not."""
+    path = os.path.join(TOP, "bench", "behind.txt")
+    if not os.path.exists(path):
+        return []
+    with open(path, encoding="utf-8") as file:
+        return [row.strip() for row in file if row.strip() and not row.startswith("#")]
 
 
 def main(words):
