@@ -32,6 +32,7 @@ How time goes under `run` is looked up in the words of the heap, as measure_mark
 second table has no shares, and there is no third one.
 """
 import collections
+import json
 import os
 import random
 import struct
@@ -441,11 +442,12 @@ def race_trace(threads, turn, is_one_order, rand):
 def lost_of(trace):
     """How many exchanges of a header a trace makes, and how many are lost."""
     made, lost = 0, 0
-    with open(trace, "rb") as source, subprocess.Popen((SHENSTEPS,), stdin=source, stdout=subprocess.PIPE) as child:
+    with open(trace, "rb") as source, subprocess.Popen((SHENSTEPS, "--json", "--place", "HX"), stdin=source, stdout=subprocess.PIPE) as child:
         for line in child.stdout:
-            if line[18:20] == b"HX":
+            event = json.loads(line)
+            if event["kind"] == "event":
                 made += 1
-                lost += b" lost" in line
+                lost += not event["won"]
     if child.returncode:
         stop(f"shensteps ends with {child.returncode}")
     return made, lost

@@ -27,6 +27,7 @@ How time goes under `run`, and what is black, is looked up in the words of the h
 between two changes is known to a part of a millisecond. Where that memory cannot be read the first table has no shares, and there is
 no third one.
 """
+import json
 import os
 import subprocess
 import sys
@@ -230,8 +231,9 @@ def measure_commands(commands):
 def steps_of(trace):
     """The steps of a trace: the events that its listing counts."""
     with open(trace, "rb") as source:
-        said = subprocess.run((SHENSTEPS, "--from", "4000000000"), stdin=source, stdout=subprocess.PIPE, text=True, check=False).stdout
-    return int(said.splitlines()[-1].split()[-2])
+        words = (SHENSTEPS, "--json", "--from", "4000000000")
+        said = subprocess.run(words, stdin=source, stdout=subprocess.PIPE, text=True, check=False).stdout
+    return json.loads(said.splitlines()[-1])["events"]
 
 
 def barrier_trace(command, count, phase):

@@ -21,6 +21,7 @@ All counts here are exact, and found so:
   twice, wants the pause, looks whether the one thread is out, and lets it go. The script stops where there are more or fewer.
 """
 import collections
+import json
 import os
 import subprocess
 import sys
@@ -67,21 +68,19 @@ def run(trace, *words):
 
 def told_of(trace, control):
     """The steps that a trace takes, and its pauses by what they do, for the number of its control."""
-    counts, waits, phase, line = collections.Counter(), False, 0, b""
+    counts, end = collections.Counter(), {}
     with open(trace, "rb") as source:
-        words = (LISTER, "--only", str(control), "--steps", "4000000000")
+        words = (LISTER, "--json", "--only", str(control), "--place", "P3", "--steps", "4000000000")
         with subprocess.Popen(words, stdin=source, stdout=subprocess.PIPE) as child:
             for line in child.stdout:
-                place = line[18:20]
-                if place == b"PL" and line[22:].startswith(b"load what is asked for"):
-                    waits = b"room" in line[62:]
-                elif place == b"PS" and line[22:].startswith(b"store phase: "):
-                    then = int(line[22 + len(b"store phase: ") :].split()[0])
-                    counts[kind_of(phase, then, waits)] += 1
-                    phase = then
-    if not line.startswith(b"all machines are idle after "):
+                it = json.loads(line)
+                if it["kind"] == "pause":
+                    counts[kind_of(it["phase_before"], it["phase_after"], it["allocation_waits"])] += 1
+                elif it["kind"] == "end":
+                    end = it
+    if not end.get("finished"):
         stop("a trace is not answered")
-    return int(line.split()[-2]), counts
+    return end["events"], counts
 
 
 def kind_of(phase, then, waits):

@@ -1,8 +1,7 @@
 """Random traces, and what a listing of one must say of where their calls are settled."""
 import random
-import re
 
-LINE = re.compile(r" *\d+ +(\S+(?: \d)?) +(\w\w)  .*?(?:(begins|settles|replies) (.+))?$")
+from listed import machine
 
 
 def command(rand, shapes):
@@ -139,10 +138,21 @@ def kind(command, reply):
     return command.split()[0], reply if reply.isalpha() or reply == "-" else "a value"
 
 
-def takes_event(graph, calls, event):
+def said(event):
+    """What an event says of calls: whose call it is, whether it begins, settles or replies, and the command or the reply. That the
+    heap is full is said by the control, where a pause stores it."""
+    if event["kind"] != "event":
+        return None
+    if "settles_full_of" in event:
+        whose = f"thread {event['settles_full_of']}"
+        return (whose, "settles", "full") if (machine(event), event["at"]) == ("control", "PS") else (whose, "settles", "badly")
+    return next(((machine(event), it, event[it]) for it in ("begins", "settles", "replies") if it in event), None)
+
+
+def takes_event(graph, calls, said_of):
     """Whether an event may begin a call, settle it or reply as it says. `calls` has the command of each call that is not settled,
     and else a pair of it and the reply."""
-    who, place, what, text = event
+    who, what, text = said_of
     if what == "begins":
         is_first = who not in calls
         calls[who] = text
@@ -150,30 +160,27 @@ def takes_event(graph, calls, event):
     if what == "replies":
         call = calls.pop(who, None)
         return isinstance(call, tuple) and call[1] == text
-    reply, _, whose = text.partition(" of ")
-    if whose and (who, place, reply) != ("control", "PS", "full"):
-        return False
-    call = calls.get(whose or who)
+    call = calls.get(who)
     if not isinstance(call, str):
         return False
-    calls[whose or who] = (call, reply)
-    if whose:
+    calls[who] = (call, text)
+    if text == "full":
         return call.startswith("new")
-    return graph.answer(who[-1], call) == reply
+    return graph.answer(who[-1], call) == text
 
 
-def wrong(listing, kinds):
-    """The first line of a listing that is wrong, or None; the kinds of calls that have ended are counted. Each call is settled at
+def wrong(events, kinds):
+    """The first event of a listing that is wrong, or None; the kinds of calls that have ended are counted. Each call is settled at
     one event between those at which it begins and replies, with this reply, `full` by the control in a pause and all else by its
     own thread; and a graph answers so on which each command is done where it is settled."""
     graph, calls = Graph(), {}
-    for line in listing.splitlines():
-        match = LINE.match(line)
-        if not match or not match[3]:
+    for event in events:
+        told = said(event)
+        if not told:
             continue
-        thread = match[1]
-        if match[3] == "replies" and isinstance(calls.get(thread), tuple):
-            kinds[kind(*calls[thread])] += 1
-        if not takes_event(graph, calls, match.groups()):
-            return line
+        call = calls.get(told[0])
+        if told[1] == "replies" and isinstance(call, tuple):
+            kinds[kind(*call)] += 1
+        if not takes_event(graph, calls, told):
+            return event
     return f"a call never ends: {calls}" if calls else None

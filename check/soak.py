@@ -21,10 +21,9 @@ import time
 
 sys.dont_write_bytecode = True
 from cases import program  # pylint: disable=wrong-import-position
-from settling import Graph, command, race, takes_event  # pylint: disable=wrong-import-position
+from listed import objects  # pylint: disable=wrong-import-position
+from settling import Graph, command, race, said, takes_event  # pylint: disable=wrong-import-position
 
-LINE = re.compile(r" *\d+ +(\S+(?: \d)?) +(\w\w)  .*?(?:(begins|settles|replies) (.+))?$")
-PHASE = re.compile(r" *\d+ +control +PS  store phase: (\d) ")
 THREADS = 8
 ROOTS = 16
 SHAPES = [
@@ -127,20 +126,19 @@ def history_fails(heap, scripts, listing):
     replies = {it: [] for it in scripts}
     for thread in scripts:
         graph.roots[str(thread)] = ["0.1"] + [None] * (ROOTS - 1)
-    for line in listing.splitlines():
-        match = LINE.match(line)
-        if not match or not match[3]:
+    for event in listing:
+        told = said(event)
+        if not told:
             continue
-        who, _, what, text = match.groups()
-        reply, _, whose = text.partition(" of ")
+        who, what, reply = told
         if what == "settles":
-            thread = int((whose or who)[-1])
-            if whose and not is_crowded(graph, heap, thread, scripts, settled):
-                return f"the heap is not crowded: {line}", None
+            thread = int(who[-1])
+            if reply == "full" and not is_crowded(graph, heap, thread, scripts, settled):
+                return f"the heap is not crowded: {event}", None
             settled[thread] += 1
             replies[thread].append(reply)
-        if not takes_event(graph, calls, match.groups()):
-            return f"another reply was due: {line}", None
+        if not takes_event(graph, calls, told):
+            return f"another reply was due: {event}", None
     for thread, those in replies.items():
         if len(those) != len(scripts[thread]):
             return f"thread {thread} has {len(those)} replies", None
@@ -169,25 +167,22 @@ def run_fails(scripts, text, words):
 def fails(seed, counted):
     """What is wrong with the answers to a trace, which is counted."""
     heap, scripts, text = trace(seed)
-    listed = subprocess.run([program("shensteps")], input=text, stdout=subprocess.PIPE, text=True, check=False)
-    if listed.returncode:
-        return f"shensteps ends with {listed.returncode}"
-    why, answer = history_fails(heap, scripts, listed.stdout)
+    status, listing = objects(text, "--pauses", "full")
+    if status:
+        return f"shensteps ends with {status}"
+    why, answer = history_fails(heap, scripts, listing)
     if why:
         return why
     replayed = subprocess.run([program("shenrun"), "replay"], input=text, stdout=subprocess.PIPE, text=True, check=False)
     if (replayed.returncode, replayed.stdout) != (0, answer):
         return "replay writes another answer"
-    before = 0
-    for line in listed.stdout.splitlines():
-        match = PHASE.match(line)
-        if match:
-            counted[f"from phase {before} to {match[1]}"] += 1
-            before = int(match[1])
+    for it in listing:
+        if it["kind"] == "pause":
+            counted[f"from phase {it['phase_before']} to {it['phase_after']}"] += 1
     counted["traces"] += 1
     counted["commands"] += sum(map(len, scripts.values()))
     counted["full"] += len(re.findall(r"^\d full$", answer, re.M))
-    counted["events"] += len(re.findall(r"^ *\d+ +(?:thread|helper|control)", listed.stdout, re.M))
+    counted["events"] += sum(it["kind"] == "event" for it in listing)
     return run_fails(scripts, text, []) or run_fails(scripts, text, ["--workers", "1"])
 
 

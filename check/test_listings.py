@@ -15,6 +15,7 @@ import subprocess
 import sys
 
 sys.dont_write_bytecode = True
+from listed import objects  # pylint: disable=wrong-import-position
 from settling import trace, wrong  # pylint: disable=wrong-import-position
 
 TOP = pathlib.Path(__file__).resolve().parent.parent
@@ -26,13 +27,18 @@ TRACES = 60
 KINDS = 22
 
 # Words, what is read, the status and what is written.
-FORM = "bad words: the form is shensteps [--steps N] [--from N] [--only MACHINE] [--heap]\n"
+FORM = (
+    "bad words: the form is shensteps [--steps N] [--from N] [--to N] [--item N] [--only MACHINE,..] [--place CODE,..] [--object NAME]"
+    " [--word WORD] [--calls] [--pauses line|changed|full] [--no-fold] [--columns] [--heap] [--heap-at N] [--json]\n"
+)
 ASKS = "shen 1\nheap 4 64 0\nthreads 1 0\n1 gc\n"
 # The control looks first whether a mutator is left, as in each round after that of the mutator.
-LISTED = """ event  machine   at  access                                  found             says
+LISTED = """ event  machine   at  access                                        found             says
 -- rounds
-     3  thread 1  E2  load pause word                         0
-     5  thread 1  PH  load phase                              0
+     3  thread 1  E2  load pause word                               0
+     5  thread 1  PH  load phase                                    0
+machines: thread 1 at CS, control at I0
+replies of thread 1:
 unfinished after 6 steps
 """
 REFUSED = (
@@ -43,6 +49,10 @@ REFUSED = (
     "--steps 1 --steps 1",
     "--heap --heap",
     "--only 13",
+    "--only 1,",
+    "--only thread",
+    "--place ZZ",
+    "--pauses some",
     "--from 01",
     "--heap ",
 )
@@ -50,6 +60,8 @@ CALLS = [
     *((words, ASKS, 2, FORM) for words in REFUSED),
     ("", "heap 1\n", 3, "bad line 1: header wanted\n"),
     ("--only 1 --steps 6 --from 2", ASKS, 4, LISTED),
+    ("--only 1,3", ASKS, 2, "bad words: there is no machine 3 in this heap, which has 2\n"),
+    ("--only control,4", ASKS, 2, "bad words: there is no machine 4 in this heap, which has 2\n"),
 ]
 
 
@@ -75,14 +87,14 @@ def renewed(lines):
     return new, count
 
 
-def is_settled_well(program):
+def is_settled_well():
     """Whether the listings of random traces say rightly where each call is settled."""
     kinds = collections.Counter()
     for seed in range(TRACES):
-        run = subprocess.run([program], input=trace(seed), stdout=subprocess.PIPE, text=True, check=False)
-        line = wrong(run.stdout, kinds)
-        if run.returncode or line:
-            print(f"trace({seed}) of settling.py, status {run.returncode}: {line}")
+        status, listing = objects(trace(seed), "--pauses", "full")
+        event = wrong(listing, kinds)
+        if status or event:
+            print(f"trace({seed}) of settling.py, status {status}: {event}")
             return False
     print(f"{sum(kinds.values())} calls are settled where the listings of {TRACES} random traces say so")
     return len(kinds) == KINDS
@@ -123,7 +135,7 @@ def is_well():
     if bars != [False, True, True]:
         print("the heap does not have bars exactly where a line may have 100 columns")
     calls = [answers(program, *call) for call in CALLS]
-    return all(calls) and tells_full_disk(program) and is_settled_well(program) and bars == [False, True, True]
+    return all(calls) and tells_full_disk(program) and is_settled_well() and bars == [False, True, True]
 
 
 def main():

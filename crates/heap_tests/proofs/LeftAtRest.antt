@@ -1,5 +1,5 @@
 -- A heap of one mutator in which nobody does anything: another one can begin from its words, also once they were collected.
-use Rattle.std.proofs.Common.{◌≡◌, ◌≢◌, ℕ, ◌+◌, ◌<◌, Bool, true, false, List, [], ◌∷◌, length, map, Option, Some, None, refl, sym, ap, ◌∙◌, subst, arith}
+use Rattle.std.proofs.Common.{◌≡◌, ℕ, ◌+◌, ◌<◌, Bool, true, false, List, [], ◌∷◌, length, map, Option, Some, None, refl, sym, ap, ◌∙◌, subst, arith}
 use Rattle.std.specs.Prelude.{slice_get, slice_index, slice_index_or, nat_lt, if◌then◌else◌}
 use Rattle.std.specs.Option.{option_map}
 use Rattle.std.proofs.lemmas.Option.{slice_get_within, slice_get-map, get_or_from_slice_get}
@@ -8,25 +8,25 @@ use Rattle.heap_words.specs.declared.config.Config.{Config}
 use Rattle.heap_words.specs.Ranges.{seat_count}
 use Rattle.heap_words.specs.Words.{Word, Pause, Left, State, view, write}
 use Rattle.steps_base.specs.Steps.{Stage}
-use Rattle.shen_graph.specs.declared.command.Reply.{Reply}
 use Rattle.shen_graph.specs.Graph.{Graph}
 use Rattle.mutator.specs.declared.spot.Spot.{Spot}
 use Rattle.mutator.specs.declared.spot.Spot.TheVariants.{Rest, Ended, Gone}
-use Rattle.mutator.specs.Orders.{is_between_calls, takes_commands}
-use Rattle.mutator.specs.Rows.{Mutating, fresh_mutator, reply_at}
+use Rattle.mutator.specs.Orders.{is_between_calls}
+use Rattle.mutator.specs.Rows.{fresh_mutator}
 use Rattle.handshake.specs.Standing.{is_within}
 use Rattle.control_rows.specs.Rows.{Controlling}
 use Rattle.heap_world.specs.Asking.{Asking, nothing, IsAsked}
 use Rattle.heap_world.specs.Change.{Answers}
-use Rattle.heap_world.specs.Represents.{Represents, RepresentsByCopies}
+use Rattle.heap_world.specs.Represents.{Represents}
 use Rattle.full_words.specs.Full.{full}
 use Rattle.image_graph.specs.Holds.{HoldsSome}
+use Rattle.cycle_pauses.proofs.Full.ByCopies.{by_copies}
 use Rattle.cycle_pauses.proofs.Full.Pauses.{from_copies, representing_holds}
 use Rattle.step_core.specs.Actor.{Machine, mutating, controlling, fresh_helper, fresh_control, Actor}
 use Rattle.step_core.specs.AtRest.{IsAtRest}
 use Rattle.step_core.specs.Opening.{first_free, opening_machine, opening}
 use Rattle.step_core.specs.Begins.{Run, ending, history_in, graph_after}
-use Rattle.step_core.specs.Machines.{is_resting, may_begin, made_of_machine, reply_in, standing_of, HasNumber}
+use Rattle.step_core.specs.Machines.{is_resting, may_begin, made_of_machine, standing_of, HasNumber}
 use Rattle.step_core.specs.Seats.{is_working}
 use Rattle.step_core.specs.Standing.{standing_at}
 use Rattle.step_core.specs.Settled.{settled, settled_by, image_of, image_read, control_number}
@@ -38,15 +38,6 @@ use Rattle.heap_machines.proofs.Pauses.{heap_pauses}
 use Rattle.heap_machines.proofs.Openings.{first_actor, first_rests, first_free_to_begin, first_made}
 use Rattle.shen_core.specs.Runs.{WordsShow}
 use Rattle.shen_core.specs.FromImage.{CanBeginFrom}
-
--- a mutator between two calls that has given a reply rests, and may begin a call
-pub replied_rests : (m : Machine) (reply : Reply) → reply_in m ≡ Some reply → (is_resting m ≡ true) × (may_begin m ≡ true)
-replied_rests (mutating m) reply is = by_spot m.spot is
-  where
-    by_spot : (spot : Spot) → reply_at spot ≡ Some reply → (is_between_calls spot ≡ true) × (takes_commands spot ≡ true)
-    by_spot (Ended given) is = (refl, refl)
-    by_spot _ is = absurd cc
-replied_rests _ reply is = absurd cc
 
 -- who rests is not in the heap
 resting_outside : (m : Machine) → is_resting m ≡ true → is_within (standing_of m) ≡ false
@@ -142,22 +133,6 @@ module _ (c : Config) (words : List ℕ) (machines : List Machine) (free : ℕ) 
 nothing_only : (a : Asking) → Answers nothing a → a ≡ nothing
 nothing_only nothing is = refl
 nothing_only _ is = absurd is
-
-by_copies : (c : Config) (memory : Word → ℕ) (g : Graph) (asking : ℕ → Asking) → Represents c memory g asking → RepresentsByCopies c memory g asking
-by_copies c memory g asking r = record {
-  block = r.block;
-  ghost = r.ghost;
-  shared = r.shared;
-  roots = r.roots;
-  usable = tt;
-  none = r.none;
-  asked = r.asked;
-  heard = r.heard;
-  promised_to = r.promised_to;
-  unmarking = r.unmarking;
-  uncopying = r.uncopying;
-  no_more = r.no_more;
-}
 
 pub left_holds : (c : Config) (memory : Word → ℕ) (made : ℕ) → LeftGraph c memory made → HoldsSome c memory
 left_holds c memory made left = representing_holds c memory left.0 (λ t. nothing) left.1

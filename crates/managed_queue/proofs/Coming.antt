@@ -44,9 +44,6 @@ command_valid c Pushes = (omega arith, omega arith, omega arith, omega arith)
 command_valid c Reads = (omega arith, omega arith)
 command_valid c (Unlinks value) = (omega arith, omega arith, omega arith, omega arith)
 
-pub user_valid : (u : Use) (c : Command) → next_of u ≡ Some c → IsValid c
-user_valid u c is = subst IsValid (going u c is).command (command_valid (chosen u.plan) u.spot)
-
 -- what is ahead after a reply, of the plan that is then left
 abbrev ahead : Plan → Spot → Reply → ℕ
 ahead p s r = makings_ahead (next_spot s (command_at (chosen p) s) r) (puts_left (plan_after p (answer_of (ended_at s r))))

@@ -1,5 +1,5 @@
 -- What outcomes have in common.
-use Rattle.std.proofs.Common.{ℕ, ◌≡◌, ◌≢◌, ◌+◌, ◌≤◌, Bool, true, false, Option, Some, None, inl, inr, refl, ap, sym, ◌∙◌, arith}
+use Rattle.std.proofs.Common.{ℕ, ◌≡◌, ◌+◌, ◌≤◌, Bool, true, false, Option, Some, None, inr, refl, ap, sym, arith}
 use Rattle.std.specs.Prelude.{if◌then◌else◌, ◌==◌}
 use Rattle.shen_graph.specs.declared.command.Command.{Command}
 use Rattle.shen_graph.specs.declared.command.Command.TheVariants.{New, Get, Set, Cas, Xchg, Rd, Wr, Copy, Drop, Same, Gc}
@@ -7,39 +7,7 @@ use Rattle.shen_graph.specs.declared.command.Reply.{Reply}
 use Rattle.shen_graph.specs.declared.command.Reply.TheVariants as reply
 use Rattle.shen_graph.specs.Graph.{Graph, Object, Reference, field_at, number_at, same_reference, with_field, with_named}
 use Rattle.shen_graph.specs.History.{Entry, is_full, after_entry}
-use Rattle.shen_graph.specs.Step.{Outcome, answers, on, outcome, shown, yes_or_no, IsNew, IsLegal}
-
--- ---- no outcome is Full
-
-shown_not : (v : Reference) → shown v ≢ reply.Full
-shown_not None e = cc
-shown_not (Some n) e = cc
-
-yes_or_no_not : (b : Bool) → yes_or_no b ≢ reply.Full
-yes_or_no_not true e = cc
-yes_or_no_not false e = cc
-
-on_not : {A : Type 0} (o : Option A) (g : Graph) (f : A → Outcome) → ((v : A) → (f v).reply ≢ reply.Full) → (on o g f).reply ≢ reply.Full
-on_not None g f h e = cc
-on_not (Some v) g f h e = h v e
-
-if_not : (b : Bool) (x y : Outcome) → x.reply ≢ reply.Full → y.reply ≢ reply.Full → (if b then x else y).reply ≢ reply.Full
-if_not true x y p q = p
-if_not false x y p q = q
-
-pub outcome_not : (g : Graph) (t : ℕ) (c : Command) → (outcome g t c).reply ≢ reply.Full
-outcome_not g t (New dst refs nums) e = cc
-outcome_not g t (Get dst src field) e = on_not (field_at g t src field) g _ (λ v. shown_not v) e
-outcome_not g t (Set obj field val) e = on_not (field_at g t obj field) g _ (λ v h. cc) e
-outcome_not g t (Cas obj field expect val) e =
-    on_not (field_at g t obj field) g _ (λ v. if_not (same_reference v (g.root t expect)) (answers reply.Yes (with_field g t obj field (g.root t val))) (answers reply.No g) (λ h. cc) (λ h. cc)) e
-outcome_not g t (Xchg dst obj field val) e = on_not (field_at g t obj field) g _ (λ v. shown_not v) e
-outcome_not g t (Rd obj index) e = on_not (number_at g t obj index) g _ (λ v h. cc) e
-outcome_not g t (Wr obj index value) e = on_not (number_at g t obj index) g _ (λ v h. cc) e
-outcome_not g t (Copy dst src) e = cc
-outcome_not g t (Drop dst) e = cc
-outcome_not g t (Same a b) e = yes_or_no_not _ e
-outcome_not g t Gc e = cc
+use Rattle.shen_graph.specs.Step.{Outcome, answers, on, outcome, IsNew, IsLegal}
 
 -- ---- only an allocation counts
 
@@ -84,20 +52,6 @@ pub entry_counts : (g : Graph) (e : Entry) (u : ℕ) → (after_entry g e).count
 entry_counts g e u = entry_count (is_full e.reply) g (outcome g e.thread e.command).graph u (g.count u) (u == e.thread) (outcome_counts g e.thread e.command u) refl
 
 -- ---- legal answers
-
-pub not_full : (r : Reply) → r ≢ reply.Full → is_full r ≡ false
-not_full reply.Full h = absurd (h refl)
-not_full (reply.Ref n) h = refl
-not_full reply.Null h = refl
-not_full reply.Ok h = refl
-not_full reply.Yes h = refl
-not_full reply.No h = refl
-not_full (reply.Number n) h = refl
-not_full reply.Bad h = refl
-
--- the graph after an entry that is not Full is that of the outcome
-given_graph : (g : Graph) (e : Entry) → e.reply ≢ reply.Full → after_entry g e ≡ (outcome g e.thread e.command).graph
-given_graph g e h = ap (λ (b : Bool). if b then g else (outcome g e.thread e.command).graph) (not_full e.reply h)
 
 -- an allocation may be answered Full
 pub full_is : (g : Graph) (e : Entry) → e.reply ≡ reply.Full → IsNew e.command → IsLegal g e.thread e.command e.reply (after_entry g e) × (g ≡ after_entry g e)

@@ -8,10 +8,13 @@ ghost use Rattle.schedule_walk.specs.Nexts.{HasNoNext, MakesNext};
 ghost use Rattle.trace_grammar.specs.Grammar.{Reads};
 ghost use Rattle.shensteps.specs.Listed.{CountsEvents};
 
-use crate::listing::Listing;
+use crate::ends::write_head;
+use crate::lines::Listing;
+use crate::scout::limit_of;
 use crate::status::Status;
-use crate::words::{FORM, Wanted, wanted_by};
+use crate::words::{Asked, FORM, Wanted, asked_by};
 use heap_words::Schedule;
+use listing::Row;
 use schedule_walk::{Seen, Walk};
 use shen_base::{Sink, Source};
 use shen_core::{Plain, Ran};
@@ -40,9 +43,9 @@ fn list_next<K: Sink>(
     ensures idle { result ≡ None → AllIdle plain.new work.new }
 {
     let found = walk.find(plain, work);
-    listing.headings(plain, walk, sink);
+    listing.headings(walk, sink);
     if found.is_some() {
-        listing.rounds(plain, walk, sink);
+        listing.rounds(walk, sink);
     }
     let seen = walk.next(plain, work);
     if let Some(seen) = &seen {
@@ -120,7 +123,7 @@ fn list<K: Sink>(
     listing.columns(sink);
     let left = list_all(listing, &mut walk, plain, work, sink, wanted.steps);
     let ran = ended(plain, work, left);
-    listing.end(plain, matches!(ran, Ran::Finished), sink);
+    listing.end(plain, work, matches!(ran, Ran::Finished), sink);
     Listed {
         ran,
         events: wanted.steps - left,
@@ -135,20 +138,47 @@ fn say<K: Sink>(sink: &mut K, line: Line, status: Status) -> Status {
     }
 }
 
+// Writes the line that no machine of the heap has this number.
+fn no_machine<K: Sink>(sink: &mut K, number: u64, seats: usize) -> Status {
+    let mut row = Row::new();
+    row.put(b"bad words: there is no machine ");
+    row.put_number(number);
+    row.put(b" in this heap, which has ");
+    row.put_number(seats as u64);
+    row.put(b"\n");
+    match write_all(sink, row.text()) {
+        Ok(()) => Status::BadWords,
+        Err(_) => Status::WriteFault,
+    }
+}
+
 // Lists what a trace does.
-fn list_trace<K: Sink>(alloc: Global, trace: Trace, wanted: Wanted, sink: &mut K) -> Status
+fn list_trace<K: Sink>(alloc: Global, trace: Trace, asked: Asked, sink: &mut K) -> Status
     requires { (bytes : List ℕ) × Reads bytes trace.config trace.scripts trace.schedule }
 {
+    if let Some(number) = asked.filter.stranger(trace.config) {
+        return no_machine(sink, number, trace.config.seats());
+    }
+    let json = asked.wanted.json;
+    if json && write_head(&trace, sink).is_err() {
+        return Status::WriteFault;
+    }
+    let steps = limit_of(alloc, &trace, asked.wanted.steps);
     let Ok(mut work) = Work::of(alloc, trace.scripts.into_vec()) else {
         return say(sink, Line::NoMemory, Status::NoMemory);
     };
     let Ok(mut plain) = Plain::open(alloc, trace.config) else {
         return say(sink, Line::NoMemory, Status::NoMemory);
     };
-    let mut listing = Listing::open(wanted);
+    let Ok(mut listing) = Listing::open(alloc, &asked, &plain) else {
+        return say(sink, Line::NoMemory, Status::NoMemory);
+    };
     let listed = list(
         &mut listing,
-        wanted,
+        Wanted {
+            steps,
+            ..asked.wanted
+        },
         trace.schedule,
         &mut plain,
         &mut work,
@@ -159,6 +189,7 @@ fn list_trace<K: Sink>(alloc: Global, trace: Trace, wanted: Wanted, sink: &mut K
     }
     match listed.ran {
         Ran::Finished => Status::Ok,
+        Ran::Unfinished if json => Status::Unfinished,
         Ran::Unfinished => {
             let steps = listed.events;
             say(sink, Line::Unfinished { steps }, Status::Unfinished)
@@ -177,14 +208,14 @@ pub fn shensteps<S: Source, K: Sink>(
     source: &mut S,
     sink: &mut K,
 ) -> Status {
-    let Some(wanted) = wanted_by(words, bars) else {
+    let Some(asked) = asked_by(words, bars) else {
         return match write_all(sink, FORM) {
             Ok(()) => Status::BadWords,
             Err(_) => Status::WriteFault,
         };
     };
     match read_trace(alloc, source) {
-        Ok(trace) => list_trace(alloc, trace, wanted, sink),
+        Ok(trace) => list_trace(alloc, trace, asked, sink),
         Err(TraceFault::BadLine { line, why }) => {
             say(sink, Line::BadLine { line, why }, Status::BadTrace)
         }

@@ -1,15 +1,13 @@
 //! `shensteps` lists what a trace and its schedule do on a region heap, atomic step by atomic step.
 #![tactic(auto)]
 
-mod commands;
+mod ends;
+mod filter;
 mod heap;
+mod lines;
 mod list;
-mod listing;
-mod row;
-mod settled;
+mod scout;
 mod status;
-mod terms;
-mod view;
 mod words;
 
 use list::shensteps;

@@ -111,10 +111,3 @@ pub ends_in_second : (before middle after : Outlet) (x y : List ℕ) (status : S
 ends_in_second before middle after x y status never_fell first few front rose more =
     let long = length-append x y in
     record { written = inr (refl, rose_after before.faults middle.faults after.faults never_fell rose, front_of_second before middle after x y first few front); few_calls = omega (arith, long, more, few) }
-
--- both were written
-pub ends_whole : (before middle after : Outlet) (x y : List ℕ) (status : Status) → Appends before.written middle.written x → CalledAtMost (length x) before.calls middle.calls
-    → Appends middle.written after.written y → CalledAtMost (length y) middle.calls after.calls → EndsWith (x ++ y) status status before after
-ends_whole before middle after x y status first few second more =
-    let long = length-append x y in
-    record { written = inl (refl, Appends-trans before.written middle.written after.written x y first second); few_calls = omega (arith, long, more, few) }

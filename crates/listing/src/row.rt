@@ -4,25 +4,28 @@ use shen_base::Sink;
 use text_writer::Block;
 
 // The bytes that a row has room for.
-const ROOM: usize = 480;
+const ROOM: usize = 4096;
 
-/// One line of the listing while it is set, in columns. What does not fit is left out.
+/// One line of a listing while it is set, in columns. What does not fit is left out, so a long line is sent in parts.
 #[derive(Drop)]
 pub struct Row {
     // spaces behind those that are used
-    bytes: [u8; 480],
+    bytes: [u8; 4096],
     used: usize,
     // where the last text ends, without the spaces behind it
     end: usize,
+    // the byte that was put last, also where it is sent
+    last: u8,
 }
 
 impl Row {
     /// An empty row.
     pub fn new() -> Row {
         Row {
-            bytes: [b' '; 480],
+            bytes: [b' '; 4096],
             used: 0,
             end: 0,
+            last: b' ',
         }
     }
 
@@ -31,11 +34,22 @@ impl Row {
         self.used
     }
 
+    /// The byte that was put last.
+    pub fn last(&self) -> u8 {
+        self.last
+    }
+
+    /// Its text, without the spaces at the end.
+    pub fn text(&self) -> &[u8] {
+        &self.bytes[..self.end.min(ROOM)]
+    }
+
     // Puts a byte behind what is there.
     fn put_byte(&mut self, byte: u8) {
         if self.used < ROOM {
             self.bytes[self.used] = byte;
             self.used += 1;
+            self.last = byte;
             if byte != b' ' {
                 self.end = self.used;
             }
@@ -86,6 +100,16 @@ impl Row {
         self.put_number(number);
     }
 
+    /// Puts a number of things, as `1 object` and `2 objects`.
+    pub fn put_count(&mut self, number: u64, thing: &[u8]) {
+        self.put_number(number);
+        self.put(b" ");
+        self.put(thing);
+        if number != 1 {
+            self.put(b"s");
+        }
+    }
+
     // Puts spaces up to a column.
     fn pad(&mut self, column: usize) {
         self.used = self.used.max(column.min(ROOM));
@@ -97,12 +121,56 @@ impl Row {
         self.pad(column);
     }
 
+    /// Is empty then.
+    pub fn clear(&mut self) {
+        self.bytes = [b' '; 4096];
+        self.used = 0;
+        self.end = 0;
+    }
+
+    /// Is empty then, as before the first byte of a line.
+    pub fn restart(&mut self) {
+        self.clear();
+        self.last = b' ';
+    }
+
     /// Sends the row as a line, and is empty then.
     pub fn send<K: Sink>(&mut self, block: &mut Block, sink: &mut K) {
         block.put(sink, &self.bytes[..self.end.min(ROOM)]);
         block.put(sink, b"\n");
-        self.bytes = [b' '; 480];
-        self.used = 0;
-        self.end = 0;
+        self.restart();
+    }
+
+    /// Sends what the row has as a part of a line, and is empty then.
+    pub fn pass<K: Sink>(&mut self, block: &mut Block, sink: &mut K) {
+        block.put(sink, &self.bytes[..self.used.min(ROOM)]);
+        self.clear();
+    }
+
+    // Whether this text stands in the row at this byte.
+    fn has_at(&self, text: &[u8], at: usize) -> bool {
+        for index in 0..text.len() {
+            let place = at.saturating_add(index);
+            if place >= ROOM || self.bytes[place] != text[index] {
+                return false;
+            }
+        }
+        true
+    }
+
+    // Whether the byte here belongs to a word, a number or a name.
+    fn is_word_at(&self, at: usize) -> bool {
+        at < ROOM && (self.bytes[at].is_ascii_alphanumeric() || self.bytes[at] == b'.')
+    }
+
+    /// Whether this text stands in the row from a column on, with no letter, digit or dot right before or behind it.
+    pub fn has_word(&self, text: &[u8], from: usize) -> bool {
+        for at in from..self.end {
+            let starts = at == 0 || !self.is_word_at(at.saturating_sub(1));
+            if starts && self.has_at(text, at) && !self.is_word_at(at.saturating_add(text.len())) {
+                return true;
+            }
+        }
+        false
     }
 }

@@ -1,15 +1,16 @@
 //! Words of the heap, values and commands as the listing spells them.
 
+use crate::copies::is_moving;
 use crate::row::Row;
+use crate::table::Table;
 use crate::view::{
-    Part, Reading, name_at, object_with, part_of, reading_of, reading_of_part, region_of,
+    Part, Reading, base, name_at, object_with, part_of, reading_of, reading_of_part, region_of,
 };
 use heap_words::{
     Access, Config, Item, WordName, count_of, forwarded, forwardee, nums_of, refs_of,
     request_count, request_shape, thread_of,
 };
-use shen_core::Plain;
-use shen_graph::{Command, Name, Reply};
+use shen_graph::{Name, Reply};
 
 /// Puts the machine of a number, counted from 0.
 pub fn put_machine(row: &mut Row, config: Config, number: usize) {
@@ -31,12 +32,33 @@ pub fn put_name(row: &mut Row, name: Name) {
     row.put_number(name.count as u64);
 }
 
-/// Puts a reference: the name of the object at the address, or - for null.
-pub fn put_reference(row: &mut Row, plain: &Plain, address: u64) {
+/// Puts where an address lies: its region, and the words of the region before it.
+pub fn put_place(row: &mut Row, table: &Table, address: u64) {
+    row.put(b"@");
+    match region_of(table, address) {
+        Some(region) => {
+            row.put_number(region as u64);
+            row.put(b"+");
+            row.put_number(address.saturating_sub(base(table, region)));
+        }
+        None => row.put_number(address),
+    }
+}
+
+// Puts the name of the object at an address, and where it lies if it has moved or is to move.
+fn put_object(row: &mut Row, table: &Table, address: u64) {
+    put_name(row, name_at(table, address));
+    if is_moving(table, address) {
+        put_place(row, table, address);
+    }
+}
+
+/// Puts a reference: the name of the object at the address, with its place where the object moves; or - for null.
+pub fn put_reference(row: &mut Row, table: &Table, address: u64) {
     if address == 0 {
         row.put(b"-");
-    } else if region_of(plain, address).is_some() {
-        put_name(row, name_at(plain, address));
+    } else if region_of(table, address).is_some() {
+        put_object(row, table, address);
     } else {
         row.put_number(address);
     }
@@ -61,7 +83,7 @@ pub fn put_regions(row: &mut Row, config: Config, set: u64) {
 }
 
 // Puts the objects that are marked in a word of marks, whose bit 0 is that of the first address.
-fn put_marks(row: &mut Row, plain: &Plain, first: u64, marks: u64) {
+fn put_marks(row: &mut Row, table: &Table, first: u64, marks: u64) {
     row.put(b"{");
     let mut is_first = true;
     let mut left = marks;
@@ -70,7 +92,7 @@ fn put_marks(row: &mut Row, plain: &Plain, first: u64, marks: u64) {
             if !is_first {
                 row.put(b" ");
             }
-            put_reference(row, plain, first.saturating_add(bit));
+            put_reference(row, table, first.saturating_add(bit));
             is_first = false;
         }
         left /= 2;
@@ -78,11 +100,11 @@ fn put_marks(row: &mut Row, plain: &Plain, first: u64, marks: u64) {
     row.put(b"}");
 }
 
-// Puts a header: of an old copy the address of the object's current one.
-fn put_header(row: &mut Row, header: u64) {
+// Puts a header: of an old copy where the object's current one lies.
+fn put_header(row: &mut Row, table: &Table, header: u64) {
     if forwarded(header) {
         row.put(b"copy ");
-        row.put_number(forwardee(header));
+        put_place(row, table, forwardee(header));
     } else {
         row.put_number(header);
     }
@@ -129,23 +151,23 @@ fn put_request(row: &mut Row, request: u64) {
 }
 
 // Puts an answer.
-fn put_answer(row: &mut Row, plain: &Plain, answer: u64) {
+fn put_answer(row: &mut Row, table: &Table, answer: u64) {
     match answer {
         0 => row.put(b"none"),
         1 => row.put(b"full"),
-        _ => put_reference(row, plain, answer),
+        _ => put_reference(row, table, answer),
     }
 }
 
 /// Puts a word as it is to be read.
-pub fn put_value(row: &mut Row, plain: &Plain, kind: Reading, word: u64) {
+pub fn put_value(row: &mut Row, table: &Table, kind: Reading, word: u64) {
     match kind {
         Reading::Number => row.put_number(word),
-        Reading::Header => put_header(row, word),
+        Reading::Header => put_header(row, table, word),
         Reading::Copiers => put_copiers(row, word),
-        Reading::Reference => put_reference(row, plain, word),
-        Reading::Answer => put_answer(row, plain, word),
-        Reading::Regions => put_regions(row, plain.config(), word),
+        Reading::Reference => put_reference(row, table, word),
+        Reading::Answer => put_answer(row, table, word),
+        Reading::Regions => put_regions(row, table.config(), word),
         Reading::Current if word == 0 => row.put(b"none"),
         Reading::Current => row.put_number(word.saturating_sub(1)),
         Reading::Ask => put_ask(row, word),
@@ -161,7 +183,7 @@ pub fn put_value(row: &mut Row, plain: &Plain, kind: Reading, word: u64) {
                 count: count_of(word),
             },
         ),
-        Reading::Marks { first } => put_marks(row, plain, first, word),
+        Reading::Marks { first } => put_marks(row, table, first, word),
     }
 }
 
@@ -254,31 +276,37 @@ pub enum Within {
 }
 
 /// Puts the word at an index of the table, and says how it is to be read.
-pub fn put_word_at(row: &mut Row, plain: &Plain, at: usize, within: Within) -> Reading {
-    let config = plain.config();
+pub fn put_word_at(row: &mut Row, table: &Table, at: usize, within: Within) -> Reading {
+    let config = table.config();
     if at >= config.table_words() {
         row.put(b"?");
         return Reading::Number;
     }
     match (config.name_of(at), within) {
         (WordName::Heap { address }, Within::Object(object)) => {
-            let part = part_of(plain, object, address);
+            let part = part_of(table, object, address);
             put_part(row, part);
             row.put(b" of ");
-            put_name(row, name_at(plain, object));
+            put_object(row, table, object);
             reading_of_part(part)
         }
         (WordName::Heap { address }, Within::Room(room)) => {
-            let part = part_of(plain, room, address);
+            let part = part_of(table, room, address);
             put_part(row, part);
             row.put(b" of the new object");
             reading_of_part(part)
         }
         (WordName::Heap { address }, Within::Copy(room)) => {
-            let part = part_of(plain, room, address);
+            let part = part_of(table, room, address);
             put_part(row, part);
-            row.put(b" of the copy");
+            row.put(b" of the copy ");
+            put_place(row, table, room);
             reading_of_part(part)
+        }
+        (WordName::Heap { address }, Within::Elsewhere) => {
+            row.put(b"word ");
+            put_place(row, table, address);
+            Reading::Number
         }
         (name, _) => {
             put_word(row, config, name);
@@ -299,9 +327,9 @@ pub fn address_at(config: Config, at: usize) -> Option<u64> {
 }
 
 /// Where the word at an index of the table lies: in an object if it is one of the heap.
-pub fn look_within(plain: &Plain, at: usize) -> Within {
-    match address_at(plain.config(), at) {
-        Some(address) => match object_with(plain, address) {
+pub fn look_within(table: &Table, at: usize) -> Within {
+    match address_at(table.config(), at) {
+        Some(address) => match object_with(table, address) {
             Some(object) => Within::Object(object),
             None => Within::Elsewhere,
         },
@@ -310,32 +338,14 @@ pub fn look_within(plain: &Plain, at: usize) -> Within {
 }
 
 // Puts a verb and the word that it is of, and says how that is to be read.
-fn put_verb(row: &mut Row, plain: &Plain, verb: &[u8], at: usize, within: Within) -> Reading {
+fn put_verb(row: &mut Row, table: &Table, verb: &[u8], at: usize, within: Within) -> Reading {
     row.put(verb);
     row.put(b" ");
-    put_word_at(row, plain, at, within)
-}
-
-// Whether two references are of copies of one object.
-fn are_copies(plain: &Plain, first: u64, second: u64) -> bool {
-    first != second
-        && region_of(plain, first).is_some()
-        && region_of(plain, second).is_some()
-        && name_at(plain, first) == name_at(plain, second)
-}
-
-// Puts what an exchange stores in place of another value: of a reference to another copy of the same object the address.
-fn put_exchanged(row: &mut Row, plain: &Plain, kind: Reading, expect: u64, value: u64) {
-    if matches!(kind, Reading::Reference) && are_copies(plain, expect, value) {
-        row.put(b"copy ");
-        row.put_number(value);
-    } else {
-        put_value(row, plain, kind, value);
-    }
+    put_word_at(row, table, at, within)
 }
 
 /// Puts an access with its values, and says how its word is to be read.
-pub fn put_access(row: &mut Row, plain: &Plain, access: Access, within: Within) -> Reading {
+pub fn put_access(row: &mut Row, table: &Table, access: Access, within: Within) -> Reading {
     let (verb, value) = match access {
         Access::Load { .. } => (b"load".as_slice(), None),
         Access::Store { value, .. } => (b"store".as_slice(), Some(value)),
@@ -346,15 +356,15 @@ pub fn put_access(row: &mut Row, plain: &Plain, access: Access, within: Within) 
         Access::Or { value, .. } => (b"set in".as_slice(), Some(value)),
         Access::Exchange { value, .. } => (b"exchange".as_slice(), Some(value)),
     };
-    let kind = put_verb(row, plain, verb, access.at(), within);
+    let kind = put_verb(row, table, verb, access.at(), within);
     if let Some(value) = value {
         row.put(b": ");
         if let Access::Exchange { expect, .. } = access {
-            put_value(row, plain, kind, expect);
+            put_value(row, table, kind, expect);
             row.put(b" to ");
-            put_exchanged(row, plain, kind, expect, value);
+            put_value(row, table, kind, value);
         } else {
-            put_value(row, plain, kind, value);
+            put_value(row, table, kind, value);
         }
     }
     kind
@@ -371,14 +381,6 @@ pub fn put_reply(row: &mut Row, reply: Reply) {
         Reply::Number(value) => row.put_number(value),
         Reply::Bad => row.put(b"bad"),
         Reply::Full => row.put(b"full"),
-    }
-}
-
-// Puts the numbers of a command, each after a space.
-fn put_numbers(row: &mut Row, numbers: &[u64]) {
-    for number in numbers {
-        row.put(b" ");
-        row.put_number(*number);
     }
 }
 

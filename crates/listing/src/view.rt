@@ -1,47 +1,38 @@
 ghost use Rattle.std.specs.Prelude.{◌≤◌};
 
+use crate::table::Table;
 use heap_words::{Config, WordName, count_of, refs_of, thread_of, words_of};
-use shen_core::Plain;
 use shen_graph::Name;
 
-/// The word at an index of the table, or 0 beyond its end.
-pub fn word(plain: &Plain, at: usize) -> u64 {
-    if at < plain.config().table_words() {
-        plain.word(at)
-    } else {
-        0
-    }
-}
-
 /// The heap's word of an address, or 0 where no word has it.
-pub fn heap_word(plain: &Plain, address: u64) -> u64 {
-    let config = plain.config();
+pub fn heap_word(table: &Table, address: u64) -> u64 {
+    let config = table.config();
     let start = config.region_words() as u64;
     if address < start || address - start >= config.heap_size() as u64 {
         return 0;
     }
-    word(plain, config.heap_start() + (address - start) as usize)
+    table.word(config.heap_start() + (address - start) as usize)
 }
 
 /// The used words of a region, counted from 0.
-pub fn top(plain: &Plain, region: usize) -> u64 {
-    let config = plain.config();
+pub fn top(table: &Table, region: usize) -> u64 {
+    let config = table.config();
     if region < config.regions() {
-        word(plain, config.top_at(region))
+        table.word(config.top_at(region))
     } else {
         0
     }
 }
 
 /// The first address of a region.
-pub fn base(plain: &Plain, region: usize) -> u64 {
-    let words = plain.config().region_words() as u64;
+pub fn base(table: &Table, region: usize) -> u64 {
+    let words = table.config().region_words() as u64;
     (region.min(64) as u64 + 1) * words
 }
 
 /// The region of an address, or None where no word of the heap has it.
-pub fn region_of(plain: &Plain, address: u64) -> Option<usize> {
-    let config = plain.config();
+pub fn region_of(table: &Table, address: u64) -> Option<usize> {
+    let config = table.config();
     let words = config.region_words() as u64;
     if words == 0 || address < words {
         return None;
@@ -55,13 +46,13 @@ pub fn region_of(plain: &Plain, address: u64) -> Option<usize> {
 }
 
 /// The words of the object at an address.
-pub fn size_at(plain: &Plain, address: u64) -> u64 {
-    words_of(heap_word(plain, address.saturating_add(1)))
+pub fn size_at(table: &Table, address: u64) -> u64 {
+    words_of(heap_word(table, address.saturating_add(1)))
 }
 
 /// The name of the object at an address.
-pub fn name_at(plain: &Plain, address: u64) -> Name {
-    let word = heap_word(plain, address.saturating_add(2));
+pub fn name_at(table: &Table, address: u64) -> Name {
+    let word = heap_word(table, address.saturating_add(2));
     Name {
         thread: thread_of(word),
         count: count_of(word),
@@ -69,12 +60,12 @@ pub fn name_at(plain: &Plain, address: u64) -> Name {
 }
 
 /// The address of the object in which an address lies, by a walk through its region; None where it lies in none.
-pub fn object_with(plain: &Plain, address: u64) -> Option<u64> {
-    let region = region_of(plain, address)?;
-    let mut at = base(plain, region);
-    let end = at.saturating_add(top(plain, region));
+pub fn object_with(table: &Table, address: u64) -> Option<u64> {
+    let region = region_of(table, address)?;
+    let mut at = base(table, region);
+    let end = at.saturating_add(top(table, region));
     for _ in 0..1024 {
-        let next = at.saturating_add(size_at(plain, at));
+        let next = at.saturating_add(size_at(table, at));
         if next > end {
             return None;
         }
@@ -111,8 +102,8 @@ fn behind_words(refs: u64, index: u64) -> Part {
 }
 
 /// Which word of the object at `object` an address is.
-pub fn part_of(plain: &Plain, object: u64, address: u64) -> Part {
-    let refs = refs_of(heap_word(plain, object.saturating_add(1)));
+pub fn part_of(table: &Table, object: u64, address: u64) -> Part {
+    let refs = refs_of(heap_word(table, object.saturating_add(1)));
     match address.saturating_sub(object) {
         0 => Part::Header,
         1 => Part::Shape,

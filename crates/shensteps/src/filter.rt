@@ -1,0 +1,202 @@
+//! Which events are listed.
+
+use heap_words::{Config, Place};
+use listing::Row;
+use trace_grammar::number_in;
+
+// The most bytes of a text that is looked for.
+const MOST: usize = 64;
+
+/// A text that is looked for in lines.
+#[derive(Clone, Copy, Debug)]
+pub struct Needle {
+    bytes: [u8; 64],
+    used: usize,
+}
+
+impl Needle {
+    /// This text; None where it is empty or longer than 64 bytes.
+    pub fn of(text: &[u8]) -> Option<Needle> {
+        if text.is_empty() || text.len() > MOST {
+            return None;
+        }
+        let mut bytes = [0; 64];
+        for at in 0..text.len() {
+            bytes[at % MOST] = text[at];
+        }
+        Some(Needle {
+            bytes,
+            used: text.len(),
+        })
+    }
+
+    /// The text.
+    pub fn text(&self) -> &[u8] {
+        &self.bytes[..self.used.min(MOST)]
+    }
+}
+
+/// Which events are listed: those of some machines, at some places, of an object or a word, or of calls alone.
+#[derive(Clone, Copy, Debug)]
+pub struct Filter {
+    // The machines by their numbers, counted from 0, and the control by its name; all where none is named.
+    machines: [bool; 12],
+    helpers: [bool; 3],
+    control: bool,
+    some_machines: bool,
+    // The places; all where none is named.
+    places: [bool; 81],
+    some_places: bool,
+    /// The object that a line has to name.
+    pub object: Option<Needle>,
+    /// The word that an access has to be of.
+    pub word: Option<Needle>,
+    /// Whether only what calls say is listed.
+    pub calls: bool,
+}
+
+// The text up to the next comma, from a byte on.
+fn piece_at(text: &[u8], from: usize) -> &[u8] {
+    let rest = &text[from.min(text.len())..];
+    for at in 0..rest.len() {
+        if rest[at] == b',' {
+            return &rest[..at];
+        }
+    }
+    rest
+}
+
+// What stands behind a text at the front.
+fn behind<'a>(front: &[u8], text: &'a [u8]) -> Option<&'a [u8]> {
+    if text.len() < front.len() {
+        return None;
+    }
+    for at in 0..front.len() {
+        if text[at] != front[at] {
+            return None;
+        }
+    }
+    Some(&text[front.len()..])
+}
+
+impl Filter {
+    /// All events.
+    pub fn all() -> Filter {
+        Filter {
+            machines: [false; 12],
+            helpers: [false; 3],
+            control: false,
+            some_machines: false,
+            places: [false; 81],
+            some_places: false,
+            object: None,
+            word: None,
+            calls: false,
+        }
+    }
+
+    // Takes a machine by its number in a schedule or by its name.
+    fn take_machine(&mut self, name: &[u8]) -> Option<()> {
+        self.some_machines = true;
+        if let Some(number) = behind(b"helper ", name) {
+            let helper = number_in(3, number)?;
+            self.helpers[(helper.saturating_sub(1) % 3) as usize] = true;
+        } else if name == b"control".as_slice() {
+            self.control = true;
+        } else {
+            let number = number_in(12, behind(b"thread ", name).unwrap_or(name))?;
+            self.machines[(number.saturating_sub(1) % 12) as usize] = true;
+        }
+        Some(())
+    }
+
+    // Takes a place by its code.
+    fn take_place(&mut self, code: &[u8]) -> Option<()> {
+        let [one, two] = code else {
+            return None;
+        };
+        let place = Place::of([*one, *two])?;
+        self.some_places = true;
+        self.places[place as usize % 81] = true;
+        Some(())
+    }
+
+    /// Takes machines by their numbers in a schedule or their names, with commas between them. None for any other text.
+    pub fn take_machines(&mut self, text: &[u8]) -> Option<()> {
+        let mut from: usize = 0;
+        for _ in 0..32 {
+            if from <= text.len() {
+                let piece = piece_at(text, from);
+                self.take_machine(piece)?;
+                from = from.saturating_add(piece.len()).saturating_add(1);
+            }
+        }
+        if from <= text.len() { None } else { Some(()) }
+    }
+
+    /// Takes places by their codes, with commas between them. None for any other text.
+    pub fn take_places(&mut self, text: &[u8]) -> Option<()> {
+        let mut from: usize = 0;
+        for _ in 0..96 {
+            if from <= text.len() {
+                let piece = piece_at(text, from);
+                self.take_place(piece)?;
+                from = from.saturating_add(piece.len()).saturating_add(1);
+            }
+        }
+        if from <= text.len() { None } else { Some(()) }
+    }
+
+    /// The text that is looked for, if there is one.
+    pub fn name(&self) -> Option<Needle> {
+        match self.word {
+            Some(word) => Some(word),
+            None => self.object,
+        }
+    }
+
+    /// The number in a schedule of a machine that is named and that the heap does not have.
+    pub fn stranger(&self, config: Config) -> Option<u64> {
+        for seat in config.seats()..12 {
+            if self.machines[seat % 12] {
+                return Some((seat as u64).saturating_add(1));
+            }
+        }
+        for helper in config.helpers()..3 {
+            if self.helpers[helper % 3] {
+                return Some((config.mutators() as u64 + helper as u64).saturating_add(1));
+            }
+        }
+        None
+    }
+
+    /// Whether events of a machine are listed.
+    pub fn has_seat(&self, config: Config, seat: usize) -> bool {
+        if !self.some_machines || self.machines[seat % 12] {
+            return true;
+        }
+        let others = config.mutators() + config.helpers();
+        if seat >= others {
+            return self.control;
+        }
+        seat >= config.mutators() && self.helpers[(seat - config.mutators()) % 3]
+    }
+
+    /// Whether events at a place are listed.
+    pub fn has_place(&self, place: Place) -> bool {
+        !self.some_places || self.places[place as usize % 81]
+    }
+
+    /// Whether a line is listed by what it names: its words stand from one column on.
+    pub fn has_line(&self, row: &Row, access: usize) -> bool {
+        let names = match &self.object {
+            Some(object) => row.has_word(object.text(), access),
+            None => true,
+        };
+        let is_of = match &self.word {
+            Some(word) => row.has_word(word.text(), access),
+            None => true,
+        };
+        names && is_of
+    }
+}
