@@ -15,7 +15,7 @@ use std::alloc::Global;
 use std::sync::Wait;
 use std::thread::Threads;
 use table_heap::Gate;
-use trace_runs::{Mode, Status, churn, mode_of, replay, replay_noted, run, say};
+use trace_runs::{Mode, Status, churn, mode_of, queue, replay, replay_noted, run, say};
 use trace_writing::Line;
 
 /// Runs the program on these words of the command line, which are without the program's name. `replay` and `run` read a trace
@@ -71,5 +71,6 @@ pub fn shenrun<R: Threads + Wait + Sync, S: Source, K: Sink, G: Gate>(
         Mode::Noted { steps } => replay_noted(alloc, steps, source, sink),
         Mode::Run { workers } => run(rt, alloc, workers, source, sink, gate),
         Mode::Churn(workload) => churn(rt, alloc, workload, sink, gate),
+        Mode::Queue { count } => queue(rt, alloc, count, sink, gate),
     }
 }
