@@ -67,10 +67,10 @@ limit_of _ = None
 
 -- what came is refused, and the line that is written says where and why
 pub record IsRefused (input : Input) (out : List ℕ) : Type 0 where
-  pub line : ℕ
+  pub number : ℕ
   pub why : Why
-  pub refused : HasRead input (λ bytes. Refused bytes line why)
-  pub text : out ≡ line_text (line.BadLine line why)
+  pub refused : HasRead input (λ bytes. Refused bytes number why)
+  pub text : out ≡ line_text (line.BadLine number why)
 
 -- more bytes came than a trace may have
 pub record IsTooLong (input : Input) (out : List ℕ) : Type 0 where

@@ -10,7 +10,7 @@ returns-in-Err-BadLine-clause-refused g c = λ words asked.
     let n = c.in-Err-BadLine.line in
     let why = c.in-Err-BadLine.why in
     let bad = c.in-Err-BadLine.ensures.bad_line n why (let e = c.in-Err-BadLine.field-0-is in cc) in
-    said words _ _ (line_text (line.BadLine n why)) BadTrace c.say.result (asked, inl (record { line = n; why = why; refused = record { bytes = bad.0; came = bad.1; is = bad.2 }; text = refl })) c.say.ensures
+    said words _ _ (line_text (line.BadLine n why)) BadTrace c.say.result (asked, inl (record { number = n; why = why; refused = record { bytes = bad.0; came = bad.1; is = bad.2 }; text = refl })) c.say.ensures
 
 pub returns-in-Err-TooLong-clause-refused : goal.returns-in-Err-TooLong-clause-refused
 returns-in-Err-TooLong-clause-refused g c = λ words asked.
