@@ -37,7 +37,7 @@ no_bad_trace : (input : Input) (out bytes : List ℕ) (config : Config) (scripts
     → IsRefused input out ⊎ IsTooLong input out → ⊥
 no_bad_trace input out bytes config scripts items told reads (inl bad) =
     let read = bad.refused in
-    never_both read.bytes config scripts items bad.number bad.why (subst (λ (bs : List ℕ). Reads bs config scripts items) (sym (came_all bytes read.bytes input.before input.after told read.came)) reads) read.is
+    never_both read.bytes config scripts items bad.number bad.why (subst (λ (bs : List ℕ). Reads bs config scripts items) (sym (came_all bytes read.bytes input.before input.after told read.came)) reads) read.is.0
 no_bad_trace input out bytes config scripts items told reads (inr long) =
     absurd (omega (arith, came_short bytes long.bytes input.before input.after told long.taken, long.many, reads.short))
 
