@@ -1,5 +1,5 @@
 -- A dump is the dump of its own graph.
-use Rattle.std.proofs.Common.{ℕ, zero, suc, ◌≡◌, ◌+◌, ◌-◌, ◌<◌, List, [], ◌∷◌, length, map, get_or, refl, sym, ap, ◌∙◌, arith, false}
+use Rattle.std.proofs.Common.{ℕ, zero, suc, ◌≡◌, ◌<◌, List, [], ◌∷◌, length, map, get_or, refl, sym, ap, ◌∙◌, arith, false}
 use Rattle.std.proofs.lemmas.Bool.{cond-true, cond-false}
 use Rattle.std.specs.Prelude.{Some, None, Option, All, unwrap_or}
 use Rattle.std.specs.List.{range_with_len}
@@ -10,11 +10,11 @@ use Rattle.heap_words.specs.declared.config.Config.{Config}
 use Rattle.shen_graph.specs.declared.name.Name.{Name}
 use Rattle.shen_graph.specs.Graph.{Graph, Object, Reference, same_name}
 use Rattle.shen_graph.specs.GraphText.{Row, row_in}
-use Rattle.shen_graph.specs.PlainGraph.{Plain, graph_of, object_in, root_in}
+use Rattle.shen_graph.specs.PlainGraph.{graph_of, object_in, root_in}
 use Rattle.shen_graph.specs.Reach.{IsBefore, InOrder, IsReach}
 use Rattle.shen_graph.proofs.Distinct.{before_apart, before_join}
 use Rattle.shen_graph.proofs.OrderLemmas.{same_name-flip}
-use Rattle.shen_graph.proofs.PlainLemmas.{same_name-itself, root-graph_of, count-graph_of}
+use Rattle.shen_graph.proofs.PlainLemmas.{same_name-itself}
 use Rattle.churn.proofs.OneReach.{one_reach}
 use Rattle.dump_writing.specs.Dumped.{Dumped, names_in, graph_in, IsDump, IsDumpOf, dump_of, root_rows}
 
@@ -92,15 +92,15 @@ counts_again : (counts : List ℕ) (threads : ℕ) → length counts ≡ threads
 counts_again counts threads count =
     let f : ℕ → ℕ = λ t. get_or (0 ∷ counts) t 0 in
     sym (ext_get_or 0 counts (map f (range_with_len 1 threads)) (count ∙ sym (length-map-range_with_len f 1 threads))
-      (λ i low. sym (get_or-map-range_with_len f 1 threads i (suc i) 0 (omega arith) (omega arith))))
+    (λ i low. sym (get_or-map-range_with_len f 1 threads i (suc i) 0 (omega arith) (omega arith))))
 
 roots_again : (roots : List (List Reference)) (threads : ℕ) → length roots ≡ threads → All (λ (row : List Reference). length row ≡ 16) roots
     → map (λ t. map (root_in ([] ∷ roots) t) (range_with_len 0 16)) (range_with_len 1 threads) ≡ roots
 roots_again roots threads count full =
     let f : ℕ → List Reference = λ t. map (root_in ([] ∷ roots) t) (range_with_len 0 16) in
     sym (ext_get_or [] roots (map f (range_with_len 1 threads)) (count ∙ sym (length-map-range_with_len f 1 threads))
-      (λ i low. fill_by_all (λ j. get_or (get_or roots i []) j None) (get_or roots i []) 16 None (All-get_or (λ (row : List Reference). length row ≡ 16) roots i [] low full) (λ k h. refl)
-      ∙ sym (get_or-map-range_with_len f 1 threads i (suc i) [] (omega arith) (omega arith))))
+    (λ i low. fill_by_all (λ j. get_or (get_or roots i []) j None) (get_or roots i []) 16 None (All-get_or (λ (row : List Reference). length row ≡ 16) roots i [] low full) (λ k h. refl)
+    ∙ sym (get_or-map-range_with_len f 1 threads i (suc i) [] (omega arith) (omega arith))))
 
 same_parts : (c : Config) (d : Dumped) (counts : List ℕ) (rows : List Row) (roots : List (List Reference)) → d.config ≡ c → counts ≡ d.counts → rows ≡ d.rows → roots ≡ d.roots
     → d ≡ record { config = c; counts = counts; rows = rows; roots = roots }

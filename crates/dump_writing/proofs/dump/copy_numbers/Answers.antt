@@ -1,5 +1,5 @@
 use Rattle.std.proofs.Common.{length, get_or, take, arith, ap, sym, ◌∙◌}
-use Rattle.std.proofs.lemmas.List.{take_more, take_all}
+use Rattle.std.proofs.lemmas.List.{take_more}
 use Rattle.shen_graph.specs.GraphText.{row_of, add_number, with_number, with_numbers}
 use Rattle.shen_graph.proofs.RowLemmas.{length-change_last, with_numbers-push}
 use Rattle.dump_writing.proofs.dump.copy_numbers.Goals as goal

@@ -1,5 +1,5 @@
 use Rattle.std.proofs.Common.{length, get_or, take, arith, ap, sym, ◌∙◌, None}
-use Rattle.std.proofs.lemmas.List.{take_more, take_all}
+use Rattle.std.proofs.lemmas.List.{take_more}
 use Rattle.shen_graph.specs.GraphText.{row_of, add_reference, with_reference, with_references}
 use Rattle.shen_graph.proofs.RowLemmas.{length-change_last, with_references-push}
 use Rattle.dump_writing.proofs.dump.copy_references.Goals as goal

@@ -1,4 +1,4 @@
-use Rattle.std.proofs.Common.{◌≡◌, ◌-◌, ◌<◌, List, [], length, get_or, set, None, arith, ap, sym, ◌∙◌}
+use Rattle.std.proofs.Common.{◌-◌, ◌<◌, List, [], length, get_or, set, None, arith, ap, sym, ◌∙◌}
 use Rattle.std.proofs.lemmas.List.{set-set, set-get_or, get_or-set_same}
 use Rattle.shen_graph.specs.Graph.{Reference}
 use Rattle.shen_graph.specs.GraphText.{Text, roots_of}
@@ -22,14 +22,14 @@ loop-index-preserved c =
     let low : m < length text.roots = omega arith in
     let was = ap (λ t. t.roots) c.loop-index.invariant in
     let row = ap (λ (rows : List (List Reference)). get_or rows m []) was ∙ get_or-set_same text.roots m now [] low in
-    let whole = ap (λ t. t.roots) c.root.ensures
-    ∙ ap (λ (rows : List (List Reference)). set rows m (set (get_or c.loop-index.text.roots m []) i to)) was
+    let made = set c.loop-index.text.roots m (set (get_or c.loop-index.text.roots m []) i to) in
+    let whole = ap (λ (rows : List (List Reference)). set rows m (set (get_or c.loop-index.text.roots m []) i to)) was
     ∙ set-set text.roots m now (set (get_or c.loop-index.text.roots m []) i to)
     ∙ ap (λ (r : List Reference). set text.roots m (set r i to)) row
     ∙ ap (λ (r : Reference). set text.roots m (set now i r)) c.root_at.ensures
     ∙ ap (λ (r : List Reference). set text.roots m r) (mixed_more xs ys i None (omega (arith, c.requires.sixteen)) (omega (arith, c.requires.sixteen))) in
     c.root.ensures
-    ∙ ap (λ (t : Text). record t { roots = c.root.new.self.roots }) c.loop-index.invariant
+    ∙ ap (λ (t : Text). record t { roots = made }) c.loop-index.invariant
     ∙ ap (λ (roots : List (List Reference)). record text { roots = roots }) whole
 
 pub returns : goal.returns
@@ -39,4 +39,4 @@ returns c =
     let ys = roots_of text c.args.thread in
     c.loop-index.invariant
     ∙ ap (λ (r : List Reference). record text { roots = set text.roots (c.args.thread - 1) r })
-      (mixed_all xs ys c.loop-index.index (omega (arith, c.requires.sixteen)) (omega (arith, c.requires.sixteen)))
+    (mixed_all xs ys c.loop-index.index (omega (arith, c.requires.sixteen)) (omega (arith, c.requires.sixteen)))
