@@ -3,6 +3,7 @@ pub mod Located
 pub mod Searching
 pub mod ObjectWords
 pub mod Plotted
+pub mod GraphStands
 pub mod Written
 pub mod FreeRegions
 pub mod TextGraphs

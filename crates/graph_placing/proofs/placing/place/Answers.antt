@@ -7,6 +7,7 @@ use Rattle.image_graph.proofs.NamedStores.{stored}
 use Rattle.graph_placing.specs.PlacedHeap.{IsPlaced}
 use Rattle.graph_placing.specs.Writing.{rows_placed, all_roots_stored}
 use Rattle.graph_placing.proofs.Written.{written_is, is_placed}
+use Rattle.graph_placing.proofs.GraphStands.{stands}
 use Rattle.graph_placing.proofs.placing.place.Goals as goal
 
 pub returns-clause-placed : goal.returns-clause-placed
@@ -28,3 +29,7 @@ returns-clause-placed c =
     let left = stored (config_of c.free_empty.new.image) g (memory_of c.free_empty.new.image) (memory_of c.set_word.new.self) Left c.left_at.result c.mutators.result e3 tt c.left_at.ensures c.set_word.ensures.named in
     let all = left ∙ ap (write (memory_of c.free_empty.new.image) Left) c.mutators.ensures ∙ ap (λ (m : Word → ℕ). write m Left g.mutators) free ∙ written_is g t in
     subst (IsPlaced g t) (sym all) (is_placed g t c.requires)
+
+pub returns-clause-stands : goal.returns-clause-stands
+returns-clause-stands c = λ counts g is.
+    stands c.args.config c.args.text.now c.requires (c.fits.ensures.0 c.if-not-fits.false) (memory_of c.set_word.new.self) (returns-clause-placed c) counts g is
