@@ -13,8 +13,8 @@ use Rattle.trace_runs.specs.declared.mode.Mode.{Mode}
 use Rattle.trace_runs.specs.declared.mode.Mode.TheVariants.{Replay, Noted, Run, Churn, Queue}
 use Rattle.trace_runs.specs.declared.status.Status.{Status}
 use Rattle.trace_runs.specs.declared.status.Status.TheVariants.{Ok, BadWords, BadTrace, Unfinished, ReadFault, WriteFault, NoMemory}
-use Rattle.trace_runs.specs.Words.{Asks, Asked}
-use Rattle.trace_runs.specs.Answered.{Input, Output, ReadsTrace, ReadsNothing, limit_of, IsRefused, IsTooLong, IsCutOff, StatusFits, IsTraceStatus}
+use Rattle.trace_runs.specs.Words.{Asked}
+use Rattle.trace_runs.specs.Answered.{Input, Output, ReadsTrace, ReadsNothing, limit_of, IsRefused, IsTooLong, StatusFits, IsTraceStatus}
 use Rattle.trace_runs.proofs.Words.{asks_alike}
 
 -- what came from known bytes to their end is these bytes

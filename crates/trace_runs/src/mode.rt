@@ -131,13 +131,7 @@ fn seed_in(word: &str) -> Option<u64>
 
 // The number that goes with a command, where the words are the command: the usual one where they are that word alone, or
 // the one, at most `most`, that stands behind the option.
-fn number_of(
-    command: &str,
-    option: &str,
-    usual: u64,
-    most: u64,
-    words: &[String],
-) -> Option<u64>
+fn number_of(command: &str, option: &str, usual: u64, most: u64, words: &[String]) -> Option<u64>
     ensures { MatchOption result (((n : ℕ) × IsNumbered command.now option.now usual most (map string_bytes words.now) n) → ⊥) (IsNumbered command.now option.now usual most (map string_bytes words.now)) }
 {
     match words {

@@ -1,9 +1,9 @@
-use Rattle.std.proofs.Common.{ℕ, List, eqb, sym, ap, ◌-◌, ◌∙◌, length, rules, arith}
+use Rattle.std.proofs.Common.{ℕ, List, eqb, ap, ◌-◌, ◌∙◌, length, rules, arith}
 use Rattle.std.proofs.lemmas.Grind.{common_steps}
 use Rattle.std.specs.Prelude.{codes}
 use Rattle.std.specs.Cmp.Lexicographic.{pointwise}
 use Rattle.std.specs.String.{string_bytes}
-use Rattle.trace_runs.proofs.Words.{noted_by_front, noted_by_last, noted_by_none}
+use Rattle.trace_runs.proofs.Words.{noted_by_front}
 use Rattle.trace_runs.proofs.mode.noted_steps_of.Goals as goal
 
 pub returns-in-len1-up : goal.returns-in-len1-up
