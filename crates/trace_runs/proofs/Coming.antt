@@ -37,7 +37,7 @@ use Rattle.trace_writing.specs.Answer.{answer_text}
 use Rattle.trace_runs.specs.declared.parts.Part.{Part}
 use Rattle.trace_runs.specs.declared.load.Load.TheVariants.{Scripted}
 use Rattle.trace_runs.specs.DealtParts.{Assigned, LoadIsDone, IsDone}
-use Rattle.trace_runs.specs.DealtParts.Assigned as run_by
+use Rattle.trace_runs.specs.DealtParts.Assigned.{scripts as by_scripts}
 use Rattle.trace_runs.specs.Replayed.{IsWhole, IsRun}
 use Rattle.trace_runs.specs.Running.{HasCome}
 use Rattle.trace_runs.proofs.Whole as ends
@@ -88,7 +88,7 @@ module _ (h : Heap) (assigned : Assigned) (w : ℕ) (all : Part) (some : 0 < w) 
         by_actor (Some a) e = idle_turn scripts (closed.stage_of end) n a e (done.idle n a (seen n a e))
 
     -- all scripts were called
-    pub come : (scripts : Scripts) (jobs : Jobs) → LoadIsDone (config_of h) (run_by.scripts scripts) w 0 w (view_of all.bundle) (Scripted jobs) → closed.config_of end ≡ config_of h
+    pub come : (scripts : Scripts) (jobs : Jobs) → LoadIsDone (config_of h) (by_scripts scripts) w 0 w (view_of all.bundle) (Scripted jobs) → closed.config_of end ≡ config_of h
         → IsReached (heap_kind (config_of h)) (heap_opening (config_of h)) (closed.stage_of end) → HasCome (config_of h) scripts jobs end
     come scripts jobs did config leads = record {
       config = config;

@@ -25,7 +25,7 @@ use Rattle.heap_machines.proofs.Openings.{first_count}
 use Rattle.table_heap.proofs.Starting.{fresh_can_start}
 use Rattle.trace_runs.specs.declared.load.Load.TheVariants.{Scripted}
 use Rattle.trace_runs.specs.DealtParts.{PartIsReady, AreFresh, CanBeDealt}
-use Rattle.trace_runs.specs.DealtParts.Assigned as run_by
+use Rattle.trace_runs.specs.DealtParts.Assigned.{scripts as by_scripts}
 
 -- ---- tests and options
 
@@ -98,7 +98,7 @@ module _ (h : Heap) (scripts : Scripts) (first : Jobs) (bundles : List Bundle) (
   some_begun None = refl
   some_begun (Some x) = refl
 
-  pub ready_part : PartIsReady h (run_by.scripts scripts) workers k (k + 1) (record { bundle = b; load = Scripted (parted workers k now) })
+  pub ready_part : PartIsReady h (by_scripts scripts) workers k (k + 1) (record { bundle = b; load = Scripted (parted workers k now) })
   ready_part = record {
     has = record {
       of = fresh.of;

@@ -1,6 +1,6 @@
 -- Parts of a heap's machines: dealt, joined and run.
 use Rattle.std.proofs.Common.{◌≡◌, ◌⊎◌, inl, inr, ⊎_elim, ℕ, ◌+◌, ◌-◌, ◌<◌, ◌≤◌, ◌&&◌, ◌||◌, Bool, true, false, List, [], ◌++◌, length, All, Option, Some, None, refl, sym, ap, ◌∙◌, subst, arith}
-use Rattle.std.specs.Prelude.{◌%◌, nat_lt, nat_le, unwrap_or, IsSome, slice_get, if◌then◌else◌}
+use Rattle.std.specs.Prelude.{◌%◌, nat_lt, nat_le, unwrap_or, IsSome, slice_get, min}
 use Rattle.std.proofs.Math.Nat.{mod-eq_of_lt}
 use Rattle.std.proofs.lemmas.List.{length-append}
 use Rattle.std.proofs.lemmas.List.Elements.{All-append}
@@ -163,10 +163,7 @@ crews_fit : (firsts : List Use) (a b d m k l : ℕ) → a ≤ b → b ≤ d → 
 crews_fit firsts a b d m k l low high count few is other =
     let one = crew_count firsts a b in
     let two = crew_count firsts b d in
-    by_counts (length firsts) (is ∙ one) (other ∙ two) (let e : length firsts ≤ 8 = omega (arith, count, few) in e)
-  where
-    by_counts : (n : ℕ) → k ≡ (if nat_lt b n then b else n) - a → l ≡ (if nat_lt d n then d else n) - b → n ≤ 8 → k + l ≤ 8
-    by_counts n e f few = grind (arith, nat_tests)
+    omega (arith, is, one, other, two, count, few, low, high)
 
 shapes_apart : (c : Config) (assigned : Assigned) (w a b d : ℕ) → a ≤ b → b ≤ d → (l m : Load) → HasShape c assigned w a b l → HasShape c assigned w b d m → AreApart l m
 shapes_apart c (scripts all) w a b d low high (Scripted v) (Scripted u) is other = scripts_apart c all w a b d low high v u is other
@@ -223,13 +220,13 @@ module _ (h : Heap) (w a b : ℕ) (p : Part) (is : IsPart h w a b p) where
         by_tests n m k true below = grind (arith, nat_tests)
         by_tests n m k false below = grind (arith, nat_tests)
 
-    pub below_here : (n : ℕ) → n ≤ (config_of h).mutators → mutators_below p.bundle n ≡ (if nat_lt b n then b else n) - a
+    pub below_here : (n : ℕ) → n ≤ (config_of h).mutators → mutators_below p.bundle n ≡ min b n - a
     below_here n most = span (has_mutator p.bundle) a b (config_of h).mutators low mutator_here n most
 
     -- there are as many users of these bundles as mutators
     pub crew_counts : (firsts : List Use) → IsCrewed (config_of h) firsts w → length (crew_of firsts a b) ≡ mutators_below p.bundle (heap_of p.bundle).mutators
     crew_counts firsts crewed =
-        crew_count firsts a b ∙ ap (λ x. (if nat_lt b x then b else x) - a) crewed.count
+        crew_count firsts a b ∙ ap (λ x. min b x - a) crewed.count
         ∙ sym (below_here (config_of h).mutators (omega arith))
         ∙ ap (λ (c : Config). mutators_below p.bundle c.mutators) (sym is.of.config)
 
@@ -245,10 +242,8 @@ module _ (h : Heap) (w a b : ℕ) (p : Part) (is : IsPart h w a b p) where
     pub its_place : (n : ℕ) (x : Actor) → machine_of (view_of p.bundle) n ≡ Some x → n < (config_of h).mutators → mutators_below p.bundle n ≡ n - a
     its_place n x here below =
         let range = its_range n x here below in
-        below_here n (omega (arith, below)) ∙ by_order b n (omega (arith, range.1))
-      where
-        by_order : (y n : ℕ) → n ≤ y → (if nat_lt y n then y else n) - a ≡ n - a
-        by_order y n le = grind (arith, nat_tests)
+        let under = range.1 in
+        below_here n (omega (arith, below)) ∙ (let e : min b n - a ≡ n - a = omega (arith, under) in e)
 
 -- ---- two parts joined
 
@@ -333,11 +328,10 @@ module _ (h : Heap) (assigned : Assigned) (w a b d : ℕ) (p q r : Part) (of : I
             let below : n < (config_of h).mutators = ltb-true n (config_of h).mutators (its_number h w b d q other n x side role) in
             let range = its_range h w b d q other high crewed.single n x side below in
             let count = crew_count firsts a b in
-            let place : n - a ≡ length v + (n - b) = by_count (length firsts) (long ∙ count) (let e : n < length firsts = omega (arith, below, crewed.count) in e) range.0 in
+            let least = range.0 in
+            let many = crewed.count in
+            let place : n - a ≡ length v + (n - b) = omega (arith, long, count, below, many, least, low) in
             record { begun = done.begun; ended = done.ended; begun_is = done.begun_is; ended_is = ap (λ xs. slice_get xs (n - a)) joined_is ∙ at_back v u (n - b) (n - a) done.ended place done.ended_is; driven = done.driven }
-          where
-            by_count : (m : ℕ) → length v ≡ (if nat_lt b m then b else m) - a → n < m → b ≤ n → n - a ≡ length v + (n - b)
-            by_count m e below least = grind (arith, nat_tests)
 
     count_after : length v ≡ length (crew_of firsts a b) → length u ≡ length (crew_of firsts b d) → length all ≡ length (crew_of firsts a d)
     count_after mine others =

@@ -42,7 +42,7 @@ use Rattle.trace_runs.specs.declared.load.Load.TheVariants.{Scripted, Driven}
 use Rattle.trace_runs.specs.declared.parts.Part.{Part}
 use Rattle.trace_runs.specs.DealtParts.{crew_of, IsPart, HasUsed, IsCrewed, LoadIsDone, PartIsReady, IsDone, AreFresh, CanBeDealt}
 use Rattle.trace_runs.specs.DealtParts.Assigned.{users}
-use Rattle.trace_runs.specs.DealtParts.Assigned as run_by
+use Rattle.trace_runs.specs.DealtParts.Assigned.{scripts as by_scripts}
 use Rattle.trace_runs.specs.Words.{most_numbers}
 use Rattle.trace_runs.specs.Replayed.{IsWhole}
 use Rattle.trace_runs.specs.Queued.{IsQueueHeap, queue_users, CanBeCrewed, IsQueued}
@@ -92,7 +92,7 @@ crewed_part h count bundles w k b crew small can many here are = record {
       runnable = All-from_recursion IsRunnable idle_scripts (none_runnable, (none_runnable, (none_runnable, (none_runnable, tt))));
     }
 
-    idle : PartIsReady h (run_by.scripts idle_scripts) w k (k + 1) (record { bundle = b; load = Scripted (parted w k (left_after w k idle_scripts)) })
+    idle : PartIsReady h (by_scripts idle_scripts) w k (k + 1) (record { bundle = b; load = Scripted (parted w k (left_after w k idle_scripts)) })
     idle = ready_part h idle_scripts (opened idle_scripts) bundles can_idle w k b (left_after w k idle_scripts) many here refl
 
     part : IsPart h w k (k + 1) (record { bundle = b; load = Driven crew })
@@ -189,16 +189,16 @@ module _ (h : Heap) (count w : ℕ) (all : Part) (crew : ArrayVec Use) (some : 0
   played_out t below =
       let within : t < (config_of h).mutators = omega (arith, below, sizes.mutators) in
       let call = called t within in
-      let use = used_in t call.actor within call.here in
+      let its = used_in t call.actor within call.here in
       let calls : of_thread history (t + 1) ≡ call.actor.calls = ends.entries_called (config_of h) called_scripts leads.events t call in
-      let begun : use.begun ≡ queue_user count t = same_user use.begun (queue_user count t) (sym use.begun_is ∙ user_at count t below) in
-      let last : use.ended ≡ use_after (queue_user count t) (of_thread history (t + 1)) =
-      use.driven.state ∙ as_after use.begun call.actor.calls ∙ ap (λ u. use_after u call.actor.calls) begun ∙ ap (use_after (queue_user count t)) (sym calls) in
+      let begun : its.begun ≡ queue_user count t = same_user its.begun (queue_user count t) (sym its.begun_is ∙ user_at count t below) in
+      let last : its.ended ≡ use_after (queue_user count t) (of_thread history (t + 1)) =
+      its.driven.state ∙ as_after its.begun call.actor.calls ∙ ap (λ u. use_after u call.actor.calls) begun ∙ ap (use_after (queue_user count t)) (sym calls) in
       let back : t - 0 ≡ t = omega arith in
       record {
-        driven = subst (λ es. IsDriven (queue_user count t) es) (sym calls) (subst (λ u. IsDriven u call.actor.calls) begun (as_driven use.begun call.actor.calls use.driven.driven));
-        ended = subst (λ u. next_of u ≡ None) last use.driven.ended;
-        there = ap (slice_get crew.items) (sym back) ∙ use.ended_is ∙ ap Some last;
+        driven = subst (λ es. IsDriven (queue_user count t) es) (sym calls) (subst (λ u. IsDriven u call.actor.calls) begun (as_driven its.begun call.actor.calls its.driven.driven));
+        ended = subst (λ u. next_of u ≡ None) last its.driven.ended;
+        there = ap (slice_get crew.items) (sym back) ∙ its.ended_is ∙ ap Some last;
       }
 
   pub queue_run : IsQueueRun count history
@@ -231,6 +231,7 @@ module _ (h : Heap) (count w : ℕ) (all : Part) (crew : ArrayVec Use) (some : 0
   -- and the line says what the takers got
   pub queued : count ≤ most_numbers → (items sum : ℕ) → items ≡ (got_in count history 2).items + (got_in count history 3).items → sum ≡ (got_in count history 2).sum + (got_in count history 3).sum
       → IsQueued count (line_text (line.Queue count items sum))
+  unfolding queue_run
   queued small items sum items_are sum_is = record {
     config = config_of h;
     heap = sizes;

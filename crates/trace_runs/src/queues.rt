@@ -69,7 +69,8 @@ fn crewed(alloc: Global, count: u64, bundles: Vec<Bundle>) -> Result<Vec<Part>, 
     ensures count { IfOk result (λ parts. length parts.items ≡ length bundles.items) }
     ensures ready { IfOk result (λ parts. (heap : Shared) → CanBeCrewed heap bundles.items → AreReady heap (users (queue_users count)) (length bundles.items) parts.items) }
 {
-    let Ok(mut parts) = Vec::with_capacity(alloc, bundles.len()) else {
+    let workers = bundles.len();
+    let Ok(mut parts) = Vec::with_capacity(alloc, workers) else {
         return Err(NoMemory);
     };
     for bundle in bundles {
@@ -127,7 +128,10 @@ pub fn queue<R: Threads + Wait + Sync, K: Sink, G: Gate>(
         (record { before = outlet (K.written sink.old) (K.faults sink.old) (K.calls sink.old); after = outlet (K.written sink.new) (K.faults sink.new) (K.calls sink.new) }) result }
 {
     match got_of(rt, alloc, count, gate) {
-        Ok(Gotten { items, sum }) => say(sink, Line::Queue { count, items, sum }, Status::Ok),
+        Ok(got) => {
+            let (items, sum) = (got.items, got.sum);
+            say(sink, Line::Queue { count, items, sum }, Status::Ok)
+        }
         Err(NoMemory) => say(sink, Line::NoMemory, Status::NoMemory),
     }
 }

@@ -8,7 +8,7 @@ use Rattle.trace_runs.proofs.queues.queue.Goals as goal
 
 pub returns-in-Ok : goal.returns-in-Ok
 returns-in-Ok g c = λ words input asked.
-    said words input _ (line_text (line.Queue c.args.count c.in-Ok.items c.in-Ok.sum)) Ok c.say.result (Queue c.args.count, asked, c.in-Ok.ensures) c.say.ensures
+    said words input _ (line_text (line.Queue c.args.count c.in-Ok.got.items c.in-Ok.got.sum)) Ok c.say.result (Queue c.args.count, asked, c.in-Ok.ensures) c.say.ensures
 
 pub returns-in-Err : goal.returns-in-Err
 returns-in-Err g c = λ words input asked.
