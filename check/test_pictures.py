@@ -27,6 +27,7 @@ from cases import program  # pylint: disable=wrong-import-position
 from settling import command, trace  # pylint: disable=wrong-import-position
 import drawing  # pylint: disable=wrong-import-position
 import heap  # pylint: disable=wrong-import-position
+import lanes  # pylint: disable=wrong-import-position
 import page  # pylint: disable=wrong-import-position
 import run  # pylint: disable=wrong-import-position
 
@@ -52,6 +53,7 @@ REFUSED = [
     (["--svg", "01x"], HEAD, 2, "bad words: "),
     (["--at"], HEAD, 2, "bad words: "),
     (["--colour"], HEAD, 2, "bad words: "),
+    (["--time", "20"], HEAD, 2, "bad words: --time goes with --svg"),
     (["nothing.trace"], "", 5, "shenpicture: nothing.trace cannot be read: No such file or directory"),
     (["--html", "/nowhere/page.html"], HEAD + EVENT % (1, 1), 6, "shenpicture: /nowhere/page.html cannot be written: "),
     ([], "heap 1\n", 3, "bad line 1: header wanted"),
@@ -176,26 +178,36 @@ def moments(it):
     return [page.start(it, None), 0, len(it.rows) * 9 // 10]
 
 
-def drawn(it, lines, row, width):
+def drawn(it, listing, row, width):
     """The heap behind a row, as it is drawn without a browser."""
-    behind = run.read(lines, last=it.rows.number[row])
+    behind = run.read(listing, last=it.rows.number[row])
     return drawing.Drawing(heap.Heap(behind.layout, behind.table), width, page.never_used(it)).draw().content()
+
+
+def time_drawn(it, row, width, label, zoom, left):
+    """The time round a row, as it is drawn without a browser."""
+    words = [word for word in page.followed(it) if word[3]]
+    time_lanes = lanes.Lanes(it, page.machines(it.layout), words, width, label)
+    time_lanes.zoom, time_lanes.left, time_lanes.cursor = zoom, left, row
+    return time_lanes.draw()
 
 
 SEEN = """(() => { const all = (text) => [...document.querySelectorAll(text)], lanes = page.lanes;
   return { row: page.row, at: document.querySelector("#at").textContent, line: document.querySelector("#line").textContent,
     machines: all("#lanes .machine").map((it) => it.textContent), objects: all("#heap .object").length, regions: all("#heap .region").length,
     bars: all("#heap .object rect").length, frames: all("#heap .frame").length, width: document.documentElement.scrollWidth, sees: innerWidth,
-    words: all("#lanes .strip").length, heapWidth: page.heapWidth, drawing: new Drawing(page.shown, page.heapWidth, page.run.low).draw().content() }; })()"""
+    words: all("#lanes .strip").length, lanes: [lanes.width, lanes.label, lanes.zoom, lanes.left], time: lanes.draw(), heapWidth: page.heapWidth, drawing: new Drawing(page.shown, page.heapWidth, page.run.low).draw().content() }; })()"""
 
 
 def differs(name, what, got, wanted):
     """What is another one than is wanted."""
     if got != wanted:
-        yield f"{name}: {what} is {str(got)[:300]}, and not {str(wanted)[:300]}"
+        got, wanted = str(got), str(wanted)
+        same = len(os.path.commonprefix([got, wanted]))
+        yield f"{name}: {what} is {got[max(same - 60, 0):][:300]}, and not {wanted[max(same - 60, 0):][:300]}"
 
 
-def check_moment(browser, name, it, lines, row):
+def check_moment(browser, name, it, listing, row):
     """What a page shows otherwise at a row."""
     browser.value(f"page.go({row}), new Promise((done) => requestAnimationFrame(() => requestAnimationFrame(done))).then(() => 0)")
     seen = browser.value(SEEN)
@@ -204,8 +216,9 @@ def check_moment(browser, name, it, lines, row):
     yield from differs(name, "the count", seen["at"], f"event {it.rows.number[row]} of {it.events}")
     yield from differs(name, "the line", seen["line"], line(it, row))
     yield from differs(name, "the list of machines", seen["machines"], [it.layout.machine(number) for number in range(1, it.layout.machines + 1)])
-    wanted = drawn(it, lines, row, seen["heapWidth"])
+    wanted = drawn(it, listing, row, seen["heapWidth"])
     yield from differs(name, "the heap", seen["drawing"], wanted)
+    yield from differs(name, "the picture of time", seen["time"], time_drawn(it, row, *seen["lanes"]))
     yield from differs(name, "the number of objects", seen["objects"], wanted.count('<g class="object'))
     yield from differs(name, "the number of frames", seen["frames"], wanted.count('class="frame"'))
     yield from differs(name, "the number of regions", seen["regions"], it.layout.regions)
@@ -217,6 +230,8 @@ def check_moment(browser, name, it, lines, row):
 def check_all_seen(browser, name, it):
     """What the whole run shows otherwise: calls, pauses, exchanges, and each line."""
     browser.key("0")
+    told = browser.value("[page.lanes.width, page.lanes.label, page.lanes.zoom, page.lanes.left, page.row, page.lanes.draw()]")
+    yield from differs(name, "the picture of all time", told[5], time_drawn(it, told[4], *told[:4]))
     seen = browser.value("""(() => { const all = (text) => document.querySelectorAll("#lanes " + text).length;
       return [all(".call"), all(".pause"), all(".settles"), all(".link"), Array.from({ length: page.run.count }, (_, row) => page.run.line(row))]; })()""")
     yield from differs(name, "the list of lines", seen[4], [line(it, row) for row in range(len(it.rows))])
@@ -225,6 +240,21 @@ def check_all_seen(browser, name, it):
         yield from differs(name, "the number of calls", seen[0], len(it.calls))
         yield from differs(name, "the number of replies settled", seen[2], sum(call[2] != run.NOTHING for call in it.calls))
     yield from differs(name, "whether there are lines to winners", seen[3] > 0, any(winner >= 0 for _, winner in it.lost))
+
+
+def check_seeks(browser, name, it):
+    """Whether the words behind an event are others where they are come to by a jump."""
+    rand = random.Random(2)
+    rows = [rand.randrange(len(it.rows)) for _ in range(300)]
+    wrong = browser.value(f"""(() => {{ const run = page.run, at = new Map(), rows = {rows};
+      run.interval = 16; run.table.set(run.kept[0]); run.further = 0; run.kept = [run.table.slice()]; run.furtherAt = [0];
+      for (let row = 0; row < run.count; row += 1) {{
+        run.step(row); at.set(row, run.table.join());
+        if ((row + 1) % 16 === 0) {{ run.kept.push(run.table.slice()); run.furtherAt.push(run.further); }}
+      }}
+      run.at = run.count - 1;
+      return rows.filter((row) => {{ run.seek(row); return run.table.join() !== at.get(row); }}); }})()""")
+    yield from differs(name, "the list of events with other words", wrong, [])
 
 
 def check_keys(browser, name, it):
@@ -251,18 +281,19 @@ def check_keys(browser, name, it):
 
 def check_page(browser, folder, name):
     """What is wrong with the page of an example."""
-    lines = objects(EXAMPLES[name], "--pauses", "changed")
-    it = run.read(lines)
+    listing = objects(EXAMPLES[name], "--pauses", "changed")
+    it = run.read(listing)
     path = pathlib.Path(folder) / f"{name}.html"
     path.write_text(page.page(it, f"{name}.trace"), encoding="utf-8")
     for width, dark in SIZES:
         browser.size(width, 900, dark)
         browser.open(path)
         for row in moments(it):
-            yield from check_moment(browser, f"{name}, {width} pixels", it, lines, row)
+            yield from check_moment(browser, f"{name}, {width} pixels", it, listing, row)
         if width == SIZES[0][0]:
             yield from check_all_seen(browser, name, it)
             yield from check_keys(browser, name, it)
+            yield from check_seeks(browser, name, it)
             if len(browser.call("Page.printToPDF", printBackground=True)["data"]) < 10000:
                 yield f"{name}: hardly anything is printed"
         if browser.said or browser.loaded != [f"file://{path}"]:
@@ -312,10 +343,10 @@ def long_trace(count):
 
 
 def measure():
-    """Measures how long a page takes: to be made, to open, and to move by 10,000 events."""
+    """Measures how long a page takes, of runs with so many commands a thread: to be made, to open, and to move by 10,000 events."""
     browser = Browser()
     with tempfile.TemporaryDirectory() as folder:
-        for count in (400, 20000):
+        for count in (20, 700):
             path = pathlib.Path(folder) / f"{count}.html"
             begin = time.monotonic()
             it = run.read(objects(long_trace(count), "--pauses", "changed"))

@@ -15,7 +15,7 @@ TOP = pathlib.Path(__file__).resolve().parent.parent
 EXAMPLES = TOP / "examples"
 PAGE = EXAMPLES / "README.md"
 HEADING = "\n## Pictures\n"
-WIDE = 620
+WIDE, EVENTS = 760, 38
 # The event that is drawn: that at which the example turns.
 MOMENTS = {
     "first": 63, "noted": 63, "race": 47, "apart": 47, "retry": 47, "one_bit": 14, "stack": 110, "stack_gap": 101,
@@ -34,7 +34,7 @@ def examples():
 
 def drawn(name):
     """The picture of an example."""
-    words = [TOP / "shenpicture", "--svg", str(MOMENTS[name]), "--wide", str(WIDE), EXAMPLES / f"{name}.trace"]
+    words = [TOP / "shenpicture", "--svg", str(MOMENTS[name]), "--time", str(EVENTS), "--wide", str(WIDE), EXAMPLES / f"{name}.trace"]
     ran = subprocess.run(words, stdout=subprocess.PIPE, check=False)
     if ran.returncode:
         raise SystemExit(f"{name}: shenpicture ends with {ran.returncode}")
@@ -52,8 +52,8 @@ def line(name):
 
 def section(names):
     """The list of the pictures."""
-    text = HEADING + "\nThe heap of each example behind the event at which it turns; `pictures/gallery.py` makes them, and this list. `./shenpicture`\n"
-    text += "draws the whole run as a page: [PICTURES.md](../docs/PICTURES.md).\n"
+    text = HEADING + "\nEach example where it turns: the time round that event, and the heap behind it. `pictures/gallery.py` makes them, and this list;\n"
+    text += "[PICTURES.md](../docs/PICTURES.md) says what is drawn, and draws whole runs.\n"
     for name in names:
         text += f"\n**{name}**: `{line(name)}`\n\n![{name}, behind event {MOMENTS[name]}](pictures/{name}.svg)\n"
     return text

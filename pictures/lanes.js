@@ -1,10 +1,11 @@
 "use strict";
-// Time from left to right: a lane for each machine, and below a strip for each word that is followed.
+// Time from left to right: a lane for each machine, and below a strip for each word that is followed. lanes.py draws the same without
+// a browser: check/test_pictures.py compares the two, text by text.
 
 const PAUSE_UNITS = 12, LANE = 50, STRIP = 26, AXIS = 34;
 const PHASES = ["idle", "marking", "evacuating", "updating"];
 const SMALL = new Set(["unit-text", "pause-text", "band-text"]);
-const TICKS_FROM = 5, CODES_FROM = 17;
+const TICKS_FROM = 5, CODES_FROM = 16;
 
 // The first place in a sorted list from which on a test holds.
 function first(count, holds) {
@@ -254,9 +255,9 @@ class Lanes {
       if (winner < 0) continue;
       const x = this.middle(row), to = this.middle(winner), y = this.lane(columns.machine[row]) + 33, end = this.lane(columns.machine[winner]) + 33;
       if (x < this.label || x > this.width) continue;
-      const stop = Math.max(to, this.label), same = y === end ? -24 : 0;
+      const stop = Math.max(to, this.label), bend = (y + end) / 2 - (y === end ? 24 : 0);
       this.parts.push(
-        `<path class="link" data-row="${row}" d="M${x},${y}C${x - 12},${(y + end) / 2 + same} ${stop + 12},${(y + end) / 2 + same} ${stop},${end}">` +
+        `<path class="link" data-row="${row}" d="M${x},${y}C${x - 12},${bend} ${stop + 12},${bend} ${stop},${end}">` +
           `<title>lost to event ${columns.number[winner]}</title></path>`,
       );
       if (to >= this.label) this.parts.push(`<circle class="link-end" cx="${to}" cy="${end}" r="6"/>`);
@@ -287,7 +288,7 @@ class Lanes {
     machines.forEach(({ name, kind }, machine) => this.parts.push(`<text class="machine ${kind}" x="4" y="${this.lane(machine) + 20}">${escaped(name)}</text>`));
     if (this.words.length) this.parts.push(`<text class="number" x="4" y="${this.strip(0) - 6}">words</text>`);
     this.words.forEach(([, label], number) => {
-      const most = Math.floor((this.label - 6) / 6.2), text = texts[label];
+      const most = Math.floor((this.label - 6) / 6.7), text = texts[label];
       this.parts.push(`<text class="word-label" x="4" y="${this.strip(number) + 14}">${escaped(text.length > most ? `${text.slice(0, most - 1)}…` : text)}<title>${escaped(text)}</title></text>`);
     });
   }

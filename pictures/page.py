@@ -12,6 +12,8 @@ from html import escape
 from colours import chosen
 from run import NOTHING, Columns
 
+# What hatches a machine that waits.
+HATCHED = '<pattern id="hatched" width="6" height="6" patternUnits="userSpaceOnUse" patternTransform="rotate(45)"><path d="M0,0V6" class="hatch-line"/></pattern>'
 HERE = pathlib.Path(__file__).resolve().parent
 # The most words that a page offers to follow, and how many of these it follows at first.
 OFFERED, FOLLOWED = 60, 4
@@ -34,11 +36,9 @@ class Followed:
         self.writers, self.writes, self.lost, self.label, self.before = set(), 0, 0, 0, None
 
 
-def kind_of(layout, index):
-    """The kind of a word outside the heap; that of one of the heap is empty."""
-    if index < layout.heap_words:
-        return ""
-    return max((at, kind) for kind, at in layout.first.items() if at <= index)[1]
+def is_dull(layout, index):
+    """Whether a word is followed only if somebody asks."""
+    return index >= layout.heap_words and max((at, kind) for kind, at in layout.first.items() if at <= index)[1] in DULL
 
 
 def followed(run):
@@ -65,14 +65,13 @@ def followed(run):
 
     def interest(item):
         index, it = item
-        dull = kind_of(run.layout, index) in DULL
-        return (-it.lost, dull, -len(it.writers), -it.writes, index)
+        return (-it.lost, is_dull(run.layout, index), -len(it.writers), -it.writes, index)
 
     offered = sorted(((index, it) for index, it in known.items() if it.writes), key=interest)[:OFFERED]
     phase = run.layout.first["phase"]
     words, chosen = [], 0
     for index, it in offered:
-        is_first = chosen < FOLLOWED and kind_of(run.layout, index) not in DULL
+        is_first = chosen < FOLLOWED and not is_dull(run.layout, index)
         chosen += is_first
         words.append([index, it.label, it.before, bool(is_first)])
     if phase in known and not any(word[0] == phase for word in words):
@@ -163,6 +162,6 @@ def page(run, name, at=None):
         run_text = run_text.replace(sign, f"\\u{ord(sign):04x}")
     parts = {
         "POLICY": base64.b64encode(hashlib.sha256(script.encode()).digest()).decode(), "TITLE": escape(name), "SIZES": escape(sizes(run)),
-        "NOTES": notes(run), "STYLE": chosen(":root") + "".join((HERE / part).read_text() for part in ["page.css", "heap.css"]), "SCRIPT": script, "RUN": run_text,
+        "NOTES": notes(run), "HATCHED": HATCHED, "STYLE": chosen(":root") + "".join((HERE / part).read_text() for part in ["page.css", "time.css", "heap.css"]), "SCRIPT": script, "RUN": run_text,
     }
     return re.sub("@([A-Z]+)@", lambda it: parts[it.group(1)], (HERE / "page.html").read_text())

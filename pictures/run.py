@@ -87,6 +87,8 @@ class Run:
         self.initial = None
         self.items, self.calls, self.pauses, self.waits, self.units, self.lost = [], [], [], [], [], []
         self.phases, self.owners = [], {}
+        # The words behind the last event that was asked for, its number, and whether that lies within a pause.
+        self.behind = None
         self.open_calls, self.open_waits, self.open_units = {}, {}, {}
         self.last_number, self.pausing, self.is_row = 0, False, False
         self.mismatches, self.events, self.is_cut, self.end, self.stuck = 0, 0, False, None, None
@@ -123,6 +125,11 @@ class Run:
         if self.initial is None:
             self.initial = array("I", map(self.value, self.table))
             self.phases.append([0, self.table[self.layout.first["phase"]]])
+
+    def keep(self):
+        """Keeps the words, if none were kept yet."""
+        if self.behind is None:
+            self.behind = (list(self.table), self.last_number, self.pausing)
 
     def check_number(self, it):
         """Refuses a listing that leaves out events, since what they did to the words is not known."""
@@ -300,9 +307,10 @@ class Run:
             self.items.append([len(self.rows), f"{it['item']}: {it['text']}"])
 
 
-def read(lines, first=1, most=MOST, last=None):
-    """The run that the lines of a listing tell, up to an event if that is given."""
-    run, waiting, number = None, None, 0
+def read(lines, first=1, most=MOST, last=None, more=0):
+    """The run that the lines of a listing tell: up to an event if that is given, and so many rows more, before which the words are
+    kept."""
+    run, waiting, number, stop = None, None, 0, None
     try:
         for number, line in enumerate(lines, 1):
             it = json.loads(line)
@@ -319,7 +327,10 @@ def read(lines, first=1, most=MOST, last=None):
                 run.take_pause(*waiting)
                 waiting = None
             if last is not None and it.get("event", 0) > last:
-                break
+                run.keep()
+                stop = len(run.rows) + more if stop is None else stop
+                if len(run.rows) >= stop:
+                    break
             if kind == "event":
                 run.take_event(it)
             elif kind == "pause":
@@ -339,4 +350,5 @@ def read(lines, first=1, most=MOST, last=None):
     if run is None:
         raise Fault("line 1: there is nothing")
     run.open()
+    run.keep()
     return run
