@@ -25,12 +25,12 @@ crew_joined firsts a b c low high =
     (take-add b (c - b) firsts ∙ ap (λ xs. take b firsts ++ xs) (sym (drop-take b (c - b) firsts))) in
     ⊎_elim
     (λ (past : length firsts < a).
-        let front : drop a (take b firsts) ≡ [] = drop_all a (take b firsts) (let e = length-take b firsts in omega (arith, e, past)) in
-        let rest : drop b (take c firsts) ≡ [] = drop_all b (take c firsts) (let e = length-take c firsts in omega (arith, e, past, low)) in
-        let whole : drop a (take c firsts) ≡ [] = drop_all a (take c firsts) (let e = length-take c firsts in omega (arith, e, past)) in
-        ap (λ xs. xs ++ drop b (take c firsts)) front ∙ rest ∙ sym whole)
+    let front : drop a (take b firsts) ≡ [] = drop_all a (take b firsts) (let e = length-take b firsts in omega (arith, e, past)) in
+    let rest : drop b (take c firsts) ≡ [] = drop_all b (take c firsts) (let e = length-take c firsts in omega (arith, e, past, low)) in
+    let whole : drop a (take c firsts) ≡ [] = drop_all a (take c firsts) (let e = length-take c firsts in omega (arith, e, past)) in
+    ap (λ xs. xs ++ drop b (take c firsts)) front ∙ rest ∙ sym whole)
     (λ (within : a ≤ length firsts).
-        sym (ap (drop a) all ∙ drop-append-le a (take b firsts) (drop b (take c firsts)) (let e = length-take b firsts in omega (arith, e, low, within))))
+    sym (ap (drop a) all ∙ drop-append-le a (take b firsts) (drop b (take c firsts)) (let e = length-take b firsts in omega (arith, e, low, within))))
     (cases_lt (length firsts) a)
 
 -- a user of some bundles is one of all

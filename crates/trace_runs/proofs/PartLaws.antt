@@ -34,7 +34,7 @@ use Rattle.table_heap.specs.Driving.{has_mutator, mutators_below, CanDrive, HasD
 use Rattle.trace_runs.specs.declared.load.Load.{Load}
 use Rattle.trace_runs.specs.declared.load.Load.TheVariants.{Scripted, Driven}
 use Rattle.trace_runs.specs.declared.parts.Part.{Part}
-use Rattle.trace_runs.specs.DealtParts.{Assigned, CanBegin, HaveEnded, PartHasEnded, AreApart, IsJoined, is_dealt, IsPart, HasScripts, IsCrewed, IsLoad, crew_of, HasUsed, LoadIsDone, PartIsReady, IsDone}
+use Rattle.trace_runs.specs.DealtParts.{Assigned, CanBeRunBy, HaveEnded, PartHasEnded, LoadsAreApart, IsJoined, is_dealt, IsPart, HasScripts, IsCrewed, IsLoad, crew_of, HasUsed, LoadIsDone, PartIsReady, IsDone}
 use Rattle.trace_runs.specs.DealtParts.Assigned.{scripts, users}
 use Rattle.trace_runs.proofs.Crews.{crew_count, crew_joined, crew_at, at_front, at_back, span}
 
@@ -134,7 +134,7 @@ module _ (c : Config) (all : Scripts) (w a b d : ℕ) (low : a ≤ b) (high : b 
       not_both false x e = refl
       not_both true x e = grind (arith, nat_tests)
 
-  pub scripts_apart : AreApart (Scripted v) (Scripted u)
+  pub scripts_apart : LoadsAreApart (Scripted v) (Scripted u)
   scripts_apart t here there =
       false≢true (sym (never_both (nat_lt t c.mutators) (nat_lt t c.mutators) (t % w) a b d (sym (is.numbers t) ∙ here)) ∙ sym (other.numbers t) ∙ there)
 
@@ -165,7 +165,7 @@ crews_fit firsts a b d m k l low high count few is other =
     let two = crew_count firsts b d in
     omega (arith, is, one, other, two, count, few, low, high)
 
-shapes_apart : (c : Config) (assigned : Assigned) (w a b d : ℕ) → a ≤ b → b ≤ d → (l m : Load) → HasShape c assigned w a b l → HasShape c assigned w b d m → AreApart l m
+shapes_apart : (c : Config) (assigned : Assigned) (w a b d : ℕ) → a ≤ b → b ≤ d → (l m : Load) → HasShape c assigned w a b l → HasShape c assigned w b d m → LoadsAreApart l m
 shapes_apart c (scripts all) w a b d low high (Scripted v) (Scripted u) is other = scripts_apart c all w a b d low high v u is other
 shapes_apart c (scripts all) w a b d low high (Scripted v) (Driven u) is other = other
 shapes_apart c (scripts all) w a b d low high (Driven v) m is other = absurd is
@@ -174,11 +174,11 @@ shapes_apart c (users firsts) w a b d low high (Driven v) (Scripted u) is other 
 shapes_apart c (users firsts) w a b d low high (Driven v) (Driven u) is other =
     crews_fit firsts a b d c.mutators (length v.items) (length u.items) low high is.0.count c.in_range.most_mutators is.1 other.1
 
-pub apart_before : (h : Heap) (assigned : Assigned) (w a b d : ℕ) (p q : Part) → a ≤ b → b ≤ d → PartIsReady h assigned w a b p → PartIsReady h assigned w b d q → AreApart p.load q.load
+pub apart_before : (h : Heap) (assigned : Assigned) (w a b d : ℕ) (p q : Part) → a ≤ b → b ≤ d → PartIsReady h assigned w a b p → PartIsReady h assigned w b d q → LoadsAreApart p.load q.load
 apart_before h assigned w a b d p q low high ready other =
     shapes_apart (config_of h) assigned w a b d low high p.load q.load (shape_before (config_of h) assigned w a b p.load ready.load) (shape_before (config_of h) assigned w b d q.load other.load)
 
-pub apart_after : (h : Heap) (assigned : Assigned) (w a b d : ℕ) (p q : Part) → a ≤ b → b ≤ d → IsDone h assigned w a b p → IsDone h assigned w b d q → AreApart p.load q.load
+pub apart_after : (h : Heap) (assigned : Assigned) (w a b d : ℕ) (p q : Part) → a ≤ b → b ≤ d → IsDone h assigned w a b p → IsDone h assigned w b d q → LoadsAreApart p.load q.load
 apart_after h assigned w a b d p q low high done other =
     shapes_apart (config_of h) assigned w a b d low high p.load q.load (shape_after (config_of h) assigned w a b (view_of p.bundle) p.load done.load) (shape_after (config_of h) assigned w b d (view_of q.bundle) q.load other.load)
 
@@ -341,7 +341,7 @@ module _ (h : Heap) (assigned : Assigned) (w a b d : ℕ) (p q r : Part) (of : I
   pub joined_ready : orders_of r.bundle ≡ merged (orders_of p.bundle) (orders_of q.bundle) → PartIsReady h assigned w a b p → PartIsReady h assigned w b d q → PartIsReady h assigned w a d r
   joined_ready orders mine others = record { has = joined_part; load = both.0; start = both.1 }
     where
-      by_loads : (s : Assigned) (l m n : Load) → IsJoined l m n → IsLoad (config_of h) s w a b l → IsLoad (config_of h) s w b d m → CanBegin p.bundle l → CanBegin q.bundle m → IsLoad (config_of h) s w a d n × CanBegin r.bundle n
+      by_loads : (s : Assigned) (l m n : Load) → IsJoined l m n → IsLoad (config_of h) s w a b l → IsLoad (config_of h) s w b d m → CanBeRunBy p.bundle l → CanBeRunBy q.bundle m → IsLoad (config_of h) s w a d n × CanBeRunBy r.bundle n
       by_loads (scripts all) (Scripted v) (Scripted u) (Scripted t) are l m can can_too = (
         subst (λ j. HasScripts (config_of h) all w a d j) (sym are) (scripts_joined (config_of h) all w a b d low high v u l m),
         subst (λ j. CanStart r.bundle j) (sym are) (starts_joined all v u l m orders can can_too),
@@ -357,7 +357,7 @@ module _ (h : Heap) (assigned : Assigned) (w a b d : ℕ) (p q r : Part) (of : I
       by_loads s (Scripted v) (Scripted u) (Driven t) are l k can can_too = absurd are
       by_loads s (Driven v) (Driven u) (Scripted t) are l k can can_too = absurd are
 
-      both : IsLoad (config_of h) assigned w a d r.load × CanBegin r.bundle r.load
+      both : IsLoad (config_of h) assigned w a d r.load × CanBeRunBy r.bundle r.load
       both = by_loads assigned p.load q.load r.load loads mine.load others.load mine.start others.start
 
   pub joined_done : IsDone h assigned w a b p → IsDone h assigned w b d q → IsDone h assigned w a d r

@@ -40,7 +40,7 @@ use Rattle.trace_writing.specs.Message.{line_text}
 use Rattle.trace_writing.specs.declared.message.Line.TheVariants as line
 use Rattle.trace_runs.specs.declared.load.Load.TheVariants.{Scripted, Driven}
 use Rattle.trace_runs.specs.declared.parts.Part.{Part}
-use Rattle.trace_runs.specs.DealtParts.{crew_of, IsPart, HasUsed, IsCrewed, LoadIsDone, PartIsReady, IsDone, AreFresh, CanBeDealt}
+use Rattle.trace_runs.specs.DealtParts.{crew_of, IsPart, HasUsed, IsCrewed, LoadIsDone, PartIsReady, IsDone, BundlesAreFresh, CanBeDealt}
 use Rattle.trace_runs.specs.DealtParts.Assigned.{users}
 use Rattle.trace_runs.specs.DealtParts.Assigned.{scripts as by_scripts}
 use Rattle.trace_runs.specs.Words.{most_numbers}

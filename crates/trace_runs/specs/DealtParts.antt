@@ -28,9 +28,9 @@ pub data Assigned : Type 0 where
 -- ---- loads
 
 -- the mutators of a bundle can begin
-abbrev pub CanBegin : Bundle → Load → Type 0
-CanBegin bundle (Scripted jobs) = CanStart bundle jobs
-CanBegin bundle (Driven crew) = CanDrive to_come bundle crew.items
+abbrev pub CanBeRunBy : Bundle → Load → Type 0
+CanBeRunBy bundle (Scripted jobs) = CanStart bundle jobs
+CanBeRunBy bundle (Driven crew) = CanDrive to_come bundle crew.items
 
 -- They have called their scripts, and the work has the replies; or their users have come to an end, by the replies of their calls.
 abbrev pub HaveEnded : (before after : Bundle) → (first last : Load) → Type 0
@@ -39,10 +39,10 @@ HaveEnded before after (Driven crew) (Driven later) = (length later.items ≡ le
 HaveEnded before after _ _ = ⊥
 
 -- no mutator has a script in both, or there is room for the users of both
-abbrev pub AreApart : Load → Load → Type 0
-AreApart (Scripted jobs) (Scripted others) = (mutator : ℕ) → work.HasScript jobs mutator → work.HasScript others mutator → ⊥
-AreApart (Driven crew) (Driven others) = length crew.items + length others.items ≤ 8
-AreApart _ _ = ⊥
+abbrev pub LoadsAreApart : Load → Load → Type 0
+LoadsAreApart (Scripted jobs) (Scripted others) = (mutator : ℕ) → work.HasScript jobs mutator → work.HasScript others mutator → ⊥
+LoadsAreApart (Driven crew) (Driven others) = length crew.items + length others.items ≤ 8
+LoadsAreApart _ _ = ⊥
 
 -- the scripts of both, or the users of the first and then those of the second
 abbrev pub IsJoined : Load → Load → Load → Type 0
@@ -55,7 +55,7 @@ IsJoined _ _ _ = ⊥
 -- machines of a heap that can be run
 pub record PartCanRun (h : Heap) (part : Part) : Type 0 where
   pub of : IsBundleOf part.bundle h
-  pub start : CanBegin part.bundle part.load
+  pub start : CanBeRunBy part.bundle part.load
 
 -- all machines of the part are idle for good
 pub record PartHasEnded (before after : Part) : Type 0 where
@@ -117,7 +117,7 @@ LoadIsDone c _ workers first beyond view _ = ⊥
 pub record PartIsReady (h : Heap) (assigned : Assigned) (workers first beyond : ℕ) (part : Part) : Type 0 where
   pub has : IsPart h workers first beyond part
   pub load : IsLoad (config_of h) assigned workers first beyond part.load
-  pub start : CanBegin part.bundle part.load
+  pub start : CanBeRunBy part.bundle part.load
 
 -- a part after its run
 pub record IsDone (h : Heap) (assigned : Assigned) (workers first beyond : ℕ) (part : Part) : Type 0 where
@@ -130,12 +130,12 @@ abbrev pub AreReady : Heap → Assigned → ℕ → List Part → Type 0
 AreReady h assigned workers parts = (k : ℕ) (p : Part) → slice_get parts k ≡ Some p → PartIsReady h assigned workers k (k + 1) p
 
 -- the bundles of a heap that was just opened
-abbrev pub AreFresh : Heap → List Bundle → Type 0
-AreFresh h bundles = (k : ℕ) (b : Bundle) → slice_get bundles k ≡ Some b → IsFresh h b (dealt_to (length bundles) k (whole (heap_opening (config_of h)).machines))
+abbrev pub BundlesAreFresh : Heap → List Bundle → Type 0
+BundlesAreFresh h bundles = (k : ℕ) (b : Bundle) → slice_get bundles k ≡ Some b → IsFresh h b (dealt_to (length bundles) k (whole (heap_opening (config_of h)).machines))
 
 -- such bundles, and the work for all its mutators
 pub record CanBeDealt (h : Heap) (all : Scripts) (jobs : Jobs) (bundles : List Bundle) : Type 0 where
-  pub fresh : AreFresh h bundles
+  pub fresh : BundlesAreFresh h bundles
   pub jobs_are : jobs ≡ work.opened all
   pub count : length all ≡ (config_of h).mutators
   pub runnable : All IsRunnable all

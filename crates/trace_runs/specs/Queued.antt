@@ -13,7 +13,7 @@ use Rattle.table_heap.specs.declared.heap.Heap.{Heap}
 use Rattle.table_heap.specs.State.{config_of}
 use Rattle.trace_writing.specs.Message.{line_text}
 use Rattle.trace_writing.specs.declared.message.Line.TheVariants.{Queue}
-use Rattle.trace_runs.specs.DealtParts.{AreFresh}
+use Rattle.trace_runs.specs.DealtParts.{BundlesAreFresh}
 use Rattle.trace_runs.specs.Replayed.{IsWhole}
 
 -- The heap of a queue: 16 regions of 256 words, of which two are kept back, for four mutators and one helper.
@@ -30,7 +30,7 @@ queue_users count = queue_user count 0 ∷ queue_user count 1 ∷ queue_user cou
 
 -- The bundles of such a heap that was just opened, one for each machine.
 pub record CanBeCrewed (h : Heap) (bundles : List Bundle) : Type 0 where
-  pub fresh : AreFresh h bundles
+  pub fresh : BundlesAreFresh h bundles
   pub heap : IsQueueHeap (config_of h)
   pub single : length bundles ≡ seat_count (config_of h).mutators (config_of h).helpers
 

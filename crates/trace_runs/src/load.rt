@@ -1,6 +1,6 @@
 //! What the mutators of a bundle are run by.
 ghost use Rattle.std.specs.Prelude.{◌≡◌, ◌+◌, ◌++◌, ◌≤◌, length};
-ghost use Rattle.trace_runs.specs.DealtParts.{CanBegin, HaveEnded, AreApart, IsJoined};
+ghost use Rattle.trace_runs.specs.DealtParts.{CanBeRunBy, HaveEnded, LoadsAreApart, IsJoined};
 ghost use Rattle.table_heap.specs.State.{IsBundleOf, IsSameBundle};
 ghost use Rattle.table_heap.specs.Running.{AreIdleForGood};
 
@@ -27,7 +27,7 @@ impl Load {
         gate: &G,
     )
         requires heap { IsBundleOf bundle.old heap.now }
-        requires start { CanBegin bundle.old self.old }
+        requires start { CanBeRunBy bundle.old self.old }
         ensures same { IsSameBundle bundle.old bundle.new }
         ensures idle { AreIdleForGood bundle.new }
         ensures done { HaveEnded bundle.old bundle.new self.old self.new }
@@ -40,7 +40,7 @@ impl Load {
 
     /// What the mutators of two bundles are run by, the second of which has the higher numbers.
     pub(crate) fn join(self, other: Load) -> Load
-        requires { AreApart self other }
+        requires { LoadsAreApart self other }
         ensures { IsJoined self other result }
     {
         match (self, other) {

@@ -2,7 +2,7 @@
 ghost use Rattle.std.specs.Prelude.{◌≡◌, ◌<◌, ◌≤◌, ℕ, IfOk, length};
 ghost use Rattle.step_core.specs.Schedule.{Scripts};
 ghost use Rattle.table_heap.specs.State.{IsBundleOf};
-ghost use Rattle.trace_runs.specs.DealtParts.{Assigned, PartCanRun, PartHasEnded, AreApart, PartIsReady, IsDone, AreReady, CanBeDealt};
+ghost use Rattle.trace_runs.specs.DealtParts.{Assigned, PartCanRun, PartHasEnded, LoadsAreApart, PartIsReady, IsDone, AreReady, CanBeDealt};
 ghost use Rattle.trace_runs.specs.DealtParts.Assigned.{scripts};
 
 use crate::load::Load;
@@ -40,7 +40,7 @@ impl Part {
     pub fn join(self, heap: &Heap, other: Part) -> Part
         requires this { IsBundleOf self.bundle heap.now }
         requires other { IsBundleOf other.bundle heap.now }
-        requires apart { AreApart self.load other.load }
+        requires apart { LoadsAreApart self.load other.load }
         ensures ready { (assigned : Assigned) (workers first between beyond : ℕ) → PartIsReady heap.now assigned workers first between self → PartIsReady heap.now assigned workers between beyond other → first ≤ between → between ≤ beyond → PartIsReady heap.now assigned workers first beyond result }
         ensures done { (assigned : Assigned) (workers first between beyond : ℕ) → IsDone heap.now assigned workers first between self → IsDone heap.now assigned workers between beyond other → first ≤ between → between ≤ beyond → IsDone heap.now assigned workers first beyond result }
     {

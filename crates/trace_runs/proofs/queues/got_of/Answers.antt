@@ -109,9 +109,14 @@ taken_by-requires g c =
     let leads = c.close-closed.ensures.reached in
     let two = taker_there h n (length parts) all crew some done c.in-Driven.is sizes c.close-closed.result view leads 2 (omega arith) in
     let slice = c.as_slice.ensures.value in
-    let three = taker_there h n (length parts) all crew some done c.in-Driven.is sizes c.close-closed.result view leads 3 (omega arith) in
-    (_, _, ap (λ (us : List Use). slice_get us 2) slice ∙ two, ap (λ (us : List Use). slice_get us 3) slice ∙ three, small_items h n (length parts) all crew some done c.in-Driven.is sizes c.close-closed.result view leads c.requires,
-    small_sum h n (length parts) all crew some done c.in-Driven.is sizes c.close-closed.result view leads c.requires)
+    let three = taker_there h n (length parts) all crew some done c.in-Driven.is sizes c.close-closed.result view leads 3 (omega arith) in (
+      _,
+      _,
+      ap (λ (us : List Use). slice_get us 2) slice ∙ two,
+      ap (λ (us : List Use). slice_get us 3) slice ∙ three,
+      small_items h n (length parts) all crew some done c.in-Driven.is sizes c.close-closed.result view leads c.requires,
+      small_sum h n (length parts) all crew some done c.in-Driven.is sizes c.close-closed.result view leads c.requires,
+    )
 
 pub returns : goal.returns
 returns g c =
