@@ -14,7 +14,7 @@ use Rattle.trace_runs.specs.declared.mode.Mode.TheVariants.{Replay, Noted, Run, 
 use Rattle.trace_runs.specs.declared.status.Status.{Status}
 use Rattle.trace_runs.specs.declared.status.Status.TheVariants.{Ok, BadWords, BadTrace, Unfinished, ReadFault, WriteFault, NoMemory}
 use Rattle.trace_runs.specs.Words.{Asked}
-use Rattle.trace_runs.specs.Answered.{Input, Output, ReadsTrace, ReadsNothing, limit_of, IsRefused, IsTooLong, StatusFits, IsTraceStatus}
+use Rattle.trace_runs.specs.Answered.{Input, Output, ReadsTrace, ReadsNothing, bound_of, IsRefused, IsTooLong, StatusFits, IsTraceStatus}
 use Rattle.trace_runs.proofs.Words.{asks_alike}
 
 -- what came from known bytes to their end is these bytes
@@ -55,7 +55,7 @@ complete words input output WriteFault fits bytes config scripts items asked tol
 complete words input output NoMemory fits bytes config scripts items asked told reads read_fine written_fine = tt
 
 -- a mode of which the steps are bounded reads a trace
-limited_reads : (mode : Mode) (steps : ℕ) → limit_of mode ≡ Some steps → ReadsTrace mode
+limited_reads : (mode : Mode) (steps : ℕ) → bound_of mode ≡ Some steps → ReadsTrace mode
 limited_reads (Replay n) steps limited = tt
 limited_reads (Noted n) steps limited = tt
 limited_reads (Run workers) steps limited = tt

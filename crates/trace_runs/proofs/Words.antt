@@ -9,7 +9,7 @@ use Rattle.std.proofs.lemmas.List.{length-append}
 use Rattle.trace_grammar.specs.Spelling.{IsUpTo}
 use Rattle.trace_runs.specs.declared.mode.Mode.{Mode}
 use Rattle.trace_runs.specs.declared.mode.Mode.TheVariants.{Replay, Noted, Run, Churn}
-use Rattle.trace_runs.specs.Words.{most_seed, most_rounds, most_steps, usual_steps, most_machines, IsNumbered, IsReplay, IsNoted, IsRunBy, IsChurn, Asks, Ask}
+use Rattle.trace_runs.specs.Words.{most_seed, most_rounds, most_steps, usual_steps, most_machines, IsNumbered, IsReplay, IsNotedReplay, IsRunBy, IsChurn, Asks, Ask}
 use Rattle.trace_runs.specs.Answered.{ReadsTrace, ReadsNothing}
 use Rattle.std.proofs.lemmas.Bool.Decides.{nat_tests}
 
@@ -157,7 +157,7 @@ pub asks_alike : (words : List (List ℕ)) (a b : Mode) → Asks words a → Ask
 asks_alike words a b asked also reads none = trace_or_nothing a b (one_first (name_of a) (name_of b) words (begins_with_name words a asked) (begins_with_name words b also)) reads none
 
 -- words that ask for no mode
-pub asks_none : (words : List (List ℕ)) → (((steps : ℕ) × IsReplay words steps) → ⊥) → (((steps : ℕ) × IsNoted words steps) → ⊥) → (((workers : ℕ) × IsRunBy words workers) → ⊥)
+pub asks_none : (words : List (List ℕ)) → (((steps : ℕ) × IsReplay words steps) → ⊥) → (((steps : ℕ) × IsNotedReplay words steps) → ⊥) → (((workers : ℕ) × IsRunBy words workers) → ⊥)
     → (((seed : ℕ) × ((count : ℕ) × IsChurn words seed count)) → ⊥) → Ask words → ⊥
 asks_none words replay noted run churn asked = by_mode asked.0 asked.1
   where
@@ -218,7 +218,7 @@ last_of f (x ∷ y ∷ words) w (a ∷ front) text (suc n) long is same =
 
 -- what is asked for where the last word is `--history`: a replay by the words before it
 pub noted_by_front : {X : Type 0} (f : X → List ℕ) (words front : List X) (w : X) (n : ℕ) (r : Option ℕ) → length words ≡ suc n → w ≡ get_or words n w → front ≡ take n words
-    → true ≡ pointwise eqb (f w) (codes "--history") → MatchOption r (((steps : ℕ) × IsReplay (map f front) steps) → ⊥) (IsReplay (map f front)) → MatchOption r (((steps : ℕ) × IsNoted (map f words) steps) → ⊥) (IsNoted (map f words))
+    → true ≡ pointwise eqb (f w) (codes "--history") → MatchOption r (((steps : ℕ) × IsReplay (map f front) steps) → ⊥) (IsReplay (map f front)) → MatchOption r (((steps : ℕ) × IsNotedReplay (map f words) steps) → ⊥) (IsNotedReplay (map f words))
 noted_by_front f words front w n (Some steps) long is are e asked =
     (map f front, last_added f words w (codes "--history") n long is (same_from_test (f w) (codes "--history") (sym e)) ∙ ap (λ ws. map f ws ++ codes "--history" ∷ []) (sym are), asked)
 noted_by_front f words front w n None long is are e none = λ asked.
@@ -226,12 +226,12 @@ noted_by_front f words front w n None long is are e none = λ asked.
     none (asked.0, subst (λ (ws : List (List ℕ)). IsReplay ws asked.0) (sym parts.1 ∙ ap (λ ws. map f ws) (sym are)) asked.1.2)
 
 -- where the last word is another, none is asked for
-pub noted_by_last : {X : Type 0} (f : X → List ℕ) (words : List X) (w : X) (n : ℕ) → length words ≡ suc n → w ≡ get_or words n w → false ≡ pointwise eqb (f w) (codes "--history") → ((steps : ℕ) × IsNoted (map f words) steps) → ⊥
+pub noted_by_last : {X : Type 0} (f : X → List ℕ) (words : List X) (w : X) (n : ℕ) → length words ≡ suc n → w ≡ get_or words n w → false ≡ pointwise eqb (f w) (codes "--history") → ((steps : ℕ) × IsNotedReplay (map f words) steps) → ⊥
 noted_by_last f words w n long is e asked =
     let parts = last_of f words w asked.1.0 (codes "--history") n long is asked.1.1 in
     false≢true (e ∙ ap (λ (t : List ℕ). pointwise eqb t (codes "--history")) parts.0 ∙ test_itself (codes "--history"))
 
 -- nor where there are no words
-pub noted_by_none : {X : Type 0} (f : X → List ℕ) (words : List X) → length words < 1 → ((steps : ℕ) × IsNoted (map f words) steps) → ⊥
+pub noted_by_none : {X : Type 0} (f : X → List ℕ) (words : List X) → length words < 1 → ((steps : ℕ) × IsNotedReplay (map f words) steps) → ⊥
 noted_by_none f [] few asked = absurd (omega (arith, ap length asked.1.1, length-append asked.1.0 (codes "--history" ∷ [])))
 noted_by_none f (x ∷ xs) few asked = absurd (omega arith)

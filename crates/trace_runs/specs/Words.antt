@@ -34,8 +34,8 @@ abbrev pub IsReplay : List (List ℕ) → (steps : ℕ) → Type 0
 IsReplay words steps = IsNumbered (codes "replay") (codes "--steps") usual_steps most_steps words steps
 
 -- the same, and then `--history`
-abbrev pub IsNoted : List (List ℕ) → (steps : ℕ) → Type 0
-IsNoted words steps = (front : List (List ℕ)) × (words ≡ front ++ codes "--history" ∷ []) × IsReplay front steps
+abbrev pub IsNotedReplay : List (List ℕ) → (steps : ℕ) → Type 0
+IsNotedReplay words steps = (front : List (List ℕ)) × (words ≡ front ++ codes "--history" ∷ []) × IsReplay front steps
 
 -- `run`, or `run --workers K`
 abbrev pub IsRunBy : List (List ℕ) → (workers : ℕ) → Type 0
@@ -48,7 +48,7 @@ IsChurn words seed count = (words ≡ codes "churn" ∷ decimal seed ∷ decimal
 -- The words ask for a mode.
 abbrev pub Asks : List (List ℕ) → Mode → Type 0
 Asks words (Replay steps) = IsReplay words steps
-Asks words (Noted steps) = IsNoted words steps
+Asks words (Noted steps) = IsNotedReplay words steps
 Asks words (Run workers) = IsRunBy words workers
 Asks words (Churn load) = IsChurn words load.seed load.count
 

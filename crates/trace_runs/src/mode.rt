@@ -2,7 +2,7 @@
 ghost use Rattle.std.specs.Prelude.{◌≡◌, ◌≤◌, ℕ, MatchOption, map};
 ghost use Rattle.std.specs.Fmt.{decimal};
 ghost use Rattle.std.specs.String.{string_bytes};
-ghost use Rattle.trace_runs.specs.Words.{IsNumbered, IsReplay, IsNoted, IsRunBy, IsChurn, most_seed, Asks, Ask};
+ghost use Rattle.trace_runs.specs.Words.{IsNumbered, IsReplay, IsNotedReplay, IsRunBy, IsChurn, most_seed, Asks, Ask};
 
 use trace_grammar::number_in;
 
@@ -71,7 +71,7 @@ fn steps_of(words: &[String]) -> Option<u64>
 
 // The steps of a replay that is to show its history: the words of a replay, and then `--history`.
 fn noted_steps_of(words: &[String]) -> Option<u64>
-    ensures { MatchOption result (((n : ℕ) × IsNoted (map string_bytes words.now) n) → ⊥) (IsNoted (map string_bytes words.now)) }
+    ensures { MatchOption result (((n : ℕ) × IsNotedReplay (map string_bytes words.now) n) → ⊥) (IsNotedReplay (map string_bytes words.now)) }
 {
     match words {
         [front @ .., last] if last.as_str() == "--history" => steps_of(front),
