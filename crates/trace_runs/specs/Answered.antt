@@ -10,12 +10,13 @@ use Rattle.trace_refusals.specs.Refused.{Refused}
 use Rattle.trace_writing.specs.Message.{line_text}
 use Rattle.trace_writing.specs.declared.message.Line.TheVariants as line
 use Rattle.trace_runs.specs.declared.mode.Mode.{Mode}
-use Rattle.trace_runs.specs.declared.mode.Mode.TheVariants.{Replay, Noted, Run, Churn}
+use Rattle.trace_runs.specs.declared.mode.Mode.TheVariants.{Replay, Noted, Run, Churn, Queue}
 use Rattle.trace_runs.specs.declared.status.Status.{Status}
 use Rattle.trace_runs.specs.declared.status.Status.TheVariants.{Ok, BadWords, BadTrace, Unfinished, ReadFault, WriteFault, NoMemory}
 use Rattle.trace_runs.specs.Words.{Asks, Asked, Ask}
 use Rattle.trace_runs.specs.Replayed.{IsReplayed, IsReplayedNoted, IsRun, IsUnfinished}
 use Rattle.trace_runs.specs.Churned.{IsChurned}
+use Rattle.trace_runs.specs.Queued.{IsQueued}
 
 -- What the source has left where it tells it, before the call and after it, and its faults.
 pub record Input : Type 0 where
@@ -43,14 +44,17 @@ IsAnswerOf (Replay steps) input out = HasRead input (λ bytes. IsReplayed bytes 
 IsAnswerOf (Noted steps) input out = HasRead input (λ bytes. IsReplayedNoted bytes steps out)
 IsAnswerOf (Run workers) input out = HasRead input (λ bytes. IsRun bytes out)
 IsAnswerOf (Churn load) input out = IsChurned load.seed load.count out
+IsAnswerOf (Queue count) input out = IsQueued count out
 
 -- it reads a trace; one that reads nothing is always answered, or there is no memory
 abbrev pub ReadsTrace : Mode → Type 0
 ReadsTrace (Churn load) = ⊥
+ReadsTrace (Queue count) = ⊥
 ReadsTrace _ = Unit {0}
 
 abbrev pub ReadsNothing : Mode → Type 0
 ReadsNothing (Churn load) = Unit {0}
+ReadsNothing (Queue count) = Unit {0}
 ReadsNothing _ = ⊥
 
 -- the steps that it may make, if these are bounded
