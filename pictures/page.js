@@ -33,17 +33,24 @@ class Page {
       this.lanes.left = this.lanes.units[this.row] - (this.lanes.room / this.lanes.zoom) * 0.6;
     }
     this.heapWidth = Math.min(Math.max(this.parts.heap.parentElement.clientWidth - 26, 300), 1400);
+    this.overview();
     this.draw();
+  }
+
+  // Draws the whole run in one line.
+  overview() {
+    const { lanes, parts } = this;
+    this.overviewWidth = parts.overview.clientWidth || lanes.width;
+    parts.overview.innerHTML = `${lanes.overview(this.overviewWidth, OVERVIEW)}<g></g>`;
+    this.size(parts.overview, this.overviewWidth, OVERVIEW);
   }
 
   draw() {
     const { lanes, parts, run, row } = this;
     lanes.cursor = row;
-    parts.lanes.innerHTML = lanes.draw() + parts.hatch.innerHTML;
+    parts.lanes.innerHTML = lanes.draw();
     this.size(parts.lanes, lanes.width, lanes.height);
-    const wide = parts.overview.clientWidth || lanes.width;
-    parts.overview.innerHTML = lanes.overview(wide, OVERVIEW);
-    this.size(parts.overview, wide, OVERVIEW);
+    parts.overview.lastChild.innerHTML = lanes.place(this.overviewWidth, OVERVIEW);
     parts.slider.value = String(row);
     parts.at.textContent = `event ${run.columns.number[row]} of ${run.events}`;
     parts.slider.setAttribute("aria-valuetext", run.line(row).trim());
@@ -207,7 +214,7 @@ class Page {
   }
 
   overviewRow(event) {
-    const unit = (event.offsetX / this.parts.overview.clientWidth) * this.lanes.total;
+    const unit = (event.offsetX / this.overviewWidth) * this.lanes.total;
     return first(this.run.count, (row) => this.lanes.units[row + 1] > unit);
   }
 
