@@ -1,35 +1,22 @@
 //! The top call: words and a trace in, an answer or one line out.
-ghost use Rattle.std.specs.Prelude.{◌≡◌, ◌⊎◌, ℕ, List, Some, MatchBool, map};
+ghost use Rattle.std.specs.Prelude.{◌≡◌, ◌⊎◌, ℕ, List, Some, map};
 ghost use Rattle.std.specs.String.{string_bytes};
-ghost use Rattle.std.specs.Io.KnownBytes.{Appends};
 ghost use Rattle.shen_base.specs.Count.{Rose};
 ghost use Rattle.heap_words.specs.declared.config.Config.{Config as Sizes};
 ghost use Rattle.heap_words.specs.declared.schedule.Item.{Item};
 ghost use Rattle.shen_graph.specs.declared.command.Command.{Command};
 ghost use Rattle.text_writer.specs.Sending.{outlet};
-ghost use Rattle.trace_grammar.specs.Grammar.{Came, Reads};
-ghost use Rattle.trace_runs.specs.Words.{IsReplay, IsNotedReplay, AskRun, AskTrace, IsChurn, AskChurn, BeginWith};
-ghost use Rattle.trace_runs.specs.Replayed.{IsReplayed, IsReplayedNoted, IsRun};
-ghost use Rattle.trace_runs.specs.Churned.{IsChurned};
-ghost use Rattle.trace_runs.specs.Answered.{StatusFits, IsReplayStatus};
+ghost use Rattle.trace_grammar.specs.Grammar.{Reads};
+ghost use Rattle.trace_runs.specs.Words.{Asked};
+ghost use Rattle.trace_runs.specs.Answered.{ReadsTrace, ReadsNothing, HasAnswered, StatusFits, IsTraceStatus};
 
 use shen_base::{Sink, Source};
 use std::alloc::Global;
 use std::sync::Wait;
 use std::thread::Threads;
 use table_heap::Gate;
-use trace_runs::{Status, alone, churn, run, say, workers_of, workload_of};
+use trace_runs::{Mode, Status, churn, mode_of, replay, replay_noted, run, say};
 use trace_writing::Line;
-
-// Whether this word is the first one.
-fn begin_with(first: &str, words: &[String]) -> bool
-    ensures { MatchBool result (BeginWith first.now (map string_bytes words.now)) (BeginWith first.now (map string_bytes words.now) → ⊥) }
-{
-    match words {
-        [word, ..] => word.as_str() == first,
-        [] => false,
-    }
-}
 
 /// Runs the program on these words of the command line, which are without the program's name. `replay` and `run` read a trace
 /// from the source to its end, run it on a heap that collects in pauses, and write the replies and the final graph to the
@@ -54,14 +41,9 @@ pub fn shenrun<R: Threads + Wait + Sync, S: Source, K: Sink, G: Gate>(
     // whatever pauses collect; and it has an allocation that was refused only where live objects and the other threads'
     // allocations that were not answered yet crowded the regions. Of a churn the eight lines are those of the history in
     // which its threads run one after the other and no allocation is refused, whatever order they ran in.
-    ensures headline { result ≡ Status.Ok → ((steps : ℕ) × IsReplay (map string_bytes words.now) steps × ((bytes : List ℕ) × ((out : List ℕ)
-        × Came (S.left source.old) (S.left source.new) bytes × IsReplayed bytes steps out × Appends (K.written sink.old) (K.written sink.new) out)))
-        ⊎ (((steps : ℕ) × IsNotedReplay (map string_bytes words.now) steps × ((bytes : List ℕ) × ((out : List ℕ)
-        × Came (S.left source.old) (S.left source.new) bytes × IsReplayedNoted bytes steps out × Appends (K.written sink.old) (K.written sink.new) out)))
-        ⊎ ((AskRun (map string_bytes words.now) × ((bytes : List ℕ) × ((out : List ℕ)
-        × Came (S.left source.old) (S.left source.new) bytes × IsRun bytes out × Appends (K.written sink.old) (K.written sink.new) out)))
-        ⊎ ((seed : ℕ) × ((count : ℕ) × IsChurn (map string_bytes words.now) seed count × ((out : List ℕ)
-        × IsChurned seed count out × Appends (K.written sink.old) (K.written sink.new) out))))) }
+    ensures headline { result ≡ Status.Ok → HasAnswered (map string_bytes words.now)
+        (record { before = S.left source.old; after = S.left source.new; faults_before = S.faults source.old; faults_after = S.faults source.new })
+        (record { before = outlet (K.written sink.old) (K.faults sink.old) (K.calls sink.old); after = outlet (K.written sink.new) (K.faults sink.new) (K.calls sink.new) }) }
 
     // What each status says of the words, of what came and of what was written; and that the sink was called at most once for
     // each byte of the text.
@@ -69,26 +51,25 @@ pub fn shenrun<R: Threads + Wait + Sync, S: Source, K: Sink, G: Gate>(
         (record { before = S.left source.old; after = S.left source.new; faults_before = S.faults source.old; faults_after = S.faults source.new })
         (record { before = outlet (K.written sink.old) (K.faults sink.old) (K.calls sink.old); after = outlet (K.written sink.new) (K.faults sink.new) (K.calls sink.new) }) result }
 
-    // Where a trace is asked for, the source has the bytes of one, and nothing fails, there is an answer, or the steps are used up, or memory
-    // is refused.
-    ensures complete { (bytes : List ℕ) (config : Sizes) (scripts : List (List Command)) (items : List Item) → AskTrace (map string_bytes words.now)
+    // Where what reads a trace is asked for, the source has the bytes of one, and nothing fails, there is an answer, or the steps are
+    // used up, or memory is refused.
+    ensures complete { (bytes : List ℕ) (config : Sizes) (scripts : List (List Command)) (items : List Item) → Asked (map string_bytes words.now) ReadsTrace
         → S.left source.old ≡ Some bytes → Reads bytes config scripts items
-        → (Rose (S.faults source.old) (S.faults source.new) → ⊥) → (Rose (K.faults sink.old) (K.faults sink.new) → ⊥) → IsReplayStatus (map string_bytes words.now) result }
+        → (Rose (S.faults source.old) (S.faults source.new) → ⊥) → (Rose (K.faults sink.old) (K.faults sink.new) → ⊥) → IsTraceStatus (map string_bytes words.now) result }
 
-    // Where a churn is asked for and the sink does not fail, there is an answer, or memory is refused.
-    ensures churned { AskChurn (map string_bytes words.now) → (Rose (K.faults sink.old) (K.faults sink.new) → ⊥) → (result ≡ Status.Ok) ⊎ (result ≡ Status.NoMemory) }
+    // Where what reads nothing is asked for and the sink does not fail, there is an answer, or memory is refused.
+    ensures made { Asked (map string_bytes words.now) ReadsNothing → (Rose (K.faults sink.old) (K.faults sink.new) → ⊥) → (result ≡ Status.Ok) ⊎ (result ≡ Status.NoMemory) }
 
-    // A churn reads nothing, and other words are refused before anything is read.
-    ensures unread { (AskTrace (map string_bytes words.now) → ⊥) → source.new ≡ source.old }
+    // Nothing is read but by a mode that reads a trace: other words are refused before.
+    ensures unread { (Asked (map string_bytes words.now) ReadsTrace → ⊥) → source.new ≡ source.old }
 {
-    if let Some(workers) = workers_of(words) {
-        return run(rt, alloc, workers, source, sink, gate);
-    }
-    if let Some(workload) = workload_of(words) {
-        return churn(rt, alloc, workload, sink, gate);
-    }
-    if begin_with("run", words) || begin_with("churn", words) {
+    let Some(mode) = mode_of(words) else {
         return say(sink, Line::BadWords, Status::BadWords);
+    };
+    match mode {
+        Mode::Replay { steps } => replay(alloc, steps, source, sink),
+        Mode::Noted { steps } => replay_noted(alloc, steps, source, sink),
+        Mode::Run { workers } => run(rt, alloc, workers, source, sink, gate),
+        Mode::Churn(workload) => churn(rt, alloc, workload, sink, gate),
     }
-    alone(alloc, words, source, sink)
 }

@@ -3,15 +3,16 @@
 
 mod churns;
 mod lines;
-mod numbered;
+mod mode;
 mod parts;
-mod replay;
+mod replays;
 mod runs;
 mod status;
 mod threads;
 
-pub use churns::{Workload, churn, workload_of};
+pub use churns::churn;
 pub use lines::say;
-pub use replay::alone;
-pub use runs::{run, workers_of};
+pub use mode::{Mode, Workload, mode_of};
+pub use replays::{replay, replay_noted};
+pub use runs::run;
 pub use status::Status;
