@@ -200,7 +200,8 @@ class Lanes {
 
   unit([, row, last, text], y) {
     const from = this.x(row), wide = this.rect("unit", row, from, this.x(last + 1), y + 6, 18, this.run.texts[text]);
-    this.text("unit-text", Math.max(from, this.label) + 3, y + 19, this.run.texts[text], wide - 2, row);
+    const told = this.run.texts[text], short = told.length * 6.1 + 6 <= wide ? told : told.split(" ").pop();
+    this.text("unit-text", Math.max(from, this.label) + 3, y + 19, short, wide, row);
   }
 
   wait([, row, last, place], y) {

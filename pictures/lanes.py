@@ -231,7 +231,9 @@ class Lanes:
         _, row, last, text = unit
         start = self.x(row)
         wide = self.rect("unit", row, start, self.x(last + 1), y + 6, 18, self.texts[text])
-        self.text("unit-text", max(start, self.label) + 3, y + 19, self.texts[text], wide - 2, row)
+        told = self.texts[text]
+        told = told if len(told) * 6.1 + 6 <= wide else told.split(" ")[-1]
+        self.text("unit-text", max(start, self.label) + 3, y + 19, told, wide, row)
 
     def wait(self, wait, y):
         """A machine that waits."""
