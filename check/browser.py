@@ -1,10 +1,13 @@
 """A headless Chromium, spoken to through two pipes."""
 import json
 import os
+import select
 import shutil
 import subprocess
 import tempfile
 
+# How long the browser may take to say something, in seconds.
+PATIENCE = 120
 NAMES = ["chromium", "chromium-browser", "google-chrome", "google-chrome-stable"]
 
 
@@ -13,11 +16,23 @@ def found():
     return next((path for path in map(shutil.which, NAMES) if path), None)
 
 
+def started():
+    """A Browser; or None, behind a line that says why."""
+    if not found():
+        print("there is no Chromium, so no page was opened: skipped")
+        return None
+    try:
+        return Browser()
+    except (EOFError, OSError) as fault:
+        print(f"Chromium does not start ({fault}), so no page was opened: skipped")
+        return None
+
+
 class Browser:
     """A Chromium with one page. What the page says on its console is kept, and what it would load from elsewhere."""
 
     def __init__(self):
-        self.folder = tempfile.TemporaryDirectory(prefix="picture-browser-")
+        self.folder = tempfile.TemporaryDirectory(prefix="picture-browser-", ignore_cleanup_errors=True)
         ours, self.write_end = os.pipe()
         self.read_end, theirs = os.pipe()
         words = [found(), "--headless=new", "--no-sandbox", "--disable-gpu", "--no-first-run", "--disable-extensions", "--hide-scrollbars",
@@ -32,7 +47,17 @@ class Browser:
         os.close(ours)
         os.close(theirs)
         self.left, self.number, self.session, self.said, self.loaded = b"", 0, None, [], []
-        target = next(it for it in self.call("Target.getTargets")["targetInfos"] if it["type"] == "page")
+        try:
+            self.attach()
+        except (EOFError, OSError):
+            self.end()
+            raise
+
+    def attach(self):
+        """Has the page tell what goes on."""
+        target = next((it for it in self.call("Target.getTargets")["targetInfos"] if it["type"] == "page"), None)
+        if not target:
+            raise EOFError("Chromium has no page")
         self.session = self.call("Target.attachToTarget", targetId=target["targetId"], flatten=True)["sessionId"]
         for domain in ("Page", "Runtime", "Log", "Network"):
             self.call(f"{domain}.enable")
@@ -40,6 +65,8 @@ class Browser:
     def message(self):
         """The next message."""
         while b"\0" not in self.left:
+            if not select.select([self.read_end], [], [], PATIENCE)[0]:
+                raise EOFError("Chromium says nothing")
             more = os.read(self.read_end, 1 << 20)
             if not more:
                 raise EOFError("Chromium has ended")
@@ -109,8 +136,16 @@ class Browser:
             self.session = None
             self.call("Browser.close")
         except (EOFError, OSError, RuntimeError):
+            pass
+        self.end()
+
+    def end(self):
+        """Ends the program, and forgets what it has kept."""
+        try:
+            self.program.wait(10)
+        except subprocess.TimeoutExpired:
             self.program.kill()
-        self.program.wait()
+            self.program.wait()
         os.close(self.read_end)
         os.close(self.write_end)
         self.folder.cleanup()

@@ -22,7 +22,7 @@ import time
 sys.dont_write_bytecode = True
 TOP = pathlib.Path(__file__).resolve().parent.parent
 sys.path.insert(0, str(TOP / "pictures"))
-from browser import Browser, found  # pylint: disable=wrong-import-position
+from browser import started  # pylint: disable=wrong-import-position
 from cases import program  # pylint: disable=wrong-import-position
 from settling import command, trace  # pylint: disable=wrong-import-position
 import drawing  # pylint: disable=wrong-import-position
@@ -57,6 +57,7 @@ REFUSED = [
     (["nothing.trace"], "", 5, "shenpicture: nothing.trace cannot be read: No such file or directory"),
     (["--html", "/nowhere/page.html"], HEAD + EVENT % (1, 1), 6, "shenpicture: /nowhere/page.html cannot be written: "),
     ([], "heap 1\n", 3, "bad line 1: header wanted"),
+    ([], "shen 1\nheap 4 64 0\nthreads 1 0\n1 <script>alert(1)</script>\n", 3, "bad line 4: command wanted"),
     ([], "{}\n", 3, "shenpicture: line 1: no object of a listing"),
     ([], HEAD.replace('"version":1', '"version":2'), 3, "shenpicture: line 1: the first line of a listing has the kind head and version 1"),
     ([], HEAD + "{", 3, "shenpicture: line 2: no object of a listing"),
@@ -319,10 +320,9 @@ def check_hostile_page(browser, folder):
 
 def check_pages():
     """What is wrong in a browser."""
-    if not found():
-        print("there is no Chromium, so no page was opened: skipped")
+    browser = started()
+    if not browser:
         return
-    browser = Browser()
     try:
         with tempfile.TemporaryDirectory() as folder:
             for name in OPENED:
@@ -344,7 +344,9 @@ def long_trace(count):
 
 def measure():
     """Measures how long a page takes, of runs with so many commands a thread: to be made, to open, and to move by 10,000 events."""
-    browser = Browser()
+    browser = started()
+    if not browser:
+        return
     with tempfile.TemporaryDirectory() as folder:
         for count in (20, 700):
             path = pathlib.Path(folder) / f"{count}.html"

@@ -24,7 +24,7 @@ class Lanes {
     const pauses = new Uint8Array(run.count);
     for (const [row] of run.pauses) pauses[row] = 1;
     this.units = new Float64Array(run.count + 1);
-    for (let row = 0; row < run.count; row += 1) this.units[row + 1] = this.units[row] + (pauses[row] ? PAUSE_UNITS : 1);
+    for (let row = 0; row < run.count; row += 1) this.units[row + 1] = this.units[row] + (pauses[row] ? PAUSE_UNITS : run.columns.flags[row] & FOLDED ? 0 : 1);
     this.byMachine = (list) => run.machines.map((_, machine) => list.filter((it) => it[0] === machine));
     this.calls = this.byMachine(run.calls);
     this.waits = this.byMachine(run.waits);
@@ -139,7 +139,8 @@ class Lanes {
       const from = Math.max(this.x(row), this.label), to = Math.min(this.x(last), this.width);
       if (to <= from) return;
       this.parts.push(`<rect class="band phase${phase}" data-row="${row}" x="${from}" y="0" width="${to - from}" height="${this.height}"/>`);
-      this.text("band-text", from + 4, 11, `phase ${phase}, ${PHASES[phase] || ""}`, to - from);
+      const text = [`phase ${phase}, ${PHASES[phase] || ""}`, `phase ${phase}`].find((it) => it.length * 6.1 + 4 <= to - from);
+      if (text) this.text("band-text", from + 4, 11, text, to - from);
     });
   }
 
@@ -188,8 +189,8 @@ class Lanes {
     const title = `${texts[command]}${replied}: begins at ${columns.number[row]}` +
       (settled === NOTHING ? "" : `, is settled at ${columns.number[settled]}`) + (replies === NOTHING ? ", has not ended" : `, replies at ${columns.number[replies]}`);
     const wide = this.rect(`call${replies === NOTHING ? " open" : ""}`, row, from, to, y + 4, 22, title);
-    this.text("call-text", Math.max(from, this.label) + 5, y + 19, texts[command] + replied, wide - 8, row);
-    if (settled !== NOTHING) {
+    this.text("call-text", Math.max(from, this.label) + 5, y + 16, texts[command] + replied, wide - 8, row);
+    if (settled !== NOTHING && wide > 4) {
       const x = this.middle(settled);
       if (x > this.label && x < this.width) {
         this.parts.push(`<path class="settles" data-row="${settled}" d="M${x - 5},${y + 26}l5,-6 5,6 -5,6z"><title>settles ${escaped(texts[reply])}</title></path>`);
@@ -199,11 +200,12 @@ class Lanes {
 
   unit([, row, last, text], y) {
     const from = this.x(row), wide = this.rect("unit", row, from, this.x(last + 1), y + 6, 18, this.run.texts[text]);
-    this.text("unit-text", Math.max(from, this.label) + 3, y + 19, this.run.texts[text], wide - 2, row);
+    const told = this.run.texts[text], short = told.length * 6.1 + 6 <= wide ? told : told.split(" ").pop();
+    this.text("unit-text", Math.max(from, this.label) + 3, y + 19, short, wide, row);
   }
 
   wait([, row, last, place], y) {
-    this.rect("wait", row, this.x(row), this.x(last + 1), y + 4, 22, `waits at ${this.run.places[place]}`);
+    this.rect("wait", row, this.x(row), this.x(last + 1), y + 18, 8, `waits at ${this.run.places[place]}`);
   }
 
   pauses(y) {
@@ -233,7 +235,7 @@ class Lanes {
     const { columns, places } = this.run;
     for (let row = this.from; row <= this.to; row += 1) {
       const flags = columns.flags[row];
-      if (columns.machine[row] !== machine || flags & PAUSE) continue;
+      if (columns.machine[row] !== machine || flags & (PAUSE | FOLDED)) continue;
       const x = this.middle(row);
       if (x < this.label) continue;
       const shape = this.tick(columns.operation[row], flags, x, y + 33);
@@ -321,8 +323,13 @@ class Lanes {
     bars(pauses.map((it) => it[0]), "pause", 0, height, 1);
     this.run.machines.forEach(({ kind }, machine) => bars(this.calls[machine].map((it) => it[1]), `begin ${kind}`, 3 + machine * 3, 2, 1));
     bars(lost.map((it) => it[0]), "loss", height - 6, 6, 2);
-    parts.push(`<rect class="window" x="${this.left * scale}" y="1" width="${Math.max(Math.min(this.room / this.zoom, this.total) * scale, 3)}" height="${height - 2}"/>`);
-    parts.push(`<path class="now" d="M${x(this.cursor)},0V${height}"/>`);
     return parts.join("");
+  }
+
+  // Which part of the whole run is seen, and where the event is.
+  place(width, height) {
+    const scale = width / this.total, x = Math.round(this.units[this.cursor] * scale * 10) / 10;
+    const wide = Math.max(Math.min(this.room / this.zoom, this.total) * scale, 3);
+    return `<rect class="window" x="${this.left * scale}" y="1" width="${wide}" height="${height - 2}"/><path class="now" d="M${x},0V${height}"/>`;
   }
 }

@@ -4,7 +4,7 @@ import math
 from html import escape
 
 from heap import PHASES
-from run import LOST, NOTHING, PAUSE, WON
+from run import FOLDED, LOST, NOTHING, PAUSE, WON
 
 PAUSE_UNITS, LANE, STRIP, AXIS = 12, 50, 26, 34
 SMALL = {"unit-text", "pause-text", "band-text"}
@@ -43,7 +43,7 @@ class Lanes:
         pauses = {it[0] for it in run.pauses}
         self.units = [0]
         for row in range(self.count):
-            self.units.append(self.units[row] + (PAUSE_UNITS if row in pauses else 1))
+            self.units.append(self.units[row] + (PAUSE_UNITS if row in pauses else 0 if run.rows.flags[row] & FOLDED else 1))
         self.calls, self.waits, self.units_of = (self.by_machine(it) for it in (run.calls, run.waits, run.units))
         self.parts, self.begin, self.end = [], 0, 0
 
@@ -165,7 +165,10 @@ class Lanes:
             if stop <= start:
                 continue
             self.parts.append(f'<rect class="band phase{phase}" data-row="{row}" x="{shown(start)}" y="0" width="{shown(stop - start)}" height="{self.height}"/>')
-            self.text("band-text", start + 4, 11, f"phase {phase}, {PHASES[phase] if phase < len(PHASES) else ''}", stop - start)
+            for text in (f"phase {phase}, {PHASES[phase] if phase < len(PHASES) else ''}", f"phase {phase}"):
+                if len(text) * 6.1 + 4 <= stop - start:
+                    self.text("band-text", start + 4, 11, text, stop - start)
+                    break
 
     def axis(self):
         """The items of the schedule, and numbers of events."""
@@ -217,8 +220,8 @@ class Lanes:
         title += "" if settled == NOTHING else f", is settled at {numbers[settled]}"
         title += ", has not ended" if replies == NOTHING else f", replies at {numbers[replies]}"
         wide = self.rect("call open" if replies == NOTHING else "call", row, start, stop, y + 4, 22, title)
-        self.text("call-text", max(start, self.label) + 5, y + 19, texts[command] + replied, wide - 8, row)
-        if settled != NOTHING:
+        self.text("call-text", max(start, self.label) + 5, y + 16, texts[command] + replied, wide - 8, row)
+        if settled != NOTHING and wide > 4:
             x = self.middle(settled)
             if self.label < x < self.width:
                 self.parts.append(f'<path class="settles" data-row="{settled}" d="M{shown(x - 5)},{y + 26}l5,-6 5,6 -5,6z"><title>settles {escape(texts[reply])}</title></path>')
@@ -228,12 +231,14 @@ class Lanes:
         _, row, last, text = unit
         start = self.x(row)
         wide = self.rect("unit", row, start, self.x(last + 1), y + 6, 18, self.texts[text])
-        self.text("unit-text", max(start, self.label) + 3, y + 19, self.texts[text], wide - 2, row)
+        told = self.texts[text]
+        told = told if len(told) * 6.1 + 6 <= wide else told.split(" ")[-1]
+        self.text("unit-text", max(start, self.label) + 3, y + 19, told, wide, row)
 
     def wait(self, wait, y):
         """A machine that waits."""
         _, row, last, place = wait
-        self.rect("wait", row, self.x(row), self.x(last + 1), y + 4, 22, f"waits at {self.run.places.list[place]}")
+        self.rect("wait", row, self.x(row), self.x(last + 1), y + 18, 8, f"waits at {self.run.places.list[place]}")
 
     def pauses(self, y):
         """The pauses."""
@@ -263,7 +268,7 @@ class Lanes:
             return
         for row in range(self.begin, self.end + 1):
             flags = rows.flags[row]
-            if rows.machine[row] != machine or flags & PAUSE:
+            if rows.machine[row] != machine or flags & (PAUSE | FOLDED):
                 continue
             x = self.middle(row)
             if x < self.label:

@@ -27,28 +27,36 @@ class Page {
   resize(anew) {
     const wide = this.parts.lanes.clientWidth || 1000;
     this.lanes.width = wide;
-    this.lanes.label = wide < NARROW ? 66 : 130;
+    this.lanes.label = wide < NARROW ? 84 : 130;
     if (anew) {
       this.lanes.zoom = Math.max(this.lanes.lowest, wide < NARROW ? 9 : 12);
       this.lanes.left = this.lanes.units[this.row] - (this.lanes.room / this.lanes.zoom) * 0.6;
-    }
+    } else this.lanes.show(this.row);
     this.heapWidth = Math.min(Math.max(this.parts.heap.parentElement.clientWidth - 26, 300), 1400);
+    this.overview();
     this.draw();
+  }
+
+  // Draws the whole run in one line.
+  overview() {
+    const { lanes, parts } = this;
+    this.overviewWidth = parts.overview.clientWidth || lanes.width;
+    parts.overview.innerHTML = `${lanes.overview(this.overviewWidth, OVERVIEW)}<g></g>`;
+    this.size(parts.overview, this.overviewWidth, OVERVIEW);
   }
 
   draw() {
     const { lanes, parts, run, row } = this;
     lanes.cursor = row;
-    parts.lanes.innerHTML = lanes.draw() + parts.hatch.innerHTML;
+    parts.lanes.innerHTML = lanes.draw();
     this.size(parts.lanes, lanes.width, lanes.height);
-    const wide = parts.overview.clientWidth || lanes.width;
-    parts.overview.innerHTML = lanes.overview(wide, OVERVIEW);
-    this.size(parts.overview, wide, OVERVIEW);
+    parts.overview.lastChild.innerHTML = lanes.place(this.overviewWidth, OVERVIEW);
     parts.slider.value = String(row);
     parts.at.textContent = `event ${run.columns.number[row]} of ${run.events}`;
     parts.slider.setAttribute("aria-valuetext", run.line(row).trim());
     this.heap();
-    this.tell(this.told === null ? row : this.told);
+    if (this.told === null) this.tell(row);
+    else this.tell(this.told, this.more);
   }
 
   size(svg, width, height) {
@@ -162,7 +170,8 @@ class Page {
     } else return;
     const row = this.written(from, to);
     this.told = row < 0 ? this.row : row;
-    this.tell(this.told, `${more}. ${row < 0 ? "No event up to here has written it alone." : "Written last by this event."}`);
+    this.more = `${more}. ${row < 0 ? "No event up to here has written it alone." : "Written last by this event."}`;
+    this.tell(this.told, this.more);
   }
 
   // Lists the words that can be followed.
@@ -207,7 +216,7 @@ class Page {
   }
 
   overviewRow(event) {
-    const unit = (event.offsetX / this.parts.overview.clientWidth) * this.lanes.total;
+    const unit = (event.offsetX / this.overviewWidth) * this.lanes.total;
     return first(this.run.count, (row) => this.lanes.units[row + 1] > unit);
   }
 
@@ -258,6 +267,7 @@ class Page {
       document.documentElement.dataset.theme = "light";
       this.lanes.width = 1000;
       this.heapWidth = 1000;
+      this.lanes.show(this.row);
       this.draw();
     } else {
       if (this.screen) document.documentElement.dataset.theme = this.screen;

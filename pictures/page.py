@@ -76,6 +76,16 @@ def followed(run):
         words.append([index, it.label, it.before, bool(is_first)])
     if phase in known and not any(word[0] == phase for word in words):
         words.append([phase, known[phase].label, known[phase].before, len(run.pauses) > 0])
+    return told_apart(run, words)
+
+
+def told_apart(run, words):
+    """Words, those of one label with their places besides."""
+    labels = [word[1] for word in words]
+    for word in words:
+        if labels.count(word[1]) > 1 and word[0] < run.layout.heap_words:
+            region, offset = divmod(word[0], run.layout.region_words)
+            word[1] = run.texts.number(f"{run.texts.list[word[1]]}, word @{region}+{offset}")
     return words
 
 
@@ -101,7 +111,7 @@ def sizes(run):
     head = run.head
     kept = f", {head['reserve']} of them kept for copies" if head["reserve"] else ""
     text = f"{head['regions']} regions of {head['region_words']} words{kept}; {count(head['threads'], 'thread')}, {count(head['helpers'], 'helper')}"
-    return f"{text}; {count(run.events, 'event')}, {count(len(run.pauses), 'pause')}"
+    return f"{text}; {count(run.events, 'event')}, {count(run.made_pauses, 'pause')}"
 
 
 def notes(run):

@@ -5,7 +5,7 @@ from array import array
 import telling
 from words import Layout
 
-WON, LOST, AGAIN, PAUSE = 1, 2, 4, 8
+WON, LOST, AGAIN, PAUSE, FOLDED = 1, 2, 4, 8, 16
 NOTHING = 0xFFFFFFFF
 OPERATIONS = ["load", "store", "swap", "add", "subtract", "clear", "set", "exchange", "pause"]
 CODES = {name: code for code, name in enumerate(OPERATIONS)}
@@ -86,12 +86,14 @@ class Run:
         self.further = [array("I") for _ in range(4)]
         self.initial = None
         self.items, self.calls, self.pauses, self.waits, self.units, self.lost = [], [], [], [], [], []
+        # Of each machine how many events were like the one before, and with which this began; and the rows that are folded.
+        self.last_rows, self.folded = [(0, None)] * self.layout.machines, array("I")
         self.phases, self.owners = [], {}
         # The words behind the last event that was asked for, its number, and whether that lies within a pause.
         self.behind = None
         self.open_calls, self.open_waits, self.open_units = {}, {}, {}
         self.last_number, self.pausing, self.is_row = 0, False, False
-        self.mismatches, self.events, self.is_cut, self.end, self.stuck = 0, 0, False, None, None
+        self.mismatches, self.events, self.made_pauses, self.is_cut, self.end, self.stuck = 0, 0, 0, False, None, None
 
     def value(self, word):
         """The number of a value."""
@@ -125,6 +127,7 @@ class Run:
         if self.initial is None:
             self.initial = array("I", map(self.value, self.table))
             self.phases.append([0, self.table[self.layout.first["phase"]]])
+            self.calls += self.open_calls.values()
 
     def keep(self):
         """Keeps the words, if none were kept yet."""
@@ -167,6 +170,7 @@ class Run:
         self.is_row = self.is_shown(it["event"])
         if not self.is_row:
             self.is_cut = self.is_cut or it["event"] >= self.first
+            self.note_early(it)
             return
         self.open()
         row, machine, texts = len(self.rows), it["machine"] - 1, self.texts
@@ -179,6 +183,7 @@ class Run:
             texts.number(self.teller.of(it["of"])), texts.number(brings), texts.number(found), texts.number(telling.says(it)),
             texts.number(becomes) if writes else NOTHING,
         )
+        self.fold(row, machine)
         if "won" in it and not it["won"]:
             self.lost.append([row, self.owners.get(index, -1)])
         if writes:
@@ -186,6 +191,17 @@ class Run:
         self.note_call(it, row, machine)
         self.note_wait(it, row, machine)
         self.note_unit(it, row, machine)
+
+    def fold(self, row, machine):
+        """Marks an event that only says again what the last two of its machine have said."""
+        rows, last = self.rows, self.last_rows[machine]
+        like = last[1] is not None and all(
+            getattr(rows, name)[row] == getattr(rows, name)[last[1]] for name in ("place", "operation", "word", "after", "flags", "brings", "found", "says")
+        )
+        likes = last[0] + 1 if like else 0
+        self.last_rows[machine] = (likes, row if not like else last[1])
+        if likes > 1:
+            self.folded.append(row)
 
     def becomes(self, it, after, brings, found):
         """What a word is behind an event that has written it, in words."""
@@ -209,6 +225,14 @@ class Run:
             names.update(zip(telling.bits_of(it["value"]["word"]), it["value"]["objects"]))
             value["objects"] = [names.get(bit, "?") for bit in telling.bits_of(after)]
         return self.teller.value(of, value)
+
+    def note_early(self, it):
+        """Takes down a call that may be under way when the part begins that is shown."""
+        machine = it["machine"] - 1
+        if "begins" in it:
+            self.open_calls[machine] = [machine, 0, NOTHING, NOTHING, self.texts.number(it["begins"]), 0]
+        elif "replies" in it:
+            self.open_calls.pop(machine, None)
 
     def note_call(self, it, row, machine):
         """Takes down where calls begin, are settled and reply."""
@@ -262,6 +286,7 @@ class Run:
         if it["changed"] and not changes:
             raise Fault(f"event {it['event']}: the listing does not have the words that a pause has changed; make it with --pauses changed")
         self.pausing = False
+        self.made_pauses += 1
         self.is_row = self.is_shown(it["event"])
         written = sorted(changes, key=lambda change: change["of"]["kind"] != "shape")
         indices = {}
@@ -300,7 +325,9 @@ class Run:
         self.open_units.pop(machine, None)
 
     def take_item(self, it):
-        """Takes the beginning of an item of the schedule, or of the rounds."""
+        """Takes the beginning of an item of the schedule, or of the rounds; of those before the part that is shown, the last."""
+        if self.initial is None and self.first > 1:
+            self.items = []
         if it["kind"] == "rounds":
             self.items.append([len(self.rows), "rounds"])
         else:
@@ -351,4 +378,6 @@ def read(lines, first=1, most=MOST, last=None, more=0):
         raise Fault("line 1: there is nothing")
     run.open()
     run.keep()
+    for row in run.folded:
+        run.rows.flags[row] |= FOLDED
     return run
