@@ -7,7 +7,8 @@ The commands of each operation are those of the table of docs/QUEUE.md, by the r
 effect next; `replay` makes the same turns on the heap and has to reply the same, and the operations, in the order in which they take
 effect, have to be a queue's. Tried are: all schedules of two operations with at most three switches, on a queue that is empty, has one
 number, or has a tail that lags; random users while the heap is marked, evacuated and updated all the time; a put that is stopped between
-its two exchanges, and a thread that holds a node, while others put and take ten thousand times; and `queue COUNT` many times.
+its two exchanges, and a thread that holds a node, while others put and take ten thousand times; a node that is held, let go and its
+words used again; and `queue COUNT` many times.
 """
 import itertools
 import random
@@ -186,7 +187,7 @@ def two_at_once():
 
 
 def random_users(seed):
-    """Five threads use the queue, and a sixth asks for cycles, while the control and helpers make steps between all commands."""
+    """Five threads use the queue, and a sixth asks for cycles, while the control makes steps between all commands."""
     rand = random.Random(seed)
     world = opened(5, None)
     world.users[6] = []
@@ -196,11 +197,12 @@ def random_users(seed):
     world.give(6, (it for it in ["gc"] * 40))
     while any(world.users.values()):
         world.finish(rand.randint(1, 6), rand.randint(1, 4))
-    return world.fails("heap 8 64 2", 2, lambda: f"{rand.choice([7, 8, 9, 9])}:{rand.randint(1, 120)}")
+    return world.fails("heap 8 64 2", 0, lambda: f"7:{rand.randint(1, 400)}")
 
 
 def while_others_go_on():
-    """Thread 1 has linked its node and not moved the tail, and thread 2 holds the first node of all, while 3 and 4 put and take."""
+    """Thread 1 has linked its node and not moved the tail, and thread 2 holds the first node of all, while 3 and 4 put and take. Both keep
+    all nodes alive that are linked behind theirs, so the heap is a large one."""
     world = opened(4, None)
     world.give(1, put(1, world.run))
     world.finish(1, 5)
@@ -216,7 +218,26 @@ def while_others_go_on():
     world.finish(2)
     if [reply for thread, _, reply in world.told if thread == 2][-4:] != ["1", "no", "3.1", "2"]:
         return f"thread 2 has {world.told[-4:]}"
-    return world.fails()
+    return world.fails("heap 32 1024 2")
+
+
+def used_again(seed):
+    """Thread 3 holds a node that was taken, and then lets it go, while 1 and 2 put and take until each word was used many times."""
+    rand = random.Random(seed)
+    world = opened(3, "one")
+    world.give(1, (it for it in ["drop 2"]))
+    world.give(3, (it for it in ["get 8 1 0", "get 9 8 0", "drop 8"]))
+    world.finish(1)
+    world.finish(3)
+    for value in range(2000):
+        world.give(1, put(value, world.run))
+        world.give(2, take(world.run))
+        while world.users[1] or world.users[2]:
+            world.finish(rand.randint(1, 2), rand.randint(1, 4))
+        if value == 200:
+            world.give(3, (it for it in ["rd 9 0", "drop 9", "drop 3", "drop 4"]))
+            world.finish(3)
+    return world.fails("heap 8 256 2", 0, lambda: f"4:{rand.randint(1, 40)}" if rand.random() < 0.1 else "")
 
 
 def many_runs():
@@ -235,6 +256,7 @@ def main():
         ("schedules of two operations", two_at_once()),
         ("random users of a heap that is collected all the time", (random_users(seed) for seed in range(30))),
         ("ten thousand operations beside one that is stopped", iter([while_others_go_on()])),
+        ("times a node held, let go and its words used again", (used_again(seed) for seed in range(5))),
         ("runs on threads", many_runs()),
     ]:
         fails = list(those)

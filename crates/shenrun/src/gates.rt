@@ -100,7 +100,8 @@ fn gate_two_threads(rt: HostRuntime) -> Result<(), Fail> {
     assert!(rt; gate.has_seen(3, 492));
     let gate = Held::until(1);
     let queue = answer(&rt, rt.alloc(), &["queue", "5"], "", &gate)?;
-    assert!(rt; queue.is_some_and(|it| it.as_slice() == b"queue 5\nitems 10\nsum 15000030\n"));
+    let taken = "queue 5\nitems 10\nsum 15000030\n";
+    assert!(rt; queue.is_some_and(|it| it.as_slice() == taken.as_bytes()));
     assert!(rt; gate.has_seen(3, 186));
     Ok(())
 }
