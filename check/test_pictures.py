@@ -96,13 +96,15 @@ def line(it, row):
 def wrong_lines(name, text, it):
     """Where a line is not that of the listing."""
     wanted = [each for each in listed(text, "--no-fold") if each[:6].strip().isdigit()]
-    lines = [line(it, row) for row in range(len(it.rows))]
+    lines, every = [line(it, row) for row in range(len(it.rows))], len(wanted)
+    numbers = set(it.rows.number)
+    wanted = [each for each in wanted if int(each[:6]) in numbers]
     for mine, other in zip(lines, wanted):
         if mine != other:
             yield f"{name}: the line is not that of the listing:\n{mine}\n{other}"
             return
-    if len(lines) != len(wanted):
-        yield f"{name}: {len(lines)} lines, and the listing has {len(wanted)}"
+    if (len(lines), len(lines) + it.folded) != (len(wanted), every):
+        yield f"{name}: {len(lines)} lines and {it.folded} that are left out, and the listing has {every}"
     if it.mismatches:
         yield f"{name}: {it.mismatches} events find other words than those that are folded"
 

@@ -24,7 +24,7 @@ class Lanes {
     const pauses = new Uint8Array(run.count);
     for (const [row] of run.pauses) pauses[row] = 1;
     this.units = new Float64Array(run.count + 1);
-    for (let row = 0; row < run.count; row += 1) this.units[row + 1] = this.units[row] + (pauses[row] ? PAUSE_UNITS : run.columns.flags[row] & FOLDED ? 0 : 1);
+    for (let row = 0; row < run.count; row += 1) this.units[row + 1] = this.units[row] + (pauses[row] ? PAUSE_UNITS : 1);
     this.byMachine = (list) => run.machines.map((_, machine) => list.filter((it) => it[0] === machine));
     this.calls = this.byMachine(run.calls);
     this.waits = this.byMachine(run.waits);
@@ -235,7 +235,7 @@ class Lanes {
     const { columns, places } = this.run;
     for (let row = this.from; row <= this.to; row += 1) {
       const flags = columns.flags[row];
-      if (columns.machine[row] !== machine || flags & (PAUSE | FOLDED)) continue;
+      if (columns.machine[row] !== machine || flags & PAUSE) continue;
       const x = this.middle(row);
       if (x < this.label) continue;
       const shape = this.tick(columns.operation[row], flags, x, y + 33);

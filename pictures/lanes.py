@@ -4,7 +4,7 @@ import math
 from html import escape
 
 from heap import PHASES
-from run import FOLDED, LOST, NOTHING, PAUSE, WON
+from run import LOST, NOTHING, PAUSE, WON
 
 PAUSE_UNITS, LANE, STRIP, AXIS = 12, 50, 26, 34
 SMALL = {"unit-text", "pause-text", "band-text"}
@@ -43,7 +43,7 @@ class Lanes:
         pauses = {it[0] for it in run.pauses}
         self.units = [0]
         for row in range(self.count):
-            self.units.append(self.units[row] + (PAUSE_UNITS if row in pauses else 0 if run.rows.flags[row] & FOLDED else 1))
+            self.units.append(self.units[row] + (PAUSE_UNITS if row in pauses else 1))
         self.calls, self.waits, self.units_of = (self.by_machine(it) for it in (run.calls, run.waits, run.units))
         self.parts, self.begin, self.end = [], 0, 0
 
@@ -268,7 +268,7 @@ class Lanes:
             return
         for row in range(self.begin, self.end + 1):
             flags = rows.flags[row]
-            if rows.machine[row] != machine or flags & (PAUSE | FOLDED):
+            if rows.machine[row] != machine or flags & PAUSE:
                 continue
             x = self.middle(row)
             if x < self.label:

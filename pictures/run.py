@@ -5,7 +5,7 @@ from array import array
 import telling
 from words import Layout
 
-WON, LOST, AGAIN, PAUSE, FOLDED = 1, 2, 4, 8, 16
+WON, LOST, AGAIN, PAUSE = 1, 2, 4, 8
 NOTHING = 0xFFFFFFFF
 OPERATIONS = ["load", "store", "swap", "add", "subtract", "clear", "set", "exchange", "pause"]
 CODES = {name: code for code, name in enumerate(OPERATIONS)}
@@ -15,6 +15,8 @@ IN_ROOM = {"IW", "CL", "CP", "HI"}
 WAITS = {"E4", "WP", "XW", "P2"}
 # Where a helper and the control look for a unit of work, and what they do with it then.
 UNITS = {"MC": "mark", "EC": "evacuate", "UC": "update"}
+# What two events of a machine have in common if one only says again what the other has said.
+LIKE = ["place", "word", "after", "flags", "says", "operation"]
 # Where neither is at a unit.
 IDLE = {"LV", "H0", "E1", "E2", "E3", "E4", "I0", "I1", "I2", "IE", "P1", "P2", "PL", "PS", "P3"}
 # The longest run that a page shows whole, in events that are listed.
@@ -68,12 +70,22 @@ class Columns:
         for name, value in zip(self.NAMES, values):
             getattr(self, name).append(value)
 
+    def drop(self):
+        """Drops the last event."""
+        for name in self.NAMES:
+            getattr(self, name).pop()
+
+    def has_same(self, name, row, other):
+        """Whether two events have the same in a column."""
+        column = getattr(self, name)
+        return column[row] == column[other]
+
     def __len__(self):
         return len(self.number)
 
 
 class Run:
-    """A run as far as it was read. Rows are the events that are listed, counted from 0: a pause is one."""
+    """A run as far as it was read. Rows are events, counted from 0: a pause is one, and of like loads of a machine two are kept."""
 
     def __init__(self, head, first=1, most=MOST):
         self.head, self.layout = head, Layout(head)
@@ -86,8 +98,8 @@ class Run:
         self.further = [array("I") for _ in range(4)]
         self.initial = None
         self.items, self.calls, self.pauses, self.waits, self.units, self.lost = [], [], [], [], [], []
-        # Of each machine how many events were like the one before, and with which this began; and the rows that are folded.
-        self.last_rows, self.folded = [(0, None)] * self.layout.machines, array("I")
+        # Of each machine the last row, and whether that is like the one before; and how many events are left out.
+        self.last_rows, self.folded = [(None, False)] * self.layout.machines, 0
         self.phases, self.owners = [], {}
         # The words behind the last event that was asked for, its number, and whether that lies within a pause.
         self.behind = None
@@ -183,7 +195,9 @@ class Run:
             texts.number(self.teller.of(it["of"])), texts.number(brings), texts.number(found), texts.number(telling.says(it)),
             texts.number(becomes) if writes else NOTHING,
         )
-        self.fold(row, machine)
+        if self.is_folded(row, machine):
+            self.is_row = False
+            return
         if "won" in it and not it["won"]:
             self.lost.append([row, self.owners.get(index, -1)])
         if writes:
@@ -192,16 +206,16 @@ class Run:
         self.note_wait(it, row, machine)
         self.note_unit(it, row, machine)
 
-    def fold(self, row, machine):
-        """Marks an event that only says again what the last two of its machine have said."""
-        rows, last = self.rows, self.last_rows[machine]
-        like = last[1] is not None and all(
-            getattr(rows, name)[row] == getattr(rows, name)[last[1]] for name in ("place", "operation", "word", "after", "flags", "brings", "found", "says")
-        )
-        likes = last[0] + 1 if like else 0
-        self.last_rows[machine] = (likes, row if not like else last[1])
-        if likes > 1:
-            self.folded.append(row)
+    def is_folded(self, row, machine):
+        """Leaves out the last row if it is a load that only says again what the last two of its machine have said."""
+        rows, (last, is_like) = self.rows, self.last_rows[machine]
+        like = last is not None and rows.operation[row] == CODES["load"] and all(rows.has_same(name, row, last) for name in LIKE)
+        if like and is_like:
+            rows.drop()
+            self.folded += 1
+            return True
+        self.last_rows[machine] = (row, like)
+        return False
 
     def becomes(self, it, after, brings, found):
         """What a word is behind an event that has written it, in words."""
@@ -378,6 +392,4 @@ def read(lines, first=1, most=MOST, last=None, more=0):
         raise Fault("line 1: there is nothing")
     run.open()
     run.keep()
-    for row in run.folded:
-        run.rows.flags[row] |= FOLDED
     return run

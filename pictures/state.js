@@ -1,7 +1,7 @@
 "use strict";
 // The run as the page has it: its events as columns, and the words of the heap at any of them.
 
-const WON = 1, LOST = 2, AGAIN = 4, PAUSE = 8, FOLDED = 16, NOTHING = 0xffffffff;
+const WON = 1, LOST = 2, AGAIN = 4, PAUSE = 8, NOTHING = 0xffffffff;
 const OPERATIONS = ["load", "store", "swap", "add to", "subtract from", "clear in", "set in", "exchange", ""];
 // How many numbers the states that are kept may have together.
 const KEPT = 8e6;
