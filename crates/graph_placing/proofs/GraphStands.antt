@@ -15,14 +15,14 @@ use Rattle.heap_world.proofs.Copies.{none_evacuated}
 use Rattle.heap_world.proofs.Unmarked.{none_marked}
 use Rattle.full_words.proofs.FreeWord.{free_again}
 use Rattle.graph_placing.specs.ByName.{address_of, Fits}
-use Rattle.graph_placing.specs.PlacedHeap.{place_among, word_of, IsPlaced}
-use Rattle.graph_placing.specs.PlaceableText.{IsWhole}
+use Rattle.graph_placing.specs.PlacedHeap.{place_among, word_for, IsPlaced}
+use Rattle.graph_placing.specs.PlaceableText.{IsPlaceable}
 use Rattle.graph_placing.specs.TextGraph.{row_object, IsGraphOf}
 use Rattle.graph_placing.proofs.Searching.{stands_there, one_place, names_count, name_of_row}
 use Rattle.graph_placing.proofs.ObjectWords.{reference_word, number_word}
 use Rattle.graph_placing.proofs.Plotted.{piece, plot, plot_from, plot_at, plotted, filled}
 
-module _ (c : Config) (t : Text) (whole : IsWhole c t) (fits : Fits c t) (memory : Word → ℕ) (placed : IsPlaced c t memory) where
+module _ (c : Config) (t : Text) (whole : IsPlaceable c t) (fits : Fits c t) (memory : Word → ℕ) (placed : IsPlaced c t memory) where
   abbrev n : ℕ
   n = length t.rows
 
@@ -33,7 +33,7 @@ module _ (c : Config) (t : Text) (whole : IsWhole c t) (fits : Fits c t) (memory
   heap a = memory (Heap a)
 
   -- A reference whose name has a row leads to the row's object.
-  pub leads : (reference : Reference) → ((name : Name) → reference ≡ Some name → Contains (names_of t) name) → Points block (word_of c t reference) reference
+  pub leads : (reference : Reference) → ((name : Name) → reference ≡ Some name → Contains (names_of t) name) → Points block (word_for c t reference) reference
   leads None there = refl
   leads (Some name) there =
       let found = stands_there (names_of t) name name (there name refl) in
@@ -59,16 +59,16 @@ module _ (c : Config) (t : Text) (whole : IsWhole c t) (fits : Fits c t) (memory
     references = λ i reference is.
         let inside = slice_get_within (row_of t k).refs i reference is in
         let place : address_of c t k + 3 + i ≡ address_of c t k + (3 + i) = omega arith in
-        let word : heap (address_of c t k + 3 + i) ≡ word_of c t reference =
-        ap heap place ∙ placed.objects k (3 + i) below (omega (arith, inside)) ∙ reference_word (word_of c t) (row_of t k) i (3 + i) refl inside
-        ∙ ap (word_of c t) (get_or_from_slice_get (row_of t k).refs i reference None is) in
+        let word : heap (address_of c t k + 3 + i) ≡ word_for c t reference =
+        ap heap place ∙ placed.objects k (3 + i) below (omega (arith, inside)) ∙ reference_word (word_for c t) (row_of t k) i (3 + i) refl inside
+        ∙ ap (word_for c t) (get_or_from_slice_get (row_of t k).refs i reference None is) in
         subst (λ (x : ℕ). Points block x reference) (sym word)
         (leads reference (λ name names. whole.references k i name below (is ∙ ap (λ (r : Reference). Some r) names)));
     numbers = λ i number is.
         let inside = slice_get_within (row_of t k).nums i number is in
         let place : address_of c t k + 3 + length (row_of t k).refs + i ≡ address_of c t k + (3 + length (row_of t k).refs + i) = omega arith in
         ap heap place ∙ placed.objects k (3 + length (row_of t k).refs + i) below (omega (arith, inside))
-        ∙ number_word (word_of c t) (row_of t k) i (3 + length (row_of t k).refs + i) refl ∙ get_or_from_slice_get (row_of t k).nums i number 0 is;
+        ∙ number_word (word_for c t) (row_of t k) i (3 + length (row_of t k).refs + i) refl ∙ get_or_from_slice_get (row_of t k).nums i number 0 is;
   }
 
   -- Only objects are pieces.
@@ -174,8 +174,8 @@ module _ (c : Config) (t : Text) (whole : IsWhole c t) (fits : Fits c t) (memory
     roots : (m i : ℕ) → m < c.mutators → i < 16 → Points block (memory (Root m i)) (g.root (m + 1) i)
     roots m i below small =
         let root = root_of t (m + 1) i in
-        let points : Points block (word_of c t root) root = leads root (λ name names. whole.roots (m + 1) i name (omega arith) (omega (arith, below)) small names) in
-        subst (λ (x : ℕ). Points block x (g.root (m + 1) i)) (sym (placed.roots m i below small)) (subst (Points block (word_of c t root)) (sym (is.roots m i below small)) points)
+        let points : Points block (word_for c t root) root = leads root (λ name names. whole.roots (m + 1) i name (omega arith) (omega (arith, below)) small names) in
+        subst (λ (x : ℕ). Points block x (g.root (m + 1) i)) (sym (placed.roots m i below small)) (subst (Points block (word_for c t root)) (sym (is.roots m i below small)) points)
 
     pub stands : Represents c memory g (λ m. nothing)
     stands = record {

@@ -11,13 +11,13 @@ use Rattle.regions.proofs.PlaceLemmas.{regions_tile}
 use Rattle.packing.specs.Places.{place_behind, end_before}
 use Rattle.packing.proofs.Placed.{end_next}
 use Rattle.shen_graph.specs.Graph.{hub}
-use Rattle.shen_graph.specs.GraphText.{Text, row_of, bare}
+use Rattle.shen_graph.specs.GraphText.{Text, Row, row_of, bare}
 use Rattle.full_words.specs.Plot.{heap_end}
-use Rattle.graph_placing.specs.ByName.{row_words, words_of_row, address_of, end_of, Fits, used_words}
-use Rattle.graph_placing.specs.PlaceableText.{IsWhole}
+use Rattle.graph_placing.specs.ByName.{words_of_row, address_of, end_behind, Fits, used_words}
+use Rattle.graph_placing.specs.PlaceableText.{IsPlaceable}
 use Rattle.graph_placing.proofs.Behind as behind
 
-module _ (c : Config) (t : Text) (whole : IsWhole c t) where
+module _ (c : Config) (t : Text) (whole : IsPlaceable c t) where
   abbrev n : ℕ
   n = length t.rows
 
@@ -28,7 +28,7 @@ module _ (c : Config) (t : Text) (whole : IsWhole c t) where
   pub few_words : (k : ℕ) → words_of_row t k ≤ 35
   few_words k = ⊎_elim
       (λ (below : k < n). let short = whole.short k below in omega (arith, short.refs, short.nums))
-      (λ (past : n ≤ k). let none : row_of t k ≡ bare hub = get_or_past t.rows k (bare hub) past in let bare_words : words_of_row t k ≡ 3 = ap row_words none in omega (arith, bare_words))
+      (λ (past : n ≤ k). let none : row_of t k ≡ bare hub = get_or_past t.rows k (bare hub) past in let bare_words : words_of_row t k ≡ 3 = ap (λ (r : Row). 3 + length r.refs + length r.nums) none in omega (arith, bare_words))
       (cases_lt k n)
 
   pub some_words : (k : ℕ) → 3 ≤ words_of_row t k
@@ -40,10 +40,10 @@ module _ (c : Config) (t : Text) (whole : IsWhole c t) where
   short : (k : ℕ) → words_of_row t k ≤ w
   short k = omega (arith, few_words k, c.in_range.least_words)
 
-  pub ends_rise : (j k : ℕ) → j ≤ k → end_of c t j ≤ end_of c t k
+  pub ends_rise : (j k : ℕ) → j ≤ k → end_behind c t j ≤ end_behind c t k
   ends_rise = behind.ends_rise w (words_of_row t) some short
 
-  pub end_is : (k : ℕ) → end_of c t (suc k) ≡ address_of c t k + words_of_row t k
+  pub end_is : (k : ℕ) → end_behind c t (suc k) ≡ address_of c t k + words_of_row t k
   end_is k = end_next w (words_of_row t) k
 
   pub stand_apart : (j k : ℕ) → j < k → address_of c t j + words_of_row t j ≤ address_of c t k
@@ -160,21 +160,21 @@ module _ (c : Config) (t : Text) (whole : IsWhole c t) where
       let of : region_with c a ≡ q = region_is q a (omega (arith, is)) (omega (arith, is, some)) in
       is ∙ ap (base_of c) (sym of)
 
-  placed_how : (k : ℕ) → (address_of c t k ≡ end_of c t k) ⊎ (address_of c t k ≡ (end_of c t k / w + 1) * w)
+  placed_how : (k : ℕ) → (address_of c t k ≡ end_behind c t k) ⊎ (address_of c t k ≡ (end_behind c t k / w + 1) * w)
   placed_how k = behind.at_end_or_base w (words_of_row t) some short k
 
-  pub first_end : end_of c t 0 ≡ w
+  pub first_end : end_behind c t 0 ≡ w
   unfolding end_before
   first_end = refl
 
   -- where a region has an object, one stands at its base
   pub one_at_base : (k : ℕ) → (j : ℕ) × (j ≤ k) × (address_of c t j ≡ base_of c (region_at k))
   one_at_base zero = ⊎_elim
-      (λ (at_end : address_of c t 0 ≡ end_of c t 0). let first : address_of c t 0 ≡ (0 + 1) * w = omega (arith, at_end, first_end) in (0, omega arith, based (address_of c t 0) 0 first))
-      (λ (at_base : address_of c t 0 ≡ (end_of c t 0 / w + 1) * w). (0, omega arith, based (address_of c t 0) (end_of c t 0 / w) at_base))
+      (λ (at_end : address_of c t 0 ≡ end_behind c t 0). let first : address_of c t 0 ≡ (0 + 1) * w = omega (arith, at_end, first_end) in (0, omega arith, based (address_of c t 0) 0 first))
+      (λ (at_base : address_of c t 0 ≡ (end_behind c t 0 / w + 1) * w). (0, omega arith, based (address_of c t 0) (end_behind c t 0 / w) at_base))
       (placed_how 0)
   one_at_base (suc k) = ⊎_elim
-      (λ (at_end : address_of c t (suc k) ≡ end_of c t (suc k)).
+      (λ (at_end : address_of c t (suc k) ≡ end_behind c t (suc k)).
       let here = in_region k in
       let behind_it : address_of c t (suc k) ≡ address_of c t k + words_of_row t k = at_end ∙ end_is k in
       ⊎_elim
@@ -186,7 +186,7 @@ module _ (c : Config) (t : Text) (whole : IsWhole c t) where
       let next : address_of c t (suc k) ≡ (region_at k + 1 + 1) * w = omega (arith, past, behind_it, here.1) in
       (suc k, omega arith, based (address_of c t (suc k)) (region_at k + 1) next))
       (cases_lt (address_of c t (suc k)) (base_of c (region_at k) + w)))
-      (λ (at_base : address_of c t (suc k) ≡ (end_of c t (suc k) / w + 1) * w). (suc k, omega arith, based (address_of c t (suc k)) (end_of c t (suc k) / w) at_base))
+      (λ (at_base : address_of c t (suc k) ≡ (end_behind c t (suc k) / w + 1) * w). (suc k, omega arith, based (address_of c t (suc k)) (end_behind c t (suc k) / w) at_base))
       (placed_how (suc k))
 
   -- the base of the next region is not below that of this one and a region's words
@@ -215,9 +215,9 @@ module _ (c : Config) (t : Text) (whole : IsWhole c t) where
       (cases_lt j l)) in (
         omega (arith, more, last.1),
         ⊎_elim
-            (λ (at_end : address_of c t (suc j) ≡ end_of c t (suc j)). at_end ∙ end_is j)
-            (λ (at_base : address_of c t (suc j) ≡ (end_of c t (suc j) / w + 1) * w).
-            let far = next_base r (end_of c t (suc j)) (omega (arith, end_is j, from)) in
+            (λ (at_end : address_of c t (suc j) ≡ end_behind c t (suc j)). at_end ∙ end_is j)
+            (λ (at_base : address_of c t (suc j) ≡ (end_behind c t (suc j) / w + 1) * w).
+            let far = next_base r (end_behind c t (suc j)) (omega (arith, end_is j, from)) in
             let behind_it : address_of c t (suc j) ≤ address_of c t l = (⊎_elim
             (λ (same : suc j ≡ l). let one : address_of c t (suc j) ≡ address_of c t l = ap (address_of c t) same in omega (arith, one))
             (λ (differs : suc j ≡ l → ⊥). omega (arith, stand_apart (suc j) l (omega (arith, more, differs))))
@@ -229,15 +229,15 @@ module _ (c : Config) (t : Text) (whole : IsWhole c t) where
 
   -- One object more.
 
-  pub next_place : (words_of_region end words place k : ℕ) → words_of_region ≡ w → end ≡ end_of c t k → words ≡ words_of_row t k → place ≡ place_behind words_of_region end words
+  pub next_place : (words_of_region end words place k : ℕ) → words_of_region ≡ w → end ≡ end_behind c t k → words ≡ words_of_row t k → place ≡ place_behind words_of_region end words
       → place ≡ address_of c t k
   next_place words_of_region end words place k same is long at =
-      at ∙ ap (λ v. place_behind v end words) same ∙ ap (λ e. place_behind w e words) is ∙ ap (place_behind w (end_of c t k)) long
+      at ∙ ap (λ v. place_behind v end words) same ∙ ap (λ e. place_behind w e words) is ∙ ap (place_behind w (end_behind c t k)) long
 
-  pub next_end : (words place k : ℕ) → words ≡ words_of_row t k → place ≡ address_of c t k → place + words ≡ end_of c t (k + 1)
+  pub next_end : (words place k : ℕ) → words ≡ words_of_row t k → place ≡ address_of c t k → place + words ≡ end_behind c t (k + 1)
   next_end words place k long at =
       let more : suc k ≡ k + 1 = omega arith in
-      let there : end_of c t (suc k) ≡ end_of c t (k + 1) = ap (end_of c t) more in
+      let there : end_behind c t (suc k) ≡ end_behind c t (k + 1) = ap (end_behind c t) more in
       omega (arith, end_is k, there, at, long)
 
   -- Where all objects fit.

@@ -8,7 +8,7 @@ use Rattle.regions.specs.Place.{base_of}
 use Rattle.shen_graph.specs.GraphText.{Text, row_of}
 use Rattle.heap_world.specs.World.{Block, Plot, thing, words_of, IsInUse, IsPlotted, IsFilled}
 use Rattle.graph_placing.specs.ByName.{words_of_row, address_of, Fits, used_words}
-use Rattle.graph_placing.specs.PlaceableText.{IsWhole}
+use Rattle.graph_placing.specs.PlaceableText.{IsPlaceable}
 use Rattle.graph_placing.proofs.Located as located
 
 -- the piece of a row's object
@@ -32,7 +32,7 @@ plot_from c t (suc k) a b is = ⊎_elim
     (before.0, omega (arith, before.1), before.2, before.3))
     (cases_eq (address_of c t k) a)
 
-module _ (c : Config) (t : Text) (whole : IsWhole c t) where
+module _ (c : Config) (t : Text) (whole : IsPlaceable c t) where
   -- each row's object is a piece
   pub plot_at : (k j : ℕ) → j < k → plot c t k (address_of c t j) ≡ Some (piece t j)
   plot_at zero j below = absurd (omega (arith, below))

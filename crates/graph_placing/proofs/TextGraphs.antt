@@ -15,12 +15,12 @@ use Rattle.shen_graph.proofs.PlainLemmas.{same_name-true, same_name-itself}
 use Rattle.shen_graph.proofs.OrderLemmas.{same_name-flip}
 use Rattle.shen_graph.proofs.Distinct.{before_apart, order_rest}
 use Rattle.heap_world.specs.World.{IsGiven}
-use Rattle.graph_placing.specs.PlaceableText.{IsWhole}
+use Rattle.graph_placing.specs.PlaceableText.{IsPlaceable}
 use Rattle.graph_placing.specs.TextGraph.{row_object, text_graph, AreGiven, IsGraphOf}
 use Rattle.graph_placing.proofs.Searching.{before_first}
 
 -- of rows in order each name has its row's object
-has_object : (rows : List Row) → InOrder (map (λ r. r.name) rows) → (k : ℕ) (d : Row) → k < length rows → object_in rows (get_or rows k d).name ≡ Some (row_object (get_or rows k d))
+pub has_object : (rows : List Row) → InOrder (map (λ r. r.name) rows) → (k : ℕ) (d : Row) → k < length rows → object_in rows (get_or rows k d).name ≡ Some (row_object (get_or rows k d))
 has_object [] order k d below = absurd (omega (arith, below))
 has_object (r ∷ rs) order zero d below = cond-true (same_name r.name r.name) (Some (row_object r)) (object_in rs r.name) (same_name-itself r.name)
 has_object (r ∷ rs) order (suc k) d below =
@@ -62,7 +62,7 @@ no_thread roots (suc thread) index beyond =
     let past = beyond (omega arith) in
     ap (λ (row : List Reference). get_or row index None) (get_or_past roots thread [] (omega (arith, past)))
 
-pub is_graph : (c : Config) (t : Text) (counts : List ℕ) → IsWhole c t → AreGiven c t counts → IsGraphOf c t counts (text_graph t counts)
+pub is_graph : (c : Config) (t : Text) (counts : List ℕ) → IsPlaceable c t → AreGiven c t counts → IsGraphOf c t counts (text_graph t counts)
 unfolding graph_of
 is_graph c t counts whole given = record {
   objects = λ k below. has_object t.rows whole.in_order k (bare hub) below;

@@ -9,8 +9,8 @@ use Rattle.regions.specs.Place.{base_of, region_with}
 use Rattle.shen_graph.specs.GraphText.{Text, row_of, root_of}
 use Rattle.full_words.specs.Full.{empty_regions}
 use Rattle.graph_placing.specs.ByName.{words_of_row, address_of, used_words}
-use Rattle.graph_placing.specs.PlacedHeap.{word_of, object_of, is_content, IsPlaced}
-use Rattle.graph_placing.specs.PlaceableText.{IsWhole}
+use Rattle.graph_placing.specs.PlacedHeap.{word_for, words_of_object, is_content, IsPlaced}
+use Rattle.graph_placing.specs.PlaceableText.{IsPlaceable}
 use Rattle.graph_placing.specs.Writing.{copied, rows_placed, roots_stored, all_roots_stored, all_placed}
 use Rattle.graph_placing.proofs.Located as located
 
@@ -67,12 +67,12 @@ top_is c t zero r = refl
 top_is c t (suc k) r = refl
 
 pub rows_more : (c : Config) (t : Text) (k : ℕ)
-    → write (copied (address_of c t k) (words_of_row t k) (object_of (word_of c t) (row_of t k)) (rows_placed c t k)) (Top (region_with c (address_of c t k)))
+    → write (copied (address_of c t k) (words_of_row t k) (words_of_object (word_for c t) (row_of t k)) (rows_placed c t k)) (Top (region_with c (address_of c t k)))
     (address_of c t k + words_of_row t k - base_of c (region_with c (address_of c t k))) ≡ rows_placed c t (suc k)
 unfolding rows_placed used_words
 rows_more c t k = fun_ext (λ word. at word)
   where
-    at : (word : Word) → write (copied (address_of c t k) (words_of_row t k) (object_of (word_of c t) (row_of t k)) (rows_placed c t k)) (Top (region_with c (address_of c t k)))
+    at : (word : Word) → write (copied (address_of c t k) (words_of_row t k) (words_of_object (word_for c t) (row_of t k)) (rows_placed c t k)) (Top (region_with c (address_of c t k)))
         (address_of c t k + words_of_row t k - base_of c (region_with c (address_of c t k))) word ≡ rows_placed c t (suc k) word
     at (Top r) = ⊎_elim
         (λ (here : region_with c (address_of c t k) ≡ r).
@@ -103,12 +103,12 @@ rows_root c t (suc k) m i = rows_root c t k m i
 
 -- Root after root.
 
-stored_there : (c : Config) (t : Text) (u n m i : ℕ) (memory : Word → ℕ) → m ≡ u → i < n → roots_stored c t u n memory (Root m i) ≡ word_of c t (root_of t (m + 1) i)
-stored_there c t u n m i memory same below = cond-true ((m == u) && nat_lt i n) (word_of c t (root_of t (m + 1) i)) (memory (Root m i)) (and_from _ _ (eq-eqb m u same) (lt-ltb i n below))
+stored_there : (c : Config) (t : Text) (u n m i : ℕ) (memory : Word → ℕ) → m ≡ u → i < n → roots_stored c t u n memory (Root m i) ≡ word_for c t (root_of t (m + 1) i)
+stored_there c t u n m i memory same below = cond-true ((m == u) && nat_lt i n) (word_for c t (root_of t (m + 1) i)) (memory (Root m i)) (and_from _ _ (eq-eqb m u same) (lt-ltb i n below))
 
 stored_elsewhere : (c : Config) (t : Text) (u n m i : ℕ) (memory : Word → ℕ) → (m ≡ u → i < n → ⊥) → roots_stored c t u n memory (Root m i) ≡ memory (Root m i)
 stored_elsewhere c t u n m i memory apart =
-    cond-false ((m == u) && nat_lt i n) (word_of c t (root_of t (m + 1) i)) (memory (Root m i))
+    cond-false ((m == u) && nat_lt i n) (word_for c t (root_of t (m + 1) i)) (memory (Root m i))
     (false_from_ne_true ((m == u) && nat_lt i n) (λ both. let parts = and_parts (m == u) (nat_lt i n) both in apart (eqb-true m u parts.0) (ltb-true i n parts.1)))
 
 pub stored_none : (c : Config) (t : Text) (u : ℕ) (memory : Word → ℕ) → memory ≡ roots_stored c t u 0 memory
@@ -118,20 +118,20 @@ stored_none c t u memory = fun_ext (λ word. at word)
     at (Root m i) = sym (stored_elsewhere c t u 0 m i memory (λ same below. omega (arith, below)))
     at _ = refl
 
-pub stored_more : (c : Config) (t : Text) (u n : ℕ) (memory : Word → ℕ) → write (roots_stored c t u n memory) (Root u n) (word_of c t (root_of t (u + 1) n)) ≡ roots_stored c t u (n + 1) memory
+pub stored_more : (c : Config) (t : Text) (u n : ℕ) (memory : Word → ℕ) → write (roots_stored c t u n memory) (Root u n) (word_for c t (root_of t (u + 1) n)) ≡ roots_stored c t u (n + 1) memory
 stored_more c t u n memory = fun_ext (λ word. at word)
   where
-    at : (word : Word) → write (roots_stored c t u n memory) (Root u n) (word_of c t (root_of t (u + 1) n)) word ≡ roots_stored c t u (n + 1) memory word
+    at : (word : Word) → write (roots_stored c t u n memory) (Root u n) (word_for c t (root_of t (u + 1) n)) word ≡ roots_stored c t u (n + 1) memory word
     at (Root m i) = ⊎_elim
         (λ (here : ((u == m) && (n == i)) ≡ true).
         let parts = and_parts (u == m) (n == i) here in
         let one = eqb-true u m parts.0 in
         let two = eqb-true n i parts.1 in
-        cond-true ((u == m) && (n == i)) (word_of c t (root_of t (u + 1) n)) (roots_stored c t u n memory (Root m i)) here
-        ∙ ap (λ (k : ℕ). word_of c t (root_of t (k + 1) n)) one ∙ ap (λ (k : ℕ). word_of c t (root_of t (m + 1) k)) two
+        cond-true ((u == m) && (n == i)) (word_for c t (root_of t (u + 1) n)) (roots_stored c t u n memory (Root m i)) here
+        ∙ ap (λ (k : ℕ). word_for c t (root_of t (k + 1) n)) one ∙ ap (λ (k : ℕ). word_for c t (root_of t (m + 1) k)) two
         ∙ sym (stored_there c t u (n + 1) m i memory (sym one) (omega (arith, two))))
         (λ (elsewhere : ((u == m) && (n == i)) ≡ false).
-        cond-false ((u == m) && (n == i)) (word_of c t (root_of t (u + 1) n)) (roots_stored c t u n memory (Root m i)) elsewhere
+        cond-false ((u == m) && (n == i)) (word_for c t (root_of t (u + 1) n)) (roots_stored c t u n memory (Root m i)) elsewhere
         ∙ ⊎_elim
         (λ (before : ((m == u) && nat_lt i n) ≡ true).
         let parts = and_parts (m == u) (nat_lt i n) before in
@@ -139,7 +139,7 @@ stored_more c t u n memory = fun_ext (λ word. at word)
         let below = ltb-true i n parts.1 in
         stored_there c t u n m i memory same below ∙ sym (stored_there c t u (n + 1) m i memory same (omega (arith, below))))
         (λ (apart : ((m == u) && nat_lt i n) ≡ false).
-        cond-false ((m == u) && nat_lt i n) (word_of c t (root_of t (m + 1) i)) (memory (Root m i)) apart
+        cond-false ((m == u) && nat_lt i n) (word_for c t (root_of t (m + 1) i)) (memory (Root m i)) apart
         ∙ sym (stored_elsewhere c t u (n + 1) m i memory (λ same below. ⊎_elim
         (λ (last : n ≡ i). let yes : ((u == m) && (n == i)) ≡ true = and_from _ _ (eq-eqb u m (sym same)) (eq-eqb n i last) in let f = elsewhere in cc)
         (λ (other : n ≢ i). let yes : ((m == u) && nat_lt i n) ≡ true = and_from _ _ (eq-eqb m u same) (lt-ltb i n (omega (arith, below, other))) in let f = apart in cc)
@@ -148,12 +148,12 @@ stored_more c t u n memory = fun_ext (λ word. at word)
         (cases_Bool ((u == m) && (n == i)))
     at _ = refl
 
-all_there : (c : Config) (t : Text) (n m i : ℕ) (memory : Word → ℕ) → m < n → i < 16 → all_roots_stored c t n memory (Root m i) ≡ word_of c t (root_of t (m + 1) i)
-all_there c t n m i memory below small = cond-true (nat_lt m n && nat_lt i 16) (word_of c t (root_of t (m + 1) i)) (memory (Root m i)) (and_from _ _ (lt-ltb m n below) (lt-ltb i 16 small))
+all_there : (c : Config) (t : Text) (n m i : ℕ) (memory : Word → ℕ) → m < n → i < 16 → all_roots_stored c t n memory (Root m i) ≡ word_for c t (root_of t (m + 1) i)
+all_there c t n m i memory below small = cond-true (nat_lt m n && nat_lt i 16) (word_for c t (root_of t (m + 1) i)) (memory (Root m i)) (and_from _ _ (lt-ltb m n below) (lt-ltb i 16 small))
 
 all_elsewhere : (c : Config) (t : Text) (n m i : ℕ) (memory : Word → ℕ) → (m < n → i < 16 → ⊥) → all_roots_stored c t n memory (Root m i) ≡ memory (Root m i)
 all_elsewhere c t n m i memory apart =
-    cond-false (nat_lt m n && nat_lt i 16) (word_of c t (root_of t (m + 1) i)) (memory (Root m i))
+    cond-false (nat_lt m n && nat_lt i 16) (word_for c t (root_of t (m + 1) i)) (memory (Root m i))
     (false_from_ne_true (nat_lt m n && nat_lt i 16) (λ both. let parts = and_parts (nat_lt m n) (nat_lt i 16) both in apart (ltb-true m n parts.0) (ltb-true i 16 parts.1)))
 
 pub all_none : (c : Config) (t : Text) (memory : Word → ℕ) → memory ≡ all_roots_stored c t 0 memory
@@ -195,12 +195,12 @@ pub written_is : (c : Config) (t : Text) → written c t ≡ all_placed c t
 written_is c t = fun_ext (λ word. at word)
   where
     at : (word : Word) → written c t word ≡ all_placed c t word
-    at (Root m i) = ap (λ (x : ℕ). if nat_lt m c.mutators && nat_lt i 16 then word_of c t (root_of t (m + 1) i) else x) (rows_root c t (length t.rows) m i)
+    at (Root m i) = ap (λ (x : ℕ). if nat_lt m c.mutators && nat_lt i 16 then word_for c t (root_of t (m + 1) i) else x) (rows_root c t (length t.rows) m i)
     at _ = refl
 
-module _ (c : Config) (t : Text) (whole : IsWhole c t) where
+module _ (c : Config) (t : Text) (whole : IsPlaceable c t) where
   -- the words of an object stay when later ones are placed
-  rows_object : (m k i : ℕ) → k < m → i < words_of_row t k → rows_placed c t m (Heap (address_of c t k + i)) ≡ get_or (object_of (word_of c t) (row_of t k)) i 0
+  rows_object : (m k i : ℕ) → k < m → i < words_of_row t k → rows_placed c t m (Heap (address_of c t k + i)) ≡ get_or (words_of_object (word_for c t) (row_of t k)) i 0
   unfolding rows_placed
   rows_object zero k i below inside = absurd (omega (arith, below))
   rows_object (suc m) k i below inside =
@@ -210,11 +210,11 @@ module _ (c : Config) (t : Text) (whole : IsWhole c t) where
       let here : address_of c t m ≡ address_of c t k = ap (address_of c t) last in
       let long : words_of_row t m ≡ words_of_row t k = ap (words_of_row t) last in
       let index : x - address_of c t m ≡ i = omega (arith, here) in
-      copied_inside (address_of c t m) (words_of_row t m) x (object_of (word_of c t) (row_of t m)) (rows_placed c t m) (omega (arith, here)) (omega (arith, here, long, inside))
-      ∙ ap (λ j. get_or (object_of (word_of c t) (row_of t m)) j 0) index ∙ ap (λ j. get_or (object_of (word_of c t) (row_of t j)) i 0) last)
+      copied_inside (address_of c t m) (words_of_row t m) x (words_of_object (word_for c t) (row_of t m)) (rows_placed c t m) (omega (arith, here)) (omega (arith, here, long, inside))
+      ∙ ap (λ j. get_or (words_of_object (word_for c t) (row_of t m)) j 0) index ∙ ap (λ j. get_or (words_of_object (word_for c t) (row_of t j)) i 0) last)
       (λ (other : m ≢ k).
       let less : k < m = omega (arith, below, other) in
-      copied_outside (address_of c t m) (words_of_row t m) x (object_of (word_of c t) (row_of t m)) (rows_placed c t m) (λ low high. omega (arith, low, inside, located.stand_apart c t whole k m less))
+      copied_outside (address_of c t m) (words_of_row t m) x (words_of_object (word_for c t) (row_of t m)) (rows_placed c t m) (λ low high. omega (arith, low, inside, located.stand_apart c t whole k m less))
       ∙ rows_object m k i less inside)
       (cases_eq m k)
 
@@ -223,7 +223,7 @@ module _ (c : Config) (t : Text) (whole : IsWhole c t) where
   unfolding rows_placed
   rows_unused zero x none = refl
   rows_unused (suc m) x none =
-      copied_outside (address_of c t m) (words_of_row t m) x (object_of (word_of c t) (row_of t m)) (rows_placed c t m)
+      copied_outside (address_of c t m) (words_of_row t m) x (words_of_object (word_for c t) (row_of t m)) (rows_placed c t m)
       (λ low high. none m (x - address_of c t m) (omega arith) (omega (arith, low, high)) (omega (arith, low)))
       ∙ rows_unused m x (λ k i below inside. none k i (omega (arith, below)) inside)
 
@@ -239,7 +239,7 @@ module _ (c : Config) (t : Text) (whole : IsWhole c t) where
     unused = λ x none. rows_unused (length t.rows) x none;
     tops = λ r. top_is c t (length t.rows) r;
     free = refl;
-    roots = λ m i below small. cond-true (nat_lt m c.mutators && nat_lt i 16) (word_of c t (root_of t (m + 1) i)) 0 (and_from _ _ (lt-ltb m c.mutators below) (lt-ltb i 16 small));
+    roots = λ m i below small. cond-true (nat_lt m c.mutators && nat_lt i 16) (word_for c t (root_of t (m + 1) i)) 0 (and_from _ _ (lt-ltb m c.mutators below) (lt-ltb i 16 small));
     left = refl;
     others = others_are_0;
   }

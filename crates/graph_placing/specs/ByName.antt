@@ -4,28 +4,24 @@ use Rattle.std.specs.Prelude.{ℕ, ◌+◌, ◌-◌, ◌≤◌, ◌==◌, if◌t
 use Rattle.heap_words.specs.declared.config.Config.{Config}
 use Rattle.regions.specs.Place.{base_of, region_with}
 use Rattle.packing.specs.Places.{end_before, new_place}
-use Rattle.shen_graph.specs.GraphText.{Text, Row, row_of}
+use Rattle.shen_graph.specs.GraphText.{Text, row_of}
 use Rattle.full_words.specs.Plot.{heap_end}
 
--- the words of a row's object: header, shape, name, and one for each reference and each number
-abbrev pub row_words : Row → ℕ
-row_words r = 3 + length r.refs + length r.nums
-
--- by the number of the row
+-- the words of the object in a row: header, shape, name, and one for each reference and each number
 abbrev pub words_of_row : Text → ℕ → ℕ
-words_of_row t k = row_words (row_of t k)
+words_of_row t k = 3 + length (row_of t k).refs + length (row_of t k).nums
 
 -- the address of its object
 abbrev pub address_of : Config → Text → ℕ → ℕ
 address_of c t k = new_place c.region_words (words_of_row t) k
 
 -- where the last object ends of the first so many rows
-abbrev pub end_of : Config → Text → ℕ → ℕ
-end_of c t k = end_before c.region_words (words_of_row t) k
+abbrev pub end_behind : Config → Text → ℕ → ℕ
+end_behind c t k = end_before c.region_words (words_of_row t) k
 
 -- all objects end within the heap: they need no more regions than it has
 abbrev pub Fits : Config → Text → Type 0
-Fits c t = end_of c t (length t.rows) ≤ heap_end c
+Fits c t = end_behind c t (length t.rows) ≤ heap_end c
 
 -- the words of a region that the objects of the first so many rows use: up to where the last one ends that is placed there
 unfoldable pub used_words : Config → Text → ℕ → ℕ → ℕ

@@ -11,7 +11,7 @@ pub record IsShort (r : Row) : Type 0 where
   pub nums : length r.nums ≤ 16
 
 -- The text has 16 roots for each mutator. Its rows are in the order of names, and each has few fields; what a reference or a root names has a row.
-pub record IsWhole (c : Config) (t : Text) : Type 0 where
+pub record IsPlaceable (c : Config) (t : Text) : Type 0 where
   pub threads : length t.roots ≡ c.mutators
   pub sixteen : All (λ roots. length roots ≡ 16) t.roots
   pub in_order : InOrder (names_of t)

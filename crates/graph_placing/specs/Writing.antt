@@ -6,7 +6,7 @@ use Rattle.regions.specs.Place.{base_of, region_with}
 use Rattle.shen_graph.specs.GraphText.{Text, row_of, root_of}
 use Rattle.full_words.specs.Full.{empty_regions}
 use Rattle.graph_placing.specs.ByName.{words_of_row, address_of, used_words}
-use Rattle.graph_placing.specs.PlacedHeap.{word_of, object_of}
+use Rattle.graph_placing.specs.PlacedHeap.{word_for, words_of_object}
 
 -- the addresses of the objects, by row
 pub record AreAddresses (c : Config) (t : Text) (addresses : List ℕ) : Type 0 where
@@ -25,23 +25,23 @@ with_top c t k memory = write memory (Top (region_with c (address_of c t k))) (a
 -- the words after the objects of the first so many rows were placed
 unfoldable pub rows_placed : Config → Text → ℕ → Word → ℕ
 rows_placed c t zero word = 0
-rows_placed c t (suc k) (Heap x) = copied (address_of c t k) (words_of_row t k) (object_of (word_of c t) (row_of t k)) (rows_placed c t k) (Heap x)
+rows_placed c t (suc k) (Heap x) = copied (address_of c t k) (words_of_row t k) (words_of_object (word_for c t) (row_of t k)) (rows_placed c t k) (Heap x)
 rows_placed c t (suc k) (Top r) = used_words c t (suc k) r
 rows_placed c t (suc k) word = rows_placed c t k word
 
 -- the words after the first so many roots of a mutator were stored
 abbrev pub roots_stored : Config → Text → (mutator roots : ℕ) → (Word → ℕ) → Word → ℕ
-roots_stored c t mutator roots memory (Root m i) = if (m == mutator) && nat_lt i roots then word_of c t (root_of t (m + 1) i) else memory (Root m i)
+roots_stored c t mutator roots memory (Root m i) = if (m == mutator) && nat_lt i roots then word_for c t (root_of t (m + 1) i) else memory (Root m i)
 roots_stored c t mutator roots memory word = memory word
 
 -- the words after the roots of so many mutators were stored
 abbrev pub all_roots_stored : Config → Text → (mutators : ℕ) → (Word → ℕ) → Word → ℕ
-all_roots_stored c t mutators memory (Root m i) = if nat_lt m mutators && nat_lt i 16 then word_of c t (root_of t (m + 1) i) else memory (Root m i)
+all_roots_stored c t mutators memory (Root m i) = if nat_lt m mutators && nat_lt i 16 then word_for c t (root_of t (m + 1) i) else memory (Root m i)
 all_roots_stored c t mutators memory word = memory word
 
 -- the words when all is placed
 abbrev pub all_placed : Config → Text → Word → ℕ
 all_placed c t Left = c.mutators
 all_placed c t Free = empty_regions (λ r. rows_placed c t (length t.rows) (Top r)) c.regions
-all_placed c t (Root m i) = if nat_lt m c.mutators && nat_lt i 16 then word_of c t (root_of t (m + 1) i) else 0
+all_placed c t (Root m i) = if nat_lt m c.mutators && nat_lt i 16 then word_for c t (root_of t (m + 1) i) else 0
 all_placed c t word = rows_placed c t (length t.rows) word

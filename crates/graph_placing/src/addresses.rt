@@ -2,7 +2,7 @@
 
 ghost use Rattle.std.specs.Prelude.{◌≡◌, ◌<◌, ◌≤◌, ◌↔◌, length, IsTrue, IfOk};
 ghost use Rattle.graph_placing.specs.ByName.{words_of_row, Fits};
-ghost use Rattle.graph_placing.specs.PlaceableText.{IsWhole};
+ghost use Rattle.graph_placing.specs.PlaceableText.{IsPlaceable};
 ghost use Rattle.graph_placing.specs.Writing.{AreAddresses};
 
 use heap_words::{Config, NoMemory};
@@ -12,7 +12,7 @@ use std::alloc::Global;
 
 /// The words of the object in a row.
 pub(crate) fn words_of_row(config: Config, text: &GraphText, row: usize) -> u64
-    requires whole { IsWhole config text.now }
+    requires whole { IsPlaceable config text.now }
     requires row { row < length text.now.rows }
     ensures value { result ≡ words_of_row text.now row }
     ensures bound { result ≤ 35 }
@@ -22,7 +22,7 @@ pub(crate) fn words_of_row(config: Config, text: &GraphText, row: usize) -> u64
 
 /// Whether the objects need no more regions than the heap has.
 pub(crate) fn fits(config: Config, text: &GraphText) -> bool
-    requires { IsWhole config text.now }
+    requires { IsPlaceable config text.now }
     ensures { IsTrue result ↔ Fits config text.now }
 {
     let region_words = config.region_words() as u64;
@@ -44,7 +44,7 @@ pub(crate) fn addresses(
     config: Config,
     text: &GraphText,
 ) -> Result<Vec<u64>, NoMemory>
-    requires whole { IsWhole config text.now }
+    requires whole { IsPlaceable config text.now }
     requires fits { Fits config text.now }
     ensures { IfOk result (λ addresses. AreAddresses config text.now addresses.items) }
 {

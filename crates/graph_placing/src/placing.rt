@@ -5,7 +5,7 @@ ghost use Rattle.heap_world.specs.Represents.{Represents};
 ghost use Rattle.image_graph.specs.State.{config_of, memory_of};
 ghost use Rattle.graph_placing.specs.ByName.{Fits};
 ghost use Rattle.graph_placing.specs.PlacedHeap.{IsPlaced};
-ghost use Rattle.graph_placing.specs.PlaceableText.{IsWhole};
+ghost use Rattle.graph_placing.specs.PlaceableText.{IsPlaceable};
 ghost use Rattle.graph_placing.specs.TextGraph.{IsGraphOf};
 ghost use Rattle.graph_placing.specs.Outcome.{IfHeap};
 
@@ -31,7 +31,7 @@ pub enum Placed {
 /// within one region. The words of the image stand for the graph, so that a run can begin from it. The error is
 /// that memory was refused, which is asked for only where the objects fit.
 pub fn place(alloc: Global, config: Config, text: &GraphText) -> Result<Placed, NoMemory>
-    requires { IsWhole config text.now }
+    requires { IsPlaceable config text.now }
     ensures too_small { (result ≡ Ok Placed.TooSmall) ↔ (Fits config text.now → ⊥) }
     ensures config { IfOk result (λ placed. IfHeap placed (λ image. config_of image ≡ config)) }
     ensures placed { IfOk result (λ placed. IfHeap placed (λ image. IsPlaced config text.now (memory_of image))) }

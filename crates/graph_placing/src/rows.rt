@@ -4,7 +4,7 @@ ghost use Rattle.std.specs.Prelude.{◌≡◌, ◌<◌, ◌≤◌, ◌+◌, leng
 ghost use Rattle.shen_graph.specs.GraphText.{names_of};
 ghost use Rattle.shen_graph.specs.Reach.{InOrder, IsBefore};
 ghost use Rattle.heap_words.specs.declared.config.Config.{Config as Heap};
-ghost use Rattle.graph_placing.specs.PlacedHeap.{place_among, word_of};
+ghost use Rattle.graph_placing.specs.PlacedHeap.{place_among, word_for};
 ghost use Rattle.graph_placing.specs.Writing.{AreAddresses};
 
 use heap_words::Config;
@@ -38,7 +38,7 @@ fn row_of(text: &GraphText, name: Name) -> usize
 }
 
 /// The word of a reference, by the address of the object in each row: 0 for null.
-pub(crate) fn word_of(
+pub(crate) fn word_for(
     config: Config,
     text: &GraphText,
     addresses: &[u64],
@@ -47,7 +47,7 @@ pub(crate) fn word_of(
     requires in_order { InOrder (names_of text.now) }
     requires addresses { AreAddresses config text.now addresses.now }
     requires there { IfSome reference (Contains (names_of text.now)) }
-    ensures { result ≡ word_of config text.now reference }
+    ensures { result ≡ word_for config text.now reference }
 {
     match reference {
         None => 0,

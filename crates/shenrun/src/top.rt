@@ -15,7 +15,7 @@ use std::alloc::Global;
 use std::sync::Wait;
 use std::thread::Threads;
 use table_heap::Gate;
-use trace_runs::{Mode, Status, churn, mode_of, replay, replay_noted, run, say};
+use trace_runs::{Mode, Status, churn, mode_of, queue, replay, replay_noted, run, say};
 use trace_writing::Line;
 
 /// Runs the program on these words of the command line, which are without the program's name. `replay` and `run` read a trace
@@ -24,7 +24,9 @@ use trace_writing::Line;
 /// steps at most, and with `--history`, which comes last, it writes the history behind the answer. `run` gives each machine a
 /// thread of its own, and takes no notice of the schedule; with `--workers K` the machines are dealt to K threads at most, of
 /// which the caller's is one. `churn SEED COUNT` reads nothing: it makes the scripts of three threads from the two numbers,
-/// runs them as `run` does, and writes what is told of the run in eight lines. Each step of a machine passes the gate there.
+/// runs them as `run` does, and writes what is told of the run in eight lines. `queue COUNT` reads nothing either: it runs four users of
+/// a queue in the heap, each machine in a thread, and writes what the two takers got in three lines. Each step of a machine passes the
+/// gate in these three.
 /// Any other words are refused before anything is read. Where there is no answer one line says why; if that cannot be written
 /// either, the status is `WriteFault`.
 pub fn shenrun<R: Threads + Wait + Sync, S: Source, K: Sink, G: Gate>(
@@ -35,12 +37,13 @@ pub fn shenrun<R: Threads + Wait + Sync, S: Source, K: Sink, G: Gate>(
     sink: &mut K,
     gate: &G,
 ) -> Status
-    // The replies and the graph that are written are those of one legal history, in which each thread's commands are its
-    // script. Of a replay it is that of exactly the events of the schedule and of the rounds after it, and with `--history`
-    // that very history is written behind them; of a run it is that of some events, after which all machines are idle. It is a history of a graph that never moves or frees an object,
-    // whatever pauses collect; and it has an allocation that was refused only where live objects and the other threads'
-    // allocations that were not answered yet crowded the regions. Of a churn the eight lines are those of the history in
-    // which its threads run one after the other and no allocation is refused, whatever order they ran in.
+    // The words asked for a mode, and its answer was written. The replies and the graph are those of one legal history, in which
+    // each thread's commands are its script. Of a replay it is that of exactly the events of the schedule and of the rounds after it,
+    // and with `--history` that very history is written behind them; of a run it is that of some events, after which all machines are
+    // idle. It is a history of a graph that never moves or frees an object, whatever pauses collect; and it has an allocation that was
+    // refused only where live objects and the other threads' allocations that were not answered yet crowded the regions. Of a churn the
+    // eight lines are those of the history in which its threads run one after the other and no allocation is refused, whatever order
+    // they ran in. Of a queue the three lines are what its takers got in such a history of its users.
     ensures headline { result ≡ Status.Ok → HasAnswered (map string_bytes words.now)
         (record { before = S.left source.old; after = S.left source.new; faults_before = S.faults source.old; faults_after = S.faults source.new })
         (record { before = outlet (K.written sink.old) (K.faults sink.old) (K.calls sink.old); after = outlet (K.written sink.new) (K.faults sink.new) (K.calls sink.new) }) }
@@ -71,5 +74,6 @@ pub fn shenrun<R: Threads + Wait + Sync, S: Source, K: Sink, G: Gate>(
         Mode::Noted { steps } => replay_noted(alloc, steps, source, sink),
         Mode::Run { workers } => run(rt, alloc, workers, source, sink, gate),
         Mode::Churn(workload) => churn(rt, alloc, workload, sink, gate),
+        Mode::Queue { count } => queue(rt, alloc, count, sink, gate),
     }
 }

@@ -10,11 +10,11 @@ use Rattle.heap_words.specs.declared.schedule.Item.{Item}
 use Rattle.trace_grammar.specs.Grammar.{Came, Reads}
 use Rattle.trace_refusals.proofs.Exact.{never_both}
 use Rattle.trace_runs.specs.declared.mode.Mode.{Mode}
-use Rattle.trace_runs.specs.declared.mode.Mode.TheVariants.{Replay, Noted, Run, Churn}
+use Rattle.trace_runs.specs.declared.mode.Mode.TheVariants.{Replay, Noted, Run, Churn, Queue}
 use Rattle.trace_runs.specs.declared.status.Status.{Status}
 use Rattle.trace_runs.specs.declared.status.Status.TheVariants.{Ok, BadWords, BadTrace, Unfinished, ReadFault, WriteFault, NoMemory}
 use Rattle.trace_runs.specs.Words.{Asked}
-use Rattle.trace_runs.specs.Answered.{Input, Output, ReadsTrace, ReadsNothing, limit_of, IsRefused, IsTooLong, StatusFits, IsTraceStatus}
+use Rattle.trace_runs.specs.Answered.{Input, Output, ReadsTrace, ReadsNothing, bound_of, IsRefused, IsTooLong, StatusFits, IsTraceStatus}
 use Rattle.trace_runs.proofs.Words.{asks_alike}
 
 -- what came from known bytes to their end is these bytes
@@ -55,11 +55,12 @@ complete words input output WriteFault fits bytes config scripts items asked tol
 complete words input output NoMemory fits bytes config scripts items asked told reads read_fine written_fine = tt
 
 -- a mode of which the steps are bounded reads a trace
-limited_reads : (mode : Mode) (steps : ℕ) → limit_of mode ≡ Some steps → ReadsTrace mode
+limited_reads : (mode : Mode) (steps : ℕ) → bound_of mode ≡ Some steps → ReadsTrace mode
 limited_reads (Replay n) steps limited = tt
 limited_reads (Noted n) steps limited = tt
 limited_reads (Run workers) steps limited = tt
 limited_reads (Churn load) steps limited = absurd cc
+limited_reads (Queue count) steps limited = absurd cc
 
 reads_none : (words : List (List ℕ)) → Asked words ReadsNothing → Asked words ReadsTrace → ⊥
 reads_none words none reads = asks_alike words reads.0 none.0 reads.1 none.1 reads.2 none.2

@@ -8,8 +8,8 @@ use Rattle.std.proofs.lemmas.Fmt.{decimal_digit}
 use Rattle.std.proofs.lemmas.List.{length-append}
 use Rattle.trace_grammar.specs.Spelling.{IsUpTo}
 use Rattle.trace_runs.specs.declared.mode.Mode.{Mode}
-use Rattle.trace_runs.specs.declared.mode.Mode.TheVariants.{Replay, Noted, Run, Churn}
-use Rattle.trace_runs.specs.Words.{most_seed, most_rounds, most_steps, usual_steps, most_machines, IsNumbered, IsReplay, IsNoted, IsRunBy, IsChurn, Asks, Ask}
+use Rattle.trace_runs.specs.declared.mode.Mode.TheVariants.{Replay, Noted, Run, Churn, Queue}
+use Rattle.trace_runs.specs.Words.{most_seed, most_rounds, most_numbers, most_steps, usual_steps, most_machines, IsNumbered, IsReplay, IsNotedReplay, IsRunBy, IsChurn, IsQueue, Asks, Ask}
 use Rattle.trace_runs.specs.Answered.{ReadsTrace, ReadsNothing}
 use Rattle.std.proofs.lemmas.Bool.Decides.{nat_tests}
 
@@ -51,6 +51,15 @@ word_and_two f (x ∷ y ∷ z ∷ []) a b c first some few at_a at_b at_c e =
     ∙ ap (λ (t : List ℕ). first ∷ t ∷ f z ∷ []) (sym (ap f at_b))
     ∙ ap (λ (t : List ℕ). first ∷ f b ∷ t ∷ []) (sym (ap f at_c))
 word_and_two f (x ∷ y ∷ z ∷ w ∷ words) a b c first some few at_a at_b at_c e = absurd (omega arith)
+
+-- a list of two, of which the first is known
+pub word_and_one : {X : Type 0} (f : X → List ℕ) (words : List X) (a b : X) (first : List ℕ) → 2 ≤ length words → length words < 3 → a ≡ get_or words 0 a → b ≡ get_or words 1 b → true ≡ pointwise eqb (f a) first
+    → map f words ≡ first ∷ f b ∷ []
+word_and_one f [] a b first some few at_a at_b e = absurd (omega arith)
+word_and_one f (x ∷ []) a b first some few at_a at_b e = absurd (omega arith)
+word_and_one f (x ∷ y ∷ []) a b first some few at_a at_b e =
+    ap (λ (t : List ℕ). t ∷ f y ∷ []) (sym (ap f at_a) ∙ same_from_test (f a) first (sym e)) ∙ ap (λ (t : List ℕ). first ∷ t ∷ []) (sym (ap f at_b))
+word_and_one f (x ∷ y ∷ z ∷ words) a b first some few at_a at_b e = absurd (omega arith)
 
 -- a list of three, of which the first two are known
 pub three_words : {X : Type 0} (f : X → List ℕ) (words : List X) (a b c : X) (first second : List ℕ) → 3 ≤ length words → length words < 4 → a ≡ get_or words 0 a → b ≡ get_or words 1 b → c ≡ get_or words 2 c
@@ -97,6 +106,13 @@ pub is_churn : (words : List (List ℕ)) (a b : List ℕ) (seed count : ℕ) →
 is_churn words a b seed count are first second =
     (are ∙ ap (λ (t : List ℕ). codes "churn" ∷ t ∷ b ∷ []) first.1 ∙ ap (λ (t : List ℕ). codes "churn" ∷ decimal seed ∷ t ∷ []) second.1, first.0, second.0)
 
+-- words of which the second is a number or none ask for a queue of that number, or for none
+pub queue_named : (words : List (List ℕ)) (number : List ℕ) (r : Option ℕ) → words ≡ codes "queue" ∷ number ∷ []
+    → MatchOption r ((n : ℕ) → IsUpTo most_numbers n → number ≡ decimal n → ⊥) (λ n. IsUpTo most_numbers n × (number ≡ decimal n))
+    → MatchOption r (((count : ℕ) × IsQueue words count) → ⊥) (IsQueue words)
+queue_named words number (Some n) are read = (are ∙ ap (λ (t : List ℕ). codes "queue" ∷ t ∷ []) read.1, read.0)
+queue_named words number None are none = λ asked. none asked.0 asked.1.1 (ap (λ (ws : List (List ℕ)). get_or ws 1 []) (sym are ∙ asked.1.0))
+
 -- ---- the first word
 
 -- the first word is this one
@@ -123,12 +139,16 @@ replay_begins words steps asked = numbered_begins (codes "replay") (codes "--ste
 pub churn_begins : (words : List (List ℕ)) (seed count : ℕ) → IsChurn words seed count → BeginWith (codes "churn") words
 churn_begins words seed count asked = begins_as words (decimal seed ∷ decimal count ∷ []) (codes "churn") asked.0
 
+pub queue_begins : (words : List (List ℕ)) (count : ℕ) → IsQueue words count → BeginWith (codes "queue") words
+queue_begins words count asked = begins_as words (decimal count ∷ []) (codes "queue") asked.0
+
 -- the command of a mode
 abbrev name_of : Mode → List ℕ
 name_of (Replay steps) = codes "replay"
 name_of (Noted steps) = codes "replay"
 name_of (Run workers) = codes "run"
 name_of (Churn load) = codes "churn"
+name_of (Queue count) = codes "queue"
 
 -- who asks for a mode begins with its command
 begins_with_name : (words : List (List ℕ)) (mode : Mode) → Asks words mode → BeginWith (name_of mode) words
@@ -136,6 +156,7 @@ begins_with_name words (Replay steps) asked = replay_begins words steps asked
 begins_with_name words (Noted steps) asked = subst (BeginWith (codes "replay")) (sym asked.1) (begins_longer (codes "replay") asked.0 (codes "--history" ∷ []) (replay_begins asked.0 steps asked.2))
 begins_with_name words (Run workers) asked = numbered_begins (codes "run") (codes "--workers") most_machines most_machines words workers asked
 begins_with_name words (Churn load) asked = churn_begins words load.seed load.count asked
+begins_with_name words (Queue count) asked = queue_begins words count asked
 
 -- words have one first word
 one_first : (a b : List ℕ) (words : List (List ℕ)) → BeginWith a words → BeginWith b words → a ≡ b
@@ -145,9 +166,13 @@ one_first a b (word ∷ words) begins other = sym begins ∙ other
 -- modes of one command read alike
 trace_or_nothing : (a b : Mode) → name_of a ≡ name_of b → ReadsTrace a → ReadsNothing b → ⊥
 trace_or_nothing (Churn load) b same reads none = reads
+trace_or_nothing (Queue count) b same reads none = reads
 trace_or_nothing (Replay steps) (Churn load) same reads none = absurd (omega (arith, ap length same))
 trace_or_nothing (Noted steps) (Churn load) same reads none = absurd (omega (arith, ap length same))
 trace_or_nothing (Run workers) (Churn load) same reads none = absurd (omega (arith, ap length same))
+trace_or_nothing (Replay steps) (Queue count) same reads none = absurd (omega (arith, ap length same))
+trace_or_nothing (Noted steps) (Queue count) same reads none = absurd (omega (arith, ap length same))
+trace_or_nothing (Run workers) (Queue count) same reads none = absurd (omega (arith, ap length same))
 trace_or_nothing a (Replay steps) same reads none = none
 trace_or_nothing a (Noted steps) same reads none = none
 trace_or_nothing a (Run workers) same reads none = none
@@ -157,15 +182,16 @@ pub asks_alike : (words : List (List ℕ)) (a b : Mode) → Asks words a → Ask
 asks_alike words a b asked also reads none = trace_or_nothing a b (one_first (name_of a) (name_of b) words (begins_with_name words a asked) (begins_with_name words b also)) reads none
 
 -- words that ask for no mode
-pub asks_none : (words : List (List ℕ)) → (((steps : ℕ) × IsReplay words steps) → ⊥) → (((steps : ℕ) × IsNoted words steps) → ⊥) → (((workers : ℕ) × IsRunBy words workers) → ⊥)
-    → (((seed : ℕ) × ((count : ℕ) × IsChurn words seed count)) → ⊥) → Ask words → ⊥
-asks_none words replay noted run churn asked = by_mode asked.0 asked.1
+pub asks_none : (words : List (List ℕ)) → (((steps : ℕ) × IsReplay words steps) → ⊥) → (((steps : ℕ) × IsNotedReplay words steps) → ⊥) → (((workers : ℕ) × IsRunBy words workers) → ⊥)
+    → (((seed : ℕ) × ((count : ℕ) × IsChurn words seed count)) → ⊥) → (((count : ℕ) × IsQueue words count) → ⊥) → Ask words → ⊥
+asks_none words replay noted run churn queue asked = by_mode asked.0 asked.1
   where
     by_mode : (mode : Mode) → Asks words mode → ⊥
     by_mode (Replay steps) this = replay (steps, this)
     by_mode (Noted steps) this = noted (steps, this)
     by_mode (Run workers) this = run (workers, this)
     by_mode (Churn load) this = churn (load.seed, (load.count, this))
+    by_mode (Queue count) this = queue (count, this)
 
 -- a list that is not empty begins with its first word
 pub first_word : {X : Type 0} (f : X → List ℕ) (words : List X) (w : X) (text : List ℕ) (r : Bool) → 1 ≤ length words → w ≡ get_or words 0 w → r ≡ pointwise eqb (f w) text
@@ -218,7 +244,7 @@ last_of f (x ∷ y ∷ words) w (a ∷ front) text (suc n) long is same =
 
 -- what is asked for where the last word is `--history`: a replay by the words before it
 pub noted_by_front : {X : Type 0} (f : X → List ℕ) (words front : List X) (w : X) (n : ℕ) (r : Option ℕ) → length words ≡ suc n → w ≡ get_or words n w → front ≡ take n words
-    → true ≡ pointwise eqb (f w) (codes "--history") → MatchOption r (((steps : ℕ) × IsReplay (map f front) steps) → ⊥) (IsReplay (map f front)) → MatchOption r (((steps : ℕ) × IsNoted (map f words) steps) → ⊥) (IsNoted (map f words))
+    → true ≡ pointwise eqb (f w) (codes "--history") → MatchOption r (((steps : ℕ) × IsReplay (map f front) steps) → ⊥) (IsReplay (map f front)) → MatchOption r (((steps : ℕ) × IsNotedReplay (map f words) steps) → ⊥) (IsNotedReplay (map f words))
 noted_by_front f words front w n (Some steps) long is are e asked =
     (map f front, last_added f words w (codes "--history") n long is (same_from_test (f w) (codes "--history") (sym e)) ∙ ap (λ ws. map f ws ++ codes "--history" ∷ []) (sym are), asked)
 noted_by_front f words front w n None long is are e none = λ asked.
@@ -226,12 +252,12 @@ noted_by_front f words front w n None long is are e none = λ asked.
     none (asked.0, subst (λ (ws : List (List ℕ)). IsReplay ws asked.0) (sym parts.1 ∙ ap (λ ws. map f ws) (sym are)) asked.1.2)
 
 -- where the last word is another, none is asked for
-pub noted_by_last : {X : Type 0} (f : X → List ℕ) (words : List X) (w : X) (n : ℕ) → length words ≡ suc n → w ≡ get_or words n w → false ≡ pointwise eqb (f w) (codes "--history") → ((steps : ℕ) × IsNoted (map f words) steps) → ⊥
+pub noted_by_last : {X : Type 0} (f : X → List ℕ) (words : List X) (w : X) (n : ℕ) → length words ≡ suc n → w ≡ get_or words n w → false ≡ pointwise eqb (f w) (codes "--history") → ((steps : ℕ) × IsNotedReplay (map f words) steps) → ⊥
 noted_by_last f words w n long is e asked =
     let parts = last_of f words w asked.1.0 (codes "--history") n long is asked.1.1 in
     false≢true (e ∙ ap (λ (t : List ℕ). pointwise eqb t (codes "--history")) parts.0 ∙ test_itself (codes "--history"))
 
 -- nor where there are no words
-pub noted_by_none : {X : Type 0} (f : X → List ℕ) (words : List X) → length words < 1 → ((steps : ℕ) × IsNoted (map f words) steps) → ⊥
+pub noted_by_none : {X : Type 0} (f : X → List ℕ) (words : List X) → length words < 1 → ((steps : ℕ) × IsNotedReplay (map f words) steps) → ⊥
 noted_by_none f [] few asked = absurd (omega (arith, ap length asked.1.1, length-append asked.1.0 (codes "--history" ∷ [])))
 noted_by_none f (x ∷ xs) few asked = absurd (omega arith)

@@ -10,12 +10,13 @@ use Rattle.trace_refusals.specs.Refused.{Refused}
 use Rattle.trace_writing.specs.Message.{line_text}
 use Rattle.trace_writing.specs.declared.message.Line.TheVariants as line
 use Rattle.trace_runs.specs.declared.mode.Mode.{Mode}
-use Rattle.trace_runs.specs.declared.mode.Mode.TheVariants.{Replay, Noted, Run, Churn}
+use Rattle.trace_runs.specs.declared.mode.Mode.TheVariants.{Replay, Noted, Run, Churn, Queue}
 use Rattle.trace_runs.specs.declared.status.Status.{Status}
 use Rattle.trace_runs.specs.declared.status.Status.TheVariants.{Ok, BadWords, BadTrace, Unfinished, ReadFault, WriteFault, NoMemory}
 use Rattle.trace_runs.specs.Words.{Asks, Asked, Ask}
 use Rattle.trace_runs.specs.Replayed.{IsReplayed, IsReplayedNoted, IsRun, IsUnfinished}
 use Rattle.trace_runs.specs.Churned.{IsChurned}
+use Rattle.trace_runs.specs.Queued.{IsQueued}
 
 -- What the source has left where it tells it, before the call and after it, and its faults.
 pub record Input : Type 0 where
@@ -38,26 +39,29 @@ pub record HasRead (input : Input) (P : List ℕ → Type 0) : Type 0 where
 -- ---- the modes
 
 -- what is written where a mode is answered
-abbrev pub IsAnswer : Mode → Input → List ℕ → Type 0
-IsAnswer (Replay steps) input out = HasRead input (λ bytes. IsReplayed bytes steps out)
-IsAnswer (Noted steps) input out = HasRead input (λ bytes. IsReplayedNoted bytes steps out)
-IsAnswer (Run workers) input out = HasRead input (λ bytes. IsRun bytes out)
-IsAnswer (Churn load) input out = IsChurned load.seed load.count out
+abbrev pub IsAnswerOf : Mode → Input → List ℕ → Type 0
+IsAnswerOf (Replay steps) input out = HasRead input (λ bytes. IsReplayed bytes steps out)
+IsAnswerOf (Noted steps) input out = HasRead input (λ bytes. IsReplayedNoted bytes steps out)
+IsAnswerOf (Run workers) input out = HasRead input (λ bytes. IsRun bytes out)
+IsAnswerOf (Churn load) input out = IsChurned load.seed load.count out
+IsAnswerOf (Queue count) input out = IsQueued count out
 
 -- it reads a trace; one that reads nothing is always answered, or there is no memory
 abbrev pub ReadsTrace : Mode → Type 0
 ReadsTrace (Churn load) = ⊥
+ReadsTrace (Queue count) = ⊥
 ReadsTrace _ = Unit {0}
 
 abbrev pub ReadsNothing : Mode → Type 0
 ReadsNothing (Churn load) = Unit {0}
+ReadsNothing (Queue count) = Unit {0}
 ReadsNothing _ = ⊥
 
 -- the steps that it may make, if these are bounded
-abbrev pub limit_of : Mode → Option ℕ
-limit_of (Replay steps) = Some steps
-limit_of (Noted steps) = Some steps
-limit_of _ = None
+abbrev pub bound_of : Mode → Option ℕ
+bound_of (Replay steps) = Some steps
+bound_of (Noted steps) = Some steps
+bound_of _ = None
 
 -- ---- the texts
 
@@ -78,13 +82,13 @@ pub record IsTooLong (input : Input) (out : List ℕ) : Type 0 where
 -- what came is a trace, and so many of its steps as the mode may make leave a machine that is not idle
 pub record IsCutOff (mode : Mode) (input : Input) (out : List ℕ) : Type 0 where
   pub steps : ℕ
-  pub limit : limit_of mode ≡ Some steps
+  pub limit : bound_of mode ≡ Some steps
   pub cut : HasRead input (λ bytes. IsUnfinished bytes steps)
   pub text : out ≡ line_text (line.Unfinished steps)
 
 -- The texts that go with each status but that of a write fault.
 abbrev pub Allows : List (List ℕ) → Input → Status → List ℕ → Type 0
-Allows words input Ok out = Asked words (λ mode. IsAnswer mode input out)
+Allows words input Ok out = Asked words (λ mode. IsAnswerOf mode input out)
 Allows words input BadWords out = (Ask words → ⊥) × (out ≡ line_text line.BadWords)
 Allows words input BadTrace out = Asked words ReadsTrace × (IsRefused input out ⊎ IsTooLong input out)
 Allows words input Unfinished out = Asked words (λ mode. IsCutOff mode input out)
@@ -121,12 +125,12 @@ pub record HasAnswered (words : List (List ℕ)) (input : Input) (output : Outpu
   pub mode : Mode
   pub asked : Asks words mode
   pub out : List ℕ
-  pub answer : IsAnswer mode input out
+  pub answer : IsAnswerOf mode input out
   pub written : Appends output.before.written output.after.written out
 
 -- The statuses that are left where the words ask for what reads a trace, a trace comes, and nothing fails.
 abbrev pub IsTraceStatus : List (List ℕ) → Status → Type 0
 IsTraceStatus words Ok = Unit {0}
-IsTraceStatus words Unfinished = Asked words (λ mode. (steps : ℕ) × (limit_of mode ≡ Some steps))
+IsTraceStatus words Unfinished = Asked words (λ mode. (steps : ℕ) × (bound_of mode ≡ Some steps))
 IsTraceStatus words NoMemory = Unit {0}
 IsTraceStatus words _ = ⊥

@@ -3,7 +3,7 @@ use Rattle.std.specs.Prelude.{ℕ, ◌≡◌, ◌≤◌, ◌⊎◌, List, [], �
 use Rattle.std.specs.Fmt.{decimal}
 use Rattle.trace_grammar.specs.Spelling.{IsUpTo}
 use Rattle.trace_runs.specs.declared.mode.Mode.{Mode}
-use Rattle.trace_runs.specs.declared.mode.Mode.TheVariants.{Replay, Noted, Run, Churn}
+use Rattle.trace_runs.specs.declared.mode.Mode.TheVariants.{Replay, Noted, Run, Churn, Queue}
 
 -- the words are a command alone, which goes with its usual number, or the command, an option and a number
 abbrev pub IsNumbered : (command option : List ℕ) → (usual most : ℕ) → List (List ℕ) → ℕ → Type 0
@@ -29,13 +29,17 @@ most_seed = 1000000
 abbrev pub most_rounds : ℕ
 most_rounds = 20000
 
+-- the most numbers of each user of a queue
+abbrev pub most_numbers : ℕ
+most_numbers = 390
+
 -- `replay`, or `replay --steps N`
 abbrev pub IsReplay : List (List ℕ) → (steps : ℕ) → Type 0
 IsReplay words steps = IsNumbered (codes "replay") (codes "--steps") usual_steps most_steps words steps
 
 -- the same, and then `--history`
-abbrev pub IsNoted : List (List ℕ) → (steps : ℕ) → Type 0
-IsNoted words steps = (front : List (List ℕ)) × (words ≡ front ++ codes "--history" ∷ []) × IsReplay front steps
+abbrev pub IsNotedReplay : List (List ℕ) → (steps : ℕ) → Type 0
+IsNotedReplay words steps = (front : List (List ℕ)) × (words ≡ front ++ codes "--history" ∷ []) × IsReplay front steps
 
 -- `run`, or `run --workers K`
 abbrev pub IsRunBy : List (List ℕ) → (workers : ℕ) → Type 0
@@ -45,12 +49,17 @@ IsRunBy words workers = IsNumbered (codes "run") (codes "--workers") most_machin
 abbrev pub IsChurn : List (List ℕ) → (seed count : ℕ) → Type 0
 IsChurn words seed count = (words ≡ codes "churn" ∷ decimal seed ∷ decimal count ∷ []) × (seed ≤ most_seed) × IsUpTo most_rounds count
 
+-- `queue COUNT`
+abbrev pub IsQueue : List (List ℕ) → (count : ℕ) → Type 0
+IsQueue words count = (words ≡ codes "queue" ∷ decimal count ∷ []) × IsUpTo most_numbers count
+
 -- The words ask for a mode.
 abbrev pub Asks : List (List ℕ) → Mode → Type 0
 Asks words (Replay steps) = IsReplay words steps
-Asks words (Noted steps) = IsNoted words steps
+Asks words (Noted steps) = IsNotedReplay words steps
 Asks words (Run workers) = IsRunBy words workers
 Asks words (Churn load) = IsChurn words load.seed load.count
+Asks words (Queue count) = IsQueue words count
 
 -- they ask for one of which this holds
 abbrev pub Asked : List (List ℕ) → (Mode → Type 0) → Type 0

@@ -2,7 +2,7 @@
 ghost use Rattle.std.specs.Prelude.{◌≡◌, ◌≤◌, ℕ, MatchOption, map};
 ghost use Rattle.std.specs.Fmt.{decimal};
 ghost use Rattle.std.specs.String.{string_bytes};
-ghost use Rattle.trace_runs.specs.Words.{IsNumbered, IsReplay, IsNoted, IsRunBy, IsChurn, most_seed, Asks, Ask};
+ghost use Rattle.trace_runs.specs.Words.{IsNumbered, IsReplay, IsNotedReplay, IsRunBy, IsChurn, IsQueue, most_seed, Asks, Ask};
 
 use trace_grammar::number_in;
 
@@ -21,6 +21,9 @@ const MOST_SEED: u64 = 1_000_000;
 /// The most rounds of each thread of a churn.
 const MOST_ROUNDS: u64 = 20_000;
 
+/// The most numbers of each user of a queue.
+const MOST_NUMBERS: u64 = 390;
+
 /// What the program can be asked for.
 #[derive(Clone, Copy, Debug, PartialEq, Eq)]
 pub enum Mode {
@@ -32,6 +35,8 @@ pub enum Mode {
     Run { workers: u64 },
     /// A churn.
     Churn(Workload),
+    /// A queue, of so many numbers of each user, 1 to 390.
+    Queue { count: u64 },
 }
 
 /// What the scripts of a churn are made from.
@@ -59,6 +64,9 @@ pub fn mode_of(words: &[String]) -> Option<Mode>
     if let Some(workload) = workload_of(words) {
         return Some(Mode::Churn(workload));
     }
+    if let Some(count) = count_of(words) {
+        return Some(Mode::Queue { count });
+    }
     None
 }
 
@@ -71,7 +79,7 @@ fn steps_of(words: &[String]) -> Option<u64>
 
 // The steps of a replay that is to show its history: the words of a replay, and then `--history`.
 fn noted_steps_of(words: &[String]) -> Option<u64>
-    ensures { MatchOption result (((n : ℕ) × IsNoted (map string_bytes words.now) n) → ⊥) (IsNoted (map string_bytes words.now)) }
+    ensures { MatchOption result (((n : ℕ) × IsNotedReplay (map string_bytes words.now) n) → ⊥) (IsNotedReplay (map string_bytes words.now)) }
 {
     match words {
         [front @ .., last] if last.as_str() == "--history" => steps_of(front),
@@ -96,6 +104,16 @@ fn workload_of(words: &[String]) -> Option<Workload>
             let count = number_in(MOST_ROUNDS, count.as_bytes())?;
             Some(Workload { seed, count })
         }
+        _ => None,
+    }
+}
+
+// The numbers of each user of a queue: `queue COUNT`.
+fn count_of(words: &[String]) -> Option<u64>
+    ensures { MatchOption result (((count : ℕ) × IsQueue (map string_bytes words.now) count) → ⊥) (IsQueue (map string_bytes words.now)) }
+{
+    match words {
+        [word, count] if word.as_str() == "queue" => number_in(MOST_NUMBERS, count.as_bytes()),
         _ => None,
     }
 }

@@ -17,6 +17,7 @@ ghost use Rattle.trace_runs.specs.Running.{HasCome};
 ghost use Rattle.trace_runs.specs.Answered.{StatusFits};
 
 use crate::lines::{give, say, taken};
+use crate::load::Load;
 use crate::mode::Mode;
 use crate::parts::{Part, dealt};
 use crate::status::Status;
@@ -51,8 +52,12 @@ pub fn run_scripts<R: Threads + Wait + Sync, G: Gate>(
     };
     let (heap, bundles) = Heap::open(alloc, config, bundles)?;
     let parts = dealt(alloc, &heap, work, bundles)?;
-    let Part { bundle, work } = run_parts(rt, alloc, &heap, gate, parts)?;
-    Ok((work, heap.close(bundle)))
+    let Part { bundle, load } = run_parts(rt, alloc, &heap, gate, parts)?;
+    let closed = heap.close(bundle);
+    match load {
+        Load::Scripted(work) => Ok((work, closed)),
+        Load::Driven(_) => unreachable!(),
+    }
 }
 
 /// The graph that a heap stands for, as it is to be written.

@@ -4,7 +4,7 @@ use Rattle.heap_words.specs.Words.{Word, Root, IsWord, write}
 use Rattle.shen_graph.specs.GraphText.{root_of}
 use Rattle.image_graph.specs.State.{config_of, memory_of}
 use Rattle.image_graph.proofs.NamedStores.{stored}
-use Rattle.graph_placing.specs.PlacedHeap.{word_of}
+use Rattle.graph_placing.specs.PlacedHeap.{word_for}
 use Rattle.graph_placing.specs.Writing.{roots_stored}
 use Rattle.graph_placing.proofs.Written.{stored_none, stored_more}
 use Rattle.graph_placing.proofs.roots.store_roots_of.Goals as goal
@@ -20,13 +20,13 @@ loop-index-preserved c =
     let i = c.loop-index.index in
     let same : c.config-config.result ≡ g = c.config-config.ensures in
     let is : IsWord g (Root u i) = (c.requires.mutator, c.loop-index-test.true) in
-    let one : memory_of c.set_word.new.self ≡ write (memory_of c.loop-index.image) (Root u i) c.word_of-word.result =
-    stored (config_of c.loop-index.image) c.config-config.result (memory_of c.loop-index.image) (memory_of c.set_word.new.self) (Root u i) c.root_at.result c.word_of-word.result
+    let one : memory_of c.set_word.new.self ≡ write (memory_of c.loop-index.image) (Root u i) c.word_for-word.result =
+    stored (config_of c.loop-index.image) c.config-config.result (memory_of c.loop-index.image) (memory_of c.set_word.new.self) (Root u i) c.root_at.result c.word_for-word.result
     (c.loop-index.invariant.config ∙ sym same) (subst (λ (h : Config). IsWord h (Root u i)) (sym same) is) c.root_at.ensures c.set_word.ensures.named in
-    let word : c.word_of-word.result ≡ word_of g t (root_of t (u + 1) i) = c.word_of-word.ensures ∙ ap (λ (h : Config). word_of h t c.root_at-root.result) same ∙ ap (word_of g t) c.root_at-root.ensures in
+    let word : c.word_for-word.result ≡ word_for g t (root_of t (u + 1) i) = c.word_for-word.ensures ∙ ap (λ (h : Config). word_for h t c.root_at-root.result) same ∙ ap (word_for g t) c.root_at-root.ensures in
     record {
       config = c.set_word.ensures.config ∙ c.loop-index.invariant.config;
-      words = one ∙ ap (λ (m : Word → ℕ). write m (Root u i) c.word_of-word.result) c.loop-index.invariant.words
+      words = one ∙ ap (λ (m : Word → ℕ). write m (Root u i) c.word_for-word.result) c.loop-index.invariant.words
           ∙ ap (write (roots_stored g t u i (memory_of c.args.image.now)) (Root u i)) word ∙ stored_more g t u i (memory_of c.args.image.now);
     }
 

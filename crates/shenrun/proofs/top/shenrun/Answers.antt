@@ -3,6 +3,7 @@ use Rattle.std.specs.String.{string_bytes}
 use Rattle.trace_writing.specs.Message.{line_text}
 use Rattle.trace_writing.specs.declared.message.Line.TheVariants as line
 use Rattle.text_writer.specs.Sending.{outlet}
+use Rattle.trace_runs.specs.declared.mode.Mode.TheVariants.{Replay, Noted, Run, Churn, Queue}
 use Rattle.trace_runs.specs.declared.status.Status.TheVariants.{BadWords}
 use Rattle.trace_runs.specs.Words.{Asks}
 use Rattle.trace_runs.specs.Answered.{Input, Output, StatusFits}
@@ -141,6 +142,39 @@ returns-in-Churn-clause-made g c =
     } in
     let fits : StatusFits words input output c.churn.result = c.churn.ensures words input (subst (Asks words) c.in-Churn.is c.in-Some.ensures) in
     made words input output c.churn.result fits
+
+pub returns-in-Queue-clause-headline : goal.returns-in-Queue-clause-headline
+returns-in-Queue-clause-headline g c =
+    let words : List (List ℕ) = map string_bytes c.args.words.now in
+    let input : Input = record { before = g.S.Source.left c.args.source.now; after = g.S.Source.left c.args.source.now; faults_before = g.S.Source.faults c.args.source.now; faults_after = g.S.Source.faults c.args.source.now } in
+    let output : Output = record {
+      before = outlet (g.K.Sink.written c.args.sink.now) (g.K.Sink.faults c.args.sink.now) (g.K.Sink.calls c.args.sink.now);
+      after = outlet (g.K.Sink.written c.queue.new.sink) (g.K.Sink.faults c.queue.new.sink) (g.K.Sink.calls c.queue.new.sink);
+    } in
+    let fits : StatusFits words input output c.queue.result = c.queue.ensures words input (subst (Asks words) c.in-Queue.is c.in-Some.ensures) in
+    answered words input output c.queue.result fits
+
+pub returns-in-Queue-clause-answered : goal.returns-in-Queue-clause-answered
+returns-in-Queue-clause-answered g c =
+    let words : List (List ℕ) = map string_bytes c.args.words.now in
+    let input : Input = record { before = g.S.Source.left c.args.source.now; after = g.S.Source.left c.args.source.now; faults_before = g.S.Source.faults c.args.source.now; faults_after = g.S.Source.faults c.args.source.now } in
+    let output : Output = record {
+      before = outlet (g.K.Sink.written c.args.sink.now) (g.K.Sink.faults c.args.sink.now) (g.K.Sink.calls c.args.sink.now);
+      after = outlet (g.K.Sink.written c.queue.new.sink) (g.K.Sink.faults c.queue.new.sink) (g.K.Sink.calls c.queue.new.sink);
+    } in
+    let fits : StatusFits words input output c.queue.result = c.queue.ensures words input (subst (Asks words) c.in-Queue.is c.in-Some.ensures) in
+    fits
+
+pub returns-in-Queue-clause-made : goal.returns-in-Queue-clause-made
+returns-in-Queue-clause-made g c =
+    let words : List (List ℕ) = map string_bytes c.args.words.now in
+    let input : Input = record { before = g.S.Source.left c.args.source.now; after = g.S.Source.left c.args.source.now; faults_before = g.S.Source.faults c.args.source.now; faults_after = g.S.Source.faults c.args.source.now } in
+    let output : Output = record {
+      before = outlet (g.K.Sink.written c.args.sink.now) (g.K.Sink.faults c.args.sink.now) (g.K.Sink.calls c.args.sink.now);
+      after = outlet (g.K.Sink.written c.queue.new.sink) (g.K.Sink.faults c.queue.new.sink) (g.K.Sink.calls c.queue.new.sink);
+    } in
+    let fits : StatusFits words input output c.queue.result = c.queue.ensures words input (subst (Asks words) c.in-Queue.is c.in-Some.ensures) in
+    made words input output c.queue.result fits
 
 pub returns-in_default-clause-answered : goal.returns-in_default-clause-answered
 returns-in_default-clause-answered g c =
