@@ -3,6 +3,7 @@
 #   program      the name of its crate
 #   unasked      what the program writes without words and without input, by which a whole one is known
 #   refusal      the line by which the program refuses words
+#   refusals     2 if it writes such lines to the standard error
 #   page         the page that has the words
 #   reads_input  a function: whether these words make the program read its input
 #   may_be_words a function: whether the program may take these words, by which others are refused before anything is built
@@ -64,7 +65,7 @@ take() {
         return 0
     fi
     cp "$left" out/new.$$ && chmod +x out/new.$$
-    if [ "$(out/new.$$ </dev/null 2>/dev/null)" = "$unasked" ]; then
+    if [ "$(out/new.$$ </dev/null 2>&1)" = "$unasked" ]; then
         if is_outdated; then rm -f "$sums"; else sums_now >"$sums"; fi
         mv -f out/new.$$ "$kept"
     else
@@ -99,7 +100,7 @@ judge() {
         fi
     done
     if ! may_be_words "$@"; then
-        printf '%s\n' "$refusal"
+        printf '%s\n' "$refusal" >&"${refusals:-1}"
         end_with 2
     fi
 }
