@@ -16,8 +16,6 @@ HEAD = """# The crates
 
 Written by `docs/crates.py` from the first lines of the crates; do not edit. [ARCHITECTURE.md](ARCHITECTURE.md) has them as layers.
 
-| crate | what it is |
-|---|---|
 """
 
 
@@ -41,7 +39,7 @@ def sentence(crate):
             if not found:
                 return None
             whole = " ".join(line[3:].strip() for line in found[0].splitlines())
-            return re.match(r"(.*?)[.:](?= |$)|(.*)", whole)[0].rstrip(".:").replace("|", "\\|")
+            return re.match(r"(.*?)[.:](?= |$)|(.*)", whole)[0].rstrip(".:")
     return None
 
 
@@ -55,7 +53,7 @@ def main():
         if not said:
             lacking.append(crate)
             continue
-        rows.append(f"| `{crate}` | {said} |\n")
+        rows.append(f"- `{crate}`: {said}\n")
     if lacking:
         print(f"the root of a crate begins with no `//!` line: {' '.join(lacking)}")
     page = HEAD + "".join(rows)
