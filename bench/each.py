@@ -16,6 +16,7 @@ import sys
 import tempfile
 
 sys.dont_write_bytecode = True
+sys.path.insert(0, os.path.join(os.path.dirname(os.path.dirname(os.path.abspath(__file__))), "check"))
 from cases import TOP, program  # pylint: disable=wrong-import-position
 
 CASE = re.compile(r"case=(\d+) run=ended status=(\d+) ")

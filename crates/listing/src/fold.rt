@@ -57,7 +57,9 @@ impl Folds {
     }
 
     // Keeps a line as the last.
-    fn keep(&mut self, line: Line) {
+    fn keep(&mut self, line: Line)
+        ensures { more_of self.new ≡ more_of self.old }
+    {
         self.lines[self.next % KEPT] = Some(line);
         self.next = (self.next % KEPT + 1) % KEPT;
         self.known = self.known.saturating_add(1).min(KEPT);

@@ -106,9 +106,11 @@ fn json_region<K: Sink>(
         let start = table.word(config.tams_at(region));
         json_number(row, b"mark_start", start);
         json_number(row, b"limit", table.word(config.limit_at(region)));
-        let (live, garbage) = live_and_garbage(table, rooms, region, start);
-        json_number(row, b"live", live);
-        json_number(row, b"garbage", garbage);
+        if phase(table) > 1 {
+            let (live, garbage) = live_and_garbage(table, rooms, region, start);
+            json_number(row, b"live", live);
+            json_number(row, b"garbage", garbage);
+        }
     }
     json_owner(row, table, region);
     json_key(row, b"objects");
