@@ -61,7 +61,8 @@ is_outdated() {
 take() {
     [ -x "$left" ] && is_newer "$left" "$kept" || return 0
     if ! { mkdir -p out && : >out/new.$$; } 2>/dev/null; then
-        say "the folder out cannot be written, so the proved program is not kept for the time of a later rt ci"
+        # Of a checkout that nobody is to write nothing is said.
+        [ ! -w . ] || say "the folder out cannot be written, so the proved program is not kept for the time of a later rt ci"
         return 0
     fi
     cp "$left" out/new.$$ && chmod +x out/new.$$
@@ -169,6 +170,8 @@ unproved() {
     case $(tail -n 1 "$room/said") in
         run=ended*)
             cat "$room/answer" 2>/dev/null || status=6
+            # What the program has written to the standard error stands among the lines of rt.
+            [ "${refusals:-1}" = 1 ] || grep -E '^(bad (words|line)|too long|read fault|out of memory)' "$room/said" >&2
             end_with "$status"
             ;;
         run=no-answer*)

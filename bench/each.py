@@ -38,8 +38,8 @@ def last(text):
 def run(path, words, file):
     """The status and the answer of a program to the trace of a file."""
     with open(file, "rb") as source:
-        ran = subprocess.run([path, *words], stdin=source, stdout=subprocess.PIPE, check=False)
-    return ran.returncode, ran.stdout.decode(errors="replace")
+        ran = subprocess.run([path, *words], stdin=source, capture_output=True, check=False)
+    return ran.returncode, (ran.stdout or ran.stderr).decode(errors="replace")
 
 
 def tried(name, words, files):

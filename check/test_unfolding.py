@@ -118,7 +118,7 @@ def ends_fail(of):
 def main():
     count, seed = map(int, [*sys.argv[1:], TRACES, 0][:2] if len(sys.argv) < 2 else [*sys.argv[1:], 0][:2])
     traces = [(f"trace({it}) of settling.py", trace(it)) for it in range(seed, seed + count)]
-    traces += [(it.name, it.read_text()) for it in sorted((TOP / "examples").glob("*.trace"))]
+    traces += [] if count < 0 else [(it.name, it.read_text()) for it in sorted((TOP / "examples").glob("*.trace"))]
     failed, lines, folded = False, 0, 0
     for name, of in traces:
         why = forms_fail(of) or ends_fail(of)
