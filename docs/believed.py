@@ -23,9 +23,7 @@ GRAPH = [
     ("shen_graph", "History", "Follows"),
     ("shen_graph", "Crowd", "IsLegalHistory"),
     ("trace_writing", "Answer", "IsAnswerText"),
-    ("trace_runs", "Words", "IsReplay"),
-    ("trace_runs", "Words", "AskRun"),
-    ("trace_runs", "Words", "IsChurn"),
+    ("trace_runs", "Words", "Asks"),
     ("trace_runs", "Churned", "IsChurned"),
 ]
 EVENTS = [("trace_runs", "Replayed", "IsReplayed"), ("trace_runs", "Replayed", "IsRun")]

@@ -1,4 +1,4 @@
--- What the takers of the workload got: as many numbers as were put, and of the same sum.
+-- What the takers of the workload got: the numbers that were put, so as many, and of the same sum.
 use Rattle.std.proofs.Common.{ℕ, zero, suc, ◌≡◌, ◌+◌, ◌*◌, ◌<◌, ◌≤◌, Bool, true, false, List, [], ◌∷◌, ◌++◌, length, sum, Some, None, refl, sym, ap, ◌∙◌, arith, append-nil, length-append, sum_by}
 use Rattle.std.specs.Prelude.{◌≢◌, ◌==◌, ◌&&◌, ◌||◌, if◌then◌else◌}
 use Rattle.std.specs.List.{range_with_len}
@@ -52,113 +52,76 @@ both_rows (suc n) =
 
 -- ---- operations by their numbers
 
-abbrev put_in : Operation → ℕ
-put_in (put value) = value
-put_in _ = 0
+-- what the number of a put or of a take weighs, and 0 of another operation
+abbrev put_weight : (ℕ → ℕ) → Operation → ℕ
+put_weight weight (put value) = weight value
+put_weight weight _ = 0
 
-abbrev got_of : Operation → ℕ
-got_of (got value) = value
-got_of _ = 0
+abbrev got_weight : (ℕ → ℕ) → Operation → ℕ
+got_weight weight (got value) = weight value
+got_weight weight _ = 0
 
-abbrev is_put : Operation → ℕ
-is_put (put value) = 1
-is_put _ = 0
+module _ (weight : ℕ → ℕ) where
+  puts_weigh : (os : List Operation) → sum_by (put_weight weight) os ≡ sum_by weight (puts_of os)
+  puts_weigh [] = refl
+  puts_weigh (put value ∷ os) =
+      let first : sum_by (put_weight weight) (put value ∷ os) ≡ weight value + sum_by (put_weight weight) os = sum_by-cons (put_weight weight) (put value) os in
+      let whole : sum_by weight (puts_of (put value ∷ os)) ≡ weight value + sum_by weight (puts_of os) = sum_by-cons weight value (puts_of os) in
+      let later = puts_weigh os in
+      omega (arith, first, whole, later)
+  puts_weigh (got value ∷ os) =
+      let first : sum_by (put_weight weight) (got value ∷ os) ≡ 0 + sum_by (put_weight weight) os = sum_by-cons (put_weight weight) (got value) os in
+      let whole : sum_by weight (puts_of (got value ∷ os)) ≡ sum_by weight (puts_of os) = refl in
+      let later = puts_weigh os in
+      omega (arith, first, whole, later)
+  puts_weigh (empty ∷ os) =
+      let first : sum_by (put_weight weight) (empty ∷ os) ≡ 0 + sum_by (put_weight weight) os = sum_by-cons (put_weight weight) (empty) os in
+      let whole : sum_by weight (puts_of (empty ∷ os)) ≡ sum_by weight (puts_of os) = refl in
+      let later = puts_weigh os in
+      omega (arith, first, whole, later)
+  puts_weigh (full ∷ os) =
+      let first : sum_by (put_weight weight) (full ∷ os) ≡ 0 + sum_by (put_weight weight) os = sum_by-cons (put_weight weight) (full) os in
+      let whole : sum_by weight (puts_of (full ∷ os)) ≡ sum_by weight (puts_of os) = refl in
+      let later = puts_weigh os in
+      omega (arith, first, whole, later)
 
-abbrev is_got : Operation → ℕ
-is_got (got value) = 1
-is_got _ = 0
+  gots_weigh : (os : List Operation) → sum_by (got_weight weight) os ≡ sum_by weight (gots_of os)
+  gots_weigh [] = refl
+  gots_weigh (put value ∷ os) =
+      let first : sum_by (got_weight weight) (put value ∷ os) ≡ 0 + sum_by (got_weight weight) os = sum_by-cons (got_weight weight) (put value) os in
+      let whole : sum_by weight (gots_of (put value ∷ os)) ≡ sum_by weight (gots_of os) = refl in
+      let later = gots_weigh os in
+      omega (arith, first, whole, later)
+  gots_weigh (got value ∷ os) =
+      let first : sum_by (got_weight weight) (got value ∷ os) ≡ weight value + sum_by (got_weight weight) os = sum_by-cons (got_weight weight) (got value) os in
+      let whole : sum_by weight (gots_of (got value ∷ os)) ≡ weight value + sum_by weight (gots_of os) = sum_by-cons weight value (gots_of os) in
+      let later = gots_weigh os in
+      omega (arith, first, whole, later)
+  gots_weigh (empty ∷ os) =
+      let first : sum_by (got_weight weight) (empty ∷ os) ≡ 0 + sum_by (got_weight weight) os = sum_by-cons (got_weight weight) (empty) os in
+      let whole : sum_by weight (gots_of (empty ∷ os)) ≡ sum_by weight (gots_of os) = refl in
+      let later = gots_weigh os in
+      omega (arith, first, whole, later)
+  gots_weigh (full ∷ os) =
+      let first : sum_by (got_weight weight) (full ∷ os) ≡ 0 + sum_by (got_weight weight) os = sum_by-cons (got_weight weight) (full) os in
+      let whole : sum_by weight (gots_of (full ∷ os)) ≡ sum_by weight (gots_of os) = refl in
+      let later = gots_weigh os in
+      omega (arith, first, whole, later)
 
-puts_sum : (os : List Operation) → sum_by put_in os ≡ sum (puts_of os)
-puts_sum [] = refl
-puts_sum (put value ∷ os) =
-    let weight : sum_by put_in (put value ∷ os) ≡ value + sum_by put_in os = sum_by-cons put_in (put value) os in
-    let whole : sum (puts_of (put value ∷ os)) ≡ value + sum (puts_of os) = sum_cons value (puts_of os) in
-    let later = puts_sum os in
-    omega (arith, weight, whole, later)
-puts_sum (got value ∷ os) =
-    let weight : sum_by put_in (got value ∷ os) ≡ 0 + sum_by put_in os = sum_by-cons put_in (got value) os in
-    let whole : sum (puts_of (got value ∷ os)) ≡ sum (puts_of os) = refl in
-    let later = puts_sum os in
-    omega (arith, weight, whole, later)
-puts_sum (empty ∷ os) =
-    let weight : sum_by put_in (empty ∷ os) ≡ 0 + sum_by put_in os = sum_by-cons put_in (empty) os in
-    let whole : sum (puts_of (empty ∷ os)) ≡ sum (puts_of os) = refl in
-    let later = puts_sum os in
-    omega (arith, weight, whole, later)
-puts_sum (full ∷ os) =
-    let weight : sum_by put_in (full ∷ os) ≡ 0 + sum_by put_in os = sum_by-cons put_in (full) os in
-    let whole : sum (puts_of (full ∷ os)) ≡ sum (puts_of os) = refl in
-    let later = puts_sum os in
-    omega (arith, weight, whole, later)
+-- how many numbers there are
+ones_long : (xs : List ℕ) → sum_by (λ x. 1) xs ≡ length xs
+ones_long [] = refl
+ones_long (x ∷ xs) =
+    let first : sum_by (λ (y : ℕ). 1) (x ∷ xs) ≡ 1 + sum_by (λ y. 1) xs = sum_by-cons (λ y. 1) x xs in
+    let whole : length (x ∷ xs) ≡ suc (length xs) = refl in
+    let later = ones_long xs in
+    omega (arith, first, whole, later)
 
-gots_sum : (os : List Operation) → sum_by got_of os ≡ sum (gots_of os)
-gots_sum [] = refl
-gots_sum (put value ∷ os) =
-    let weight : sum_by got_of (put value ∷ os) ≡ 0 + sum_by got_of os = sum_by-cons got_of (put value) os in
-    let whole : sum (gots_of (put value ∷ os)) ≡ sum (gots_of os) = refl in
-    let later = gots_sum os in
-    omega (arith, weight, whole, later)
-gots_sum (got value ∷ os) =
-    let weight : sum_by got_of (got value ∷ os) ≡ value + sum_by got_of os = sum_by-cons got_of (got value) os in
-    let whole : sum (gots_of (got value ∷ os)) ≡ value + sum (gots_of os) = sum_cons value (gots_of os) in
-    let later = gots_sum os in
-    omega (arith, weight, whole, later)
-gots_sum (empty ∷ os) =
-    let weight : sum_by got_of (empty ∷ os) ≡ 0 + sum_by got_of os = sum_by-cons got_of (empty) os in
-    let whole : sum (gots_of (empty ∷ os)) ≡ sum (gots_of os) = refl in
-    let later = gots_sum os in
-    omega (arith, weight, whole, later)
-gots_sum (full ∷ os) =
-    let weight : sum_by got_of (full ∷ os) ≡ 0 + sum_by got_of os = sum_by-cons got_of (full) os in
-    let whole : sum (gots_of (full ∷ os)) ≡ sum (gots_of os) = refl in
-    let later = gots_sum os in
-    omega (arith, weight, whole, later)
+puts_count : (os : List Operation) → sum_by (put_weight (λ x. 1)) os ≡ length (puts_of os)
+puts_count os = puts_weigh (λ x. 1) os ∙ ones_long (puts_of os)
 
-puts_count : (os : List Operation) → sum_by is_put os ≡ length (puts_of os)
-puts_count [] = refl
-puts_count (put value ∷ os) =
-    let weight : sum_by is_put (put value ∷ os) ≡ 1 + sum_by is_put os = sum_by-cons is_put (put value) os in
-    let whole : length (puts_of (put value ∷ os)) ≡ suc (length (puts_of os)) = refl in
-    let later = puts_count os in
-    omega (arith, weight, whole, later)
-puts_count (got value ∷ os) =
-    let weight : sum_by is_put (got value ∷ os) ≡ 0 + sum_by is_put os = sum_by-cons is_put (got value) os in
-    let whole : length (puts_of (got value ∷ os)) ≡ length (puts_of os) = refl in
-    let later = puts_count os in
-    omega (arith, weight, whole, later)
-puts_count (empty ∷ os) =
-    let weight : sum_by is_put (empty ∷ os) ≡ 0 + sum_by is_put os = sum_by-cons is_put (empty) os in
-    let whole : length (puts_of (empty ∷ os)) ≡ length (puts_of os) = refl in
-    let later = puts_count os in
-    omega (arith, weight, whole, later)
-puts_count (full ∷ os) =
-    let weight : sum_by is_put (full ∷ os) ≡ 0 + sum_by is_put os = sum_by-cons is_put (full) os in
-    let whole : length (puts_of (full ∷ os)) ≡ length (puts_of os) = refl in
-    let later = puts_count os in
-    omega (arith, weight, whole, later)
-
-gots_count : (os : List Operation) → sum_by is_got os ≡ length (gots_of os)
-gots_count [] = refl
-gots_count (put value ∷ os) =
-    let weight : sum_by is_got (put value ∷ os) ≡ 0 + sum_by is_got os = sum_by-cons is_got (put value) os in
-    let whole : length (gots_of (put value ∷ os)) ≡ length (gots_of os) = refl in
-    let later = gots_count os in
-    omega (arith, weight, whole, later)
-gots_count (got value ∷ os) =
-    let weight : sum_by is_got (got value ∷ os) ≡ 1 + sum_by is_got os = sum_by-cons is_got (got value) os in
-    let whole : length (gots_of (got value ∷ os)) ≡ suc (length (gots_of os)) = refl in
-    let later = gots_count os in
-    omega (arith, weight, whole, later)
-gots_count (empty ∷ os) =
-    let weight : sum_by is_got (empty ∷ os) ≡ 0 + sum_by is_got os = sum_by-cons is_got (empty) os in
-    let whole : length (gots_of (empty ∷ os)) ≡ length (gots_of os) = refl in
-    let later = gots_count os in
-    omega (arith, weight, whole, later)
-gots_count (full ∷ os) =
-    let weight : sum_by is_got (full ∷ os) ≡ 0 + sum_by is_got os = sum_by-cons is_got (full) os in
-    let whole : length (gots_of (full ∷ os)) ≡ length (gots_of os) = refl in
-    let later = gots_count os in
-    omega (arith, weight, whole, later)
+gots_count : (os : List Operation) → sum_by (got_weight (λ x. 1)) os ≡ length (gots_of os)
+gots_count os = gots_weigh (λ x. 1) os ∙ ones_long (gots_of os)
 
 -- the operations of all are those of the four
 four_terms : (f : ℕ → ℕ) → sum_by f (range_with_len 1 4) ≡ f 1 + (f 2 + (f 3 + f 4))
@@ -261,8 +224,8 @@ module _ (count : ℕ) (history : List Entry) (small : count ≤ 390) (run : IsQ
       let order = ap (length {A = ℕ}) of_queue.order ∙ length-append (gots_of fixed_all) of_queue.left in
       let puts = puts_count fixed_all in
       let gots = gots_count fixed_all in
-      let puts_are = shared is_put in
-      let gots_are = shared is_got in
+      let puts_are = shared (put_weight (λ x. 1)) in
+      let gots_are = shared (got_weight (λ x. 1)) in
       let p0 = puts_count (ended_in MakesAnchor (entries 0)) in
       let p1 = puts_count (ended_in Joins (entries 1)) in
       let p2 = puts_count (ended_in Joins (entries 2)) in
@@ -283,36 +246,50 @@ module _ (count : ℕ) (history : List Entry) (small : count ≤ 390) (run : IsQ
         second = none_long (gots_of (ended_in Joins (entries 1))) (omega (arith, order, puts, gots, puts_are, gots_are, p0, p1, p2, p3, g0, g1, g2, g3, n0, n1, n2, n3, t2, t3));
       }
 
+  -- what the takers got weighs what was put, by any weight of numbers
+  all_weigh : (weight : ℕ → ℕ) → sum_by weight (gots_of (ended_in Joins (entries 2))) + sum_by weight (gots_of (ended_in Joins (entries 3)))
+      ≡ sum_by weight (range_with_len 1000001 count) + sum_by weight (range_with_len 2000001 count)
+  all_weigh weight =
+      let fixed_all = fixed first_spot history in
+      let order : sum_by weight (puts_of fixed_all) ≡ sum_by weight (gots_of fixed_all) + sum_by weight of_queue.left = ap (sum_by weight) of_queue.order ∙ sum_by-append weight (gots_of fixed_all) of_queue.left in
+      let left : sum_by weight of_queue.left ≡ 0 = ap (sum_by weight) all_got.left in
+      let puts = puts_weigh weight fixed_all in
+      let gots = gots_weigh weight fixed_all in
+      let puts_are = shared (put_weight weight) in
+      let gots_are = shared (got_weight weight) in
+      let p0 = puts_weigh weight (ended_in MakesAnchor (entries 0)) in
+      let p1 = puts_weigh weight (ended_in Joins (entries 1)) in
+      let p2 = puts_weigh weight (ended_in Joins (entries 2)) in
+      let p3 = puts_weigh weight (ended_in Joins (entries 3)) in
+      let g0 = gots_weigh weight (ended_in MakesAnchor (entries 0)) in
+      let g1 = gots_weigh weight (ended_in Joins (entries 1)) in
+      let g2 = gots_weigh weight (ended_in Joins (entries 2)) in
+      let g3 = gots_weigh weight (ended_in Joins (entries 3)) in
+      let n0 = ap (sum_by weight) puts_first in
+      let n1 = ap (sum_by weight) puts_second in
+      let n2 : sum_by weight (puts_of (ended_in Joins (entries 2))) ≡ 0 = ap (sum_by weight) third_took.no_put in
+      let n3 : sum_by weight (puts_of (ended_in Joins (entries 3))) ≡ 0 = ap (sum_by weight) fourth_took.no_put in
+      let z0 : sum_by weight (gots_of (ended_in MakesAnchor (entries 0))) ≡ 0 = ap (sum_by weight) all_got.first in
+      let z1 : sum_by weight (gots_of (ended_in Joins (entries 1))) ≡ 0 = ap (sum_by weight) all_got.second in
+      omega (arith, order, left, puts, gots, puts_are, gots_are, p0, p1, p2, p3, g0, g1, g2, g3, n0, n1, n2, n3, z0, z1)
+
   pub tells_queue : TellsQueue count history
   tells_queue = record {
     no_full = none_is_refused count history small run;
+    order =
+        let gots = gots_of (fixed first_spot history) in
+        sym (of_queue.order ∙ ap (λ l. gots ++ l) all_got.left ∙ append-nil gots);
+    numbers = λ value.
+        let weight : ℕ → ℕ = λ n. if n == value then 1 else 0 in
+        sum_by-append weight (gots_of (ended_in Joins (entries 2))) (gots_of (ended_in Joins (entries 3))) ∙ all_weigh weight
+        ∙ sym (sum_by-append weight (range_with_len 1000001 count) (range_with_len 2000001 count));
     items = let a : (got_in count history 2).items ≡ length (gots_of (ended_in Joins (entries 2))) = third_took.items in let b : (got_in count history 3).items ≡ length (gots_of (ended_in Joins (entries 3))) = fourth_took.items in let t2 = third_all in let t3 = fourth_all in omega (arith, a, b, t2, t3);
     sum =
-        let fixed_all = fixed first_spot history in
-        let order : sum (puts_of fixed_all) ≡ sum (gots_of fixed_all) + sum of_queue.left = ap sum of_queue.order ∙ sum_by-append (λ x. x) (gots_of fixed_all) of_queue.left in
-        let left : sum of_queue.left ≡ 0 = ap sum all_got.left in
-        let puts = puts_sum fixed_all in
-        let gots = gots_sum fixed_all in
-        let puts_are = shared put_in in
-        let gots_are = shared got_of in
-        let p0 = puts_sum (ended_in MakesAnchor (entries 0)) in
-        let p1 = puts_sum (ended_in Joins (entries 1)) in
-        let p2 = puts_sum (ended_in Joins (entries 2)) in
-        let p3 = puts_sum (ended_in Joins (entries 3)) in
-        let g0 = gots_sum (ended_in MakesAnchor (entries 0)) in
-        let g1 = gots_sum (ended_in Joins (entries 1)) in
-        let g2 = gots_sum (ended_in Joins (entries 2)) in
-        let g3 = gots_sum (ended_in Joins (entries 3)) in
-        let n0 = ap sum puts_first in
-        let n1 = ap sum puts_second in
-        let n2 : sum (puts_of (ended_in Joins (entries 2))) ≡ 0 = ap sum third_took.no_put in
-        let n3 : sum (puts_of (ended_in Joins (entries 3))) ≡ 0 = ap sum fourth_took.no_put in
-        let z0 : sum (gots_of (ended_in MakesAnchor (entries 0))) ≡ 0 = ap sum all_got.first in
-        let z1 : sum (gots_of (ended_in Joins (entries 1))) ≡ 0 = ap sum all_got.second in
         let s2 : (got_in count history 2).sum ≡ sum (gots_of (ended_in Joins (entries 2))) = third_took.sum in
         let s3 : (got_in count history 3).sum ≡ sum (gots_of (ended_in Joins (entries 3))) = fourth_took.sum in
+        let all : sum (gots_of (ended_in Joins (entries 2))) + sum (gots_of (ended_in Joins (entries 3))) ≡ sum (range_with_len 1000001 count) + sum (range_with_len 2000001 count) = all_weigh (λ x. x) in
         let rows = both_rows count in
-        omega (arith, order, left, puts, gots, puts_are, gots_are, p0, p1, p2, p3, g0, g1, g2, g3, n0, n1, n2, n3, z0, z1, s2, s3, rows);
+        omega (arith, s2, s3, all, rows);
   }
 
 pub queue_runs_tell : QueueRunsTell

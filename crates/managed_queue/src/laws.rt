@@ -38,8 +38,8 @@ pub fn few_are_live()
     ensures { FewAreLive }
 {}
 
-/// A law: where two users put so many numbers each and two take as many, in a heap of 16 regions of 256 words, no allocation is
-/// refused, and the takers got all numbers that were put.
+/// A law: where two users put so many numbers each, at most 390, and two take as many, in a heap of 16 regions of 256 words, no
+/// allocation is refused; what was taken is what was put, in that order; and the two takers got each number as often as it was put.
 pub fn queue_runs_tell()
     ensures { QueueRunsTell }
 {}

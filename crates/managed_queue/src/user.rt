@@ -138,6 +138,15 @@ impl User {
     }
 }
 
+/// One that only joins.
+impl Default for User {
+    fn default() -> User
+        ensures { result ≡ users.taker 0 }
+    {
+        User::taker(0)
+    }
+}
+
 /// It goes on by the table, and no reply raises the number of allocations to come.
 impl Driver for User {
     ghost use Rattle.managed_queue.specs.Users as users;

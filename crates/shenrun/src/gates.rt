@@ -98,6 +98,11 @@ fn gate_two_threads(rt: HostRuntime) -> Result<(), Fail> {
         "churn 7 10\nthreads 3\ncommands 246\nbad 0\nfull 0\nobjects 34\nwords 328\nsum 375\n";
     assert!(rt; churn.is_some_and(|it| it.as_slice() == summary.as_bytes()));
     assert!(rt; gate.has_seen(3, 492));
+    let gate = Held::until(1);
+    let queue = answer(&rt, rt.alloc(), &["queue", "5"], "", &gate)?;
+    let taken = "queue 5\nitems 10\nsum 15000030\n";
+    assert!(rt; queue.is_some_and(|it| it.as_slice() == taken.as_bytes()));
+    assert!(rt; gate.has_seen(3, 186));
     Ok(())
 }
 

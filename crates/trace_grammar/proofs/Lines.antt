@@ -201,7 +201,7 @@ valid_within command.Gc v f = tt
 
 -- ---- lines
 
-command_takes : (bytes : List ℕ) (x : Command × List ℕ) → spelled_command bytes ≡ Some x → (bytes ≡ command_word x.0 ++ (numbers (numbers_of x.0) ++ x.1)) × IsValid x.0 × FitsWhenWritten x.0
+pub command_takes : (bytes : List ℕ) (x : Command × List ℕ) → spelled_command bytes ≡ Some x → (bytes ≡ command_word x.0 ++ (numbers (numbers_of x.0) ++ x.1)) × IsValid x.0 × FitsWhenWritten x.0
 unfolding spelled_command
 command_takes bytes x e =
     then_some (kind_among kinds bytes) (λ k. numbers_at (limits k.0) k.1 >>= λ ns. Some (command_from k.0 ns.0, ns.1)) x e (λ k at_k e1.
@@ -213,7 +213,7 @@ command_takes bytes x e =
     let spelled : bytes ≡ command_word made.0 ++ (numbers (numbers_of made.0) ++ made.1) = rw (made_word k.0 ns.0, made_numbers k.0 ns.0 rest.1) (kind ∙ ap (λ (bs : List ℕ). word k.0 ++ bs) rest.0) in
     subst (λ (y : Command × List ℕ). (bytes ≡ command_word y.0 ++ (numbers (numbers_of y.0) ++ y.1)) × IsValid y.0 × FitsWhenWritten y.0) (same_some made x e2) (spelled, valid.0, valid.1)))
 
-command_again_at : (c : Command) (rest : List ℕ) → IsValid c → FitsWhenWritten c → NoDigit rest → spelled_command (command_word c ++ (numbers (numbers_of c) ++ rest)) ≡ Some (c, rest)
+pub command_again_at : (c : Command) (rest : List ℕ) → IsValid c → FitsWhenWritten c → NoDigit rest → spelled_command (command_word c ++ (numbers (numbers_of c) ++ rest)) ≡ Some (c, rest)
 unfolding spelled_command
 command_again_at c rest valid fits none =
     rw (← word_again c, kind_again (kind_of c) (numbers (numbers_of c) ++ rest), numbers_again (limits (kind_of c)) (numbers_of c) rest (valid_within c valid fits) (limits_small (kind_of c)) none, command_again c) refl

@@ -11,6 +11,8 @@ mod why;
 pub use kind::CommandKind;
 pub use kind_scan::kind_at;
 pub use laws::traces_are_read_once;
-pub use scan::{digits_at, is_numeral, number_in, numbers_at, positive_at, text_at, value_of};
+pub use scan::{
+    digits_at, is_numeral, number_at, number_in, numbers_at, positive_at, text_at, value_of,
+};
 pub use trace::{Scripts, Trace};
 pub use why::Why;

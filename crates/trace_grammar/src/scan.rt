@@ -68,7 +68,7 @@ fn numeral(limit: u64, digits: &[u8]) -> Option<u64>
 
 /// The number that the digits at the front spell, at most a limit, and the bytes behind it.
 #[tactic(auto, unfolding(crate::specs::Scanning::spelled_number))]
-fn number_at(limit: u64, bytes: &[u8]) -> Option<(u64, &[u8])>
+pub fn number_at(limit: u64, bytes: &[u8]) -> Option<(u64, &[u8])>
     ensures { option_map (λ x. (x.0, x.1.now)) result ≡ spelled_number limit bytes.now }
 {
     let (digits, rest) = bytes.split_at(digits_at(bytes));

@@ -1,7 +1,7 @@
 ghost use Rattle.std.specs.Prelude.{◌≡◌};
 ghost use Rattle.trace_grammar.specs.Why.{text_of};
 
-/// Why a line of a trace is refused.
+/// Why a line of a trace is refused, or one of what stands behind a trace.
 #[derive(Clone, Copy, Debug, PartialEq, Eq)]
 pub enum Why {
     /// The input ends within the line, or where a line of the head is to come: `end of line wanted`.
@@ -18,6 +18,12 @@ pub enum Why {
     Number,
     /// A number is outside its range: `out of range`.
     Range,
+    /// A line `answer` is to come behind the trace: `answer wanted`.
+    AnswerWanted,
+    /// A line `history` is to come behind the body: `history wanted`.
+    HistoryWanted,
+    /// A line of the history is none of an entry: `entry wanted`.
+    EntryWanted,
 }
 
 impl Why {
@@ -33,6 +39,9 @@ impl Why {
             Why::Item => b"item wanted",
             Why::Number => b"number wanted",
             Why::Range => b"out of range",
+            Why::AnswerWanted => b"answer wanted",
+            Why::HistoryWanted => b"history wanted",
+            Why::EntryWanted => b"entry wanted",
         }
     }
 }

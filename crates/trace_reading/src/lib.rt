@@ -9,4 +9,6 @@ mod schedule_lines;
 mod source_bytes;
 
 pub use fault::TraceFault;
-pub use read::read_trace;
+pub use line::command_at;
+pub use read::{read_trace, trace_of};
+pub use source_bytes::all_bytes;

@@ -8,7 +8,7 @@ use trace_grammar::{kind_at, numbers_at, positive_at, text_at};
 
 /// The command at the front, and what is behind its numbers.
 #[tactic(auto, unfolding(trace_grammar::specs::Scanning::spelled_command))]
-fn command_at(bytes: &[u8]) -> Option<(Command, &[u8])>
+pub fn command_at(bytes: &[u8]) -> Option<(Command, &[u8])>
     ensures { option_map (λ x. (x.0, x.1.now)) result ≡ spelled_command bytes.now }
 {
     let (kind, rest) = kind_at(bytes)?;

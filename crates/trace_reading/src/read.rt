@@ -157,8 +157,8 @@ fn empty_scripts(alloc: Global, threads: u32) -> Result<Vec<Script>, TraceFault>
     Ok(scripts)
 }
 
-/// The trace that these bytes spell.
-fn trace_of(alloc: Global, bytes: &[u8]) -> Result<Trace, TraceFault>
+/// The trace that these bytes spell; or the first line that is refused, or `NoMemory`.
+pub fn trace_of(alloc: Global, bytes: &[u8]) -> Result<Trace, TraceFault>
     requires { length bytes.now ≤ most_bytes }
     ensures ok { IfOk result (λ trace. Reads bytes.now trace.config trace.scripts trace.schedule) }
     ensures fault { IfErr result IsTextFault }

@@ -59,7 +59,7 @@ fn read_piece<S: Source>(
 
 /// Reads to the end of the source, or until one byte more came than a trace may have. Each call but the last gives at
 /// least one byte.
-pub(crate) fn all_bytes<S: Source>(alloc: Global, source: &mut S) -> Result<Vec<u8>, TraceFault>
+pub fn all_bytes<S: Source>(alloc: Global, source: &mut S) -> Result<Vec<u8>, TraceFault>
     ensures ok { IfOk result (λ bytes. Came (S.left source.old) (S.left source.new) bytes.items × (length bytes.items ≤ most_bytes)) }
     ensures too_long { (n : ℕ) → result ≡ Err (TraceFault.TooLong n) → (n ≡ most_bytes + 1)
         × ((bytes : List ℕ) × Consumes (S.left source.old) (S.left source.new) bytes × (length bytes ≡ most_bytes + 1)) }

@@ -41,7 +41,7 @@ fn most_reserved(text: &[u8]) -> u64
 }
 
 /// The line at the front, if it has an end, and the bytes behind it.
-fn line_at(bytes: &[u8]) -> Option<(&[u8], &[u8])>
+pub fn line_at(bytes: &[u8]) -> Option<(&[u8], &[u8])>
     ensures { MatchOption result ((text : List ℕ) × (parts 10 bytes.now ≡ text ∷ [])) (λ x. parts 10 bytes.now ≡ x.0.now ∷ parts 10 x.1.now) }
 {
     let (text, end) = cut(b'\n', bytes);

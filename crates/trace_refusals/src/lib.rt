@@ -9,5 +9,5 @@ mod numbers;
 mod parts;
 
 pub use body::body_refusal;
-pub use head::{Refusal, head_refusal};
+pub use head::{Refusal, head_refusal, line_at};
 pub use laws::bytes_are_read_or_refused;

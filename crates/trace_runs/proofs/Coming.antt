@@ -35,7 +35,9 @@ use Rattle.table_heap.proofs.Running.{role_at}
 use Rattle.trace_grammar.specs.Grammar.{Reads}
 use Rattle.trace_writing.specs.Answer.{answer_text}
 use Rattle.trace_runs.specs.declared.parts.Part.{Part}
-use Rattle.trace_runs.specs.DealtParts.{IsDone}
+use Rattle.trace_runs.specs.declared.load.Load.TheVariants.{Scripted}
+use Rattle.trace_runs.specs.DealtParts.{Assigned, LoadIsDone, IsDone}
+use Rattle.trace_runs.specs.DealtParts.Assigned.{scripts as by_scripts}
 use Rattle.trace_runs.specs.Replayed.{IsWhole, IsRun}
 use Rattle.trace_runs.specs.Running.{HasCome}
 use Rattle.trace_runs.proofs.Whole as ends
@@ -48,7 +50,7 @@ some_from (Some x) e = (x, refl)
 all_dealt : (x w n m : ℕ) → x < w → n < m → (nat_lt n m && (nat_le 0 x && nat_lt x w)) ≡ true
 all_dealt x w n m low below = grind (arith, nat_tests)
 
-module _ (h : Heap) (scripts : Scripts) (w : ℕ) (all : Part) (some : 0 < w) (done : IsDone h scripts w 0 w all) where
+module _ (h : Heap) (assigned : Assigned) (w : ℕ) (all : Part) (some : 0 < w) (done : IsDone h assigned w 0 w all) where
   machine_there : (n : ℕ) → n < seat_count (config_of h).mutators (config_of h).helpers → is_some (machine_of (view_of all.bundle) n) ≡ true
   machine_there n below = done.has.machines n ∙ all_dealt (n % w) w n (seat_count (config_of h).mutators (config_of h).helpers) (mod-lt n some) below
 
@@ -63,33 +65,42 @@ module _ (h : Heap) (scripts : Scripts) (w : ℕ) (all : Part) (some : 0 < w) (d
   pub control_idle : IsControlIdle all.bundle
   control_idle a here = idle_takes a.machine (done.idle _ a here)
 
-  module _ (end : Closed) (config : closed.config_of end ≡ config_of h) (view : view_of all.bundle ≡ whole (closed.machines_of end))
-      (leads : IsReached (heap_kind (config_of h)) (heap_opening (config_of h)) (closed.stage_of end)) where
-    at : (n : ℕ) → machine_of (view_of all.bundle) n ≡ slice_get (closed.machines_of end) n
+  pub mutates : (t : ℕ) (a : Actor) → machine_of (view_of all.bundle) t ≡ Some a → t < (config_of h).mutators → is_mutating a.machine ≡ true
+  mutates t a here below = role_at all.bundle t a here ∙ ap (λ (c : Config). nat_lt t c.mutators) same ∙ lt-ltb t (config_of h).mutators below
+
+  -- each mutator is there
+  pub mutator_there : (t : ℕ) → t < (config_of h).mutators → (a : Actor) × (machine_of (view_of all.bundle) t ≡ Some a)
+  mutator_there t below = some_from (machine_of (view_of all.bundle) t) (machine_there t (omega (arith, below)))
+
+  module _ (end : Closed) (view : view_of all.bundle ≡ whole (closed.machines_of end)) where
+    pub at : (n : ℕ) → machine_of (view_of all.bundle) n ≡ slice_get (closed.machines_of end) n
     at n = ap (λ v. machine_of v n) view ∙ machine_of-whole (closed.machines_of end) n
 
-    seen : (n : ℕ) (a : Actor) → slice_get (closed.machines_of end) n ≡ Some a → machine_of (view_of all.bundle) n ≡ Some a
+    pub seen : (n : ℕ) (a : Actor) → slice_get (closed.machines_of end) n ≡ Some a → machine_of (view_of all.bundle) n ≡ Some a
     seen n a here = at n ∙ here
 
-    pub come : HasCome (config_of h) scripts all.work end
-    come = record {
+    -- no machine has a turn, whatever the scripts
+    pub all_idle : (scripts : Scripts) → AreIdle (config_of h) scripts (closed.stage_of end)
+    all_idle scripts n below = by_actor (slice_get (closed.machines_of end) n) refl
+      where
+        by_actor : (o : Option Actor) → slice_get (closed.machines_of end) n ≡ o → turn scripts (closed.stage_of end) n ≡ None
+        by_actor None e = ap (turn_of scripts n) e
+        by_actor (Some a) e = idle_turn scripts (closed.stage_of end) n a e (done.idle n a (seen n a e))
+
+    -- all scripts were called
+    pub come : (scripts : Scripts) (jobs : Jobs) → LoadIsDone (config_of h) (by_scripts scripts) w 0 w (view_of all.bundle) (Scripted jobs) → closed.config_of end ≡ config_of h
+        → IsReached (heap_kind (config_of h)) (heap_opening (config_of h)) (closed.stage_of end) → HasCome (config_of h) scripts jobs end
+    come scripts jobs did config leads = record {
       config = config;
       reached = leads;
-      idle = λ n below. by_actor n (slice_get (closed.machines_of end) n) refl;
+      idle = all_idle scripts;
       called = λ t below.
-          let found = some_from (machine_of (view_of all.bundle) t) (machine_there t (omega (arith, below))) in
-          let did = done.done t found.0 found.1 (mutates t found.0 found.1 below) in
-          record { actor = found.0; here = sym (at t) ∙ found.1; called = did.whole };
-      replies = λ t a below here. (done.done t a (seen t a here) (mutates t a (seen t a here) below)).told;
-      jobs_are = λ t below. done.has.jobs t ∙ all_dealt (t % w) w t (config_of h).mutators (mod-lt t some) below;
+          let found = mutator_there t below in
+          let called = did.1 t found.0 found.1 (mutates t found.0 found.1 below) in
+          record { actor = found.0; here = sym (at t) ∙ found.1; called = called.whole };
+      replies = λ t a below here. (did.1 t a (seen t a here) (mutates t a (seen t a here) below)).told;
+      jobs_are = λ t below. did.0.numbers t ∙ all_dealt (t % w) w t (config_of h).mutators (mod-lt t some) below;
     }
-      where
-        mutates : (t : ℕ) (a : Actor) → machine_of (view_of all.bundle) t ≡ Some a → t < (config_of h).mutators → is_mutating a.machine ≡ true
-        mutates t a here below = role_at all.bundle t a here ∙ ap (λ (c : Config). nat_lt t c.mutators) same ∙ lt-ltb t (config_of h).mutators below
-
-        by_actor : (n : ℕ) (o : Option Actor) → slice_get (closed.machines_of end) n ≡ o → turn scripts (closed.stage_of end) n ≡ None
-        by_actor n None e = ap (turn_of scripts n) e
-        by_actor n (Some a) e = idle_turn scripts (closed.stage_of end) n a e (done.idle n a (seen n a e))
 
 -- in the end no mutator has a call in progress
 pub come_rest : (c : Config) (scripts : Scripts) (jobs : Jobs) (end : Closed) → HasCome c scripts jobs end → closed.AllRest end

@@ -1,5 +1,5 @@
--- Where the words ask for a replay or a run, a trace comes and nothing fails, the other statuses cannot be; nor can those of a
--- trace where they ask for a churn.
+-- Where nothing fails, the statuses that are left by what the words ask for: where that reads a trace and one comes, and where it
+-- reads nothing.
 use Rattle.std.proofs.Common.{◌≡◌, ◌⊎◌, inl, inr, ℕ, ◌≤◌, List, ◌++◌, length, Option, Some, None, refl, sym, ap, subst, ◌∙◌, arith}
 use Rattle.std.specs.Io.KnownBytes.{Consumes, IsAtEnd}
 use Rattle.std.proofs.lemmas.List.{length-append, append-nil}
@@ -9,13 +9,13 @@ use Rattle.heap_words.specs.declared.config.Config.{Config}
 use Rattle.heap_words.specs.declared.schedule.Item.{Item}
 use Rattle.trace_grammar.specs.Grammar.{Came, Reads}
 use Rattle.trace_refusals.proofs.Exact.{never_both}
-use Rattle.trace_writing.specs.Message.{line_text}
-use Rattle.trace_writing.specs.declared.message.Line.TheVariants.{TooLong}
+use Rattle.trace_runs.specs.declared.mode.Mode.{Mode}
+use Rattle.trace_runs.specs.declared.mode.Mode.TheVariants.{Replay, Noted, Run, Churn, Queue}
 use Rattle.trace_runs.specs.declared.status.Status.{Status}
 use Rattle.trace_runs.specs.declared.status.Status.TheVariants.{Ok, BadWords, BadTrace, Unfinished, ReadFault, WriteFault, NoMemory}
-use Rattle.trace_runs.specs.Words.{IsReplay, AskReplay, IsNotedReplay, AskNoted, AskTrace, AskChurn}
-use Rattle.trace_runs.specs.Answered.{Input, Output, IsRefused, IsTooLong, StatusFits, IsReplayStatus}
-use Rattle.trace_runs.proofs.Words.{churn_reads_none}
+use Rattle.trace_runs.specs.Words.{Asked}
+use Rattle.trace_runs.specs.Answered.{Input, Output, ReadsTrace, ReadsNothing, bound_of, IsRefused, IsTooLong, StatusFits, IsTraceStatus}
+use Rattle.trace_runs.proofs.Words.{asks_alike}
 
 -- what came from known bytes to their end is these bytes
 came_all : (bytes other : List ℕ) (before after : Option (List ℕ)) → before ≡ Some bytes → Came before after other → other ≡ bytes
@@ -34,38 +34,45 @@ came_short bytes other before after told taken = by_after after (subst (λ (b : 
     by_after (Some rest) taken = omega (arith, ap length taken, length-append other rest)
 
 no_bad_trace : (input : Input) (out bytes : List ℕ) (config : Config) (scripts : List (List Command)) (items : List Item) → input.before ≡ Some bytes → Reads bytes config scripts items
-    → IsRefused input.before input.after out ⊎ (IsTooLong input.before input.after × (out ≡ line_text TooLong)) → ⊥
-no_bad_trace input out bytes config scripts items told reads (inl refused) =
-    never_both refused.0 config scripts items refused.1 refused.2 (subst (λ (bs : List ℕ). Reads bs config scripts items) (sym (came_all bytes refused.0 input.before input.after told refused.3)) reads) refused.4.0
+    → IsRefused input out ⊎ IsTooLong input out → ⊥
+no_bad_trace input out bytes config scripts items told reads (inl bad) =
+    let read = bad.refused in
+    never_both read.bytes config scripts items bad.number bad.why (subst (λ (bs : List ℕ). Reads bs config scripts items) (sym (came_all bytes read.bytes input.before input.after told read.came)) reads) read.is.0
 no_bad_trace input out bytes config scripts items told reads (inr long) =
-    absurd (omega (arith, came_short bytes long.0.0 input.before input.after told long.0.1, long.0.2, reads.short))
-
--- who asks for so many steps of either replay asks for it
-asks_replay : (words : List (List ℕ)) (steps : ℕ) → IsReplay words steps ⊎ IsNotedReplay words steps → AskReplay words ⊎ AskNoted words
-asks_replay words steps (inl replay) = inl (steps, replay)
-asks_replay words steps (inr noted) = inr (steps, noted)
-
-asks_trace : (words : List (List ℕ)) (steps : ℕ) → IsReplay words steps ⊎ IsNotedReplay words steps → AskTrace words
-asks_trace words steps (inl replay) = inl (steps, replay)
-asks_trace words steps (inr noted) = inr (inl (steps, noted))
+    absurd (omega (arith, came_short bytes long.bytes input.before input.after told long.taken, long.many, reads.short))
 
 pub complete : (words : List (List ℕ)) (input : Input) (output : Output) (status : Status) → StatusFits words input output status
-    → (bytes : List ℕ) (config : Config) (scripts : List (List Command)) (items : List Item) → AskTrace words → input.before ≡ Some bytes → Reads bytes config scripts items
-    → (Rose input.faults_before input.faults_after → ⊥) → (Rose output.before.faults output.after.faults → ⊥) → IsReplayStatus words status
-complete words input output Ok answered bytes config scripts items asked told reads read_fine written_fine = tt
-complete words input output BadWords answered bytes config scripts items asked told reads read_fine written_fine = answered.1.0 (inl asked)
-complete words input output BadTrace answered bytes config scripts items asked told reads read_fine written_fine = no_bad_trace input answered.0 bytes config scripts items told reads answered.1.1
-complete words input output Unfinished answered bytes config scripts items asked told reads read_fine written_fine = asks_replay words answered.1.0 answered.1.1
-complete words input output ReadFault answered bytes config scripts items asked told reads read_fine written_fine = read_fine answered.1.1
-complete words input output WriteFault answered bytes config scripts items asked told reads read_fine written_fine = written_fine answered.0
-complete words input output NoMemory answered bytes config scripts items asked told reads read_fine written_fine = tt
+    → (bytes : List ℕ) (config : Config) (scripts : List (List Command)) (items : List Item) → Asked words ReadsTrace → input.before ≡ Some bytes → Reads bytes config scripts items
+    → (Rose input.faults_before input.faults_after → ⊥) → (Rose output.before.faults output.after.faults → ⊥) → IsTraceStatus words status
+complete words input output Ok fits bytes config scripts items asked told reads read_fine written_fine = tt
+complete words input output BadWords fits bytes config scripts items asked told reads read_fine written_fine = fits.allowed.0 (asked.0, asked.1)
+complete words input output BadTrace fits bytes config scripts items asked told reads read_fine written_fine = no_bad_trace input fits.out bytes config scripts items told reads fits.allowed.1
+complete words input output Unfinished fits bytes config scripts items asked told reads read_fine written_fine =
+    let cut = fits.allowed in
+    (cut.0, cut.1, (cut.2.steps, cut.2.limit))
+complete words input output ReadFault fits bytes config scripts items asked told reads read_fine written_fine = read_fine fits.allowed.1
+complete words input output WriteFault fits bytes config scripts items asked told reads read_fine written_fine = written_fine fits.failed
+complete words input output NoMemory fits bytes config scripts items asked told reads read_fine written_fine = tt
 
-pub churned : (words : List (List ℕ)) (input : Input) (output : Output) (status : Status) → StatusFits words input output status → AskChurn words → (Rose output.before.faults output.after.faults → ⊥)
+-- a mode of which the steps are bounded reads a trace
+limited_reads : (mode : Mode) (steps : ℕ) → bound_of mode ≡ Some steps → ReadsTrace mode
+limited_reads (Replay n) steps limited = tt
+limited_reads (Noted n) steps limited = tt
+limited_reads (Run workers) steps limited = tt
+limited_reads (Churn load) steps limited = absurd cc
+limited_reads (Queue count) steps limited = absurd cc
+
+reads_none : (words : List (List ℕ)) → Asked words ReadsNothing → Asked words ReadsTrace → ⊥
+reads_none words none reads = asks_alike words reads.0 none.0 reads.1 none.1 reads.2 none.2
+
+pub made : (words : List (List ℕ)) (input : Input) (output : Output) (status : Status) → StatusFits words input output status → Asked words ReadsNothing → (Rose output.before.faults output.after.faults → ⊥)
     → (status ≡ Ok) ⊎ (status ≡ NoMemory)
-churned words input output Ok answered asked written_fine = inl refl
-churned words input output BadWords answered asked written_fine = absurd (answered.1.0 (inr asked))
-churned words input output BadTrace answered asked written_fine = absurd (churn_reads_none words asked answered.1.0)
-churned words input output Unfinished answered asked written_fine = absurd (churn_reads_none words asked (asks_trace words answered.1.0 answered.1.1))
-churned words input output ReadFault answered asked written_fine = absurd (churn_reads_none words asked answered.1.0)
-churned words input output WriteFault answered asked written_fine = absurd (written_fine answered.0)
-churned words input output NoMemory answered asked written_fine = inr refl
+made words input output Ok fits asked written_fine = inl refl
+made words input output BadWords fits asked written_fine = absurd (fits.allowed.0 (asked.0, asked.1))
+made words input output BadTrace fits asked written_fine = absurd (reads_none words asked fits.allowed.0)
+made words input output Unfinished fits asked written_fine =
+    let cut = fits.allowed in
+    absurd (asks_alike words cut.0 asked.0 cut.1 asked.1 (limited_reads cut.0 cut.2.steps cut.2.limit) asked.2)
+made words input output ReadFault fits asked written_fine = absurd (reads_none words asked fits.allowed.0)
+made words input output WriteFault fits asked written_fine = absurd (written_fine fits.failed)
+made words input output NoMemory fits asked written_fine = inr refl

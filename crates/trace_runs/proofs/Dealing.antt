@@ -23,7 +23,9 @@ use Rattle.table_heap.specs.State.{config_of, IsFresh}
 use Rattle.table_heap.specs.Running.{Jobs}
 use Rattle.heap_machines.proofs.Openings.{first_count}
 use Rattle.table_heap.proofs.Starting.{fresh_can_start}
-use Rattle.trace_runs.specs.DealtParts.{PartIsReady, CanBeDealt}
+use Rattle.trace_runs.specs.declared.load.Load.TheVariants.{Scripted}
+use Rattle.trace_runs.specs.DealtParts.{PartIsReady, BundlesAreFresh, CanBeDealt}
+use Rattle.trace_runs.specs.DealtParts.Assigned.{scripts as by_scripts}
 
 -- ---- tests and options
 
@@ -96,7 +98,7 @@ module _ (h : Heap) (scripts : Scripts) (first : Jobs) (bundles : List Bundle) (
   some_begun None = refl
   some_begun (Some x) = refl
 
-  pub ready_part : PartIsReady h scripts workers k (k + 1) (record { bundle = b; work = parted workers k now })
+  pub ready_part : PartIsReady h (by_scripts scripts) workers k (k + 1) (record { bundle = b; load = Scripted (parted workers k now) })
   ready_part = record {
     has = record {
       of = fresh.of;
@@ -105,7 +107,9 @@ module _ (h : Heap) (scripts : Scripts) (first : Jobs) (bundles : List Bundle) (
           ∙ ap is_some (machine_of-picked (is_dealt_to workers k) (whole (heap_opening (config_of h)).machines) n)
           ∙ one_dealt (machine_of (whole (heap_opening (config_of h)).machines) n) (nat_lt n (seat_count (config_of h).mutators (config_of h).helpers)) (n % workers) k
           (ap is_some (machine_of-whole (heap_opening (config_of h)).machines n) ∙ some_within (heap_opening (config_of h)).machines n nobody ∙ ap (nat_lt n) (first_count (config_of h)));
-      jobs = λ n.
+    };
+    load = record {
+      numbers = λ n.
           ap is_some (job_at n)
           ∙ one_dealt (option_map begun (slice_get scripts n)) (nat_lt n (config_of h).mutators) (n % workers) k
           (some_begun (slice_get scripts n) ∙ some_within scripts n [] ∙ ap (nat_lt n) can.count);

@@ -4,9 +4,11 @@ pub mod Scripts
 pub mod Ran
 pub mod Whole
 pub mod Complete
+pub mod Crews
 pub mod PartLaws
 pub mod Dealing
 pub mod Coming
 pub mod Loops
 pub mod Churned
+pub mod Queued
 pub mod Texts

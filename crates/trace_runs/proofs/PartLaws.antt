@@ -1,10 +1,13 @@
 -- Parts of a heap's machines: dealt, joined and run.
-use Rattle.std.proofs.Common.{◌≡◌, ◌⊎◌, inl, inr, ⊎_elim, ℕ, ◌+◌, ◌<◌, ◌≤◌, ◌&&◌, ◌||◌, Bool, true, false, [], length, All, Option, Some, None, refl, sym, ap, ◌∙◌, subst, arith}
-use Rattle.std.specs.Prelude.{◌%◌, nat_lt, nat_le, unwrap_or, IsSome}
+use Rattle.std.proofs.Common.{◌≡◌, ◌⊎◌, inl, inr, ⊎_elim, ℕ, ◌+◌, ◌-◌, ◌<◌, ◌≤◌, ◌&&◌, ◌||◌, Bool, true, false, List, [], ◌++◌, length, All, Option, Some, None, refl, sym, ap, ◌∙◌, subst, arith}
+use Rattle.std.specs.Prelude.{◌%◌, nat_lt, nat_le, unwrap_or, IsSome, slice_get, min}
+use Rattle.std.proofs.Math.Nat.{mod-eq_of_lt}
+use Rattle.std.proofs.lemmas.List.{length-append}
+use Rattle.std.proofs.lemmas.List.Elements.{All-append}
 use Rattle.std.specs.Option.{is_some}
 use Rattle.std.proofs.lemmas.List.{get_or_past}
 use Rattle.std.proofs.lemmas.List.FromFn.{get_or-map-range_with_len}
-use Rattle.std.proofs.lemmas.Bool.{cases_lt, false≢true}
+use Rattle.std.proofs.lemmas.Bool.{cases_lt, ltb-true, false≢true}
 use Rattle.std.proofs.lemmas.Bool.Decides.{nat_tests}
 use Rattle.heap_words.specs.declared.config.Config.{Config}
 use Rattle.heap_words.specs.Ranges.{seat_count}
@@ -12,6 +15,7 @@ use Rattle.shen_graph.specs.declared.order.Order.{Order}
 use Rattle.shen_graph.specs.declared.order.Order.TheVariants.{Nothing}
 use Rattle.shen_graph.specs.Valid.{IsValid}
 use Rattle.shen_graph.specs.Work.{Progress, progress_of, replies_of, begun, one_of, joined}
+use Rattle.managed_queue.specs.Users.{Use, next_of, used, to_come}
 use Rattle.shared_table.specs.Views as views
 use Rattle.shared_table.specs.Views.{View, machine_of, merged}
 use Rattle.shared_table.proofs.Kept.{kept_here, machine_of-kept}
@@ -24,10 +28,15 @@ use Rattle.heap_machines.specs.Shown.{shown}
 use Rattle.table_heap.specs.declared.bundle.Bundle.{Bundle}
 use Rattle.table_heap.specs.declared.heap.Heap.{Heap}
 use Rattle.table_heap.specs.Core.{machine_in}
-use Rattle.table_heap.specs.State.{config_of, view_of, orders_of, IsBundleOf}
-use Rattle.table_heap.specs.Running.{Jobs, CanStart, CanStartOn, IsIdleForGood, HasDone}
+use Rattle.table_heap.specs.State.{config_of, heap_of, view_of, orders_of, IsBundleOf, IsSameBundle}
+use Rattle.table_heap.specs.Running.{Jobs, HasNoOrder, EachMutator, AreIdleForGood, CanStart, CanStartOn, HasDone, HaveDone, AreSameJobs}
+use Rattle.table_heap.specs.Driving.{has_mutator, mutators_below, CanDrive, HasDriven, HaveDriven}
+use Rattle.trace_runs.specs.declared.load.Load.{Load}
+use Rattle.trace_runs.specs.declared.load.Load.TheVariants.{Scripted, Driven}
 use Rattle.trace_runs.specs.declared.parts.Part.{Part}
-use Rattle.trace_runs.specs.DealtParts.{PartHasEnded, ArePartsApart, is_dealt, IsPart, PartIsReady, IsDone}
+use Rattle.trace_runs.specs.DealtParts.{Assigned, CanBeRunBy, HaveEnded, PartHasEnded, LoadsAreApart, IsJoined, is_dealt, IsPart, HasScripts, IsCrewed, IsLoad, crew_of, HasUsed, LoadIsDone, PartIsReady, IsDone}
+use Rattle.trace_runs.specs.DealtParts.Assigned.{scripts, users}
+use Rattle.trace_runs.proofs.Crews.{crew_count, crew_joined, crew_at, at_front, at_back, span}
 
 -- ---- tests and options
 
@@ -58,16 +67,11 @@ some_job : (x y : Option Progress) → is_some (one_of x y) ≡ (is_some x || is
 some_job None y = refl
 some_job (Some p) y = refl
 
--- a mutator is a machine
-is_seat : (n m k : ℕ) (d : Bool) → (nat_lt n (m + k + 1) && d) ≡ false → (nat_lt n m && d) ≡ false
-is_seat n m k true e = grind (arith, nat_tests)
-is_seat n m k false e = grind (arith, nat_tests)
-
--- ---- the work of a part
+-- ---- scripts
 
 -- a part has no scripts past those of the mutators
-no_script : (h : Heap) (scripts : Scripts) (w a b : ℕ) (p : Part) → IsPart h scripts w a b p → (t : ℕ) → 8 ≤ t → progress_of p.work t ≡ None
-no_script h scripts w a b p is t past = none_from (progress_of p.work t) (is.jobs t ∙ outside t (config_of h).mutators (is_dealt w a b t) (config_of h).in_range.most_mutators past)
+no_script : (c : Config) (all : Scripts) (w a b : ℕ) (jobs : Jobs) → HasScripts c all w a b jobs → (t : ℕ) → 8 ≤ t → progress_of jobs t ≡ None
+no_script c all w a b jobs is t past = none_from (progress_of jobs t) (is.numbers t ∙ outside t c.mutators (is_dealt w a b t) c.in_range.most_mutators past)
   where
     outside : (t m : ℕ) (d : Bool) → m ≤ 8 → 8 ≤ t → (nat_lt t m && d) ≡ false
     outside t m d few past = grind (arith, nat_tests)
@@ -91,99 +95,94 @@ start_by v w number a same can = record {
   few = subst (λ o. length (unwrap_or o (begun [])).script < 4294967295) same can.few;
 }
 
--- parts of different bundles have no script in common
-pub apart : (h : Heap) (scripts : Scripts) (w a b c : ℕ) (p q : Part) → IsPart h scripts w a b p → IsPart h scripts w b c q → ArePartsApart p q
-apart h scripts w a b c p q is other t here there =
-    false≢true (sym (never_both (nat_lt t (config_of h).mutators) (nat_lt t (config_of h).mutators) (t % w) a b c (sym (is.jobs t) ∙ here)) ∙ sym (other.jobs t) ∙ there)
+-- the scripts of two parts
+module _ (c : Config) (all : Scripts) (w a b d : ℕ) (low : a ≤ b) (high : b ≤ d) (v u : Jobs) (is : HasScripts c all w a b v) (other : HasScripts c all w b d u) where
+  job_here : (n : ℕ) → progress_of (joined v u) n ≡ one_of (progress_of v n) (progress_of u n)
+  job_here n = progress_joined v u n (no_script c all w a b v is n) (no_script c all w b d u other n)
 
--- ---- two parts joined
-
-module _ (h : Heap) (scripts : Scripts) (w a b c : ℕ) (p q r : Part) (of : IsBundleOf r.bundle h) (view : view_of r.bundle ≡ merged (view_of p.bundle) (view_of q.bundle))
-    (jobs : r.work ≡ joined p.work q.work) (low : a ≤ b) (high : b ≤ c) (is : IsPart h scripts w a b p) (other : IsPart h scripts w b c q) where
-  machine_here : (n : ℕ) → machine_of (view_of r.bundle) n ≡ views.whichever_is_there (machine_of (view_of p.bundle) n) (machine_of (view_of q.bundle) n)
-  machine_here n = ap (λ v. machine_of v n) view ∙ machine_of-merged (view_of p.bundle) (view_of q.bundle) n
-
-  job_here : (n : ℕ) → progress_of r.work n ≡ one_of (progress_of p.work n) (progress_of q.work n)
-  job_here n = ap (λ j. progress_of j n) jobs ∙ progress_joined p.work q.work n (no_script h scripts w a b p is n) (no_script h scripts w b c q other n)
-
-  pub joined_part : IsPart h scripts w a c r
-  joined_part = record {
-    of = of;
-    machines = λ n.
-        ap is_some (machine_here n) ∙ some_of (machine_of (view_of p.bundle) n) (machine_of (view_of q.bundle) n)
-        ∙ ap (λ x. x || is_some (machine_of (view_of q.bundle) n)) (is.machines n)
-        ∙ ap (λ x. (nat_lt n (seat_count (config_of h).mutators (config_of h).helpers) && is_dealt w a b n) || x) (other.machines n)
-        ∙ either_of (nat_lt n (seat_count (config_of h).mutators (config_of h).helpers)) (n % w) a b c low high;
-    jobs = λ n.
-        ap is_some (job_here n) ∙ some_job (progress_of p.work n) (progress_of q.work n)
-        ∙ ap (λ x. x || is_some (progress_of q.work n)) (is.jobs n)
-        ∙ ap (λ x. (nat_lt n (config_of h).mutators && is_dealt w a b n) || x) (other.jobs n)
-        ∙ either_of (nat_lt n (config_of h).mutators) (n % w) a b c low high;
-    scripts_are = λ n has. script_is n (progress_of p.work n) (progress_of q.work n) (is.scripts_are n) (other.scripts_are n) (progress_of r.work n) (job_here n) has;
+  pub scripts_joined : HasScripts c all w a d (joined v u)
+  scripts_joined = record {
+    numbers = λ n.
+        ap is_some (job_here n) ∙ some_job (progress_of v n) (progress_of u n)
+        ∙ ap (λ x. x || is_some (progress_of u n)) (is.numbers n)
+        ∙ ap (λ x. (nat_lt n c.mutators && is_dealt w a b n) || x) (other.numbers n)
+        ∙ either_of (nat_lt n c.mutators) (n % w) a b d low high;
+    scripts_are = λ n has. script_is n (progress_of v n) (progress_of u n) (is.scripts_are n) (other.scripts_are n) (progress_of (joined v u) n) (job_here n) has;
   }
     where
-      script_is : (n : ℕ) (x y : Option Progress) → (IsSome x → (unwrap_or x (begun [])).script ≡ schedule.nth_script scripts n) → (IsSome y → (unwrap_or y (begun [])).script ≡ schedule.nth_script scripts n)
-          → (z : Option Progress) → z ≡ one_of x y → IsSome z → (unwrap_or z (begun [])).script ≡ schedule.nth_script scripts n
+      script_is : (n : ℕ) (x y : Option Progress) → (IsSome x → (unwrap_or x (begun [])).script ≡ schedule.nth_script all n) → (IsSome y → (unwrap_or y (begun [])).script ≡ schedule.nth_script all n)
+          → (z : Option Progress) → z ≡ one_of x y → IsSome z → (unwrap_or z (begun [])).script ≡ schedule.nth_script all n
       script_is n None y mine others z e has = ap (λ o. (unwrap_or o (begun [])).script) e ∙ others (subst (λ o. IsSome o) e has)
       script_is n (Some x) y mine others z e has = ap (λ o. (unwrap_or o (begun [])).script) e ∙ mine refl
 
-  -- a machine is one of the first part or of the second, and so is its script
-  by_side : (n : ℕ) (x : Actor) → machine_of (view_of r.bundle) n ≡ Some x
-      → ((machine_of (view_of p.bundle) n ≡ Some x) × (progress_of p.work n ≡ progress_of r.work n)) ⊎ ((machine_of (view_of q.bundle) n ≡ Some x) × (progress_of q.work n ≡ progress_of r.work n))
-  by_side n x here = by_machine (machine_of (view_of p.bundle) n) refl
+  -- the work of the first has what both have of a machine that is dealt to the first, and no other
+  pub job_in_first : (n : ℕ) → is_dealt w a b n ≡ true → progress_of v n ≡ progress_of (joined v u) n
+  job_in_first n dealt =
+      let none : progress_of u n ≡ None = none_from (progress_of u n) (other.numbers n ∙ not_both (nat_lt n c.mutators) (n % w) dealt) in
+      sym (job_here n ∙ ap (one_of (progress_of v n)) none ∙ first_of (progress_of v n))
     where
-      by_machine : (o : Option Actor) → machine_of (view_of p.bundle) n ≡ o
-          → ((machine_of (view_of p.bundle) n ≡ Some x) × (progress_of p.work n ≡ progress_of r.work n)) ⊎ ((machine_of (view_of q.bundle) n ≡ Some x) × (progress_of q.work n ≡ progress_of r.work n))
-      by_machine None e =
-          let none : progress_of p.work n ≡ None =
-          none_from (progress_of p.work n) (is.jobs n ∙ is_seat n (config_of h).mutators (config_of h).helpers (is_dealt w a b n) (sym (is.machines n) ∙ ap is_some e)) in
-          inr (
-            sym (ap (λ o. views.whichever_is_there o (machine_of (view_of q.bundle) n)) e) ∙ sym (machine_here n) ∙ here,
-            sym (job_here n ∙ ap (λ o. one_of o (progress_of q.work n)) none),
-          )
-      by_machine (Some y) e =
-          let none : progress_of q.work n ≡ None =
-          none_from (progress_of q.work n) (other.jobs n ∙ never_both (nat_lt n (seat_count (config_of h).mutators (config_of h).helpers)) (nat_lt n (config_of h).mutators) (n % w) a b c (sym (is.machines n) ∙ ap is_some e)) in
-          inl (
-            e ∙ sym (ap (λ o. views.whichever_is_there o (machine_of (view_of q.bundle) n)) e) ∙ sym (machine_here n) ∙ here,
-            sym (job_here n ∙ ap (one_of (progress_of p.work n)) none ∙ first_of (progress_of p.work n)),
-          )
+      not_both : (m : Bool) (x : ℕ) → (nat_le a x && nat_lt x b) ≡ true → (m && (nat_le b x && nat_lt x d)) ≡ false
+      not_both false x e = refl
+      not_both true x e = grind (arith, nat_tests)
 
-  pub joined_ready : orders_of r.bundle ≡ merged (orders_of p.bundle) (orders_of q.bundle) → CanStart p.bundle p.work → CanStart q.bundle q.work → PartIsReady h scripts w a c r
-  joined_ready orders mine others = record {
-    has = joined_part;
-    start = record {
-      orders = λ n order here.
-          by_order n order (machine_of (orders_of p.bundle) n) refl (sym (machine_of-merged (orders_of p.bundle) (orders_of q.bundle) n) ∙ ap (λ v. machine_of v n) (sym orders) ∙ here);
-      mutators = λ n x here role. by_start n x role (by_side n x here);
-    };
-  }
+  pub job_in_second : (n : ℕ) → is_dealt w b d n ≡ true → progress_of u n ≡ progress_of (joined v u) n
+  job_in_second n dealt =
+      let none : progress_of v n ≡ None = none_from (progress_of v n) (is.numbers n ∙ not_both (nat_lt n c.mutators) (n % w) dealt) in
+      sym (job_here n ∙ ap (λ o. one_of o (progress_of u n)) none)
     where
-      by_order : (n : ℕ) (order : Order) (o : Option Order) → machine_of (orders_of p.bundle) n ≡ o → views.whichever_is_there (machine_of (orders_of p.bundle) n) (machine_of (orders_of q.bundle) n) ≡ Some order → order ≡ Nothing
-      by_order n order None e here = others.orders n order (sym (ap (λ o. views.whichever_is_there o (machine_of (orders_of q.bundle) n)) e) ∙ here)
-      by_order n order (Some x) e here = mine.orders n order (e ∙ sym (ap (λ o. views.whichever_is_there o (machine_of (orders_of q.bundle) n)) e) ∙ here)
+      not_both : (m : Bool) (x : ℕ) → (nat_le b x && nat_lt x d) ≡ true → (m && (nat_le a x && nat_lt x b)) ≡ false
+      not_both false x e = refl
+      not_both true x e = grind (arith, nat_tests)
 
-      by_start : (n : ℕ) (x : Actor) → is_mutating x.machine ≡ true → ((machine_of (view_of p.bundle) n ≡ Some x) × (progress_of p.work n ≡ progress_of r.work n)) ⊎ ((machine_of (view_of q.bundle) n ≡ Some x) × (progress_of q.work n ≡ progress_of r.work n)) → CanStartOn r.work n x
-      by_start n x role (inl side) = start_by p.work r.work n x side.1 (mine.mutators n x side.0 role)
-      by_start n x role (inr side) = start_by q.work r.work n x side.1 (others.mutators n x side.0 role)
+  pub scripts_apart : LoadsAreApart (Scripted v) (Scripted u)
+  scripts_apart t here there =
+      false≢true (sym (never_both (nat_lt t c.mutators) (nat_lt t c.mutators) (t % w) a b d (sym (is.numbers t) ∙ here)) ∙ sym (other.numbers t) ∙ there)
 
-  pub joined_done : IsDone h scripts w a b p → IsDone h scripts w b c q → IsDone h scripts w a c r
-  joined_done mine others = record {
-    has = joined_part;
-    idle = λ n x here. by_idle n x (by_side n x here);
-    done = λ n x here role. by_done n x role (by_side n x here);
-  }
-    where
-      by_idle : (n : ℕ) (x : Actor) → ((machine_of (view_of p.bundle) n ≡ Some x) × (progress_of p.work n ≡ progress_of r.work n)) ⊎ ((machine_of (view_of q.bundle) n ≡ Some x) × (progress_of q.work n ≡ progress_of r.work n)) → IsIdleForGood x.machine
-      by_idle n x (inl side) = mine.idle n x side.0
-      by_idle n x (inr side) = others.idle n x side.0
+-- ---- what parts of different bundles are run by
 
-      by_done : (n : ℕ) (x : Actor) → is_mutating x.machine ≡ true → ((machine_of (view_of p.bundle) n ≡ Some x) × (progress_of p.work n ≡ progress_of r.work n)) ⊎ ((machine_of (view_of q.bundle) n ≡ Some x) × (progress_of q.work n ≡ progress_of r.work n))
-          → HasDone (schedule.nth_script scripts n) (replies_of r.work n) x
-      by_done n x role (inl side) = subst (λ o. HasDone (schedule.nth_script scripts n) (unwrap_or o (begun [])).replies x) side.1 (mine.done n x side.0 role)
-      by_done n x role (inr side) = subst (λ o. HasDone (schedule.nth_script scripts n) (unwrap_or o (begun [])).replies x) side.1 (others.done n x side.0 role)
+-- what is known both before a run and after it
+abbrev HasShape : Config → Assigned → (workers first beyond : ℕ) → Load → Type 0
+HasShape c (scripts all) w a b (Scripted jobs) = HasScripts c all w a b jobs
+HasShape c (users firsts) w a b (Driven crew) = IsCrewed c firsts w × (length crew.items ≡ length (crew_of firsts a b))
+HasShape c _ w a b _ = ⊥
 
--- ---- a part that has run
+shape_before : (c : Config) (assigned : Assigned) (w a b : ℕ) (l : Load) → IsLoad c assigned w a b l → HasShape c assigned w a b l
+shape_before c (scripts all) w a b (Scripted jobs) is = is
+shape_before c (scripts all) w a b (Driven crew) is = is
+shape_before c (users firsts) w a b (Scripted jobs) is = is
+shape_before c (users firsts) w a b (Driven crew) is = (is.0, ap length is.1)
+
+shape_after : (c : Config) (assigned : Assigned) (w a b : ℕ) (view : View Actor) (l : Load) → LoadIsDone c assigned w a b view l → HasShape c assigned w a b l
+shape_after c (scripts all) w a b view (Scripted jobs) is = is.0
+shape_after c (scripts all) w a b view (Driven crew) is = is
+shape_after c (users firsts) w a b view (Scripted jobs) is = is
+shape_after c (users firsts) w a b view (Driven crew) is = (is.0, is.1)
+
+-- there is room for all users of a heap
+crews_fit : (firsts : List Use) (a b d m k l : ℕ) → a ≤ b → b ≤ d → length firsts ≡ m → m ≤ 8 → k ≡ length (crew_of firsts a b) → l ≡ length (crew_of firsts b d) → k + l ≤ 8
+crews_fit firsts a b d m k l low high count few is other =
+    let one = crew_count firsts a b in
+    let two = crew_count firsts b d in
+    omega (arith, is, one, other, two, count, few, low, high)
+
+shapes_apart : (c : Config) (assigned : Assigned) (w a b d : ℕ) → a ≤ b → b ≤ d → (l m : Load) → HasShape c assigned w a b l → HasShape c assigned w b d m → LoadsAreApart l m
+shapes_apart c (scripts all) w a b d low high (Scripted v) (Scripted u) is other = scripts_apart c all w a b d low high v u is other
+shapes_apart c (scripts all) w a b d low high (Scripted v) (Driven u) is other = other
+shapes_apart c (scripts all) w a b d low high (Driven v) m is other = absurd is
+shapes_apart c (users firsts) w a b d low high (Scripted v) m is other = absurd is
+shapes_apart c (users firsts) w a b d low high (Driven v) (Scripted u) is other = other
+shapes_apart c (users firsts) w a b d low high (Driven v) (Driven u) is other =
+    crews_fit firsts a b d c.mutators (length v.items) (length u.items) low high is.0.count c.in_range.most_mutators is.1 other.1
+
+pub apart_before : (h : Heap) (assigned : Assigned) (w a b d : ℕ) (p q : Part) → a ≤ b → b ≤ d → PartIsReady h assigned w a b p → PartIsReady h assigned w b d q → LoadsAreApart p.load q.load
+apart_before h assigned w a b d p q low high ready other =
+    shapes_apart (config_of h) assigned w a b d low high p.load q.load (shape_before (config_of h) assigned w a b p.load ready.load) (shape_before (config_of h) assigned w b d q.load other.load)
+
+pub apart_after : (h : Heap) (assigned : Assigned) (w a b d : ℕ) (p q : Part) → a ≤ b → b ≤ d → IsDone h assigned w a b p → IsDone h assigned w b d q → LoadsAreApart p.load q.load
+apart_after h assigned w a b d p q low high done other =
+    shapes_apart (config_of h) assigned w a b d low high p.load q.load (shape_after (config_of h) assigned w a b (view_of p.bundle) p.load done.load) (shape_after (config_of h) assigned w b d (view_of q.bundle) q.load other.load)
+
+-- ---- the machines of a part
 
 -- a machine of a bundle is a mutator by its number
 role_of : (b : Bundle) (n : ℕ) (x : Actor) → machine_of (view_of b) n ≡ Some x → is_mutating x.machine ≡ nat_lt n b.config.mutators
@@ -193,29 +192,238 @@ role_of b n x here =
     let found = kept_here shown b.machines.items n x.machine there in
     ap is_mutating (sym found.2) ∙ (b.of_heap n found.0 found.1).role
 
-pub ended_done : (h : Heap) (scripts : Scripts) (w a b : ℕ) (p q : Part) → PartIsReady h scripts w a b p → PartHasEnded p q → IsDone h scripts w a b q
-ended_done h scripts w a b p q ready ended = record {
-  has = record {
-    of = record { table = ended.same.table ∙ ready.has.of.table; config = config };
-    machines = λ n. ended.same.numbers.here n ∙ ready.has.machines n;
-    jobs = λ n. ended.jobs.numbers n ∙ ready.has.jobs n;
-    scripts_are = λ n has. ended.jobs.scripts n ∙ ready.has.scripts_are n (sym (ended.jobs.numbers n) ∙ has);
-  };
+both_hold : (m d : Bool) → (m && d) ≡ true → (m ≡ true) × (d ≡ true)
+both_hold true d e = (refl, e)
+both_hold false d e = absurd cc
+
+module _ (h : Heap) (w a b : ℕ) (p : Part) (is : IsPart h w a b p) where
+  -- each is dealt to these bundles
+  pub its_dealt : (n : ℕ) (x : Actor) → machine_of (view_of p.bundle) n ≡ Some x → is_dealt w a b n ≡ true
+  its_dealt n x here = (both_hold (nat_lt n (seat_count (config_of h).mutators (config_of h).helpers)) (is_dealt w a b n) (sym (is.machines n) ∙ ap is_some here)).1
+
+  pub its_number : (n : ℕ) (x : Actor) → machine_of (view_of p.bundle) n ≡ Some x → is_mutating x.machine ≡ true → nat_lt n (config_of h).mutators ≡ true
+  its_number n x here role = ap (λ (c : Config). nat_lt n c.mutators) (sym is.of.config) ∙ sym (role_of p.bundle n x here) ∙ role
+
+  -- where there is a bundle for each machine, the bundle's number is the machine's
+  module _ (low : a ≤ b) (single : w ≡ seat_count (config_of h).mutators (config_of h).helpers) where
+    same_number : (n : ℕ) → n < (config_of h).mutators → n % w ≡ n
+    same_number n below = mod-eq_of_lt (let e : n < w = omega (arith, below, single) in e)
+
+    mutator_here : (n : ℕ) → n < (config_of h).mutators → has_mutator p.bundle n ≡ (nat_le a n && nat_lt n b)
+    mutator_here n below =
+        ap (λ x. x && nat_lt n (heap_of p.bundle).mutators) (is.machines n)
+        ∙ ap (λ (c : Config). (nat_lt n (seat_count (config_of h).mutators (config_of h).helpers) && is_dealt w a b n) && nat_lt n c.mutators) is.of.config
+        ∙ ap (λ k. (nat_lt n (seat_count (config_of h).mutators (config_of h).helpers) && (nat_le a k && nat_lt k b)) && nat_lt n (config_of h).mutators) (same_number n below)
+        ∙ by_tests n (config_of h).mutators (config_of h).helpers (nat_le a n && nat_lt n b) below
+      where
+        by_tests : (n m k : ℕ) (d : Bool) → n < m → ((nat_lt n (m + k + 1) && d) && nat_lt n m) ≡ d
+        by_tests n m k true below = grind (arith, nat_tests)
+        by_tests n m k false below = grind (arith, nat_tests)
+
+    pub below_here : (n : ℕ) → n ≤ (config_of h).mutators → mutators_below p.bundle n ≡ min b n - a
+    below_here n most = span (has_mutator p.bundle) a b (config_of h).mutators low mutator_here n most
+
+    -- there are as many users of these bundles as mutators
+    pub crew_counts : (firsts : List Use) → IsCrewed (config_of h) firsts w → length (crew_of firsts a b) ≡ mutators_below p.bundle (heap_of p.bundle).mutators
+    crew_counts firsts crewed =
+        crew_count firsts a b ∙ ap (λ x. min b x - a) crewed.count
+        ∙ sym (below_here (config_of h).mutators (omega arith))
+        ∙ ap (λ (c : Config). mutators_below p.bundle c.mutators) (sym is.of.config)
+
+    -- a mutator's number is in the range of the bundles
+    pub its_range : (n : ℕ) (x : Actor) → machine_of (view_of p.bundle) n ≡ Some x → n < (config_of h).mutators → (a ≤ n) × (n < b)
+    its_range n x here below =
+        let dealt = both_hold (nat_le a n) (nat_lt n b) (ap (λ k. nat_le a k && nat_lt k b) (sym (same_number n below)) ∙ its_dealt n x here) in
+        (from_le a n dealt.0, ltb-true n b dealt.1)
+      where
+        from_le : (x y : ℕ) → nat_le x y ≡ true → x ≤ y
+        from_le x y e = grind (arith, nat_tests)
+
+    pub its_place : (n : ℕ) (x : Actor) → machine_of (view_of p.bundle) n ≡ Some x → n < (config_of h).mutators → mutators_below p.bundle n ≡ n - a
+    its_place n x here below =
+        let range = its_range n x here below in
+        let under = range.1 in
+        below_here n (omega (arith, below)) ∙ (let e : min b n - a ≡ n - a = omega (arith, under) in e)
+
+-- ---- two parts joined
+
+module _ (h : Heap) (assigned : Assigned) (w a b d : ℕ) (p q r : Part) (of : IsBundleOf r.bundle h) (view : view_of r.bundle ≡ merged (view_of p.bundle) (view_of q.bundle))
+    (loads : IsJoined p.load q.load r.load) (low : a ≤ b) (high : b ≤ d) (is : IsPart h w a b p) (other : IsPart h w b d q) where
+  machine_here : (n : ℕ) → machine_of (view_of r.bundle) n ≡ views.whichever_is_there (machine_of (view_of p.bundle) n) (machine_of (view_of q.bundle) n)
+  machine_here n = ap (λ v. machine_of v n) view ∙ machine_of-merged (view_of p.bundle) (view_of q.bundle) n
+
+  pub joined_part : IsPart h w a d r
+  joined_part = record {
+    of = of;
+    machines = λ n.
+        ap is_some (machine_here n) ∙ some_of (machine_of (view_of p.bundle) n) (machine_of (view_of q.bundle) n)
+        ∙ ap (λ x. x || is_some (machine_of (view_of q.bundle) n)) (is.machines n)
+        ∙ ap (λ x. (nat_lt n (seat_count (config_of h).mutators (config_of h).helpers) && is_dealt w a b n) || x) (other.machines n)
+        ∙ either_of (nat_lt n (seat_count (config_of h).mutators (config_of h).helpers)) (n % w) a b d low high;
+  }
+
+  -- a machine is one of the first part or of the second
+  by_side : (n : ℕ) (x : Actor) → machine_of (view_of r.bundle) n ≡ Some x → (machine_of (view_of p.bundle) n ≡ Some x) ⊎ (machine_of (view_of q.bundle) n ≡ Some x)
+  by_side n x here = by_machine (machine_of (view_of p.bundle) n) refl
+    where
+      by_machine : (o : Option Actor) → machine_of (view_of p.bundle) n ≡ o → (machine_of (view_of p.bundle) n ≡ Some x) ⊎ (machine_of (view_of q.bundle) n ≡ Some x)
+      by_machine None e = inr (sym (ap (λ o. views.whichever_is_there o (machine_of (view_of q.bundle) n)) e) ∙ sym (machine_here n) ∙ here)
+      by_machine (Some y) e = inl (e ∙ sym (ap (λ o. views.whichever_is_there o (machine_of (view_of q.bundle) n)) e) ∙ sym (machine_here n) ∙ here)
+
+  orders_joined : orders_of r.bundle ≡ merged (orders_of p.bundle) (orders_of q.bundle) → HasNoOrder p.bundle → HasNoOrder q.bundle → HasNoOrder r.bundle
+  orders_joined orders mine others n order here =
+      by_order n order (machine_of (orders_of p.bundle) n) refl (sym (machine_of-merged (orders_of p.bundle) (orders_of q.bundle) n) ∙ ap (λ v. machine_of v n) (sym orders) ∙ here)
+    where
+      by_order : (n : ℕ) (order : Order) (o : Option Order) → machine_of (orders_of p.bundle) n ≡ o → views.whichever_is_there (machine_of (orders_of p.bundle) n) (machine_of (orders_of q.bundle) n) ≡ Some order → order ≡ Nothing
+      by_order n order None e here = others n order (sym (ap (λ o. views.whichever_is_there o (machine_of (orders_of q.bundle) n)) e) ∙ here)
+      by_order n order (Some x) e here = mine n order (e ∙ sym (ap (λ o. views.whichever_is_there o (machine_of (orders_of q.bundle) n)) e) ∙ here)
+
+  -- scripts
+  module _ (all : Scripts) (v u : Jobs) (mine : HasScripts (config_of h) all w a b v) (others : HasScripts (config_of h) all w b d u) where
+    starts_joined : orders_of r.bundle ≡ merged (orders_of p.bundle) (orders_of q.bundle) → CanStart p.bundle v → CanStart q.bundle u → CanStart r.bundle (joined v u)
+    starts_joined orders can can_too = record {
+      orders = orders_joined orders can.orders can_too.orders;
+      mutators = λ n x here role. by_start n x role (by_side n x here);
+    }
+      where
+        by_start : (n : ℕ) (x : Actor) → is_mutating x.machine ≡ true → (machine_of (view_of p.bundle) n ≡ Some x) ⊎ (machine_of (view_of q.bundle) n ≡ Some x) → CanStartOn (joined v u) n x
+        by_start n x role (inl here) = start_by v (joined v u) n x (job_in_first (config_of h) all w a b d low high v u mine others n (its_dealt h w a b p is n x here)) (can.mutators n x here role)
+        by_start n x role (inr here) = start_by u (joined v u) n x (job_in_second (config_of h) all w a b d low high v u mine others n (its_dealt h w b d q other n x here)) (can_too.mutators n x here role)
+
+    done_joined : EachMutator (view_of p.bundle) (λ n x. HasDone (schedule.nth_script all n) (replies_of v n) x) → EachMutator (view_of q.bundle) (λ n x. HasDone (schedule.nth_script all n) (replies_of u n) x)
+        → EachMutator (view_of r.bundle) (λ n x. HasDone (schedule.nth_script all n) (replies_of (joined v u) n) x)
+    done_joined did did_too n x here role = by_done (by_side n x here)
+      where
+        by_done : (machine_of (view_of p.bundle) n ≡ Some x) ⊎ (machine_of (view_of q.bundle) n ≡ Some x) → HasDone (schedule.nth_script all n) (replies_of (joined v u) n) x
+        by_done (inl side) =
+            subst (λ o. HasDone (schedule.nth_script all n) (unwrap_or o (begun [])).replies x) (job_in_first (config_of h) all w a b d low high v u mine others n (its_dealt h w a b p is n x side)) (did n x side role)
+        by_done (inr side) =
+            subst (λ o. HasDone (schedule.nth_script all n) (unwrap_or o (begun [])).replies x) (job_in_second (config_of h) all w a b d low high v u mine others n (its_dealt h w b d q other n x side)) (did_too n x side role)
+
+  -- users
+  module _ (firsts : List Use) (crewed : IsCrewed (config_of h) firsts w) (v u all : List Use) (joined_is : all ≡ v ++ u) where
+    -- there are as many users of all as mutators
+    count_joined : v ≡ crew_of firsts a b → u ≡ crew_of firsts b d → length all ≡ mutators_below r.bundle (heap_of r.bundle).mutators
+    count_joined mine others =
+        ap length (joined_is ∙ ap (λ xs. xs ++ u) mine ∙ ap (λ xs. crew_of firsts a b ++ xs) others ∙ crew_joined firsts a b d low high)
+        ∙ crew_counts h w a d r joined_part (omega (arith, low, high)) crewed.single firsts crewed
+
+    drive_joined : v ≡ crew_of firsts a b → u ≡ crew_of firsts b d → orders_of r.bundle ≡ merged (orders_of p.bundle) (orders_of q.bundle) → CanDrive to_come p.bundle v → CanDrive to_come q.bundle u → CanDrive to_come r.bundle all
+    drive_joined mine others orders can can_too = record {
+      orders = orders_joined orders can.orders can_too.orders;
+      mutators = λ n x here role. ⊎_elim (λ side. can.mutators n x side role) (λ side. can_too.mutators n x side role) (by_side n x here);
+      count = count_joined mine others;
+      few = subst (λ xs. All (λ (driver : Use). to_come driver < 4294967295) xs) (sym joined_is) (All-append (λ (driver : Use). to_come driver < 4294967295) v u can.few can_too.few);
+    }
+
+    used_joined : length v ≡ length (crew_of firsts a b) → EachMutator (view_of p.bundle) (HasUsed firsts v a) → EachMutator (view_of q.bundle) (HasUsed firsts u b) → EachMutator (view_of r.bundle) (HasUsed firsts all a)
+    used_joined long did did_too n x here role = by_used (by_side n x here)
+      where
+        by_used : (machine_of (view_of p.bundle) n ≡ Some x) ⊎ (machine_of (view_of q.bundle) n ≡ Some x) → HasUsed firsts all a n x
+        by_used (inl side) =
+            let done = did n x side role in
+            record { begun = done.begun; ended = done.ended; begun_is = done.begun_is; ended_is = ap (λ xs. slice_get xs (n - a)) joined_is ∙ at_front v u (n - a) done.ended done.ended_is; driven = done.driven }
+        by_used (inr side) =
+            let done = did_too n x side role in
+            let below : n < (config_of h).mutators = ltb-true n (config_of h).mutators (its_number h w b d q other n x side role) in
+            let range = its_range h w b d q other high crewed.single n x side below in
+            let count = crew_count firsts a b in
+            let least = range.0 in
+            let many = crewed.count in
+            let place : n - a ≡ length v + (n - b) = omega (arith, long, count, below, many, least, low) in
+            record { begun = done.begun; ended = done.ended; begun_is = done.begun_is; ended_is = ap (λ xs. slice_get xs (n - a)) joined_is ∙ at_back v u (n - b) (n - a) done.ended place done.ended_is; driven = done.driven }
+
+    count_after : length v ≡ length (crew_of firsts a b) → length u ≡ length (crew_of firsts b d) → length all ≡ length (crew_of firsts a d)
+    count_after mine others =
+        ap length joined_is ∙ length-append v u ∙ ap (λ n. n + length u) mine ∙ ap (λ n. length (crew_of firsts a b) + n) others
+        ∙ sym (length-append (crew_of firsts a b) (crew_of firsts b d)) ∙ ap length (crew_joined firsts a b d low high)
+
+  pub joined_ready : orders_of r.bundle ≡ merged (orders_of p.bundle) (orders_of q.bundle) → PartIsReady h assigned w a b p → PartIsReady h assigned w b d q → PartIsReady h assigned w a d r
+  joined_ready orders mine others = record { has = joined_part; load = both.0; start = both.1 }
+    where
+      by_loads : (s : Assigned) (l m n : Load) → IsJoined l m n → IsLoad (config_of h) s w a b l → IsLoad (config_of h) s w b d m → CanBeRunBy p.bundle l → CanBeRunBy q.bundle m → IsLoad (config_of h) s w a d n × CanBeRunBy r.bundle n
+      by_loads (scripts all) (Scripted v) (Scripted u) (Scripted t) are l m can can_too = (
+        subst (λ j. HasScripts (config_of h) all w a d j) (sym are) (scripts_joined (config_of h) all w a b d low high v u l m),
+        subst (λ j. CanStart r.bundle j) (sym are) (starts_joined all v u l m orders can can_too),
+      )
+      by_loads (users firsts) (Driven v) (Driven u) (Driven t) are l m can can_too = (
+        (l.0, are ∙ ap (λ xs. xs ++ u.items) l.1 ∙ ap (λ xs. crew_of firsts a b ++ xs) m.1 ∙ crew_joined firsts a b d low high),
+        drive_joined firsts l.0 v.items u.items t.items are l.1 m.1 orders can can_too,
+      )
+      by_loads (scripts all) (Driven v) m n are l k can can_too = absurd l
+      by_loads (users firsts) (Scripted v) m n are l k can can_too = absurd l
+      by_loads s (Scripted v) (Driven u) n are l k can can_too = absurd are
+      by_loads s (Driven v) (Scripted u) n are l k can can_too = absurd are
+      by_loads s (Scripted v) (Scripted u) (Driven t) are l k can can_too = absurd are
+      by_loads s (Driven v) (Driven u) (Scripted t) are l k can can_too = absurd are
+
+      both : IsLoad (config_of h) assigned w a d r.load × CanBeRunBy r.bundle r.load
+      both = by_loads assigned p.load q.load r.load loads mine.load others.load mine.start others.start
+
+  pub joined_done : IsDone h assigned w a b p → IsDone h assigned w b d q → IsDone h assigned w a d r
+  joined_done mine others = record {
+    has = joined_part;
+    idle = λ n x here. ⊎_elim (λ side. mine.idle n x side) (λ side. others.idle n x side) (by_side n x here);
+    load = by_loads assigned p.load q.load r.load loads mine.load others.load;
+  }
+    where
+      by_loads : (s : Assigned) (l m n : Load) → IsJoined l m n → LoadIsDone (config_of h) s w a b (view_of p.bundle) l → LoadIsDone (config_of h) s w b d (view_of q.bundle) m → LoadIsDone (config_of h) s w a d (view_of r.bundle) n
+      by_loads (scripts all) (Scripted v) (Scripted u) (Scripted t) are l m =
+          subst (λ j. HasScripts (config_of h) all w a d j × EachMutator (view_of r.bundle) (λ n x. HasDone (schedule.nth_script all n) (replies_of j n) x)) (sym are)
+          (scripts_joined (config_of h) all w a b d low high v u l.0 m.0, done_joined all v u l.0 m.0 l.1 m.1)
+      by_loads (users firsts) (Driven v) (Driven u) (Driven t) are l m =
+          (l.0, count_after firsts l.0 v.items u.items t.items are l.1 m.1, used_joined firsts l.0 v.items u.items t.items are l.1 l.2 m.2)
+      by_loads (scripts all) (Driven v) m n are l k = absurd l
+      by_loads (users firsts) (Scripted v) m n are l k = absurd l
+      by_loads s (Scripted v) (Driven u) n are l k = absurd are
+      by_loads s (Driven v) (Scripted u) n are l k = absurd are
+      by_loads s (Scripted v) (Scripted u) (Driven t) are l k = absurd are
+      by_loads s (Driven v) (Driven u) (Scripted t) are l k = absurd are
+
+-- ---- a part that has run
+
+pub ended_done : (h : Heap) (assigned : Assigned) (w a b : ℕ) (p q : Part) → a ≤ b → PartIsReady h assigned w a b p → PartHasEnded p q → IsDone h assigned w a b q
+ended_done h assigned w a b p q low ready ended = record {
+  has = part;
   idle = ended.idle;
-  done = λ n x here role.
-      subst (λ script. HasDone script (replies_of q.work n) x) (ready.has.scripts_are n (ready.has.jobs n ∙ has_job n x here role)) (ended.done n x here role);
+  load = by_loads assigned p.load q.load ready.load ended.done;
 }
   where
-    config : q.bundle.config ≡ h.config
-    config = ended.same.config ∙ ready.has.of.config
-
-    dealt : (m d : Bool) → (m && d) ≡ true → d ≡ true
-    dealt true d e = e
-    dealt false d e = absurd cc
+    part : IsPart h w a b q
+    part = record {
+      of = record { table = ended.same.table ∙ ready.has.of.table; config = ended.same.config ∙ ready.has.of.config };
+      machines = λ n. ended.same.numbers.here n ∙ ready.has.machines n;
+    }
 
     has_job : (n : ℕ) (x : Actor) → machine_of (view_of q.bundle) n ≡ Some x → is_mutating x.machine ≡ true → (nat_lt n (config_of h).mutators && is_dealt w a b n) ≡ true
-    has_job n x here role =
-        let low : nat_lt n (config_of h).mutators ≡ true = ap (λ (c : Config). nat_lt n c.mutators) (sym config) ∙ sym (role_of q.bundle n x here) ∙ role in
-        let its : is_dealt w a b n ≡ true =
-        dealt (nat_lt n (seat_count (config_of h).mutators (config_of h).helpers)) (is_dealt w a b n) (sym (ready.has.machines n) ∙ sym (ended.same.numbers.here n) ∙ ap is_some here) in
-        ap (λ m. m && is_dealt w a b n) low ∙ its
+    has_job n x here role = ap (λ m. m && is_dealt w a b n) (its_number h w a b q part n x here role) ∙ its_dealt h w a b q part n x here
+
+    by_loads : (s : Assigned) (l m : Load) → IsLoad (config_of h) s w a b l → HaveEnded p.bundle q.bundle l m → LoadIsDone (config_of h) s w a b (view_of q.bundle) m
+    by_loads (scripts all) (Scripted v) (Scripted u) has done = (
+      record {
+        numbers = λ n. done.1.numbers n ∙ has.numbers n;
+        scripts_are = λ n some. done.1.scripts n ∙ has.scripts_are n (sym (done.1.numbers n) ∙ some);
+      },
+      λ n x here role.
+          subst (λ script. HasDone script (replies_of u n) x) (has.scripts_are n (has.numbers n ∙ has_job n x here role)) (done.0 n x here role),
+    )
+    by_loads (users firsts) (Driven v) (Driven u) has done = (
+      has.0,
+      done.0 ∙ ap length has.1,
+      λ n x here role.
+          let did = done.1 n x here role in
+          let below : n < (config_of h).mutators = ltb-true n (config_of h).mutators (its_number h w a b q part n x here role) in
+          let range = its_range h w a b q part low has.0.single n x here below in
+          let place = its_place h w a b q part low has.0.single n x here below in
+          record {
+            begun = did.0;
+            ended = did.1;
+            begun_is = crew_at firsts a b n did.0 range.0 (ap (λ xs. slice_get xs (n - a)) (sym has.1) ∙ ap (slice_get v.items) (sym place) ∙ did.2);
+            ended_is = ap (slice_get u.items) (sym place) ∙ did.3;
+            driven = did.4;
+          },
+    )
+    by_loads (scripts all) (Driven v) m has done = absurd has
+    by_loads (users firsts) (Scripted v) m has done = absurd has
+    by_loads s (Scripted v) (Driven u) has done = absurd done
+    by_loads s (Driven v) (Scripted u) has done = absurd done

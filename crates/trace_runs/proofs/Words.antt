@@ -1,13 +1,16 @@
 -- The words of the command line.
 use Rattle.std.proofs.Common.{◌≡◌, ℕ, zero, suc, ◌&&◌, ◌<◌, ◌≤◌, Bool, true, false, eqb, List, [], ◌∷◌, ◌++◌, length, get_or, take, drop, map, inl, inr, refl, sym, ap, subst, ◌∙◌, arith}
-use Rattle.std.specs.Prelude.{codes, Option, Some, None, MatchOption, MatchBool}
+use Rattle.std.specs.Prelude.{codes, Option, Some, None, MatchOption}
 use Rattle.std.specs.Fmt.{decimal}
 use Rattle.std.specs.Cmp.Lexicographic.{pointwise}
 use Rattle.std.proofs.lemmas.Bool.{eqb-true, false≢true}
 use Rattle.std.proofs.lemmas.Fmt.{decimal_digit}
 use Rattle.std.proofs.lemmas.List.{length-append}
 use Rattle.trace_grammar.specs.Spelling.{IsUpTo}
-use Rattle.trace_runs.specs.Words.{most_seed, most_rounds, usual_steps, most_machines, IsNumbered, IsReplay, AskReplay, IsNotedReplay, AskNoted, IsRunBy, AskRun, AskTrace, IsChurn, AskChurn, Ask, BeginWith}
+use Rattle.trace_runs.specs.declared.mode.Mode.{Mode}
+use Rattle.trace_runs.specs.declared.mode.Mode.TheVariants.{Replay, Noted, Run, Churn, Queue}
+use Rattle.trace_runs.specs.Words.{most_seed, most_rounds, most_numbers, most_steps, usual_steps, most_machines, IsNumbered, IsReplay, IsNotedReplay, IsRunBy, IsChurn, IsQueue, Asks, Ask}
+use Rattle.trace_runs.specs.Answered.{ReadsTrace, ReadsNothing}
 use Rattle.std.proofs.lemmas.Bool.Decides.{nat_tests}
 
 same_from_test : (xs ys : List ℕ) → pointwise eqb xs ys ≡ true → xs ≡ ys
@@ -48,6 +51,15 @@ word_and_two f (x ∷ y ∷ z ∷ []) a b c first some few at_a at_b at_c e =
     ∙ ap (λ (t : List ℕ). first ∷ t ∷ f z ∷ []) (sym (ap f at_b))
     ∙ ap (λ (t : List ℕ). first ∷ f b ∷ t ∷ []) (sym (ap f at_c))
 word_and_two f (x ∷ y ∷ z ∷ w ∷ words) a b c first some few at_a at_b at_c e = absurd (omega arith)
+
+-- a list of two, of which the first is known
+pub word_and_one : {X : Type 0} (f : X → List ℕ) (words : List X) (a b : X) (first : List ℕ) → 2 ≤ length words → length words < 3 → a ≡ get_or words 0 a → b ≡ get_or words 1 b → true ≡ pointwise eqb (f a) first
+    → map f words ≡ first ∷ f b ∷ []
+word_and_one f [] a b first some few at_a at_b e = absurd (omega arith)
+word_and_one f (x ∷ []) a b first some few at_a at_b e = absurd (omega arith)
+word_and_one f (x ∷ y ∷ []) a b first some few at_a at_b e =
+    ap (λ (t : List ℕ). t ∷ f y ∷ []) (sym (ap f at_a) ∙ same_from_test (f a) first (sym e)) ∙ ap (λ (t : List ℕ). first ∷ t ∷ []) (sym (ap f at_b))
+word_and_one f (x ∷ y ∷ z ∷ words) a b first some few at_a at_b e = absurd (omega arith)
 
 -- a list of three, of which the first two are known
 pub three_words : {X : Type 0} (f : X → List ℕ) (words : List X) (a b c : X) (first second : List ℕ) → 3 ≤ length words → length words < 4 → a ≡ get_or words 0 a → b ≡ get_or words 1 b → c ≡ get_or words 2 c
@@ -94,7 +106,19 @@ pub is_churn : (words : List (List ℕ)) (a b : List ℕ) (seed count : ℕ) →
 is_churn words a b seed count are first second =
     (are ∙ ap (λ (t : List ℕ). codes "churn" ∷ t ∷ b ∷ []) first.1 ∙ ap (λ (t : List ℕ). codes "churn" ∷ decimal seed ∷ t ∷ []) second.1, first.0, second.0)
 
+-- words of which the second is a number or none ask for a queue of that number, or for none
+pub queue_named : (words : List (List ℕ)) (number : List ℕ) (r : Option ℕ) → words ≡ codes "queue" ∷ number ∷ []
+    → MatchOption r ((n : ℕ) → IsUpTo most_numbers n → number ≡ decimal n → ⊥) (λ n. IsUpTo most_numbers n × (number ≡ decimal n))
+    → MatchOption r (((count : ℕ) × IsQueue words count) → ⊥) (IsQueue words)
+queue_named words number (Some n) are read = (are ∙ ap (λ (t : List ℕ). codes "queue" ∷ t ∷ []) read.1, read.0)
+queue_named words number None are none = λ asked. none asked.0 asked.1.1 (ap (λ (ws : List (List ℕ)). get_or ws 1 []) (sym are ∙ asked.1.0))
+
 -- ---- the first word
+
+-- the first word is this one
+abbrev pub BeginWith : List ℕ → List (List ℕ) → Type 0
+BeginWith word [] = ⊥
+BeginWith word (first ∷ words) = first ≡ word
 
 begins_as : (words more : List (List ℕ)) (word : List ℕ) → words ≡ word ∷ more → BeginWith word words
 begins_as words more word are = subst (BeginWith word) (sym are) refl
@@ -104,64 +128,70 @@ pub numbered_begins : (command option : List ℕ) (usual most : ℕ) (words : Li
 numbered_begins command option usual most words n (inl one) = begins_as words [] command one.0
 numbered_begins command option usual most words n (inr three) = begins_as words (option ∷ decimal n ∷ []) command three.0
 
--- who asks for a run begins with it
-pub run_begins : (words : List (List ℕ)) → AskRun words → BeginWith (codes "run") words
-run_begins words asked = numbered_begins (codes "run") (codes "--workers") most_machines most_machines words asked.0 asked.1
-
-pub replay_begins : (words : List (List ℕ)) → AskReplay words → BeginWith (codes "replay") words
-replay_begins words asked = numbered_begins (codes "replay") (codes "--steps") usual_steps 4000000000 words asked.0 asked.1
-
 -- what more words stand behind does not change the first one
 begins_longer : (word : List ℕ) (front more : List (List ℕ)) → BeginWith word front → BeginWith word (front ++ more)
 begins_longer word [] more begins = absurd begins
 begins_longer word (first ∷ front) more begins = begins
 
-pub noted_begins : (words : List (List ℕ)) → AskNoted words → BeginWith (codes "replay") words
-noted_begins words asked =
-    subst (BeginWith (codes "replay")) (sym asked.1.1) (begins_longer (codes "replay") asked.1.0 (codes "--history" ∷ []) (replay_begins asked.1.0 (asked.0, asked.1.2)))
+replay_begins : (words : List (List ℕ)) (steps : ℕ) → IsReplay words steps → BeginWith (codes "replay") words
+replay_begins words steps asked = numbered_begins (codes "replay") (codes "--steps") usual_steps most_steps words steps asked
 
-pub churn_begins : (words : List (List ℕ)) → AskChurn words → BeginWith (codes "churn") words
-churn_begins words asked = begins_as words (decimal asked.0 ∷ decimal asked.1.0 ∷ []) (codes "churn") asked.1.1.0
+pub churn_begins : (words : List (List ℕ)) (seed count : ℕ) → IsChurn words seed count → BeginWith (codes "churn") words
+churn_begins words seed count asked = begins_as words (decimal seed ∷ decimal count ∷ []) (codes "churn") asked.0
+
+pub queue_begins : (words : List (List ℕ)) (count : ℕ) → IsQueue words count → BeginWith (codes "queue") words
+queue_begins words count asked = begins_as words (decimal count ∷ []) (codes "queue") asked.0
+
+-- the command of a mode
+abbrev name_of : Mode → List ℕ
+name_of (Replay steps) = codes "replay"
+name_of (Noted steps) = codes "replay"
+name_of (Run workers) = codes "run"
+name_of (Churn load) = codes "churn"
+name_of (Queue count) = codes "queue"
+
+-- who asks for a mode begins with its command
+begins_with_name : (words : List (List ℕ)) (mode : Mode) → Asks words mode → BeginWith (name_of mode) words
+begins_with_name words (Replay steps) asked = replay_begins words steps asked
+begins_with_name words (Noted steps) asked = subst (BeginWith (codes "replay")) (sym asked.1) (begins_longer (codes "replay") asked.0 (codes "--history" ∷ []) (replay_begins asked.0 steps asked.2))
+begins_with_name words (Run workers) asked = numbered_begins (codes "run") (codes "--workers") most_machines most_machines words workers asked
+begins_with_name words (Churn load) asked = churn_begins words load.seed load.count asked
+begins_with_name words (Queue count) asked = queue_begins words count asked
 
 -- words have one first word
 one_first : (a b : List ℕ) (words : List (List ℕ)) → BeginWith a words → BeginWith b words → a ≡ b
 one_first a b [] begins other = absurd begins
 one_first a b (word ∷ words) begins other = sym begins ∙ other
 
--- what begins with `replay` begins neither with `run` nor with `churn`
-replaying_no_run : (words : List (List ℕ)) → BeginWith (codes "replay") words → BeginWith (codes "run") words → ⊥
-replaying_no_run words replay run = absurd (omega (arith, ap length (one_first (codes "replay") (codes "run") words replay run)))
+-- modes of one command read alike
+trace_or_nothing : (a b : Mode) → name_of a ≡ name_of b → ReadsTrace a → ReadsNothing b → ⊥
+trace_or_nothing (Churn load) b same reads none = reads
+trace_or_nothing (Queue count) b same reads none = reads
+trace_or_nothing (Replay steps) (Churn load) same reads none = absurd (omega (arith, ap length same))
+trace_or_nothing (Noted steps) (Churn load) same reads none = absurd (omega (arith, ap length same))
+trace_or_nothing (Run workers) (Churn load) same reads none = absurd (omega (arith, ap length same))
+trace_or_nothing (Replay steps) (Queue count) same reads none = absurd (omega (arith, ap length same))
+trace_or_nothing (Noted steps) (Queue count) same reads none = absurd (omega (arith, ap length same))
+trace_or_nothing (Run workers) (Queue count) same reads none = absurd (omega (arith, ap length same))
+trace_or_nothing a (Replay steps) same reads none = none
+trace_or_nothing a (Noted steps) same reads none = none
+trace_or_nothing a (Run workers) same reads none = none
 
-replaying_no_churn : (words : List (List ℕ)) → BeginWith (codes "replay") words → BeginWith (codes "churn") words → ⊥
-replaying_no_churn words replay churn = absurd (omega (arith, ap length (one_first (codes "replay") (codes "churn") words replay churn)))
+-- so words ask for what reads a trace, or for what reads nothing
+pub asks_alike : (words : List (List ℕ)) (a b : Mode) → Asks words a → Asks words b → ReadsTrace a → ReadsNothing b → ⊥
+asks_alike words a b asked also reads none = trace_or_nothing a b (one_first (name_of a) (name_of b) words (begins_with_name words a asked) (begins_with_name words b also)) reads none
 
-pub replay_is_no_run : (words : List (List ℕ)) → AskReplay words → BeginWith (codes "run") words → ⊥
-replay_is_no_run words asked begins = replaying_no_run words (replay_begins words asked) begins
-
-pub replay_is_no_churn : (words : List (List ℕ)) → AskReplay words → BeginWith (codes "churn") words → ⊥
-replay_is_no_churn words asked begins = replaying_no_churn words (replay_begins words asked) begins
-
-pub noted_is_no_run : (words : List (List ℕ)) → AskNoted words → BeginWith (codes "run") words → ⊥
-noted_is_no_run words asked begins = replaying_no_run words (noted_begins words asked) begins
-
-pub noted_is_no_churn : (words : List (List ℕ)) → AskNoted words → BeginWith (codes "churn") words → ⊥
-noted_is_no_churn words asked begins = replaying_no_churn words (noted_begins words asked) begins
-
-pub run_is_no_churn : (words : List (List ℕ)) → AskRun words → BeginWith (codes "churn") words → ⊥
-run_is_no_churn words asked begins = absurd (omega (arith, ap length (one_first (codes "run") (codes "churn") words (run_begins words asked) begins)))
-
--- who asks for a churn asks for no trace
-pub churn_reads_none : (words : List (List ℕ)) → AskChurn words → AskTrace words → ⊥
-churn_reads_none words asked (inl replay) = replay_is_no_churn words replay (churn_begins words asked)
-churn_reads_none words asked (inr (inl noted)) = noted_is_no_churn words noted (churn_begins words asked)
-churn_reads_none words asked (inr (inr run)) = run_is_no_churn words run (churn_begins words asked)
-
--- words that ask for nothing
-pub asks_none : (words : List (List ℕ)) → (AskReplay words → ⊥) → (AskNoted words → ⊥) → (AskRun words → ⊥) → (AskChurn words → ⊥) → Ask words → ⊥
-asks_none words replay noted run churn (inl (inl asked)) = replay asked
-asks_none words replay noted run churn (inl (inr (inl asked))) = noted asked
-asks_none words replay noted run churn (inl (inr (inr asked))) = run asked
-asks_none words replay noted run churn (inr asked) = churn asked
+-- words that ask for no mode
+pub asks_none : (words : List (List ℕ)) → (((steps : ℕ) × IsReplay words steps) → ⊥) → (((steps : ℕ) × IsNotedReplay words steps) → ⊥) → (((workers : ℕ) × IsRunBy words workers) → ⊥)
+    → (((seed : ℕ) × ((count : ℕ) × IsChurn words seed count)) → ⊥) → (((count : ℕ) × IsQueue words count) → ⊥) → Ask words → ⊥
+asks_none words replay noted run churn queue asked = by_mode asked.0 asked.1
+  where
+    by_mode : (mode : Mode) → Asks words mode → ⊥
+    by_mode (Replay steps) this = replay (steps, this)
+    by_mode (Noted steps) this = noted (steps, this)
+    by_mode (Run workers) this = run (workers, this)
+    by_mode (Churn load) this = churn (load.seed, (load.count, this))
+    by_mode (Queue count) this = queue (count, this)
 
 -- a list that is not empty begins with its first word
 pub first_word : {X : Type 0} (f : X → List ℕ) (words : List X) (w : X) (text : List ℕ) (r : Bool) → 1 ≤ length words → w ≡ get_or words 0 w → r ≡ pointwise eqb (f w) text
@@ -181,11 +211,6 @@ other_option f command option usual most (x ∷ y ∷ words) b r some is e diffe
 other_option f command option usual most (x ∷ y ∷ words) b r some is e differs n (inr three) =
     let second : f y ≡ option = ap (λ (ws : List (List ℕ)). get_or ws 1 []) three.0 in
     false≢true (sym differs ∙ e ∙ ap (λ (t : List ℕ). pointwise eqb t option) (ap f is ∙ second) ∙ test_itself option)
-
--- so the test tells whether it does
-pub told_by : {P : Type 0} (r : Bool) → (r ≡ true → P) × (P → r ≡ true) → MatchBool r P (P → ⊥)
-told_by true both = both.0 refl
-told_by false both = λ p. false≢true (both.1 p)
 
 -- no words have no first word
 pub none_begins : {X : Type 0} (f : X → List ℕ) (words : List X) (text : List ℕ) → length words < 1 → BeginWith text (map f words) → ⊥
@@ -219,7 +244,7 @@ last_of f (x ∷ y ∷ words) w (a ∷ front) text (suc n) long is same =
 
 -- what is asked for where the last word is `--history`: a replay by the words before it
 pub noted_by_front : {X : Type 0} (f : X → List ℕ) (words front : List X) (w : X) (n : ℕ) (r : Option ℕ) → length words ≡ suc n → w ≡ get_or words n w → front ≡ take n words
-    → true ≡ pointwise eqb (f w) (codes "--history") → MatchOption r (AskReplay (map f front) → ⊥) (IsReplay (map f front)) → MatchOption r (AskNoted (map f words) → ⊥) (IsNotedReplay (map f words))
+    → true ≡ pointwise eqb (f w) (codes "--history") → MatchOption r (((steps : ℕ) × IsReplay (map f front) steps) → ⊥) (IsReplay (map f front)) → MatchOption r (((steps : ℕ) × IsNotedReplay (map f words) steps) → ⊥) (IsNotedReplay (map f words))
 noted_by_front f words front w n (Some steps) long is are e asked =
     (map f front, last_added f words w (codes "--history") n long is (same_from_test (f w) (codes "--history") (sym e)) ∙ ap (λ ws. map f ws ++ codes "--history" ∷ []) (sym are), asked)
 noted_by_front f words front w n None long is are e none = λ asked.
@@ -227,12 +252,12 @@ noted_by_front f words front w n None long is are e none = λ asked.
     none (asked.0, subst (λ (ws : List (List ℕ)). IsReplay ws asked.0) (sym parts.1 ∙ ap (λ ws. map f ws) (sym are)) asked.1.2)
 
 -- where the last word is another, none is asked for
-pub noted_by_last : {X : Type 0} (f : X → List ℕ) (words : List X) (w : X) (n : ℕ) → length words ≡ suc n → w ≡ get_or words n w → false ≡ pointwise eqb (f w) (codes "--history") → AskNoted (map f words) → ⊥
+pub noted_by_last : {X : Type 0} (f : X → List ℕ) (words : List X) (w : X) (n : ℕ) → length words ≡ suc n → w ≡ get_or words n w → false ≡ pointwise eqb (f w) (codes "--history") → ((steps : ℕ) × IsNotedReplay (map f words) steps) → ⊥
 noted_by_last f words w n long is e asked =
     let parts = last_of f words w asked.1.0 (codes "--history") n long is asked.1.1 in
     false≢true (e ∙ ap (λ (t : List ℕ). pointwise eqb t (codes "--history")) parts.0 ∙ test_itself (codes "--history"))
 
 -- nor where there are no words
-pub noted_by_none : {X : Type 0} (f : X → List ℕ) (words : List X) → length words < 1 → AskNoted (map f words) → ⊥
+pub noted_by_none : {X : Type 0} (f : X → List ℕ) (words : List X) → length words < 1 → ((steps : ℕ) × IsNotedReplay (map f words) steps) → ⊥
 noted_by_none f [] few asked = absurd (omega (arith, ap length asked.1.1, length-append asked.1.0 (codes "--history" ∷ [])))
 noted_by_none f (x ∷ xs) few asked = absurd (omega arith)

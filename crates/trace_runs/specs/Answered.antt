@@ -1,5 +1,6 @@
--- What each status of the program means: what was asked for, what came in, and what may be written.
-use Rattle.std.specs.Prelude.{ℕ, ◌≡◌, ◌+◌, ◌⊎◌, List, length, Option}
+-- What each status of the program means: what was asked for, what came in, and what may be written. A mode has one line in each
+-- function of modes here, and a record for what it answers.
+use Rattle.std.specs.Prelude.{ℕ, ◌≡◌, ◌+◌, ◌⊎◌, List, length, Option, Some, None}
 use Rattle.std.specs.Io.KnownBytes.{Appends, Consumes}
 use Rattle.shen_base.specs.Count.{Rose, CalledAtMost}
 use Rattle.text_writer.specs.Sending.{Outlet, WritesFront}
@@ -8,19 +9,14 @@ use Rattle.trace_grammar.specs.declared.why.Why.{Why}
 use Rattle.trace_refusals.specs.Refused.{Refused}
 use Rattle.trace_writing.specs.Message.{line_text}
 use Rattle.trace_writing.specs.declared.message.Line.TheVariants as line
+use Rattle.trace_runs.specs.declared.mode.Mode.{Mode}
+use Rattle.trace_runs.specs.declared.mode.Mode.TheVariants.{Replay, Noted, Run, Churn, Queue}
 use Rattle.trace_runs.specs.declared.status.Status.{Status}
 use Rattle.trace_runs.specs.declared.status.Status.TheVariants.{Ok, BadWords, BadTrace, Unfinished, ReadFault, WriteFault, NoMemory}
-use Rattle.trace_runs.specs.Words.{IsReplay, IsNotedReplay, AskReplay, AskNoted, AskRun, AskTrace, IsChurn, Ask}
+use Rattle.trace_runs.specs.Words.{Asks, Asked, Ask}
 use Rattle.trace_runs.specs.Replayed.{IsReplayed, IsReplayedNoted, IsRun, IsUnfinished}
 use Rattle.trace_runs.specs.Churned.{IsChurned}
-
--- all that the source had came, it is refused, and the line that is written says where and why
-abbrev pub IsRefused : (before after : Option (List ℕ)) → List ℕ → Type 0
-IsRefused before after out = (bytes : List ℕ) × (n : ℕ) × (why : Why) × Came before after bytes × Refused bytes n why × (out ≡ line_text (line.BadLine n why))
-
--- more bytes came than a trace may have
-abbrev pub IsTooLong : (before after : Option (List ℕ)) → Type 0
-IsTooLong before after = (bytes : List ℕ) × Consumes before after bytes × (length bytes ≡ most_bytes + 1)
+use Rattle.trace_runs.specs.Queued.{IsQueued}
 
 -- What the source has left where it tells it, before the call and after it, and its faults.
 pub record Input : Type 0 where
@@ -29,52 +25,112 @@ pub record Input : Type 0 where
   pub faults_before : ℕ
   pub faults_after : ℕ
 
--- The texts that go with each status but that of a write fault.
-abbrev pub Allows : List (List ℕ) → Input → Status → List ℕ → Type 0
-Allows words input Ok out = ((steps : ℕ) × IsReplay words steps × ((bytes : List ℕ) × Came input.before input.after bytes × IsReplayed bytes steps out))
-    ⊎ (((steps : ℕ) × IsNotedReplay words steps × ((bytes : List ℕ) × Came input.before input.after bytes × IsReplayedNoted bytes steps out))
-    ⊎ ((AskRun words × ((bytes : List ℕ) × Came input.before input.after bytes × IsRun bytes out))
-    ⊎ ((seed : ℕ) × ((count : ℕ) × IsChurn words seed count × IsChurned seed count out))))
-Allows words input BadWords out = (Ask words → ⊥) × (out ≡ line_text line.BadWords)
-Allows words input BadTrace out = AskTrace words
-    × (IsRefused input.before input.after out
-    ⊎ (IsTooLong input.before input.after × (out ≡ line_text line.TooLong)))
-Allows words input Unfinished out = (steps : ℕ) × (IsReplay words steps ⊎ IsNotedReplay words steps) × ((bytes : List ℕ) × Came input.before input.after bytes × IsUnfinished bytes steps)
-    × (out ≡ line_text (line.Unfinished steps))
-Allows words input ReadFault out = AskTrace words × Rose input.faults_before input.faults_after × (out ≡ line_text line.ReadFault)
-Allows words input WriteFault out = ⊥
-Allows words input NoMemory out = Ask words × (out ≡ line_text line.NoMemory)
-
 -- The sink before the call and after it.
 pub record Output : Type 0 where
   pub before : Outlet
   pub after : Outlet
 
--- a text that goes with the status was written, whole, and by at most one writing call for each of its bytes
-abbrev pub IsWritten : List (List ℕ) → Input → Output → Status → Type 0
-IsWritten words input output status =
-    (out : List ℕ) × Allows words input status out × Appends output.before.written output.after.written out × CalledAtMost (length out) output.before.calls output.after.calls
+-- All that the source had was read, and of these bytes this holds.
+pub record HasRead (input : Input) (P : List ℕ → Type 0) : Type 0 where
+  pub bytes : List ℕ
+  pub came : Came input.before input.after bytes
+  pub is : P bytes
 
--- The status fits the words, what came and what was written. After a write fault a front of a text was written that
--- goes with another status: by at most one call for each byte that was written and the one that failed, and at most one for
--- each byte of that text.
+-- ---- the modes
+
+-- what is written where a mode is answered
+abbrev pub IsAnswerOf : Mode → Input → List ℕ → Type 0
+IsAnswerOf (Replay steps) input out = HasRead input (λ bytes. IsReplayed bytes steps out)
+IsAnswerOf (Noted steps) input out = HasRead input (λ bytes. IsReplayedNoted bytes steps out)
+IsAnswerOf (Run workers) input out = HasRead input (λ bytes. IsRun bytes out)
+IsAnswerOf (Churn load) input out = IsChurned load.seed load.count out
+IsAnswerOf (Queue count) input out = IsQueued count out
+
+-- it reads a trace; one that reads nothing is always answered, or there is no memory
+abbrev pub ReadsTrace : Mode → Type 0
+ReadsTrace (Churn load) = ⊥
+ReadsTrace (Queue count) = ⊥
+ReadsTrace _ = Unit {0}
+
+abbrev pub ReadsNothing : Mode → Type 0
+ReadsNothing (Churn load) = Unit {0}
+ReadsNothing (Queue count) = Unit {0}
+ReadsNothing _ = ⊥
+
+-- the steps that it may make, if these are bounded
+abbrev pub bound_of : Mode → Option ℕ
+bound_of (Replay steps) = Some steps
+bound_of (Noted steps) = Some steps
+bound_of _ = None
+
+-- ---- the texts
+
+-- what came is refused, and the line that is written says where and why
+pub record IsRefused (input : Input) (out : List ℕ) : Type 0 where
+  pub number : ℕ
+  pub why : Why
+  pub refused : HasRead input (λ bytes. Refused bytes number why)
+  pub text : out ≡ line_text (line.BadLine number why)
+
+-- more bytes came than a trace may have
+pub record IsTooLong (input : Input) (out : List ℕ) : Type 0 where
+  pub bytes : List ℕ
+  pub taken : Consumes input.before input.after bytes
+  pub many : length bytes ≡ most_bytes + 1
+  pub text : out ≡ line_text line.TooLong
+
+-- what came is a trace, and so many of its steps as the mode may make leave a machine that is not idle
+pub record IsCutOff (mode : Mode) (input : Input) (out : List ℕ) : Type 0 where
+  pub steps : ℕ
+  pub limit : bound_of mode ≡ Some steps
+  pub cut : HasRead input (λ bytes. IsUnfinished bytes steps)
+  pub text : out ≡ line_text (line.Unfinished steps)
+
+-- The texts that go with each status but that of a write fault.
+abbrev pub Allows : List (List ℕ) → Input → Status → List ℕ → Type 0
+Allows words input Ok out = Asked words (λ mode. IsAnswerOf mode input out)
+Allows words input BadWords out = (Ask words → ⊥) × (out ≡ line_text line.BadWords)
+Allows words input BadTrace out = Asked words ReadsTrace × (IsRefused input out ⊎ IsTooLong input out)
+Allows words input Unfinished out = Asked words (λ mode. IsCutOff mode input out)
+Allows words input ReadFault out = Asked words ReadsTrace × Rose input.faults_before input.faults_after × (out ≡ line_text line.ReadFault)
+Allows words input WriteFault out = ⊥
+Allows words input NoMemory out = Ask words × (out ≡ line_text line.NoMemory)
+
+-- ---- the statuses
+
+-- A text that goes with the status was written, whole, and by at most one writing call for each of its bytes.
+pub record IsWritten (words : List (List ℕ)) (input : Input) (output : Output) (status : Status) : Type 0 where
+  pub out : List ℕ
+  pub allowed : Allows words input status out
+  pub appended : Appends output.before.written output.after.written out
+  pub few_calls : CalledAtMost (length out) output.before.calls output.after.calls
+
+-- The sink failed, and a front of a text was written that goes with another status: by at most one call for each byte that was
+-- written and the one that failed, and at most one for each byte of that text.
+pub record IsCutShort (words : List (List ℕ)) (input : Input) (output : Output) : Type 0 where
+  pub failed : Rose output.before.faults output.after.faults
+  pub status : Status
+  pub out : List ℕ
+  pub allowed : Allows words input status out
+  pub front : WritesFront output.before output.after out
+  pub few_calls : CalledAtMost (length out) output.before.calls output.after.calls
+
+-- The status fits the words, what came and what was written.
 abbrev pub StatusFits : List (List ℕ) → Input → Output → Status → Type 0
-StatusFits words input output WriteFault =
-    Rose output.before.faults output.after.faults
-    × ((status : Status) × (out : List ℕ) × Allows words input status out × WritesFront output.before output.after out × CalledAtMost (length out) output.before.calls output.after.calls)
-StatusFits words input output Ok = IsWritten words input output Ok
-StatusFits words input output BadWords = IsWritten words input output BadWords
-StatusFits words input output BadTrace = IsWritten words input output BadTrace
-StatusFits words input output Unfinished = IsWritten words input output Unfinished
-StatusFits words input output ReadFault = IsWritten words input output ReadFault
-StatusFits words input output NoMemory = IsWritten words input output NoMemory
+StatusFits words input output WriteFault = IsCutShort words input output
+StatusFits words input output status = IsWritten words input output status
 
--- The statuses that are left where the words ask for a replay or for a run, a trace comes, and nothing fails.
-abbrev pub IsReplayStatus : List (List ℕ) → Status → Type 0
-IsReplayStatus words Ok = Unit {0}
-IsReplayStatus words BadWords = ⊥
-IsReplayStatus words BadTrace = ⊥
-IsReplayStatus words Unfinished = AskReplay words ⊎ AskNoted words
-IsReplayStatus words ReadFault = ⊥
-IsReplayStatus words WriteFault = ⊥
-IsReplayStatus words NoMemory = Unit {0}
+-- The words asked for a mode, and what was written is its answer: the headline.
+pub record HasAnswered (words : List (List ℕ)) (input : Input) (output : Output) : Type 0 where
+  pub mode : Mode
+  pub asked : Asks words mode
+  pub out : List ℕ
+  pub answer : IsAnswerOf mode input out
+  pub written : Appends output.before.written output.after.written out
+
+-- The statuses that are left where the words ask for what reads a trace, a trace comes, and nothing fails.
+abbrev pub IsTraceStatus : List (List ℕ) → Status → Type 0
+IsTraceStatus words Ok = Unit {0}
+IsTraceStatus words Unfinished = Asked words (λ mode. (steps : ℕ) × (bound_of mode ≡ Some steps))
+IsTraceStatus words NoMemory = Unit {0}
+IsTraceStatus words _ = ⊥

@@ -1,69 +1,141 @@
--- Parts of a heap's machines, each with the work for its mutators.
-use Rattle.std.specs.Prelude.{ℕ, ◌≡◌, ◌+◌, ◌%◌, ◌&&◌, Bool, nat_lt, nat_le, List, length, All, Some, slice_get, MatchBool}
+-- Parts of a heap's machines, each with what its mutators are run by.
+use Rattle.std.specs.Prelude.{ℕ, ◌≡◌, ◌+◌, ◌-◌, ◌≤◌, ◌%◌, ◌&&◌, ◌++◌, Bool, nat_lt, nat_le, List, length, take, drop, All, Some, slice_get, MatchBool}
 use Rattle.std.specs.Option.{is_some}
+use Rattle.heap_words.specs.declared.config.Config.{Config}
 use Rattle.heap_words.specs.Ranges.{seat_count}
-use Rattle.shared_table.specs.Views.{machine_of, whole, dealt_to}
+use Rattle.shared_table.specs.Views.{View, machine_of, whole, dealt_to}
 use Rattle.shen_graph.specs.Work as work
+use Rattle.managed_queue.specs.Users.{Use, next_of, used, to_come}
 use Rattle.shen_core.specs.Progress.{IsRunnable}
+use Rattle.step_core.specs.Actor.{Actor}
 use Rattle.step_core.specs.Schedule.{Scripts, nth_script}
 use Rattle.table_heap.specs.Core.{heap_opening}
 use Rattle.table_heap.specs.declared.bundle.Bundle.{Bundle}
 use Rattle.table_heap.specs.declared.heap.Heap.{Heap}
 use Rattle.table_heap.specs.State.{config_of, view_of, IsBundleOf, IsFresh, IsSameBundle}
 use Rattle.table_heap.specs.Running.{Jobs, CanStart, EachMutator, AreIdleForGood, HasDone, HaveDone, AreSameJobs}
+use Rattle.table_heap.specs.Driving.{CanDrive, HasDriven, HaveDriven}
+use Rattle.trace_runs.specs.declared.load.Load.{Load}
+use Rattle.trace_runs.specs.declared.load.Load.TheVariants.{Scripted, Driven}
 use Rattle.trace_runs.specs.declared.parts.Part.{Part}
 use Rattle.trace_runs.specs.declared.parts.Returned.{Returned}
 
--- machines of a heap that can be run by the scripts in the work
+-- What all mutators of a heap are run by: their scripts, or users as they begin, in the order of their numbers.
+pub data Assigned : Type 0 where
+  scripts : Scripts → Assigned
+  users : List Use → Assigned
+
+-- ---- loads
+
+-- the mutators of a bundle can begin
+abbrev pub CanBeRunBy : Bundle → Load → Type 0
+CanBeRunBy bundle (Scripted jobs) = CanStart bundle jobs
+CanBeRunBy bundle (Driven crew) = CanDrive to_come bundle crew.items
+
+-- They have called their scripts, and the work has the replies; or their users have come to an end, by the replies of their calls.
+abbrev pub HaveEnded : (before after : Bundle) → (first last : Load) → Type 0
+HaveEnded before after (Scripted jobs) (Scripted later) = HaveDone after jobs later × AreSameJobs (view_of before) jobs later
+HaveEnded before after (Driven crew) (Driven later) = (length later.items ≡ length crew.items) × HaveDriven next_of used after crew.items later.items
+HaveEnded before after _ _ = ⊥
+
+-- no mutator has a script in both, or there is room for the users of both
+abbrev pub LoadsAreApart : Load → Load → Type 0
+LoadsAreApart (Scripted jobs) (Scripted others) = (mutator : ℕ) → work.HasScript jobs mutator → work.HasScript others mutator → ⊥
+LoadsAreApart (Driven crew) (Driven others) = length crew.items + length others.items ≤ 8
+LoadsAreApart _ _ = ⊥
+
+-- the scripts of both, or the users of the first and then those of the second
+abbrev pub IsJoined : Load → Load → Load → Type 0
+IsJoined (Scripted jobs) (Scripted others) (Scripted all) = all ≡ work.joined jobs others
+IsJoined (Driven crew) (Driven others) (Driven all) = all.items ≡ crew.items ++ others.items
+IsJoined _ _ _ = ⊥
+
+-- ---- parts
+
+-- machines of a heap that can be run
 pub record PartCanRun (h : Heap) (part : Part) : Type 0 where
   pub of : IsBundleOf part.bundle h
-  pub start : CanStart part.bundle part.work
+  pub start : CanBeRunBy part.bundle part.load
 
--- All machines of the part are idle for good. Its mutators have called their scripts, and the work has the replies.
+-- all machines of the part are idle for good
 pub record PartHasEnded (before after : Part) : Type 0 where
   pub same : IsSameBundle before.bundle after.bundle
   pub idle : AreIdleForGood after.bundle
-  pub done : HaveDone after.bundle before.work after.work
-  pub jobs : AreSameJobs (view_of before.bundle) before.work after.work
+  pub done : HaveEnded before.bundle after.bundle before.load after.load
 
 -- a part comes back after its run, or as it was given
 abbrev pub IsGivenBack : Part → Returned → Type 0
 IsGivenBack given back = MatchBool back.ran (PartHasEnded given back.part) (back.part ≡ given)
-
--- no mutator has a script in both
-abbrev pub ArePartsApart : Part → Part → Type 0
-ArePartsApart a b = (mutator : ℕ) → work.HasScript a.work mutator → work.HasScript b.work mutator → ⊥
 
 -- whether a machine is in one of the bundles from the first of these on, and below the second, of so many: machines are dealt
 -- in turn, as cards are
 abbrev pub is_dealt : (workers first beyond number : ℕ) → Bool
 is_dealt workers first beyond number = nat_le first (number % workers) && nat_lt (number % workers) beyond
 
--- The part has the machines that are dealt to these bundles, and the scripts of those that are mutators.
-pub record IsPart (h : Heap) (scripts : Scripts) (workers first beyond : ℕ) (part : Part) : Type 0 where
+-- The part has the machines that are dealt to these bundles.
+pub record IsPart (h : Heap) (workers first beyond : ℕ) (part : Part) : Type 0 where
   pub of : IsBundleOf part.bundle h
   pub machines : (number : ℕ) → is_some (machine_of (view_of part.bundle) number) ≡ (nat_lt number (seat_count (config_of h).mutators (config_of h).helpers) && is_dealt workers first beyond number)
-  pub jobs : (number : ℕ) → is_some (work.progress_of part.work number) ≡ (nat_lt number (config_of h).mutators && is_dealt workers first beyond number)
-  pub scripts_are : (number : ℕ) → work.HasScript part.work number → work.script_in part.work number ≡ nth_script scripts number
+
+-- The work has the scripts of those that are mutators.
+pub record HasScripts (c : Config) (scripts : Scripts) (workers first beyond : ℕ) (jobs : Jobs) : Type 0 where
+  pub numbers : (number : ℕ) → is_some (work.progress_of jobs number) ≡ (nat_lt number c.mutators && is_dealt workers first beyond number)
+  pub scripts_are : (number : ℕ) → work.HasScript jobs number → work.script_in jobs number ≡ nth_script scripts number
+
+-- the users of these bundles, where each bundle has one machine
+abbrev pub crew_of : List Use → (first beyond : ℕ) → List Use
+crew_of firsts first beyond = drop first (take beyond firsts)
+
+-- There is a bundle for each machine, and a user for each mutator.
+pub record IsCrewed (c : Config) (firsts : List Use) (workers : ℕ) : Type 0 where
+  pub single : workers ≡ seat_count c.mutators c.helpers
+  pub count : length firsts ≡ c.mutators
+
+-- what the mutators of these bundles are run by, before they begin
+abbrev pub IsLoad : Config → Assigned → (workers first beyond : ℕ) → Load → Type 0
+IsLoad c (scripts all) workers first beyond (Scripted jobs) = HasScripts c all workers first beyond jobs
+IsLoad c (users firsts) workers first beyond (Driven crew) = IsCrewed c firsts workers × (crew.items ≡ crew_of firsts first beyond)
+IsLoad c _ workers first beyond _ = ⊥
+
+-- what a user came to that began with this one: it is at its place among those of these bundles
+pub record HasUsed (firsts crew : List Use) (first number : ℕ) (a : Actor) : Type 0 where
+  pub begun : Use
+  pub ended : Use
+  pub begun_is : slice_get firsts number ≡ Some begun
+  pub ended_is : slice_get crew (number - first) ≡ Some ended
+  pub driven : HasDriven next_of used begun ended a
+
+-- and after they have ended
+abbrev pub LoadIsDone : Config → Assigned → (workers first beyond : ℕ) → View Actor → Load → Type 0
+LoadIsDone c (scripts all) workers first beyond view (Scripted jobs) =
+    HasScripts c all workers first beyond jobs × EachMutator view (λ number a. HasDone (nth_script all number) (work.replies_of jobs number) a)
+LoadIsDone c (users firsts) workers first beyond view (Driven crew) =
+    IsCrewed c firsts workers × (length crew.items ≡ length (crew_of firsts first beyond)) × EachMutator view (HasUsed firsts crew.items first)
+LoadIsDone c _ workers first beyond view _ = ⊥
 
 -- a part before its run
-pub record PartIsReady (h : Heap) (scripts : Scripts) (workers first beyond : ℕ) (part : Part) : Type 0 where
-  pub has : IsPart h scripts workers first beyond part
-  pub start : CanStart part.bundle part.work
+pub record PartIsReady (h : Heap) (assigned : Assigned) (workers first beyond : ℕ) (part : Part) : Type 0 where
+  pub has : IsPart h workers first beyond part
+  pub load : IsLoad (config_of h) assigned workers first beyond part.load
+  pub start : CanBeRunBy part.bundle part.load
 
 -- a part after its run
-pub record IsDone (h : Heap) (scripts : Scripts) (workers first beyond : ℕ) (part : Part) : Type 0 where
-  pub has : IsPart h scripts workers first beyond part
+pub record IsDone (h : Heap) (assigned : Assigned) (workers first beyond : ℕ) (part : Part) : Type 0 where
+  pub has : IsPart h workers first beyond part
   pub idle : AreIdleForGood part.bundle
-  pub done : EachMutator (view_of part.bundle) (λ number a. HasDone (nth_script scripts number) (work.replies_of part.work number) a)
+  pub load : LoadIsDone (config_of h) assigned workers first beyond (view_of part.bundle) part.load
 
 -- the first so many parts, each of one bundle
-abbrev pub AreReady : Heap → Scripts → ℕ → List Part → Type 0
-AreReady h scripts workers parts = (k : ℕ) (p : Part) → slice_get parts k ≡ Some p → PartIsReady h scripts workers k (k + 1) p
+abbrev pub AreReady : Heap → Assigned → ℕ → List Part → Type 0
+AreReady h assigned workers parts = (k : ℕ) (p : Part) → slice_get parts k ≡ Some p → PartIsReady h assigned workers k (k + 1) p
 
--- the bundles of a heap that was just opened, and the work for all its mutators
-pub record CanBeDealt (h : Heap) (scripts : Scripts) (jobs : Jobs) (bundles : List Bundle) : Type 0 where
-  pub fresh : (k : ℕ) (b : Bundle) → slice_get bundles k ≡ Some b → IsFresh h b (dealt_to (length bundles) k (whole (heap_opening (config_of h)).machines))
-  pub jobs_are : jobs ≡ work.opened scripts
-  pub count : length scripts ≡ (config_of h).mutators
-  pub runnable : All IsRunnable scripts
+-- the bundles of a heap that was just opened
+abbrev pub BundlesAreFresh : Heap → List Bundle → Type 0
+BundlesAreFresh h bundles = (k : ℕ) (b : Bundle) → slice_get bundles k ≡ Some b → IsFresh h b (dealt_to (length bundles) k (whole (heap_opening (config_of h)).machines))
+
+-- such bundles, and the work for all its mutators
+pub record CanBeDealt (h : Heap) (all : Scripts) (jobs : Jobs) (bundles : List Bundle) : Type 0 where
+  pub fresh : BundlesAreFresh h bundles
+  pub jobs_are : jobs ≡ work.opened all
+  pub count : length all ≡ (config_of h).mutators
+  pub runnable : All IsRunnable all

@@ -1,6 +1,7 @@
 pub mod Words
 pub mod Replayed
 pub mod Churned
+pub mod Queued
 pub mod Running
 pub mod Answered
 pub mod Number

@@ -1,24 +1,23 @@
 -- Threads that were started, each for a part.
 use Rattle.std.specs.Prelude.{ℕ, ◌≡◌, ◌+◌, ◌-◌, ◌<◌, List, length, Some, slice_get}
-use Rattle.step_core.specs.Schedule.{Scripts}
 use Rattle.table_heap.specs.declared.heap.Heap.{Heap}
 use Rattle.trace_runs.specs.declared.parts.Part.{Part}
 use Rattle.trace_runs.specs.declared.threads.Thread.{Thread}
 use Rattle.trace_runs.specs.declared.threads.Thread.TheVariants.{Running, Over}
-use Rattle.trace_runs.specs.DealtParts.{PartIsReady, IsDone, AreReady}
+use Rattle.trace_runs.specs.DealtParts.{Assigned, PartIsReady, IsDone, AreReady}
 
 -- a thread has the part of one bundle, or that part has run
-abbrev pub IsThread : Heap → Scripts → ℕ → ℕ → Thread → Type 0
-IsThread h scripts workers k (Running handle) = PartIsReady h scripts workers k (k + 1) handle.promise.0.value
-IsThread h scripts workers k (Over part) = IsDone h scripts workers k (k + 1) part
+abbrev pub IsThread : Heap → Assigned → ℕ → ℕ → Thread → Type 0
+IsThread h assigned workers k (Running handle) = PartIsReady h assigned workers k (k + 1) handle.promise.0.value
+IsThread h assigned workers k (Over part) = IsDone h assigned workers k (k + 1) part
 
 -- the parts of the last bundles, the last one first
-abbrev pub AreThreads : Heap → Scripts → ℕ → List Thread → Type 0
-AreThreads h scripts workers threads = (i : ℕ) (t : Thread) → slice_get threads i ≡ Some t → IsThread h scripts workers (workers - (i + 1)) t
+abbrev pub AreThreads : Heap → Assigned → ℕ → List Thread → Type 0
+AreThreads h assigned workers threads = (i : ℕ) (t : Thread) → slice_get threads i ≡ Some t → IsThread h assigned workers (workers - (i + 1)) t
 
 -- the parts of the first bundles are here, and threads have the others
-pub record AreSplit (h : Heap) (scripts : Scripts) (workers : ℕ) (parts : List Part) (threads : List Thread) : Type 0 where
+pub record AreSplit (h : Heap) (assigned : Assigned) (workers : ℕ) (parts : List Part) (threads : List Thread) : Type 0 where
   pub some : 0 < length parts
   pub count : length parts + length threads ≡ workers
-  pub here : AreReady h scripts workers parts
-  pub there : AreThreads h scripts workers threads
+  pub here : AreReady h assigned workers parts
+  pub there : AreThreads h assigned workers threads

@@ -2,6 +2,8 @@
 use Rattle.std.specs.Prelude.{ℕ, ◌≡◌, ◌≤◌, ◌⊎◌, List, [], ◌∷◌, ◌++◌, codes}
 use Rattle.std.specs.Fmt.{decimal}
 use Rattle.trace_grammar.specs.Spelling.{IsUpTo}
+use Rattle.trace_runs.specs.declared.mode.Mode.{Mode}
+use Rattle.trace_runs.specs.declared.mode.Mode.TheVariants.{Replay, Noted, Run, Churn, Queue}
 
 -- the words are a command alone, which goes with its usual number, or the command, an option and a number
 abbrev pub IsNumbered : (command option : List ℕ) → (usual most : ℕ) → List (List ℕ) → ℕ → Type 0
@@ -9,67 +11,60 @@ IsNumbered command option usual most words n =
     ((words ≡ command ∷ []) × (n ≡ usual))
     ⊎ ((words ≡ command ∷ option ∷ decimal n ∷ []) × IsUpTo most n)
 
--- the steps that a replay may make where the words name no number
+-- the steps that a replay may make where the words name no number, and the most that they may name
 abbrev pub usual_steps : ℕ
 usual_steps = 100000000
 
--- the words ask for a replay of at most so many steps
-abbrev pub IsReplay : List (List ℕ) → ℕ → Type 0
-IsReplay words steps =
-    ((words ≡ codes "replay" ∷ []) × (steps ≡ usual_steps))
-    ⊎ ((words ≡ codes "replay" ∷ codes "--steps" ∷ decimal steps ∷ []) × IsUpTo 4000000000 steps)
-
--- the words ask for such a replay, and for its history
-abbrev pub IsNotedReplay : List (List ℕ) → ℕ → Type 0
-IsNotedReplay words steps = (front : List (List ℕ)) × (words ≡ front ++ codes "--history" ∷ []) × IsReplay front steps
-
-abbrev pub AskNoted : List (List ℕ) → Type 0
-AskNoted words = (steps : ℕ) × IsNotedReplay words steps
-
--- the words ask for a replay
-abbrev pub AskReplay : List (List ℕ) → Type 0
-AskReplay words = (steps : ℕ) × IsReplay words steps
+abbrev pub most_steps : ℕ
+most_steps = 4000000000
 
 -- the most machines that a heap has: eight mutators, three helpers and the control
 abbrev pub most_machines : ℕ
 most_machines = 12
 
--- the words ask for a run of the machines in so many bundles at most, each in a thread of its own: where they name no number,
--- in one for each machine
-abbrev pub IsRunBy : List (List ℕ) → ℕ → Type 0
-IsRunBy words workers =
-    ((words ≡ codes "run" ∷ []) × (workers ≡ most_machines))
-    ⊎ ((words ≡ codes "run" ∷ codes "--workers" ∷ decimal workers ∷ []) × IsUpTo most_machines workers)
-
--- the words ask for a run
-abbrev pub AskRun : List (List ℕ) → Type 0
-AskRun words = (workers : ℕ) × IsRunBy words workers
-
--- the words ask for one of these, and so for a trace
-abbrev pub AskTrace : List (List ℕ) → Type 0
-AskTrace words = AskReplay words ⊎ (AskNoted words ⊎ AskRun words)
-
--- the largest number from which a churn is made
+-- the largest number from which a churn is made, and the most rounds of each of its threads
 abbrev pub most_seed : ℕ
 most_seed = 1000000
 
--- the most rounds of each thread of a churn
 abbrev pub most_rounds : ℕ
 most_rounds = 20000
 
--- the words ask for a churn, which is made from the seed and has so many rounds
+-- the most numbers of each user of a queue
+abbrev pub most_numbers : ℕ
+most_numbers = 390
+
+-- `replay`, or `replay --steps N`
+abbrev pub IsReplay : List (List ℕ) → (steps : ℕ) → Type 0
+IsReplay words steps = IsNumbered (codes "replay") (codes "--steps") usual_steps most_steps words steps
+
+-- the same, and then `--history`
+abbrev pub IsNotedReplay : List (List ℕ) → (steps : ℕ) → Type 0
+IsNotedReplay words steps = (front : List (List ℕ)) × (words ≡ front ++ codes "--history" ∷ []) × IsReplay front steps
+
+-- `run`, or `run --workers K`
+abbrev pub IsRunBy : List (List ℕ) → (workers : ℕ) → Type 0
+IsRunBy words workers = IsNumbered (codes "run") (codes "--workers") most_machines most_machines words workers
+
+-- `churn SEED COUNT`
 abbrev pub IsChurn : List (List ℕ) → (seed count : ℕ) → Type 0
 IsChurn words seed count = (words ≡ codes "churn" ∷ decimal seed ∷ decimal count ∷ []) × (seed ≤ most_seed) × IsUpTo most_rounds count
 
--- the words ask for a churn
-abbrev pub AskChurn : List (List ℕ) → Type 0
-AskChurn words = (seed : ℕ) × ((count : ℕ) × IsChurn words seed count)
+-- `queue COUNT`
+abbrev pub IsQueue : List (List ℕ) → (count : ℕ) → Type 0
+IsQueue words count = (words ≡ codes "queue" ∷ decimal count ∷ []) × IsUpTo most_numbers count
 
--- the words ask for anything
+-- The words ask for a mode.
+abbrev pub Asks : List (List ℕ) → Mode → Type 0
+Asks words (Replay steps) = IsReplay words steps
+Asks words (Noted steps) = IsNotedReplay words steps
+Asks words (Run workers) = IsRunBy words workers
+Asks words (Churn load) = IsChurn words load.seed load.count
+Asks words (Queue count) = IsQueue words count
+
+-- they ask for one of which this holds
+abbrev pub Asked : List (List ℕ) → (Mode → Type 0) → Type 0
+Asked words P = (mode : Mode) × Asks words mode × P mode
+
+-- they ask for any
 abbrev pub Ask : List (List ℕ) → Type 0
-Ask words = AskTrace words ⊎ AskChurn words
-
--- the first word is this one
-abbrev pub BeginWith : List ℕ → List (List ℕ) → Type 0
-BeginWith word [] = ⊥
-BeginWith word (first ∷ words) = first ≡ word
+Ask words = (mode : Mode) × Asks words mode

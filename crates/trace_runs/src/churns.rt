@@ -1,15 +1,14 @@
 //! `churn`: a large workload that is made from a number, on a heap that threads share.
-ghost use Rattle.std.specs.Prelude.{◌≡◌, ◌≤◌, ℕ, List, IfOk, MatchOption, map};
-ghost use Rattle.std.specs.Fmt.{decimal};
-ghost use Rattle.std.specs.String.{string_bytes};
+ghost use Rattle.std.specs.Prelude.{◌≤◌, ℕ, List, IfOk};
 ghost use Rattle.churn.specs.Laws.{SumsUpTurns};
 ghost use Rattle.text_writer.specs.Sending.{outlet};
-ghost use Rattle.trace_runs.specs.Words.{most_seed, most_rounds, IsChurn, AskChurn};
+ghost use Rattle.trace_runs.specs.Words.{most_seed, most_rounds, Asks};
 ghost use Rattle.trace_runs.specs.Churned.{IsChurnHeap};
 ghost use Rattle.trace_runs.specs.Answered.{Input, StatusFits};
 
 use crate::lines::say;
-use crate::runs::{MOST_MACHINES, graph_of, run_scripts};
+use crate::mode::{MOST_MACHINES, Mode, Workload};
+use crate::runs::{graph_of, run_scripts};
 use crate::status::Status;
 use churn::{Summary, churn_scripts, summarize};
 use heap_words::{Config, NoMemory};
@@ -18,48 +17,7 @@ use std::alloc::Global;
 use std::sync::Wait;
 use std::thread::Threads;
 use table_heap::Gate;
-use trace_grammar::number_in;
 use trace_writing::Line;
-
-/// The largest number from which a churn is made.
-const MOST_SEED: u64 = 1_000_000;
-
-/// The most rounds of each thread of a churn.
-const MOST_ROUNDS: u64 = 20_000;
-
-/// What the scripts of a churn are made from.
-#[derive(Clone, Copy, Debug)]
-pub struct Workload {
-    /// The number that all sizes and values depend on, 0 to 1000000.
-    pub seed: u64,
-    /// The rounds of each thread, 1 to 20000.
-    pub count: u64,
-}
-
-/// The seed that a whole word spells.
-fn seed_in(word: &str) -> Option<u64>
-    ensures { MatchOption result ((n : ℕ) → n ≤ most_seed → word.now ≡ decimal n → ⊥) (λ n. (n ≤ most_seed) × (word.now ≡ decimal n)) }
-{
-    if word == "0" {
-        Some(0)
-    } else {
-        number_in(MOST_SEED, word.as_bytes())
-    }
-}
-
-/// What a churn is to be made from, where the words ask for one: `churn SEED COUNT`.
-pub fn workload_of(words: &[String]) -> Option<Workload>
-    ensures { MatchOption result (AskChurn (map string_bytes words.now) → ⊥) (λ w. IsChurn (map string_bytes words.now) w.seed w.count) }
-{
-    match words {
-        [word, seed, count] if word.as_str() == "churn" => {
-            let seed = seed_in(seed.as_str())?;
-            let count = number_in(MOST_ROUNDS, count.as_bytes())?;
-            Some(Workload { seed, count })
-        }
-        _ => None,
-    }
-}
 
 /// The sizes of the heap of a churn.
 fn churn_heap() -> Config
@@ -103,7 +61,7 @@ pub fn churn<R: Threads + Wait + Sync, K: Sink, G: Gate>(
 ) -> Status
     requires seed { workload.seed ≤ most_seed }
     requires count { workload.count ≤ most_rounds }
-    ensures { (words : List (List ℕ)) (input : Input) → IsChurn words workload.seed workload.count → StatusFits words input
+    ensures { (words : List (List ℕ)) (input : Input) → Asks words (Mode.Churn workload) → StatusFits words input
         (record { before = outlet (K.written sink.old) (K.faults sink.old) (K.calls sink.old); after = outlet (K.written sink.new) (K.faults sink.new) (K.calls sink.new) }) result }
 {
     match summary_of(rt, alloc, workload, gate) {

@@ -1,17 +1,21 @@
-//! What the words of the command line ask for, run on a heap: a replay, a run in threads, or a churn.
+//! What the words of the command line ask for, run on a heap: a replay, a run in threads, a churn, or a queue.
 #![tactic(auto)]
 
 mod churns;
 mod lines;
-mod numbered;
+mod load;
+mod mode;
 mod parts;
-mod replay;
+mod queues;
+mod replays;
 mod runs;
 mod status;
 mod threads;
 
-pub use churns::{Workload, churn, workload_of};
+pub use churns::churn;
 pub use lines::say;
-pub use replay::alone;
-pub use runs::{run, workers_of};
+pub use mode::{Mode, Workload, mode_of};
+pub use queues::queue;
+pub use replays::{replay, replay_noted};
+pub use runs::run;
 pub use status::Status;

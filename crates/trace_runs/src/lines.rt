@@ -7,8 +7,8 @@ ghost use Rattle.trace_writing.specs.Message.{line_text};
 ghost use Rattle.trace_writing.specs.Answer.{spelled_answer};
 ghost use Rattle.trace_writing.specs.History.{history_text};
 ghost use Rattle.trace_runs.specs.CallEnds.{EndsWith};
-ghost use Rattle.trace_runs.specs.Words.{AskTrace};
-ghost use Rattle.trace_runs.specs.Answered.{StatusFits};
+ghost use Rattle.trace_runs.specs.Words.{Asked};
+ghost use Rattle.trace_runs.specs.Answered.{ReadsTrace, StatusFits};
 
 use crate::status::Status;
 use shen_base::{Sink, Source};
@@ -64,7 +64,7 @@ pub fn taken<S: Source, K: Sink>(
 ) -> Result<Trace, Status>
     ensures ok { IfOk result (λ trace. (bytes : List ℕ) × Came (S.left source.old) (S.left source.new) bytes × Reads bytes trace.config trace.scripts trace.schedule) }
     ensures unused { OnOk result (sink.new ≡ sink.old) }
-    ensures refused { IfErr result (λ status. (words : List (List ℕ)) → AskTrace words → StatusFits words
+    ensures refused { IfErr result (λ status. (words : List (List ℕ)) → Asked words ReadsTrace → StatusFits words
         (record { before = S.left source.old; after = S.left source.new; faults_before = S.faults source.old; faults_after = S.faults source.new })
         (record { before = outlet (K.written sink.old) (K.faults sink.old) (K.calls sink.old); after = outlet (K.written sink.new) (K.faults sink.new) (K.calls sink.new) }) status) }
 {

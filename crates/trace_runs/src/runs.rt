@@ -1,6 +1,5 @@
 //! `run`: the scripts of a trace on a heap that threads share.
-ghost use Rattle.std.specs.Prelude.{◌≡◌, ◌≤◌, ◌<◌, ℕ, List, IfOk, IfErr, MatchOption, All, length, map};
-ghost use Rattle.std.specs.String.{string_bytes};
+ghost use Rattle.std.specs.Prelude.{◌≡◌, ◌≤◌, ◌<◌, ℕ, List, IfOk, IfErr, All, length};
 ghost use Rattle.steps_base.specs.Steps.{Event, go};
 ghost use Rattle.shen_graph.specs.declared.order.Order.{Order};
 ghost use Rattle.shen_graph.specs.Work.{HasScript};
@@ -12,13 +11,14 @@ ghost use Rattle.text_writer.specs.Sending.{outlet};
 ghost use Rattle.trace_grammar.specs.Grammar.{Reads};
 ghost use Rattle.trace_writing.specs.Answer.{spelled_answer};
 ghost use Rattle.table_heap.specs.Closed.{config_of, stage_of, AllRest};
-ghost use Rattle.trace_runs.specs.Words.{AskRun, IsRunBy};
+ghost use Rattle.trace_runs.specs.Words.{Asks};
 ghost use Rattle.trace_runs.specs.Replayed.{IsRun};
 ghost use Rattle.trace_runs.specs.Running.{HasCome};
 ghost use Rattle.trace_runs.specs.Answered.{StatusFits};
 
 use crate::lines::{give, say, taken};
-use crate::numbered::number_of;
+use crate::load::Load;
+use crate::mode::Mode;
 use crate::parts::{Part, dealt};
 use crate::status::Status;
 use crate::threads::run_parts;
@@ -31,16 +31,6 @@ use std::thread::Threads;
 use table_heap::{Closed, Gate, Heap};
 use trace_grammar::Trace;
 use trace_writing::{Answer, Line};
-
-/// The most machines that a heap has, and so the most bundles.
-pub const MOST_MACHINES: u64 = 12;
-
-/// The bundles that a run may make, where the words ask for one: `run`, or `run --workers K`.
-pub fn workers_of(words: &[String]) -> Option<u64>
-    ensures { MatchOption result (AskRun (map string_bytes words.now) → ⊥) (IsRunBy (map string_bytes words.now)) }
-{
-    number_of("run", "--workers", MOST_MACHINES, MOST_MACHINES, words)
-}
 
 /// Runs scripts, one for each mutator, on a heap of their own, in so many bundles at most, until all machines are idle.
 pub fn run_scripts<R: Threads + Wait + Sync, G: Gate>(
@@ -62,8 +52,12 @@ pub fn run_scripts<R: Threads + Wait + Sync, G: Gate>(
     };
     let (heap, bundles) = Heap::open(alloc, config, bundles)?;
     let parts = dealt(alloc, &heap, work, bundles)?;
-    let Part { bundle, work } = run_parts(rt, alloc, &heap, gate, parts)?;
-    Ok((work, heap.close(bundle)))
+    let Part { bundle, load } = run_parts(rt, alloc, &heap, gate, parts)?;
+    let closed = heap.close(bundle);
+    match load {
+        Load::Scripted(work) => Ok((work, closed)),
+        Load::Driven(_) => unreachable!(),
+    }
 }
 
 /// The graph that a heap stands for, as it is to be written.
@@ -110,7 +104,7 @@ pub fn run<R: Threads + Wait + Sync, S: Source, K: Sink, G: Gate>(
     gate: &G,
 ) -> Status
     requires { 1 ≤ workers }
-    ensures { (words : List (List ℕ)) → IsRunBy words workers → StatusFits words
+    ensures { (words : List (List ℕ)) → Asks words (Mode.Run workers) → StatusFits words
         (record { before = S.left source.old; after = S.left source.new; faults_before = S.faults source.old; faults_after = S.faults source.new })
         (record { before = outlet (K.written sink.old) (K.faults sink.old) (K.calls sink.old); after = outlet (K.written sink.new) (K.faults sink.new) (K.calls sink.new) }) result }
 {

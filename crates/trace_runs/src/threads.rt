@@ -1,7 +1,6 @@
 //! Runs of a heap's machines in threads: each part in a thread of its own, but those that the caller keeps.
 ghost use Rattle.std.specs.Prelude.{◌≡◌, ◌+◌, ◌≤◌, ◌<◌, ℕ, [], IfOk, IfErr, length, vec_capacity};
-ghost use Rattle.step_core.specs.Schedule.{Scripts};
-ghost use Rattle.trace_runs.specs.DealtParts.{PartCanRun, IsGivenBack, PartIsReady, IsDone, AreReady};
+ghost use Rattle.trace_runs.specs.DealtParts.{Assigned, PartCanRun, IsGivenBack, PartIsReady, IsDone, AreReady};
 ghost use Rattle.trace_runs.specs.Started.{IsThread, AreThreads, AreSplit};
 
 use crate::parts::{Part, Returned, together};
@@ -59,7 +58,7 @@ fn start<'s, E, R: Wait + Sync, G: Gate>(
     part: Part,
 ) -> Result<Thread, Part>
     requires { PartCanRun heap.now part }
-    ensures ok { IfOk result (λ thread. (scripts : Scripts) (workers k : ℕ) → PartIsReady heap.now scripts workers k (k + 1) part → IsThread heap.now scripts workers k thread) }
+    ensures ok { IfOk result (λ thread. (assigned : Assigned) (workers k : ℕ) → PartIsReady heap.now assigned workers k (k + 1) part → IsThread heap.now assigned workers k thread) }
     ensures err { IfErr result (λ back. back ≡ part) }
 {
     let given = Given(Snapshot::of(&part));
@@ -99,8 +98,8 @@ fn start_all<'s, E, R: Wait + Sync, G: Gate>(
     requires flags { length parts.old.items ≤ length stays.now }
     requires none { threads.old.items ≡ [] }
     requires room { length parts.old.items ≤ vec_capacity threads.old }
-    requires ready { (scripts : Scripts) × AreReady heap.now scripts (length parts.old.items) parts.old.items }
-    ensures { (scripts : Scripts) → AreReady heap.now scripts (length parts.old.items) parts.old.items → AreSplit heap.now scripts (length parts.old.items) parts.new.items threads.new.items }
+    requires ready { (assigned : Assigned) × AreReady heap.now assigned (length parts.old.items) parts.old.items }
+    ensures { (assigned : Assigned) → AreReady heap.now assigned (length parts.old.items) parts.old.items → AreSplit heap.now assigned (length parts.old.items) parts.new.items threads.new.items }
 {
     while parts.len() > 1 {
         let Some(part) = parts.pop() else {
@@ -124,8 +123,8 @@ fn start_all<'s, E, R: Wait + Sync, G: Gate>(
 
 // The part of a thread, once it has run.
 fn ended<R: Threads + Wait, G: Gate>(rt: &R, heap: &Heap, gate: &G, thread: Thread) -> Part
-    requires { (scripts : Scripts) × (workers : ℕ) × (k : ℕ) × IsThread heap.now scripts workers k thread }
-    ensures { (scripts : Scripts) (workers k : ℕ) → IsThread heap.now scripts workers k thread → IsDone heap.now scripts workers k (k + 1) result }
+    requires { (assigned : Assigned) × (workers : ℕ) × (k : ℕ) × IsThread heap.now assigned workers k thread }
+    ensures { (assigned : Assigned) (workers k : ℕ) → IsThread heap.now assigned workers k thread → IsDone heap.now assigned workers k (k + 1) result }
 {
     match thread {
         Thread::Over(part) => part,
@@ -147,8 +146,8 @@ fn join_all<R: Threads + Wait, G: Gate>(
     mut own: Part,
     mut threads: Vec<Thread>,
 ) -> Part
-    requires { (scripts : Scripts) × (first : ℕ) × IsDone heap.now scripts (first + length threads.items) 0 first own × AreThreads heap.now scripts (first + length threads.items) threads.items }
-    ensures { (scripts : Scripts) (first : ℕ) → IsDone heap.now scripts (first + length threads.items) 0 first own → AreThreads heap.now scripts (first + length threads.items) threads.items → IsDone heap.now scripts (first + length threads.items) 0 (first + length threads.items) result }
+    requires { (assigned : Assigned) × (first : ℕ) × IsDone heap.now assigned (first + length threads.items) 0 first own × AreThreads heap.now assigned (first + length threads.items) threads.items }
+    ensures { (assigned : Assigned) (first : ℕ) → IsDone heap.now assigned (first + length threads.items) 0 first own → AreThreads heap.now assigned (first + length threads.items) threads.items → IsDone heap.now assigned (first + length threads.items) 0 (first + length threads.items) result }
 {
     while let Some(thread) = threads.pop() {
         let part = ended(rt, heap, gate, thread);
@@ -171,8 +170,8 @@ fn run_in<'s, E, R: Threads + Wait + Sync, G: Gate>(
     requires flags { length parts.items ≤ length stays.now }
     requires none { threads.items ≡ [] }
     requires room { length parts.items ≤ vec_capacity threads }
-    requires ready { (scripts : Scripts) × AreReady heap.now scripts (length parts.items) parts.items }
-    ensures { (scripts : Scripts) → AreReady heap.now scripts (length parts.items) parts.items → IsDone heap.now scripts (length parts.items) 0 (length parts.items) result }
+    requires ready { (assigned : Assigned) × AreReady heap.now assigned (length parts.items) parts.items }
+    ensures { (assigned : Assigned) → AreReady heap.now assigned (length parts.items) parts.items → IsDone heap.now assigned (length parts.items) 0 (length parts.items) result }
 {
     start_all(scope, rt, heap, gate, stays, &mut parts, &mut threads);
     let mut own = together(heap, parts);
@@ -206,8 +205,8 @@ pub fn run_parts<R: Threads + Wait + Sync, G: Gate>(
     parts: Vec<Part>,
 ) -> Result<Part, NoMemory>
     requires some { 0 < length parts.items }
-    requires ready { (scripts : Scripts) × AreReady heap.now scripts (length parts.items) parts.items }
-    ensures { IfOk result (λ all. (scripts : Scripts) → AreReady heap.now scripts (length parts.items) parts.items → IsDone heap.now scripts (length parts.items) 0 (length parts.items) all) }
+    requires ready { (assigned : Assigned) × AreReady heap.now assigned (length parts.items) parts.items }
+    ensures { IfOk result (λ all. (assigned : Assigned) → AreReady heap.now assigned (length parts.items) parts.items → IsDone heap.now assigned (length parts.items) 0 (length parts.items) all) }
 {
     let stays = flags(alloc, parts.len())?;
     let Ok(threads) = Vec::with_capacity(alloc, parts.len()) else {
@@ -222,8 +221,8 @@ pub fn run_parts<R: Threads + Wait + Sync, G: Gate>(
             requires flags { length parts.items ≤ length flags.now }
             requires none { threads.items ≡ [] }
             requires room { length parts.items ≤ vec_capacity threads }
-            requires ready { (scripts : Scripts) × AreReady heap.now scripts (length parts.items) parts.items }
-            ensures { (scripts : Scripts) → AreReady heap.entry.now scripts (length parts.items) parts.items → IsDone heap.entry.now scripts (length parts.items) 0 (length parts.items) result }
+            requires ready { (assigned : Assigned) × AreReady heap.now assigned (length parts.items) parts.items }
+            ensures { (assigned : Assigned) → AreReady heap.entry.now assigned (length parts.items) parts.items → IsDone heap.entry.now assigned (length parts.items) 0 (length parts.items) result }
         { run_in(scope, rt, heap, gate, flags, parts, threads) },
     ))
 }

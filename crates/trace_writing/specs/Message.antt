@@ -1,11 +1,11 @@
--- The text that is written where no trace is answered: one line, the eight of a churn, or the three of a queue.
+-- The text that is written where no trace is answered: one line, such as a verdict, the eight of a churn, or the three of a queue.
 use Rattle.std.specs.Prelude.{ℕ, List, [], ◌∷◌, ◌++◌, codes}
 use Rattle.std.specs.Fmt.{decimal}
 use Rattle.churn.specs.declared.summary.Summary.{Summary}
 use Rattle.trace_grammar.specs.Spelling.{newline}
 use Rattle.trace_grammar.specs.Why.{text_of}
 use Rattle.trace_writing.specs.declared.message.Line.{Line}
-use Rattle.trace_writing.specs.declared.message.Line.TheVariants.{BadWords, BadLine, TooLong, Unfinished, ReadFault, NoMemory, Churn, Queue}
+use Rattle.trace_writing.specs.declared.message.Line.TheVariants.{BadWords, BadLine, TooLong, Unfinished, ReadFault, NoMemory, Churn, Queue, Yes, NoEntry, NoScript, NoText}
 
 -- what is told of a run of the workload, whose threads are three: a line each, the last one without its end
 abbrev pub summary_text : Summary → List ℕ
@@ -32,6 +32,10 @@ message ReadFault = codes "read fault"
 message NoMemory = codes "out of memory"
 message (Churn s) = summary_text s
 message (Queue count items sum) = queue_text count items sum
+message Yes = codes "yes"
+message (NoEntry at) = codes "no: entry " ++ decimal at
+message (NoScript thread) = codes "no: script " ++ decimal thread
+message NoText = codes "no: text"
 
 -- the line
 abbrev pub line_text : Line → List ℕ

@@ -122,7 +122,8 @@ fn put_reference<K: Sink>(block: &mut Block, sink: &mut K, reference: Option<Nam
     }
 }
 
-fn put_objects<K: Sink>(block: &mut Block, sink: &mut K, graph: &GraphText)
+/// Puts the line of each object: its name, its references, a stroke, and its numbers.
+pub fn put_objects<K: Sink>(block: &mut Block, sink: &mut K, graph: &GraphText)
     ensures { Puts (stage (K.written sink.old) (K.faults sink.old) (K.calls sink.old) block.old)
         (stage (K.written sink.new) (K.faults sink.new) (K.calls sink.new) block.new)
         (flat_map object_line graph.now.rows) }
@@ -172,8 +173,8 @@ fn put_numbers<K: Sink>(block: &mut Block, sink: &mut K, graph: &GraphText, row:
     }
 }
 
-// Puts the lines of the roots of each thread.
-fn put_roots<K: Sink>(block: &mut Block, sink: &mut K, graph: &GraphText)
+/// Puts the line of the roots of each thread.
+pub fn put_roots<K: Sink>(block: &mut Block, sink: &mut K, graph: &GraphText)
     requires { length graph.now.roots ≤ 8 }
     ensures { Puts (stage (K.written sink.old) (K.faults sink.old) (K.calls sink.old) block.old)
         (stage (K.written sink.new) (K.faults sink.new) (K.calls sink.new) block.new)

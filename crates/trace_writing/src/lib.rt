@@ -6,8 +6,8 @@ mod history;
 mod message;
 mod trace;
 
-pub use answer::{Answer, write_answer};
+pub use answer::{Answer, put_objects, put_roots, write_answer};
 pub use history::write_history;
 pub use message::{Line, write_line};
 pub use text_writer::WriteFault;
-pub use trace::{read_traces_can_be_written, write_trace};
+pub use trace::{put_title, read_traces_can_be_written, write_trace};

@@ -10,7 +10,7 @@ use shen_base::Sink;
 use text_writer::{Block, WriteFault, write_all};
 use trace_grammar::Why;
 
-/// The one line that stands in the place of an answer, or the lines of a churn or of a queue.
+/// The one line that stands in the place of an answer, the verdict on one, or the lines of a churn or of a queue.
 #[derive(Clone, Copy, Debug, PartialEq, Eq)]
 pub enum Line {
     /// The words of the command line are outside their grammar: `bad words`.
@@ -30,6 +30,14 @@ pub enum Line {
     Churn(Summary),
     /// What the takers of a queue got: `queue COUNT`, `items N` and `sum S`.
     Queue { count: u64, items: u64, sum: u128 },
+    /// A history that somebody claims is right, and so is its answer: `yes`.
+    Yes,
+    /// The entry at this place, counted from 0, is the first that may not follow those before it: `no: entry K`.
+    NoEntry { at: u64 },
+    /// This thread, counted from 1, is the first with a command that the history lacks: `no: script T`.
+    NoScript { thread: u32 },
+    /// The history is right, and its answer is another text: `no: text`.
+    NoText,
 }
 
 /// Writes the line to the sink. It takes no memory, and calls the sink at most once per byte. After `WriteFault` a front
@@ -47,6 +55,10 @@ pub fn write_line<K: Sink>(sink: &mut K, line: &Line) -> Result<(), WriteFault>
         Line::NoMemory => write_all(sink, b"out of memory\n"),
         Line::Churn(summary) => write_churn(sink, *summary),
         Line::Queue { count, items, sum } => write_queue(sink, *count, *items, *sum),
+        Line::Yes => write_all(sink, b"yes\n"),
+        Line::NoEntry { at } => write_told(sink, b"no: entry ", *at),
+        Line::NoScript { thread } => write_told(sink, b"no: script ", *thread as u64),
+        Line::NoText => write_all(sink, b"no: text\n"),
     }
 }
 
@@ -71,6 +83,17 @@ fn write_unfinished<K: Sink>(sink: &mut K, steps: u64) -> Result<(), WriteFault>
     let mut block = Block::new();
     put_told(&mut block, sink, b"unfinished after ", steps);
     block.put(sink, b" steps\n");
+    block.finish(sink)
+}
+
+// Writes a line of a label and a number.
+fn write_told<K: Sink>(sink: &mut K, label: &[u8], number: u64) -> Result<(), WriteFault>
+    ensures { Writes result (outlet (K.written sink.old) (K.faults sink.old) (K.calls sink.old))
+        (outlet (K.written sink.new) (K.faults sink.new) (K.calls sink.new)) (label.now ++ (decimal number ++ newline ∷ [])) }
+{
+    let mut block = Block::new();
+    put_told(&mut block, sink, label, number);
+    block.put(sink, b"\n");
     block.finish(sink)
 }
 

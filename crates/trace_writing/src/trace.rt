@@ -55,8 +55,8 @@ fn put_header<K: Sink>(block: &mut Block, sink: &mut K, config: &Config)
     put_title(block, sink, b"threads", &threads);
 }
 
-// Puts a line of a title and numbers.
-fn put_title<K: Sink>(block: &mut Block, sink: &mut K, title: &[u8], values: &[u64])
+/// Puts a line of a title and numbers, each after a space.
+pub fn put_title<K: Sink>(block: &mut Block, sink: &mut K, title: &[u8], values: &[u64])
     ensures { Puts (stage (K.written sink.old) (K.faults sink.old) (K.calls sink.old) block.old)
         (stage (K.written sink.new) (K.faults sink.new) (K.calls sink.new) block.new)
         (titled title.now values.now) }

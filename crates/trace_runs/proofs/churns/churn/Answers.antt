@@ -1,6 +1,7 @@
-use Rattle.std.proofs.Common.{inr, refl}
+use Rattle.std.proofs.Common.{refl}
 use Rattle.trace_writing.specs.Message.{line_text}
 use Rattle.trace_writing.specs.declared.message.Line.TheVariants as line
+use Rattle.trace_runs.specs.declared.mode.Mode.TheVariants.{Churn}
 use Rattle.trace_runs.specs.declared.status.Status.TheVariants.{Ok, NoMemory}
 use Rattle.trace_runs.specs.Churned.{IsChurned}
 use Rattle.trace_runs.proofs.CallEnds.{said}
@@ -9,8 +10,8 @@ use Rattle.trace_runs.proofs.churns.churn.Goals as goal
 pub returns-in-Ok : goal.returns-in-Ok
 returns-in-Ok g c = λ words input asked.
     let told : IsChurned c.args.workload.seed c.args.workload.count (line_text (line.Churn c.in-Ok.summary)) = record { summary = c.in-Ok.summary; turns = c.in-Ok.ensures; text = refl } in
-    said words input _ (line_text (line.Churn c.in-Ok.summary)) Ok c.say.result (inr (inr (inr (c.args.workload.seed, (c.args.workload.count, asked, told))))) c.say.ensures
+    said words input _ (line_text (line.Churn c.in-Ok.summary)) Ok c.say.result (Churn c.args.workload, asked, told) c.say.ensures
 
 pub returns-in-Err : goal.returns-in-Err
 returns-in-Err g c = λ words input asked.
-    said words input _ (line_text line.NoMemory) NoMemory c.say-in-Err.result (inr (c.args.workload.seed, (c.args.workload.count, asked)), refl) c.say-in-Err.ensures
+    said words input _ (line_text line.NoMemory) NoMemory c.say-in-Err.result ((Churn c.args.workload, asked), refl) c.say-in-Err.ensures

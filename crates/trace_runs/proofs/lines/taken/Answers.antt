@@ -10,12 +10,12 @@ returns-in-Err-BadLine-clause-refused g c = λ words asked.
     let n = c.in-Err-BadLine.line in
     let why = c.in-Err-BadLine.why in
     let bad = c.in-Err-BadLine.ensures.bad_line n why (let e = c.in-Err-BadLine.field-0-is in cc) in
-    said words _ _ (line_text (line.BadLine n why)) BadTrace c.say.result (asked, inl (bad.0, n, why, bad.1, bad.2, refl)) c.say.ensures
+    said words _ _ (line_text (line.BadLine n why)) BadTrace c.say.result (asked, inl (record { number = n; why = why; refused = record { bytes = bad.0; came = bad.1; is = bad.2 }; text = refl })) c.say.ensures
 
 pub returns-in-Err-TooLong-clause-refused : goal.returns-in-Err-TooLong-clause-refused
 returns-in-Err-TooLong-clause-refused g c = λ words asked.
     let long = c.in-Err-TooLong.ensures.too_long c.in-Err-TooLong.field-0-0 (let e = c.in-Err-TooLong.field-0-is in cc) in
-    said words _ _ (line_text line.TooLong) BadTrace c.say-in-Err-TooLong.result (asked, inr (long.1, refl)) c.say-in-Err-TooLong.ensures
+    said words _ _ (line_text line.TooLong) BadTrace c.say-in-Err-TooLong.result (asked, inr (record { bytes = long.1.0; taken = long.1.1; many = long.1.2; text = refl })) c.say-in-Err-TooLong.ensures
 
 pub returns-in-Err-ReadFault-clause-refused : goal.returns-in-Err-ReadFault-clause-refused
 returns-in-Err-ReadFault-clause-refused g c = λ words asked.
@@ -24,4 +24,4 @@ returns-in-Err-ReadFault-clause-refused g c = λ words asked.
 
 pub returns-in-Err-NoMemory-clause-refused : goal.returns-in-Err-NoMemory-clause-refused
 returns-in-Err-NoMemory-clause-refused g c = λ words asked.
-    said words _ _ (line_text line.NoMemory) NoMemory c.say-in-Err-NoMemory.result (inl asked, refl) c.say-in-Err-NoMemory.ensures
+    said words _ _ (line_text line.NoMemory) NoMemory c.say-in-Err-NoMemory.result ((asked.0, asked.1), refl) c.say-in-Err-NoMemory.ensures

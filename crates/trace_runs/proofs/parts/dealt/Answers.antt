@@ -2,6 +2,8 @@ use Rattle.std.proofs.Common.{rules, ◌≡◌, suc, ◌+◌, length, ap, sym, �
 use Rattle.std.specs.Prelude.{slice_get}
 use Rattle.shen_graph.specs.Work.{left_over, parted}
 use Rattle.trace_runs.specs.DealtParts.{PartIsReady, AreReady}
+use Rattle.trace_runs.specs.declared.load.Load.TheVariants.{Scripted}
+use Rattle.trace_runs.specs.DealtParts.Assigned.{scripts as by_scripts}
 use Rattle.trace_runs.proofs.Dealing.{ready_part, left_after, one_less}
 use Rattle.trace_runs.proofs.Loops.{more_ready, longer}
 use Rattle.trace_runs.proofs.parts.dealt.Goals as goal
@@ -27,14 +29,14 @@ loop-bundle-preserved c =
           ap (slice_get c.args.bundles.items) (let e : length c.push.new.self.items + i ≡ length old + suc i = omega (arith, count) in e)
           ∙ was.left (suc i) x (ap (λ xs. slice_get xs (suc i)) step.0 ∙ there);
       work_left = λ scripts can.
-          c.part-work.ensures.left ∙ ap (λ n. left_over workers n now) place ∙ ap (left_over workers (length old)) (was.work_left scripts can)
+          c.part.ensures.left ∙ ap (λ n. left_over workers n now) place ∙ ap (left_over workers (length old)) (was.work_left scripts can)
           ∙ one_less workers (length old) scripts ∙ ap (λ n. left_after workers n scripts) (sym count);
       ready = λ scripts can.
-          more_ready h scripts workers old c.push.new.self.items _ grown (was.ready scripts can)
-          (subst (λ w. PartIsReady h scripts workers (length old) (length old + 1) (record { bundle = b; work = w })) (sym (c.part-work.ensures.parted ∙ ap (λ n. parted workers n now) place))
+          more_ready h (by_scripts scripts) workers old c.push.new.self.items _ grown (was.ready scripts can)
+          (subst (λ w. PartIsReady h (by_scripts scripts) workers (length old) (length old + 1) (record { bundle = b; load = Scripted w })) (sym (c.part.ensures.parted ∙ ap (λ n. parted workers n now) place))
           (ready_part h scripts c.args.work c.args.bundles.items can workers (length old) b now was.workers_are here (was.work_left scripts can)));
     }
 
 pub returns-clause-ready : goal.returns-clause-ready
 returns-clause-ready c = λ scripts can.
-    subst (λ n. AreReady c.args.heap.now scripts n c.loop-bundle.parts.items) c.loop-bundle.invariant.workers_are (c.loop-bundle.invariant.ready scripts can)
+    subst (λ n. AreReady c.args.heap.now (by_scripts scripts) n c.loop-bundle.parts.items) c.loop-bundle.invariant.workers_are (c.loop-bundle.invariant.ready scripts can)

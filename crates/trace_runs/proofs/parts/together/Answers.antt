@@ -1,6 +1,6 @@
 use Rattle.std.proofs.Common.{rules, ◌≡◌, ◌+◌, length, ap, ◌∙◌, subst, arith}
 use Rattle.trace_runs.specs.DealtParts.{PartIsReady}
-use Rattle.trace_runs.proofs.PartLaws.{apart}
+use Rattle.trace_runs.proofs.PartLaws.{apart_before}
 use Rattle.trace_runs.proofs.Loops.{others_ready, last_ready, to_length, longer}
 use Rattle.trace_runs.proofs.parts.together.Goals as goal
 
@@ -13,8 +13,8 @@ loop-part-init c =
     let is = c.in-Some.ensures.items in
     record {
       fewer = omega (arith, ap length is ∙ longer new own);
-      left = λ scripts workers ready. others_ready h scripts workers old new own is ready;
-      ready = λ scripts workers ready. to_length h scripts workers old new own is (last_ready h scripts workers old new own is ready);
+      left = λ assigned workers ready. others_ready h assigned workers old new own is ready;
+      ready = λ assigned workers ready. to_length h assigned workers old new own is (last_ready h assigned workers old new own is ready);
     }
 
 pub join-own-requires-clause-this : goal.join-own-requires-clause-this
@@ -30,8 +30,10 @@ join-own-requires-clause-apart c =
     let new = c.pop-in-loop-part.new.self.items in
     let p = c.in-Some-pop.part in
     let is = c.in-Some-pop.ensures.items in
-    apart h r.0 r.1 (length new) (length old) (length c.args.parts.items) p c.loop-part.own
-    (to_length h r.0 r.1 old new p is (last_ready h r.0 r.1 old new p is (c.loop-part.invariant.left r.0 r.1 r.2))).has (c.loop-part.invariant.ready r.0 r.1 r.2).has
+    let count = ap length is ∙ longer new p in
+    let fewer = c.loop-part.invariant.fewer in
+    apart_before h r.0 r.1 (length new) (length old) (length c.args.parts.items) p c.loop-part.own (omega (arith, count)) (omega (arith, fewer))
+    (to_length h r.0 r.1 old new p is (last_ready h r.0 r.1 old new p is (c.loop-part.invariant.left r.0 r.1 r.2))) (c.loop-part.invariant.ready r.0 r.1 r.2)
 
 pub loop-part-preserved : goal.loop-part-preserved
 loop-part-preserved c =
@@ -44,14 +46,14 @@ loop-part-preserved c =
     let count : length old ≡ length new + 1 = ap length is ∙ longer new p in
     record {
       fewer = omega (arith, count, was.fewer);
-      left = λ scripts workers ready. others_ready h scripts workers old new p is (was.left scripts workers ready);
-      ready = λ scripts workers ready.
-          c.join-own.ensures.ready scripts workers (length new) (length old) (length c.args.parts.items)
-          (to_length h scripts workers old new p is (last_ready h scripts workers old new p is (was.left scripts workers ready)))
-          (was.ready scripts workers ready) (omega (arith, count)) (omega (arith, was.fewer));
+      left = λ assigned workers ready. others_ready h assigned workers old new p is (was.left assigned workers ready);
+      ready = λ assigned workers ready.
+          c.join-own.ensures.ready assigned workers (length new) (length old) (length c.args.parts.items)
+          (to_length h assigned workers old new p is (last_ready h assigned workers old new p is (was.left assigned workers ready)))
+          (was.ready assigned workers ready) (omega (arith, count)) (omega (arith, was.fewer));
     }
 
 pub returns : goal.returns
-returns c = λ scripts workers ready.
+returns c = λ assigned workers ready.
     let none : length c.loop-part.parts.items ≡ 0 = search rules in
-    subst (λ n. PartIsReady c.args.heap.now scripts workers n (length c.args.parts.items) c.loop-part.own) none (c.loop-part.invariant.ready scripts workers ready)
+    subst (λ n. PartIsReady c.args.heap.now assigned workers n (length c.args.parts.items) c.loop-part.own) none (c.loop-part.invariant.ready assigned workers ready)

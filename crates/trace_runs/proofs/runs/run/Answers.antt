@@ -1,10 +1,11 @@
-use Rattle.std.proofs.Common.{inl, inr, refl, subst}
+use Rattle.std.proofs.Common.{refl, subst}
 use Rattle.trace_writing.specs.Message.{line_text}
 use Rattle.trace_writing.specs.declared.message.Line.TheVariants as line
 use Rattle.trace_writing.specs.Answer.{spelled_answer}
 use Rattle.text_writer.specs.Sending.{outlet}
 use Rattle.trace_runs.specs.Answered.{Input, Output}
 use Rattle.trace_runs.specs.CallEnds.{EndsWith}
+use Rattle.trace_runs.specs.declared.mode.Mode.TheVariants.{Run}
 use Rattle.trace_runs.specs.declared.status.Status.TheVariants.{Ok, NoMemory}
 use Rattle.trace_runs.proofs.CallEnds.{said}
 use Rattle.trace_runs.proofs.runs.run.Goals as goal
@@ -16,7 +17,7 @@ returns-in-Err-answer_to g c = λ words asked.
       before = outlet (g.K.Sink.written c.args.sink.now) (g.K.Sink.faults c.args.sink.now) (g.K.Sink.calls c.args.sink.now);
       after = outlet (g.K.Sink.written c.say.new.sink) (g.K.Sink.faults c.say.new.sink) (g.K.Sink.calls c.say.new.sink);
     } in
-    said words input output (line_text line.NoMemory) NoMemory c.say.result (inl (inr (inr (c.args.workers, asked))), refl)
+    said words input output (line_text line.NoMemory) NoMemory c.say.result ((Run c.args.workers, asked), refl)
     (subst (λ s. EndsWith (line_text line.NoMemory) NoMemory c.say.result (outlet (g.K.Sink.written s) (g.K.Sink.faults s) (g.K.Sink.calls s)) output.after) c.in-Ok.ensures.unused c.say.ensures)
 
 pub returns-in-Ok-answer_to : goal.returns-in-Ok-answer_to
@@ -27,8 +28,8 @@ returns-in-Ok-answer_to g c = λ words asked.
       before = outlet (g.K.Sink.written c.args.sink.now) (g.K.Sink.faults c.args.sink.now) (g.K.Sink.calls c.args.sink.now);
       after = outlet (g.K.Sink.written c.give.new.sink) (g.K.Sink.faults c.give.new.sink) (g.K.Sink.calls c.give.new.sink);
     } in
-    said words input output (spelled_answer c.in-Ok-answer_to.answer) Ok c.give.result (inr (inr (inl ((c.args.workers, asked), (read.0, read.1, c.in-Ok-answer_to.ensures.ok read.0 read.2)))))
+    said words input output (spelled_answer c.in-Ok-answer_to.answer) Ok c.give.result (Run c.args.workers, asked, record { bytes = read.0; came = read.1; is = c.in-Ok-answer_to.ensures.ok read.0 read.2 })
     (subst (λ s. EndsWith (spelled_answer c.in-Ok-answer_to.answer) Ok c.give.result (outlet (g.K.Sink.written s) (g.K.Sink.faults s) (g.K.Sink.calls s)) output.after) c.in-Ok.ensures.unused c.give.ensures)
 
 pub returns-in-Err : goal.returns-in-Err
-returns-in-Err g c = λ words asked. c.in-Err.ensures.refused words (inr (inr (c.args.workers, asked)))
+returns-in-Err g c = λ words asked. c.in-Err.ensures.refused words (Run c.args.workers, asked, tt)

@@ -1,8 +1,11 @@
 use Rattle.std.proofs.Common.{rules, ◌<◌, ◌≤◌, length, sym, subst, arith}
 use Rattle.heap_words.specs.declared.config.Config.{Config}
-use Rattle.step_core.specs.Schedule.{Scripts}
+use Rattle.table_heap.specs.State.{config_of, view_of}
+use Rattle.table_heap.specs.Running.{Jobs}
 use Rattle.trace_runs.specs.declared.parts.Part.{Part}
-use Rattle.trace_runs.specs.DealtParts.{AreReady, IsDone}
+use Rattle.trace_runs.specs.DealtParts.{Assigned, AreReady, LoadIsDone, IsDone}
+use Rattle.trace_runs.specs.DealtParts.Assigned.{scripts as by_scripts}
+use Rattle.trace_runs.specs.declared.load.Load.TheVariants.{Scripted}
 use Rattle.trace_runs.specs.Running.{HasCome}
 use Rattle.trace_runs.proofs.Dealing.{can_be_dealt}
 use Rattle.trace_runs.proofs.Coming.{has_all, control_idle, come}
@@ -18,51 +21,65 @@ run_parts-requires-clause-ready g c κs within =
     let bundles = c.in_ok-heap.bundles.items in
     let parts = c.in_ok-parts.parts.items in
     let can = can_be_dealt h c.args.config scripts c.in-Ok.work bundles c.min-bundles.result c.in_ok-heap.ensures.config c.in_ok-heap.ensures.count c.in_ok-heap.ensures.bundles c.in-Ok.ensures c.requires.count c.requires.runnable in
-    let ready : AreReady h scripts (length parts) parts = subst (λ n. AreReady h scripts n parts) (sym c.in_ok-parts.ensures.count) (c.in_ok-parts.ensures.ready scripts can) in
-    let some : (ss : Scripts) × AreReady h ss (length parts) parts = (scripts, ready) in
+    let ready : AreReady h (by_scripts scripts) (length parts) parts = subst (λ n. AreReady h (by_scripts scripts) n parts) (sym c.in_ok-parts.ensures.count) (c.in_ok-parts.ensures.ready scripts can) in
+    let some : (assigned : Assigned) × AreReady h assigned (length parts) parts = (by_scripts scripts, ready) in
     some
 
-pub close-requires-clause-heap : goal.close-requires-clause-heap
-close-requires-clause-heap g c =
+pub close-closed-requires-clause-heap : goal.close-closed-requires-clause-heap
+close-closed-requires-clause-heap g c =
     let scripts = c.args.scripts.items in
     let h = c.in_ok-heap.heap in
     let bundles = c.in_ok-heap.bundles.items in
     let parts = c.in_ok-parts.parts.items in
     let can = can_be_dealt h c.args.config scripts c.in-Ok.work bundles c.min-bundles.result c.in_ok-heap.ensures.config c.in_ok-heap.ensures.count c.in_ok-heap.ensures.bundles c.in-Ok.ensures c.requires.count c.requires.runnable in
-    let ready : AreReady h scripts (length parts) parts = subst (λ n. AreReady h scripts n parts) (sym c.in_ok-parts.ensures.count) (c.in_ok-parts.ensures.ready scripts can) in
+    let ready : AreReady h (by_scripts scripts) (length parts) parts = subst (λ n. AreReady h (by_scripts scripts) n parts) (sym c.in_ok-parts.ensures.count) (c.in_ok-parts.ensures.ready scripts can) in
     let all : Part = c.in_ok-bundle.field-0 in
-    let done : IsDone h scripts (length parts) 0 (length parts) all = c.in_ok-bundle.ensures scripts ready in
+    let done : IsDone h (by_scripts scripts) (length parts) 0 (length parts) all = c.in_ok-bundle.ensures (by_scripts scripts) ready in
     let least : 1 ≤ c.min-bundles.result = search rules in
     let some : 0 < length parts = omega (arith, c.in_ok-parts.ensures.count, c.in_ok-heap.ensures.count, least) in
     done.has.of
 
-pub close-requires-clause-all : goal.close-requires-clause-all
-close-requires-clause-all g c =
+pub close-closed-requires-clause-all : goal.close-closed-requires-clause-all
+close-closed-requires-clause-all g c =
     let scripts = c.args.scripts.items in
     let h = c.in_ok-heap.heap in
     let bundles = c.in_ok-heap.bundles.items in
     let parts = c.in_ok-parts.parts.items in
     let can = can_be_dealt h c.args.config scripts c.in-Ok.work bundles c.min-bundles.result c.in_ok-heap.ensures.config c.in_ok-heap.ensures.count c.in_ok-heap.ensures.bundles c.in-Ok.ensures c.requires.count c.requires.runnable in
-    let ready : AreReady h scripts (length parts) parts = subst (λ n. AreReady h scripts n parts) (sym c.in_ok-parts.ensures.count) (c.in_ok-parts.ensures.ready scripts can) in
+    let ready : AreReady h (by_scripts scripts) (length parts) parts = subst (λ n. AreReady h (by_scripts scripts) n parts) (sym c.in_ok-parts.ensures.count) (c.in_ok-parts.ensures.ready scripts can) in
     let all : Part = c.in_ok-bundle.field-0 in
-    let done : IsDone h scripts (length parts) 0 (length parts) all = c.in_ok-bundle.ensures scripts ready in
+    let done : IsDone h (by_scripts scripts) (length parts) 0 (length parts) all = c.in_ok-bundle.ensures (by_scripts scripts) ready in
     let least : 1 ≤ c.min-bundles.result = search rules in
     let some : 0 < length parts = omega (arith, c.in_ok-parts.ensures.count, c.in_ok-heap.ensures.count, least) in
-    has_all h scripts (length parts) all some done
+    has_all h (by_scripts scripts) (length parts) all some done
 
-pub close-requires-clause-control : goal.close-requires-clause-control
-close-requires-clause-control g c =
+pub close-closed-requires-clause-control : goal.close-closed-requires-clause-control
+close-closed-requires-clause-control g c =
     let scripts = c.args.scripts.items in
     let h = c.in_ok-heap.heap in
     let bundles = c.in_ok-heap.bundles.items in
     let parts = c.in_ok-parts.parts.items in
     let can = can_be_dealt h c.args.config scripts c.in-Ok.work bundles c.min-bundles.result c.in_ok-heap.ensures.config c.in_ok-heap.ensures.count c.in_ok-heap.ensures.bundles c.in-Ok.ensures c.requires.count c.requires.runnable in
-    let ready : AreReady h scripts (length parts) parts = subst (λ n. AreReady h scripts n parts) (sym c.in_ok-parts.ensures.count) (c.in_ok-parts.ensures.ready scripts can) in
+    let ready : AreReady h (by_scripts scripts) (length parts) parts = subst (λ n. AreReady h (by_scripts scripts) n parts) (sym c.in_ok-parts.ensures.count) (c.in_ok-parts.ensures.ready scripts can) in
     let all : Part = c.in_ok-bundle.field-0 in
-    let done : IsDone h scripts (length parts) 0 (length parts) all = c.in_ok-bundle.ensures scripts ready in
+    let done : IsDone h (by_scripts scripts) (length parts) 0 (length parts) all = c.in_ok-bundle.ensures (by_scripts scripts) ready in
     let least : 1 ≤ c.min-bundles.result = search rules in
     let some : 0 < length parts = omega (arith, c.in_ok-parts.ensures.count, c.in_ok-heap.ensures.count, least) in
-    control_idle h scripts (length parts) all some done
+    control_idle h (by_scripts scripts) (length parts) all some done
+
+pub unreachable-requires : goal.unreachable-requires
+unreachable-requires g c =
+    let scripts = c.args.scripts.items in
+    let h = c.in_ok-heap.heap in
+    let bundles = c.in_ok-heap.bundles.items in
+    let parts = c.in_ok-parts.parts.items in
+    let can = can_be_dealt h c.args.config scripts c.in-Ok.work bundles c.min-bundles.result c.in_ok-heap.ensures.config c.in_ok-heap.ensures.count c.in_ok-heap.ensures.bundles c.in-Ok.ensures c.requires.count c.requires.runnable in
+    let ready : AreReady h (by_scripts scripts) (length parts) parts = subst (λ n. AreReady h (by_scripts scripts) n parts) (sym c.in_ok-parts.ensures.count) (c.in_ok-parts.ensures.ready scripts can) in
+    let all : Part = c.in_ok-bundle.field-0 in
+    let done : IsDone h (by_scripts scripts) (length parts) 0 (length parts) all = c.in_ok-bundle.ensures (by_scripts scripts) ready in
+    let least : 1 ≤ c.min-bundles.result = search rules in
+    let some : 0 < length parts = omega (arith, c.in_ok-parts.ensures.count, c.in_ok-heap.ensures.count, least) in
+    subst (λ l. LoadIsDone (config_of h) (by_scripts scripts) (length parts) 0 (length parts) (view_of all.bundle) l) c.in-Driven.is done.load
 
 pub returns : goal.returns
 returns g c =
@@ -71,10 +88,13 @@ returns g c =
     let bundles = c.in_ok-heap.bundles.items in
     let parts = c.in_ok-parts.parts.items in
     let can = can_be_dealt h c.args.config scripts c.in-Ok.work bundles c.min-bundles.result c.in_ok-heap.ensures.config c.in_ok-heap.ensures.count c.in_ok-heap.ensures.bundles c.in-Ok.ensures c.requires.count c.requires.runnable in
-    let ready : AreReady h scripts (length parts) parts = subst (λ n. AreReady h scripts n parts) (sym c.in_ok-parts.ensures.count) (c.in_ok-parts.ensures.ready scripts can) in
+    let ready : AreReady h (by_scripts scripts) (length parts) parts = subst (λ n. AreReady h (by_scripts scripts) n parts) (sym c.in_ok-parts.ensures.count) (c.in_ok-parts.ensures.ready scripts can) in
     let all : Part = c.in_ok-bundle.field-0 in
-    let done : IsDone h scripts (length parts) 0 (length parts) all = c.in_ok-bundle.ensures scripts ready in
+    let done : IsDone h (by_scripts scripts) (length parts) 0 (length parts) all = c.in_ok-bundle.ensures (by_scripts scripts) ready in
     let least : 1 ≤ c.min-bundles.result = search rules in
     let some : 0 < length parts = omega (arith, c.in_ok-parts.ensures.count, c.in_ok-heap.ensures.count, least) in
-    subst (λ (k : Config). HasCome k scripts all.work c.close.result) c.in_ok-heap.ensures.config
-    (come h scripts (length parts) all some done c.close.result c.close.ensures.config c.close.ensures.machines c.close.ensures.reached)
+    let work : Jobs = c.in-Scripted.work in
+    let did : LoadIsDone (config_of h) (by_scripts scripts) (length parts) 0 (length parts) (view_of all.bundle) (Scripted work) =
+    subst (λ l. LoadIsDone (config_of h) (by_scripts scripts) (length parts) 0 (length parts) (view_of all.bundle) l) c.in-Scripted.is done.load in
+    subst (λ (k : Config). HasCome k scripts work c.close-closed.result) c.in_ok-heap.ensures.config
+    (come h (by_scripts scripts) (length parts) all some done c.close-closed.result c.close-closed.ensures.machines scripts work did c.close-closed.ensures.config c.close-closed.ensures.reached)

@@ -1,4 +1,4 @@
-use Rattle.std.proofs.Common.{rules, ◌≡◌, ◌+◌, true, false, sym, subst}
+use Rattle.std.proofs.Common.{rules, ◌≡◌, ◌+◌, true, false, sym, subst, arith}
 use Rattle.trace_runs.specs.DealtParts.{PartCanRun, PartIsReady, IsDone}
 use Rattle.trace_runs.specs.Started.{IsThread}
 use Rattle.trace_runs.proofs.PartLaws.{ended_done}
@@ -6,19 +6,19 @@ use Rattle.trace_runs.proofs.Loops.{ran_already, as_given}
 use Rattle.trace_runs.proofs.threads.ended.Goals as goal
 
 pub returns-then-not-ran : goal.returns-then-not-ran
-returns-then-not-ran g c = λ scripts workers k is.
+returns-then-not-ran g c = λ assigned workers k is.
     let h = c.args.heap.now in
-    let ready : PartIsReady h scripts workers k (k + 1) c.in-Running.handle.promise.0.value = subst (IsThread h scripts workers k) c.in-Running.is is in
+    let ready : PartIsReady h assigned workers k (k + 1) c.in-Running.handle.promise.0.value = subst (IsThread h assigned workers k) c.in-Running.is is in
     let unran : c.join-part.result.ran ≡ false = search rules in
-    ended_done h scripts workers k (k + 1) c.join-part.result.part c.run.new.self
-    (subst (PartIsReady h scripts workers k (k + 1)) (sym (as_given c.in-Running.handle.promise.0.value c.join-part.result c.join-part.ensures unran)) ready) c.run.ensures
+    ended_done h assigned workers k (k + 1) c.join-part.result.part c.run.new.self (omega arith)
+    (subst (PartIsReady h assigned workers k (k + 1)) (sym (as_given c.in-Running.handle.promise.0.value c.join-part.result c.join-part.ensures unran)) ready) c.run.ensures
 
 pub returns-else-not-ran : goal.returns-else-not-ran
-returns-else-not-ran g c = λ scripts workers k is.
+returns-else-not-ran g c = λ assigned workers k is.
     let h = c.args.heap.now in
-    let ready : PartIsReady h scripts workers k (k + 1) c.in-Running.handle.promise.0.value = subst (IsThread h scripts workers k) c.in-Running.is is in
+    let ready : PartIsReady h assigned workers k (k + 1) c.in-Running.handle.promise.0.value = subst (IsThread h assigned workers k) c.in-Running.is is in
     let ran : c.join-part.result.ran ≡ true = search rules in
-    ran_already h scripts workers k (k + 1) c.in-Running.handle.promise.0.value c.join-part.result ready c.join-part.ensures ran
+    ran_already h assigned workers k (k + 1) c.in-Running.handle.promise.0.value c.join-part.result (omega arith) ready c.join-part.ensures ran
 
 pub run-requires-after_bounds : goal.run-requires-after_bounds
 run-requires-after_bounds g c κs within =
@@ -28,7 +28,7 @@ run-requires-after_bounds g c κs within =
     subst (PartCanRun h) (sym (as_given c.in-Running.handle.promise.0.value c.join-part.result c.join-part.ensures c.if-not-ran.true)) (record { of = ready.has.of; start = ready.start })
 
 pub returns-in-Over : goal.returns-in-Over
-returns-in-Over g c = λ scripts workers k is.
+returns-in-Over g c = λ assigned workers k is.
     let h = c.args.heap.now in
-    let done : IsDone h scripts workers k (k + 1) c.in-Over.part = subst (IsThread h scripts workers k) c.in-Over.is is in
+    let done : IsDone h assigned workers k (k + 1) c.in-Over.part = subst (IsThread h assigned workers k) c.in-Over.is is in
     done

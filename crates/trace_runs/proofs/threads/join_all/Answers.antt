@@ -1,17 +1,16 @@
 use Rattle.std.proofs.Common.{rules, ◌≡◌, ℕ, ◌+◌, ◌-◌, length, ap, ◌∙◌, subst, arith}
-use Rattle.step_core.specs.Schedule.{Scripts}
-use Rattle.trace_runs.specs.DealtParts.{IsDone}
+use Rattle.trace_runs.specs.DealtParts.{Assigned, IsDone}
 use Rattle.trace_runs.specs.Started.{IsThread}
-use Rattle.trace_runs.proofs.PartLaws.{apart}
+use Rattle.trace_runs.proofs.PartLaws.{apart_after}
 use Rattle.trace_runs.proofs.Loops.{others_run, last_runs, longer}
 use Rattle.trace_runs.proofs.threads.join_all.Goals as goal
 
 pub loop-thread-init : goal.loop-thread-init
 loop-thread-init g c = record {
   fewer = omega arith;
-  left = λ scripts workers run. run;
-  done = λ scripts first done run.
-      subst (λ n. IsDone c.args.heap.now scripts (first + length c.args.threads.items) 0 n c.args.own) (let e : first ≡ first + length c.args.threads.items - length c.args.threads.items = omega arith in e) done;
+  left = λ assigned workers run. run;
+  done = λ assigned first done run.
+      subst (λ n. IsDone c.args.heap.now assigned (first + length c.args.threads.items) 0 n c.args.own) (let e : first ≡ first + length c.args.threads.items - length c.args.threads.items = omega arith in e) done;
 }
 
 pub ended-part-requires-after_bounds : goal.ended-part-requires-after_bounds
@@ -20,7 +19,7 @@ ended-part-requires-after_bounds g c κs within =
     let w = r.1 + length c.args.threads.items in
     let old = c.loop-thread.threads.items in
     let new = c.pop.new.self.items in
-    let some : (scripts : Scripts) × (workers : ℕ) × (k : ℕ) × IsThread c.args.heap.now scripts workers k c.in-Some.thread =
+    let some : (assigned : Assigned) × (workers : ℕ) × (k : ℕ) × IsThread c.args.heap.now assigned workers k c.in-Some.thread =
     (r.0, w, w - length old, last_runs c.args.heap.now r.0 w old new c.in-Some.thread c.in-Some.ensures.items (c.loop-thread.invariant.left r.0 w r.3)) in
     some
 
@@ -43,8 +42,8 @@ join-own-requires-clause-apart g c =
     let w = r.1 + length c.args.threads.items in
     let old = c.loop-thread.threads.items in
     let new = c.pop.new.self.items in
-    apart c.args.heap.now r.0 w 0 (w - length old) (w - length old + 1) c.loop-thread.own c.ended-part.result (c.loop-thread.invariant.done r.0 r.1 r.2 r.3).has
-    (c.ended-part.ensures r.0 w (w - length old) (last_runs c.args.heap.now r.0 w old new c.in-Some.thread c.in-Some.ensures.items (c.loop-thread.invariant.left r.0 w r.3))).has
+    apart_after c.args.heap.now r.0 w 0 (w - length old) (w - length old + 1) c.loop-thread.own c.ended-part.result (omega arith) (omega arith) (c.loop-thread.invariant.done r.0 r.1 r.2 r.3)
+    (c.ended-part.ensures r.0 w (w - length old) (last_runs c.args.heap.now r.0 w old new c.in-Some.thread c.in-Some.ensures.items (c.loop-thread.invariant.left r.0 w r.3)))
 
 pub loop-thread-preserved : goal.loop-thread-preserved
 loop-thread-preserved g c =
@@ -57,18 +56,18 @@ loop-thread-preserved g c =
     let count : length old ≡ length new + 1 = ap length is ∙ longer new t in
     record {
       fewer = omega (arith, count, was.fewer);
-      left = λ scripts workers run. others_run h scripts workers old new t is (was.left scripts workers run);
-      done = λ scripts first done run.
+      left = λ assigned workers run. others_run h assigned workers old new t is (was.left assigned workers run);
+      done = λ assigned first done run.
           let w = first + length c.args.threads.items in
           let fewer = was.fewer in
           let next : w - length old + 1 ≡ w - length new = omega (arith, count, fewer) in
-          subst (λ n. IsDone h scripts w 0 n c.join-own.result) next
-          (c.join-own.ensures.done scripts w 0 (w - length old) (w - length old + 1) (was.done scripts first done run)
-          (c.ended-part.ensures scripts w (w - length old) (last_runs h scripts w old new t is (was.left scripts w run))) (omega arith) (omega arith));
+          subst (λ n. IsDone h assigned w 0 n c.join-own.result) next
+          (c.join-own.ensures.done assigned w 0 (w - length old) (w - length old + 1) (was.done assigned first done run)
+          (c.ended-part.ensures assigned w (w - length old) (last_runs h assigned w old new t is (was.left assigned w run))) (omega arith) (omega arith));
     }
 
 pub returns : goal.returns
-returns g c = λ scripts first done run.
+returns g c = λ assigned first done run.
     let none : length c.loop-thread.threads.items ≡ 0 = search rules in
     let w = first + length c.args.threads.items in
-    subst (λ n. IsDone c.args.heap.now scripts w 0 n c.loop-thread.own) (let e : w - length c.loop-thread.threads.items ≡ w = omega (arith, none) in e) (c.loop-thread.invariant.done scripts first done run)
+    subst (λ n. IsDone c.args.heap.now assigned w 0 n c.loop-thread.own) (let e : w - length c.loop-thread.threads.items ≡ w = omega (arith, none) in e) (c.loop-thread.invariant.done assigned first done run)

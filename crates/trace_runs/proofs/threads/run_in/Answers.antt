@@ -1,6 +1,5 @@
-use Rattle.std.proofs.Common.{ℕ, ◌+◌, length, sym, subst}
-use Rattle.step_core.specs.Schedule.{Scripts}
-use Rattle.trace_runs.specs.DealtParts.{PartCanRun, IsDone}
+use Rattle.std.proofs.Common.{ℕ, ◌+◌, length, sym, subst, arith}
+use Rattle.trace_runs.specs.DealtParts.{Assigned, PartCanRun, IsDone}
 use Rattle.trace_runs.specs.Started.{AreThreads}
 use Rattle.trace_runs.proofs.PartLaws.{ended_done}
 use Rattle.trace_runs.proofs.threads.run_in.Goals as goal
@@ -26,18 +25,18 @@ join_all-requires-after_bounds g c κs within =
     let split = c.start_all.ensures r.0 r.1 in
     let n = length c.start_all.new.parts.items in
     let threads = c.start_all.new.threads.items in
-    let done = ended_done h r.0 w 0 n c.together-own.result c.run.new.self (c.together-own.ensures r.0 w split.here) c.run.ensures in
-    let some : (scripts : Scripts) × (first : ℕ) × IsDone h scripts (first + length threads) 0 first c.run.new.self × AreThreads h scripts (first + length threads) threads =
+    let done = ended_done h r.0 w 0 n c.together-own.result c.run.new.self (omega arith) (c.together-own.ensures r.0 w split.here) c.run.ensures in
+    let some : (assigned : Assigned) × (first : ℕ) × IsDone h assigned (first + length threads) 0 first c.run.new.self × AreThreads h assigned (first + length threads) threads =
     (r.0, n, subst (λ k. IsDone h r.0 k 0 n c.run.new.self) (sym split.count) done, subst (λ k. AreThreads h r.0 k threads) (sym split.count) split.there) in
     some
 
 pub returns : goal.returns
-returns g c = λ scripts all.
+returns g c = λ assigned all.
     let h = c.args.heap.now in
     let w = length c.args.parts.items in
-    let split = c.start_all.ensures scripts all in
+    let split = c.start_all.ensures assigned all in
     let n = length c.start_all.new.parts.items in
     let threads = c.start_all.new.threads.items in
-    let done = ended_done h scripts w 0 n c.together-own.result c.run.new.self (c.together-own.ensures scripts w split.here) c.run.ensures in
-    subst (λ k. IsDone h scripts k 0 k c.join_all.result) split.count
-    (c.join_all.ensures scripts n (subst (λ k. IsDone h scripts k 0 n c.run.new.self) (sym split.count) done) (subst (λ k. AreThreads h scripts k threads) (sym split.count) split.there))
+    let done = ended_done h assigned w 0 n c.together-own.result c.run.new.self (omega arith) (c.together-own.ensures assigned w split.here) c.run.ensures in
+    subst (λ k. IsDone h assigned k 0 k c.join_all.result) split.count
+    (c.join_all.ensures assigned n (subst (λ k. IsDone h assigned k 0 n c.run.new.self) (sym split.count) done) (subst (λ k. AreThreads h assigned k threads) (sym split.count) split.there))

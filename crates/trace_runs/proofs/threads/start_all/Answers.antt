@@ -30,13 +30,13 @@ loop-parts-preserved g c =
       some = omega (arith, two, one);
       count = omega (arith, was.count, one, count);
       room = search rules;
-      split = λ scripts ready.
-          let split = was.split scripts ready in
-          next_split h scripts w old new p threads more c.in-Ok.thread two is grown
-          (c.in-Ok.ensures.ok scripts w (length new) (last_ready h scripts w old new p is split.here)) split;
+      split = λ assigned ready.
+          let split = was.split assigned ready in
+          next_split h assigned w old new p threads more c.in-Ok.thread two is grown
+          (c.in-Ok.ensures.ok assigned w (length new) (last_ready h assigned w old new p is split.here)) split;
     }
 
 pub returns-in-Err : goal.returns-in-Err
-returns-in-Err g c = λ scripts ready.
-    same_split c.args.heap.now scripts (length c.args.parts.now.items) c.loop-parts.parts.items c.pop.new.self.items c.push-in-Err.new.self.items c.in-Some.part c.in-Err.part c.loop-parts.threads.items
-    c.in-Some.ensures.items c.in-Ok-push-2.ensures.items c.in-Err.ensures.err (c.loop-parts.invariant.split scripts ready)
+returns-in-Err g c = λ assigned ready.
+    same_split c.args.heap.now assigned (length c.args.parts.now.items) c.loop-parts.parts.items c.pop.new.self.items c.push-in-Err.new.self.items c.in-Some.part c.in-Err.part c.loop-parts.threads.items
+    c.in-Some.ensures.items c.in-Ok-push-2.ensures.items c.in-Err.ensures.err (c.loop-parts.invariant.split assigned ready)

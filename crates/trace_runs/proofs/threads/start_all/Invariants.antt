@@ -1,7 +1,6 @@
 use Rattle.std.proofs.Common.{◌≡◌, ◌+◌, ◌≤◌, ◌<◌, length, vec_len}
 use Rattle.std.specs.Prelude.{vec_capacity}
-use Rattle.step_core.specs.Schedule.{Scripts}
-use Rattle.trace_runs.specs.DealtParts.{AreReady}
+use Rattle.trace_runs.specs.DealtParts.{Assigned, AreReady}
 use Rattle.trace_runs.specs.Started.{AreSplit}
 use Rattle.trace_runs.proofs.threads.start_all.Given as goal
 
@@ -11,7 +10,7 @@ invariant-loop-parts g l = record {
   some : 0 < length l.parts.items;
   count : length l.parts.items + length l.threads.items ≡ length l.initial.parts.items;
   room : length l.initial.parts.items ≤ vec_capacity l.threads;
-  split : (scripts : Scripts) → AreReady l.heap scripts (length l.initial.parts.items) l.initial.parts.items → AreSplit l.heap scripts (length l.initial.parts.items) l.parts.items l.threads.items;
+  split : (assigned : Assigned) → AreReady l.heap assigned (length l.initial.parts.items) l.initial.parts.items → AreSplit l.heap assigned (length l.initial.parts.items) l.parts.items l.threads.items;
 }
 
 abbrev pub decreases-loop-parts : goal.decreases-loop-parts

@@ -21,3 +21,15 @@ returns-in-Churn g c = rw c.in-Churn.is c.write_churn.ensures
 
 pub returns-in-Queue : goal.returns-in-Queue
 returns-in-Queue g c = rw c.in-Queue.is c.write_queue.ensures
+
+pub returns-in-Yes : goal.returns-in-Yes
+returns-in-Yes g c = rw c.in-Yes.is c.write_all-in-Yes.ensures
+
+pub returns-in-NoEntry : goal.returns-in-NoEntry
+returns-in-NoEntry g c = rw c.in-NoEntry.is (simp append_assoc c.write_told.ensures)
+
+pub returns-in-NoScript : goal.returns-in-NoScript
+returns-in-NoScript g c = rw c.in-NoScript.is (simp append_assoc c.write_told-in-NoScript.ensures)
+
+pub returns-in-NoText : goal.returns-in-NoText
+returns-in-NoText g c = rw c.in-NoText.is c.write_all-in-NoText.ensures

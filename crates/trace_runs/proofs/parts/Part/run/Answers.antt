@@ -7,4 +7,4 @@ pub run-requires-clause-start : goal.run-requires-clause-start
 run-requires-clause-start g c κs within = c.requires.start
 
 pub returns : goal.returns
-returns g c = record { same = c.run.ensures.same; idle = c.run.ensures.idle; done = c.run.ensures.done; jobs = c.run.ensures.jobs }
+returns g c = record { same = c.run.ensures.same; idle = c.run.ensures.idle; done = c.run.ensures.done }

@@ -1,0 +1,95 @@
+-- Dumps: a graph of objects with the sizes of its heap and what each thread has made, by itself.
+use Rattle.std.specs.Prelude.{ℕ, ◌≡◌, ◌+◌, ◌-◌, ◌^◌, ◌<◌, ◌≤◌, ◌⊎◌, List, [], ◌∷◌, length, map, slice_index, All}
+use Rattle.std.specs.List.{range_with_len}
+use Rattle.heap_words.specs.declared.config.Config.{Config}
+use Rattle.shen_graph.specs.declared.name.Name.{Name}
+use Rattle.shen_graph.specs.Graph.{Graph, Reference, hub}
+use Rattle.shen_graph.specs.GraphText.{Row, Text, row_in}
+use Rattle.shen_graph.specs.PlainGraph.{graph_of}
+use Rattle.shen_graph.specs.Reach.{InOrder, IsReach}
+
+-- the configuration; for each thread, that of thread 1 first, how many objects it made; the objects; and for each thread its
+-- roots
+pub record Dumped : Type 0 where
+  pub config : Config
+  pub counts : List ℕ
+  pub rows : List Row
+  pub roots : List (List Reference)
+
+-- the dump that these are
+abbrev pub dumped : Config → List ℕ → Text → Dumped
+dumped config counts text = record { config = config; counts = counts; rows = text.rows; roots = text.roots }
+
+-- the words that an object takes
+abbrev pub row_words : Row → ℕ
+row_words r = 3 + length r.refs + length r.nums
+
+-- the names of its objects, in the order of their rows
+abbrev pub names_in : Dumped → List Name
+names_in d = map (λ r. r.name) d.rows
+
+-- the graph of a dump. The threads are counted from 1: thread 0 has no root and made nothing
+abbrev pub graph_in : Dumped → Graph
+graph_in d = graph_of (record { rows = d.rows; roots = [] ∷ d.roots; counts = 0 ∷ d.counts })
+
+-- the most objects that a dumped thread has made
+abbrev pub most_made : ℕ
+most_made = 4000000000
+
+-- the name of an object that one of these threads made, each of which made so many
+pub record IsMadeBy (counts : List ℕ) (n : Name) : Type 0 where
+  pub from_first : 1 ≤ n.thread
+  pub to_last : n.thread ≤ length counts
+  pub from_one : 1 ≤ n.count
+  pub to_count : n.count ≤ slice_index counts (n.thread - 1)
+
+-- the hub, or one that a thread made
+abbrev pub IsNamed : List ℕ → Name → Type 0
+IsNamed counts n = (n ≡ hub) ⊎ IsMadeBy counts n
+
+-- An object has at most 16 references and 16 numbers of 64 bits, and the hub has 16 references and no number.
+pub record HasFields (r : Row) : Type 0 where
+  pub few_refs : length r.refs ≤ 16
+  pub few_nums : length r.nums ≤ 16
+  pub hub_refs : r.name ≡ hub → length r.refs ≡ 16
+  pub hub_nums : r.name ≡ hub → length r.nums ≡ 0
+  pub fit : All (λ x. x < 2 ^ 64) r.nums
+
+-- a row of a dump in which the threads made so many objects. Its references may name anything
+pub record IsRow (counts : List ℕ) (r : Row) : Type 0 where
+  pub name : IsNamed counts r.name
+  pub fields : HasFields r
+
+-- Each line of a dump is of its form and in its ranges, and the names ascend; but references and roots may name anything, and an
+-- object may be one to which nothing leads.
+pub record IsInForm (d : Dumped) : Type 0 where
+  pub threads : length d.counts ≡ d.config.mutators
+  pub counts : All (λ n. n ≤ most_made) d.counts
+  pub rows : All (IsRow d.counts) d.rows
+  pub order : InOrder (names_in d)
+  pub each : length d.roots ≡ d.config.mutators
+  pub roots : All (λ row. length row ≡ 16) d.roots
+
+-- A dump: its rows are those of the objects that its roots lead to. So each reference and each root is null or names a row, and
+-- each row can be reached.
+pub record IsDump (d : Dumped) : Type 0 where
+  pub form : IsInForm d
+  pub reach : IsReach (graph_in d) (names_in d)
+
+-- the roots of the threads 1 to `threads`, 16 each
+abbrev pub root_rows : Graph → ℕ → List (List Reference)
+root_rows g threads = map (λ t. map (g.root t) (range_with_len 0 16)) (range_with_len 1 threads)
+
+-- the dump of a graph, with rows for these names
+abbrev pub dump_of : Config → Graph → List Name → Dumped
+dump_of c g names = record {
+  config = c;
+  counts = map g.count (range_with_len 1 c.mutators);
+  rows = map (row_in g) names;
+  roots = root_rows g c.mutators;
+}
+
+-- the dump of a graph, whose rows are those of the objects that can be reached, in the order of names
+pub record IsDumpOf (c : Config) (g : Graph) (d : Dumped) : Type 0 where
+  pub reach : IsReach g (names_in d)
+  pub parts : d ≡ dump_of c g (names_in d)

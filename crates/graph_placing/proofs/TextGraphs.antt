@@ -1,0 +1,85 @@
+-- The graph of a text is one that has its objects, roots and counts.
+use Rattle.std.proofs.Common.{◌≡◌, ℕ, ◌+◌, ◌-◌, ◌<◌, ◌≤◌, zero, suc, true, false, List, [], ◌∷◌, length, get_or, map, Some, None, ⊎_elim, refl, sym, ap, ◌∙◌, subst, arith}
+use Rattle.std.specs.Prelude.{slice_index, All}
+use Rattle.std.proofs.lemmas.Bool.{cond-true, cond-false, cases_Bool, cases_lt, lt-ltb, le-leb, and_from, false≢true}
+use Rattle.std.proofs.lemmas.List.{get_or-map, get_or_past}
+use Rattle.std.proofs.lemmas.List.Elements.{All-get_or}
+use Rattle.std.proofs.lemmas.Option.{none-some}
+use Rattle.heap_words.specs.declared.config.Config.{Config}
+use Rattle.shen_graph.specs.declared.name.Name.{Name}
+use Rattle.shen_graph.specs.Graph.{Object, Reference, same_name, hub}
+use Rattle.shen_graph.specs.PlainGraph.{object_in, root_in, graph_of}
+use Rattle.shen_graph.specs.Reach.{InOrder}
+use Rattle.shen_graph.specs.GraphText.{Text, Row, bare}
+use Rattle.shen_graph.proofs.PlainLemmas.{same_name-true, same_name-itself}
+use Rattle.shen_graph.proofs.OrderLemmas.{same_name-flip}
+use Rattle.shen_graph.proofs.Distinct.{before_apart, order_rest}
+use Rattle.heap_world.specs.World.{IsGiven}
+use Rattle.graph_placing.specs.PlaceableText.{IsPlaceable}
+use Rattle.graph_placing.specs.TextGraph.{row_object, text_graph, AreGiven, IsGraphOf}
+use Rattle.graph_placing.proofs.Searching.{before_first}
+
+-- of rows in order each name has its row's object
+pub has_object : (rows : List Row) → InOrder (map (λ r. r.name) rows) → (k : ℕ) (d : Row) → k < length rows → object_in rows (get_or rows k d).name ≡ Some (row_object (get_or rows k d))
+has_object [] order k d below = absurd (omega (arith, below))
+has_object (r ∷ rs) order zero d below = cond-true (same_name r.name r.name) (Some (row_object r)) (object_in rs r.name) (same_name-itself r.name)
+has_object (r ∷ rs) order (suc k) d below =
+    let inside : k < length rs = omega (arith, below) in
+    let there = get_or-map (λ (s : Row). s.name) rs k d r.name inside in
+    let before = before_first r.name (map (λ (s : Row). s.name) rs) order k r.name (omega (arith, inside, length_is rs)) in
+    let apart : same_name (get_or rs k d).name r.name ≡ false = same_name-flip (get_or rs k d).name r.name ∙ ap (same_name r.name) (sym there) ∙ before_apart r.name (get_or (map (λ (s : Row). s.name) rs) k r.name) before in
+    cond-false (same_name (get_or rs k d).name r.name) (Some (row_object r)) (object_in rs (get_or rs k d).name) apart
+    ∙ has_object rs (order_rest r.name (map (λ (s : Row). s.name) rs) order) k d inside
+  where
+    length_is : (xs : List Row) → length (map (λ (s : Row). s.name) xs) ≡ length xs
+    length_is [] = refl
+    length_is (x ∷ xs) = ap (λ i. suc i) (length_is xs)
+
+-- an object is that of a row of its name
+has_row : (rows : List Row) (name : Name) (o : Object) (d : Row) → object_in rows name ≡ Some o → (k : ℕ) × (k < length rows) × ((get_or rows k d).name ≡ name)
+has_row [] name o d is = absurd (none-some o is)
+has_row (r ∷ rs) name o d is = ⊎_elim
+    (λ (same : same_name name r.name ≡ true). (0, omega arith, sym (same_name-true name r.name same)))
+    (λ (other : same_name name r.name ≡ false).
+    let rest = has_row rs name o d (sym (cond-false (same_name name r.name) (Some (row_object r)) (object_in rs name) other) ∙ is) in
+    (suc rest.0, omega (arith, rest.1), rest.2))
+    (cases_Bool (same_name name r.name))
+
+-- a list of roots has no more than 16
+no_root : (roots : List (List Reference)) (thread index : ℕ) → All (λ (row : List Reference). length row ≡ 16) roots → 16 ≤ index → root_in ([] ∷ roots) thread index ≡ None
+no_root roots zero index full large = refl
+no_root roots (suc thread) index full large = ⊎_elim
+    (λ (below : thread < length roots).
+    let row = All-get_or (λ (row : List Reference). length row ≡ 16) roots thread [] below full in
+    get_or_past (get_or roots thread []) index None (omega (arith, row, large)))
+    (λ (past : length roots ≤ thread). ap (λ (row : List Reference). get_or row index None) (get_or_past roots thread [] past))
+    (cases_lt thread (length roots))
+
+-- a thread that is not there has none
+no_thread : (roots : List (List Reference)) (thread index : ℕ) → (1 ≤ thread → length roots < thread) → root_in ([] ∷ roots) thread index ≡ None
+no_thread roots zero index beyond = refl
+no_thread roots (suc thread) index beyond =
+    let past = beyond (omega arith) in
+    ap (λ (row : List Reference). get_or row index None) (get_or_past roots thread [] (omega (arith, past)))
+
+pub is_graph : (c : Config) (t : Text) (counts : List ℕ) → IsPlaceable c t → AreGiven c t counts → IsGraphOf c t counts (text_graph t counts)
+unfolding graph_of
+is_graph c t counts whole given = record {
+  objects = λ k below. has_object t.rows whole.in_order k (bare hub) below;
+  roots = λ m i below small.
+      let next : m + 1 ≡ suc m = omega arith in
+      let back : m + 1 - 1 ≡ m = omega arith in
+      ap (λ (k : ℕ). root_in ([] ∷ t.roots) k i) next ∙ ap (λ (k : ℕ). get_or (get_or t.roots k []) i None) (sym back);
+  no_more = λ thread index other. ⊎_elim
+      (λ (small : index < 16). no_thread t.roots thread index (λ some. ⊎_elim
+      (λ (past : length t.roots < thread). past)
+      (λ (within : thread ≤ length t.roots).
+      absurd (false≢true (sym other ∙ and_from _ _ (le-leb 1 thread some) (and_from _ _ (le-leb thread c.mutators (omega (arith, whole.threads, within))) (lt-ltb index 16 small)))))
+      (cases_lt (length t.roots) thread)))
+      (λ (large : 16 ≤ index). no_root t.roots thread index whole.sixteen large)
+      (cases_lt index 16);
+  counts_are = λ m below. let next : m + 1 ≡ suc m = omega arith in ap (λ (k : ℕ). slice_index (0 ∷ counts) k) next;
+  given = λ name o is.
+      let row = has_row t.rows name o (bare hub) is in
+      subst (IsGiven c (text_graph t counts).count) row.2 (given row.0 row.1);
+}

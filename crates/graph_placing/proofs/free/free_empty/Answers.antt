@@ -1,0 +1,39 @@
+use Rattle.std.proofs.Common.{◌≡◌, ◌≤◌, ◌+◌, ◌^◌, ℕ, sym, ap, ◌∙◌, arith}
+use Rattle.std.proofs.Math.Nat.{pow-le-pow_right}
+use Rattle.heap_words.specs.declared.config.Config.{Config}
+use Rattle.heap_words.specs.Words.{Top, Free, write}
+use Rattle.full_words.specs.Full.{empty_regions}
+use Rattle.full_words.proofs.FreeWord.{empty_small}
+use Rattle.image_graph.specs.State.{config_of, memory_of}
+use Rattle.image_graph.proofs.NamedStores.{stored}
+use Rattle.graph_placing.proofs.FreeRegions.{empty_none, empty_more}
+use Rattle.graph_placing.proofs.free.free_empty.Goals as goal
+
+pub loop-region-init : goal.loop-region-init
+loop-region-init c = empty_none (λ r. memory_of c.args.image.now (Top r))
+
+pub overflow_add-free : goal.overflow_add-free
+overflow_add-free c =
+    let top : ℕ → ℕ = λ r. memory_of c.args.image.now (Top r) in
+    let r = c.loop-region.region in
+    let sum = empty_more top r c.set_if_empty-free.result c.loop-region.free c.edge.result c.edge.ensures c.set_if_empty-free.ensures c.loop-region.invariant in
+    let small = empty_small top (r + 1) in
+    let few : r + 1 ≤ 64 = omega (arith, c.loop-region-test.true, c.regions-region-end.ensures, ap (λ (k : Config). k.regions) c.config-config.ensures, (config_of c.args.image.now).in_range.most_regions) in
+    let power : 2 ^ (r + 1) ≤ 2 ^ 64 = pow-le-pow_right (omega arith) few in
+    omega (arith, sum, small, power)
+
+pub loop-region-preserved : goal.loop-region-preserved
+loop-region-preserved c =
+    empty_more (λ r. memory_of c.args.image.now (Top r)) c.loop-region.region c.set_if_empty-free.result c.loop-region.free c.edge.result c.edge.ensures
+    c.set_if_empty-free.ensures c.loop-region.invariant
+
+pub returns-clause-words : goal.returns-clause-words
+returns-clause-words c =
+    let old = c.args.image.now in
+    let g = config_of old in
+    let top : ℕ → ℕ = λ r. memory_of old (Top r) in
+    let all : c.loop-region.region ≡ g.regions =
+    omega (arith, c.loop-region-test.false, c.loop-region.auto.region-end, c.regions-region-end.ensures, ap (λ (k : Config). k.regions) c.config-config.ensures) in
+    let free : c.loop-region.free ≡ empty_regions top g.regions = c.loop-region.invariant ∙ ap (empty_regions top) all in
+    stored g c.config-config.result (memory_of old) (memory_of c.set_word.new.self) Free c.free_at.result c.loop-region.free (sym c.config-config.ensures) tt c.free_at.ensures c.set_word.ensures.named
+    ∙ ap (write (memory_of old) Free) free

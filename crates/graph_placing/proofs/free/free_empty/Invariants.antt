@@ -1,0 +1,8 @@
+use Rattle.std.proofs.Common.{◌≡◌}
+use Rattle.heap_words.specs.Words.{Top}
+use Rattle.full_words.specs.Full.{empty_regions}
+use Rattle.image_graph.specs.State.{memory_of}
+use Rattle.graph_placing.proofs.free.free_empty.Given as goal
+
+abbrev pub invariant-loop-region : goal.invariant-loop-region
+invariant-loop-region l = l.free ≡ empty_regions (λ r. memory_of l.image (Top r)) l.region

@@ -1,0 +1,10 @@
+use Rattle.std.proofs.Common.{◌≡◌}
+use Rattle.image_graph.specs.State.{config_of, memory_of}
+use Rattle.graph_placing.specs.Writing.{rows_placed}
+use Rattle.graph_placing.proofs.objects.write_objects.Given as goal
+
+abbrev pub invariant-loop-row : goal.invariant-loop-row
+invariant-loop-row l = record {
+  config : config_of l.image ≡ config_of l.initial.image;
+  words : memory_of l.image ≡ rows_placed (config_of l.initial.image) l.text l.row;
+}

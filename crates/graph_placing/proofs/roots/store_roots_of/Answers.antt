@@ -1,0 +1,36 @@
+use Rattle.std.proofs.Common.{◌≡◌, ◌+◌, ℕ, refl, sym, ap, ◌∙◌, subst, arith}
+use Rattle.heap_words.specs.declared.config.Config.{Config}
+use Rattle.heap_words.specs.Words.{Word, Root, IsWord, write}
+use Rattle.shen_graph.specs.GraphText.{root_of}
+use Rattle.image_graph.specs.State.{config_of, memory_of}
+use Rattle.image_graph.proofs.NamedStores.{stored}
+use Rattle.graph_placing.specs.PlacedHeap.{word_for}
+use Rattle.graph_placing.specs.Writing.{roots_stored}
+use Rattle.graph_placing.proofs.Written.{stored_none, stored_more}
+use Rattle.graph_placing.proofs.roots.store_roots_of.Goals as goal
+
+pub loop-index-init : goal.loop-index-init
+loop-index-init c = record { config = refl; words = stored_none (config_of c.args.image.now) c.args.text.now c.args.mutator (memory_of c.args.image.now) }
+
+pub loop-index-preserved : goal.loop-index-preserved
+loop-index-preserved c =
+    let g = config_of c.args.image.now in
+    let t = c.args.text.now in
+    let u = c.args.mutator in
+    let i = c.loop-index.index in
+    let same : c.config-config.result ≡ g = c.config-config.ensures in
+    let is : IsWord g (Root u i) = (c.requires.mutator, c.loop-index-test.true) in
+    let one : memory_of c.set_word.new.self ≡ write (memory_of c.loop-index.image) (Root u i) c.word_for-word.result =
+    stored (config_of c.loop-index.image) c.config-config.result (memory_of c.loop-index.image) (memory_of c.set_word.new.self) (Root u i) c.root_at.result c.word_for-word.result
+    (c.loop-index.invariant.config ∙ sym same) (subst (λ (h : Config). IsWord h (Root u i)) (sym same) is) c.root_at.ensures c.set_word.ensures.named in
+    let word : c.word_for-word.result ≡ word_for g t (root_of t (u + 1) i) = c.word_for-word.ensures ∙ ap (λ (h : Config). word_for h t c.root_at-root.result) same ∙ ap (word_for g t) c.root_at-root.ensures in
+    record {
+      config = c.set_word.ensures.config ∙ c.loop-index.invariant.config;
+      words = one ∙ ap (λ (m : Word → ℕ). write m (Root u i) c.word_for-word.result) c.loop-index.invariant.words
+          ∙ ap (write (roots_stored g t u i (memory_of c.args.image.now)) (Root u i)) word ∙ stored_more g t u i (memory_of c.args.image.now);
+    }
+
+pub returns-clause-words : goal.returns-clause-words
+returns-clause-words c =
+    let all : c.loop-index.index ≡ 16 = omega (arith, c.loop-index-test.false, c.loop-index.auto.index-end) in
+    c.loop-index.invariant.words ∙ ap (λ (n : ℕ). roots_stored (config_of c.args.image.now) c.args.text.now c.args.mutator n (memory_of c.args.image.now)) all

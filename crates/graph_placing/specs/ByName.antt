@@ -1,0 +1,29 @@
+-- Where the objects of a text go in a heap: in the order of their rows, which is that of their names, one behind the other, in regions
+-- 0 upward, each within one region.
+use Rattle.std.specs.Prelude.{ℕ, ◌+◌, ◌-◌, ◌≤◌, ◌==◌, if◌then◌else◌, length, zero, suc}
+use Rattle.heap_words.specs.declared.config.Config.{Config}
+use Rattle.regions.specs.Place.{base_of, region_with}
+use Rattle.packing.specs.Places.{end_before, new_place}
+use Rattle.shen_graph.specs.GraphText.{Text, row_of}
+use Rattle.full_words.specs.Plot.{heap_end}
+
+-- the words of the object in a row: header, shape, name, and one for each reference and each number
+abbrev pub words_of_row : Text → ℕ → ℕ
+words_of_row t k = 3 + length (row_of t k).refs + length (row_of t k).nums
+
+-- the address of its object
+abbrev pub address_of : Config → Text → ℕ → ℕ
+address_of c t k = new_place c.region_words (words_of_row t) k
+
+-- where the last object ends of the first so many rows
+abbrev pub end_behind : Config → Text → ℕ → ℕ
+end_behind c t k = end_before c.region_words (words_of_row t) k
+
+-- all objects end within the heap: they need no more regions than it has
+abbrev pub Fits : Config → Text → Type 0
+Fits c t = end_behind c t (length t.rows) ≤ heap_end c
+
+-- the words of a region that the objects of the first so many rows use: up to where the last one ends that is placed there
+unfoldable pub used_words : Config → Text → ℕ → ℕ → ℕ
+used_words c t zero r = 0
+used_words c t (suc k) r = if region_with c (address_of c t k) == r then address_of c t k + words_of_row t k - base_of c r else used_words c t k r

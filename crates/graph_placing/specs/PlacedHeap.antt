@@ -1,0 +1,44 @@
+-- The words of a heap in which the objects of a text were placed, and nothing else has happened yet.
+use Rattle.std.specs.Prelude.{ℕ, ◌≡◌, ◌≢◌, ◌+◌, ◌<◌, Bool, true, false, List, [], ◌∷◌, ◌++◌, map, length, Some, None, slice_index, if◌then◌else◌, suc}
+use Rattle.heap_words.specs.declared.config.Config.{Config}
+use Rattle.heap_words.specs.Words.{Word, Left, Free, Top, Root, Heap}
+use Rattle.heap_words.specs.Encoding.{plain_header, shape_word, name_code}
+use Rattle.shen_graph.specs.declared.name.Name.{Name}
+use Rattle.shen_graph.specs.Graph.{Reference, same_name}
+use Rattle.shen_graph.specs.GraphText.{Text, Row, row_of, names_of, root_of}
+use Rattle.full_words.specs.Full.{empty_regions}
+use Rattle.graph_placing.specs.ByName.{words_of_row, address_of, used_words}
+
+-- the number of the first of some names that is this one
+abbrev pub place_among : List Name → Name → ℕ
+place_among [] name = 0
+place_among (n ∷ ns) name = if same_name n name then 0 else suc (place_among ns name)
+
+-- the word of a reference: 0 for null, and else the address of the object of that name
+abbrev pub word_for : Config → Text → Reference → ℕ
+word_for c t None = 0
+word_for c t (Some name) = address_of c t (place_among (names_of t) name)
+
+-- the words of a row's object, by what the word of each reference is
+abbrev pub words_of_object : (Reference → ℕ) → Row → List ℕ
+words_of_object word r = plain_header ∷ shape_word (length r.refs) (length r.nums) ∷ name_code r.name.thread r.name.count ∷ map word r.refs ++ r.nums
+
+-- words that say what the heap has in it; all others are 0 while nothing has happened
+abbrev pub is_content : Word → Bool
+is_content Left = true
+is_content Free = true
+is_content (Top region) = true
+is_content (Root mutator index) = true
+is_content (Heap address) = true
+is_content _ = false
+
+-- Each object stands at its address, and other words of the heap are 0. A region's top is how much of it is used, and a region is free
+-- where nothing is. Roots are those of the text. No mutator has ended, and no other word says anything.
+pub record IsPlaced (c : Config) (t : Text) (memory : Word → ℕ) : Type 0 where
+  pub objects : (k i : ℕ) → k < length t.rows → i < words_of_row t k → memory (Heap (address_of c t k + i)) ≡ slice_index (words_of_object (word_for c t) (row_of t k)) i
+  pub unused : (x : ℕ) → ((k i : ℕ) → k < length t.rows → i < words_of_row t k → x ≢ address_of c t k + i) → memory (Heap x) ≡ 0
+  pub tops : (r : ℕ) → memory (Top r) ≡ used_words c t (length t.rows) r
+  pub free : memory Free ≡ empty_regions (λ r. memory (Top r)) c.regions
+  pub roots : (m i : ℕ) → m < c.mutators → i < 16 → memory (Root m i) ≡ word_for c t (root_of t (m + 1) i)
+  pub left : memory Left ≡ c.mutators
+  pub others : (word : Word) → is_content word ≡ false → memory word ≡ 0

@@ -1,0 +1,47 @@
+-- The words of the heap while a text is placed, step by step.
+use Rattle.std.specs.Prelude.{ℕ, ◌≡◌, ◌+◌, ◌-◌, ◌<◌, ◌==◌, ◌&&◌, nat_le, nat_lt, if◌then◌else◌, List, length, slice_index, zero, suc}
+use Rattle.heap_words.specs.declared.config.Config.{Config}
+use Rattle.heap_words.specs.Words.{Word, Left, Free, Top, Root, Heap, write}
+use Rattle.regions.specs.Place.{base_of, region_with}
+use Rattle.shen_graph.specs.GraphText.{Text, row_of, root_of}
+use Rattle.full_words.specs.Full.{empty_regions}
+use Rattle.graph_placing.specs.ByName.{words_of_row, address_of, used_words}
+use Rattle.graph_placing.specs.PlacedHeap.{word_for, words_of_object}
+
+-- the addresses of the objects, by row
+pub record AreAddresses (c : Config) (t : Text) (addresses : List ℕ) : Type 0 where
+  pub count : length addresses ≡ length t.rows
+  pub each : (k : ℕ) → k < length t.rows → slice_index addresses k ≡ address_of c t k
+
+-- the words after the first so many of a list were written from an address on
+abbrev pub copied : (address words : ℕ) → List ℕ → (Word → ℕ) → Word → ℕ
+copied address words list memory (Heap x) = if nat_le address x && nat_lt x (address + words) then slice_index list (x - address) else memory (Heap x)
+copied address words list memory word = memory word
+
+-- the words after the top of a row's region was raised to where the row's object ends
+abbrev pub with_top : Config → Text → ℕ → (Word → ℕ) → Word → ℕ
+with_top c t k memory = write memory (Top (region_with c (address_of c t k))) (address_of c t k + words_of_row t k - base_of c (region_with c (address_of c t k)))
+
+-- the words after the objects of the first so many rows were placed
+unfoldable pub rows_placed : Config → Text → ℕ → Word → ℕ
+rows_placed c t zero word = 0
+rows_placed c t (suc k) (Heap x) = copied (address_of c t k) (words_of_row t k) (words_of_object (word_for c t) (row_of t k)) (rows_placed c t k) (Heap x)
+rows_placed c t (suc k) (Top r) = used_words c t (suc k) r
+rows_placed c t (suc k) word = rows_placed c t k word
+
+-- the words after the first so many roots of a mutator were stored
+abbrev pub roots_stored : Config → Text → (mutator roots : ℕ) → (Word → ℕ) → Word → ℕ
+roots_stored c t mutator roots memory (Root m i) = if (m == mutator) && nat_lt i roots then word_for c t (root_of t (m + 1) i) else memory (Root m i)
+roots_stored c t mutator roots memory word = memory word
+
+-- the words after the roots of so many mutators were stored
+abbrev pub all_roots_stored : Config → Text → (mutators : ℕ) → (Word → ℕ) → Word → ℕ
+all_roots_stored c t mutators memory (Root m i) = if nat_lt m mutators && nat_lt i 16 then word_for c t (root_of t (m + 1) i) else memory (Root m i)
+all_roots_stored c t mutators memory word = memory word
+
+-- the words when all is placed
+abbrev pub all_placed : Config → Text → Word → ℕ
+all_placed c t Left = c.mutators
+all_placed c t Free = empty_regions (λ r. rows_placed c t (length t.rows) (Top r)) c.regions
+all_placed c t (Root m i) = if nat_lt m c.mutators && nat_lt i 16 then word_for c t (root_of t (m + 1) i) else 0
+all_placed c t word = rows_placed c t (length t.rows) word

@@ -1,0 +1,5 @@
+pub mod ReadReplies
+pub mod ReadEntries
+pub mod CutLines
+pub mod Wanted
+pub mod PairLaws

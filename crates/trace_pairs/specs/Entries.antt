@@ -1,0 +1,80 @@
+-- The lines of a history that somebody claims, and how they are read from left to right.
+use Rattle.std.specs.Prelude.{ℕ, ◌≡◌, ◌==◌, ◌^◌, ◌<◌, ◌≤◌, List, [], ◌∷◌, ◌++◌, codes, Option, Some, None, nat_lt, if◌then◌else◌}
+use Rattle.std.specs.Char.{is_ascii_digit}
+use Rattle.shen_graph.specs.declared.command.Reply.{Reply}
+use Rattle.shen_graph.specs.declared.command.Reply.TheVariants.{Ref, Null, Ok, Yes, No, Number, Bad, Full}
+use Rattle.shen_graph.specs.Valid.{IsValid}
+use Rattle.shen_graph.specs.History.{Entry}
+use Rattle.trace_grammar.specs.Spelling.{FitsWhenWritten}
+use Rattle.trace_grammar.specs.Scanning.{◌>>=◌, behind, spelled_number, positive_at, spelled_command}
+use Rattle.trace_writing.specs.History.{entry_line}
+
+-- the numbers of a reply are no larger than they can be written
+abbrev pub FitsReply : Reply → Type 0
+FitsReply (Ref n) = (n.thread < 2 ^ 32) × (n.count < 2 ^ 32)
+FitsReply (Number n) = n < 2 ^ 64
+FitsReply _ = Unit {0}
+
+-- What an entry may say where there are so many threads, counted from 1: a valid command and any reply.
+pub record IsClaim (threads : ℕ) (e : Entry) : Type 0 where
+  pub from_one : 1 ≤ e.thread
+  pub to_last : e.thread ≤ threads
+  pub valid : IsValid e.command
+  pub fits : FitsWhenWritten e.command
+  pub reply : FitsReply e.reply
+
+-- no line of an entry stands at the front
+abbrev pub BeginsWithNoEntry : ℕ → List ℕ → Type 0
+BeginsWithNoEntry threads bytes = (e : Entry) (rest : List ℕ) → IsClaim threads e → bytes ≡ entry_line e ++ rest → ⊥
+
+-- ---- reading
+
+-- the reply whose word begins with this byte, and the word
+abbrev pub word_begun_by : ℕ → Option (Reply × List ℕ)
+word_begun_by b =
+    if b == 45 then Some (Null, codes "-") else
+    (if b == 111 then Some (Ok, codes "ok") else
+    (if b == 121 then Some (Yes, codes "yes") else
+    (if b == 110 then Some (No, codes "no") else
+    (if b == 98 then Some (Bad, codes "bad") else
+    (if b == 102 then Some (Full, codes "full") else None)))))
+
+-- a reply that is a word, which begins with this byte
+unfoldable pub word_at : ℕ → List ℕ → Option (Reply × List ℕ)
+word_at first bytes = do
+  r ← word_begun_by first
+  rest ← behind r.1 bytes
+  Some (r.0, rest)
+
+-- the name of this thread whose count stands at the front
+unfoldable pub count_at : ℕ → List ℕ → Option (Reply × List ℕ)
+count_at thread bytes = do
+  n ← spelled_number 4294967295 bytes
+  Some (Ref (record { thread = thread; count = n.0 }), n.1)
+
+-- a number, or, where a dot is behind it, a name
+abbrev pub number_or_name : ℕ → List ℕ → Option (List ℕ) → Option (Reply × List ℕ)
+number_or_name n bytes None = Some (Number n, bytes)
+number_or_name n bytes (Some rest) = if nat_lt 4294967295 n then None else count_at n rest
+
+-- a reply that begins with a number
+unfoldable pub numbered_at : List ℕ → Option (Reply × List ℕ)
+numbered_at bytes = do
+  n ← spelled_number 18446744073709551615 bytes
+  number_or_name n.0 n.1 (behind (codes ".") n.1)
+
+-- the reply at the front
+unfoldable pub reply_at : List ℕ → Option (Reply × List ℕ)
+reply_at [] = None
+reply_at (b ∷ bytes) = if is_ascii_digit b then numbered_at (b ∷ bytes) else word_at b (b ∷ bytes)
+
+-- the line of an entry at the front
+unfoldable pub entry_at : ℕ → List ℕ → Option (Entry × List ℕ)
+entry_at threads bytes = do
+  t ← positive_at threads bytes
+  words ← behind (codes " ") t.1
+  c ← spelled_command words
+  reply ← behind (codes " : ") c.1
+  r ← reply_at reply
+  end ← behind (codes "\n") r.1
+  Some (record { thread = t.0; command = c.0; reply = r.0 }, end)

@@ -1,0 +1,4 @@
+pub mod Entries
+pub mod LineCuts
+pub mod Pairs
+pub mod Refusals

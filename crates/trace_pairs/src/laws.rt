@@ -1,0 +1,27 @@
+//! Laws of what is read.
+ghost use Rattle.std.specs.Prelude.{ℕ, ◌≡◌, ◌⊎◌, ◌≤◌, List, length};
+ghost use Rattle.heap_words.specs.declared.config.Config.{Config};
+ghost use Rattle.heap_words.specs.declared.schedule.Item.{Item};
+ghost use Rattle.shen_graph.specs.declared.command.Command.{Command};
+ghost use Rattle.shen_graph.specs.History.{Entry};
+ghost use Rattle.trace_grammar.specs.Grammar.{most_bytes};
+ghost use Rattle.trace_grammar.specs.declared.why.Why.{Why};
+ghost use Rattle.trace_pairs.specs.Pairs.{IsPair, IsSamePair};
+ghost use Rattle.trace_pairs.specs.Refusals.{IsPairRefused};
+
+/// A law: bytes are a trace with a body and a history in one way at most.
+pub fn pairs_are_read_once()
+    ensures { (bytes : List ℕ) (c d : Config) (xs ys : List (List Command)) (is js : List Item) (body other : List ℕ) (es fs : List Entry)
+        → IsPair bytes c xs is body es → IsPair bytes d ys js other fs → IsSamePair c xs is body es d ys js other fs }
+{}
+
+/// A law: bytes within the limit are a trace with a body and a history, or are refused at a line for a cause; never both, and
+/// never at two lines or for two causes.
+pub fn pairs_are_read_or_refused()
+    ensures either { (bytes : List ℕ) → length bytes ≤ most_bytes
+        → ((c : Config) × (scripts : List (List Command)) × (items : List Item) × (body : List ℕ) × (entries : List Entry) × IsPair bytes c scripts items body entries)
+        ⊎ ((n : ℕ) × (why : Why) × IsPairRefused bytes n why) }
+    ensures never_both { (bytes : List ℕ) (c : Config) (scripts : List (List Command)) (items : List Item) (body : List ℕ) (entries : List Entry) (n : ℕ) (why : Why)
+        → IsPair bytes c scripts items body entries → IsPairRefused bytes n why → ⊥ }
+    ensures once { (bytes : List ℕ) (n m : ℕ) (why other : Why) → IsPairRefused bytes n why → IsPairRefused bytes m other → (n ≡ m) × (why ≡ other) }
+{}

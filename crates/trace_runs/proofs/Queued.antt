@@ -1,0 +1,243 @@
+-- Users of a queue on a heap that was just opened, and what comes of them.
+use Rattle.std.proofs.Common.{◌≡◌, ◌⊎◌, inl, inr, ℕ, zero, suc, ◌+◌, ◌-◌, ◌*◌, ◌^◌, ◌<◌, ◌≤◌, List, [], ◌∷◌, length, get_or, map, take, All, Option, Some, None, refl, sym, ap, subst, ◌∙◌, arith}
+use Rattle.std.specs.Prelude.{slice_get}
+use Rattle.std.specs.List.{range_with_len}
+use Rattle.std.proofs.lemmas.List.{length-map}
+use Rattle.std.proofs.lemmas.List.Elements.{All-from_recursion, All-nil, All-take, All-drop}
+use Rattle.std.proofs.lemmas.List.FromFn.{length-range_with_len, get_or-map-range_with_len}
+use Rattle.std.proofs.lemmas.Option.{get_or_from_slice_get}
+use Rattle.std.proofs.Math.Nat.{mul-le-mul_left, mul-le-mul_right, le_trans}
+use Rattle.heap_words.specs.declared.config.Config.{Config}
+use Rattle.heap_words.specs.Ranges.{seat_count}
+use Rattle.steps_base.specs.Steps.{Stage, IsReached, Event}
+use Rattle.shen_graph.specs.History.{Entry, of_thread, commands_of, Follows}
+use Rattle.shen_graph.specs.Crowd.{IsLegalHistory}
+use Rattle.shen_graph.specs.Work.{opened, parted}
+use Rattle.shen_graph.specs.Valid.{IsValid}
+use Rattle.arrayvec.specs.ArrayVec.{ArrayVec}
+use Rattle.shen_graph.specs.declared.command.Command.{Command}
+use Rattle.shen_graph.specs.declared.order.Order.{Order}
+use Rattle.heap_machines.specs.Pause.{pause_image}
+use Rattle.shared_table.specs.Views.{whole, dealt_to}
+use Rattle.step_core.specs.Actor.{Actor}
+use Rattle.step_core.specs.Begins.{reached, past}
+use Rattle.step_core.specs.Schedule.{Scripts, nth_script}
+use Rattle.shen_core.specs.Calls.{HasCalled, AllHaveCalled}
+use Rattle.shen_core.specs.Progress.{AreIdle, IsRunnable}
+use Rattle.managed_queue.specs.declared.user.Gotten.{Gotten}
+use Rattle.managed_queue.specs.Users.{Use, next_of, used, to_come, IsDriven, use_after}
+use Rattle.managed_queue.specs.Workload.{queue_user, got_in, IsQueueRun, TellsQueue}
+use Rattle.managed_queue.proofs.Told.{queue_runs_tell}
+use Rattle.table_heap.specs.declared.bundle.Bundle.{Bundle}
+use Rattle.table_heap.specs.declared.heap.Heap.{Heap}
+use Rattle.table_heap.specs.declared.closed.Closed.{Closed}
+use Rattle.table_heap.specs.Closed as closed
+use Rattle.table_heap.specs.Core.{heap_kind, heap_opening, nobody}
+use Rattle.table_heap.specs.Driven.{IsDrivenFrom, driver_after}
+use Rattle.table_heap.specs.Driving.{mutators_below, CanDrive}
+use Rattle.table_heap.specs.State.{config_of, heap_of, view_of, IsFresh}
+use Rattle.trace_writing.specs.Message.{line_text}
+use Rattle.trace_writing.specs.declared.message.Line.TheVariants as line
+use Rattle.trace_runs.specs.declared.load.Load.TheVariants.{Scripted, Driven}
+use Rattle.trace_runs.specs.declared.parts.Part.{Part}
+use Rattle.trace_runs.specs.DealtParts.{crew_of, IsPart, HasUsed, IsCrewed, LoadIsDone, PartIsReady, IsDone, BundlesAreFresh, CanBeDealt}
+use Rattle.trace_runs.specs.DealtParts.Assigned.{users}
+use Rattle.trace_runs.specs.DealtParts.Assigned.{scripts as by_scripts}
+use Rattle.trace_runs.specs.Words.{most_numbers}
+use Rattle.trace_runs.specs.Replayed.{IsWhole}
+use Rattle.trace_runs.specs.Queued.{IsQueueHeap, queue_users, CanBeCrewed, IsQueued}
+use Rattle.trace_runs.proofs.Dealing.{left_after, ready_part}
+use Rattle.trace_runs.proofs.PartLaws.{crew_counts}
+use Rattle.trace_runs.proofs.Coming.{mutates, mutator_there, at, seen, all_idle}
+use Rattle.trace_runs.proofs.Whole as ends
+
+-- ---- the users of a heap
+
+-- no user is to make more than 392 objects
+few_to_come : (count : ℕ) → count ≤ most_numbers → All (λ (u : Use). to_come u < 4294967295) (queue_users count)
+few_to_come count small = All-from_recursion (λ (u : Use). to_come u < 4294967295) (queue_users count) (omega (arith, small), (omega (arith, small), (omega arith, (omega arith, tt))))
+
+-- the scripts of mutators that have nothing to do
+abbrev idle_scripts : Scripts
+idle_scripts = [] ∷ [] ∷ [] ∷ [] ∷ []
+
+none_runnable : IsRunnable []
+none_runnable = (All-nil IsValid, omega arith)
+
+-- the part of a bundle, with the user of its one machine
+pub crewed_part : (h : Heap) (count : ℕ) (bundles : List Bundle) (w k : ℕ) (b : Bundle) (crew : ArrayVec Use) → count ≤ most_numbers → CanBeCrewed h bundles → w ≡ length bundles → slice_get bundles k ≡ Some b
+    → crew.items ≡ crew_of (queue_users count) k (k + 1) → PartIsReady h (users (queue_users count)) w k (k + 1) (record { bundle = b; load = Driven crew })
+crewed_part h count bundles w k b crew small can many here are = record {
+  has = part;
+  load = (crewed, are);
+  start = record {
+    orders = idle.start.orders;
+    mutators = λ n a there role.
+        let can_start = idle.start.mutators n a there role in
+        record { calls = can_start.calls; rest = can_start.rest; free = can_start.free; made = can_start.made };
+    count = ap length are ∙ crew_counts h w k (k + 1) (record { bundle = b; load = Driven crew }) part (omega arith) crewed.single (queue_users count) crewed;
+    few = subst (λ us. All (λ (u : Use). to_come u < 4294967295) us) (sym are)
+        (All-drop (λ (u : Use). to_come u < 4294967295) k (take (k + 1) (queue_users count)) (All-take (λ (u : Use). to_come u < 4294967295) (k + 1) (queue_users count) (few_to_come count small)));
+  };
+}
+  where
+    crewed : IsCrewed (config_of h) (queue_users count) w
+    crewed = record { single = many ∙ can.single; count = sym can.heap.mutators }
+
+    can_idle : CanBeDealt h idle_scripts (opened idle_scripts) bundles
+    can_idle = record {
+      fresh = can.fresh;
+      jobs_are = refl;
+      count = sym can.heap.mutators;
+      runnable = All-from_recursion IsRunnable idle_scripts (none_runnable, (none_runnable, (none_runnable, (none_runnable, tt))));
+    }
+
+    idle : PartIsReady h (by_scripts idle_scripts) w k (k + 1) (record { bundle = b; load = Scripted (parted w k (left_after w k idle_scripts)) })
+    idle = ready_part h idle_scripts (opened idle_scripts) bundles can_idle w k b (left_after w k idle_scripts) many here refl
+
+    part : IsPart h w k (k + 1) (record { bundle = b; load = Driven crew })
+    part = record { of = idle.has.of; machines = idle.has.machines }
+
+-- the bundles that a heap was opened with
+pub can_be_crewed : (h : Heap) (c : Config) (bundles : List Bundle) (w : ℕ) → config_of h ≡ c → IsQueueHeap c → length bundles ≡ w → w ≡ seat_count c.mutators c.helpers
+    → ((k : ℕ) (b : Bundle) → slice_get bundles k ≡ Some b → IsFresh h b (dealt_to w k (whole (heap_opening c).machines))) → CanBeCrewed h bundles
+can_be_crewed h c bundles w config sizes count seats fresh = record {
+  fresh = λ k b here.
+      subst (λ n. IsFresh h b (dealt_to n k (whole (heap_opening (config_of h)).machines))) (sym count)
+      (subst (λ (d : Config). IsFresh h b (dealt_to w k (whole (heap_opening d).machines))) (sym config) (fresh k b here));
+  heap = subst IsQueueHeap (sym config) sizes;
+  single = count ∙ seats ∙ ap (λ (d : Config). seat_count d.mutators d.helpers) (sym config);
+}
+
+-- ---- what a driver's calls are to a user
+
+as_driven : (u : Use) (es : List Entry) → IsDrivenFrom next_of used u es → IsDriven u es
+as_driven u [] driven = tt
+as_driven u (e ∷ es) driven = (driven.0, as_driven (used u e.reply) es driven.1)
+
+as_after : (u : Use) (es : List Entry) → driver_after used u es ≡ use_after u es
+as_after u [] = refl
+as_after u (e ∷ es) = as_after (used u e.reply) es
+
+user_at : (count t : ℕ) → t < 4 → slice_get (queue_users count) t ≡ Some (queue_user count t)
+user_at count zero below = refl
+user_at count (suc zero) below = refl
+user_at count (suc (suc zero)) below = refl
+user_at count (suc (suc (suc zero))) below = refl
+user_at count (suc (suc (suc (suc t)))) below = absurd (omega (arith, below))
+
+same_user : (u v : Use) → Some u ≡ Some v → u ≡ v
+same_user u v e = cc
+
+-- ---- the history
+
+module _ (h : Heap) (count w : ℕ) (all : Part) (crew : ArrayVec Use) (some : 0 < w) (done : IsDone h (users (queue_users count)) w 0 w all) (load : all.load ≡ Driven crew) (sizes : IsQueueHeap (config_of h))
+    (end : Closed) (view : view_of all.bundle ≡ whole (closed.machines_of end)) (leads : IsReached (heap_kind (config_of h)) (heap_opening (config_of h)) (closed.stage_of end)) where
+  did : LoadIsDone (config_of h) (users (queue_users count)) w 0 w (view_of all.bundle) (Driven crew)
+  did = subst (λ l. LoadIsDone (config_of h) (users (queue_users count)) w 0 w (view_of all.bundle) l) load done.load
+
+  -- the commands that the mutators called
+  abbrev script_at : ℕ → List Command
+  script_at t = commands_of (get_or (closed.machines_of end) t nobody).calls
+
+  abbrev called_scripts : Scripts
+  called_scripts = map script_at (range_with_len 0 (config_of h).mutators)
+
+  abbrev history : List Entry
+  history = past pause_image (config_of h) leads.events
+
+  many : length called_scripts ≡ (config_of h).mutators
+  many = length-map (range_with_len 0 (config_of h).mutators) script_at ∙ length-range_with_len 0 (config_of h).mutators
+
+  used_in_end : (t : ℕ) (a : Actor) → t < (config_of h).mutators → slice_get (closed.machines_of end) t ≡ Some a → HasUsed (queue_users count) crew.items 0 t a
+  used_in_end t a below here =
+      let there = seen h (users (queue_users count)) w all some done end view t a here in
+      did.2 t a there (mutates h (users (queue_users count)) w all some done t a there below)
+
+  called_in_end : AllHaveCalled (config_of h) called_scripts (closed.stage_of end)
+  called_in_end t below =
+      let found = mutator_there h (users (queue_users count)) w all some done t below in
+      let here : slice_get (closed.machines_of end) t ≡ Some found.0 = sym (at h (users (queue_users count)) w all some done end view t) ∙ found.1 in
+      let is : get_or (closed.machines_of end) t nobody ≡ found.0 = get_or_from_slice_get (closed.machines_of end) t found.0 nobody here in
+      record {
+        actor = found.0;
+        here = here;
+        called = record {
+          rest = (used_in_end t found.0 below here).driven.rest;
+          commands = ap (λ (a : Actor). commands_of a.calls) (sym is) ∙ sym (get_or-map-range_with_len script_at 0 (config_of h).mutators t t [] below (omega arith));
+        };
+      }
+
+  called : AllHaveCalled (config_of h) called_scripts (reached pause_image (config_of h) leads.events)
+  called = subst (λ s. AllHaveCalled (config_of h) called_scripts s) (sym leads.ends) called_in_end
+
+  used_in : (t : ℕ) (a : Actor) → t < (config_of h).mutators → slice_get (reached pause_image (config_of h) leads.events).machines t ≡ Some a → HasUsed (queue_users count) crew.items 0 t a
+  used_in = subst (λ (s : Stage Actor). (t : ℕ) (a : Actor) → t < (config_of h).mutators → slice_get s.machines t ≡ Some a → HasUsed (queue_users count) crew.items 0 t a) (sym leads.ends) used_in_end
+
+  whole_run : IsWhole (config_of h) called_scripts leads.events
+  whole_run =
+      ends.whole (config_of h) called_scripts leads.events many
+      (subst (λ s. AreIdle (config_of h) called_scripts s) (sym leads.ends) (all_idle h (users (queue_users count)) w all some done end view called_scripts)) called
+
+  -- a thread's entries are those of its user, up to its end
+  record IsPlayedOut (t : ℕ) : Type 0 where
+    driven : IsDriven (queue_user count t) (of_thread history (t + 1))
+    ended : next_of (use_after (queue_user count t) (of_thread history (t + 1))) ≡ None
+    there : slice_get crew.items t ≡ Some (use_after (queue_user count t) (of_thread history (t + 1)))
+
+  played_out : (t : ℕ) → t < 4 → IsPlayedOut t
+  played_out t below =
+      let within : t < (config_of h).mutators = omega (arith, below, sizes.mutators) in
+      let call = called t within in
+      let its = used_in t call.actor within call.here in
+      let calls : of_thread history (t + 1) ≡ call.actor.calls = ends.entries_called (config_of h) called_scripts leads.events t call in
+      let begun : its.begun ≡ queue_user count t = same_user its.begun (queue_user count t) (sym its.begun_is ∙ user_at count t below) in
+      let last : its.ended ≡ use_after (queue_user count t) (of_thread history (t + 1)) =
+      its.driven.state ∙ as_after its.begun call.actor.calls ∙ ap (λ u. use_after u call.actor.calls) begun ∙ ap (use_after (queue_user count t)) (sym calls) in
+      let back : t - 0 ≡ t = omega arith in
+      record {
+        driven = subst (λ es. IsDriven (queue_user count t) es) (sym calls) (subst (λ u. IsDriven u call.actor.calls) begun (as_driven its.begun call.actor.calls its.driven.driven));
+        ended = subst (λ u. next_of u ≡ None) last its.driven.ended;
+        there = ap (slice_get crew.items) (sym back) ∙ its.ended_is ∙ ap Some last;
+      }
+
+  pub queue_run : IsQueueRun count history
+  queue_run = record {
+    scripts = called_scripts;
+    threads = many ∙ sizes.mutators;
+    follows = whole_run.follows;
+    legal = subst (λ (n : ℕ). IsLegalHistory 16 n called_scripts history) sizes.region_words
+        (subst (λ (n : ℕ). IsLegalHistory n (config_of h).region_words called_scripts history) sizes.regions whole_run.legal);
+    driven = λ t below. (played_out t below).driven;
+    ended = λ t below. (played_out t below).ended;
+  }
+
+  pub queue_tells : count ≤ most_numbers → TellsQueue count history
+  queue_tells small = queue_runs_tell count history small queue_run
+
+  pub taker_there : (t : ℕ) → t < 4 → slice_get crew.items t ≡ Some (use_after (queue_user count t) (of_thread history (t + 1)))
+  taker_there t below = (played_out t below).there
+
+  -- so the numbers are small
+  pub small_items : count ≤ most_numbers → (got_in count history 2).items + (got_in count history 3).items < 2 ^ 64
+  small_items small = let items = (queue_tells small).items in omega (arith, items, small)
+
+  pub small_sum : count ≤ most_numbers → (got_in count history 2).sum + (got_in count history 3).sum < 2 ^ 128
+  small_sum small =
+      let total = (queue_tells small).sum in
+      let product : count * (count + 1) ≤ 390 * 391 = le_trans (mul-le-mul_left count (omega (arith, small))) (mul-le-mul_right 391 small) in
+      omega (arith, total, product, small)
+
+  -- and the line says what the takers got
+  pub queued : count ≤ most_numbers → (items sum : ℕ) → items ≡ (got_in count history 2).items + (got_in count history 3).items → sum ≡ (got_in count history 2).sum + (got_in count history 3).sum
+      → IsQueued count (line_text (line.Queue count items sum))
+  unfolding queue_run
+  queued small items sum items_are sum_is = record {
+    config = config_of h;
+    heap = sizes;
+    events = leads.events;
+    run = queue_run;
+    whole = whole_run;
+    tells = queue_tells small;
+    text = ap (λ n. line_text (line.Queue count n sum)) items_are ∙ ap (λ n. line_text (line.Queue count ((got_in count history 2).items + (got_in count history 3).items) n)) sum_is;
+  }

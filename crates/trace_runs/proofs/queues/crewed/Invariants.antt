@@ -1,0 +1,17 @@
+use Rattle.std.proofs.Common.{◌≡◌, ℕ, ◌+◌, length, Some}
+use Rattle.std.specs.Prelude.{slice_get}
+use Rattle.std.specs.Vec.Iter.{into_iter_items, into_iter_len}
+use Rattle.table_heap.specs.declared.bundle.Bundle.{Bundle}
+use Rattle.table_heap.specs.declared.heap.Heap.{Heap}
+use Rattle.trace_runs.specs.DealtParts.{AreReady}
+use Rattle.trace_runs.specs.DealtParts.Assigned.{users}
+use Rattle.trace_runs.specs.Queued.{queue_users, CanBeCrewed}
+use Rattle.trace_runs.proofs.queues.crewed.Given as goal
+
+-- the bundles that are left are the last ones
+abbrev pub invariant-loop-bundle : goal.invariant-loop-bundle
+invariant-loop-bundle l = record {
+  count : length l.parts.items + into_iter_len l.bundle-iterator ≡ length l.fn.bundles.items;
+  left : (i : ℕ) (b : Bundle) → slice_get (into_iter_items l.bundle-iterator) i ≡ Some b → slice_get l.fn.bundles.items (length l.parts.items + i) ≡ Some b;
+  ready : (h : Heap) → CanBeCrewed h l.fn.bundles.items → AreReady h (users (queue_users l.fn.count)) (length l.fn.bundles.items) l.parts.items;
+}

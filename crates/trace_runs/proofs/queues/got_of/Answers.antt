@@ -1,0 +1,141 @@
+use Rattle.std.proofs.Common.{rules, ◌≡◌, ◌<◌, ◌≤◌, ◌+◌, List, length, sym, subst, ap, ◌∙◌, arith}
+use Rattle.std.specs.Prelude.{slice_get}
+use Rattle.heap_words.specs.declared.config.Config.{Config}
+use Rattle.arrayvec.specs.ArrayVec.{ArrayVec}
+use Rattle.managed_queue.specs.Users.{Use}
+use Rattle.table_heap.specs.State.{config_of, view_of}
+use Rattle.trace_runs.specs.declared.parts.Part.{Part}
+use Rattle.trace_runs.specs.DealtParts.{Assigned, AreReady, LoadIsDone, IsDone}
+use Rattle.trace_runs.specs.DealtParts.Assigned.{users}
+use Rattle.trace_runs.specs.Queued.{IsQueueHeap, queue_users, CanBeCrewed}
+use Rattle.trace_runs.proofs.Coming.{has_all, control_idle}
+use Rattle.trace_runs.proofs.Queued.{can_be_crewed, queue_tells, taker_there, small_items, small_sum, queued}
+use Rattle.trace_runs.proofs.queues.got_of.Goals as goal
+
+pub run_parts-requires-clause-some : goal.run_parts-requires-clause-some
+run_parts-requires-clause-some g c κs within =
+    let h = c.in_ok-heap.heap in
+    let n = c.args.count in
+    let bundles = c.in_ok-heap.bundles.items in
+    let parts = c.in_ok-parts.parts.items in
+    let can : CanBeCrewed h bundles =
+    can_be_crewed h c.queue_heap-config.result bundles c.seats.result c.in_ok-heap.ensures.config c.queue_heap-config.ensures c.in_ok-heap.ensures.count c.seats.ensures c.in_ok-heap.ensures.bundles in
+    let ready : AreReady h (users (queue_users n)) (length parts) parts = subst (λ k. AreReady h (users (queue_users n)) k parts) (sym c.in_ok-parts.ensures.count) (c.in_ok-parts.ensures.ready h can) in
+    omega (arith, c.in_ok-parts.ensures.count, c.in_ok-heap.ensures.count, c.seats.ensures)
+
+pub run_parts-requires-clause-ready : goal.run_parts-requires-clause-ready
+run_parts-requires-clause-ready g c κs within =
+    let h = c.in_ok-heap.heap in
+    let n = c.args.count in
+    let bundles = c.in_ok-heap.bundles.items in
+    let parts = c.in_ok-parts.parts.items in
+    let can : CanBeCrewed h bundles =
+    can_be_crewed h c.queue_heap-config.result bundles c.seats.result c.in_ok-heap.ensures.config c.queue_heap-config.ensures c.in_ok-heap.ensures.count c.seats.ensures c.in_ok-heap.ensures.bundles in
+    let ready : AreReady h (users (queue_users n)) (length parts) parts = subst (λ k. AreReady h (users (queue_users n)) k parts) (sym c.in_ok-parts.ensures.count) (c.in_ok-parts.ensures.ready h can) in
+    let it : (assigned : Assigned) × AreReady h assigned (length parts) parts = (users (queue_users n), ready) in
+    it
+
+pub close-closed-requires-clause-heap : goal.close-closed-requires-clause-heap
+close-closed-requires-clause-heap g c =
+    let h = c.in_ok-heap.heap in
+    let n = c.args.count in
+    let bundles = c.in_ok-heap.bundles.items in
+    let parts = c.in_ok-parts.parts.items in
+    let can : CanBeCrewed h bundles =
+    can_be_crewed h c.queue_heap-config.result bundles c.seats.result c.in_ok-heap.ensures.config c.queue_heap-config.ensures c.in_ok-heap.ensures.count c.seats.ensures c.in_ok-heap.ensures.bundles in
+    let ready : AreReady h (users (queue_users n)) (length parts) parts = subst (λ k. AreReady h (users (queue_users n)) k parts) (sym c.in_ok-parts.ensures.count) (c.in_ok-parts.ensures.ready h can) in
+    let all : Part = c.in_ok-bundle.field-0 in
+    let done : IsDone h (users (queue_users n)) (length parts) 0 (length parts) all = c.in_ok-bundle.ensures (users (queue_users n)) ready in
+    let some : 0 < length parts = omega (arith, c.in_ok-parts.ensures.count, c.in_ok-heap.ensures.count, c.seats.ensures) in
+    done.has.of
+
+pub close-closed-requires-clause-all : goal.close-closed-requires-clause-all
+close-closed-requires-clause-all g c =
+    let h = c.in_ok-heap.heap in
+    let n = c.args.count in
+    let bundles = c.in_ok-heap.bundles.items in
+    let parts = c.in_ok-parts.parts.items in
+    let can : CanBeCrewed h bundles =
+    can_be_crewed h c.queue_heap-config.result bundles c.seats.result c.in_ok-heap.ensures.config c.queue_heap-config.ensures c.in_ok-heap.ensures.count c.seats.ensures c.in_ok-heap.ensures.bundles in
+    let ready : AreReady h (users (queue_users n)) (length parts) parts = subst (λ k. AreReady h (users (queue_users n)) k parts) (sym c.in_ok-parts.ensures.count) (c.in_ok-parts.ensures.ready h can) in
+    let all : Part = c.in_ok-bundle.field-0 in
+    let done : IsDone h (users (queue_users n)) (length parts) 0 (length parts) all = c.in_ok-bundle.ensures (users (queue_users n)) ready in
+    let some : 0 < length parts = omega (arith, c.in_ok-parts.ensures.count, c.in_ok-heap.ensures.count, c.seats.ensures) in
+    has_all h (users (queue_users n)) (length parts) all some done
+
+pub close-closed-requires-clause-control : goal.close-closed-requires-clause-control
+close-closed-requires-clause-control g c =
+    let h = c.in_ok-heap.heap in
+    let n = c.args.count in
+    let bundles = c.in_ok-heap.bundles.items in
+    let parts = c.in_ok-parts.parts.items in
+    let can : CanBeCrewed h bundles =
+    can_be_crewed h c.queue_heap-config.result bundles c.seats.result c.in_ok-heap.ensures.config c.queue_heap-config.ensures c.in_ok-heap.ensures.count c.seats.ensures c.in_ok-heap.ensures.bundles in
+    let ready : AreReady h (users (queue_users n)) (length parts) parts = subst (λ k. AreReady h (users (queue_users n)) k parts) (sym c.in_ok-parts.ensures.count) (c.in_ok-parts.ensures.ready h can) in
+    let all : Part = c.in_ok-bundle.field-0 in
+    let done : IsDone h (users (queue_users n)) (length parts) 0 (length parts) all = c.in_ok-bundle.ensures (users (queue_users n)) ready in
+    let some : 0 < length parts = omega (arith, c.in_ok-parts.ensures.count, c.in_ok-heap.ensures.count, c.seats.ensures) in
+    control_idle h (users (queue_users n)) (length parts) all some done
+
+pub unreachable-requires : goal.unreachable-requires
+unreachable-requires g c =
+    let h = c.in_ok-heap.heap in
+    let n = c.args.count in
+    let bundles = c.in_ok-heap.bundles.items in
+    let parts = c.in_ok-parts.parts.items in
+    let can : CanBeCrewed h bundles =
+    can_be_crewed h c.queue_heap-config.result bundles c.seats.result c.in_ok-heap.ensures.config c.queue_heap-config.ensures c.in_ok-heap.ensures.count c.seats.ensures c.in_ok-heap.ensures.bundles in
+    let ready : AreReady h (users (queue_users n)) (length parts) parts = subst (λ k. AreReady h (users (queue_users n)) k parts) (sym c.in_ok-parts.ensures.count) (c.in_ok-parts.ensures.ready h can) in
+    let all : Part = c.in_ok-bundle.field-0 in
+    let done : IsDone h (users (queue_users n)) (length parts) 0 (length parts) all = c.in_ok-bundle.ensures (users (queue_users n)) ready in
+    let some : 0 < length parts = omega (arith, c.in_ok-parts.ensures.count, c.in_ok-heap.ensures.count, c.seats.ensures) in
+    subst (λ l. LoadIsDone (config_of h) (users (queue_users n)) (length parts) 0 (length parts) (view_of all.bundle) l) c.in-Scripted.is done.load
+
+pub taken_by-requires : goal.taken_by-requires
+taken_by-requires g c =
+    let h = c.in_ok-heap.heap in
+    let n = c.args.count in
+    let bundles = c.in_ok-heap.bundles.items in
+    let parts = c.in_ok-parts.parts.items in
+    let can : CanBeCrewed h bundles =
+    can_be_crewed h c.queue_heap-config.result bundles c.seats.result c.in_ok-heap.ensures.config c.queue_heap-config.ensures c.in_ok-heap.ensures.count c.seats.ensures c.in_ok-heap.ensures.bundles in
+    let ready : AreReady h (users (queue_users n)) (length parts) parts = subst (λ k. AreReady h (users (queue_users n)) k parts) (sym c.in_ok-parts.ensures.count) (c.in_ok-parts.ensures.ready h can) in
+    let all : Part = c.in_ok-bundle.field-0 in
+    let done : IsDone h (users (queue_users n)) (length parts) 0 (length parts) all = c.in_ok-bundle.ensures (users (queue_users n)) ready in
+    let some : 0 < length parts = omega (arith, c.in_ok-parts.ensures.count, c.in_ok-heap.ensures.count, c.seats.ensures) in
+    let crew : ArrayVec Use = c.in-Driven.crew in
+    let sizes : IsQueueHeap (config_of h) = can.heap in
+    let view = c.close-closed.ensures.machines in
+    let leads = c.close-closed.ensures.reached in
+    let two = taker_there h n (length parts) all crew some done c.in-Driven.is sizes c.close-closed.result view leads 2 (omega arith) in
+    let slice = c.as_slice.ensures.value in
+    let three = taker_there h n (length parts) all crew some done c.in-Driven.is sizes c.close-closed.result view leads 3 (omega arith) in (
+      _,
+      _,
+      ap (λ (us : List Use). slice_get us 2) slice ∙ two,
+      ap (λ (us : List Use). slice_get us 3) slice ∙ three,
+      small_items h n (length parts) all crew some done c.in-Driven.is sizes c.close-closed.result view leads c.requires,
+      small_sum h n (length parts) all crew some done c.in-Driven.is sizes c.close-closed.result view leads c.requires,
+    )
+
+pub returns : goal.returns
+returns g c =
+    let h = c.in_ok-heap.heap in
+    let n = c.args.count in
+    let bundles = c.in_ok-heap.bundles.items in
+    let parts = c.in_ok-parts.parts.items in
+    let can : CanBeCrewed h bundles =
+    can_be_crewed h c.queue_heap-config.result bundles c.seats.result c.in_ok-heap.ensures.config c.queue_heap-config.ensures c.in_ok-heap.ensures.count c.seats.ensures c.in_ok-heap.ensures.bundles in
+    let ready : AreReady h (users (queue_users n)) (length parts) parts = subst (λ k. AreReady h (users (queue_users n)) k parts) (sym c.in_ok-parts.ensures.count) (c.in_ok-parts.ensures.ready h can) in
+    let all : Part = c.in_ok-bundle.field-0 in
+    let done : IsDone h (users (queue_users n)) (length parts) 0 (length parts) all = c.in_ok-bundle.ensures (users (queue_users n)) ready in
+    let some : 0 < length parts = omega (arith, c.in_ok-parts.ensures.count, c.in_ok-heap.ensures.count, c.seats.ensures) in
+    let crew : ArrayVec Use = c.in-Driven.crew in
+    let sizes : IsQueueHeap (config_of h) = can.heap in
+    let view = c.close-closed.ensures.machines in
+    let leads = c.close-closed.ensures.reached in
+    let two = taker_there h n (length parts) all crew some done c.in-Driven.is sizes c.close-closed.result view leads 2 (omega arith) in
+    let slice = c.as_slice.ensures.value in
+    let three = taker_there h n (length parts) all crew some done c.in-Driven.is sizes c.close-closed.result view leads 3 (omega arith) in
+    let told = c.taken_by.ensures _ _ (ap (λ (us : List Use). slice_get us 2) slice ∙ two) (ap (λ (us : List Use). slice_get us 3) slice ∙ three) in
+    queued h n (length parts) all crew some done c.in-Driven.is sizes c.close-closed.result view leads c.requires c.taken_by.result.items c.taken_by.result.sum told.0 told.1

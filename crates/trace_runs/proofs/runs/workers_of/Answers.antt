@@ -1,4 +1,0 @@
-use Rattle.trace_runs.proofs.runs.workers_of.Goals as goal
-
-pub returns : goal.returns
-returns c = c.number_of.ensures

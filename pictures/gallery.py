@@ -1,0 +1,85 @@
+#!/usr/bin/env python3
+"""Draws each example at the event where it turns, into examples/pictures/, and lists the pictures in examples/README.md.
+
+usage: gallery.py [--check]
+
+With --check it writes nothing, and fails where a picture or the list is not what it would write.
+"""
+import pathlib
+import re
+import subprocess
+import sys
+
+sys.dont_write_bytecode = True
+TOP = pathlib.Path(__file__).resolve().parent.parent
+EXAMPLES = TOP / "examples"
+PAGE = EXAMPLES / "README.md"
+HEADING = "\n## Pictures\n"
+WIDE, EVENTS = 760, 38
+# The event that is drawn: that at which the example turns.
+MOMENTS = {
+    "first": 63, "noted": 63, "race": 47, "apart": 47, "retry": 47, "one_bit": 14, "stack": 110, "stack_gap": 101,
+    "limits": 103, "eight": 186, "cut": 47, "no_room": 4126, "collects": 10948, "one_pause": 3719, "pause": 774,
+    "inside": 17, "wait": 161, "crowded": 5602, "one_dropped": 5614, "reserve": 300, "exchanged": 674, "two_stores": 742,
+    "let_go": 767, "copy_race": 2787, "no_room_to_copy": 1655, "updated": 3957, "recycled": 3867, "finished": 1721,
+    "half_evacuated": 2649, "threads": 6929,
+}
+
+
+def examples():
+    """The examples with a trace, in the order of the table."""
+    names = re.findall(r"^\| `(\w+)` \|", PAGE.read_text(), re.M)
+    return [name for name in names if (EXAMPLES / f"{name}.trace").exists()]
+
+
+def drawn(name):
+    """The picture of an example."""
+    words = [TOP / "shenpicture", "--svg", str(MOMENTS[name]), "--time", str(EVENTS), "--wide", str(WIDE), EXAMPLES / f"{name}.trace"]
+    ran = subprocess.run(words, stdout=subprocess.PIPE, check=False)
+    if ran.returncode:
+        raise SystemExit(f"{name}: shenpicture ends with {ran.returncode}")
+    return ran.stdout.decode()
+
+
+def line(name):
+    """The line of the listing at the event that is drawn."""
+    number = str(MOMENTS[name])
+    words = [TOP / "shensteps", "--no-fold", "--from", number, "--to", number, EXAMPLES / f"{name}.trace"]
+    ran = subprocess.run(words, stdout=subprocess.PIPE, check=False, text=True)
+    found = [it for it in ran.stdout.splitlines() if it[:6].strip() == number]
+    return re.sub(r"  +", "  ", found[0].strip()) if found else f"{number}, within a pause"
+
+
+def section(names):
+    """The list of the pictures."""
+    text = HEADING + "\nEach example where it turns: the time round that event, and the heap behind it. `pictures/gallery.py` makes them, and this list;\n"
+    text += "[PICTURES.md](../docs/PICTURES.md) says what is drawn, and draws whole runs.\n"
+    for name in names:
+        text += f"\n**{name}**: `{line(name)}`\n\n![{name}, behind event {MOMENTS[name]}](pictures/{name}.svg)\n"
+    return text
+
+
+def main():
+    """Writes or checks all."""
+    check, failed, folder = "--check" in sys.argv[1:], False, EXAMPLES / "pictures"
+    names = examples()
+    wanted = {folder / f"{name}.svg": drawn(name) for name in names}
+    wanted[PAGE] = PAGE.read_text().split(HEADING)[0] + section(names)
+    folder.mkdir(exist_ok=True)
+    for path in sorted(set(folder.glob("*.svg")) - set(wanted)):
+        failed = True
+        print(f"{path.relative_to(TOP)} is the picture of no example")
+    for path, text in wanted.items():
+        if path.exists() and path.read_text() == text:
+            continue
+        if check:
+            failed = True
+            print(f"{path.relative_to(TOP)} is not what pictures/gallery.py writes now")
+        else:
+            path.write_text(text)
+    print(f"{len(names)} pictures of examples")
+    return failed
+
+
+if __name__ == "__main__":
+    sys.exit(main())
