@@ -3,6 +3,7 @@
 #   program      the name of its crate
 #   unasked      what the program writes without words and without input, by which a whole one is known
 #   refusal      the line by which the program refuses words
+#   refusals     2 if it writes such lines to the standard error
 #   page         the page that has the words
 #   reads_input  a function: whether these words make the program read its input
 #   may_be_words a function: whether the program may take these words, by which others are refused before anything is built
@@ -60,11 +61,12 @@ is_outdated() {
 take() {
     [ -x "$left" ] && is_newer "$left" "$kept" || return 0
     if ! { mkdir -p out && : >out/new.$$; } 2>/dev/null; then
-        say "the folder out cannot be written, so the proved program is not kept for the time of a later rt ci"
+        # Of a checkout that nobody is to write nothing is said.
+        [ ! -w . ] || say "the folder out cannot be written, so the proved program is not kept for the time of a later rt ci"
         return 0
     fi
     cp "$left" out/new.$$ && chmod +x out/new.$$
-    if [ "$(out/new.$$ </dev/null 2>/dev/null)" = "$unasked" ]; then
+    if [ "$(out/new.$$ </dev/null 2>&1)" = "$unasked" ]; then
         if is_outdated; then rm -f "$sums"; else sums_now >"$sums"; fi
         mv -f out/new.$$ "$kept"
     else
@@ -99,7 +101,7 @@ judge() {
         fi
     done
     if ! may_be_words "$@"; then
-        printf '%s\n' "$refusal"
+        printf '%s\n' "$refusal" >&"${refusals:-1}"
         end_with 2
     fi
 }
@@ -168,6 +170,8 @@ unproved() {
     case $(tail -n 1 "$room/said") in
         run=ended*)
             cat "$room/answer" 2>/dev/null || status=6
+            # What the program has written to the standard error stands among the lines of rt.
+            [ "${refusals:-1}" = 1 ] || grep -E '^(bad (words|line)|too long|read fault|out of memory)' "$room/said" >&2
             end_with "$status"
             ;;
         run=no-answer*)

@@ -16,6 +16,7 @@ import sys
 import tempfile
 
 sys.dont_write_bytecode = True
+sys.path.insert(0, os.path.join(os.path.dirname(os.path.dirname(os.path.abspath(__file__))), "check"))
 from cases import TOP, program  # pylint: disable=wrong-import-position
 
 CASE = re.compile(r"case=(\d+) run=ended status=(\d+) ")
@@ -37,8 +38,8 @@ def last(text):
 def run(path, words, file):
     """The status and the answer of a program to the trace of a file."""
     with open(file, "rb") as source:
-        ran = subprocess.run([path, *words], stdin=source, stdout=subprocess.PIPE, check=False)
-    return ran.returncode, ran.stdout.decode(errors="replace")
+        ran = subprocess.run([path, *words], stdin=source, capture_output=True, check=False)
+    return ran.returncode, (ran.stdout or ran.stderr).decode(errors="replace")
 
 
 def tried(name, words, files):

@@ -13,8 +13,10 @@ KINDS = ("phase", "collection set", "copiers", "claimed work", ASK, "free region
 
 def value(told):
     """A value of the listing: a set of regions or names, the name of an object, or a number."""
-    if "regions" in told or "objects" in told:
-        return set(map(str, told.get("regions", told.get("objects"))))
+    if "regions" in told:
+        return set(map(str, told["regions"]))
+    if "objects" in told:
+        return {it["object"] for it in told["objects"]}
     return told.get("object", told["word"])
 
 

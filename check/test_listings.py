@@ -29,11 +29,12 @@ KINDS = 22
 # Words, what is read, the status and what is written.
 FORM = (
     "bad words: the form is shensteps [--steps N] [--from N] [--to N] [--item N] [--only MACHINE,..] [--place CODE,..] [--object NAME]"
-    " [--word WORD] [--calls] [--pauses line|changed|full] [--no-fold] [--columns] [--heap] [--heap-at N] [--json]\n"
+    " [--word WORD] [--calls] [--pauses line|changed|full] [--no-fold] [--columns] [--heap [changed]] [--heap-at N] [--json]"
+    " [--color always|never|auto] [--progress]\n"
 )
 ASKS = "shen 1\nheap 4 64 0\nthreads 1 0\n1 gc\n"
 # The control looks first whether a mutator is left, as in each round after that of the mutator.
-LISTED = """ event  machine   at  access                                        found             says
+LISTED = """ event  machine   at  access (@3+0: in region 3 at word 0, from 0)  found             says
 -- rounds
      3  thread 1  E2  load pause word                               0
      5  thread 1  PH  load phase                                    0
@@ -41,6 +42,7 @@ machines: thread 1 at CS, control at I0
 replies of thread 1:
 unfinished after 6 steps
 """
+HAS = "in this heap, which has 1 thread, 0 helpers and the control\n"
 REFUSED = (
     "replay",
     "--steps",
@@ -51,17 +53,22 @@ REFUSED = (
     "--only 13",
     "--only 1,",
     "--only thread",
-    "--place ZZ",
     "--pauses some",
     "--from 01",
     "--heap ",
+    "--heap changed --heap",
+    "--color some",
 )
 CALLS = [
     *((words, ASKS, 2, FORM) for words in REFUSED),
     ("", "heap 1\n", 3, "bad line 1: header wanted\n"),
     ("--only 1 --steps 6 --from 2", ASKS, 4, LISTED),
-    ("--only 1,3", ASKS, 2, "bad words: there is no machine 3 in this heap, which has 2\n"),
-    ("--only control,4", ASKS, 2, "bad words: there is no machine 4 in this heap, which has 2\n"),
+    ("--only 1,3", ASKS, 2, f"bad words: there is no machine 3 {HAS}"),
+    ("--only control,4", ASKS, 2, f"bad words: there is no machine 4 {HAS}"),
+    ("--only helper_1,1", ASKS, 2, f"bad words: there is no helper 1 {HAS}"),
+    ("--only thread_2", ASKS, 2, f"bad words: there is no thread 2 {HAS}"),
+    ("--place HX,ZZ", ASKS, 2, "bad words: there is no place ZZ\n"),
+    ("--item 1", ASKS, 2, "bad words: there is no item 1 in this schedule, which has 0\n"),
 ]
 
 
@@ -108,11 +115,12 @@ def has_bars(program, columns):
 
 
 def answers(program, words, text, status, wanted):
-    """Whether a call ends with the status, and writes what is wanted."""
-    run = subprocess.run([program, *words.split(" ")] if words else [program], input=text, stdout=subprocess.PIPE, text=True, check=False)
-    if (run.returncode, run.stdout) == (status, wanted):
+    """Whether a call ends with the status, and writes what is wanted: a listing, or a line on the standard error. `_` is a space in a word."""
+    split = [it.replace("_", " ") for it in words.split(" ")] if words else []
+    run = subprocess.run([program, *split], input=text, capture_output=True, text=True, check=False)
+    if (run.returncode, run.stdout, run.stderr) == (status, *((wanted, "") if status in (0, 4) else ("", wanted))):
         return True
-    print(f"shensteps {words} ends with {run.returncode}, and writes:\n{run.stdout}")
+    print(f"shensteps {words} ends with {run.returncode}, and writes:\n{run.stdout}{run.stderr}")
     return False
 
 

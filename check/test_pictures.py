@@ -115,6 +115,8 @@ def wrong_heap(name, text, lines, number):
     if it.pausing:
         return
     told = next(json.loads(each) for each in objects(text, "--heap-at", str(number), "--from", str(number), "--to", str(number)) if '"kind":"heap"' in each)
+    # What a picture draws of a region from other words.
+    told["regions"] = [{key: each[key] for key in each if key not in ("live", "garbage", "machine", "room")} for each in told["regions"]]
     told["copiers"], told["asked"] = told["copiers"]["word"], told["asked"]["word"]
     for key, value in heap.Heap(it.layout, it.table).state().items():
         if value != told[key]:

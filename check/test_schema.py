@@ -20,6 +20,9 @@ SCHEMA = json.loads((TOP / "docs" / "listing.schema.json").read_text())
 TYPES = {"object": dict, "array": list, "string": str, "integer": int, "boolean": bool, "null": type(None)}
 KNOWN = {"$schema", "title", "$defs", "$ref", "oneOf", "anyOf", "type", "properties", "required", "additionalProperties", "items", "enum", "const", "pattern", "minimum"}
 WORDS = ["--pauses", "changed", "--heap"]
+# An example of which the heap is shown behind each event that changes it, and what no event names.
+CHANGES = "first.trace"
+NONE = ["--object", "9.9"]
 # An example in which a pause finishes a cycle, each event of which is looked at.
 FULL = "finished.trace"
 # A schedule that cannot go on: the control waits for a thread that is inside.
@@ -59,7 +62,8 @@ def main():
     failed, kinds = False, collections.Counter()
     traces = {path.name: path.read_text() for path in sorted((TOP / "examples").glob("*.trace"))}
     for name, text in {**traces, "a schedule that cannot go on": STUCK}.items():
-        for words in [WORDS, ["--pauses", "full"]] if name == FULL else [WORDS]:
+        further = {FULL: [["--pauses", "full"]], CHANGES: [["--heap", "changed"], NONE]}.get(name, [])
+        for words in [WORDS, *further]:
             for number, it in enumerate(objects(text, *words)[1], 1):
                 kinds[it.get("kind")] += 1
                 if not fits(it, SCHEMA):

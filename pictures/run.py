@@ -237,7 +237,7 @@ class Run:
         if "objects" in value:
             names = dict(zip(telling.bits_of(found["word"]), found["objects"]))
             names.update(zip(telling.bits_of(it["value"]["word"]), it["value"]["objects"]))
-            value["objects"] = [names.get(bit, "?") for bit in telling.bits_of(after)]
+            value["objects"] = [names.get(bit, {"object": "?"}) for bit in telling.bits_of(after)]
         return self.teller.value(of, value)
 
     def note_early(self, it):

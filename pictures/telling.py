@@ -55,9 +55,9 @@ class Teller:
     def marks(self, of, value):
         """The objects that a word of marks marks."""
         texts = []
-        for bit, name in zip(bits_of(value["word"]), value["objects"]):
+        for bit, it in zip(bits_of(value["word"]), value["objects"]):
             place = self.layout.place(self.layout.region_words + of["index"] * MARKS_A_WORD + bit)
-            texts.append(self.object({"object": name, "region": place[0], "offset": place[1]}) if place else str(bit))
+            texts.append(self.object({"object": it.get("object"), "region": place[0], "offset": place[1]}) if place else str(bit))
         return "{" + " ".join(texts) + "}"
 
     def value(self, of, value):

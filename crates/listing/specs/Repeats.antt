@@ -1,7 +1,7 @@
--- Runs of like events.
-use Rattle.std.specs.Prelude.{ℕ, ◌%◌, slice_index}
+-- Runs of like lines.
+use Rattle.std.specs.Prelude.{ℕ}
 use Rattle.listing.specs.declared.fold.Folds.{Folds}
 
--- how many events the run of a machine has behind the one that was listed
-abbrev pub more_of : Folds → ℕ → ℕ
-more_of f seat = slice_index f.more (seat % 12)
+-- how many lines the run has behind its first group
+abbrev pub more_of : Folds → ℕ
+more_of f = f.more

@@ -132,9 +132,7 @@ fn json_marks(row: &mut Row, table: &Table, first: u64, marks: u64) {
     for bit in 0..64u64 {
         if left % 2 == 1 {
             put_comma(row);
-            row.put(b"\"");
-            put_name(row, name_at(table, first.saturating_add(bit)));
-            row.put(b"\"");
+            json_reference(row, table, first.saturating_add(bit));
         }
         left /= 2;
     }

@@ -7,6 +7,7 @@ mod copies;
 mod event;
 mod fold;
 mod json;
+mod line;
 mod pauses;
 mod row;
 mod settling;
@@ -23,6 +24,7 @@ pub use json::{
     json_access, json_field_lists, json_flag, json_key, json_number, json_object_at, json_pause,
     json_place_of, json_reference, json_regions, json_text, json_value,
 };
+pub use line::NUMBER;
 pub use pauses::{Cause, Pauses, Told, put_pause};
 pub use row::Row;
 pub use settling::{refused, settled};

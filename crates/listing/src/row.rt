@@ -6,6 +6,9 @@ use text_writer::Block;
 // The bytes that a row has room for.
 const ROOM: usize = 4096;
 
+// The colours of machines, by turns.
+const COLOURS: usize = 6;
+
 /// One line of a listing while it is set, in columns. What does not fit is left out, so a long line is sent in parts.
 #[derive(Drop)]
 pub struct Row {
@@ -44,6 +47,12 @@ impl Row {
         &self.bytes[..self.end.min(ROOM)]
     }
 
+    /// Its text from a column on, without the spaces at the end.
+    pub fn text_from(&self, column: usize) -> &[u8] {
+        let end = self.end.min(ROOM);
+        &self.bytes[column.min(end)..end]
+    }
+
     // Puts a byte behind what is there.
     fn put_byte(&mut self, byte: u8) {
         if self.used < ROOM {
@@ -63,12 +72,15 @@ impl Row {
         }
     }
 
-    /// Puts text, behind a comma where other text ends right here.
-    pub fn put_further(&mut self, text: &[u8]) {
-        if self.used > 0 && self.end == self.used {
+    /// Goes on at a column, or behind a comma where text ends beyond it; at column 0 behind a semicolon.
+    pub fn put_behind(&mut self, column: usize) {
+        if column == 0 {
+            self.put(b"; ");
+        } else if self.used < column {
+            self.pad(column);
+        } else {
             self.put(b", ");
         }
-        self.put(text);
     }
 
     /// Puts a number in decimal.
@@ -136,9 +148,34 @@ impl Row {
 
     /// Sends the row as a line, and is empty then.
     pub fn send<K: Sink>(&mut self, block: &mut Block, sink: &mut K) {
-        block.put(sink, &self.bytes[..self.end.min(ROOM)]);
+        self.pass_text(block, sink);
         block.put(sink, b"\n");
         self.restart();
+    }
+
+    /// Sends the row as a line, in a colour where colours are wanted, and is empty then.
+    pub fn send_as<K: Sink>(
+        &mut self,
+        block: &mut Block,
+        sink: &mut K,
+        colour: usize,
+        colours: bool,
+    ) {
+        if colours {
+            block.put(sink, b"\x1b[3");
+            block.put_number(sink, (colour % COLOURS) as u64 + 1);
+            block.put(sink, b"m");
+            self.pass_text(block, sink);
+            block.put(sink, b"\x1b[0m\n");
+            self.restart();
+        } else {
+            self.send(block, sink);
+        }
+    }
+
+    // Sends its text.
+    fn pass_text<K: Sink>(&self, block: &mut Block, sink: &mut K) {
+        block.put(sink, &self.bytes[..self.end.min(ROOM)]);
     }
 
     /// Sends what the row has as a part of a line, and is empty then.

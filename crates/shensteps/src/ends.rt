@@ -18,10 +18,7 @@ use trace_grammar::Trace;
 // The version of the form of the objects.
 const VERSION: u64 = 1;
 
-// Behind this column a list goes on in a new line.
-const WIDE: usize = 100;
-
-// Where it goes on then.
+// Where a list goes on in a new line.
 const INDENT: usize = 6;
 
 /// The machine of an item.
@@ -80,16 +77,16 @@ fn put_stand(row: &mut Row, plain: &Plain, seat: usize)
     }
 }
 
-// Goes on in a new line where the row is long.
-fn wrap<K: Sink>(row: &mut Row, block: &mut Block, sink: &mut K) {
-    if row.width() > WIDE {
+// Goes on in a new line where the row goes beyond a column.
+fn wrap<K: Sink>(row: &mut Row, block: &mut Block, sink: &mut K, wide: usize) {
+    if row.width() > wide {
         row.send(block, sink);
         row.tab(INDENT);
     }
 }
 
 // Writes where each machine stands.
-fn put_stands<K: Sink>(row: &mut Row, block: &mut Block, sink: &mut K, plain: &Plain)
+fn put_stands<K: Sink>(row: &mut Row, block: &mut Block, sink: &mut K, plain: &Plain, wide: usize)
     requires { All (λ order. order ≡ Nothing) (orders_of plain.now) }
 {
     row.put(b"machines:");
@@ -97,7 +94,7 @@ fn put_stands<K: Sink>(row: &mut Row, block: &mut Block, sink: &mut K, plain: &P
         if seat > 0 {
             row.put(b",");
         }
-        wrap(row, block, sink);
+        wrap(row, block, sink, wide);
         row.put(b" ");
         put_machine(row, plain.config(), seat);
         put_stand(row, plain, seat);
@@ -113,23 +110,31 @@ fn put_replies<K: Sink>(
     config: Config,
     mutator: usize,
     replies: &[Reply],
+    wide: usize,
 ) {
     row.put(b"replies of ");
     put_machine(row, config, mutator);
     row.put(b":");
     for reply in replies {
-        wrap(row, block, sink);
+        wrap(row, block, sink, wide);
         row.put(b" ");
         put_reply(row, *reply);
     }
     row.send(block, sink);
 }
 
-/// Writes where each machine stands, and the replies of each thread.
-pub fn put_end<K: Sink>(row: &mut Row, block: &mut Block, sink: &mut K, plain: &Plain, work: &Work)
+/// Writes where each machine stands, and the replies of each thread, in lines that end behind a column.
+pub fn put_end<K: Sink>(
+    row: &mut Row,
+    block: &mut Block,
+    sink: &mut K,
+    plain: &Plain,
+    work: &Work,
+    wide: usize,
+)
     requires { CanRun plain.now work.now }
 {
-    put_stands(row, block, sink, plain);
+    put_stands(row, block, sink, plain, wide);
     for mutator in 0..plain.config().mutators() {
         put_replies(
             row,
@@ -138,6 +143,7 @@ pub fn put_end<K: Sink>(row: &mut Row, block: &mut Block, sink: &mut K, plain: &
             plain.config(),
             mutator,
             work.replies(mutator).list(),
+            wide,
         );
     }
 }
@@ -332,8 +338,28 @@ pub fn put_stuck(
     }
 }
 
-/// Puts the object for an item, counted from 1, that cannot end.
-pub fn json_stuck(row: &mut Row, plain: &Plain, number: usize, item: Item, last: Option<Event>) {
+// Puts members for whom a machine waits that has made this load in vain, as `put_awaited` says it; those that copy are nobody by name.
+fn json_awaited(row: &mut Row, plain: &Plain, last: &Event, control: Option<Event>) {
+    let config = plain.config();
+    let own = plain.seats() - 1;
+    let seat = match (last.place, &control) {
+        (Place::XW, _) => return,
+        (Place::P2, _) => awaited(config, last).unwrap_or(own),
+        (_, Some(other)) if other.place == Place::P2 => awaited(config, other).unwrap_or(own),
+        _ => own,
+    };
+    json_number(row, b"waits_for", (seat as u64).saturating_add(1));
+}
+
+/// Puts the object for an item, counted from 1, that cannot end: by the last event of its machine, and that of the control.
+pub fn json_stuck(
+    row: &mut Row,
+    plain: &Plain,
+    number: usize,
+    item: Item,
+    last: Option<Event>,
+    control: Option<Event>,
+) {
     row.put(b"{");
     json_text(row, b"kind", b"stuck");
     json_number(row, b"item", number as u64);
@@ -342,11 +368,12 @@ pub fn json_stuck(row: &mut Row, plain: &Plain, number: usize, item: Item, last:
     put_item(row, item);
     row.put(b"\"");
     json_seat(row, plain.config(), machine_of(item));
-    if let Some(last) = &last {
-        json_text(row, b"at", &last.place.code());
-        if let Some(seat) = awaited(plain.config(), last) {
-            json_number(row, b"waits_for", (seat as u64).saturating_add(1));
+    match &last {
+        Some(last) if last.next == Some(last.place) => {
+            json_text(row, b"at", &last.place.code());
+            json_awaited(row, plain, last, control);
         }
+        _ => json_flag(row, b"goes_round", true),
     }
     row.put(b"}");
 }

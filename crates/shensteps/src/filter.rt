@@ -39,20 +39,47 @@ impl Needle {
 /// Which events are listed: those of some machines, at some places, of an object or a word, or of calls alone.
 #[derive(Clone, Copy, Debug)]
 pub struct Filter {
-    // The machines by their numbers, counted from 0, and the control by its name; all where none is named.
+    // The machines by their numbers, counted from 0, and by their names; all where none is named.
     machines: [bool; 12],
+    threads: [bool; 8],
     helpers: [bool; 3],
     control: bool,
     some_machines: bool,
     // The places; all where none is named.
     places: [bool; 81],
     some_places: bool,
+    /// A code that was given and that no place has.
+    pub no_place: Option<Needle>,
     /// The object that a line has to name.
     pub object: Option<Needle>,
     /// The word that an access has to be of.
     pub word: Option<Needle>,
     /// Whether only what calls say is listed.
     pub calls: bool,
+}
+
+/// A machine that the heap does not have, by its number from 1: in a schedule, among the threads, or among the helpers.
+#[derive(Clone, Copy, Debug)]
+pub enum Stranger {
+    /// A machine.
+    Machine(u64),
+    /// A thread.
+    Thread(u64),
+    /// A helper.
+    Helper(u64),
+}
+
+impl Stranger {
+    /// Puts it by its name.
+    pub fn put(self, row: &mut Row) {
+        let (role, number) = match self {
+            Stranger::Machine(number) => (b"machine ".as_slice(), number),
+            Stranger::Thread(number) => (b"thread ".as_slice(), number),
+            Stranger::Helper(number) => (b"helper ".as_slice(), number),
+        };
+        row.put(role);
+        row.put_number(number);
+    }
 }
 
 // The text up to the next comma, from a byte on.
@@ -84,11 +111,13 @@ impl Filter {
     pub fn all() -> Filter {
         Filter {
             machines: [false; 12],
+            threads: [false; 8],
             helpers: [false; 3],
             control: false,
             some_machines: false,
             places: [false; 81],
             some_places: false,
+            no_place: None,
             object: None,
             word: None,
             calls: false,
@@ -101,10 +130,13 @@ impl Filter {
         if let Some(number) = behind(b"helper ", name) {
             let helper = number_in(3, number)?;
             self.helpers[(helper.saturating_sub(1) % 3) as usize] = true;
+        } else if let Some(number) = behind(b"thread ", name) {
+            let thread = number_in(8, number)?;
+            self.threads[(thread.saturating_sub(1) % 8) as usize] = true;
         } else if name == b"control".as_slice() {
             self.control = true;
         } else {
-            let number = number_in(12, behind(b"thread ", name).unwrap_or(name))?;
+            let number = number_in(12, name)?;
             self.machines[(number.saturating_sub(1) % 12) as usize] = true;
         }
         Some(())
@@ -115,7 +147,10 @@ impl Filter {
         let [one, two] = code else {
             return None;
         };
-        let place = Place::of([*one, *two])?;
+        let Some(place) = Place::of([*one, *two]) else {
+            self.no_place = Needle::of(code);
+            return None;
+        };
         self.some_places = true;
         self.places[place as usize % 81] = true;
         Some(())
@@ -155,19 +190,29 @@ impl Filter {
         }
     }
 
-    /// The number in a schedule of a machine that is named and that the heap does not have.
-    pub fn stranger(&self, config: Config) -> Option<u64> {
-        for seat in config.seats()..12 {
-            if self.machines[seat % 12] {
-                return Some((seat as u64).saturating_add(1));
+    // The first machine that is named and that the heap does not have, of those with names.
+    fn strange_name(&self, config: Config) -> Option<Stranger> {
+        for thread in config.mutators()..8 {
+            if self.threads[thread % 8] {
+                return Some(Stranger::Thread((thread as u64).saturating_add(1)));
             }
         }
         for helper in config.helpers()..3 {
             if self.helpers[helper % 3] {
-                return Some((config.mutators() as u64 + helper as u64).saturating_add(1));
+                return Some(Stranger::Helper((helper as u64).saturating_add(1)));
             }
         }
         None
+    }
+
+    /// A machine that is named and that the heap does not have.
+    pub fn stranger(&self, config: Config) -> Option<Stranger> {
+        for seat in config.seats()..12 {
+            if self.machines[seat % 12] {
+                return Some(Stranger::Machine((seat as u64).saturating_add(1)));
+            }
+        }
+        self.strange_name(config)
     }
 
     /// Whether events of a machine are listed.
@@ -179,7 +224,10 @@ impl Filter {
         if seat >= others {
             return self.control;
         }
-        seat >= config.mutators() && self.helpers[(seat - config.mutators()) % 3]
+        if seat < config.mutators() {
+            return self.threads[seat % 8];
+        }
+        self.helpers[(seat - config.mutators()) % 3]
     }
 
     /// Whether events at a place are listed.

@@ -1,10 +1,9 @@
 //! The heap as the listing shows it: its phase and sets, a line a region, and the roots.
 
-use heap_words::{Config, forwarded, forwardee};
+use heap_words::{Config, forwarded, forwardee, refs_of};
 use listing::{
-    Reading, Row, Table, base, heap_word, json_field_lists, json_flag, json_key, json_number,
-    json_object_at, json_place_of, json_reference, json_regions, json_text, json_value, name_at,
-    put_machine, put_name, put_place, put_reference, put_value, size_at, top,
+    Reading, Row, Table, base, heap_word, name_at, put_machine, put_name, put_place, put_reference,
+    put_value, size_at, top,
 };
 use regions::{is_in, mark_words};
 use shen_base::Sink;
@@ -45,18 +44,18 @@ fn is_marked(table: &Table, before: usize, address: u64) -> bool {
     word >> (bit % 64) & 1 == 1
 }
 
-// Whether an address is black.
-fn is_black(table: &Table, address: u64) -> bool {
+/// Whether an address is black.
+pub fn is_black(table: &Table, address: u64) -> bool {
     is_marked(table, mark_words(table.config()), address)
 }
 
-// Whether an address is grey.
-fn is_grey(table: &Table, address: u64) -> bool {
+/// Whether an address is grey.
+pub fn is_grey(table: &Table, address: u64) -> bool {
     is_marked(table, 2 * mark_words(table.config()), address)
 }
 
-// A word of the heap's state, by its index.
-fn phase(table: &Table) -> u64 {
+/// The phase.
+pub fn phase(table: &Table) -> u64 {
     table.word(table.config().phase_at())
 }
 
@@ -106,13 +105,12 @@ fn put_objects<K: Sink>(
             row.tab(column);
         }
         row.put(b" ");
-        let next = at.saturating_add(size_at(table, at));
-        if rooms.contains(&at) || next > end {
+        let Some(next) = next_object(table, rooms, at, end) else {
             row.put(b"room(");
             row.put_number(end.saturating_sub(at));
             row.put(b")");
             return;
-        }
+        };
         put_object(row, table, at, next.saturating_sub(at));
         at = next;
     }
@@ -129,28 +127,28 @@ fn put_owner(row: &mut Row, table: &Table, config: Config, region: usize) {
     }
 }
 
-// The words of a region's objects that are black, or were made since marking began.
-fn live(table: &Table, region: usize, start: u64) -> u64 {
+/// The words of a region's objects that are black, or were made since marking began, and those of all others; `start` is how far it
+/// was used then.
+pub fn live_and_garbage(table: &Table, rooms: &Rooms, region: usize, start: u64) -> (u64, u64) {
     let first = base(table, region);
     let end = first.saturating_add(top(table, region));
     let mut at = first;
-    let mut words: u64 = 0;
+    let mut live: u64 = 0;
     for _ in 0..1024 {
-        if at >= end {
-            return words;
-        }
-        let size = size_at(table, at);
+        let Some(next) = next_object(table, rooms, at, end) else {
+            return (live, at.saturating_sub(first).saturating_sub(live));
+        };
         if at.saturating_sub(first) >= start || is_black(table, at) {
-            words = words.saturating_add(size);
+            live = live.saturating_add(next.saturating_sub(at));
         }
-        at = at.saturating_add(size);
+        at = next;
     }
-    words
+    (live, 0)
 }
 
 // Puts what a cycle knows of a region: whether it is in the set, how far it was used when marking began, what of it lives, and
 // how far it was used when updating began.
-fn put_cycle(row: &mut Row, table: &Table, config: Config, region: usize) {
+fn put_cycle(row: &mut Row, table: &Table, config: Config, region: usize, rooms: &Rooms) {
     let phase = phase(table);
     if phase == 0 || region >= config.regions() {
         return;
@@ -162,8 +160,11 @@ fn put_cycle(row: &mut Row, table: &Table, config: Config, region: usize) {
     row.put(b" mark start ");
     row.put_number(start);
     if phase > 1 {
+        let (live, garbage) = live_and_garbage(table, rooms, region, start);
         row.put(b", live ");
-        row.put_number(live(table, region, start));
+        row.put_number(live);
+        row.put(b", garbage ");
+        row.put_number(garbage);
     }
     if phase > 2 {
         row.put(b", limit ");
@@ -172,8 +173,8 @@ fn put_cycle(row: &mut Row, table: &Table, config: Config, region: usize) {
     row.put(b":");
 }
 
-// Puts the line of a region.
-fn put_region<K: Sink>(
+/// Puts the line of a region.
+pub fn put_region<K: Sink>(
     row: &mut Row,
     block: &mut Block,
     sink: &mut K,
@@ -199,14 +200,14 @@ fn put_region<K: Sink>(
         let (column, _) = object_columns(bars);
         row.tab(column);
         put_owner(row, table, config, region);
-        put_cycle(row, table, config, region);
+        put_cycle(row, table, config, region, rooms);
         put_objects(row, block, sink, table, region, rooms, bars);
     }
     row.send(block, sink);
 }
 
-// Puts the line of the roots of a thread, counted from 0.
-fn put_roots<K: Sink>(
+/// Puts the line of the roots of a thread, counted from 0.
+pub fn put_roots<K: Sink>(
     row: &mut Row,
     block: &mut Block,
     sink: &mut K,
@@ -232,8 +233,8 @@ fn put_state(row: &mut Row, table: &Table, text: &[u8], kind: Reading, at: usize
     put_value(row, table, kind, table.word(at));
 }
 
-// Puts the line of the phase and the sets, while a cycle runs.
-fn put_phase<K: Sink>(row: &mut Row, block: &mut Block, sink: &mut K, table: &Table) {
+/// Puts the line of the phase and the sets, while a cycle runs.
+pub fn put_phase<K: Sink>(row: &mut Row, block: &mut Block, sink: &mut K, table: &Table) {
     let config = table.config();
     row.put(b"   phase ");
     row.put_number(phase(table));
@@ -262,6 +263,67 @@ fn put_phase<K: Sink>(row: &mut Row, block: &mut Block, sink: &mut K, table: &Ta
     row.send(block, sink);
 }
 
+/// Where the object behind the one at an address begins, or None where there is none: the region's objects end there, or what lies there
+/// is room.
+pub fn next_object(table: &Table, rooms: &Rooms, at: u64, end: u64) -> Option<u64> {
+    let next = at.saturating_add(size_at(table, at));
+    if at >= end || rooms.contains(&at) || next > end {
+        None
+    } else {
+        Some(next)
+    }
+}
+
+// Whether a field of the object at an address names an object.
+fn has_field(table: &Table, at: u64) -> bool {
+    for index in 0..refs_of(heap_word(table, at.saturating_add(1))).min(16) {
+        if heap_word(table, at.saturating_add(3).saturating_add(index)) > 0 {
+            return true;
+        }
+    }
+    false
+}
+
+/// Puts the line of the fields of the object at an address that name objects, if it has any.
+pub fn put_fields<K: Sink>(row: &mut Row, block: &mut Block, sink: &mut K, table: &Table, at: u64) {
+    if !has_field(table, at) {
+        return;
+    }
+    row.put(b"   fields of ");
+    put_reference(row, table, at);
+    row.put(b":");
+    for index in 0..refs_of(heap_word(table, at.saturating_add(1))).min(16) {
+        let field = heap_word(table, at.saturating_add(3).saturating_add(index));
+        if field > 0 {
+            row.put(b" ");
+            row.put_number(index);
+            row.put(b" to ");
+            put_reference(row, table, field);
+        }
+    }
+    row.send(block, sink);
+}
+
+// Puts the lines of the fields of the objects of a region.
+fn put_all_fields<K: Sink>(
+    row: &mut Row,
+    block: &mut Block,
+    sink: &mut K,
+    table: &Table,
+    region: usize,
+    rooms: &Rooms,
+) {
+    let mut at = base(table, region);
+    let end = at.saturating_add(top(table, region));
+    for _ in 0..1024 {
+        let Some(next) = next_object(table, rooms, at, end) else {
+            return;
+        };
+        put_fields(row, block, sink, table, at);
+        at = next;
+    }
+}
+
 /// Puts the heap, with bars or without. `rooms` are the addresses at which machines have room in hand that is no object yet.
 pub fn put_heap<K: Sink>(
     row: &mut Row,
@@ -278,139 +340,10 @@ pub fn put_heap<K: Sink>(
     for region in 0..config.regions() {
         put_region(row, block, sink, table, region, rooms, bars);
     }
+    for region in 0..config.regions() {
+        put_all_fields(row, block, sink, table, region, rooms);
+    }
     for mutator in 0..config.mutators() {
         put_roots(row, block, sink, table, mutator);
     }
-}
-
-// Writes the objects of a region as a list.
-fn json_objects<K: Sink>(
-    row: &mut Row,
-    block: &mut Block,
-    sink: &mut K,
-    table: &Table,
-    region: usize,
-    rooms: &Rooms,
-) {
-    let mut at = base(table, region);
-    let end = at.saturating_add(top(table, region));
-    for _ in 0..1024 {
-        let next = at.saturating_add(size_at(table, at));
-        if at >= end || rooms.contains(&at) || next > end {
-            return;
-        }
-        json_key_of_element(row);
-        row.put(b"{");
-        json_object_at(row, table, at);
-        json_number(row, b"words", next.saturating_sub(at));
-        json_flag(row, b"black", is_black(table, at));
-        json_flag(row, b"grey", is_grey(table, at));
-        let header = heap_word(table, at);
-        if forwarded(header) {
-            json_key(row, b"copy");
-            row.put(b"{");
-            json_place_of(row, table, forwardee(header));
-            row.put(b"}");
-        }
-        row.pass(block, sink);
-        json_field_lists(row, table, at);
-        row.put(b"}");
-        row.pass(block, sink);
-        at = next;
-    }
-}
-
-// Puts the comma before an element of a list but the first.
-fn json_key_of_element(row: &mut Row) {
-    if row.last() != b'[' {
-        row.put(b",");
-    }
-}
-
-// Writes a region as an object.
-fn json_region<K: Sink>(
-    row: &mut Row,
-    block: &mut Block,
-    sink: &mut K,
-    table: &Table,
-    region: usize,
-    rooms: &Rooms,
-) {
-    let config = table.config();
-    json_key_of_element(row);
-    row.put(b"{");
-    json_number(row, b"region", region as u64);
-    json_flag(
-        row,
-        b"free",
-        region < 64 && is_in(table.word(config.free_at()), region),
-    );
-    json_number(row, b"top", top(table, region));
-    if region < config.regions() {
-        json_number(row, b"mark_start", table.word(config.tams_at(region)));
-        json_number(row, b"limit", table.word(config.limit_at(region)));
-    }
-    json_key(row, b"objects");
-    row.put(b"[");
-    json_objects(row, block, sink, table, region, rooms);
-    row.put(b"]}");
-}
-
-// Writes the roots of a thread, counted from 0, as a list.
-fn json_roots(row: &mut Row, table: &Table, mutator: usize) {
-    let config = table.config();
-    json_key_of_element(row);
-    row.put(b"[");
-    for index in 0..16 {
-        json_key_of_element(row);
-        if mutator < config.mutators() {
-            json_reference(row, table, table.word(config.root_at(mutator, index)));
-        }
-    }
-    row.put(b"]");
-}
-
-/// Writes the heap after so many events as an object.
-pub fn json_heap<K: Sink>(
-    row: &mut Row,
-    block: &mut Block,
-    sink: &mut K,
-    table: &Table,
-    rooms: &Rooms,
-    events: u64,
-) {
-    let config = table.config();
-    row.put(b"{");
-    json_text(row, b"kind", b"heap");
-    json_number(row, b"event", events);
-    json_number(row, b"phase", phase(table));
-    json_regions(row, config, b"set", table.word(config.cset_at()));
-    json_value(
-        row,
-        table,
-        b"copiers",
-        Reading::Copiers,
-        table.word(config.evac_at()),
-    );
-    json_value(
-        row,
-        table,
-        b"asked",
-        Reading::Ask,
-        table.word(config.ask_at()),
-    );
-    json_key(row, b"regions");
-    row.put(b"[");
-    for region in 0..config.regions() {
-        json_region(row, block, sink, table, region, rooms);
-    }
-    row.put(b"]");
-    json_key(row, b"roots");
-    row.put(b"[");
-    for mutator in 0..config.mutators() {
-        json_roots(row, table, mutator);
-        row.pass(block, sink);
-    }
-    row.put(b"]}");
-    row.send(block, sink);
 }

@@ -1,35 +1,47 @@
 //! The listing: a line an event, in columns, under headings for the parts of the schedule; or an object of JSON for each.
 
+ghost use Rattle.std.specs.Prelude.{◌≤◌, length};
 ghost use Rattle.shen_core.specs.Progress.{CanRun};
 
+use crate::changes::Change;
 use crate::ends::{
     json_command, json_end, json_reply, json_seat, json_stuck, machine_of, put_end, put_stuck,
 };
 use crate::filter::Filter;
-use crate::heap::{json_heap, put_heap};
+use crate::graph::{json_graph, put_graph};
+use crate::heap::put_heap;
+use crate::heap_objects::json_heap;
 use crate::scout::{event_of, is_stalled, item_at_work};
 use crate::words::{Asked, PauseForm, Wanted};
 use heap_words::{Access, Config, Item, NoMemory, Place, Took, WordName};
 use listing::{
-    Event, Folds, Pauses, Row, Stall, Table, Within, base, json_access, json_flag, json_key,
-    json_number, json_pause, json_text, json_value, look_within, put_access, put_command, put_item,
-    put_machine, put_pause, put_reply, put_value, refused, settled,
+    Event, Folds, NUMBER, Pauses, Row, Stall, Table, Within, base, json_access, json_flag,
+    json_key, json_number, json_pause, json_text, json_value, look_within, put_access, put_command,
+    put_item, put_machine, put_pause, put_reply, put_value, refused, settled,
 };
 use schedule_walk::{Seen, Walk};
 use shen_base::Sink;
 use shen_core::Plain;
-use shen_graph::{Command, Reply, Work};
+use shen_graph::{Command, GraphText, Reply, Work};
 use std::alloc::Global;
 use std::mem;
-use text_writer::{Block, WriteFault};
+use text_writer::{Block, WriteFault, write_all};
 
-// What stands in the columns.
+// What stands in the columns, and how addresses are counted.
 const COLUMNS: &[u8] =
-    b" event  machine   at  access                                        found             says";
+    b" event  machine   at  access (@3+0: in region 3 at word 0, from 0)  found             says";
 
-// The columns: the number ends before the first.
-const NUMBER: usize = 6;
+const NARROW: &[u8] =
+    b" event  machine   at  access = found; says (@3+0: in region 3 at word 0, from 0)";
 
+const ADDRESSES: &[u8] = b"(@3+0: in region 3 at word 0, from 0)";
+
+// Behind which column a list goes on in a new line, in wide lines and in others.
+const WRAP: usize = 100;
+
+const NARROW_WRAP: usize = 66;
+
+// The columns.
 const MACHINE: usize = 8;
 
 const PLACE: usize = 18;
@@ -42,6 +54,12 @@ const SAYS: usize = 86;
 
 // The most machines of a heap.
 const MACHINES: usize = 12;
+
+// So many lines are sent on at once.
+const LINES: u64 = 256;
+
+// The events between two times at which they are told of.
+const EVENTS: u64 = 1_000_000;
 
 /// A listing on its way to a sink.
 #[derive(Drop)]
@@ -66,20 +84,27 @@ pub struct Listing {
     // Of each machine: whether it is in a call, and where its room begins that is no object yet, or 0.
     in_call: [bool; 12],
     rooms: [u64; 12],
-    // The words after the last event, and what is known of the events so far.
+    // The words after the last event, those when the heap was shown last, and what is known of the events so far.
     table: Table,
+    shown: Table,
+    has_shown: bool,
     pauses: Pauses,
     folds: Folds,
     stall: Stall,
-    // Whether the line is of a call's begin, reply or effect.
+    // Whether the line is of a call's begin, reply or effect, whether it says anything, and behind which column its text stands.
     is_of_call: bool,
+    has_said: bool,
+    behind: usize,
+    // The lines that were sent.
+    sent: u64,
     row: Row,
     block: Block,
 }
 
-// The column of a machine where each has one.
-fn column_of(seat: usize) -> usize {
-    (seat % MACHINES) * 36 + MACHINE
+// The column of a machine where each of so many has one, in lines of so many columns.
+fn column_of(seat: usize, seats: usize, width: u64) -> usize {
+    let wide = width.min(1000).saturating_sub(MACHINE as u64) / seats.max(1) as u64;
+    (seat % MACHINES) * wide.clamp(30, 44) as usize + MACHINE
 }
 
 // The words of a heap.
@@ -95,6 +120,7 @@ impl Listing {
     /// A listing of a heap before its first line.
     pub fn open(alloc: Global, asked: &Asked, plain: &Plain) -> Result<Listing, NoMemory> {
         let table = table_of(alloc, plain)?;
+        let shown = table_of(alloc, plain)?;
         let pauses = Pauses::open(alloc, plain.config())?;
         Ok(Listing {
             wanted: asked.wanted,
@@ -111,10 +137,15 @@ impl Listing {
             in_call: [false; 12],
             rooms: [0; 12],
             table,
+            shown,
+            has_shown: false,
             pauses,
             folds: Folds::new(),
             stall: Stall::new(),
             is_of_call: false,
+            has_said: false,
+            behind: 0,
+            sent: 0,
             row: Row::new(),
             block: Block::new(),
         })
@@ -128,6 +159,17 @@ impl Listing {
     // Sends the line that is set.
     fn send<K: Sink>(&mut self, sink: &mut K) {
         self.row.send(&mut self.block, sink);
+    }
+
+    // Sends the line that is set, of a machine; and from time to time all lines on to where they go, so that it is known whether they
+    // get there.
+    fn send_of<K: Sink>(&mut self, seat: usize, sink: &mut K) {
+        let colours = self.wanted.colours && !self.wanted.json;
+        self.row.send_as(&mut self.block, sink, seat, colours);
+        self.sent = self.sent.saturating_add(1);
+        if self.sent % LINES == 0 {
+            self.flush(sink);
+        }
     }
 
     // Sends what is set of a line.
@@ -146,10 +188,13 @@ impl Listing {
     // Sets the line that names the machines, each above its column.
     fn set_machines(&mut self) {
         self.row.put(b" event");
-        for seat in 0..self.config().seats() {
-            self.row.tab(column_of(seat));
+        let seats = self.config().seats();
+        for seat in 0..seats {
+            self.row.tab(column_of(seat, seats, self.wanted.width));
             put_machine(&mut self.row, self.table.config(), seat);
         }
+        self.row.put(b"   ");
+        self.row.put(ADDRESSES);
     }
 
     /// Writes the line that names the columns.
@@ -160,7 +205,11 @@ impl Listing {
         if self.wanted.columns {
             self.set_machines();
         } else {
-            self.row.put(COLUMNS);
+            self.row.put(if self.wanted.is_wide() {
+                COLUMNS
+            } else {
+                NARROW
+            });
         }
         self.send(sink);
     }
@@ -183,9 +232,32 @@ impl Listing {
                 sink,
                 &self.table,
                 &self.rooms,
-                self.wanted.bars,
+                self.wanted.is_wide(),
             );
         }
+        self.shown.copy(&self.table);
+        self.has_shown = true;
+    }
+
+    // Writes what of the heap an event has changed: at first all, and as an object always all.
+    fn heap_changes<K: Sink>(&mut self, sink: &mut K) {
+        self.close_runs(sink);
+        if self.wanted.json || !self.has_shown {
+            self.heap(sink);
+            return;
+        }
+        let change = Change {
+            before: &self.shown,
+            after: &self.table,
+        };
+        change.put(
+            &mut self.row,
+            &mut self.block,
+            sink,
+            &self.rooms,
+            self.wanted.is_wide(),
+        );
+        self.shown.copy(&self.table);
     }
 
     // Begins a part: before its heading stands the heap as the part before has left it, if it is wanted.
@@ -325,14 +397,25 @@ impl Listing {
         }
     }
 
+    // Puts something that the step says.
+    fn say(&mut self, text: &[u8]) {
+        if self.has_said {
+            self.row.put(b", ");
+        } else {
+            self.go_on(SAYS, b"; ");
+        }
+        self.has_said = true;
+        self.row.put(text);
+    }
+
     // Puts that the step begins a call, or settles its reply.
     fn put_of_call(&mut self, event: &Event, command: Command) {
         if self.is_begin(event) {
-            self.row.put_further(b"begins ");
+            self.say(b"begins ");
             put_command(&mut self.row, command);
             self.is_of_call = true;
         } else if let Some(reply) = settled(&self.table, event, command) {
-            self.row.put_further(b"settles ");
+            self.say(b"settles ");
             put_reply(&mut self.row, reply);
             self.is_of_call = true;
         }
@@ -341,7 +424,7 @@ impl Listing {
     // Puts whether an exchange was won.
     fn put_won(&mut self, event: &Event) {
         if let Access::Exchange { expect, .. } = event.access {
-            self.row.put_further(if event.found == expect {
+            self.say(if event.found == expect {
                 b"won"
             } else {
                 b"lost"
@@ -353,20 +436,21 @@ impl Listing {
     // that has ended.
     fn put_says(&mut self, event: &Event, command: Option<Command>, reply: Option<Reply>) {
         self.is_of_call = false;
+        self.has_said = false;
         self.put_won(event);
         if let Some(command) = command {
             self.put_of_call(event, command);
         }
         if let Some(mutator) = refused(&self.table, event) {
-            self.row.put_further(b"settles full of ");
+            self.say(b"settles full of ");
             put_machine(&mut self.row, self.table.config(), mutator);
             self.is_of_call = true;
         }
         if event.said == Took::Again {
-            self.row.put_further(b"again");
+            self.say(b"again");
         }
         if let Some(reply) = reply {
-            self.row.put_further(b"replies ");
+            self.say(b"replies ");
             put_reply(&mut self.row, reply);
             self.is_of_call = true;
         }
@@ -375,8 +459,11 @@ impl Listing {
     // Sets the columns of an event up to its access.
     fn set_machine(&mut self, event: &Event) {
         self.row.put_number_to(event.number, NUMBER);
+        self.behind = self.row.width();
         if self.wanted.columns {
-            self.row.tab(column_of(event.seat));
+            let seats = self.table.config().seats();
+            self.row
+                .tab(column_of(event.seat, seats, self.wanted.width));
             self.row.put(&event.place.code());
             self.row.put(b" ");
             return;
@@ -388,12 +475,17 @@ impl Listing {
         self.row.tab(ACCESS);
     }
 
-    // Goes on at a column, or behind a text where each machine has a column of its own.
+    // Whether what is found and said stands in columns.
+    fn has_columns(&self) -> bool {
+        !self.wanted.columns && self.wanted.is_wide()
+    }
+
+    // Goes on at a column, or behind a text where there are none.
     fn go_on(&mut self, column: usize, text: &[u8]) {
-        if self.wanted.columns {
-            self.row.put(text);
-        } else {
+        if self.has_columns() {
             self.row.tab(column);
+        } else {
+            self.row.put(text);
         }
     }
 
@@ -404,7 +496,6 @@ impl Listing {
         let kind = put_access(&mut self.row, &self.table, event.access, within);
         self.go_on(FOUND, b" = ");
         put_value(&mut self.row, &self.table, kind, event.found);
-        self.go_on(SAYS, b"; ");
         self.put_says(event, command, reply);
     }
 
@@ -480,7 +571,7 @@ impl Listing {
         json_value(&mut self.row, &self.table, b"found", kind, event.found);
         self.json_says(event, command, reply);
         self.row.put(b"}");
-        self.send(sink);
+        self.send_of(event.seat, sink);
     }
 
     // Writes an event, if it is listed.
@@ -501,8 +592,32 @@ impl Listing {
             self.row.restart();
             self.json_event(event, command, reply, sink);
         } else {
-            self.send(sink);
+            self.give(event, sink);
         }
+    }
+
+    // Sends the line of an event, or takes it into a run.
+    fn give<K: Sink>(&mut self, event: &Event, sink: &mut K) {
+        if self.wanted.folds && self.is_folded(event, sink) {
+            self.row.restart();
+        } else {
+            self.send_of(event.seat, sink);
+        }
+    }
+
+    // Whether the line of an event is one of a run. A run that it does not go on with ends before it.
+    fn is_folded<K: Sink>(&mut self, event: &Event, sink: &mut K) -> bool {
+        if self.folds.takes(event, self.row.text_from(self.behind)) {
+            return true;
+        }
+        if self.folds.is_open() {
+            self.close_run(sink);
+            if self.folds.takes(event, self.row.text_from(self.behind)) {
+                return true;
+            }
+        }
+        self.folds.begin(event, self.row.text_from(self.behind));
+        false
     }
 
     // Writes the line of a pause, at its last event.
@@ -580,54 +695,28 @@ impl Listing {
         }
     }
 
-    // Shows an event: one at which a pause ends as the line of the pause, and none of its loads and stores, if not all are
-    // wanted.
-    fn show<K: Sink>(
-        &mut self,
-        event: &Event,
-        command: Option<Command>,
-        reply: Option<Reply>,
-        sink: &mut K,
-    ) {
-        let is_full = self.wanted.pauses == PauseForm::Full;
-        let is_of_pause = matches!(event.place, Place::PL | Place::PS | Place::P3);
-        if is_full || !is_of_pause {
-            self.line(event, command, reply, sink);
-        }
-        if event.place == Place::P3 {
-            self.pause_line(event, sink);
-            if self.wanted.pauses == PauseForm::Changed {
-                self.changed(sink);
-            }
+    // Shows that a pause has ended, as the line of the pause.
+    fn show_pause<K: Sink>(&mut self, event: &Event, sink: &mut K) {
+        self.pause_line(event, sink);
+        if self.wanted.pauses == PauseForm::Changed {
+            self.changed(sink);
         }
     }
 
-    // Writes how often the last events of the machines came again, and closes the runs.
+    // Ends the run of lines that is open.
+    fn close_run<K: Sink>(&mut self, sink: &mut K) {
+        let says = if self.has_columns() { SAYS } else { 0 };
+        let mut row = Row::new();
+        self.folds
+            .close(&mut row, &mut self.block, sink, says, self.wanted.colours);
+    }
+
+    // Ends the run of lines, and none goes on over what comes next.
     fn close_runs<K: Sink>(&mut self, sink: &mut K) {
-        if !self.folds.is_open() {
-            return;
+        if self.folds.is_open() {
+            self.close_run(sink);
         }
-        for seat in 0..MACHINES {
-            if let Some((event, more)) = self.folds.run(seat) {
-                self.run_line(&event, more, sink);
-            }
-        }
-        self.folds.close();
-    }
-
-    // Writes the last event of a run, and how many the run has.
-    fn run_line<K: Sink>(&mut self, event: &Event, more: u64, sink: &mut K) {
-        self.set(event, None, None);
-        if more > 1 {
-            self.row.put_further(b"");
-            self.row.put_number(more);
-            self.row.put(b" times more");
-        }
-        if self.is_listed(event) {
-            self.send(sink);
-        } else {
-            self.row.clear();
-        }
+        self.folds.forget();
     }
 
     // Whether an event has a line of its own.
@@ -653,7 +742,17 @@ impl Listing {
             && self.filter.has_place(event.place)
     }
 
-    // Takes an event that was made, and shows it, if it is wanted. Events that are not shown do not end a run of others.
+    // Whether the words after an event are to be shown, as far as it has changed them.
+    fn is_change(&self, event: &Event, is_seen: bool) -> bool {
+        let is_of_image = matches!(event.place, Place::PL | Place::PS);
+        let is_full = self.wanted.pauses == PauseForm::Full;
+        self.wanted.heap_changes
+            && self.is_due(event.number)
+            && (is_full && is_seen || !is_of_image)
+            && (event.changes() || event.place == Place::P3)
+    }
+
+    // Takes an event that was made, and shows it, if it is wanted.
     fn take<K: Sink>(
         &mut self,
         event: &Event,
@@ -663,21 +762,22 @@ impl Listing {
     ) {
         let is_seen = self.is_seen(event);
         let folds = is_seen && self.wanted.folds && !self.wanted.json;
-        let is_like = folds && self.folds.has_like(event);
-        if is_seen && !is_like || event.place == Place::P3 {
-            self.close_runs(sink);
-        }
+        let is_folded = folds && self.folds.takes_wait(event);
         self.note(event);
-        if is_like {
-            self.folds.count(event);
-        } else {
-            self.folds.begin(event);
+        if is_seen && !is_folded {
+            self.line(event, command, reply, sink);
+        }
+        if event.place == Place::P3 {
+            self.close_runs(sink);
             if self.is_due(event.number) {
-                self.show(event, command, reply, sink);
+                self.show_pause(event, sink);
             }
         }
         self.note_room(event);
         self.note_call(event);
+        if self.is_change(event, is_seen) {
+            self.heap_changes(sink);
+        }
     }
 
     /// Takes an event that was made: writes its line, if it is wanted, and the heap behind it, if that is.
@@ -685,7 +785,7 @@ impl Listing {
         requires { CanRun plain.now work.now }
     {
         self.made = self.made.saturating_add(1);
-        if self.is_stuck {
+        if self.is_stuck || self.has_failed {
             return;
         }
         let event = event_of(plain, self.made, seen);
@@ -701,14 +801,20 @@ impl Listing {
         }
     }
 
-    // Writes the name that was looked for in vain, where no event was listed.
+    // Writes that no event was listed that names what was looked for.
     fn tell_nothing<K: Sink>(&mut self, sink: &mut K) {
-        if self.has_listed || self.wanted.json {
+        if self.has_listed {
             return;
         }
         if let Some(name) = self.filter.name() {
-            self.row.put(b"no event is listed that names ");
-            self.row.put(name.text());
+            if self.wanted.json {
+                self.row.put(b"{");
+                json_text(&mut self.row, b"kind", b"none");
+                self.row.put(b"}");
+            } else {
+                self.row.put(b"no event is listed that names ");
+                self.row.put(name.text());
+            }
             self.send(sink);
         }
     }
@@ -731,7 +837,7 @@ impl Listing {
             let last = self.stall.last(machine_of(item));
             let control = self.stall.last(plain.seats() - 1);
             if self.wanted.json {
-                json_stuck(&mut self.row, plain, self.begun, item, last);
+                json_stuck(&mut self.row, plain, self.begun, item, last, control);
             } else {
                 put_stuck(&mut self.row, plain, self.begun, item, last, control);
             }
@@ -748,7 +854,12 @@ impl Listing {
         if self.wanted.json {
             json_end(&mut self.row, &mut self.block, sink, plain, work, self.made);
         } else {
-            put_end(&mut self.row, &mut self.block, sink, plain, work);
+            let wide = if self.wanted.is_wide() {
+                WRAP
+            } else {
+                NARROW_WRAP
+            };
+            put_end(&mut self.row, &mut self.block, sink, plain, work, wide);
         }
     }
 
@@ -771,6 +882,39 @@ impl Listing {
             self.row.put_number(self.made);
             self.row.put(b" events");
             self.send(sink);
+        }
+    }
+
+    /// Writes the graph with which a listing ends, where it has listed the end.
+    pub fn graph<K: Sink>(&mut self, graph: &GraphText, sink: &mut K)
+        requires { length graph.now.roots ≤ 8 }
+    {
+        if self.is_stuck || self.is_cut() {
+            return;
+        }
+        if self.wanted.json {
+            json_graph(&mut self.row, &mut self.block, sink, graph);
+        } else {
+            put_graph(&mut self.row, &mut self.block, sink, graph);
+        }
+    }
+
+    /// Tells how many events were made, from time to time, if that is wanted.
+    pub fn progress<E: Sink>(&mut self, errors: &mut E) {
+        if !self.wanted.progress || self.made % EVENTS > 0 {
+            return;
+        }
+        let mut row = Row::new();
+        row.put(b"\rshensteps: ");
+        row.put_number(self.made / EVENTS);
+        row.put(b" million events");
+        let _ = write_all(errors, row.text());
+    }
+
+    /// Ends the line of what was told on the way.
+    pub fn end_progress<E: Sink>(&self, errors: &mut E) {
+        if self.wanted.progress && self.made >= EVENTS {
+            let _ = write_all(errors, b"\n");
         }
     }
 

@@ -1,9 +1,12 @@
 //! `shensteps` lists what a trace and its schedule do on a region heap, atomic step by atomic step.
 #![tactic(auto)]
 
+mod changes;
 mod ends;
 mod filter;
+mod graph;
 mod heap;
+mod heap_objects;
 mod lines;
 mod list;
 mod scout;
@@ -23,14 +26,16 @@ const NO_WORDS: u8 = 8;
 /// The status number where there is no memory for the words.
 const NO_ROOM_FOR_WORDS: u8 = 9;
 
-/// The columns of a terminal that is too narrow for bars, at most.
-const NARROW: u64 = 99;
+/// The most columns that a line may be said to have, and those of one of which nothing is said.
+const MOST_COLUMNS: u64 = 10_000;
 
-// Whether the terminal has room for bars, as far as is known.
-fn is_wide(rt: &HostRuntime) -> bool {
+const USUAL_COLUMNS: u64 = 200;
+
+// How many columns a line has, as far as the environment says.
+fn width(rt: &HostRuntime) -> u64 {
     match env::var(rt, "COLUMNS") {
-        Ok(columns) => number_in(NARROW, columns.as_bytes()).is_none(),
-        Err(_) => true,
+        Ok(columns) => number_in(MOST_COLUMNS, columns.as_bytes()).unwrap_or(USUAL_COLUMNS),
+        Err(_) => USUAL_COLUMNS,
     }
 }
 
@@ -50,6 +55,14 @@ fn main(rt: HostRuntime) -> ExitCode {
     }
     let mut source = InSource::new(rt.stdin());
     let mut sink = OutSink::new(rt.stdout());
-    let status = shensteps(rt.alloc(), &words, is_wide(&rt), &mut source, &mut sink);
+    let mut errors = OutSink::new(rt.stderr());
+    let status = shensteps(
+        rt.alloc(),
+        &words,
+        width(&rt),
+        &mut source,
+        &mut sink,
+        &mut errors,
+    );
     ExitCode::from(status.number())
 }

@@ -31,10 +31,12 @@ pub struct Wanted {
     pub item: Option<u64>,
     /// Whether the heap is shown after each part.
     pub heap: bool,
+    /// Whether what of it an event has changed is shown behind that.
+    pub heap_changes: bool,
     /// The event after which the heap is shown, or 0.
     pub heap_at: u64,
-    /// Whether it is shown with bars, for which a line has to be wide.
-    pub bars: bool,
+    /// The columns of a line, as far as is known.
+    pub width: u64,
     /// How pauses are listed.
     pub pauses: PauseForm,
     /// Whether runs of like events are one line.
@@ -43,11 +45,33 @@ pub struct Wanted {
     pub columns: bool,
     /// Whether the lines are JSON.
     pub json: bool,
+    /// Whether lines have the colours of their machines.
+    pub colours: bool,
+    /// Whether the events that were made are told of on the way.
+    pub progress: bool,
+}
+
+impl Wanted {
+    /// Whether a line has room for columns and bars.
+    pub fn is_wide(&self) -> bool {
+        self.width >= WIDE
+    }
+}
+
+// The columns of a line that has room for columns and bars, at least.
+const WIDE: u64 = 100;
+
+/// Why words are refused.
+pub enum Refusal {
+    /// They have not the form.
+    Form,
+    /// No place has a code that they name.
+    NoPlace(Needle),
 }
 
 /// The form of the words, as a line.
 pub const FORM: &[u8] =
-    b"bad words: the form is shensteps [--steps N] [--from N] [--to N] [--item N] [--only MACHINE,..] [--place CODE,..] [--object NAME] [--word WORD] [--calls] [--pauses line|changed|full] [--no-fold] [--columns] [--heap] [--heap-at N] [--json]\n";
+    b"bad words: the form is shensteps [--steps N] [--from N] [--to N] [--item N] [--only MACHINE,..] [--place CODE,..] [--object NAME] [--word WORD] [--calls] [--pauses line|changed|full] [--no-fold] [--columns] [--heap [changed]] [--heap-at N] [--json] [--color always|never|auto] [--progress]\n";
 
 /// What the words have asked for so far.
 #[derive(Drop)]
@@ -57,11 +81,11 @@ pub struct Asked {
     /// Which events are listed.
     pub filter: Filter,
     // Which words were given, by their order in `WORDS`.
-    given: [bool; 15],
+    given: [bool; 17],
 }
 
 // The words, those with a value behind them first.
-const WITH_VALUE: [&str; 10] = [
+const WITH_VALUE: [&str; 11] = [
     "--steps",
     "--from",
     "--to",
@@ -72,14 +96,22 @@ const WITH_VALUE: [&str; 10] = [
     "--object",
     "--word",
     "--pauses",
+    "--color",
 ];
 
-const ALONE: [&str; 5] = ["--heap", "--calls", "--no-fold", "--columns", "--json"];
+const ALONE: [&str; 6] = [
+    "--heap",
+    "--calls",
+    "--no-fold",
+    "--columns",
+    "--json",
+    "--progress",
+];
 
 // The place of a word among those with a value.
 fn value_word(word: &str) -> Option<usize> {
     let words = &WITH_VALUE;
-    for at in 0..10 {
+    for at in 0..11 {
         if words[at] == word {
             return Some(at);
         }
@@ -90,7 +122,7 @@ fn value_word(word: &str) -> Option<usize> {
 // The place of a word among those that stand alone.
 fn lone_word(word: &str) -> Option<usize> {
     let words = &ALONE;
-    for at in 0..5 {
+    for at in 0..6 {
         if words[at] == word {
             return Some(at);
         }
@@ -111,9 +143,20 @@ fn form_of(word: &str) -> Option<PauseForm> {
     }
 }
 
+// Whether colours are wanted, by the word of when; what is automatic is for the script to say.
+fn colours_of(word: &str) -> Option<bool> {
+    if word == "always" {
+        Some(true)
+    } else if word == "never" || word == "auto" {
+        Some(false)
+    } else {
+        None
+    }
+}
+
 impl Asked {
     // Nothing was asked for yet.
-    fn new(bars: bool) -> Asked {
+    fn new(width: u64) -> Asked {
         Asked {
             wanted: Wanted {
                 steps: USUAL_STEPS,
@@ -121,21 +164,24 @@ impl Asked {
                 to: MOST_STEPS,
                 item: None,
                 heap: false,
+                heap_changes: false,
                 heap_at: 0,
-                bars,
+                width,
                 pauses: PauseForm::Line,
                 folds: true,
                 columns: false,
                 json: false,
+                colours: false,
+                progress: false,
             },
             filter: Filter::all(),
-            given: [false; 15],
+            given: [false; 17],
         }
     }
 
     // Takes down that a word was given. None where it was before.
     fn once(&mut self, at: usize) -> Option<()> {
-        let slot = at % 15;
+        let slot = at % 17;
         if self.given[slot] {
             return None;
         }
@@ -145,13 +191,14 @@ impl Asked {
 
     // Takes a word that stands alone.
     fn take_alone(&mut self, at: usize) -> Option<()> {
-        self.once(at.saturating_add(10))?;
+        self.once(at.saturating_add(11))?;
         match at {
             0 => self.wanted.heap = true,
             1 => self.filter.calls = true,
             2 => self.wanted.folds = false,
             3 => self.wanted.columns = true,
-            _ => self.wanted.json = true,
+            4 => self.wanted.json = true,
+            _ => self.wanted.progress = true,
         }
         Some(())
     }
@@ -178,6 +225,7 @@ impl Asked {
             7 => self.filter.object = Some(Needle::of(value.as_bytes())?),
             8 => self.filter.word = Some(Needle::of(value.as_bytes())?),
             9 => self.wanted.pauses = form_of(value)?,
+            10 => self.wanted.colours = colours_of(value)?,
             _ => self.take_number(at, value)?,
         }
         Some(())
@@ -189,6 +237,11 @@ impl Asked {
         let word = words.get(at)?.as_str();
         if let Some(alone) = lone_word(word) {
             self.take_alone(alone)?;
+            if alone == 0 && words.get(next).is_some_and(|it| it.as_str() == "changed") {
+                self.wanted.heap = false;
+                self.wanted.heap_changes = true;
+                return Some(next.saturating_add(1));
+            }
             return Some(next);
         }
         let with_value = value_word(word)?;
@@ -197,18 +250,24 @@ impl Asked {
     }
 }
 
-/// What the words ask for: each word once at most, in any order, with a number from 1 to 4000000000 or another value behind those
-/// that want one. None for any other words. The heap has bars where there is room for them.
-pub fn asked_by(words: &[String], bars: bool) -> Option<Asked> {
-    let mut asked = Asked::new(bars);
+// Takes all words. None for any that are refused.
+fn take_all(asked: &mut Asked, words: &[String]) -> Option<()> {
     let mut at: usize = 0;
-    for _ in 0..16 {
+    for _ in 0..18 {
         if at < words.len() {
             at = asked.take(words, at)?;
         }
     }
-    if at < words.len() {
-        return None;
+    if at < words.len() { None } else { Some(()) }
+}
+
+/// What the words ask for: each word once at most, in any order, with a number from 1 to 4000000000 or another value behind those
+/// that want one. Any other words are refused. Lines have so many columns, as far as is known.
+pub fn asked_by(words: &[String], width: u64) -> Result<Asked, Refusal> {
+    let mut asked = Asked::new(width);
+    match (take_all(&mut asked, words), asked.filter.no_place) {
+        (Some(()), _) => Ok(asked),
+        (None, Some(code)) => Err(Refusal::NoPlace(code)),
+        (None, None) => Err(Refusal::Form),
     }
-    Some(asked)
 }

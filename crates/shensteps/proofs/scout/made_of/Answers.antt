@@ -4,7 +4,8 @@ use Rattle.shen_graph.specs.declared.command.Command.{Command}
 use Rattle.shen_graph.specs.Work.{opened}
 use Rattle.shen_core.specs.State.{config_of}
 use Rattle.shen_core.specs.Progress.{IsInSeats}
-use Rattle.shensteps.proofs.Scripts.{count_scripts, runnable_scripts, items_in_seats, can_run}
+use Rattle.trace_runs.proofs.Scripts.{count_scripts, runnable_scripts, items_in_seats}
+use Rattle.trace_runs.proofs.Ran.{can_run}
 use Rattle.shensteps.proofs.scout.made_of.Goals as goal
 
 pub open-requires : goal.open-requires
