@@ -1,0 +1,3 @@
+pub mod StageFrom
+pub mod WholeFrom
+pub mod RoomForText
