@@ -67,7 +67,7 @@ def rows():
         words, first = WORDS.match(lines[0]).groups()
         trace = first and "\n".join([first, *(line for line in lines[1:at] if not line.startswith("turns "))])
         answer = opened("\n".join(lines[at + 1 :])) + "\n"
-        yield Row(title[2:], words, first and trace.replace("; ", "\n") + "\n", lines[at][3:], answer, *turns)
+        yield Row(title[2:], words, first and opened(trace) + "\n", lines[at][3:], answer, *turns)
 
 
 def ran(words, trace=None, **how):

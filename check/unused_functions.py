@@ -18,10 +18,9 @@ CRATES = os.path.join(TOP, "crates")
 TESTS = {"word_tests", "heap_tests"}
 # Calls that users of the libraries are promised, whether or not a program of this repository makes them: the graph by itself, the
 # parts as machines by themselves, a trace written, the calls of an image one by one, a graph placed in a heap, a heap that goes on from
-# an image or a dump, histories that are noted, written, read and judged, bundles that are driven, and dumps; and the verifier of images, and the sink
-# in memory, that tests use.
+# an image or a dump, bundles that are driven, and dumps; and the verifier of images, and the sink in memory, that tests use.
 PROMISED = {"apply", "reach", "is_valid", "is_done", "answer", "write_trace", "serve", "open_from", "place", "resume", "with_room",
-            "stands", "run_noted", "write_history", "read_pair", "check", "drive", "of", "write_dump"}
+            "stands", "drive", "of", "write_dump"}
 FUNCTION = re.compile(r"^([ ]*)pub (?:const )?(?:unsafe )?fn (\w+)", re.M)
 
 

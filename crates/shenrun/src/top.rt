@@ -2,20 +2,16 @@
 ghost use Rattle.std.specs.Prelude.{◌≡◌, ◌⊎◌, ℕ, List, Some, map};
 ghost use Rattle.std.specs.String.{string_bytes};
 ghost use Rattle.shen_base.specs.Count.{Rose};
-ghost use Rattle.heap_words.specs.declared.config.Config.{Config as Sizes};
-ghost use Rattle.heap_words.specs.declared.schedule.Item.{Item};
-ghost use Rattle.shen_graph.specs.declared.command.Command.{Command};
 ghost use Rattle.text_writer.specs.Sending.{outlet};
-ghost use Rattle.trace_grammar.specs.Grammar.{Reads};
 ghost use Rattle.trace_runs.specs.Words.{Asked};
-ghost use Rattle.trace_runs.specs.Answered.{ReadsTrace, ReadsNothing, HasAnswered, StatusFits, IsTraceStatus};
+ghost use Rattle.trace_runs.specs.Answered.{ReadsTrace, ReadsNothing, Takes, HasAnswered, StatusFits, IsTraceStatus};
 
 use shen_base::{Sink, Source};
 use std::alloc::Global;
 use std::sync::Wait;
 use std::thread::Threads;
 use table_heap::Gate;
-use trace_runs::{Mode, Status, churn, mode_of, queue, replay, replay_noted, run, say};
+use trace_runs::{Mode, Status, check, churn, mode_of, queue, replay, replay_noted, run, say};
 use trace_writing::Line;
 
 /// Runs the program on these words of the command line, which are without the program's name. `replay` and `run` read a trace
@@ -24,10 +20,10 @@ use trace_writing::Line;
 /// steps at most, and with `--history`, which comes last, it writes the history behind the answer. `run` gives each machine a
 /// thread of its own, and takes no notice of the schedule; with `--workers K` the machines are dealt to K threads at most, of
 /// which the caller's is one. `churn SEED COUNT` reads nothing: it makes the scripts of three threads from the two numbers,
-/// runs them as `run` does, and writes what is told of the run in eight lines. `queue COUNT` reads nothing either: it runs four users of
-/// a queue in the heap, each machine in a thread, and writes what the two takers got in three lines. Each step of a machine passes the
-/// gate in these three.
-/// Any other words are refused before anything is read. Where there is no answer one line says why; if that cannot be written
+/// runs them as `run` does, and writes what is told of the run in eight lines. `queue COUNT` reads nothing either: it runs four users
+/// of a queue in the heap, each machine in a thread, and writes what the two takers got in three lines. Each step of a machine passes
+/// the gate in these three. `check` reads a trace with an answer and a history that somebody claims for it, and writes in one line
+/// whether they are right. Any other words are refused before anything is read. Where there is no answer one line says why; if that cannot be written
 /// either, the status is `WriteFault`.
 pub fn shenrun<R: Threads + Wait + Sync, S: Source, K: Sink, G: Gate>(
     rt: &R,
@@ -43,7 +39,8 @@ pub fn shenrun<R: Threads + Wait + Sync, S: Source, K: Sink, G: Gate>(
     // idle. It is a history of a graph that never moves or frees an object, whatever pauses collect; and it has an allocation that was
     // refused only where live objects and the other threads' allocations that were not answered yet crowded the regions. Of a churn the
     // eight lines are those of the history in which its threads run one after the other and no allocation is refused, whatever order
-    // they ran in. Of a queue the three lines are what its takers got in such a history of its users.
+    // they ran in. Of a queue the three lines are what its takers got in such a history of its users. Of a check the line is that
+    // of the one verdict on the history and the answer that came with the trace.
     ensures headline { result ≡ Status.Ok → HasAnswered (map string_bytes words.now)
         (record { before = S.left source.old; after = S.left source.new; faults_before = S.faults source.old; faults_after = S.faults source.new })
         (record { before = outlet (K.written sink.old) (K.faults sink.old) (K.calls sink.old); after = outlet (K.written sink.new) (K.faults sink.new) (K.calls sink.new) }) }
@@ -54,10 +51,9 @@ pub fn shenrun<R: Threads + Wait + Sync, S: Source, K: Sink, G: Gate>(
         (record { before = S.left source.old; after = S.left source.new; faults_before = S.faults source.old; faults_after = S.faults source.new })
         (record { before = outlet (K.written sink.old) (K.faults sink.old) (K.calls sink.old); after = outlet (K.written sink.new) (K.faults sink.new) (K.calls sink.new) }) result }
 
-    // Where what reads a trace is asked for, the source has the bytes of one, and nothing fails, there is an answer, or the steps are
-    // used up, or memory is refused.
-    ensures complete { (bytes : List ℕ) (config : Sizes) (scripts : List (List Command)) (items : List Item) → Asked (map string_bytes words.now) ReadsTrace
-        → S.left source.old ≡ Some bytes → Reads bytes config scripts items
+    // Where the source has the bytes of what the words ask for, and nothing fails, there is an answer, or the steps are used up, or
+    // memory is refused.
+    ensures complete { (bytes : List ℕ) → Asked (map string_bytes words.now) (λ mode. Takes mode bytes) → S.left source.old ≡ Some bytes
         → (Rose (S.faults source.old) (S.faults source.new) → ⊥) → (Rose (K.faults sink.old) (K.faults sink.new) → ⊥) → IsTraceStatus (map string_bytes words.now) result }
 
     // Where what reads nothing is asked for and the sink does not fail, there is an answer, or memory is refused.
@@ -75,5 +71,6 @@ pub fn shenrun<R: Threads + Wait + Sync, S: Source, K: Sink, G: Gate>(
         Mode::Run { workers } => run(rt, alloc, workers, source, sink, gate),
         Mode::Churn(workload) => churn(rt, alloc, workload, sink, gate),
         Mode::Queue { count } => queue(rt, alloc, count, sink, gate),
+        Mode::Check => check(alloc, source, sink),
     }
 }

@@ -10,7 +10,7 @@ use Rattle.trace_grammar.specs.Spelling.{newline}
 use Rattle.trace_refusals.specs.Causes.{parts}
 use Rattle.trace_refusals.proofs.Cuts.{cut_parts}
 use Rattle.trace_refusals.proofs.Leads.{first_line, bytes_of_line}
-use Rattle.trace_pairs.specs.LineCuts.{ended, IsCutAt, HasNoLine}
+use Rattle.trace_pairs.specs.LineCuts.{with_ends, IsCutAt, HasNoLine}
 
 -- none of these lines is the text
 abbrev pub AreOthers : List ℕ → List (List ℕ) → Type 0
@@ -35,24 +35,24 @@ some_behind (l ∷ lines) ts some = (l, lines ++ ts, refl)
 join_first : (l : List ℕ) (ts : List (List ℕ)) → IsSome ts → join_with_byte 10 (l ∷ ts) ≡ l ++ 10 ∷ join_with_byte 10 ts
 join_first l ts some = subst (λ (us : List (List ℕ)). join_with_byte 10 (l ∷ us) ≡ l ++ 10 ∷ join_with_byte 10 us) (sym some.2) refl
 
-ended-cons : (l : List ℕ) (lines : List (List ℕ)) (rest : List ℕ) → ended (l ∷ lines) ++ rest ≡ l ++ 10 ∷ (ended lines ++ rest)
-ended-cons l lines rest =
-    ap (λ (bs : List ℕ). bs ++ rest) (flat_map-cons (λ (line : List ℕ). line ++ newline ∷ []) l lines) ∙ append_assoc (l ++ 10 ∷ []) (ended lines) rest ∙ append_assoc l (10 ∷ []) (ended lines ++ rest)
+with_ends-cons : (l : List ℕ) (lines : List (List ℕ)) (rest : List ℕ) → with_ends (l ∷ lines) ++ rest ≡ l ++ 10 ∷ (with_ends lines ++ rest)
+with_ends-cons l lines rest =
+    ap (λ (bs : List ℕ). bs ++ rest) (flat_map-cons (λ (line : List ℕ). line ++ newline ∷ []) l lines) ∙ append_assoc (l ++ 10 ∷ []) (with_ends lines) rest ∙ append_assoc l (10 ∷ []) (with_ends lines ++ rest)
 
-join_lines : (lines ts : List (List ℕ)) → IsSome ts → join_with_byte 10 (lines ++ ts) ≡ ended lines ++ join_with_byte 10 ts
+join_lines : (lines ts : List (List ℕ)) → IsSome ts → join_with_byte 10 (lines ++ ts) ≡ with_ends lines ++ join_with_byte 10 ts
 join_lines [] ts some = refl
 join_lines (l ∷ lines) ts some =
-    join_first l (lines ++ ts) (some_behind lines ts some) ∙ ap (λ (bs : List ℕ). l ++ 10 ∷ bs) (join_lines lines ts some) ∙ sym (ended-cons l lines (join_with_byte 10 ts))
+    join_first l (lines ++ ts) (some_behind lines ts some) ∙ ap (λ (bs : List ℕ). l ++ 10 ∷ bs) (join_lines lines ts some) ∙ sym (with_ends-cons l lines (join_with_byte 10 ts))
 
-pub bytes_of_lines : (lines : List (List ℕ)) (bytes rest : List ℕ) → parts 10 bytes ≡ lines ++ parts 10 rest → bytes ≡ ended lines ++ rest
+pub bytes_of_lines : (lines : List (List ℕ)) (bytes rest : List ℕ) → parts 10 bytes ≡ lines ++ parts 10 rest → bytes ≡ with_ends lines ++ rest
 bytes_of_lines lines bytes rest e =
-    sym (join_with_byte-slice_split 10 bytes) ∙ ap (join_with_byte 10) e ∙ join_lines lines (parts 10 rest) (some_parts rest) ∙ ap (λ (bs : List ℕ). ended lines ++ bs) (join_with_byte-slice_split 10 rest)
+    sym (join_with_byte-slice_split 10 bytes) ∙ ap (join_with_byte 10) e ∙ join_lines lines (parts 10 rest) (some_parts rest) ∙ ap (λ (bs : List ℕ). with_ends lines ++ bs) (join_with_byte-slice_split 10 rest)
 
 pub bytes_of_cut : (text bytes before behind : List ℕ) → IsCutAt text bytes before behind → bytes ≡ before ++ (text ++ 10 ∷ behind)
 bytes_of_cut text bytes before behind cut =
     sym (join_with_byte-slice_split 10 bytes) ∙ ap (join_with_byte 10) cut.parts_are
     ∙ join_lines cut.lines (text ∷ parts 10 behind) (text, parts 10 behind, refl)
-    ∙ ap (λ (bs : List ℕ). ended cut.lines ++ bs) (join_first text (parts 10 behind) (some_parts behind) ∙ ap (λ (bs : List ℕ). text ++ 10 ∷ bs) (join_with_byte-slice_split 10 behind))
+    ∙ ap (λ (bs : List ℕ). with_ends cut.lines ++ bs) (join_first text (parts 10 behind) (some_parts behind) ∙ ap (λ (bs : List ℕ). text ++ 10 ∷ bs) (join_with_byte-slice_split 10 behind))
     ∙ ap (λ (bs : List ℕ). bs ++ (text ++ 10 ∷ behind)) (sym cut.before_is)
 
 -- so much of the bytes is no more than they are
@@ -77,7 +77,7 @@ first_once text (x ∷ xs) (y ∷ ys) p q all_xs all_ys e =
 pub cut_once : (text bytes a b c d : List ℕ) → IsCutAt text bytes a b → IsCutAt text bytes c d → (a ≡ c) × (b ≡ d)
 cut_once text bytes a b c d p q =
     let one = first_once text p.lines q.lines (parts 10 b) (parts 10 d) p.others q.others (sym p.parts_are ∙ q.parts_are) in
-    (p.before_is ∙ ap ended one.0 ∙ sym q.before_is, parts_same b d one.1)
+    (p.before_is ∙ ap with_ends one.0 ∙ sym q.before_is, parts_same b d one.1)
 
 -- ---- no line is the text
 
@@ -111,7 +111,7 @@ cut_later text bytes line rest e other it =
         lines = line ∷ cut.lines;
         parts_are = e ∙ ap (λ (ts : List (List ℕ)). line ∷ ts) cut.parts_are;
         others = (other, cut.others);
-        before_is = ap (λ (bs : List ℕ). line ++ 10 ∷ bs) cut.before_is ∙ sym (append_assoc line (10 ∷ []) (ended cut.lines)) ∙ sym (flat_map-cons (λ (l : List ℕ). l ++ newline ∷ []) line cut.lines);
+        before_is = ap (λ (bs : List ℕ). line ++ 10 ∷ bs) cut.before_is ∙ sym (append_assoc line (10 ∷ []) (with_ends cut.lines)) ∙ sym (flat_map-cons (λ (l : List ℕ). l ++ newline ∷ []) line cut.lines);
       },
     )
 
@@ -120,7 +120,7 @@ none_later text bytes line rest e other none before behind cut = by_lines cut.li
   where
     by_lines : (lines : List (List ℕ)) → line ∷ parts 10 rest ≡ lines ++ text ∷ parts 10 behind → AreOthers text lines → ⊥
     by_lines [] h others = other cc
-    by_lines (l ∷ lines) h others = none (ended lines) behind (record { lines = lines; parts_are = cc; others = others.1; before_is = refl })
+    by_lines (l ∷ lines) h others = none (with_ends lines) behind (record { lines = lines; parts_are = cc; others = others.1; before_is = refl })
 
 shorter : (bytes line rest : List ℕ) (k : ℕ) → parts 10 bytes ≡ line ∷ parts 10 rest → length bytes ≤ suc k → length rest ≤ k
 shorter bytes line rest k e le = let size = ap length (bytes_of_line bytes line rest e) in let sizes = length-append line (10 ∷ rest) in omega (arith, size, sizes, le)
@@ -172,14 +172,14 @@ cut_found text bytes rest line behind passed e same = record {
   lines = passed.lines;
   parts_are = passed.parts_are ∙ ap (λ (ts : List (List ℕ)). passed.lines ++ ts) (e ∙ ap (λ (t : List ℕ). t ∷ parts 10 behind) same);
   others = passed.others;
-  before_is = all_before bytes (ended passed.lines) rest (bytes_of_lines passed.lines bytes rest passed.parts_are);
+  before_is = all_before bytes (with_ends passed.lines) rest (bytes_of_lines passed.lines bytes rest passed.parts_are);
 }
 
 pub none_found : (text bytes rest last : List ℕ) → HasPassed text bytes rest → parts 10 rest ≡ last ∷ [] → HasNoLine text bytes
 none_found text bytes rest last passed e = no_cut text bytes last passed.lines (passed.parts_are ∙ ap (λ (ts : List (List ℕ)). passed.lines ++ ts) e) passed.others
 
 pub fewer_left : (text bytes rest : List ℕ) → HasPassed text bytes rest → length rest ≤ length bytes
-fewer_left text bytes rest passed = let sizes = ap length (bytes_of_lines passed.lines bytes rest passed.parts_are) ∙ length-append (ended passed.lines) rest in omega (arith, sizes)
+fewer_left text bytes rest passed = let sizes = ap length (bytes_of_lines passed.lines bytes rest passed.parts_are) ∙ length-append (with_ends passed.lines) rest in omega (arith, sizes)
 
 pub line_shorter : (rest line behind : List ℕ) → parts 10 rest ≡ line ∷ parts 10 behind → length behind + 1 ≤ length rest
 line_shorter rest line behind e = let size = ap length (bytes_of_line rest line behind e) in let sizes = length-append line (10 ∷ behind) in omega (arith, size, sizes)

@@ -3,3 +3,7 @@ pub mod ReadEntries
 pub mod CutLines
 pub mod Wanted
 pub mod PairLaws
+pub mod SmallGraphs
+pub mod TraceLines
+pub mod AnswerLines
+pub mod MadePairs

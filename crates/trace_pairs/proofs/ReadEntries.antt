@@ -13,7 +13,7 @@ use Rattle.trace_grammar.proofs.Numbers.{then_some, same_some, behind_takes, pos
 use Rattle.trace_grammar.proofs.Lines.{command_takes, command_again_at}
 use Rattle.trace_writing.specs.Answer.{reply_word}
 use Rattle.trace_writing.specs.History.{entry_line}
-use Rattle.trace_pairs.specs.Entries.{IsClaim, BeginsWithNoEntry, reply_at, entry_at}
+use Rattle.trace_pairs.specs.Entries.{IsClaim, BeginsWithNoEntry, spelled_reply, entry_at}
 use Rattle.trace_pairs.proofs.ReadReplies.{reply_takes, reply_again}
 
 -- the line of an entry in front of the rest
@@ -26,11 +26,11 @@ entry_parts bytes gap words after answer reply end rest e a b c d f g = rw (a, b
 pub entry_takes : (threads : ℕ) (bytes : List ℕ) (x : Entry × List ℕ) → threads < 2 ^ 64 → entry_at threads bytes ≡ Some x → (bytes ≡ entry_line x.0 ++ x.1) × IsClaim threads x.0
 unfolding entry_at
 entry_takes threads bytes x small e =
-    then_some (positive_at threads bytes) (λ t. behind (codes " ") t.1 >>= λ words. spelled_command words >>= λ c. behind (codes " : ") c.1 >>= λ reply. reply_at reply >>= λ r. behind (codes "\n") r.1 >>= λ end. Some (record { thread = t.0; command = c.0; reply = r.0 }, end)) x e (λ t at_t e1.
-    then_some (behind (codes " ") t.1) (λ words. spelled_command words >>= λ c. behind (codes " : ") c.1 >>= λ reply. reply_at reply >>= λ r. behind (codes "\n") r.1 >>= λ end. Some (record { thread = t.0; command = c.0; reply = r.0 }, end)) x e1 (λ words at_words e2.
-    then_some (spelled_command words) (λ c. behind (codes " : ") c.1 >>= λ reply. reply_at reply >>= λ r. behind (codes "\n") r.1 >>= λ end. Some (record { thread = t.0; command = c.0; reply = r.0 }, end)) x e2 (λ c at_c e3.
-    then_some (behind (codes " : ") c.1) (λ reply. reply_at reply >>= λ r. behind (codes "\n") r.1 >>= λ end. Some (record { thread = t.0; command = c.0; reply = r.0 }, end)) x e3 (λ reply at_reply e4.
-    then_some (reply_at reply) (λ r. behind (codes "\n") r.1 >>= λ end. Some (record { thread = t.0; command = c.0; reply = r.0 }, end)) x e4 (λ r at_r e5.
+    then_some (positive_at threads bytes) (λ t. behind (codes " ") t.1 >>= λ words. spelled_command words >>= λ c. behind (codes " : ") c.1 >>= λ reply. spelled_reply reply >>= λ r. behind (codes "\n") r.1 >>= λ end. Some (record { thread = t.0; command = c.0; reply = r.0 }, end)) x e (λ t at_t e1.
+    then_some (behind (codes " ") t.1) (λ words. spelled_command words >>= λ c. behind (codes " : ") c.1 >>= λ reply. spelled_reply reply >>= λ r. behind (codes "\n") r.1 >>= λ end. Some (record { thread = t.0; command = c.0; reply = r.0 }, end)) x e1 (λ words at_words e2.
+    then_some (spelled_command words) (λ c. behind (codes " : ") c.1 >>= λ reply. spelled_reply reply >>= λ r. behind (codes "\n") r.1 >>= λ end. Some (record { thread = t.0; command = c.0; reply = r.0 }, end)) x e2 (λ c at_c e3.
+    then_some (behind (codes " : ") c.1) (λ reply. spelled_reply reply >>= λ r. behind (codes "\n") r.1 >>= λ end. Some (record { thread = t.0; command = c.0; reply = r.0 }, end)) x e3 (λ reply at_reply e4.
+    then_some (spelled_reply reply) (λ r. behind (codes "\n") r.1 >>= λ end. Some (record { thread = t.0; command = c.0; reply = r.0 }, end)) x e4 (λ r at_r e5.
     then_some (behind (codes "\n") r.1) (λ end. Some (record { thread = t.0; command = c.0; reply = r.0 }, end)) x e5 (λ end at_end e6.
     let thread = positive_takes threads bytes t small at_t in
     let command = command_takes words c at_c in

@@ -11,7 +11,7 @@ use Rattle.shen_graph.specs.declared.command.Reply.TheVariants.{Ref, Null, Ok, Y
 use Rattle.trace_grammar.specs.Scanning.{◌>>=◌, behind, spelled_number}
 use Rattle.trace_grammar.proofs.Numbers.{own, then_some, same_some, not_stopped, behind_takes, number_takes, number_again}
 use Rattle.trace_writing.specs.Answer.{reply_word, name_word}
-use Rattle.trace_pairs.specs.Entries.{FitsReply, word_begun_by, word_at, count_at, number_or_name, numbered_at, reply_at}
+use Rattle.trace_pairs.specs.Entries.{FitsReply, word_begun_by, spelled_word, count_at, number_or_name, numbered_at, spelled_reply}
 
 -- the bytes are this reply and those behind it, and its numbers fit
 abbrev pub IsReadAs : List ℕ → Reply × List ℕ → Type 0
@@ -36,8 +36,8 @@ word_begun b r e =
     settled IsItsWord (eqb b 98) (Bad, codes "bad") _ r (refl, tt) (λ e5.
     settled IsItsWord (eqb b 102) (Full, codes "full") _ r (refl, tt) (λ e6. absurd cc) e5) e4) e3) e2) e1) e
 
-word_takes : (b : ℕ) (bytes : List ℕ) (r : Reply × List ℕ) → word_at b bytes ≡ Some r → IsReadAs bytes r
-unfolding word_at
+word_takes : (b : ℕ) (bytes : List ℕ) (r : Reply × List ℕ) → spelled_word b bytes ≡ Some r → IsReadAs bytes r
+unfolding spelled_word
 word_takes b bytes r e =
     then_some (word_begun_by b) (λ w. behind w.1 bytes >>= λ rest. Some (w.0, rest)) r e (λ w at_w e1.
     then_some (behind w.1 bytes) (λ rest. Some (w.0, rest)) r e1 (λ rest at_rest e2.
@@ -78,12 +78,12 @@ numbered_takes bytes r e =
         let counted = count_takes n rest r small.1 thread in
         subst (IsReadAs bytes) (sym counted.4) (named bytes after rest n counted.0 counted.1 spelled (behind_takes (codes ".") after rest at_dot) counted.2, (thread, counted.3))
 
-pub reply_takes : (bytes : List ℕ) (r : Reply × List ℕ) → reply_at bytes ≡ Some r → IsReadAs bytes r
-unfolding reply_at
+pub reply_takes : (bytes : List ℕ) (r : Reply × List ℕ) → spelled_reply bytes ≡ Some r → IsReadAs bytes r
+unfolding spelled_reply
 reply_takes [] r e = absurd cc
 reply_takes (b ∷ bytes) r e = by_test (is_ascii_digit b) e
   where
-    by_test : (test : Bool) → cond test (numbered_at (b ∷ bytes)) (word_at b (b ∷ bytes)) ≡ Some r → IsReadAs (b ∷ bytes) r
+    by_test : (test : Bool) → cond test (numbered_at (b ∷ bytes)) (spelled_word b (b ∷ bytes)) ≡ Some r → IsReadAs (b ∷ bytes) r
     by_test true e1 = numbered_takes (b ∷ bytes) r e1
     by_test false e1 = word_takes b (b ∷ bytes) r e1
 
@@ -92,12 +92,12 @@ reply_takes (b ∷ bytes) r e = by_test (is_ascii_digit b) e
 is_digit : (d : ℕ) → digit_value d < 10 → is_ascii_digit d ≡ true
 is_digit d lt = grind (arith, nat_tests)
 
-begins_numbered : (digits rest : List ℕ) → AllDigits 10 digits → 0 < length digits → reply_at (digits ++ rest) ≡ numbered_at (digits ++ rest)
-unfolding reply_at
+begins_numbered : (digits rest : List ℕ) → AllDigits 10 digits → 0 < length digits → spelled_reply (digits ++ rest) ≡ numbered_at (digits ++ rest)
+unfolding spelled_reply
 begins_numbered [] rest all some = absurd (omega (arith, some))
 begins_numbered (d ∷ digits) rest all some = rw (is_digit d all.0) refl
 
-decimal_numbered : (n : ℕ) (rest : List ℕ) → n < 2 ^ 64 → reply_at (decimal n ++ rest) ≡ numbered_at (decimal n ++ rest)
+decimal_numbered : (n : ℕ) (rest : List ℕ) → n < 2 ^ 64 → spelled_reply (decimal n ++ rest) ≡ numbered_at (decimal n ++ rest)
 decimal_numbered n rest small = begins_numbered (decimal n) rest (digits_decimal own n small) (decimal_nonempty n small)
 
 not_above : (n : ℕ) → n < 2 ^ 32 → ltb 4294967295 n ≡ false
@@ -112,12 +112,12 @@ unfolding numbered_at count_at
 name_read t c rest small few =
     rw (number_again 18446744073709551615 t (46 ∷ (decimal c ++ 10 ∷ rest)) (omega (arith, small)) (lit< tt) refl, not_above t small, number_again 4294967295 c (10 ∷ rest) (omega (arith, few)) (lit< tt) refl) refl
 
-pub reply_again : (r : Reply) (rest : List ℕ) → FitsReply r → reply_at (reply_word r ++ 10 ∷ rest) ≡ Some (r, 10 ∷ rest)
-unfolding reply_at word_at
+pub reply_again : (r : Reply) (rest : List ℕ) → FitsReply r → spelled_reply (reply_word r ++ 10 ∷ rest) ≡ Some (r, 10 ∷ rest)
+unfolding spelled_reply spelled_word
 reply_again (Ref n) rest fits =
     let parts : name_word n ++ 10 ∷ rest ≡ decimal n.thread ++ 46 ∷ (decimal n.count ++ 10 ∷ rest) =
     append_assoc (decimal n.thread ++ codes ".") (decimal n.count) (10 ∷ rest) ∙ append_assoc (decimal n.thread) (codes ".") (decimal n.count ++ 10 ∷ rest) in
-    ap reply_at parts ∙ decimal_numbered n.thread (46 ∷ (decimal n.count ++ 10 ∷ rest)) (omega (arith, fits.0)) ∙ name_read n.thread n.count rest fits.0 fits.1
+    ap spelled_reply parts ∙ decimal_numbered n.thread (46 ∷ (decimal n.count ++ 10 ∷ rest)) (omega (arith, fits.0)) ∙ name_read n.thread n.count rest fits.0 fits.1
 reply_again Null rest fits = refl
 reply_again Ok rest fits = refl
 reply_again Yes rest fits = refl

@@ -40,8 +40,8 @@ word_begun_by b =
     (if b == 102 then Some (Full, codes "full") else None)))))
 
 -- a reply that is a word, which begins with this byte
-unfoldable pub word_at : ℕ → List ℕ → Option (Reply × List ℕ)
-word_at first bytes = do
+unfoldable pub spelled_word : ℕ → List ℕ → Option (Reply × List ℕ)
+spelled_word first bytes = do
   r ← word_begun_by first
   rest ← behind r.1 bytes
   Some (r.0, rest)
@@ -64,9 +64,9 @@ numbered_at bytes = do
   number_or_name n.0 n.1 (behind (codes ".") n.1)
 
 -- the reply at the front
-unfoldable pub reply_at : List ℕ → Option (Reply × List ℕ)
-reply_at [] = None
-reply_at (b ∷ bytes) = if is_ascii_digit b then numbered_at (b ∷ bytes) else word_at b (b ∷ bytes)
+unfoldable pub spelled_reply : List ℕ → Option (Reply × List ℕ)
+spelled_reply [] = None
+spelled_reply (b ∷ bytes) = if is_ascii_digit b then numbered_at (b ∷ bytes) else spelled_word b (b ∷ bytes)
 
 -- the line of an entry at the front
 unfoldable pub entry_at : ℕ → List ℕ → Option (Entry × List ℕ)
@@ -75,6 +75,6 @@ entry_at threads bytes = do
   words ← behind (codes " ") t.1
   c ← spelled_command words
   reply ← behind (codes " : ") c.1
-  r ← reply_at reply
+  r ← spelled_reply reply
   end ← behind (codes "\n") r.1
   Some (record { thread = t.0; command = c.0; reply = r.0 }, end)

@@ -5,8 +5,8 @@ use Rattle.trace_grammar.specs.Spelling.{newline}
 use Rattle.trace_refusals.specs.Causes.{parts}
 
 -- these lines, each with its end
-abbrev pub ended : List (List ℕ) → List ℕ
-ended lines = flat_map (λ line. line ++ newline ∷ []) lines
+abbrev pub with_ends : List (List ℕ) → List ℕ
+with_ends lines = flat_map (λ line. line ++ newline ∷ []) lines
 
 -- The first line that is this text has these bytes before it, and these behind it. (Behind a line that has no end there is no
 -- part.)
@@ -14,7 +14,7 @@ pub record IsCutAt (text bytes before behind : List ℕ) : Type 0 where
   pub lines : List (List ℕ)
   pub parts_are : parts newline bytes ≡ lines ++ text ∷ parts newline behind
   pub others : AllByRecursion (λ line. line ≢ text) lines
-  pub before_is : before ≡ ended lines
+  pub before_is : before ≡ with_ends lines
 
 -- no line with an end is this text
 abbrev pub HasNoLine : (text bytes : List ℕ) → Type 0

@@ -1,11 +1,14 @@
 //! Laws of what is read.
-ghost use Rattle.std.specs.Prelude.{ℕ, ◌≡◌, ◌⊎◌, ◌≤◌, List, length};
+ghost use Rattle.std.specs.Prelude.{ℕ, ◌≡◌, ◌⊎◌, ◌≤◌, List, ◌++◌, codes, length};
 ghost use Rattle.heap_words.specs.declared.config.Config.{Config};
 ghost use Rattle.heap_words.specs.declared.schedule.Item.{Item};
 ghost use Rattle.shen_graph.specs.declared.command.Command.{Command};
-ghost use Rattle.shen_graph.specs.History.{Entry};
-ghost use Rattle.trace_grammar.specs.Grammar.{most_bytes};
+ghost use Rattle.shen_graph.specs.Graph.{opening};
+ghost use Rattle.shen_graph.specs.History.{Entry, EachIsLegal, Follows};
+ghost use Rattle.trace_grammar.specs.Grammar.{most_bytes, Reads};
 ghost use Rattle.trace_grammar.specs.declared.why.Why.{Why};
+ghost use Rattle.trace_writing.specs.Answer.{IsAnswerText};
+ghost use Rattle.trace_writing.specs.History.{history_text};
 ghost use Rattle.trace_pairs.specs.Pairs.{IsPair, IsSamePair};
 ghost use Rattle.trace_pairs.specs.Refusals.{IsPairRefused};
 
@@ -24,4 +27,12 @@ pub fn pairs_are_read_or_refused()
     ensures never_both { (bytes : List ℕ) (c : Config) (scripts : List (List Command)) (items : List Item) (body : List ℕ) (entries : List Entry) (n : ℕ) (why : Why)
         → IsPair bytes c scripts items body entries → IsPairRefused bytes n why → ⊥ }
     ensures once { (bytes : List ℕ) (n m : ℕ) (why other : Why) → IsPairRefused bytes n why → IsPairRefused bytes m other → (n ≡ m) × (why ≡ other) }
+{}
+
+/// A law: a trace, the line `answer`, and the answer and the text of a history that the trace's threads may have are such a text, of
+/// that answer and that history, where they are not too long. So what a replay writes with its history can be judged.
+pub fn histories_can_be_read()
+    ensures { (trace body : List ℕ) (c : Config) (scripts : List (List Command)) (items : List Item) (entries : List Entry) → Reads trace c scripts items → EachIsLegal (opening c.mutators) entries
+        → Follows scripts entries → IsAnswerText c.mutators entries body → length (trace ++ (codes "answer\n" ++ (body ++ history_text entries))) ≤ most_bytes
+        → IsPair (trace ++ (codes "answer\n" ++ (body ++ history_text entries))) c scripts items body entries }
 {}

@@ -9,5 +9,5 @@ mod pair;
 mod replies;
 
 pub use body::Body;
-pub use laws::{pairs_are_read_once, pairs_are_read_or_refused};
+pub use laws::{histories_can_be_read, pairs_are_read_once, pairs_are_read_or_refused};
 pub use pair::{Pair, read_pair};

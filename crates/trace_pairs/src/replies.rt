@@ -1,7 +1,7 @@
 //! The reply of an entry.
 ghost use Rattle.std.specs.Prelude.{◌≡◌};
 ghost use Rattle.std.specs.Option.{option_map};
-ghost use Rattle.trace_pairs.specs.Entries.{word_begun_by, word_at, count_at, numbered_at, reply_at};
+ghost use Rattle.trace_pairs.specs.Entries.{word_begun_by, spelled_word, count_at, numbered_at, spelled_reply};
 
 use shen_graph::{Name, Reply};
 use trace_grammar::{number_at, text_at};
@@ -25,9 +25,9 @@ fn word_begun_by(first: u8) -> Option<(Reply, &'static [u8])>
 }
 
 /// The reply at the front that is a word, where the bytes begin with this one.
-#[tactic(auto, unfolding(crate::specs::Entries::word_at))]
+#[tactic(auto, unfolding(crate::specs::Entries::spelled_word))]
 fn word_at(first: u8, bytes: &[u8]) -> Option<(Reply, &[u8])>
-    ensures { option_map (λ x. (x.0, x.1.now)) result ≡ word_at first bytes.now }
+    ensures { option_map (λ x. (x.0, x.1.now)) result ≡ spelled_word first bytes.now }
 {
     let (reply, word) = word_begun_by(first)?;
     let rest = text_at(word, bytes)?;
@@ -64,9 +64,9 @@ fn numbered_at(bytes: &[u8]) -> Option<(Reply, &[u8])>
 }
 
 /// The reply at the front, and the bytes behind it.
-#[tactic(auto, unfolding(crate::specs::Entries::reply_at))]
+#[tactic(auto, unfolding(crate::specs::Entries::spelled_reply))]
 pub(crate) fn reply_at(bytes: &[u8]) -> Option<(Reply, &[u8])>
-    ensures { option_map (λ x. (x.0, x.1.now)) result ≡ reply_at bytes.now }
+    ensures { option_map (λ x. (x.0, x.1.now)) result ≡ spelled_reply bytes.now }
 {
     match bytes {
         [first, ..] if first.is_ascii_digit() => numbered_at(bytes),

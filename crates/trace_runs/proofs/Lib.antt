@@ -1,4 +1,5 @@
 pub mod CallEnds
+pub mod Refusing
 pub mod Words
 pub mod Scripts
 pub mod Ran
@@ -12,3 +13,4 @@ pub mod Loops
 pub mod Churned
 pub mod Queued
 pub mod Texts
+pub mod Righted

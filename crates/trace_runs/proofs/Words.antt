@@ -1,6 +1,6 @@
 -- The words of the command line.
 use Rattle.std.proofs.Common.{◌≡◌, ℕ, zero, suc, ◌&&◌, ◌<◌, ◌≤◌, Bool, true, false, eqb, List, [], ◌∷◌, ◌++◌, length, get_or, take, drop, map, inl, inr, refl, sym, ap, subst, ◌∙◌, arith}
-use Rattle.std.specs.Prelude.{codes, Option, Some, None, MatchOption}
+use Rattle.std.specs.Prelude.{codes, Option, Some, None, MatchBool, MatchOption}
 use Rattle.std.specs.Fmt.{decimal}
 use Rattle.std.specs.Cmp.Lexicographic.{pointwise}
 use Rattle.std.proofs.lemmas.Bool.{eqb-true, false≢true}
@@ -8,8 +8,8 @@ use Rattle.std.proofs.lemmas.Fmt.{decimal_digit}
 use Rattle.std.proofs.lemmas.List.{length-append}
 use Rattle.trace_grammar.specs.Spelling.{IsUpTo}
 use Rattle.trace_runs.specs.declared.mode.Mode.{Mode}
-use Rattle.trace_runs.specs.declared.mode.Mode.TheVariants.{Replay, Noted, Run, Churn, Queue}
-use Rattle.trace_runs.specs.Words.{most_seed, most_rounds, most_numbers, most_steps, usual_steps, most_machines, IsNumbered, IsReplay, IsNotedReplay, IsRunBy, IsChurn, IsQueue, Asks, Ask}
+use Rattle.trace_runs.specs.declared.mode.Mode.TheVariants.{Replay, Noted, Run, Churn, Queue, Check}
+use Rattle.trace_runs.specs.Words.{most_seed, most_rounds, most_numbers, most_steps, usual_steps, most_machines, IsNumbered, IsReplay, IsNotedReplay, IsRunBy, IsChurn, IsQueue, IsCheck, Asks, Ask}
 use Rattle.trace_runs.specs.Answered.{ReadsTrace, ReadsNothing}
 use Rattle.std.proofs.lemmas.Bool.Decides.{nat_tests}
 
@@ -39,6 +39,11 @@ one_word f (x ∷ []) w text r some few is e = (
   (λ h. let same : f w ≡ text = ap f is ∙ cc in e ∙ ap (λ (t : List ℕ). pointwise eqb t text) same ∙ test_itself text),
 )
 one_word f (x ∷ y ∷ words) w text r some few is e = absurd (omega arith)
+
+-- what a test says of that which it tests
+pub decided : (r : Bool) (P : Type 0) → (r ≡ true → P) × (P → r ≡ true) → MatchBool r P (P → ⊥)
+decided true P both = both.0 refl
+decided false P both = λ p. false≢true (both.1 p)
 
 -- a list of three, of which the first is known
 pub word_and_two : {X : Type 0} (f : X → List ℕ) (words : List X) (a b c : X) (first : List ℕ) → 3 ≤ length words → length words < 4 → a ≡ get_or words 0 a → b ≡ get_or words 1 b → c ≡ get_or words 2 c
@@ -143,12 +148,13 @@ pub queue_begins : (words : List (List ℕ)) (count : ℕ) → IsQueue words cou
 queue_begins words count asked = begins_as words (decimal count ∷ []) (codes "queue") asked.0
 
 -- the command of a mode
-abbrev name_of : Mode → List ℕ
+abbrev pub name_of : Mode → List ℕ
 name_of (Replay steps) = codes "replay"
 name_of (Noted steps) = codes "replay"
 name_of (Run workers) = codes "run"
 name_of (Churn load) = codes "churn"
 name_of (Queue count) = codes "queue"
+name_of Check = codes "check"
 
 -- who asks for a mode begins with its command
 begins_with_name : (words : List (List ℕ)) (mode : Mode) → Asks words mode → BeginWith (name_of mode) words
@@ -157,11 +163,20 @@ begins_with_name words (Noted steps) asked = subst (BeginWith (codes "replay")) 
 begins_with_name words (Run workers) asked = numbered_begins (codes "run") (codes "--workers") most_machines most_machines words workers asked
 begins_with_name words (Churn load) asked = churn_begins words load.seed load.count asked
 begins_with_name words (Queue count) asked = queue_begins words count asked
+begins_with_name words Check asked = begins_as words [] (codes "check") asked
 
 -- words have one first word
 one_first : (a b : List ℕ) (words : List (List ℕ)) → BeginWith a words → BeginWith b words → a ≡ b
 one_first a b [] begins other = absurd begins
 one_first a b (word ∷ words) begins other = sym begins ∙ other
+
+-- modes that words ask for are of one command
+pub one_name : (words : List (List ℕ)) (a b : Mode) → Asks words a → Asks words b → name_of a ≡ name_of b
+one_name words a b asked also = one_first (name_of a) (name_of b) words (begins_with_name words a asked) (begins_with_name words b also)
+
+-- `check` is no `churn`
+third_letter : codes "check" ≡ codes "churn" → ⊥
+third_letter same = absurd (omega (arith, ap (λ (word : List ℕ). get_or word 2 0) same))
 
 -- modes of one command read alike
 trace_or_nothing : (a b : Mode) → name_of a ≡ name_of b → ReadsTrace a → ReadsNothing b → ⊥
@@ -173,18 +188,21 @@ trace_or_nothing (Run workers) (Churn load) same reads none = absurd (omega (ari
 trace_or_nothing (Replay steps) (Queue count) same reads none = absurd (omega (arith, ap length same))
 trace_or_nothing (Noted steps) (Queue count) same reads none = absurd (omega (arith, ap length same))
 trace_or_nothing (Run workers) (Queue count) same reads none = absurd (omega (arith, ap length same))
+trace_or_nothing Check (Churn load) same reads none = third_letter same
+trace_or_nothing Check (Queue count) same reads none = absurd (omega (arith, ap (λ word. get_or word 0 0) same))
 trace_or_nothing a (Replay steps) same reads none = none
 trace_or_nothing a (Noted steps) same reads none = none
 trace_or_nothing a (Run workers) same reads none = none
+trace_or_nothing a Check same reads none = none
 
 -- so words ask for what reads a trace, or for what reads nothing
 pub asks_alike : (words : List (List ℕ)) (a b : Mode) → Asks words a → Asks words b → ReadsTrace a → ReadsNothing b → ⊥
-asks_alike words a b asked also reads none = trace_or_nothing a b (one_first (name_of a) (name_of b) words (begins_with_name words a asked) (begins_with_name words b also)) reads none
+asks_alike words a b asked also reads none = trace_or_nothing a b (one_name words a b asked also) reads none
 
 -- words that ask for no mode
 pub asks_none : (words : List (List ℕ)) → (((steps : ℕ) × IsReplay words steps) → ⊥) → (((steps : ℕ) × IsNotedReplay words steps) → ⊥) → (((workers : ℕ) × IsRunBy words workers) → ⊥)
-    → (((seed : ℕ) × ((count : ℕ) × IsChurn words seed count)) → ⊥) → (((count : ℕ) × IsQueue words count) → ⊥) → Ask words → ⊥
-asks_none words replay noted run churn queue asked = by_mode asked.0 asked.1
+    → (((seed : ℕ) × ((count : ℕ) × IsChurn words seed count)) → ⊥) → (((count : ℕ) × IsQueue words count) → ⊥) → (IsCheck words → ⊥) → Ask words → ⊥
+asks_none words replay noted run churn queue check asked = by_mode asked.0 asked.1
   where
     by_mode : (mode : Mode) → Asks words mode → ⊥
     by_mode (Replay steps) this = replay (steps, this)
@@ -192,6 +210,7 @@ asks_none words replay noted run churn queue asked = by_mode asked.0 asked.1
     by_mode (Run workers) this = run (workers, this)
     by_mode (Churn load) this = churn (load.seed, (load.count, this))
     by_mode (Queue count) this = queue (count, this)
+    by_mode Check this = check this
 
 -- a list that is not empty begins with its first word
 pub first_word : {X : Type 0} (f : X → List ℕ) (words : List X) (w : X) (text : List ℕ) (r : Bool) → 1 ≤ length words → w ≡ get_or words 0 w → r ≡ pointwise eqb (f w) text

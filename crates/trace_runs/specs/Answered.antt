@@ -4,18 +4,25 @@ use Rattle.std.specs.Prelude.{ℕ, ◌≡◌, ◌+◌, ◌⊎◌, List, length, 
 use Rattle.std.specs.Io.KnownBytes.{Appends, Consumes}
 use Rattle.shen_base.specs.Count.{Rose, CalledAtMost}
 use Rattle.text_writer.specs.Sending.{Outlet, WritesFront}
-use Rattle.trace_grammar.specs.Grammar.{most_bytes, Came}
+use Rattle.shen_graph.specs.declared.command.Command.{Command}
+use Rattle.shen_graph.specs.History.{Entry}
+use Rattle.heap_words.specs.declared.config.Config.{Config}
+use Rattle.heap_words.specs.declared.schedule.Item.{Item}
+use Rattle.trace_grammar.specs.Grammar.{most_bytes, Came, Reads}
 use Rattle.trace_grammar.specs.declared.why.Why.{Why}
 use Rattle.trace_refusals.specs.Refused.{Refused}
+use Rattle.trace_pairs.specs.Pairs.{IsPair}
+use Rattle.trace_pairs.specs.Refusals.{IsPairRefused}
 use Rattle.trace_writing.specs.Message.{line_text}
 use Rattle.trace_writing.specs.declared.message.Line.TheVariants as line
 use Rattle.trace_runs.specs.declared.mode.Mode.{Mode}
-use Rattle.trace_runs.specs.declared.mode.Mode.TheVariants.{Replay, Noted, Run, Churn, Queue}
+use Rattle.trace_runs.specs.declared.mode.Mode.TheVariants.{Replay, Noted, Run, Churn, Queue, Check}
 use Rattle.trace_runs.specs.declared.status.Status.{Status}
 use Rattle.trace_runs.specs.declared.status.Status.TheVariants.{Ok, BadWords, BadTrace, Unfinished, ReadFault, WriteFault, NoMemory}
 use Rattle.trace_runs.specs.Words.{Asks, Asked, Ask}
 use Rattle.trace_runs.specs.Replayed.{IsReplayed, IsReplayedNoted, IsRun, IsUnfinished}
 use Rattle.trace_runs.specs.Churned.{IsChurned}
+use Rattle.trace_runs.specs.Checked.{IsChecked}
 use Rattle.trace_runs.specs.Queued.{IsQueued}
 
 -- What the source has left where it tells it, before the call and after it, and its faults.
@@ -45,8 +52,9 @@ IsAnswerOf (Noted steps) input out = HasRead input (λ bytes. IsReplayedNoted by
 IsAnswerOf (Run workers) input out = HasRead input (λ bytes. IsRun bytes out)
 IsAnswerOf (Churn load) input out = IsChurned load.seed load.count out
 IsAnswerOf (Queue count) input out = IsQueued count out
+IsAnswerOf Check input out = HasRead input (λ bytes. IsChecked bytes out)
 
--- it reads a trace; one that reads nothing is always answered, or there is no memory
+-- it reads a trace, alone or with what is claimed for it; one that reads nothing is always answered, or there is no memory
 abbrev pub ReadsTrace : Mode → Type 0
 ReadsTrace (Churn load) = ⊥
 ReadsTrace (Queue count) = ⊥
@@ -57,6 +65,20 @@ ReadsNothing (Churn load) = Unit {0}
 ReadsNothing (Queue count) = Unit {0}
 ReadsNothing _ = ⊥
 
+-- the bytes are what it reads
+abbrev pub Takes : Mode → List ℕ → Type 0
+Takes (Churn load) bytes = ⊥
+Takes (Queue count) bytes = ⊥
+Takes Check bytes = (config : Config) × (scripts : List (List Command)) × (items : List Item) × (body : List ℕ) × (entries : List Entry) × IsPair bytes config scripts items body entries
+Takes _ bytes = (config : Config) × (scripts : List (List Command)) × (items : List Item) × Reads bytes config scripts items
+
+-- they are not, and this line is the first that is at fault, for this cause
+abbrev pub Refuses : Mode → List ℕ → ℕ → Why → Type 0
+Refuses (Churn load) bytes line why = ⊥
+Refuses (Queue count) bytes line why = ⊥
+Refuses Check bytes line why = IsPairRefused bytes line why
+Refuses _ bytes line why = Refused bytes line why
+
 -- the steps that it may make, if these are bounded
 abbrev pub bound_of : Mode → Option ℕ
 bound_of (Replay steps) = Some steps
@@ -66,10 +88,10 @@ bound_of _ = None
 -- ---- the texts
 
 -- what came is refused, and the line that is written says where and why
-pub record IsRefused (input : Input) (out : List ℕ) : Type 0 where
+pub record IsRefused (mode : Mode) (input : Input) (out : List ℕ) : Type 0 where
   pub number : ℕ
   pub why : Why
-  pub refused : HasRead input (λ bytes. Refused bytes number why)
+  pub refused : HasRead input (λ bytes. Refuses mode bytes number why)
   pub text : out ≡ line_text (line.BadLine number why)
 
 -- more bytes came than a trace may have
@@ -90,7 +112,7 @@ pub record IsCutOff (mode : Mode) (input : Input) (out : List ℕ) : Type 0 wher
 abbrev pub Allows : List (List ℕ) → Input → Status → List ℕ → Type 0
 Allows words input Ok out = Asked words (λ mode. IsAnswerOf mode input out)
 Allows words input BadWords out = (Ask words → ⊥) × (out ≡ line_text line.BadWords)
-Allows words input BadTrace out = Asked words ReadsTrace × (IsRefused input out ⊎ IsTooLong input out)
+Allows words input BadTrace out = Asked words (λ mode. ReadsTrace mode × (IsRefused mode input out ⊎ IsTooLong input out))
 Allows words input Unfinished out = Asked words (λ mode. IsCutOff mode input out)
 Allows words input ReadFault out = Asked words ReadsTrace × Rose input.faults_before input.faults_after × (out ≡ line_text line.ReadFault)
 Allows words input WriteFault out = ⊥

@@ -1,10 +1,12 @@
 pub mod Words
 pub mod Replayed
 pub mod Churned
+pub mod Checked
 pub mod Queued
 pub mod Running
 pub mod Answered
 pub mod Number
 pub mod CallEnds
+pub mod Faults
 pub mod DealtParts
 pub mod Started

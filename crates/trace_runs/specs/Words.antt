@@ -3,7 +3,7 @@ use Rattle.std.specs.Prelude.{ℕ, ◌≡◌, ◌≤◌, ◌⊎◌, List, [], �
 use Rattle.std.specs.Fmt.{decimal}
 use Rattle.trace_grammar.specs.Spelling.{IsUpTo}
 use Rattle.trace_runs.specs.declared.mode.Mode.{Mode}
-use Rattle.trace_runs.specs.declared.mode.Mode.TheVariants.{Replay, Noted, Run, Churn, Queue}
+use Rattle.trace_runs.specs.declared.mode.Mode.TheVariants.{Replay, Noted, Run, Churn, Queue, Check}
 
 -- the words are a command alone, which goes with its usual number, or the command, an option and a number
 abbrev pub IsNumbered : (command option : List ℕ) → (usual most : ℕ) → List (List ℕ) → ℕ → Type 0
@@ -53,6 +53,10 @@ IsChurn words seed count = (words ≡ codes "churn" ∷ decimal seed ∷ decimal
 abbrev pub IsQueue : List (List ℕ) → (count : ℕ) → Type 0
 IsQueue words count = (words ≡ codes "queue" ∷ decimal count ∷ []) × IsUpTo most_numbers count
 
+-- `check`
+abbrev pub IsCheck : List (List ℕ) → Type 0
+IsCheck words = words ≡ codes "check" ∷ []
+
 -- The words ask for a mode.
 abbrev pub Asks : List (List ℕ) → Mode → Type 0
 Asks words (Replay steps) = IsReplay words steps
@@ -60,6 +64,7 @@ Asks words (Noted steps) = IsNotedReplay words steps
 Asks words (Run workers) = IsRunBy words workers
 Asks words (Churn load) = IsChurn words load.seed load.count
 Asks words (Queue count) = IsQueue words count
+Asks words Check = IsCheck words
 
 -- they ask for one of which this holds
 abbrev pub Asked : List (List ℕ) → (Mode → Type 0) → Type 0

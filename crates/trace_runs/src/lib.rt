@@ -1,7 +1,10 @@
-//! What the words of the command line ask for, run on a heap: a replay, a run in threads, a churn, or a queue.
+//! What the words of the command line ask for: a replay, a run in threads, a churn or a queue, which are run on a heap, or a check of
+//! a history.
 #![tactic(auto)]
 
+mod checks;
 mod churns;
+mod laws;
 mod lines;
 mod load;
 mod mode;
@@ -12,7 +15,9 @@ mod runs;
 mod status;
 mod threads;
 
+pub use checks::check;
 pub use churns::churn;
+pub use laws::noted_replays_are_right;
 pub use lines::say;
 pub use mode::{Mode, Workload, mode_of};
 pub use queues::queue;

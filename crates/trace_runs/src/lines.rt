@@ -7,8 +7,9 @@ ghost use Rattle.trace_writing.specs.Message.{line_text};
 ghost use Rattle.trace_writing.specs.Answer.{spelled_answer};
 ghost use Rattle.trace_writing.specs.History.{history_text};
 ghost use Rattle.trace_runs.specs.CallEnds.{EndsWith};
+ghost use Rattle.trace_runs.specs.Faults.{fault_line, fault_status, ReadsOnlyTrace};
 ghost use Rattle.trace_runs.specs.Words.{Asked};
-ghost use Rattle.trace_runs.specs.Answered.{ReadsTrace, StatusFits};
+ghost use Rattle.trace_runs.specs.Answered.{StatusFits};
 
 use crate::status::Status;
 use shen_base::{Sink, Source};
@@ -56,6 +57,21 @@ pub fn give_noted<K: Sink>(sink: &mut K, answer: &Answer, history: &History) -> 
     }
 }
 
+/// Writes the one line that says why nothing was read, with the status of that.
+pub fn refuse<K: Sink>(sink: &mut K, fault: TraceFault) -> Status
+    ensures { EndsWith (line_text (fault_line fault)) (fault_status fault) result (outlet (K.written sink.old) (K.faults sink.old) (K.calls sink.old))
+        (outlet (K.written sink.new) (K.faults sink.new) (K.calls sink.new)) }
+{
+    match fault {
+        TraceFault::BadLine { line, why } => {
+            say(sink, Line::BadLine { line, why }, Status::BadTrace)
+        }
+        TraceFault::TooLong { .. } => say(sink, Line::TooLong, Status::BadTrace),
+        TraceFault::ReadFault => say(sink, Line::ReadFault, Status::ReadFault),
+        TraceFault::NoMemory => say(sink, Line::NoMemory, Status::NoMemory),
+    }
+}
+
 /// Reads a trace. Where what came is none, or the source or memory fails, the one line that says so is written.
 pub fn taken<S: Source, K: Sink>(
     alloc: Global,
@@ -64,17 +80,12 @@ pub fn taken<S: Source, K: Sink>(
 ) -> Result<Trace, Status>
     ensures ok { IfOk result (λ trace. (bytes : List ℕ) × Came (S.left source.old) (S.left source.new) bytes × Reads bytes trace.config trace.scripts trace.schedule) }
     ensures unused { OnOk result (sink.new ≡ sink.old) }
-    ensures refused { IfErr result (λ status. (words : List (List ℕ)) → Asked words ReadsTrace → StatusFits words
+    ensures refused { IfErr result (λ status. (words : List (List ℕ)) → Asked words ReadsOnlyTrace → StatusFits words
         (record { before = S.left source.old; after = S.left source.new; faults_before = S.faults source.old; faults_after = S.faults source.new })
         (record { before = outlet (K.written sink.old) (K.faults sink.old) (K.calls sink.old); after = outlet (K.written sink.new) (K.faults sink.new) (K.calls sink.new) }) status) }
 {
     match read_trace(alloc, source) {
         Ok(trace) => Ok(trace),
-        Err(TraceFault::BadLine { line, why }) => {
-            Err(say(sink, Line::BadLine { line, why }, Status::BadTrace))
-        }
-        Err(TraceFault::TooLong { .. }) => Err(say(sink, Line::TooLong, Status::BadTrace)),
-        Err(TraceFault::ReadFault) => Err(say(sink, Line::ReadFault, Status::ReadFault)),
-        Err(TraceFault::NoMemory) => Err(say(sink, Line::NoMemory, Status::NoMemory)),
+        Err(fault) => Err(refuse(sink, fault)),
     }
 }

@@ -1,8 +1,8 @@
 //! What the words of the command line ask for.
-ghost use Rattle.std.specs.Prelude.{◌≡◌, ◌≤◌, ℕ, MatchOption, map};
+ghost use Rattle.std.specs.Prelude.{◌≡◌, ◌≤◌, ℕ, MatchBool, MatchOption, map};
 ghost use Rattle.std.specs.Fmt.{decimal};
 ghost use Rattle.std.specs.String.{string_bytes};
-ghost use Rattle.trace_runs.specs.Words.{IsNumbered, IsReplay, IsNotedReplay, IsRunBy, IsChurn, IsQueue, most_seed, Asks, Ask};
+ghost use Rattle.trace_runs.specs.Words.{IsNumbered, IsReplay, IsNotedReplay, IsRunBy, IsChurn, IsQueue, IsCheck, most_seed, Asks, Ask};
 
 use trace_grammar::number_in;
 
@@ -35,6 +35,8 @@ pub enum Mode {
     Run { workers: u64 },
     /// A churn.
     Churn(Workload),
+    /// A trace with an answer and a history that somebody claims for it.
+    Check,
     /// A queue, of so many numbers of each user, 1 to 390.
     Queue { count: u64 },
 }
@@ -66,6 +68,9 @@ pub fn mode_of(words: &[String]) -> Option<Mode>
     }
     if let Some(count) = count_of(words) {
         return Some(Mode::Queue { count });
+    }
+    if is_check(words) {
+        return Some(Mode::Check);
     }
     None
 }
@@ -105,6 +110,16 @@ fn workload_of(words: &[String]) -> Option<Workload>
             Some(Workload { seed, count })
         }
         _ => None,
+    }
+}
+
+// Whether the words are `check`.
+fn is_check(words: &[String]) -> bool
+    ensures { MatchBool result (IsCheck (map string_bytes words.now)) (IsCheck (map string_bytes words.now) → ⊥) }
+{
+    match words {
+        [word] => word.as_str() == "check",
+        _ => false,
     }
 }
 

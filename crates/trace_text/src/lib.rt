@@ -4,7 +4,9 @@
 
 pub use churn::Summary;
 pub use trace_grammar::{CommandKind, Scripts, Trace, Why, traces_are_read_once};
-pub use trace_pairs::{Body, Pair, pairs_are_read_once, pairs_are_read_or_refused, read_pair};
+pub use trace_pairs::{
+    Body, Pair, histories_can_be_read, pairs_are_read_once, pairs_are_read_or_refused, read_pair,
+};
 pub use trace_reading::{TraceFault, read_trace};
 pub use trace_refusals::bytes_are_read_or_refused;
 pub use trace_writing::{

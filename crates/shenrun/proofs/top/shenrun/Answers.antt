@@ -143,6 +143,39 @@ returns-in-Churn-clause-made g c =
     let fits : StatusFits words input output c.churn.result = c.churn.ensures words input (subst (Asks words) c.in-Churn.is c.in-Some.ensures) in
     made words input output c.churn.result fits
 
+pub returns-in-Check-clause-headline : goal.returns-in-Check-clause-headline
+returns-in-Check-clause-headline g c =
+    let words : List (List ℕ) = map string_bytes c.args.words.now in
+    let input : Input = record { before = g.S.Source.left c.args.source.now; after = g.S.Source.left c.check.new.source; faults_before = g.S.Source.faults c.args.source.now; faults_after = g.S.Source.faults c.check.new.source } in
+    let output : Output = record {
+      before = outlet (g.K.Sink.written c.args.sink.now) (g.K.Sink.faults c.args.sink.now) (g.K.Sink.calls c.args.sink.now);
+      after = outlet (g.K.Sink.written c.check.new.sink) (g.K.Sink.faults c.check.new.sink) (g.K.Sink.calls c.check.new.sink);
+    } in
+    let fits : StatusFits words input output c.check.result = c.check.ensures words (subst (Asks words) c.in-Check.is c.in-Some.ensures) in
+    answered words input output c.check.result fits
+
+pub returns-in-Check-clause-answered : goal.returns-in-Check-clause-answered
+returns-in-Check-clause-answered g c =
+    let words : List (List ℕ) = map string_bytes c.args.words.now in
+    let input : Input = record { before = g.S.Source.left c.args.source.now; after = g.S.Source.left c.check.new.source; faults_before = g.S.Source.faults c.args.source.now; faults_after = g.S.Source.faults c.check.new.source } in
+    let output : Output = record {
+      before = outlet (g.K.Sink.written c.args.sink.now) (g.K.Sink.faults c.args.sink.now) (g.K.Sink.calls c.args.sink.now);
+      after = outlet (g.K.Sink.written c.check.new.sink) (g.K.Sink.faults c.check.new.sink) (g.K.Sink.calls c.check.new.sink);
+    } in
+    let fits : StatusFits words input output c.check.result = c.check.ensures words (subst (Asks words) c.in-Check.is c.in-Some.ensures) in
+    fits
+
+pub returns-in-Check-clause-complete : goal.returns-in-Check-clause-complete
+returns-in-Check-clause-complete g c =
+    let words : List (List ℕ) = map string_bytes c.args.words.now in
+    let input : Input = record { before = g.S.Source.left c.args.source.now; after = g.S.Source.left c.check.new.source; faults_before = g.S.Source.faults c.args.source.now; faults_after = g.S.Source.faults c.check.new.source } in
+    let output : Output = record {
+      before = outlet (g.K.Sink.written c.args.sink.now) (g.K.Sink.faults c.args.sink.now) (g.K.Sink.calls c.args.sink.now);
+      after = outlet (g.K.Sink.written c.check.new.sink) (g.K.Sink.faults c.check.new.sink) (g.K.Sink.calls c.check.new.sink);
+    } in
+    let fits : StatusFits words input output c.check.result = c.check.ensures words (subst (Asks words) c.in-Check.is c.in-Some.ensures) in
+    complete words input output c.check.result fits
+
 pub returns-in-Queue-clause-headline : goal.returns-in-Queue-clause-headline
 returns-in-Queue-clause-headline g c =
     let words : List (List ℕ) = map string_bytes c.args.words.now in

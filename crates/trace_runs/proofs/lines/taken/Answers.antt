@@ -1,27 +1,19 @@
-use Rattle.std.proofs.Common.{inl, inr, refl}
-use Rattle.trace_writing.specs.Message.{line_text}
-use Rattle.trace_writing.specs.declared.message.Line.TheVariants as line
-use Rattle.trace_runs.specs.declared.status.Status.TheVariants.{BadTrace, ReadFault, NoMemory}
-use Rattle.trace_runs.proofs.CallEnds.{said}
+use Rattle.text_writer.specs.Sending.{outlet}
+use Rattle.trace_runs.specs.Answered.{Input, Output}
+use Rattle.trace_runs.proofs.Refusing.{told_by, fault_said, alone_reads, alone_refuses}
 use Rattle.trace_runs.proofs.lines.taken.Goals as goal
 
-pub returns-in-Err-BadLine-clause-refused : goal.returns-in-Err-BadLine-clause-refused
-returns-in-Err-BadLine-clause-refused g c = λ words asked.
-    let n = c.in-Err-BadLine.line in
-    let why = c.in-Err-BadLine.why in
-    let bad = c.in-Err-BadLine.ensures.bad_line n why (let e = c.in-Err-BadLine.field-0-is in cc) in
-    said words _ _ (line_text (line.BadLine n why)) BadTrace c.say.result (asked, inl (record { number = n; why = why; refused = record { bytes = bad.0; came = bad.1; is = bad.2 }; text = refl })) c.say.ensures
-
-pub returns-in-Err-TooLong-clause-refused : goal.returns-in-Err-TooLong-clause-refused
-returns-in-Err-TooLong-clause-refused g c = λ words asked.
-    let long = c.in-Err-TooLong.ensures.too_long c.in-Err-TooLong.field-0-0 (let e = c.in-Err-TooLong.field-0-is in cc) in
-    said words _ _ (line_text line.TooLong) BadTrace c.say-in-Err-TooLong.result (asked, inr (record { bytes = long.1.0; taken = long.1.1; many = long.1.2; text = refl })) c.say-in-Err-TooLong.ensures
-
-pub returns-in-Err-ReadFault-clause-refused : goal.returns-in-Err-ReadFault-clause-refused
-returns-in-Err-ReadFault-clause-refused g c = λ words asked.
-    let rose = c.in-Err-ReadFault.ensures.read_fault (let e = c.in-Err-ReadFault.field-0-is in cc) in
-    said words _ _ (line_text line.ReadFault) ReadFault c.say-in-Err-ReadFault.result (asked, rose, refl) c.say-in-Err-ReadFault.ensures
-
-pub returns-in-Err-NoMemory-clause-refused : goal.returns-in-Err-NoMemory-clause-refused
-returns-in-Err-NoMemory-clause-refused g c = λ words asked.
-    said words _ _ (line_text line.NoMemory) NoMemory c.say-in-Err-NoMemory.result ((asked.0, asked.1), refl) c.say-in-Err-NoMemory.ensures
+pub returns-in-Err-clause-refused : goal.returns-in-Err-clause-refused
+returns-in-Err-clause-refused g c = λ words asked.
+    let input : Input = record { before = g.S.Source.left c.args.source.now; after = g.S.Source.left c.read_trace.new.source; faults_before = g.S.Source.faults c.args.source.now; faults_after = g.S.Source.faults c.read_trace.new.source } in
+    let output : Output = record {
+      before = outlet (g.K.Sink.written c.args.sink.now) (g.K.Sink.faults c.args.sink.now) (g.K.Sink.calls c.args.sink.now);
+      after = outlet (g.K.Sink.written c.refuse.new.sink) (g.K.Sink.faults c.refuse.new.sink) (g.K.Sink.calls c.refuse.new.sink);
+    } in
+    let mode = asked.0 in
+    fault_said words input output mode c.in-Err.fault c.refuse.result asked.1 (alone_reads mode asked.2)
+    (told_by mode input c.in-Err.fault
+    (λ n why e. let bad = c.in-Err.ensures.bad_line n why (cc) in record { bytes = bad.0; came = bad.1; is = alone_refuses mode bad.0 n why asked.2 bad.2 })
+    (λ n e. (c.in-Err.ensures.too_long n (cc)).1)
+    (λ e. c.in-Err.ensures.read_fault (cc)))
+    c.refuse.ensures

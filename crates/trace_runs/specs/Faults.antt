@@ -1,0 +1,29 @@
+-- What is said where nothing was read.
+use Rattle.trace_runs.specs.declared.mode.Mode.{Mode}
+use Rattle.trace_runs.specs.declared.mode.Mode.TheVariants.{Churn, Queue, Check}
+use Rattle.trace_reading.specs.declared.fault.TraceFault.{TraceFault}
+use Rattle.trace_reading.specs.declared.fault.TraceFault.TheVariants as fault
+use Rattle.trace_writing.specs.declared.message.Line.{Line}
+use Rattle.trace_writing.specs.declared.message.Line.TheVariants as line
+use Rattle.trace_runs.specs.declared.status.Status.{Status}
+use Rattle.trace_runs.specs.declared.status.Status.TheVariants.{BadTrace, ReadFault, NoMemory}
+
+-- the line, and the status
+abbrev pub fault_line : TraceFault → Line
+fault_line (fault.BadLine n why) = line.BadLine n why
+fault_line (fault.TooLong bytes) = line.TooLong
+fault_line fault.ReadFault = line.ReadFault
+fault_line fault.NoMemory = line.NoMemory
+
+abbrev pub fault_status : TraceFault → Status
+fault_status (fault.BadLine n why) = BadTrace
+fault_status (fault.TooLong bytes) = BadTrace
+fault_status fault.ReadFault = ReadFault
+fault_status fault.NoMemory = NoMemory
+
+-- a mode that reads a trace alone
+abbrev pub ReadsOnlyTrace : Mode → Type 0
+ReadsOnlyTrace (Churn load) = ⊥
+ReadsOnlyTrace (Queue count) = ⊥
+ReadsOnlyTrace Check = ⊥
+ReadsOnlyTrace _ = Unit {0}
