@@ -6,8 +6,8 @@ usage: measure_history.py
 Threads store, load and exchange, so that nothing is refused, in 100,000, 200,000 and 300,000 commands: it prints commands a second and the
 most memory for each byte of input of `replay`, of `replay --history`, and of `check` on what the latter has written, with the pair's
 own bytes as its input. Then one thread fills a heap and asks for more, so that each further allocation is refused: it prints the
-milliseconds of `check` for each refusal, by how many objects live. Each time is the least of three runs. Times mean something only
-beside each other, from one run.
+milliseconds of `check` for each refusal, by how many objects live. Then one thread keeps all that it makes: it prints the seconds of
+`replay --history` and of `check`. Each time is the least of three runs. Times mean something only beside each other, from one run.
 """
 import os
 import subprocess
@@ -22,6 +22,9 @@ from cases import program  # pylint: disable=wrong-import-position
 
 THREADS, RUNS = 4, 3
 ROUND = ["set 0 1 1", "get 2 0 1", "wr 2 0 7", "rd 1 0", "xchg 3 0 1 1", "cas 0 1 3 1", "copy 4 2", "same 4 1"]
+# A list of one object, with its first in root 3 and its last in root 2; and one more behind it.
+LIST = ["new 1 1 0", "copy 2 1", "copy 3 1"]
+LONGER = ["new 1 1 0", "set 2 0 1", "copy 2 1"]
 
 
 def head(regions, words, threads):
@@ -39,11 +42,14 @@ def plain(commands):
 
 def refused(words, live, times):
     """A trace of a thread that keeps so many objects in a list, fills the rest of its heap, and asks so many times in vain."""
-    lines = []
-    for _ in range(live):
-        lines += ["new 1 1 0", "set 1 0 2", "copy 2 1"]
-    lines += ["new 1 1 16", "set 1 0 2", "copy 2 1"] * (8 * words // 20)
+    lines = LIST + LONGER * live
+    lines += ["new 1 1 16", "set 2 0 1", "copy 2 1"] * (8 * words // 20)
     return "\n".join(head(8, words, 1) + [f"1 {call}" for call in lines + ["new 1 16 16"] * times]) + "\n"
+
+
+def kept(live):
+    """A trace of a thread that keeps so many objects in a list."""
+    return "\n".join(head(64, 1024, 1) + [f"1 {call}" for call in LIST + LONGER * live]) + "\n"
 
 
 def measured(words, text):
@@ -87,6 +93,11 @@ def main():
         fulls = noted.count(b" : full\n")
         objects = noted.split(b"history\n")[0].count(b"\nobject ")
         print(f"{objects} live objects, {fulls} refusals: {(spent[1][0] - spent[0][0]):.3f} ms each; {spent[1][2].decode().strip()}")
+    for live in (3500, 7000, 14000):
+        trace = kept(live).encode()
+        noted = measured(["replay", "--history"], trace)
+        judged = measured(["check"], trace + b"answer\n" + noted[2])
+        print(f"{live} objects kept: replay --history {noted[0]:.3f} s, check {judged[0]:.3f} s; {judged[2].decode().strip()}")
     return 0
 
 
