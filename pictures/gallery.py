@@ -27,9 +27,10 @@ MOMENTS = {
 
 
 def examples():
-    """The examples with a trace, in the order of the table."""
+    """The examples with a trace that is run, in the order of the table: one with a line `answer` is only judged."""
     names = re.findall(r"^\| `(\w+)` \|", PAGE.read_text(), re.M)
-    return [name for name in names if (EXAMPLES / f"{name}.trace").exists()]
+    files = {name: EXAMPLES / f"{name}.trace" for name in names}
+    return [name for name in names if files[name].exists() and "answer" not in files[name].read_text().splitlines()]
 
 
 def drawn(name):
