@@ -146,14 +146,14 @@ call 'a newer one is' 0 'the proved program B' '' 0 "$copy" replay
 
 leave "$copy" B
 call 'so is the next' 0 'the proved program B' '' 0 "$copy" replay
-touch "$copy/crates/trace_runs/src/replay.rt"
+touch "$copy/crates/trace_runs/src/replays.rt"
 call 'a source that was only touched changes nothing' 0 'the proved program B' '' 0 "$copy" replay
-touch -t 203001010000 "$copy/crates/trace_runs/src/replay.rt"
+touch -t 203001010000 "$copy/crates/trace_runs/src/replays.rt"
 call 'nor does one of the future' 0 'the proved program B' '' 0 "$copy" replay
 rm -rf "$copy/out"
 call 'also where the program was not taken before' 0 'the proved program B' '' 0 "$copy" replay
 
-echo '// changed' >>"$copy/crates/trace_runs/src/replay.rt"
+echo '// changed' >>"$copy/crates/trace_runs/src/replays.rt"
 echo answers >"$room/bin/says"
 call 'a source that changed: rt try answers, and says so' 0 12 'a source has changed' 1 "$copy" replay
 path=$room/tools
