@@ -23,7 +23,8 @@ RUN = re.compile(r"[,;]? *(?:these (\d+) lines )?(\d+) times more$")
 EVENT = re.compile(r" *(\d+)  (thread \d|helper \d|control) +(\S\S)  ")
 PAUSE = re.compile(r"  pause \d+: ")
 FORMS = [[], ["--pauses", "full"], ["--columns", "--pauses", "changed"]]
-SAYS = re.compile(r"(?<![^ ,;] )(?:^|  |, |; )(begins|settles full of|settles|replies) ([^,;]+?)(?=$|, |; |  )")
+# (behind a word found that fills its column there is one space alone)
+SAYS = re.compile(r"(?:^|[ ,;] ?)(begins|settles full of|settles|replies) ([^,;]+?)(?=$|, |; |  )")
 
 
 def text(of, *words):
