@@ -13,7 +13,7 @@ crate costs one check of its own and ten to thirty seconds for each edit.
 A wrong protocol, bench/protocols/NAME.protocol, changes code and row together, so that the code is its row still, and a law above has
 to refuse it. Its file says in words what is turned and what would go wrong, and then, a line each:
     own: CRATE               the row's crate, which must be proved still; several such lines are several crates, `none` is none
-    own: CRATE but F, G      so is all of it but these, which are the laws that refuse
+    own: CRATE but F, G      so is all of it but these, which are the laws that refuse, or lemmas that contracts above cite
     law: CRATE::F            the law that must refuse it, or `none`: this is a finding, and says which promise would be needed
     file: PATH               from crates/ on; and then pairs `old: TEXT` and `new: TEXT`. Each old text stands once in the file, after
                              the pairs before it; a text of several lines has a line `old: ` or `new: ` for each
@@ -236,9 +236,10 @@ class Check:
         self.unproved = UNPROVED.findall(self.said)
         errors = [(path, why) for path, why in ERROR.findall(self.said) if not FOLLOWS.match(why)]
         self.bad = next((f"{path}: {why}" for path, why in errors if path.startswith(("src/", "specs/")) and UNREAD.search(why)), None)
-        if not self.proved and (ran.returncode != 1 or not self.unproved):
-            self.bad = self.bad or next((f"{path}: {why}" for path, why in errors), f"ended with status {ran.returncode}")
         told = [(path, why) for path, why in errors if not UNREAD.search(why)]
+        self.lemmas = sorted({lemma[1] for lemma in (re.match(r"`([^`]+)`:", why) for _, why in told) if lemma})
+        if not self.proved and (ran.returncode != 1 or not (self.unproved or self.lemmas)):
+            self.bad = self.bad or next((f"{path}: {why}" for path, why in errors), f"ended with status {ran.returncode}")
         self.only_names = bool(errors) and not told
         self.where = self.places(told)
 
@@ -263,10 +264,11 @@ def try_in(room, protocol):
             continue
         if check.bad or check.only_names:
             return False, f"BAD: {crate}: {check.bad or check.where or 'a proof names what it takes away'}"
-        others = [it for it in check.unproved if not is_named(it, laws)]
+        refused = check.unproved or check.lemmas
+        others = [it for it in refused if not is_named(it, laws)]
         if others:
             return False, f"BAD: {crate} is not proved: {', '.join(others)}, at {check.where}"
-        return True, f"refused by {', '.join(check.unproved)} at {check.where}"
+        return True, f"refused by {', '.join(refused)} at {check.where}"
     if not protocol.law:
         return True, "no law refuses it"
     crate = protocol.law.split("::")[0]
