@@ -3,8 +3,8 @@ ghost use Rattle.image_graph.specs.State.{config_of};
 ghost use Rattle.control_rows.specs.Ready.{is_ready};
 ghost use Rattle.control.specs.Clear.{IsClear};
 
-use crate::pause::{clear, load, take_found};
-use control_rows::{ControlSpot, LastPause};
+use crate::pause::{clear, load, put_word, take_found};
+use control_rows::{ControlSpot, LastPause, image_words};
 use heap_words::{Access, Config, Place, Took};
 use image_graph::Image;
 use shen_graph::GraphText;
@@ -87,11 +87,44 @@ impl Control {
         ensures inside { table_index result < table_words (config_in self.now) }
     {
         let config = self.image.config();
-        let word = match self.spot {
-            ControlSpot::StoreWord { index } => self.image.word(config.image_start() + index),
-            _ => 0,
-        };
-        self.spot.access(config, word)
+        match self.spot {
+            ControlSpot::LoadWord { index } => Access::Load {
+                at: config.image_start() + index,
+            },
+            ControlSpot::StoreWord { index } => {
+                let at = config.image_start() + index;
+                Access::Store {
+                    at,
+                    value: self.image.word(at),
+                }
+            }
+            spot => spot.access(config, 0),
+        }
+    }
+
+    // Whether it goes from a word of the image to the next one; it has done so then. This is nearly all that a pause does.
+    fn goes_on_in_image(&mut self, got: u64) -> bool
+        requires busy { is_gone (seen_control self.old).spot ≡ false }
+        requires fit { IsFit (config_in self.old) (seen_control self.old) got }
+        ensures config { config_in self.new ≡ config_in self.old }
+        ensures same { result ≡ false → seen_control self.new ≡ seen_control self.old }
+        ensures row { result ≡ true → seen_control self.new ≡ control_next collect_image (config_in self.old) (seen_control self.old) got }
+        ensures says { result ≡ true → control_says (config_in self.old) (seen_control self.old) got ≡ Took.More }
+        ensures calm { result ≡ true → WaitsAt (config_in self.old) (seen_control self.old) got → ⊥ }
+    {
+        let last_word = image_words(self.image.config()) - 1;
+        match self.spot {
+            ControlSpot::LoadWord { index } if index < last_word => {
+                put_word(&mut self.image, index, got);
+                self.spot = ControlSpot::LoadWord { index: index + 1 };
+                true
+            }
+            ControlSpot::StoreWord { index } if index < last_word => {
+                self.spot = ControlSpot::StoreWord { index: index + 1 };
+                true
+            }
+            _ => false,
+        }
     }
 
     /// Goes on with the word that its access has found. A pause goes on to the next phase of the cycle, or makes room.
@@ -103,6 +136,9 @@ impl Control {
         ensures says { result ≡ control_says (config_in self.old) (seen_control self.old) got }
         ensures again { (result ≡ Took.Again) ↔ WaitsAt (config_in self.old) (seen_control self.old) got }
     {
+        if self.goes_on_in_image(got) {
+            return Took::More;
+        }
         let before = self.spot;
         let last = self.last;
         self.last = take_found(&mut self.image, before, last, got);

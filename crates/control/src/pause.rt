@@ -28,7 +28,7 @@ pub(crate) fn clear(image: &mut Image)
 }
 
 // Puts a word of the image.
-fn put_word(image: &mut Image, index: usize, word: u64)
+pub(crate) fn put_word(image: &mut Image, index: usize, word: u64)
     requires index { index < image_words (config_of image.old) }
     requires clear { IsClear image.old }
     ensures config { config_of image.new ≡ config_of image.old }

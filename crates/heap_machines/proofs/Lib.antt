@@ -7,3 +7,4 @@ pub mod Openings
 pub mod RestedGraph
 pub mod Pauses
 pub mod Fit
+mod Awaiting

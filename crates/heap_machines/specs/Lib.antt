@@ -5,3 +5,4 @@ pub mod Roles
 pub mod Scripts
 pub mod Pause
 pub mod Settles
+pub mod Awaits

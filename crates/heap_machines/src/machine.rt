@@ -42,6 +42,7 @@ impl Machine {
     ghost use Rattle.heap_machines.specs.Roles.{is_mutating, CanShow};
     ghost use Rattle.heap_machines.specs.Settles.{command_in, reply_settled, refused_by};
     ghost use Rattle.heap_machines.specs.Turn.{order_for};
+    ghost use Rattle.heap_machines.specs.Awaits.{Awaits};
 
     /// The machine of a number, as a heap begins with it. The error is that memory for the control's image was refused.
     pub fn open(alloc: Global, config: Config, number: usize) -> Result<Machine, NoMemory>
@@ -81,6 +82,15 @@ impl Machine {
             Machine::Helper(helper) => !helper.is_idle() && helper.place().is(place),
             Machine::Control(control) => !control.is_idle() && control.place().is(place),
         }
+    }
+
+    /// Whether it waits outside the heap until no pause is wanted. As long as one is, its steps change nothing.
+    pub fn awaits(&self) -> bool
+        requires { order_of self.now ≡ Order.Nothing }
+        ensures waits { result ≡ true → Awaits (heap_of self.now) (shown self.now) }
+        ensures there { result ≡ is_machine_at Place.E4 (shown self.now) (order_for None (shown self.now)) }
+    {
+        self.is_at_place(None, Place::E4)
     }
 
     /// The order that it was given.

@@ -13,3 +13,4 @@ pub mod Rounds
 pub mod Fresh
 mod Graphs
 mod FromImage
+mod Halted

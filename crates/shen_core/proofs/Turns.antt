@@ -77,7 +77,7 @@ pub machine_within : (machines : List Machine) (number : ℕ) → number < lengt
 machine_within machines number below = slice_get-get_or machines number no_machine below
 
 -- so a machine of memory is a mutator by its number
-role_within : (p : Plain) (number : ℕ) → number < length (machines_of p) → is_mutating (machine_at p number) ≡ nat_lt number (config_of p).mutators
+pub role_within : (p : Plain) (number : ℕ) → number < length (machines_of p) → is_mutating (machine_at p number) ≡ nat_lt number (config_of p).mutators
 role_within p number within = role_shown p.config p.words.items (machines_of p) number (machine_at p number) p.reached (machine_within (machines_of p) number within)
 
 -- what follows in its script, and so what it does

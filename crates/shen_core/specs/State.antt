@@ -1,8 +1,10 @@
 -- What callers know of a `Plain`.
-use Rattle.std.specs.Prelude.{ℕ, ◌≡◌, Bool, List, map, slice_index, slice_index_or}
+use Rattle.std.specs.Prelude.{ℕ, ◌≡◌, ◌≢◌, Bool, List, map, slice_index, slice_index_or}
 use Rattle.heap_words.specs.declared.config.Config.{Config}
 use Rattle.heap_words.specs.Access.{table_index}
 use Rattle.heap_words.specs.Ranges.{seat_count}
+use Rattle.heap_words.specs.Words.{Pause, word_at}
+use Rattle.heap_machines.specs.Awaits.{Awaits}
 use Rattle.steps_base.specs.Steps.{Stage}
 use Rattle.shen_graph.specs.declared.order.Order.{Order}
 use Rattle.shen_graph.specs.declared.order.Order.TheVariants.{Nothing}
@@ -71,3 +73,8 @@ pub record IsUnchanged (old new : Plain) : Type 0 where
 -- the machine after its step
 abbrev pub next_machine : Plain → ℕ → actors.Machine
 next_machine p number = runs.machine_next (config_of p) (words_of p) (order_at p number) (machine_at p number)
+
+-- The machine waits outside the heap for the end of a pause, and one is wanted or goes on.
+pub record IsHalted (p : Plain) (number : ℕ) : Type 0 where
+  pub awaits : Awaits (config_of p) (machine_at p number)
+  pub wanted : slice_index (words_of p) (word_at (config_of p) Pause) ≢ 0

@@ -41,7 +41,7 @@ impl Plain {
     ghost use Rattle.step_core.specs.Begins.{Begins, Run, ending, graph_after};
     ghost use Rattle.shen_core.specs.FromImage.{CanBeginFrom, stage_from};
     ghost use Rattle.heap_graph.specs.Shows as texts;
-    ghost use Rattle.shen_core.specs.State.{config_of, words_of, machines_of, orders_of, notes_of, order_at, seats_of, Shows, machine_at, has_turn, word_found_by, next_machine, IsStep, IsUnchanged};
+    ghost use Rattle.shen_core.specs.State.{config_of, words_of, machines_of, orders_of, notes_of, order_at, seats_of, Shows, machine_at, has_turn, word_found_by, next_machine, IsStep, IsUnchanged, IsHalted};
     ghost use Rattle.heap_machines.specs.Answer.{says};
     ghost use Rattle.heap_machines.specs.Roles.{is_mutating};
     ghost use Rattle.heap_machines.specs.Turn.{order_for};
@@ -286,6 +286,16 @@ impl Plain {
             self.note_next(number);
         }
         has
+    }
+
+    // Whether the machine waits outside the heap for the end of a pause that goes on, which the pause word says unless it is 0.
+    // While it does, its steps change nothing.
+    pub(crate) fn is_halted(&self, number: usize) -> bool
+        requires number { number < seats_of self.now }
+        requires orders { All (λ order. order ≡ Nothing) (orders_of self.now) }
+        ensures { result ≡ true → IsHalted self.now number }
+    {
+        self.words[self.config.pause_at()] != 0 && self.machines[number].awaits()
     }
 
     /// Whether the machine would make a step on its turn.

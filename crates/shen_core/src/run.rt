@@ -34,6 +34,9 @@ impl Plain {
         ensures idle_work { result ≡ Stepped.Idle → work.new ≡ work.old }
         ensures notes { NotesTurn self.old work.old number self.new }
     {
+        if self.is_halted(number) {
+            return Stepped::Again;
+        }
         if !self.order_noted(work, number) {
             return Stepped::Idle;
         }

@@ -2,12 +2,14 @@ use Rattle.std.proofs.lemmas.Bool.{false≢true}
 use Rattle.heap_words.specs.Ranges.{seat_count}
 use Rattle.std.proofs.Common.{sym, ◌∙◌, subst, arith, refl, ◌<◌}
 use Rattle.std.proofs.lemmas.List.{length-map}
-use Rattle.heap_machines.specs.Shown.{shown}
+use Rattle.heap_machines.specs.Shown.{shown, order_of}
+use Rattle.shen_graph.specs.declared.order.Order.TheVariants.{Nothing}
 use Rattle.shen_core.specs.State.{order_at, machines_of}
 use Rattle.shen_core.specs.Progress.{CanRun, IsTurn, IsNextTurn, HasTurned}
 use Rattle.shen_core.proofs.Turns.{machine_within, role_shown}
 use Rattle.shen_core.proofs.Noted.{IsStepped, can_run_on, can_run_noted, turned_on, turned_noted, none_given, reply_given, has_reply, can_tell}
 use Rattle.shen_core.proofs.Noting.{turn_kept}
+use Rattle.shen_core.proofs.Halted.{halted_turned, halted_notes}
 use Rattle.shen_core.proofs.plain.Plain.turn.Goals as goal
 
 pub reply-requires-clause-ended : goal.reply-requires-clause-ended
@@ -217,3 +219,15 @@ returns-in-Done-clause-notes c = turn_kept c.args.self.now c.order_noted.new.sel
 
 pub returns-in_default-clause-notes : goal.returns-in_default-clause-notes
 returns-in_default-clause-notes c = turn_kept c.args.self.now c.order_noted.new.self c.step-stepped.new.self c.args.work.now c.args.number c.order_noted.ensures.notes c.step-stepped.ensures.notes
+
+pub returns-then-is_halted-clause-turned : goal.returns-then-is_halted-clause-turned
+returns-then-is_halted-clause-turned c =
+    let p = c.args.self.now in
+    halted_turned p c.args.work.now c.args.number (omega (arith, length-map p.machines.items shown, p.all_machines, c.requires.number))
+    (c.requires.run.orders c.args.number Nothing (omega (arith, length-map p.machines.items order_of, p.all_machines, c.requires.number))) (c.is_halted.ensures c.if-is_halted.true)
+
+pub returns-then-is_halted-clause-notes : goal.returns-then-is_halted-clause-notes
+returns-then-is_halted-clause-notes c =
+    let p = c.args.self.now in
+    halted_notes p c.args.work.now c.args.number (omega (arith, length-map p.machines.items shown, p.all_machines, c.requires.number))
+    (c.requires.run.orders c.args.number Nothing (omega (arith, length-map p.machines.items order_of, p.all_machines, c.requires.number))) (c.is_halted.ensures c.if-is_halted.true)

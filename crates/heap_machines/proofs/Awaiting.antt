@@ -1,0 +1,208 @@
+-- Who stands at E4 awaits the end of a pause.
+use Rattle.std.proofs.Common.{◌≡◌, ◌≢◌, ℕ, ◌∙◌, Bool, true, false, Some, None, refl, sym, ap, arith}
+use Rattle.std.specs.Prelude.{◌==◌, if◌then◌else◌}
+use Rattle.std.proofs.lemmas.Bool.{false≢true}
+use Rattle.std.proofs.lemmas.Bool.Decides.{nat_tests}
+use Rattle.heap_words.specs.declared.config.Config.{Config}
+use Rattle.heap_words.specs.declared.place.Place.{Place}
+use Rattle.heap_words.specs.declared.place.Place.TheVariants.{E4}
+use Rattle.heap_words.specs.Place.{same_place}
+use Rattle.heap_words.specs.declared.access.Unit.TheVariants.{Worked, NoneLeft}
+use Rattle.shen_graph.specs.declared.order.Order.{Order}
+use Rattle.shen_graph.specs.declared.order.Order.TheVariants.{Nothing, Begin, End}
+use Rattle.handshake.specs.declared.enter_spot.EnterSpot.TheVariants as enter
+use Rattle.handshake.specs.declared.stop_spot.StopSpot.{StopSpot}
+use Rattle.handshake.specs.declared.stop_spot.StopSpot.TheVariants as stop
+use Rattle.handshake.specs.Rows.{stop_place}
+use Rattle.alloc_buffers.specs.declared.spot.TakeSpot.{TakeSpot}
+use Rattle.alloc_buffers.specs.declared.spot.TakeSpot.TheVariants as take
+use Rattle.alloc_buffers.specs.Rows as takes
+use Rattle.evac_room.specs.declared.spot.RoomSpot.{RoomSpot}
+use Rattle.evac_room.specs.declared.spot.RoomSpot.TheVariants as room
+use Rattle.evac_room.specs.Rows as rooms
+use Rattle.load_barrier.specs.declared.copying.CopySpot.{CopySpot}
+use Rattle.load_barrier.specs.declared.copying.CopySpot.TheVariants as copy
+use Rattle.load_barrier.specs.declared.spot.ResolveSpot.{ResolveSpot}
+use Rattle.load_barrier.specs.declared.spot.ResolveSpot.TheVariants as resolve
+use Rattle.load_barrier.specs.declared.evac_spot.EvacSpot.{EvacSpot}
+use Rattle.load_barrier.specs.declared.evac_spot.EvacSpot.TheVariants as evac
+use Rattle.load_barrier.specs.Rows as resolves
+use Rattle.load_barrier.specs.UnitRows as evacs
+use Rattle.satb_barrier.specs.declared.spot.RememberSpot.{RememberSpot}
+use Rattle.satb_barrier.specs.declared.spot.RememberSpot.TheVariants as remember
+use Rattle.satb_barrier.specs.Rows as satb
+use Rattle.scan_part.specs.declared.spot.ScanSpot.{ScanSpot}
+use Rattle.scan_part.specs.declared.spot.ScanSpot.TheVariants as scan
+use Rattle.scan_part.specs.Rows as scans
+use Rattle.update_part.specs.declared.spot.UpdateSpot.{UpdateSpot}
+use Rattle.update_part.specs.declared.spot.UpdateSpot.TheVariants as update
+use Rattle.update_part.specs.Rows as updates
+use Rattle.unit_part.specs.declared.spot.UnitSpot.{UnitSpot}
+use Rattle.unit_part.specs.declared.spot.UnitSpot.TheVariants as unit
+use Rattle.unit_part.specs.Rows as units
+use Rattle.mutator.specs.declared.loads.LoadSpot.{LoadSpot}
+use Rattle.mutator.specs.declared.loads.LoadSpot.TheVariants as load
+use Rattle.mutator.specs.declared.fields.FieldSpot.{FieldSpot}
+use Rattle.mutator.specs.declared.fields.FieldSpot.TheVariants as fields
+use Rattle.mutator.specs.declared.numbers.NumberSpot.{NumberSpot}
+use Rattle.mutator.specs.declared.numbers.NumberSpot.TheVariants as number
+use Rattle.mutator.specs.declared.shows.ShowSpot.{ShowSpot}
+use Rattle.mutator.specs.declared.shows.ShowSpot.TheVariants as show
+use Rattle.mutator.specs.declared.makes.MakeSpot.{MakeSpot}
+use Rattle.mutator.specs.declared.makes.MakeSpot.TheVariants as make
+use Rattle.mutator.specs.declared.waits.WaitSpot.{WaitSpot}
+use Rattle.mutator.specs.declared.waits.WaitSpot.TheVariants as wait
+use Rattle.mutator.specs.declared.spot.Entered.{Entered}
+use Rattle.mutator.specs.declared.spot.Entered.TheVariants.{Call, Waited}
+use Rattle.mutator.specs.declared.spot.Kept.{Kept}
+use Rattle.mutator.specs.declared.spot.Spot.{Spot}
+use Rattle.mutator.specs.declared.spot.Spot.TheVariants as spot
+use Rattle.mutator.specs.Rows.{load_place, field_place, number_place, show_place, make_place}
+use Rattle.mutator.specs.WaitRows.{wait_place}
+use Rattle.helper.specs.declared.spot.HelpSpot.{HelpSpot}
+use Rattle.helper.specs.declared.spot.HelpSpot.TheVariants as help
+use Rattle.control_rows.specs.declared.spot.ControlSpot.{ControlSpot}
+use Rattle.control_rows.specs.declared.spot.ControlSpot.TheVariants as control
+use Rattle.control_rows.specs.Rows.{control_place, is_gone}
+use Rattle.step_core.specs.Actor.{Machine, mutating, helping, controlling}
+use Rattle.step_core.specs.Machines.{order_for, is_machine_at}
+use Rattle.heap_machines.specs.Awaits.{Awaits}
+
+-- Each part stands elsewhere.
+take_away : (at : TakeSpot) → same_place (takes.place_at at) E4 ≡ false
+take_away take.LoadCurrent = refl
+take_away _ = refl
+
+room_away : (at : RoomSpot) → same_place (rooms.place_at at) E4 ≡ false
+room_away room.Outside = refl
+room_away _ = refl
+
+copy_away : (at : CopySpot) → same_place (resolves.copy_place at) E4 ≡ false
+copy_away copy.Publish = refl
+copy_away _ = refl
+
+resolve_away : (at : ResolveSpot) → same_place (resolves.place_at at) E4 ≡ false
+resolve_away (resolve.Entering at) = room_away at
+resolve_away (resolve.Taking words at) = take_away at
+resolve_away (resolve.Copying copy at) = copy_away at
+resolve_away (resolve.Stopping at) = room_away at
+resolve_away _ = refl
+
+evac_away : (at : EvacSpot) → same_place (evacs.place_at at) E4 ≡ false
+evac_away (evac.Resolving address end next at) = resolve_away at
+evac_away _ = refl
+
+scan_away : (at : ScanSpot) → same_place (scans.place_at at) E4 ≡ false
+scan_away (scan.Ended NoneLeft) = refl
+scan_away (scan.Ended Worked) = refl
+scan_away _ = refl
+
+update_away : (at : UpdateSpot) → same_place (updates.place_at at) E4 ≡ false
+update_away (update.Ended NoneLeft) = refl
+update_away (update.Ended Worked) = refl
+update_away _ = refl
+
+unit_away : (at : UnitSpot) → same_place (units.place_at at) E4 ≡ false
+unit_away (unit.Scanning at) = scan_away at
+unit_away (unit.Evacuating cset at) = evac_away at
+unit_away (unit.Updating cset at) = update_away at
+unit_away _ = refl
+
+satb_away : (at : RememberSpot) → same_place (satb.place_at at) E4 ≡ false
+satb_away remember.LoadCount = refl
+satb_away _ = refl
+
+load_away : (at : LoadSpot) → same_place (load_place at) E4 ≡ false
+load_away load.First = refl
+load_away _ = refl
+
+field_away : (at : FieldSpot) → same_place (field_place at) E4 ≡ false
+field_away fields.Load = refl
+field_away _ = refl
+
+number_away : (at : NumberSpot) → same_place (number_place at) E4 ≡ false
+number_away number.Load = refl
+number_away _ = refl
+
+show_away : (at : ShowSpot) → same_place (show_place at) E4 ≡ false
+show_away show.LoadName = refl
+show_away _ = refl
+
+make_away : (at : MakeSpot) → same_place (make_place at) E4 ≡ false
+make_away (make.Taking at) = take_away at
+make_away _ = refl
+
+wait_away : (at : WaitSpot) → same_place (wait_place at) E4 ≡ false
+wait_away wait.Poll = refl
+wait_away _ = refl
+
+stop_away : (at : StopSpot) → same_place (stop_place at) E4 ≡ false
+stop_away stop.Raise = refl
+stop_away _ = refl
+
+control_away : (at : ControlSpot) → same_place (control_place at) E4 ≡ false
+control_away (control.Working at) = unit_away at
+control_away (control.Stopping at) = stop_away at
+control_away _ = refl
+
+-- a word that is not 0
+some_word : (got : ℕ) → got ≢ 0 → (got == 0) ≡ false
+some_word got some = grind (arith, nat_tests, some)
+
+module _ (c : Config) where
+  -- a mutator
+  mutator_awaits : (seat made : ℕ) (kept : Kept) (at : Spot) → is_machine_at E4 (mutating (record { seat = seat; made = made; kept = kept; spot = at })) (order_for None (mutating (record { seat = seat; made = made; kept = kept; spot = at }))) ≡ true
+      → Awaits c (mutating (record { seat = seat; made = made; kept = kept; spot = at }))
+  mutator_awaits seat made kept (spot.Entering enter.Await Call) there = record {
+    goes_on = λ next. refl;
+    takes = refl;
+    looks = refl;
+    stays = λ got some. rw (some_word got some) refl;
+    waits = λ got some. rw (some_word got some) refl;
+    settles = λ memory. refl;
+    refuses = λ words. refl;
+  }
+  mutator_awaits seat made kept (spot.Entering enter.Await Waited) there = record {
+    goes_on = λ next. refl;
+    takes = refl;
+    looks = refl;
+    stays = λ got some. rw (some_word got some) refl;
+    waits = λ got some. rw (some_word got some) refl;
+    settles = λ memory. refl;
+    refuses = λ words. refl;
+  }
+  mutator_awaits seat made kept (spot.Entering _ next) there = absurd (false≢true there)
+  mutator_awaits seat made kept (spot.Loading at) there = absurd (false≢true (sym (load_away at) ∙ there))
+  mutator_awaits seat made kept (spot.OnField object at) there = absurd (false≢true (sym (field_away at) ∙ there))
+  mutator_awaits seat made kept (spot.Resolving address at next) there = absurd (false≢true (sym (resolve_away at) ∙ there))
+  mutator_awaits seat made kept (spot.Recording at address next) there = absurd (false≢true (sym (satb_away at) ∙ there))
+  mutator_awaits seat made kept (spot.OnNumber object refs at) there = absurd (false≢true (sym (number_away at) ∙ there))
+  mutator_awaits seat made kept (spot.Showing value at) there = absurd (false≢true (sym (show_away at) ∙ there))
+  mutator_awaits seat made kept (spot.Making at) there = absurd (false≢true (sym (make_away at) ∙ there))
+  mutator_awaits seat made kept (spot.Waiting at) there = absurd (false≢true (sym (wait_away at) ∙ there))
+  mutator_awaits seat made kept _ there = absurd (false≢true there)
+
+  -- a helper
+  helper_awaits : (seat : ℕ) (at : HelpSpot) → is_machine_at E4 (helping (record { seat = seat; spot = at })) (order_for None (helping (record { seat = seat; spot = at }))) ≡ true → Awaits c (helping (record { seat = seat; spot = at }))
+  helper_awaits seat (help.Entering enter.Await) there = record {
+    goes_on = λ next. refl;
+    takes = refl;
+    looks = refl;
+    stays = λ got some. rw (some_word got some) refl;
+    waits = λ got some. rw (some_word got some) refl;
+    settles = λ memory. refl;
+    refuses = λ words. refl;
+  }
+  helper_awaits seat (help.Entering _) there = absurd (false≢true there)
+  helper_awaits seat (help.Working at) there = absurd (false≢true (sym (unit_away at) ∙ there))
+  helper_awaits seat _ there = absurd (false≢true there)
+
+  -- the control never does
+  pub awaits_there : (machine : Machine) → is_machine_at E4 machine (order_for None machine) ≡ true → Awaits c machine
+  awaits_there (mutating m) there = mutator_awaits m.seat m.made m.kept m.spot there
+  awaits_there (helping h) there = helper_awaits h.seat h.spot there
+  awaits_there (controlling k) there = absurd (by_gone (is_gone k.spot) there)
+    where
+      by_gone : (gone : Bool) → is_machine_at E4 (controlling k) (if gone then None else Some Nothing) ≡ true → ⊥
+      by_gone true there = false≢true there
+      by_gone false there = false≢true (sym (control_away k.spot) ∙ there)

@@ -1,0 +1,98 @@
+-- The turn of a machine that waits for the end of a pause changes nothing.
+use Rattle.std.proofs.Common.{◌≡◌, ◌<◌, ℕ, true, List, [], length, map, All, None, Some, refl, sym, ap, ◌∙◌, subst, arith}
+use Rattle.std.specs.Prelude.{slice_get, slice_set, slice_index, nat_lt}
+use Rattle.std.proofs.lemmas.List.{set-get_or}
+use Rattle.heap_words.specs.Access.{table_index}
+use Rattle.heap_words.specs.Words.{Pause, word_at, view}
+use Rattle.steps_base.specs.Steps.{Stage, accessed}
+use Rattle.steps_base.specs.Touch.{touch, loads, placed}
+use Rattle.shen_graph.specs.declared.order.Order.{Order}
+use Rattle.shen_graph.specs.declared.order.Order.TheVariants.{Nothing}
+use Rattle.heap_machines.specs.Answer.{stepped_by}
+use Rattle.heap_machines.specs.Pause.{pause_image}
+use Rattle.heap_machines.specs.Roles.{is_mutating}
+use Rattle.heap_machines.specs.Shown.{no_machine}
+use Rattle.heap_machines.specs.declared.stepped.Stepped.TheVariants as stepped
+use Rattle.step_core.specs.Actor.{Machine, Actor}
+use Rattle.step_core.specs.Machines.{takes_of, plan_of, machine_after, answer_of}
+use Rattle.step_core.specs.Schedule.{Scripts, turn}
+use Rattle.shen_core.specs.declared.plain.Plain.{Plain}
+use Rattle.shen_core.specs.Runs.{IsOneEvent, event, machine_next}
+use Rattle.shen_core.specs.State.{config_of, words_of, machines_of, orders_of, machine_at, order_at, next_machine, Shows, IsHalted}
+use Rattle.shen_core.specs.Progress.{Jobs, CanRun, HasTurned, IsTurn, IsNextTurn, Tells, next_for}
+use Rattle.shen_core.specs.Noting.{NotesTurn, IsEnding, noted, told_by}
+use Rattle.shen_core.proofs.Events.{one_event}
+use Rattle.shen_core.proofs.Noting.{noted_none}
+use Rattle.shen_core.proofs.Noted.{IsStepped, can_run_on, turned_on, none_given}
+use Rattle.shen_core.proofs.Settles.{sees_nothing}
+use Rattle.shen_core.proofs.Turns.{machine_within, role_within, is_turn}
+
+module _ (p : Plain) (jobs : Jobs) (number : ℕ) (within : number < length (machines_of p)) (none : order_at p number ≡ Nothing) (held : IsHalted p number) where
+  abbrev machine : Machine
+  machine = machine_at p number
+
+  -- its access finds the pause word
+  finds : slice_index (words_of p) (table_index (plan_of (config_of p) (order_at p number) machine)) ≡ slice_index (words_of p) (word_at (config_of p) Pause)
+  finds = ap (λ o. slice_index (words_of p) (table_index (plan_of (config_of p) o machine))) none
+      ∙ ap (λ a. slice_index (words_of p) (table_index a)) held.awaits.looks
+
+  -- it takes no order
+  takes : takes_of machine (order_at p number) ≡ true
+  takes = ap (takes_of machine) none ∙ held.awaits.takes
+
+  -- it stays
+  stays : next_machine p number ≡ machine
+  stays = ap (λ got. machine_after pause_image (config_of p) (order_at p number) got machine) finds
+      ∙ ap (λ o. machine_after pause_image (config_of p) o (slice_index (words_of p) (word_at (config_of p) Pause)) machine) none
+      ∙ held.awaits.stays (slice_index (words_of p) (word_at (config_of p) Pause)) held.wanted
+
+  -- so do the words
+  same_words : accessed (plan_of (config_of p) (order_at p number) machine) (words_of p) ≡ words_of p
+  same_words = ap (λ o. accessed (plan_of (config_of p) o machine) (words_of p)) none
+      ∙ ap (λ a. accessed a (words_of p)) held.awaits.looks
+      ∙ set-get_or (words_of p) (word_at (config_of p) Pause) 0
+
+  -- and the machines
+  same_machines : slice_set (machines_of p) number (next_machine p number) ≡ machines_of p
+  same_machines = ap (slice_set (machines_of p) number) stays ∙ set-get_or (machines_of p) number no_machine
+
+  -- its order stays none
+  same_orders : slice_set (orders_of p) number (order_at p number) ≡ orders_of p
+  same_orders = set-get_or (orders_of p) number Nothing
+
+  -- its turn is one event, which leads to the same
+  stepped_halted : IsStepped p p p jobs number stepped.Again
+  stepped_halted =
+      let role = role_within p number within in
+      let next : IsNextTurn p jobs number true (order_at p number) = held.awaits.goes_on (next_for (config_of p) jobs number) ∙ ap Some (sym none) in
+      let one = one_event (config_of p) (words_of p) (machines_of p) number machine (order_at p number) (machine_within (machines_of p) number within) takes in
+      record {
+        within = within;
+        mid_words = refl;
+        mid_machines = refl;
+        mid_config = refl;
+        mid_orders = sym same_orders;
+        role = role;
+        turn = is_turn p jobs number true (order_at p number) within role next;
+        next = next;
+        has = takes;
+        event = subst (λ ws. IsOneEvent (config_of p) (words_of p) (machines_of p) ws (machines_of p) number (order_at p number)) same_words
+            (subst (λ ms. IsOneEvent (config_of p) (words_of p) (machines_of p) (accessed (plan_of (config_of p) (order_at p number) machine) (words_of p)) ms number (order_at p number)) same_machines one);
+        says = sym (ap (λ got. stepped_by (answer_of (config_of p) machine got)) finds ∙ ap stepped_by (held.awaits.waits (slice_index (words_of p) (word_at (config_of p) Pause)) held.wanted));
+        machines = sym same_machines;
+        orders = sym (ap (slice_set (orders_of p) number) (sym none) ∙ same_orders);
+        config = refl;
+      }
+
+  -- the heap has made its turn
+  pub halted_turned : HasTurned p jobs number p jobs stepped.Again
+  halted_turned = turned_on p p p jobs number stepped.Again stepped_halted (none_given p p p jobs number stepped.Again stepped_halted (λ done. absurd cc))
+
+  -- nothing was settled
+  pub halted_notes : NotesTurn p jobs number p
+  halted_notes scripts s shows tells ends =
+      sym (ap (λ t. noted p.notes (told_by (config_of p) s t)) (stepped_halted.turn scripts s shows tells)
+      ∙ ap (noted p.notes)
+      (sees_nothing (config_of p) (words_of p) (machines_of p) number (order_at p number) machine (machine_within (machines_of p) number within) takes
+      (held.awaits.settles (view (config_of p) (words_of p))) (held.awaits.refuses (words_of p)) s shows ends)
+      ∙ noted_none p.notes)
