@@ -10,3 +10,4 @@ pub mod CopiesHold
 pub mod SetFreed
 pub mod Emptied
 pub mod FinishingHolds
+pub mod CanFinish

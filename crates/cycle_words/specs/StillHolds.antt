@@ -9,23 +9,54 @@ use Rattle.heap_world.specs.World.{Block, Plot, IsCollected}
 use Rattle.full_words.specs.Held.{IsAmong}
 use Rattle.full_words.specs.Full.{root_words}
 use Rattle.full_words.specs.Promised.{Promises}
-use Rattle.image_graph.specs.Holds.{HoldsBy, AreSized, Holds}
+use Rattle.image_graph.specs.Holds.{HoldsBy, AreSized}
 use Rattle.cycle_words.specs.Marking.Marks.{is_black, IsKept}
+use Rattle.cycle_words.specs.Marking.Final.{freed_block, freed_owner}
 use Rattle.cycle_words.specs.Marking.WhileMarking.{CanBeReached}
 use Rattle.cycle_words.specs.Evacuation.Begun.{is_collected}
+use Rattle.cycle_words.specs.Updating.Changes.{is_chosen}
 
--- The words hold the graph afterwards, by a division into pieces, with the same owners and promises; and where each piece said how many
--- words it has, each does.
+-- Each piece of one division is one of another, at the same address.
+abbrev pub PiecesStay : (block pieces : Plot) → Type 0
+PiecesStay block pieces = (a : ℕ) (b : Block) → block a ≡ Some b → pieces a ≡ Some b
+
+-- The words hold the graph afterwards, by a division that has all pieces of before, with the same owners and promises; and where each piece
+-- said how many words it has, each does.
 pub record HoldsStill (c : Config) (before after : Word → ℕ) (block : Plot) (owner : ℕ → Option ℕ) (p : Promises) (g : Graph) : Type 0 where
   pub pieces : Plot
+  pub stay : PiecesStay block pieces
   pub holds : HoldsBy c after pieces owner p g
   pub sized : AreSized before block → AreSized after pieces
 
+-- What is marked in the collection set are pieces.
+abbrev pub AreMarkedPieces : Config → (Word → ℕ) → Plot → Type 0
+AreMarkedPieces c memory block = (a : ℕ) → is_collected c memory a ≡ true → is_black c memory a ≡ true → (b : Block) × (block a ≡ Some b)
+
+-- Nothing that can be reached lies in the collection set.
+abbrev pub NothingInside : Config → (Word → ℕ) → Type 0
+NothingInside c memory = (a : ℕ) → CanBeReached c memory a → IsCollected c (memory Cset) a → ⊥
+
+-- While a region is in the collection set: what is marked there are pieces; each object that can be reached is kept; nothing was allocated
+-- in the set since marking began, and it is nobody's; and once objects are not evacuated any more nothing that can be reached lies there.
+pub record WhileCollecting (c : Config) (memory : Word → ℕ) (block : Plot) : Type 0 where
+  pub marked : AreMarkedPieces c memory block
+  pub reachable : memory Cset ≢ 0 → (a : ℕ) → CanBeReached c memory a → IsKept c memory a
+  pub no_new : (r : ℕ) → IsIn (memory Cset) r → memory (Top r) ≡ memory (Tams r)
+  pub floors : memory Cset ≢ 0 → (r : ℕ) → r < c.regions → memory (Tams r) ≤ memory (Top r)
+  pub unseated : (seat r : ℕ) → memory (Current seat) ≡ r + 1 → IsIn (memory Cset) r → ⊥
+  pub outside : memory Phase ≢ 2 → NothingInside c memory
+
+-- So words hold the graph, with the same collection set, and finishing the cycle keeps it, if it did.
+pub record HoldsCopied (c : Config) (before after : Word → ℕ) (block : Plot) (owner : ℕ → Option ℕ) (p : Promises) (g : Graph) : Type 0 where
+  pub still : HoldsStill c before after block owner p g
+  pub set : after Cset ≡ before Cset
+  pub collecting : WhileCollecting c before block → WhileCollecting c after still.pieces
+
 -- Whatever graph the words held, in whatever way, they hold it once the object at an address was copied out, if it is one that has not
--- moved, ..
+-- moved, and finishing the cycle keeps it then, ..
 abbrev pub CopyingHolds : Config → (before after : Word → ℕ) → ℕ → Type 0
 CopyingHolds c before after a = (block : Plot) (owner : ℕ → Option ℕ) (p : Promises) (g : Graph) → HoldsBy c before block owner p g → AreSized before block
-    → (b : Block) → block a ≡ Some b → is_forwarded (before (Heap a)) ≡ false → HoldsStill c before after block owner p g
+    → (b : Block) → block a ≡ Some b → is_forwarded (before (Heap a)) ≡ false → HoldsCopied c before after block owner p g
 
 -- .. once evacuation has begun, from words without a collection set, ..
 abbrev pub BeginningHolds : Config → (before after : Word → ℕ) → Type 0
@@ -41,9 +72,16 @@ abbrev pub UpdatingHolds : Config → (before after : Word → ℕ) → Type 0
 UpdatingHolds c before after = (block : Plot) (owner : ℕ → Option ℕ) (p : Promises) (g : Graph) → HoldsBy c before block owner p g → AreSized before block
     → HoldsUpdated c after block owner p g
 
--- .. where the updating of references begins, in the same way, ..
+-- .. where the updating of references begins, in the same way, and finishing the cycle keeps it then, if nothing that can be reached lies
+-- in the set, ..
+pub record HoldsLimited (c : Config) (before after : Word → ℕ) (block : Plot) (owner : ℕ → Option ℕ) (p : Promises) (g : Graph) : Type 0 where
+  pub holds : HoldsBy c after block owner p g
+  pub sized : AreSized before block → AreSized after block
+  pub collecting : WhileCollecting c before block → NothingInside c before → WhileCollecting c after block
+
 abbrev pub LimitsHold : Config → (before after : Word → ℕ) → Type 0
-LimitsHold c before after = (block : Plot) (owner : ℕ → Option ℕ) (p : Promises) (g : Graph) → HoldsBy c before block owner p g → HoldsBy c after block owner p g
+LimitsHold c before after = (block : Plot) (owner : ℕ → Option ℕ) (p : Promises) (g : Graph) → HoldsBy c before block owner p g
+    → HoldsLimited c before after block owner p g
 
 -- Nothing names an address of the collection set: no root and no answer, and no field of what can be reached; and no seat has a region of
 -- the set as its current one.
@@ -53,25 +91,23 @@ pub record NothingNames (c : Config) (memory : Word → ℕ) : Type 0 where
       → IsCollected c (memory Cset) (memory (Heap (a + 3 + i))) → ⊥
   pub unseated : (seat r : ℕ) → memory (Current seat) ≡ r + 1 → IsIn (memory Cset) r → ⊥
 
--- .. and in some way once the set was freed, where nothing names it.
+-- .. once the set was freed, where nothing names it, by the pieces that lie outside, ..
+pub record HoldsOutside (c : Config) (before after : Word → ℕ) (block : Plot) (owner : ℕ → Option ℕ) (p : Promises) (g : Graph) : Type 0 where
+  pub holds : HoldsBy c after (freed_block c (is_chosen before) block) (freed_owner (is_chosen before) owner) p g
+  pub sized : AreSized before block → AreSized after (freed_block c (is_chosen before) block)
+
 abbrev pub EndingHolds : Config → (before after : Word → ℕ) → Type 0
-EndingHolds c before after = (block : Plot) (owner : ℕ → Option ℕ) (p : Promises) (g : Graph) → HoldsBy c before block owner p g → NothingNames c before → Holds c after g
+EndingHolds c before after = (block : Plot) (owner : ℕ → Option ℕ) (p : Promises) (g : Graph) → HoldsBy c before block owner p g → NothingNames c before
+    → HoldsOutside c before after block owner p g
 
--- What is marked in the collection set are pieces.
-abbrev pub AreMarkedPieces : Config → (Word → ℕ) → Plot → Type 0
-AreMarkedPieces c memory block = (a : ℕ) → is_collected c memory a ≡ true → is_black c memory a ≡ true → (b : Block) × (block a ≡ Some b)
+-- .. and in some way, in which each piece says how many words it has, once the cycle was finished.
+pub record HoldsAnew (c : Config) (after : Word → ℕ) (g : Graph) : Type 0 where
+  pub pieces : Plot
+  pub owner : ℕ → Option ℕ
+  pub promises : Promises
+  pub holds : HoldsBy c after pieces owner promises g
+  pub sized : AreSized after pieces
 
--- While a region is in the collection set: what is marked there are pieces; each object that can be reached is kept; nothing was allocated
--- in the set since marking began, and it is nobody's; and once objects are not evacuated any more nothing that can be reached lies there.
-pub record WhileCollecting (c : Config) (memory : Word → ℕ) (block : Plot) : Type 0 where
-  pub marked : AreMarkedPieces c memory block
-  pub reachable : memory Cset ≢ 0 → (a : ℕ) → CanBeReached c memory a → IsKept c memory a
-  pub no_new : (r : ℕ) → IsIn (memory Cset) r → memory (Top r) ≡ memory (Tams r)
-  pub floors : memory Cset ≢ 0 → (r : ℕ) → r < c.regions → memory (Tams r) ≤ memory (Top r)
-  pub unseated : (seat r : ℕ) → memory (Current seat) ≡ r + 1 → IsIn (memory Cset) r → ⊥
-  pub outside : memory Phase ≢ 2 → (a : ℕ) → CanBeReached c memory a → IsCollected c (memory Cset) a → ⊥
-
--- So the words hold the graph, in some way, once the cycle was finished.
 abbrev pub FinishingHolds : Config → (before after : Word → ℕ) → Type 0
 FinishingHolds c before after = (block : Plot) (owner : ℕ → Option ℕ) (p : Promises) (g : Graph) → HoldsBy c before block owner p g → AreSized before block
-    → WhileCollecting c before block → Holds c after g
+    → WhileCollecting c before block → HoldsAnew c after g

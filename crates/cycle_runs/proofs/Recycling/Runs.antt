@@ -10,7 +10,7 @@ use Rattle.steps_base.specs.Steps.{Stage, go}
 use Rattle.shen_graph.specs.declared.name.Name.{Name}
 use Rattle.shen_graph.specs.declared.command.Command.{Command}
 use Rattle.shen_graph.specs.declared.command.Reply.{Reply}
-use Rattle.shen_graph.specs.declared.command.Reply.TheVariants.{Ref}
+use Rattle.shen_graph.specs.declared.command.Reply.TheVariants.{Ref, Full}
 use Rattle.shen_graph.specs.Graph.{Graph}
 use Rattle.shen_graph.specs.History.{Entry, after, of_thread}
 use Rattle.heap_world.specs.World.{World, thing, moved, Body, body_at, Shared}
@@ -85,7 +85,8 @@ module _ (c : Config) (w : World) (shared : Shared c w) (r : ℕ) (inside : r < 
   -- of what was taken
   taken_apart : (seat : ℕ) (reply : Reply) → HasTaken c w seat reply → 1 < w.memory (Answer seat) → IsApart (w.memory (Answer seat))
   taken_apart seat (Ref name) taken some = target_elsewhere c w shared r inside free (w.memory (Answer seat)) taken.0 taken.1 name taken.2
-  taken_apart seat _ full some = absurd (omega (arith, full, some))
+  taken_apart seat Full full some = absurd (omega (arith, full, some))
+  taken_apart seat _ other some = absurd other
 
   -- also while the mutator is about to clear it
   pub answered_apart : (seat made : ℕ) (kept : Kept) (command : Command) (fixed : Option Reply) (spot : Spot) → Mine c w (mutator_at seat made kept spot) command fixed → 1 < w.memory (Answer seat)

@@ -23,7 +23,7 @@ use Rattle.cycle_words.proofs.Evacuation.Candidate.{candidate_is_candidate}
 use Rattle.cycle_words.proofs.Evacuation.Front.{member_is}
 use Rattle.cycle_words.specs.Evacuation.Copied.{CanCopyOut, copy_room, copied_in, copied_out, IsCopiedOut}
 use Rattle.cycle_words.specs.Evacuation.Laws.{ObjectCanBeCopied, piece_words, marked_in, LiveIsMarked, ChosenAreLive}
-use Rattle.cycle_words.specs.StillHolds.{HoldsStill, CopyingHolds}
+use Rattle.cycle_words.specs.StillHolds.{HoldsCopied, CopyingHolds}
 use Rattle.cycle_words.proofs.Evacuation.RegionAddresses.{some_words, from_base}
 use Rattle.cycle_words.proofs.Evacuation.CopiedOut.{copies_out}
 use Rattle.cycle_words.proofs.Evacuation.CopyHolds as copy
@@ -49,23 +49,29 @@ module _ (c : Config) (m : Word → ℕ) (a : ℕ) (above : c.region_words ≤ a
   size : words_at m a ≡ words_of b
   size = sized a b here
 
-  with_room : IsCopiedOut c m (copied_out c m a) a → HoldsStill c m (copied_out c m a) block owner p g
+  with_room : IsCopiedOut c m (copied_out c m a) a → HoldsCopied c m (copied_out c m a) block owner p g
   with_room out = record {
-    pieces = copy.plot c m block owner p g holds a b here inside plain size out;
-    holds = copy.copied_holds c m block owner p g holds a b here inside plain size out;
-    sized = copy.copied_sized c m block owner p g holds a b here inside plain size out;
+    still = record {
+      pieces = copy.plot c m block owner p g holds a b here inside plain size out;
+      stay = copy.stays c m block owner p g holds a b here inside plain size out;
+      holds = copy.copied_holds c m block owner p g holds a b here inside plain size out;
+      sized = copy.copied_sized c m block owner p g holds a b here inside plain size out;
+    };
+    set = copy.set_same c m block owner p g holds a b here inside plain size out;
+    collecting = copy.collecting_still c m block owner p g holds a b here inside plain size out;
   }
 
-  by_room : (o : Option ℕ) → copy_room c m a ≡ o → HoldsStill c m (copied_out c m a) block owner p g
+  by_room : (o : Option ℕ) → copy_room c m a ≡ o → HoldsCopied c m (copied_out c m a) block owner p g
   by_room None none =
       let same : m ≡ copied_out c m a = sym (ap (copied_in c m a) none) in
-      subst (λ n. HoldsStill c m n block owner p g) same (record { pieces = block; holds = holds; sized = λ k. k })
+      subst (λ n. HoldsCopied c m n block owner p g) same
+      (record { still = record { pieces = block; stay = λ q z is. is; holds = holds; sized = λ k. k }; set = refl; collecting = λ while. while })
   by_room (Some r) found = with_room (copies_out c m a above inside (λ none. absurd (differ r (sym none ∙ found))))
     where
       differ : (k : ℕ) → ◌≡◌ {A = Option ℕ} None (Some k) → ⊥
       differ k is = cc
 
-  pub still_holds : HoldsStill c m (copied_out c m a) block owner p g
+  pub still_holds : HoldsCopied c m (copied_out c m a) block owner p g
   still_holds = by_room (copy_room c m a) refl
 
 pub copying_holds : (c : Config) (m : Word → ℕ) (a : ℕ) → CanCopyOut c m a → CopyingHolds c m (copied_out c m a) a

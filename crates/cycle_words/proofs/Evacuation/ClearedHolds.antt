@@ -1,9 +1,10 @@
 -- Evacuation begins: words that held a graph hold it once roots and answers were cleared of the collection set.
-use Rattle.std.proofs.Common.{◌≡◌, ◌≢◌, ℕ, ◌+◌, ◌<◌, ◌≤◌, ◌==◌, if◌then◌else◌, nat_le, true, false, List, [], ◌∷◌, Option, Some, inr, refl, sym, ap, ◌∙◌, subst, ⊎_elim, arith}
+use Rattle.std.proofs.Common.{◌≡◌, ◌≢◌, ℕ, ◌+◌, ◌^◌, ◌<◌, ◌≤◌, ◌==◌, if◌then◌else◌, nat_le, true, false, List, [], ◌∷◌, Option, Some, inr, refl, sym, ap, ◌∙◌, subst, ⊎_elim, arith}
 use Rattle.std.specs.Prelude.{Contains}
 use Rattle.std.specs.Int.{bit_at}
 use Rattle.std.proofs.Math.Path.{fun_ext}
 use Rattle.std.proofs.lemmas.Bool.{cases_Bool, cases_eq, cases_lt, false_from_ne_true, true≢false, cond-true, cond-false, and_parts, leb-true, eqb-true, eq-eqb, ne_eqb}
+use Rattle.std.proofs.lemmas.Nat.{pow_pos}
 use Rattle.std.proofs.lemmas.Nat.Bits.{bit_at-zero}
 use Rattle.heap_words.specs.declared.config.Config.{Config}
 use Rattle.heap_words.specs.Words.{Word, Cset, Top, Tams, Root, Answer, Heap}
@@ -34,19 +35,23 @@ use Rattle.cycle_words.proofs.Evacuation.Carried.{IsRenamed}
 use Rattle.cycle_words.proofs.Evacuation.CopyHolds as copy
 use Rattle.cycle_words.proofs.Evacuation.CopyHolds.{IsInOrder}
 use Rattle.cycle_words.proofs.Evacuation.RenamedInPlace.{root_renamed, root_reached, answer_renamed, answer_reached}
-use Rattle.cycle_words.specs.StillHolds.{HoldsStill}
+use Rattle.cycle_words.specs.StillHolds.{PiecesStay, HoldsStill}
 use Rattle.cycle_words.specs.Evacuation.Laws.{HoldsCollecting}
 use Rattle.cycle_words.specs.Marking.Marks.{is_black}
 use Rattle.cycle_words.specs.Marking.WhileMarking.{IsObjectAt, CanBeReached, IsMarkedThrough}
 use Rattle.cycle_words.specs.Marking.Laws.{HasNoMoreSeats}
 use Rattle.cycle_words.proofs.Evacuation.Candidate.{candidate_is_candidate}
+use Rattle.cycle_words.specs.Evacuation.Front.{is_in_front}
 use Rattle.cycle_words.proofs.Evacuation.Front.{member_is}
+use Rattle.cycle_words.proofs.Marking.Bits.{bits_small}
 use Rattle.regions.specs.Sets.{IsIn}
 use Rattle.heap_words.specs.Ranges.{seat_count}
 
 -- the words hold the graph still, and what holds of the set does
 record StillSo (c : Config) (before after : Word → ℕ) (block : Plot) (owner : ℕ → Option ℕ) (p : Promises) (g : Graph) : Type 0 where
   pieces : Plot
+  stay : PiecesStay block pieces
+  set : after Cset ≡ before Cset
   holds : HoldsBy c after pieces owner p g
   sized : AreSized before block → AreSized after pieces
   order : IsInOrder c before block → IsInOrder c after pieces
@@ -60,7 +65,7 @@ module _ (c : Config) (m : Word → ℕ) (block : Plot) (owner : ℕ → Option 
 
   -- what held stays where nothing changes
   as_it_is : StillSo c m m block owner p g
-  as_it_is = record { pieces = block; holds = holds; sized = λ sized. sized; order = λ order. order }
+  as_it_is = record { pieces = block; stay = λ a b is. is; set = refl; holds = holds; sized = λ sized. sized; order = λ order. order }
 
   -- an object of the set to which a root or an answer leads is copied out, unless it was before
   module _ (a refs nums : ℕ) (name : Name) (here : block a ≡ Some (thing name refs nums)) (led : IsLed (now_in m a)) (collected : is_collected c m a ≡ true) (can : CanClear c m a) where
@@ -83,6 +88,8 @@ module _ (c : Config) (m : Word → ℕ) (block : Plot) (owner : ℕ → Option 
       copied : StillSo c m (copied_out c m a) block owner p g
       copied = record {
         pieces = copy.plot c m block owner p g holds a (thing name refs nums) here inside plain size out;
+        stay = copy.stays c m block owner p g holds a (thing name refs nums) here inside plain size out;
+        set = copy.set_same c m block owner p g holds a (thing name refs nums) here inside plain size out;
         holds = copy.copied_holds c m block owner p g holds a (thing name refs nums) here inside plain size out;
         sized = copy.copied_sized c m block owner p g holds a (thing name refs nums) here inside plain size out;
         order = copy.order_still c m block owner p g holds a (thing name refs nums) here inside plain size out;
@@ -128,6 +135,8 @@ module _ (c : Config) (m : Word → ℕ) (block : Plot) (owner : ℕ → Option 
       subst (λ n. StillSo c m n block owner p g) (sym (cleared_is c m (Root t i) collected))
       (record {
         pieces = out.pieces;
+        stay = out.stay;
+        set = out.set;
         holds = root_renamed c (moved_out c m (m (Root t i))) out.pieces owner p g out.holds (now_in (moved_out c m (m (Root t i))) (m (Root t i))) t i
             (renamed (m (Root t i)) at.0 at.1 named.0 at.2 led collected can (Root t i) tt refl);
         sized = λ sized b x is. out.sized sized b x is;
@@ -156,6 +165,8 @@ module _ (c : Config) (m : Word → ℕ) (block : Plot) (owner : ℕ → Option 
       subst (λ n. StillSo c m n block owner p g) (sym (cleared_is c m (Answer t) collected))
       (record {
         pieces = out.pieces;
+        stay = out.stay;
+        set = out.set;
         holds = answer_renamed c (moved_out c m (m (Answer t))) out.pieces owner p g out.holds (now_in (moved_out c m (m (Answer t))) (m (Answer t))) t
             (renamed (m (Answer t)) at.0 at.1 named.0 at.2 led collected can (Answer t) tt refl);
         sized = λ sized b x is. out.sized sized b x is;
@@ -191,11 +202,11 @@ all_cleared : (c : Config) (owner : ℕ → Option ℕ) (p : Promises) (g : Grap
     → ((place : Word) → Contains places place → IsPlace c place) → HoldsBy c m block owner p g → CanClearInTurn c m places
     → StillSo c m (cleared_in_turn c m places) block owner p g
 unfolding cleared_in_turn CanClearInTurn
-all_cleared c owner p g [] m block are holds can = record { pieces = block; holds = holds; sized = λ sized. sized; order = λ order. order }
+all_cleared c owner p g [] m block are holds can = record { pieces = block; stay = λ a b is. is; set = refl; holds = holds; sized = λ sized. sized; order = λ order. order }
 all_cleared c owner p g (place ∷ places) m block are holds can =
     let next = place_cleared c m block owner p g holds place (are place (is_first place places)) can.0 in
     let rest = all_cleared c owner p g places (cleared_at c m place) next.pieces (λ q has. are q (is_later place places q has)) next.holds can.1 in
-    record { pieces = rest.pieces; holds = rest.holds; sized = λ sized. rest.sized (next.sized sized); order = λ order. rest.order (next.order order) }
+    record { pieces = rest.pieces; stay = λ a b is. rest.stay a b (next.stay a b is); set = rest.set ∙ next.set; holds = rest.holds; sized = λ sized. rest.sized (next.sized sized); order = λ order. rest.order (next.order order) }
 
 -- A collection set may be stored where no object has moved.
 module _ (c : Config) (m : Word → ℕ) (block : Plot) (owner : ℕ → Option ℕ) (p : Promises) (g : Graph) (holds : HoldsBy c m block owner p g)
@@ -247,6 +258,7 @@ module _ (c : Config) (m : Word → ℕ) (block : Plot) (owner : ℕ → Option 
   begun_some : HoldsStill c m (evac_started cleared) block owner p g
   begun_some = record {
     pieces = all.pieces;
+    stay = all.stay;
     holds = holds_alike cleared (evac_started cleared)
         (record { heap = λ a. refl; top = λ r. refl; root = λ t i. refl; answer = λ t. refl; wait = λ t. refl; current = λ s. refl; free = refl; cset = refl })
         c all.pieces owner p g all.holds;
@@ -256,6 +268,7 @@ module _ (c : Config) (m : Word → ℕ) (block : Plot) (owner : ℕ → Option 
   begun_none : HoldsStill c m (evac_spared m) block owner p g
   begun_none = record {
     pieces = block;
+    stay = λ a b is. is;
     holds = holds_alike m (evac_spared m)
         (record { heap = λ a. refl; top = λ r. refl; root = λ t i. refl; answer = λ t. refl; wait = λ t. refl; current = λ s. refl; free = refl; cset = sym calm })
         c block owner p g holds;
@@ -315,6 +328,7 @@ module _ (c : Config) (m : Word → ℕ) (block : Plot) (owner : ℕ → Option 
             unseated = order.unseated;
             outside = λ off. absurd (off refl);
           };
+          small = subst (λ k. k < 2 ^ c.regions) (sym all.set) (bits_small (is_in_front c.regions (copy_limit c m) (live_words c m) (is_candidate c m)) 0 c.regions);
         }
 
     collecting_none : HoldsCollecting c (evac_spared m) owner p g
@@ -331,6 +345,7 @@ module _ (c : Config) (m : Word → ℕ) (block : Plot) (owner : ℕ → Option 
         unseated = λ seat r is member. (let none = bit_at-zero r in omega (arith, member, none));
         outside = λ off a reached member. (let none = bit_at-zero (region_with c a) in omega (arith, member, none));
       };
+      small = pow_pos c.regions;
     }
 
     pub begun_collecting : HoldsCollecting c (evac_begun c m set) owner p g

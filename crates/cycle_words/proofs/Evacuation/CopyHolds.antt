@@ -5,8 +5,9 @@ use Rattle.std.specs.Int.{bit_at}
 use Rattle.std.proofs.Math.Path.{fun_ext}
 use Rattle.std.proofs.lemmas.Bool.{cases_eq, cases_Bool, cond-false, true≢false}
 use Rattle.std.proofs.lemmas.Nat.{and_le_l}
+use Rattle.std.proofs.lemmas.Nat.Bits.{bit_at-zero}
 use Rattle.heap_words.specs.declared.config.Config.{Config}
-use Rattle.heap_words.specs.Words.{Word, Cset, Free, Top, Tams, Current, Root, Wait, Answer, Black, Heap}
+use Rattle.heap_words.specs.Words.{Word, Phase, Cset, Free, Top, Tams, Current, Root, Wait, Answer, Black, Heap}
 use Rattle.heap_words.specs.Encoding.{is_forwarded, forwardee_in, object_words}
 use Rattle.regions.specs.Place.{base_of, region_with}
 use Rattle.regions.specs.Sets.{IsIn, IsOutside, all_but}
@@ -31,10 +32,14 @@ use Rattle.cycle_words.specs.Marking.WhileMarking.{CanBeReached}
 use Rattle.cycle_words.specs.Evacuation.Live.{words_at}
 use Rattle.cycle_words.specs.Evacuation.Copied.{MayChange, top_address, copied_to, copied_out, IsCopiedOut}
 use Rattle.cycle_words.specs.Evacuation.Begun.{is_collected}
-use Rattle.cycle_words.specs.StillHolds.{AreMarkedPieces}
+use Rattle.cycle_words.specs.StillHolds.{AreMarkedPieces, WhileCollecting}
 use Rattle.cycle_words.proofs.Evacuation.CopiedOut.{copied_as}
 use Rattle.cycle_words.proofs.Evacuation.Copies.{header_forwarded, now_is, now_same}
 use Rattle.cycle_words.proofs.Evacuation.Carried.{not_renamed, IsCarried, led_comes, carried_holds}
+
+-- a set that has a region is not empty
+pub some_set : (c : Config) (set a : ℕ) → IsCollected c set a → set ≢ 0
+some_set c set a inside none = (let zero' : bit_at set (region_with c a) ≡ 0 = ap (λ k. bit_at k (region_with c a)) none ∙ bit_at-zero (region_with c a) in omega (arith, zero', inside))
 
 -- What holds of the collection set from one object to the next.
 pub record IsInOrder (c : Config) (m : Word → ℕ) (block : Plot) : Type 0 where
@@ -43,6 +48,9 @@ pub record IsInOrder (c : Config) (m : Word → ℕ) (block : Plot) : Type 0 whe
   pub no_new : (r : ℕ) → IsIn (m Cset) r → m (Top r) ≡ m (Tams r)
   pub floors : (r : ℕ) → r < c.regions → m (Tams r) ≤ m (Top r)
   pub unseated : (seat r : ℕ) → m (Current seat) ≡ r + 1 → IsIn (m Cset) r → ⊥
+
+pub in_order : (c : Config) (m : Word → ℕ) (block : Plot) → WhileCollecting c m block → m Cset ≢ 0 → IsInOrder c m block
+in_order c m block while some = record { marked = while.marked; reachable = while.reachable some; no_new = while.no_new; floors = while.floors some; unseated = while.unseated }
 
 module _ (c : Config) (m : Word → ℕ) (block : Plot) (owner : ℕ → Option ℕ) (p : Promises) (g : Graph) (holds : HoldsBy c m block owner p g)
     (a : ℕ) (x : Block) (here : block a ≡ Some x) (inside : IsCollected c (m Cset) a) (plain : is_forwarded (m (Heap a)) ≡ false)
@@ -177,7 +185,7 @@ module _ (c : Config) (m : Word → ℕ) (block : Plot) (owner : ℕ → Option 
   word_same : (word : Word) → (MayChange word → ⊥) → n word ≡ m word
   word_same word = out.copied.others word
 
-  set_same : n Cset ≡ m Cset
+  pub set_same : n Cset ≡ m Cset
   set_same = word_same Cset (λ never. never)
 
   top_same : (q : ℕ) → q ≢ r → n (Top q) ≡ m (Top q)
@@ -433,3 +441,24 @@ module _ (c : Config) (m : Word → ℕ) (block : Plot) (owner : ℕ → Option 
     floors = floors_still order.floors;
     unseated = unseated_still order.unseated;
   }
+
+  -- so finishing the cycle still keeps the graph: the copy lies outside of the set
+  pub collecting_still : WhileCollecting c m block → WhileCollecting c n plot
+  collecting_still while =
+      let order = order_still (in_order c m block while (some_set c (m Cset) a inside)) in
+      record {
+        marked = order.marked;
+        reachable = λ set. order.reachable;
+        no_new = order.no_new;
+        floors = λ set. order.floors;
+        unseated = order.unseated;
+        outside = λ off y reached member.
+            let was : IsCollected c (m Cset) y = subst (λ s. IsCollected c s y) set_same member in
+            ⊎_elim
+            (λ (new : y ≡ to).
+            let there : bit_at (m Cset) r ≡ 1 = subst (IsIn (m Cset)) (ap (region_with c) new ∙ region_is) was in
+            let away = out.outside in
+            omega (arith, there, away))
+            (λ (old : CanBeReached c m y). while.outside (λ two. off (word_same Phase (λ never. never) ∙ two)) y old was)
+            (reached_was y reached);
+      }

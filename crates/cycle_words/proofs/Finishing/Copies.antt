@@ -1,12 +1,12 @@
 -- Copying all that is left, address by address.
-use Rattle.std.proofs.Common.{◌≡◌, ◌≢◌, ℕ, ◌+◌, ◌&&◌, Bool, true, false, None, zero, suc, refl, sym, ap, ◌∙◌}
+use Rattle.std.proofs.Common.{◌≡◌, ◌≢◌, ℕ, ◌+◌, ◌*◌, ◌==◌, ◌&&◌, Bool, true, false, Option, Some, None, zero, suc, refl, sym, ap, ◌∙◌, ⊎_elim}
 use Rattle.std.specs.Prelude.{if◌then◌else◌}
 use Rattle.std.proofs.Math.Path.{fun_ext}
-use Rattle.std.proofs.lemmas.Bool.{cond-true, cond-false, and_parts, true≢false}
+use Rattle.std.proofs.lemmas.Bool.{cases_Bool, cases_eq, cond-true, cond-false, and_parts, eq-eqb, ne_eqb, true≢false}
 use Rattle.heap_words.specs.declared.config.Config.{Config}
-use Rattle.heap_words.specs.Words.{Word}
-use Rattle.cycle_words.specs.Evacuation.Copied.{copy_room, copied_out}
-use Rattle.cycle_words.specs.Finishing.Copies.{is_left, is_found, has_copy_room, copied_from, is_room_from}
+use Rattle.heap_words.specs.Words.{Word, Phase, Cset}
+use Rattle.cycle_words.specs.Evacuation.Copied.{copy_room, copied_to, copied_in, copied_out}
+use Rattle.cycle_words.specs.Finishing.Copies.{is_left, is_found, has_copy_room, copied_from, is_room_from, all_copied}
 
 -- where there is room, a region has it
 pub room_found : (c : Config) (m : Word → ℕ) (a : ℕ) → has_copy_room c m a ≡ true → copy_room c m a ≢ None
@@ -51,3 +51,28 @@ module _ (c : Config) (m : Word → ℕ) (a n : ℕ) where
   pub room_skips : is_left c m a ≡ false → is_room_from c m a (suc n) ≡ true → is_room_from c m (a + 1) n ≡ true
   unfolding is_room_from
   room_skips other room = sym (cond-false (is_left c m a) room_next (is_room_from c m (a + 1) n) other) ∙ room
+
+-- the collection set stays
+copied_set : (c : Config) (m : Word → ℕ) (a : ℕ) (o : Option ℕ) → copied_in c m a o Cset ≡ m Cset
+unfolding copied_to
+copied_set c m a None = refl
+copied_set c m a (Some r) = refl
+
+set_from : (c : Config) (n : ℕ) (m : Word → ℕ) (a : ℕ) → copied_from c m a n Cset ≡ m Cset
+set_from c zero m a = ap (λ (f : Word → ℕ). f Cset) (copied_none c m a 0)
+set_from c (suc n) m a = ⊎_elim
+    (λ (left : is_left c m a ≡ true). ⊎_elim
+    (λ (room : has_copy_room c m a ≡ true).
+    ap (λ (f : Word → ℕ). f Cset) (copied_next c m a n left room) ∙ set_from c n (copied_out c m a) (a + 1) ∙ copied_set c m a (copy_room c m a))
+    (λ (none : has_copy_room c m a ≡ false). ap (λ (f : Word → ℕ). f Cset) (copied_stuck c m a n left none))
+    (cases_Bool (has_copy_room c m a)))
+    (λ (other : is_left c m a ≡ false). ap (λ (f : Word → ℕ). f Cset) (copied_skips c m a n other) ∙ set_from c n m (a + 1))
+    (cases_Bool (is_left c m a))
+
+pub all_copied_set : (c : Config) (m : Word → ℕ) → all_copied c m Cset ≡ m Cset
+all_copied_set c m = ⊎_elim
+    (λ (at : m Phase ≡ 2).
+    cond-true (m Phase == 2) (copied_from c m c.region_words (c.regions * c.region_words) Cset) (m Cset) (eq-eqb (m Phase) 2 at)
+    ∙ set_from c (c.regions * c.region_words) m c.region_words)
+    (λ (off : m Phase ≢ 2). cond-false (m Phase == 2) (copied_from c m c.region_words (c.regions * c.region_words) Cset) (m Cset) (ne_eqb (m Phase) 2 off))
+    (cases_eq (m Phase) 2)

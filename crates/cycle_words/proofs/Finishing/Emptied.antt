@@ -2,7 +2,7 @@
 use Rattle.std.proofs.Common.{◌≡◌, ◌≢◌, ℕ, ◌+◌, ◌*◌, ◌<◌, ◌≤◌, ◌==◌, ◌&&◌, nat_le, true, false, not, zero, suc, Option, Some, sym, ap, ◌∙◌, subst, ⊎_elim, arith}
 use Rattle.std.specs.Int.{bit_at}
 use Rattle.std.proofs.Math.Path.{fun_ext}
-use Rattle.std.proofs.lemmas.Bool.{cases_Bool, cases_eq, cond-true, cond-false, and_parts, and_from, and_left, and_right, le-leb, eq-eqb, ne_eqb, not-true, not_from_false, true≢false, false_from_ne_true}
+use Rattle.std.proofs.lemmas.Bool.{cases_Bool, cases_eq, cond-true, cond-false, and_parts, and_from, and_left, le-leb, eq-eqb, ne_eqb, not-true, not_from_false, true≢false, false_from_ne_true}
 use Rattle.std.proofs.lemmas.Nat.Bits.{bit_at-zero}
 use Rattle.heap_words.specs.declared.config.Config.{Config}
 use Rattle.heap_words.specs.Words.{Word, Phase, Cset, Top, Current, Heap}
@@ -24,10 +24,11 @@ use Rattle.cycle_words.specs.Evacuation.Live.{words_at}
 use Rattle.cycle_words.specs.Evacuation.Begun.{is_collected}
 use Rattle.cycle_words.specs.Evacuation.Copied.{copied_out, IsCopiedOut}
 use Rattle.cycle_words.specs.Finishing.Copies.{is_left, has_copy_room, copied_from, is_room_from, all_copied, is_room_for_all}
+use Rattle.cycle_words.specs.Finishing.Laws.{NoneLeftInside}
 use Rattle.cycle_words.specs.StillHolds.{WhileCollecting}
 use Rattle.cycle_words.proofs.Evacuation.CopyHolds as copy
-use Rattle.cycle_words.proofs.Evacuation.CopyHolds.{IsInOrder}
-use Rattle.cycle_words.proofs.Finishing.Copies.{copied_none, copied_next, copied_skips, room_if, room_skips}
+use Rattle.cycle_words.proofs.Evacuation.CopyHolds.{some_set, IsInOrder, in_order}
+use Rattle.cycle_words.proofs.Finishing.Copies.{copied_none, copied_next, copied_skips, room_if, room_skips, all_copied_set}
 use Rattle.cycle_words.proofs.Finishing.CopiesHold as copies
 use Rattle.cycle_words.proofs.Finishing.CopiesHold.{IsCopiedSoFar}
 use Rattle.cycle_words.proofs.Finishing.Fields.{collected_low}
@@ -51,16 +52,16 @@ module _ (c : Config) (owner : ℕ → Option ℕ) (p : Promises) (g : Graph) wh
     out = copies.out c owner p g m block so_far a left room
 
     abbrev parts : (is_collected c m a ≡ true) × (is_black c m a ≡ true) × (is_forwarded (m (Heap a)) ≡ false)
-    parts = copies.parts c owner p g m block so_far a left room
+    parts = copies.parts c owner p g m block so_far a left
 
     abbrev inside : IsCollected c (m Cset) a
-    inside = copies.inside c owner p g m block so_far a left room
+    inside = copies.inside c owner p g m block so_far a left
 
     abbrev piece : (b : Block) × (block a ≡ Some b)
-    piece = copies.piece c owner p g m block so_far a left room
+    piece = copies.piece c owner p g m block so_far a left
 
     abbrev words : words_at m a ≡ words_of piece.0
-    words = copies.words c owner p g m block so_far a left room
+    words = copies.words c owner p g m block so_far a left
 
     -- what is left was left, and is another object
     left_was : (y : ℕ) → is_left c n y ≡ true → (y ≢ a) × (is_left c m y ≡ true)
@@ -130,10 +131,6 @@ pub record IsEmptied (c : Config) (n : Word → ℕ) (plot : Plot) (owner : ℕ 
   pub unseated : (seat r : ℕ) → n (Current seat) ≡ r + 1 → IsIn (n Cset) r → ⊥
   pub outside : (a : ℕ) → CanBeReached c n a → IsCollected c (n Cset) a → ⊥
 
--- a set that has a region is not empty
-pub some_set : (c : Config) (set a : ℕ) → IsCollected c set a → set ≢ 0
-some_set c set a inside none = (let zero' : bit_at set (region_with c a) ≡ 0 = ap (λ k. bit_at k (region_with c a)) none ∙ bit_at-zero (region_with c a) in omega (arith, zero', inside))
-
 module _ (c : Config) (n : Word → ℕ) (plot : Plot) (owner : ℕ → Option ℕ) (p : Promises) (g : Graph) (passed : ℕ) (on : IsGoingOn c n plot owner p g passed)
     (all : (c.regions + 1) * c.region_words ≤ passed) where
   nothing_inside : (a : ℕ) → CanBeReached c n a → IsCollected c (n Cset) a → ⊥
@@ -166,6 +163,16 @@ module _ (c : Config) (n : Word → ℕ) (plot : Plot) (owner : ℕ → Option �
     outside = nothing_inside;
   }
 
+pub none_left_inside : NoneLeftInside
+none_left_inside c m block owner p g holds sized while none a reached inside =
+    nothing_inside c m block owner p g ((c.regions + 1) * c.region_words)
+    (record {
+      so_far = record { holds = holds; sized = sized; marked = while.marked };
+      order = in_order c m block while (some_set c (m Cset) a inside);
+      none_left = λ y below. none y;
+    })
+    (omega arith) a reached inside
+
 module _ (c : Config) (m : Word → ℕ) (block : Plot) (owner : ℕ → Option ℕ) (p : Promises) (g : Graph) (holds : HoldsBy c m block owner p g) (sized : AreSized m block)
     (while : WhileCollecting c m block) (room : is_room_for_all c m ≡ true) where
   as_it_is : ((a : ℕ) → CanBeReached c m a → IsCollected c (m Cset) a → ⊥) → IsEmptied c m block owner p g
@@ -178,7 +185,7 @@ module _ (c : Config) (m : Word → ℕ) (block : Plot) (owner : ℕ → Option 
   in_phase at some =
       let begins : IsGoingOn c m block owner p g c.region_words = record {
         so_far = at_first;
-        order = record { marked = while.marked; reachable = while.reachable some; no_new = while.no_new; floors = while.floors some; unseated = while.unseated };
+        order = in_order c m block while some;
         none_left = λ y below. and_left (is_collected c m y && is_black c m y) (not (is_forwarded (m (Heap y)))) (and_left (is_collected c m y) (is_black c m y) (collected_low c m y below));
       } in
       let found : is_room_from c m c.region_words (c.regions * c.region_words) ≡ true =
@@ -195,31 +202,16 @@ module _ (c : Config) (m : Word → ℕ) (block : Plot) (owner : ℕ → Option 
   without : m Cset ≡ 0 → (plot : Plot) × IsEmptied c (all_copied c m) plot owner p g
   without none =
       let all = copies.all_copied_hold c owner p g m block at_first in
-      let same : all_copied c m Cset ≡ m Cset = ⊎_elim
-      (λ (at : m Phase ≡ 2). cond-true (m Phase == 2) (copied_from c m c.region_words (c.regions * c.region_words) Cset) (m Cset) (eq-eqb (m Phase) 2 at)
-      ∙ nothing_copied c (c.regions * c.region_words) m c.region_words none Cset)
-      (λ (off : m Phase ≢ 2). cond-false (m Phase == 2) (copied_from c m c.region_words (c.regions * c.region_words) Cset) (m Cset) (ne_eqb (m Phase) 2 off))
-      (cases_eq (m Phase) 2) in
-      let zero' : all_copied c m Cset ≡ 0 = same ∙ none in (
+      let zero' : all_copied c m Cset ≡ 0 = all_copied_set c m ∙ none in (
         all.0,
         record {
-          holds = all.1.holds;
-          sized = all.1.sized;
+          holds = all.2.holds;
+          sized = all.2.sized;
           reachable = λ some. absurd (some zero');
           unseated = λ seat r is member. absurd (let bit : bit_at (all_copied c m Cset) r ≡ 0 = ap (λ k. bit_at k r) zero' ∙ bit_at-zero r in omega (arith, bit, member));
           outside = λ a reached inside. some_set c (all_copied c m Cset) a inside zero';
         },
       )
-    where
-      -- no address is in an empty set
-      nothing_copied : (d : Config) (k : ℕ) (w : Word → ℕ) (a : ℕ) → w Cset ≡ 0 → (word : Word) → copied_from d w a k word ≡ w word
-      nothing_copied d zero w a none word = ap (λ (f : Word → ℕ). f word) (copied_none d w a 0)
-      nothing_copied d (suc k) w a none word =
-          let bit : bit_at (w Cset) (region_with d a) ≡ 0 = ap (λ s. bit_at s (region_with d a)) none ∙ bit_at-zero (region_with d a) in
-          let out : is_left d w a ≡ false =
-          and_left (is_collected d w a && is_black d w a) (not (is_forwarded (w (Heap a))))
-          (and_left (is_collected d w a) (is_black d w a) (and_right (nat_le d.region_words a) (bit_at (w Cset) (region_with d a) == 1) (ne_eqb (bit_at (w Cset) (region_with d a)) 1 (λ e. omega (arith, e, bit))))) in
-          ap (λ (f : Word → ℕ). f word) (copied_skips d w a k out) ∙ nothing_copied d k w (a + 1) none word
 
   other_phase : m Phase ≢ 2 → (plot : Plot) × IsEmptied c (all_copied c m) plot owner p g
   other_phase off =

@@ -20,21 +20,23 @@ use Rattle.full_words.specs.Full.{now_in, roots_below, answers_below, root_words
 use Rattle.full_words.specs.Promised.{Promises, with_promised}
 use Rattle.full_words.proofs.Reached.{held_is_reached, refs_read}
 use Rattle.full_words.proofs.Roots.{has_either, root_in, answer_in, root_among, answer_among, answer_names}
-use Rattle.image_graph.specs.Holds.{HoldsBy, Holds}
+use Rattle.image_graph.specs.Holds.{HoldsBy}
 use Rattle.image_graph.proofs.ServedHolds.{serving_holds}
 use Rattle.cycle_words.specs.Marking.WhileMarking.{CanBeReached}
 use Rattle.cycle_words.specs.Evacuation.Begun.{is_collected}
 use Rattle.cycle_words.specs.Finishing.Updated.{updated_word, is_kept_field, all_updated}
 use Rattle.cycle_words.specs.Finishing.Copies.{all_copied, is_room_for_all}
 use Rattle.cycle_words.specs.Finishing.Finish.{set_freed, cycle_finished, finished}
-use Rattle.cycle_words.specs.StillHolds.{NothingNames, FinishingHolds}
+use Rattle.cycle_words.specs.Finishing.Laws.{UpdatedNamesNothing}
+use Rattle.cycle_words.specs.StillHolds.{NothingNames, HoldsAnew, FinishingHolds}
+use Rattle.cycle_words.proofs.Evacuation.CopyHolds.{some_set}
 use Rattle.cycle_words.proofs.Evacuation.RenamedInPlace as renamed
 use Rattle.cycle_words.proofs.Finishing.Fields.{low_spared}
-use Rattle.cycle_words.proofs.Finishing.UpdatedHolds.{updated_holds, renaming, word_stays}
+use Rattle.cycle_words.proofs.Finishing.UpdatedHolds.{updated_holds, updated_sized, renaming, word_stays}
 use Rattle.cycle_words.proofs.Finishing.KeptFields.{is_field}
 use Rattle.cycle_words.proofs.Finishing.CopiesHold.{copies_all_hold}
-use Rattle.cycle_words.proofs.Finishing.Emptied.{IsEmptied, some_set, emptied_then}
-use Rattle.cycle_words.proofs.Finishing.SetFreed.{left, owned, set_freed_holds}
+use Rattle.cycle_words.proofs.Finishing.Emptied.{IsEmptied, emptied_then}
+use Rattle.cycle_words.proofs.Finishing.SetFreed.{left, owned, set_freed_holds, set_freed_sized}
 
 -- Once the set was emptied and all references were updated nothing names it.
 module _ (c : Config) (m : Word → ℕ) (block : Plot) (owner : ℕ → Option ℕ) (p : Promises) (g : Graph) (is : IsEmptied c m block owner p g) where
@@ -114,27 +116,37 @@ module _ (c : Config) (m : Word → ℕ) (block : Plot) (owner : ℕ → Option 
       no_bit : (bit : ℕ) → bit < 2 → (bit ≡ 1 → ⊥) → bit ≡ 0
       no_bit bit few none = ⊎_elim (λ (low : bit < 1). omega (arith, low)) (λ (high : 1 ≤ bit). absurd (none (omega (arith, few, high)))) (cases_lt bit 1)
 
-  nothing_names : NothingNames c n
+  pub nothing_names : NothingNames c n
   nothing_names = record { roots = named_outside; fields = field_outside; unseated = is.unseated }
 
   updated : HoldsBy c n block owner p g
   updated = updated_holds c m block owner p g holds is.sized
 
   -- so the set may be freed, and who waits served
-  pub served_holds : Holds c (served c (set_freed c n) c.mutators) g
+  pub served_holds : HoldsAnew c (served c (set_freed c n) c.mutators) g
   served_holds =
       let freed = set_freed_holds c n block owner p g updated nothing_names in
       let after = serving_holds c (set_freed c n) (left c n block owner p g updated nothing_names) (owned c n block owner p g updated nothing_names) p g freed in
-      (_, _, _, after.holds)
+      record {
+        pieces = _;
+        owner = _;
+        promises = _;
+        holds = after.holds;
+        sized = after.sized (set_freed_sized c n block owner p g updated nothing_names (updated_sized c m block owner p g holds is.sized));
+      }
 
 pub finishing_holds : (c : Config) (m : Word → ℕ) → FinishingHolds c m (finished c m)
 finishing_holds c m block owner p g holds sized while = ⊎_elim
     (λ (room : is_room_for_all c m ≡ true).
     let emptied = emptied_then c m block owner p g holds sized while room in
-    subst (λ n. Holds c n g) (fun_ext (λ word. sym (cond-true (is_room_for_all c m) (served c (cycle_finished c m) c.mutators word) (all_copied c m word) room)))
+    subst (λ n. HoldsAnew c n g) (fun_ext (λ word. sym (cond-true (is_room_for_all c m) (served c (cycle_finished c m) c.mutators word) (all_copied c m word) room)))
     (served_holds c (all_copied c m) emptied.0 owner p g emptied.1))
     (λ (none : is_room_for_all c m ≡ false).
     let still = copies_all_hold c m block owner p g holds sized while.marked in
-    subst (λ n. Holds c n g) (fun_ext (λ word. sym (cond-false (is_room_for_all c m) (served c (cycle_finished c m) c.mutators word) (all_copied c m word) none)))
-    (still.pieces, owner, p, still.holds))
+    subst (λ n. HoldsAnew c n g) (fun_ext (λ word. sym (cond-false (is_room_for_all c m) (served c (cycle_finished c m) c.mutators word) (all_copied c m word) none)))
+    (record { pieces = still.pieces; owner = owner; promises = p; holds = still.holds; sized = still.sized sized }))
     (cases_Bool (is_room_for_all c m))
+
+pub updated_names_nothing : UpdatedNamesNothing
+updated_names_nothing c m block owner p g holds sized while nothing =
+    nothing_names c m block owner p g (record { holds = holds; sized = sized; reachable = while.reachable; unseated = while.unseated; outside = nothing })

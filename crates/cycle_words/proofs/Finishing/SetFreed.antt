@@ -65,4 +65,7 @@ module _ (c : Config) (m : Word → ℕ) (block : Plot) (owner : ℕ → Option 
   set_freed_sized sized a b is = let was = piece_was c out block a b is in sized a b was.1
 
 pub ending_holds : (c : Config) (m : Word → ℕ) → EndingHolds c m (final_updated c m)
-ending_holds c m block owner p g holds nothing = (left c m block owner p g holds nothing, owned c m block owner p g holds nothing, p, set_ended_holds c m block owner p g holds nothing)
+ending_holds c m block owner p g holds nothing = record {
+  holds = set_ended_holds c m block owner p g holds nothing;
+  sized = λ sized a b is. sized a b (piece_was c (is_chosen m) block a b is).1;
+}

@@ -1,5 +1,5 @@
 -- That the choice is exactly the longest front of the candidates that fits, and that what it has can be copied.
-use Rattle.std.specs.Prelude.{ℕ, ◌≡◌, ◌+◌, ◌<◌, ◌≤◌, ◌↔◌, Option, true, Bool, if◌then◌else◌, List, length, slice_index, Some, None}
+use Rattle.std.specs.Prelude.{ℕ, ◌≡◌, ◌+◌, ◌^◌, ◌<◌, ◌≤◌, ◌↔◌, Option, true, Bool, if◌then◌else◌, List, length, slice_index, Some, None}
 use Rattle.heap_words.specs.declared.config.Config.{Config}
 use Rattle.heap_words.specs.Words.{Word, Cset}
 use Rattle.packing.specs.Places.{LieApart}
@@ -103,12 +103,13 @@ ReachableAreLive c memory set = (block : Plot) (owner : ℕ → Option ℕ) (p :
 abbrev pub ChosenAreLive : Type 0
 ChosenAreLive = (c : Config) (memory : Word → ℕ) → ReachableAreLive c memory (chosen c memory)
 
--- The words hold the graph, each piece says how many words it has, and what finishing a cycle asks for holds.
+-- The words hold the graph, each piece says how many words it has, and what finishing a cycle asks for holds, of a set of the heap's regions.
 pub record HoldsCollecting (c : Config) (memory : Word → ℕ) (owner : ℕ → Option ℕ) (p : Promises) (g : Graph) : Type 0 where
   pub pieces : Plot
   pub holds : HoldsBy c memory pieces owner p g
   pub sized : AreSized memory pieces
   pub collecting : WhileCollecting c memory pieces
+  pub small : memory Cset < 2 ^ c.regions
 
 -- So it is once marking was ended and evacuation begun, by the one call and then the other.
 abbrev pub EvacuationCollects : Type 0

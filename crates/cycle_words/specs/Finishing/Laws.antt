@@ -14,8 +14,9 @@ use Rattle.image_graph.specs.Holds.{HoldsBy, AreSized}
 use Rattle.cycle_words.specs.Marking.Marks.{IsKept}
 use Rattle.cycle_words.specs.Evacuation.Copied.{copy_room}
 use Rattle.cycle_words.specs.Finishing.Copies.{is_left, all_copied, is_room_for_all}
-use Rattle.cycle_words.specs.Finishing.Finish.{nobody_waits}
-use Rattle.cycle_words.specs.Finishing.Updated.{is_kept_field, CanUpdateAll}
+use Rattle.cycle_words.specs.Finishing.Finish.{nobody_waits, CanFinish}
+use Rattle.cycle_words.specs.Finishing.Updated.{is_kept_field, all_updated, CanUpdateAll}
+use Rattle.cycle_words.specs.StillHolds.{NothingInside, NothingNames, WhileCollecting}
 
 -- An object is left in the collection set, and no region outside has room for it.
 pub record IsStuck (c : Config) (memory : Word → ℕ) : Type 0 where
@@ -56,3 +57,19 @@ KeptFieldsAreFields = (c : Config) (memory : Word → ℕ) (block : Plot) (owner
 abbrev pub ReferencesCanBeUpdated : Type 0
 ReferencesCanBeUpdated = (c : Config) (memory : Word → ℕ) (block : Plot) (owner : ℕ → Option ℕ) (p : Promises) (g : Graph) → HoldsBy c memory block owner p g → AreSized memory block
     → memory Cset < 2 ^ c.regions → CanUpdateAll c memory
+
+-- Where the words hold a graph, and a set of the heap's regions is collected so that finishing the cycle keeps it, the cycle can be
+-- finished: what a marked piece of the set says of its length is so, each time that one is copied out.
+abbrev pub CollectingCanFinish : Type 0
+CollectingCanFinish = (c : Config) (memory : Word → ℕ) (block : Plot) (owner : ℕ → Option ℕ) (p : Promises) (g : Graph) → HoldsBy c memory block owner p g → AreSized memory block
+    → WhileCollecting c memory block → memory Cset < 2 ^ c.regions → CanFinish c memory
+
+-- Where no object is left in the set, nothing that can be reached lies there, ..
+abbrev pub NoneLeftInside : Type 0
+NoneLeftInside = (c : Config) (memory : Word → ℕ) (block : Plot) (owner : ℕ → Option ℕ) (p : Promises) (g : Graph) → HoldsBy c memory block owner p g → AreSized memory block
+    → WhileCollecting c memory block → ((a : ℕ) → is_left c memory a ≡ false) → NothingInside c memory
+
+-- .. and then nothing names the set once all references were updated: it may be freed.
+abbrev pub UpdatedNamesNothing : Type 0
+UpdatedNamesNothing = (c : Config) (memory : Word → ℕ) (block : Plot) (owner : ℕ → Option ℕ) (p : Promises) (g : Graph) → HoldsBy c memory block owner p g → AreSized memory block
+    → WhileCollecting c memory block → NothingInside c memory → NothingNames c (all_updated c memory)
