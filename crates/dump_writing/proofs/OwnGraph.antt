@@ -43,22 +43,22 @@ order_rest : (a : Name) (ns : List Name) → InOrder (a ∷ ns) → InOrder ns
 order_rest a [] order = tt
 order_rest a (n ∷ ns) order = order.1
 
-abbrev name_of : Row → Name
+abbrev pub name_of : Row → Name
 name_of r = r.name
 
-abbrev fields_of : Row → Object
+abbrev pub fields_of : Row → Object
 fields_of r = record { refs = r.refs; nums = r.nums }
 
-name_at : (rows : List Row) (k : ℕ) (d : Row) → get_or (map name_of rows) k (name_of d) ≡ name_of (get_or rows k d)
+pub name_at : (rows : List Row) (k : ℕ) (d : Row) → get_or (map name_of rows) k (name_of d) ≡ name_of (get_or rows k d)
 name_at [] k d = refl
 name_at (r ∷ rows) zero d = refl
 name_at (r ∷ rows) (suc k) d = name_at rows k d
 
-length-names : (rows : List Row) → length (map name_of rows) ≡ length rows
+pub length-names : (rows : List Row) → length (map name_of rows) ≡ length rows
 length-names [] = refl
 length-names (r ∷ rows) = ap suc (length-names rows)
 
-object_at : (rows : List Row) (k : ℕ) (d : Row) → InOrder (map name_of rows) → k < length rows
+pub object_at : (rows : List Row) (k : ℕ) (d : Row) → InOrder (map name_of rows) → k < length rows
     → object_in rows (name_of (get_or rows k d)) ≡ Some (fields_of (get_or rows k d))
 object_at [] k d order low = absurd (omega arith)
 object_at (r ∷ rows) zero d order low = cond-true (same_name r.name r.name) (Some (fields_of r)) (object_in rows r.name) (same_name-itself r.name)

@@ -1,5 +1,5 @@
 -- A turn that was seen.
-use Rattle.std.proofs.Common.{◌≡◌, ◌<◌, ℕ, Bool, true, length, Some, sym, ap, ◌∙◌, subst, arith, get_or}
+use Rattle.std.proofs.Common.{◌≡◌, ◌<◌, ℕ, Bool, true, false, length, Option, Some, None, is_some, refl, sym, ap, ◌∙◌, subst, arith, get_or}
 use Rattle.std.specs.Prelude.{slice_get, slice_set, slice_index}
 use Rattle.std.proofs.lemmas.List.{length-map}
 use Rattle.std.proofs.lemmas.Option.{same_Some}
@@ -9,15 +9,25 @@ use Rattle.heap_machines.specs.Answer.{says}
 use Rattle.heap_machines.specs.Shown.{shown, no_machine}
 use Rattle.heap_machines.specs.declared.stepped.Stepped.{Stepped}
 use Rattle.step_core.specs.Actor.{Actor}
+use Rattle.steps_base.specs.Steps.{Event}
+use Rattle.shen_graph.specs.declared.history.Entry.{Entry}
+use Rattle.shen_graph.specs.declared.order.Order.{Order}
 use Rattle.step_core.specs.Machines.{plan_of, place_in}
+use Rattle.step_core.specs.History.{told}
+use Rattle.step_core.specs.Schedule.{Agenda, Next, turn}
 use Rattle.shen_core.specs.declared.plain.Plain.{Plain}
 use Rattle.shen_core.specs.State.{config_of, words_of, orders_of, machines_of, machine_at, order_at, has_turn, seats_of, word_found_by, next_machine, IsStep}
 use Rattle.shen_core.specs.Progress.{Jobs, IsTurn, IsNextTurn}
+use Rattle.shen_core.specs.Runs.{event}
+use Rattle.shen_core.specs.Noting.{IsEnding, Settles, entries_in}
 use Rattle.shen_core.proofs.Events.{shown_actor}
 use Rattle.shen_core.proofs.Turns.{machine_within, role_shown}
 use Rattle.shen_core.proofs.Noted.{IsStepped}
 use Rattle.schedule_walk.specs.declared.seen.Seen.{Seen}
-use Rattle.schedule_walk.specs.Seen.{Sees, SeesTurn}
+use Rattle.schedule_walk.specs.declared.walk.Walk.{Walk}
+use Rattle.schedule_walk.specs.Seen.{Sees, SeesTurn, SettlesTurn}
+use Rattle.schedule_walk.specs.Agendas.{agenda_in}
+use Rattle.schedule_walk.specs.Nexts.{HasSameNext, IsDueNext, SettlesNext}
 
 -- an order and then a step
 pub stepped : (p mid q : Plain) (jobs : Jobs) (number : ℕ) (has : Bool) (said : Stepped) → number < seats_of p
@@ -65,3 +75,20 @@ sees_turn p mid q jobs number said seen facts number_is place_is access_is found
     machine a here =
         let found = shown_actor (words_of p) (machines_of p) s number (machine_at p number) shows (machine_within (machines_of p) number facts.within) in
         ap (λ ms. get_or ms number no_machine) facts.mid_machines ∙ sym found.2 ∙ ap (λ x. x.machine) (same_Some _ _ (sym found.1 ∙ here))
+
+-- what its step settles is what its event does
+pub settles_turn : (p mid q : Plain) (jobs : Jobs) (number : ℕ) (said : Stepped) (entry : Option Entry) → IsStepped p mid q jobs number said → Settles mid number entry → SettlesTurn p jobs number entry
+settles_turn p mid q jobs number said entry facts settles scripts s shows tells ends e is =
+    subst (λ x. told (config_of p) s x ≡ entries_in entry) (same_Some _ _ (sym (facts.turn scripts s shows tells) ∙ is))
+    (sym (ap (λ c. told c s (event number (order_at mid number))) facts.mid_config)
+    ∙ settles s (record { words_are = shows.words_are ∙ sym facts.mid_words; machines_are = shows.machines_are ∙ sym facts.mid_machines }) (subst (λ c. IsEnding c s) (sym facts.mid_config) ends))
+
+-- and so of the walk's next event
+pub settles_next : (p : Plain) (jobs : Jobs) (todo : Agenda) (w : Walk) (number : ℕ) (entry : Option Entry) → HasSameNext p jobs todo (agenda_in w) → IsDueNext p jobs w number → SettlesTurn p jobs number entry → SettlesNext p jobs todo entry
+settles_next p jobs todo w number entry same due settles scripts s shows tells ends x is = by_turn (turn scripts s number) refl
+  where
+    by_turn : (o : Option (Event Order)) → turn scripts s number ≡ o → told (config_of p) s x.event ≡ entries_in entry
+    by_turn None none = let has = due.has scripts s shows in let no : false ≡ true = ap is_some (sym none) ∙ has in absurd cc
+    by_turn (Some e) some =
+        let one = sym (due.next_is scripts s shows tells e some) ∙ sym (same scripts s shows tells) ∙ is in
+        subst (λ y. told (config_of p) s y ≡ entries_in entry) (ap (λ (z : Next). z.event) (same_Some _ _ one)) (settles scripts s shows tells ends e some)

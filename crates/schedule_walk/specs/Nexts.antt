@@ -3,12 +3,15 @@ use Rattle.std.specs.Prelude.{ℕ, ◌≡◌, ◌+◌, ◌<◌, ◌≤◌, true,
 use Rattle.heap_words.specs.declared.config.Config.{Config}
 use Rattle.heap_words.specs.declared.schedule.Item.{Item}
 use Rattle.steps_base.specs.Steps.{Stage, Event, act}
+use Rattle.shen_graph.specs.declared.history.Entry.{Entry}
 use Rattle.shen_graph.specs.declared.order.Order.{Order}
 use Rattle.heap_machines.specs.Pause.{pause_image}
 use Rattle.step_core.specs.Actor.{Actor}
 use Rattle.step_core.specs.Machines.{kind}
-use Rattle.step_core.specs.Schedule.{Scripts, turn, waits, waits_then, task_of, moves, move_of, Agenda, next}
+use Rattle.step_core.specs.History.{told}
+use Rattle.step_core.specs.Schedule.{Scripts, turn, waits, waits_then, task_of, moves, move_of, Agenda, Next, next}
 use Rattle.shen_core.specs.declared.plain.Plain.{Plain}
+use Rattle.shen_core.specs.Noting.{IsEnding, entries_in}
 use Rattle.shen_core.specs.State.{config_of, seats_of, Shows}
 use Rattle.shen_core.specs.Progress.{Jobs, Tells, HasNext, Runs}
 use Rattle.schedule_walk.specs.declared.seen.Seen.{Seen}
@@ -73,6 +76,12 @@ IsNextSeen c scripts s todo q later rest (Some seen) = IsMade c scripts s todo q
 -- whatever stage memory showed, the next event of the agenda was made there, and the rest is to be done; or there was none
 abbrev pub MakesNext : Plain → Jobs → Agenda → Plain → Jobs → Agenda → Option Seen → Type 0
 MakesNext p jobs todo q later rest result = (scripts : Scripts) (s : Stage Actor) → Shows p s → Tells (config_of p) scripts jobs s → IsNextSeen (config_of p) scripts s todo q later rest result
+
+-- and the next event settles this entry, or none
+abbrev pub SettlesNext : Plain → Jobs → Agenda → Option Entry → Type 0
+SettlesNext p jobs todo entry =
+    (scripts : Scripts) (s : Stage Actor) → Shows p s → Tells (config_of p) scripts jobs s → IsEnding (config_of p) s → (x : Next) → next (config_of p) scripts s todo ≡ Some x
+    → told (config_of p) s x.event ≡ entries_in entry
 
 -- The events of an agenda were made, as many as a limit allows or all that there are; where the limit is higher, the schedule
 -- goes on from there.

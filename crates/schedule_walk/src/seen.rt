@@ -1,11 +1,11 @@
 ghost use Rattle.std.specs.Prelude.{◌≡◌, ◌≢◌, ◌<◌, None, IfSome};
 ghost use Rattle.shen_core.specs.State.{config_of, seats_of, IsUnchanged};
 ghost use Rattle.shen_core.specs.Progress.{CanRun, HasTurned};
-ghost use Rattle.schedule_walk.specs.Seen.{said_of, SeesTurn};
+ghost use Rattle.schedule_walk.specs.Seen.{said_of, SeesTurn, SettlesTurn};
 
 use heap_words::{Access, Place};
 use shen_core::{Plain, Stepped};
-use shen_graph::Work;
+use shen_graph::{Entry, Work};
 
 /// What memory saw of one event.
 #[derive(Clone, Copy, Debug, PartialEq, Eq)]
@@ -20,6 +20,8 @@ pub struct Seen {
     pub found: u64,
     /// What the machine said then; it was not idle.
     pub said: Stepped,
+    /// The entry of the history that the event settles, if it settles one.
+    pub settles: Option<Entry>,
 }
 
 /// One turn of a machine, as `Plain::run` gives it: the machine goes on with its call, begins the next command of its script,
@@ -34,6 +36,7 @@ pub(crate) fn turn_seen(plain: &mut Plain, work: &mut Work, number: usize) -> Op
     ensures idle { result ≡ None → IsUnchanged plain.old plain.new }
     ensures idle_work { result ≡ None → work.new ≡ work.old }
     ensures seen { IfSome result (λ seen. SeesTurn plain.old work.old number seen) }
+    ensures settles { IfSome result (λ seen. SettlesTurn plain.old work.old number seen.settles) }
 {
     if !plain.order_next(work, number) {
         return None;
@@ -41,6 +44,7 @@ pub(crate) fn turn_seen(plain: &mut Plain, work: &mut Work, number: usize) -> Op
     let place = plain.place(number)?;
     let access = plain.plan(number);
     let found = plain.word(access.at());
+    let settles = plain.settles(number);
     let said = plain.step(number);
     if let Stepped::Done = said {
         work.told(number, plain.reply(number));
@@ -51,5 +55,6 @@ pub(crate) fn turn_seen(plain: &mut Plain, work: &mut Work, number: usize) -> Op
         access,
         found,
         said,
+        settles,
     })
 }

@@ -94,7 +94,7 @@ impl Walk {
     ghost use Rattle.step_core.specs.Schedule.{agenda_of};
     ghost use Rattle.shen_core.specs.Progress.{AllIdle};
     ghost use Rattle.schedule_walk.specs.Agendas.{agenda_in, agenda_after, weight_in, IsWalkOf, HasNoItem};
-    ghost use Rattle.schedule_walk.specs.Nexts.{HasSameNext, HasNoNext, IsDueNext, MakesNext, RunsOn};
+    ghost use Rattle.schedule_walk.specs.Nexts.{HasSameNext, HasNoNext, IsDueNext, MakesNext, SettlesNext, RunsOn};
 
     /// The walk before the first event of a schedule.
     pub fn open(schedule: Schedule) -> Walk
@@ -263,6 +263,7 @@ impl Walk {
         ensures config { config_of plain.new ≡ config_of plain.old }
         ensures walk { IsWalkOf (config_of plain.new) self.new }
         ensures next { MakesNext plain.old work.old (agenda_in self.old) plain.new work.new (agenda_in self.new) result }
+        ensures settles { IfSome result (λ seen. SettlesNext plain.old work.old (agenda_in self.old) seen.settles) }
         ensures none { result ≡ None → HasNoNext plain.new work.new (agenda_in self.new) }
         ensures idle { result ≡ None → AllIdle plain.new work.new }
     {

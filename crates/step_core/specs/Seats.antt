@@ -5,7 +5,7 @@ use Rattle.heap_words.specs.Words.{Cset, Root, Wait, Answer, Heap}
 use Rattle.shen_graph.specs.declared.command.Command.{Command}
 use Rattle.shen_graph.specs.declared.command.Command.TheVariants.{New}
 use Rattle.shen_graph.specs.declared.command.Reply.{Reply}
-use Rattle.shen_graph.specs.declared.command.Reply.TheVariants.{Ref}
+use Rattle.shen_graph.specs.declared.command.Reply.TheVariants.{Ref, Full}
 use Rattle.alloc_buffers.specs.Facts.{HasLess}
 use Rattle.alloc_buffers.specs.declared.spot.TakeSpot.{TakeSpot}
 use Rattle.alloc_buffers.specs.declared.spot.TakeSpot.TheVariants.{LoadFree}
@@ -260,7 +260,8 @@ IsOfCall k _ a = ⊥
 -- or it says that the heap is full
 abbrev pub HasTaken : Config → World → ℕ → Reply → Type 0
 HasTaken c w seat (Ref name) = (refs : ℕ) × (nums : ℕ) × TargetIn c w (w.memory (Answer seat)) refs nums name
-HasTaken c w seat _ = w.memory (Answer seat) ≡ 1
+HasTaken c w seat Full = w.memory (Answer seat) ≡ 1
+HasTaken c w seat _ = ⊥
 
 -- whether a mutator has found that it is answered, and not taken that yet
 abbrev pub is_answered : Spot → Bool
@@ -286,14 +287,14 @@ abbrev pub is_clearing : Spot → Bool
 is_clearing (Waiting (wait.ClearAnswer reply)) = true
 is_clearing _ = false
 
--- What a mutator may use, in each phase: its roots, and the object on which its call works. A request and an answer are those of a call that
--- makes an object and waits for it; behind the store into the root the answer names what was taken.
+-- What a mutator may use, in each phase: its roots, and the object on which its call works. Who waits makes an object, up to the store that
+-- clears its answer, and a request and an answer are of who waits; behind the store into the root the answer names what was taken.
 pub record IsServed (c : Config) (w : World) (command : Command) (m : Mutating) : Type 0 where
   pub roots : (i : ℕ) → i < 16 → UsableIn c w (w.memory (Root m.seat i))
   pub resolved : (object : ℕ) → works_on m.spot ≡ Some object → UsableIn c w object
   pub loaded : (a : ℕ) → IsOfCall m.kept.command m.spot a → UsableIn c w a
   pub unasked : is_waiting m.spot ≡ false → AsksNothing w m.seat × (w.memory (Answer m.seat) ≡ 0)
-  pub waits : is_waiting m.spot ≡ true → is_clearing m.spot ≡ false → MakesObject command
+  pub waits : is_waiting m.spot ≡ true → MakesObject command
   pub answered : is_answered m.spot ≡ true → 0 < w.memory (Answer m.seat)
   pub stored : (address : ℕ) → m.spot ≡ Waiting (wait.StoreRoot address) → w.memory (Answer m.seat) ≡ address
   pub taken : (reply : Reply) → m.spot ≡ Waiting (wait.ClearAnswer reply) → AsksNothing w m.seat × HasTaken c w m.seat reply

@@ -1,9 +1,10 @@
 -- The theorem over every list of events: what holds of each stage that events lead to, and of its history.
+use Rattle.std.specs.Int.{bit_at}
 use Rattle.std.specs.Prelude.{ℕ, ◌≡◌, ◌≢◌, ◌+◌, ◌<◌, ◌==◌, not, Bool, true, false, List, ◌++◌, length, Option, Some, None, slice_get, slice_index, All}
 use Rattle.heap_words.specs.declared.config.Config.{Config}
 use Rattle.heap_words.specs.Access.{table_index}
 use Rattle.heap_words.specs.Ranges.{seat_count}
-use Rattle.heap_words.specs.Words.{Word, Answer, view, table_words}
+use Rattle.heap_words.specs.Words.{Word, Answer, Ask, view, table_words}
 use Rattle.steps_base.specs.Steps.{Stage}
 use Rattle.shen_graph.specs.declared.command.Command.{Command}
 use Rattle.shen_graph.specs.declared.command.Reply.{Reply}
@@ -25,7 +26,7 @@ use Rattle.mutator.specs.Commands.{refs_of, nums_of}
 use Rattle.mutator.specs.Orders.{is_between_calls}
 use Rattle.mutator.specs.Rows.{Mutating, given_at}
 use Rattle.heap_world.specs.World.{Ghost, World, Plot, hand, Shared}
-use Rattle.heap_world.specs.Asking.{Asking, asks, given, IsAsked, PromisedToMutators}
+use Rattle.heap_world.specs.Asking.{Asking, nothing, asks, refused, given, IsAsked, PromisedToMutators}
 use Rattle.heap_world.specs.Roots.{HasNoMore}
 use Rattle.step_core.specs.Actor.{mutating, Actor, entries_of}
 use Rattle.step_core.specs.Machines.{takes_of, plan_of, HasNumber, IsFitFor}
@@ -65,11 +66,38 @@ IsOfCommand command (asks refs nums) = (refs_of command ≡ refs) × (nums_of co
 IsOfCommand command (given refs nums) = (refs_of command ≡ refs) × (nums_of command ≡ nums)
 IsOfCommand command _ = Unit {0}
 
--- what a mutator has asked for stands in the words of its requests and answers
+-- it is asked for and not answered; it is answered; by an object
+abbrev pub is_request : Asking → Bool
+is_request (asks refs nums) = true
+is_request _ = false
+
+abbrev pub is_given : Asking → Bool
+is_given (given refs nums) = true
+is_given _ = false
+
+abbrev pub is_answer : Asking → Bool
+is_answer refused = true
+is_answer what = is_given what
+
+-- What a mutator that stands at a spot has asked for: nothing, until it has stored its request; then its object, also when it has left the
+-- heap, and so it looks for an answer that comes; and once it has found one, it has that.
+abbrev pub FitsSpot : Spot → Asking → Type 0
+FitsSpot (Waiting wait.AskRoom) what = is_request what ≡ true
+FitsSpot (Waiting wait.StepOut) what = is_request what ≡ true
+FitsSpot (Waiting wait.Poll) what = what ≢ nothing
+FitsSpot (Waiting wait.LoadAnswer) what = is_answer what ≡ true
+FitsSpot (Waiting (wait.StoreRoot address)) what = is_given what ≡ true
+FitsSpot (Entering at Waited) what = is_answer what ≡ true
+FitsSpot _ what = what ≡ nothing
+
+-- What a mutator has asked for stands in the words of its requests and answers; and behind the access that asks for a pause, the word of
+-- what is asked has the bit that a mutator waits, until it is answered.
 pub record HasAsked (w : World) (command : Command) (m : Mutating) : Type 0 where
   pub asking : Asking
   pub is : IsAsked w.memory w.block w.graph.count m.seat asking
   pub of_command : IsOfCommand command asking
+  pub at_spot : FitsSpot m.spot asking
+  pub heard : is_request asking ≡ true → m.spot ≢ Waiting wait.AskRoom → bit_at (w.memory Ask) 1 ≡ 1
 
 -- Words and machines stand for a graph: there is a way to divide the regions into objects of that graph, words in hand and
 -- objects that were made for who waits, and ghost state that has of each seat what its machine does, such that each mutator has in
@@ -114,7 +142,8 @@ has_settled memory answer (Waiting at) = has_waited answer at
 has_settled memory answer _ = false
 
 -- The entries of a mutator in the history are the calls that it has ended and, where the reply of its call in progress is
--- settled, one more, of that call. Between two calls there is no more, and the reply that ends a call is the settled one.
+-- settled, one more, of that call. Between two calls there is no more; the reply that ends a call is the settled one, and so is that with
+-- which a mutator clears its answer.
 -- `memory` has the words that count, and `answer` is the mutator's answer word in the table.
 pub record AreCalls (memory : Word → ℕ) (answer : ℕ) (entries : List Entry) (number : ℕ) (a : Actor) (m : Mutating) : Type 0 where
   pub fixed : Option Reply
@@ -123,6 +152,7 @@ pub record AreCalls (memory : Word → ℕ) (answer : ℕ) (entries : List Entry
   pub before_it : has_settled memory answer m.spot ≡ false → fixed ≡ None
   pub after_it : has_settled memory answer m.spot ≡ true → fixed ≢ None
   pub gives : (reply : Reply) → given_at m.spot ≡ Some reply → fixed ≡ Some reply
+  pub took : (reply : Reply) → m.spot ≡ Waiting (wait.ClearAnswer reply) → fixed ≡ Some reply
 
 -- a machine's next access is of a word of the table, and the word that it finds there is fit
 pub record FindsFit (c : Config) (s : Stage Actor) (a : Actor) : Type 0 where

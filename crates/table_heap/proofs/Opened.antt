@@ -10,6 +10,7 @@ use Rattle.std.proofs.lemmas.Option.{slice_get-map, slice_get_within, get_or_fro
 use Rattle.heap_words.specs.declared.config.Config.{Config}
 use Rattle.heap_words.specs.Ranges.{seat_count}
 use Rattle.shared_table.specs.Views.{View, machine_of, whole, machines_picked, machines_left, dealt_to, is_dealt_to, is_dealt_below, kept_in_view}
+use Rattle.shared_table.specs.Counted.{at_start, steps_in_view}
 use Rattle.shared_table.proofs.Closing.{length-whole}
 use Rattle.shared_table.proofs.Dealing.{picked_twice, picked_all}
 use Rattle.shared_table.proofs.Kept.{kept-whole}
@@ -62,6 +63,12 @@ opened_orders machines none number order there = by_machine (slice_get machines 
         both ∙ ap order_of (sym (get_or_from_slice_get machines number m m is)) ∙ none number m (slice_get_within machines number m is)
 
 -- some of them
+-- no machine has made a step
+pub opened_steps : {R : Type 0} (machines : List R) (number made : ℕ) → machine_of (steps_in_view (whole (map at_start machines))) number ≡ Some made → made ≡ 0
+opened_steps [] number made there = absurd cc
+opened_steps (r ∷ rs) zero made there = cc
+opened_steps (r ∷ rs) (suc number) made there = opened_steps rs number made there
+
 pub picked_some : {R : Type 0} (test : ℕ → Bool) (v : View R) (k : ℕ) (r : R) → machine_of (machines_picked test v) k ≡ Some r → machine_of v k ≡ Some r
 picked_some {R} test v k r there = by_test (test k) (sym (machine_of-picked test v k) ∙ there)
   where

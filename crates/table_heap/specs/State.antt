@@ -89,11 +89,12 @@ pub record IsBundleStep (old new : Bundle) (number : ℕ) (said : Stepped) : Typ
   pub said_is : said ≡ says old.config (machine_at old number) got
   pub orders : orders_of new ≡ slice_set (orders_of old) number (Some Nothing)
 
--- A bundle of the heap before the first event: its machines are these, and none has an order.
+-- A bundle of the heap before the first event: its machines are these, none has an order, and none has made a step.
 pub record IsFresh (h : Heap) (b : Bundle) (view : View Actor) : Type 0 where
   pub of : IsBundleOf b h
   pub machines : view_of b ≡ view
   pub orders : (number : ℕ) (order : Order) → machine_of (orders_of b) number ≡ Some order → order ≡ Nothing
+  pub steps : (number made : ℕ) → machine_of (steps_of b) number ≡ Some made → made ≡ 0
 
 -- What a step promises is one event: it is not met where none was made, nor by two, of whatever machines of the bundle
 pub record StepsAreEvents : Type 0 where

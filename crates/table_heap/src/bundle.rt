@@ -37,7 +37,7 @@ impl Bundle {
     ghost use Rattle.heap_machines.specs.Roles.{is_mutating};
     ghost use Rattle.step_core.specs.Machines.{takes_of, reply_in, place_in, may_begin, made_of_machine};
     ghost use Rattle.heap_machines.specs.Roles.{is_mutating};
-    ghost use Rattle.table_heap.specs.State.{heap_of, view_of, machines_of, orders_of, IsBundleOf, HasMachine, machine_at, order_at, has_turn, IsSameBundle, IsUnmoved, IsUnchanged, IsBundleStep};
+    ghost use Rattle.table_heap.specs.State.{heap_of, view_of, machines_of, orders_of, steps_of, IsBundleOf, HasMachine, machine_at, order_at, has_turn, IsSameBundle, IsUnmoved, IsUnchanged, IsBundleStep};
 
     /// Gives the machines of one bundle, of so many, to a bundle of their own: those whose numbers have the remainder `bundle`.
     /// The error is that memory was refused.
@@ -50,9 +50,9 @@ impl Bundle {
     ) -> Result<Bundle, NoMemory>
         requires heap { IsBundleOf self.old heap.now }
         requires some { 0 < bundles }
-        ensures dealt { IfOk result (λ dealt. IsBundleOf dealt heap.now × (view_of dealt ≡ dealt_to bundles bundle (view_of self.old)) × (orders_of dealt ≡ dealt_to bundles bundle (orders_of self.old))) }
+        ensures dealt { IfOk result (λ dealt. IsBundleOf dealt heap.now × (view_of dealt ≡ dealt_to bundles bundle (view_of self.old)) × (orders_of dealt ≡ dealt_to bundles bundle (orders_of self.old)) × (steps_of dealt ≡ dealt_to bundles bundle (steps_of self.old))) }
         ensures heap { IsBundleOf self.new heap.now }
-        ensures left { IfOk result (λ _. (view_of self.new ≡ machines_left (is_dealt_to bundles bundle) (view_of self.old)) × (orders_of self.new ≡ machines_left (is_dealt_to bundles bundle) (orders_of self.old))) }
+        ensures left { IfOk result (λ _. (view_of self.new ≡ machines_left (is_dealt_to bundles bundle) (view_of self.old)) × (orders_of self.new ≡ machines_left (is_dealt_to bundles bundle) (orders_of self.old)) × (steps_of self.new ≡ machines_left (is_dealt_to bundles bundle) (steps_of self.old))) }
     {
         let Ok(machines) = deal_machines(alloc, &mut self.machines, bundles, bundle) else {
             return Err(NoMemory);
@@ -151,13 +151,14 @@ impl Bundle {
         machine.reply()
     }
 
-    /// The machines of both bundles.
+    /// The machines of both bundles. None makes a step.
     pub fn join(mut self, heap: &Heap, other: Bundle) -> Bundle
         requires this { IsBundleOf self heap.now }
         requires other { IsBundleOf other heap.now }
         ensures heap { IsBundleOf result heap.now }
         ensures view { view_of result ≡ merged (view_of self) (view_of other) }
         ensures orders { orders_of result ≡ merged (orders_of self) (orders_of other) }
+        ensures steps { steps_of result ≡ merged (steps_of self) (steps_of other) }
     {
         let Bundle {
             config: _,

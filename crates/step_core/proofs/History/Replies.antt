@@ -1,5 +1,5 @@
 -- Which reply the history has for a call in progress, by where its mutator stands and by its answer in the table.
-use Rattle.std.proofs.Common.{◌≡◌, ◌≢◌, ℕ, ◌+◌, ◌⊎◌, inl, inr, ⊎_elim, true, false, Option, Some, None, sym, ◌∙◌, arith}
+use Rattle.std.proofs.Common.{◌≡◌, ◌≢◌, ℕ, ◌+◌, ◌⊎◌, inl, inr, ⊎_elim, true, false, Option, Some, None, sym, ◌∙◌, subst, arith}
 use Rattle.std.specs.Prelude.{◌==◌}
 use Rattle.std.proofs.lemmas.Bool.{eqb-true, eqb-false}
 use Rattle.heap_words.specs.declared.config.Config.{Config}
@@ -34,6 +34,12 @@ unsettled_at_rest c w seat made kept command fixed Rest rest facts = facts
 unsettled_at_rest c w seat made kept command fixed (Ended reply) rest facts = facts
 unsettled_at_rest c w seat made kept command fixed Gone rest facts = facts
 unsettled_at_rest c w seat made kept command fixed _ rest facts = absurd (cc (rest))
+
+-- the reply with which it clears its answer is settled
+pub took_settled : (c : Config) (w : World) (seat made : ℕ) (kept : Kept) (command : Command) (fixed : Option Reply) (spot : Spot) (reply : Reply) → spot ≡ Waiting (wait.ClearAnswer reply)
+    → SpotFacts c w seat made kept command fixed spot → fixed ≡ Some reply
+took_settled c w seat made kept command fixed spot reply is facts =
+    let here : SpotFacts c w seat made kept command fixed (Waiting (wait.ClearAnswer reply)) = subst (λ s. SpotFacts c w seat made kept command fixed s) is facts in here.0
 
 -- where one waits that is answered
 pub answered_polls : (w : World) (seat made : ℕ) (k command : Command) (fixed : Option Reply) → IsAnswered w seat made k command fixed → IsPolling w seat made k command fixed

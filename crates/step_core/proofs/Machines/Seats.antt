@@ -50,7 +50,7 @@ use Rattle.control_rows.specs.declared.spot.ControlSpot.{ControlSpot}
 use Rattle.control_rows.specs.declared.spot.ControlSpot.TheVariants as control
 use Rattle.heap_world.specs.World.{World, Body, body_words, hand, UsableIn}
 use Rattle.step_core.specs.Actor.{Machine, mutating, helping, controlling, Actor}
-use Rattle.step_core.specs.Seats.{copies_in, IsRoomIn, help_unit, control_unit, unit_scan, unit_copies, unit_region, UnitRoom, take_looks, resolve_looks, evac_looks, unit_looks, make_looks, call_looks, Carried, resolve_carries, evac_carries, unit_carries, call_carries, StandsThere, IsInSeat, before_record, before_resolve, works_on, AsksNothing, MakesObject, is_clearing, IsServed, IsOfRoots, IsOfField, IsOfLoaded, IsOfOverwritten, IsOfCall, is_answered}
+use Rattle.step_core.specs.Seats.{copies_in, IsRoomIn, help_unit, control_unit, unit_scan, unit_copies, unit_region, UnitRoom, take_looks, resolve_looks, evac_looks, unit_looks, make_looks, call_looks, Carried, resolve_carries, evac_carries, unit_carries, call_carries, StandsThere, IsInSeat, before_record, before_resolve, works_on, AsksNothing, MakesObject, IsServed, IsOfRoots, IsOfField, IsOfLoaded, IsOfOverwritten, IsOfCall, is_answered}
 use Rattle.step_core.proofs.Machines.Owed.{IsResting, CanWork, HelpFacts, ControlFacts, IsMachine}
 use Rattle.step_core.proofs.Machines.Stepped.{HasObject, FieldFacts, NumberFacts, ShowFacts, RecordFacts, LoadedFacts, MakeFacts, IsResolving, IsMaking, IsPolling, IsAnswered, WaitFacts, SpotFacts, Mine, HasTaken, IsCas, IsCopy, IsDrop, LoadFacts}
 use Rattle.step_core.specs.Own.{IsInMaking, IsInHand}
@@ -369,19 +369,19 @@ module _ (w : World) (seat made : ℕ) (k command : Command) (fixed : Option Rep
   answered_makes (inl given) = making _ _ _ given.0
   answered_makes (inr full) = record { dst = full.0.dst; refs = full.0.refs; nums = full.0.nums; is = full.0.is }
 
-  waiting_makes : (c : Config) (at : WaitSpot) → is_clearing (Waiting at) ≡ false → WaitFacts c w seat made k command fixed at → MakesObject command
-  waiting_makes c wait.StoreRequest going facts = making _ _ _ facts.0
-  waiting_makes c wait.AskRoom going facts = making _ _ _ facts.0
-  waiting_makes c wait.StepOut going facts = making _ _ _ facts.0.0
-  waiting_makes c wait.Poll going facts = polling_makes facts
-  waiting_makes c wait.LoadAnswer going facts = answered_makes facts
-  waiting_makes c (wait.StoreRoot address) going facts = making _ _ _ facts.0.0
-  waiting_makes c (wait.ClearAnswer reply) going facts = absurd cc
+  waiting_makes : (c : Config) (at : WaitSpot) → WaitFacts c w seat made k command fixed at → MakesObject command
+  waiting_makes c wait.StoreRequest facts = making _ _ _ facts.0
+  waiting_makes c wait.AskRoom facts = making _ _ _ facts.0
+  waiting_makes c wait.StepOut facts = making _ _ _ facts.0.0
+  waiting_makes c wait.Poll facts = polling_makes facts
+  waiting_makes c wait.LoadAnswer facts = answered_makes facts
+  waiting_makes c (wait.StoreRoot address) facts = making _ _ _ facts.0.0
+  waiting_makes c (wait.ClearAnswer reply) facts = facts.4
 
-  waits_make : (c : Config) (kept : Kept) (spot : Spot) → kept.command ≡ k → is_waiting spot ≡ true → is_clearing spot ≡ false → SpotFacts c w seat made kept command fixed spot → MakesObject command
-  waits_make c kept (Waiting at) is waiting going facts = waiting_makes c at going (subst (λ j. WaitFacts c w seat made j command fixed at) is facts)
-  waits_make c kept (Entering at Waited) is waiting going facts = answered_makes (subst (λ j. IsAnswered w seat made j command fixed) is facts)
-  waits_make c kept _ is waiting going facts = absurd cc
+  waits_make : (c : Config) (kept : Kept) (spot : Spot) → kept.command ≡ k → is_waiting spot ≡ true → SpotFacts c w seat made kept command fixed spot → MakesObject command
+  waits_make c kept (Waiting at) is waiting facts = waiting_makes c at (subst (λ j. WaitFacts c w seat made j command fixed at) is facts)
+  waits_make c kept (Entering at Waited) is waiting facts = answered_makes (subst (λ j. IsAnswered w seat made j command fixed) is facts)
+  waits_make c kept _ is waiting facts = absurd cc
 
 -- who clears its answer has taken what it was answered
 clearing_taken : (c : Config) (w : World) (seat made : ℕ) (kept : Kept) (command : Command) (fixed : Option Reply) (reply : Reply) → SpotFacts c w seat made kept command fixed (Waiting (wait.ClearAnswer reply))
@@ -408,7 +408,7 @@ served c w m command fixed mine = record {
   roots = mine.seated.usable;
   resolved = λ object is. works_usable c w m.seat m.made object m.kept command fixed m.spot is mine.facts;
   unasked = λ calm. let none = mine.seated.unasked calm in (record { no_request = none.0; no_promise = none.2 }, none.1);
-  waits = λ waiting going. waits_make w m.seat m.made m.kept.command command fixed c m.kept m.spot refl waiting going mine.facts;
+  waits = λ waiting. waits_make w m.seat m.made m.kept.command command fixed c m.kept m.spot refl waiting mine.facts;
   loaded = λ a is. call_usable c w m.seat m.made m.kept command fixed m.spot mine.facts a is;
   answered = λ is. has_answer c w m.seat m.made m.kept command fixed m.spot is mine.facts;
   stored = λ address is. (facts_at c w m.seat m.made m.kept command fixed m.spot (Waiting (wait.StoreRoot address)) is mine.facts).1;

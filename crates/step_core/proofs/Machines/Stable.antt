@@ -5,7 +5,7 @@ use Rattle.heap_words.specs.declared.config.Config.{Config}
 use Rattle.heap_words.specs.Words.{Answer, Ask}
 use Rattle.shen_graph.specs.declared.command.Command.{Command}
 use Rattle.shen_graph.specs.declared.command.Reply.{Reply}
-use Rattle.shen_graph.specs.declared.command.Reply.TheVariants.{Ref}
+use Rattle.shen_graph.specs.declared.command.Reply.TheVariants.{Ref, Full}
 use Rattle.alloc_buffers.specs.declared.spot.TakeSpot.{TakeSpot}
 use Rattle.mutator.specs.declared.spot.Kept.{Kept}
 use Rattle.mutator.specs.declared.spot.Spot.{Spot}
@@ -257,7 +257,8 @@ module _ (c : Config) (u w : World) (seat : ℕ) (keeps : Keeps c seat u w) wher
   -- what was answered and taken stays so
   taken_stays : (reply : Reply) → HasTaken c u seat reply → HasTaken c w seat reply
   taken_stays (Ref name) taken = (taken.0, taken.1, subst (λ a. TargetIn c w a taken.0 taken.1 name) (sym keeps.answer) (keeps.targets (u.memory (Answer seat)) taken.0 taken.1 name taken.2))
-  taken_stays _ full = keeps.answer ∙ full
+  taken_stays Full full = keeps.answer ∙ full
+  taken_stays _ other = absurd other
 
   pub wait_stays : (bit_at (u.memory Ask) 1 ≡ 1 → bit_at (w.memory Ask) 1 ≡ 1) → (made : ℕ) (k command : Command) (fixed : Option Reply) (at : WaitSpot) → WaitFacts c u seat made k command fixed at → WaitFacts c w seat made k command fixed at
   wait_stays bit made k command fixed wait.StoreRequest facts = asking_stays made k command fixed asking.nothing facts
@@ -266,7 +267,7 @@ module _ (c : Config) (u w : World) (seat : ℕ) (keeps : Keeps c seat u w) wher
   wait_stays bit made k command fixed wait.Poll facts = polling_stays bit made k command fixed facts
   wait_stays bit made k command fixed wait.LoadAnswer facts = answered_stays made k command fixed facts
   wait_stays bit made k command fixed (wait.StoreRoot address) facts = (asking_stays made k command fixed (asking.given (refs_of k) (nums_of k)) facts.0, keeps.answer ∙ facts.1)
-  wait_stays bit made k command fixed (wait.ClearAnswer reply) facts = (facts.0, keeps.wait ∙ facts.1, unpromised_stays facts.2, taken_stays reply facts.3)
+  wait_stays bit made k command fixed (wait.ClearAnswer reply) facts = (facts.0, keeps.wait ∙ facts.1, unpromised_stays facts.2, taken_stays reply facts.3, facts.4)
 
   -- and at its spot, if that of a taking does, that of the words of a new object, of a resolving and of a recording, and the bit that a
   -- mutator waits

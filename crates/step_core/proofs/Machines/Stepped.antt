@@ -44,7 +44,7 @@ use Rattle.mutator.specs.Told.{told_of}
 use Rattle.mutator.specs.Fit.{IsReady}
 use Rattle.step_core.specs.Actor.{entry_of, command_by}
 use Rattle.step_core.specs.Own.{root_now, IsInHand}
-pub use Rattle.step_core.specs.Seats.{recording_of, copies_at, HasTaken}
+pub use Rattle.step_core.specs.Seats.{recording_of, copies_at, HasTaken, MakesObject}
 use Rattle.mark_steps.specs.Recording.{CanRecord}
 use Rattle.load_barrier.specs.declared.spot.ResolveSpot.{ResolveSpot}
 use Rattle.move_steps.specs.Resolving.Facts.{CanResolve}
@@ -281,7 +281,8 @@ WaitFacts c w seat made k command fixed wait.Poll = IsPolling w seat made k comm
 WaitFacts c w seat made k command fixed wait.LoadAnswer = IsAnswered w seat made k command fixed
 WaitFacts c w seat made k command fixed (wait.StoreRoot address) =
     IsAsking w seat made k command fixed (asking.given (refs_of k) (nums_of k)) × (w.memory (Answer seat) ≡ address)
-WaitFacts c w seat made k command fixed (wait.ClearAnswer reply) = (fixed ≡ Some reply) × (w.memory (Wait seat) ≡ 0) × HasNoPromise w.block seat × HasTaken c w seat reply
+WaitFacts c w seat made k command fixed (wait.ClearAnswer reply) =
+    (fixed ≡ Some reply) × (w.memory (Wait seat) ≡ 0) × HasNoPromise w.block seat × HasTaken c w seat reply × MakesObject command
 
 -- the machine of a seat resolves an address: objects are evacuated, or references to them updated
 abbrev pub IsResolving : Config → World → (seat address : ℕ) → ResolveSpot → Type 0

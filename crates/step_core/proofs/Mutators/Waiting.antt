@@ -16,7 +16,7 @@ use Rattle.mutator.specs.declared.spot.Entered.TheVariants.{Waited}
 use Rattle.mutator.specs.declared.spot.Spot.TheVariants.{Entering, Waiting}
 use Rattle.mutator.specs.declared.waits.WaitSpot.{WaitSpot}
 use Rattle.mutator.specs.declared.waits.WaitSpot.TheVariants as wait
-use Rattle.mutator.specs.Commands.{refs_of, nums_of}
+use Rattle.mutator.specs.Commands.{dst_of, refs_of, nums_of}
 use Rattle.mutator.specs.Rows.{Mutating}
 use Rattle.mutator.specs.WaitRows.{next_name}
 use Rattle.heap_world.specs.World.{World, Shared, promised, TargetIn, IsMarkable}
@@ -179,7 +179,7 @@ module _ (c : Config) (u : World) (seat made : ℕ) (kept : Kept) (command : Com
         hands = mine.hands;
         facts = ⊎_elim
             (λ given. let more = given.1.1 in let one = eqb-true _ _ full in absurd (omega (arith, more, one)))
-            (λ no. (no.0.settled, no.1.0, no.1.2, no.1.1))
+            (λ no. (no.0.settled, no.1.0, no.1.2, no.1.1, record { dst = no.0.dst; refs = no.0.refs; nums = no.0.nums; is = no.0.is }))
             mine.facts;
       }
       by_full false other = ⊎_elim
@@ -232,6 +232,7 @@ module _ (c : Config) (u : World) (seat made : ℕ) (kept : Kept) (command : Com
         mine.facts.0.1.0,
         λ a words is. let old = promise_before has a seat words is in old.0 (promise.only a words old.1),
         (refs, nums, subst (λ a. TargetIn c (made_world has) a refs nums (next_name seat made)) (sym mine.facts.1) (taken_made has)),
+        record { dst = dst_of kept.command; refs = refs; nums = nums; is = mine.facts.0.0.is },
       );
     }
 

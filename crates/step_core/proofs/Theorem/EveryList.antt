@@ -66,7 +66,7 @@ use Rattle.step_core.proofs.Handshake.Mutator.{has_not_ended}
 use Rattle.step_core.proofs.Mutators.Ordered.{order_word}
 use Rattle.step_core.proofs.Mutators.Outside.{outside_touch}
 use Rattle.step_core.specs.Standing.{standing_at, help_standing}
-use Rattle.step_core.proofs.History.Replies.{unsettled_at_rest, unsettled_before, settled_after}
+use Rattle.step_core.proofs.History.Replies.{unsettled_at_rest, unsettled_before, settled_after, took_settled}
 use Rattle.step_core.proofs.Machines.Seats.{in_seat}
 use Rattle.step_core.proofs.Theorem.Stands.{thread_of as thread_there, stands}
 use Rattle.step_core.proofs.Theorem.AtRest.{at_rest}
@@ -255,6 +255,7 @@ module _ (change : Change) (law : IsPause change) (c : Config) (g : Graph) (s : 
           before_it = λ before. unsettled_before c the_world m.seat m.made m.kept a.command thread.fixed (view c s.words (Answer number)) seen goes.follows.shared m.spot before thread.mine.facts;
           after_it = λ behind. settled_after c the_world m.seat m.made m.kept a.command thread.fixed (view c s.words (Answer number)) seen goes.follows.shared m.spot behind thread.mine.facts;
           gives = λ reply is. gives_settled c the_world m.seat m.kept a.command thread.fixed m.spot m.made reply thread.mine.facts is;
+          took = λ reply is. took_settled c the_world m.seat m.made m.kept a.command thread.fixed m.spot reply is thread.mine.facts;
         };
     fit = finds_fit;
   }

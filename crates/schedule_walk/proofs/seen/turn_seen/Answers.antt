@@ -2,7 +2,7 @@ use Rattle.std.proofs.Common.{◌≡◌, true, false, refl, sym, ap, ◌∙◌, 
 use Rattle.std.specs.Prelude.{slice_index}
 use Rattle.shen_core.specs.Progress.{CanRun, HasTurned}
 use Rattle.shen_core.proofs.Noted.{can_run_on, can_run_noted, turned_on, turned_noted, none_given, reply_given, can_tell}
-use Rattle.schedule_walk.proofs.Stepping.{stepped, sees_turn}
+use Rattle.schedule_walk.proofs.Stepping.{stepped, sees_turn, settles_turn}
 use Rattle.schedule_walk.proofs.seen.turn_seen.Goals as goal
 
 pub told-requires-clause-script : goal.told-requires-clause-script
@@ -32,6 +32,11 @@ returns-in-Done-clause-seen c =
     let facts = (stepped c.args.plain.now c.order_next.new.self c.step-said.new.self c.args.work.now c.args.number _ c.step-said.result c.requires.number c.order_next.ensures.words c.order_next.ensures.machines c.order_next.ensures.config c.order_next.ensures.orders c.order_next.ensures.turn c.order_next.ensures.next c.order_next.ensures.has c.if-not-order_next.false c.step-said.ensures.event c.step-said.ensures.says c.step-said.ensures.machines c.step-said.ensures.orders c.step-said.ensures.config) in
     sees_turn _ _ _ _ _ _ _ facts refl c.in_ok-place.ensures.place c.plan-access.ensures.row (c.word-found.ensures ∙ ap (slice_index _) c.at.ensures)
 
+pub returns-in-Done-clause-settles : goal.returns-in-Done-clause-settles
+returns-in-Done-clause-settles c =
+    let facts = (stepped c.args.plain.now c.order_next.new.self c.step-said.new.self c.args.work.now c.args.number _ c.step-said.result c.requires.number c.order_next.ensures.words c.order_next.ensures.machines c.order_next.ensures.config c.order_next.ensures.orders c.order_next.ensures.turn c.order_next.ensures.next c.order_next.ensures.has c.if-not-order_next.false c.step-said.ensures.event c.step-said.ensures.says c.step-said.ensures.machines c.step-said.ensures.orders c.step-said.ensures.config) in
+    settles_turn _ _ _ _ _ _ _ facts c.settles-settles.ensures
+
 pub returns-in_default : goal.returns-in_default
 returns-in_default c =
     let facts = (stepped c.args.plain.now c.order_next.new.self c.step-said.new.self c.args.work.now c.args.number _ c.step-said.result c.requires.number c.order_next.ensures.words c.order_next.ensures.machines c.order_next.ensures.config c.order_next.ensures.orders c.order_next.ensures.turn c.order_next.ensures.next c.order_next.ensures.has c.if-not-order_next.false c.step-said.ensures.event c.step-said.ensures.says c.step-said.ensures.machines c.step-said.ensures.orders c.step-said.ensures.config) in
@@ -43,4 +48,5 @@ returns-in_default c =
       idle = λ none. cc;
       idle_work = λ none. cc;
       seen = sees_turn _ _ _ _ _ _ _ facts refl c.in_ok-place.ensures.place c.plan-access.ensures.row (c.word-found.ensures ∙ ap (slice_index _) c.at.ensures);
+      settles = settles_turn _ _ _ _ _ _ _ facts c.settles-settles.ensures;
     }

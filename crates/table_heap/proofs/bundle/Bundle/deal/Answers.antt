@@ -1,6 +1,6 @@
 use Rattle.std.proofs.Common.{length, not, sym, ap, ◌∙◌, subst}
 use Rattle.shared_table.specs.Views.{is_dealt_to, dealt_to, machines_left, kept_in_view}
-use Rattle.shared_table.specs.Counted.{uncounted_machine, uncounted_view}
+use Rattle.shared_table.specs.Counted.{uncounted_machine, steps_made, uncounted_view, steps_in_view}
 use Rattle.shared_table.proofs.Dealing.{length-picked}
 use Rattle.shared_table.proofs.Kept.{kept-picked}
 use Rattle.heap_machines.specs.Shown.{shown, order_of}
@@ -56,10 +56,12 @@ returns-clause-dealt c = (
   record { table = c.deal_bundle-seat.ensures.dealt.0 ∙ c.requires.heap.table; config = c.requires.heap.config },
   ap (λ me. uncounted_view me.0) c.deal_bundle-seat.ensures.dealt.1 ∙ kept-picked uncounted_machine (is_dealt_to c.args.bundles c.args.bundle) c.args.self.now.seat.me.0,
   ap (kept_in_view order_of) c.in-Ok.ensures.dealt ∙ kept-picked order_of (is_dealt_to c.args.bundles c.args.bundle) c.args.self.now.machines.items,
+  ap (λ me. steps_in_view me.0) c.deal_bundle-seat.ensures.dealt.1 ∙ kept-picked steps_made (is_dealt_to c.args.bundles c.args.bundle) c.args.self.now.seat.me.0,
 )
 
 pub returns-clause-left : goal.returns-clause-left
 returns-clause-left c = (
   ap (λ me. uncounted_view me.0) c.deal_bundle-seat.ensures.kept.1 ∙ kept-picked uncounted_machine (λ number. not (is_dealt_to c.args.bundles c.args.bundle number)) c.args.self.now.seat.me.0,
   ap (kept_in_view order_of) c.in-Ok.ensures.left ∙ kept-picked order_of (λ number. not (is_dealt_to c.args.bundles c.args.bundle number)) c.args.self.now.machines.items,
+  ap (λ me. steps_in_view me.0) c.deal_bundle-seat.ensures.kept.1 ∙ kept-picked steps_made (λ number. not (is_dealt_to c.args.bundles c.args.bundle number)) c.args.self.now.seat.me.0,
 )

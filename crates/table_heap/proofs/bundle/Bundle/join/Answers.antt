@@ -1,7 +1,7 @@
 use Rattle.std.proofs.Common.{◌≡◌, length, sym, ap, ◌∙◌, subst}
 use Rattle.heap_words.specs.Ranges.{seat_count}
 use Rattle.shared_table.specs.Views.{merged, kept_in_view}
-use Rattle.shared_table.specs.Counted.{uncounted_machine, uncounted_view}
+use Rattle.shared_table.specs.Counted.{uncounted_machine, steps_made, uncounted_view, steps_in_view}
 use Rattle.shared_table.proofs.Dealing.{length-merged}
 use Rattle.shared_table.proofs.Kept.{kept-merged}
 use Rattle.heap_machines.specs.Shown.{shown, order_of}
@@ -33,6 +33,9 @@ invariant_of-self c =
 
 pub returns-clause-view : goal.returns-clause-view
 returns-clause-view c = ap (λ me. uncounted_view me.0) c.join_bundle.ensures.1 ∙ kept-merged uncounted_machine c.args.self.seat.me.0 c.args.other.seat.me.0
+
+pub returns-clause-steps : goal.returns-clause-steps
+returns-clause-steps c = ap (λ me. steps_in_view me.0) c.join_bundle.ensures.1 ∙ kept-merged steps_made c.args.self.seat.me.0 c.args.other.seat.me.0
 
 pub returns-clause-orders : goal.returns-clause-orders
 returns-clause-orders c = ap (kept_in_view order_of) c.join_machines.ensures ∙ kept-merged order_of c.args.self.machines.items c.args.other.machines.items

@@ -4,7 +4,7 @@ use Rattle.std.proofs.lemmas.List.{length-append}
 use Rattle.shared_table.specs.Views.{View, machine_of, whole, machines_left, is_dealt_to, dealt_to}
 use Rattle.step_core.specs.Actor.{Actor}
 use Rattle.table_heap.specs.Core.{heap_opening}
-use Rattle.table_heap.specs.State.{IsFresh, orders_of}
+use Rattle.table_heap.specs.State.{IsFresh, orders_of, steps_of}
 use Rattle.table_heap.proofs.Opened.{picked_some, left_first, dealt_next, left_next, each_more}
 use Rattle.table_heap.proofs.heap.Heap.open.Goals as goal
 
@@ -15,6 +15,7 @@ loop-bundle-init c =
       of = fresh.of;
       view = fresh.machines ∙ sym (left_first c.args.workers (whole (heap_opening c.args.config).machines));
       orders = fresh.orders;
+      steps = fresh.steps;
       count = ap length c.in-Ok.ensures.items;
       each = λ k b there. absurd (let none = ap (λ xs. slice_get xs k) c.in-Ok.ensures.items in cc);
     }
@@ -32,6 +33,8 @@ loop-bundle-preserved c =
       view = dealt.left.0 ∙ ap (machines_left (is_dealt_to c.args.workers l.bundle)) l.invariant.view ∙ left_next c.args.workers all l.bundle;
       orders = λ number order there.
           l.invariant.orders number order (picked_some (λ k. not (is_dealt_to c.args.workers l.bundle k)) (orders_of l.all) number order (ap (λ v. machine_of v number) (sym dealt.left.1) ∙ there));
+      steps = λ number made there.
+          l.invariant.steps number made (picked_some (λ k. not (is_dealt_to c.args.workers l.bundle k)) (steps_of l.all) number made (ap (λ v. machine_of v number) (sym dealt.left.2) ∙ there));
       count = ap length c.in-Ok-push.ensures.items ∙ length-append l.bundles.items (c.in_ok-dealt.dealt ∷ []) ∙ ap (λ n. n + 1) l.invariant.count;
       each = λ k b there.
           each_more (λ j x. IsFresh c.in_ok-heap.heap x (dealt_to c.args.workers j all)) l.bundles.items c.in_ok-dealt.dealt l.bundle l.invariant.count l.invariant.each
@@ -40,6 +43,8 @@ loop-bundle-preserved c =
             machines = dealt.dealt.1 ∙ ap (dealt_to c.args.workers l.bundle) l.invariant.view ∙ dealt_next c.args.workers all l.bundle;
             orders = λ number order there.
                 l.invariant.orders number order (picked_some (is_dealt_to c.args.workers l.bundle) (orders_of l.all) number order (ap (λ v. machine_of v number) (sym dealt.dealt.2) ∙ there));
+            steps = λ number made there.
+                l.invariant.steps number made (picked_some (is_dealt_to c.args.workers l.bundle) (steps_of l.all) number made (ap (λ v. machine_of v number) (sym dealt.dealt.3) ∙ there));
           })
           k b (ap (λ xs. slice_get xs k) (sym c.in-Ok-push.ensures.items) ∙ there);
     }

@@ -5,7 +5,7 @@ use Rattle.shen_graph.specs.declared.order.Order.{Order}
 use Rattle.shen_graph.specs.declared.order.Order.TheVariants.{Nothing}
 use Rattle.table_heap.specs.declared.bundle.Bundle.{Bundle}
 use Rattle.table_heap.specs.Core.{heap_opening}
-use Rattle.table_heap.specs.State.{view_of, orders_of, IsBundleOf, IsFresh}
+use Rattle.table_heap.specs.State.{view_of, orders_of, steps_of, IsBundleOf, IsFresh}
 use Rattle.table_heap.proofs.heap.Heap.open.Given as goal
 
 abbrev pub invariant-loop-bundle : goal.invariant-loop-bundle
@@ -13,6 +13,7 @@ invariant-loop-bundle l = record {
   of : IsBundleOf l.all l.heap;
   view : view_of l.all ≡ machines_left (is_dealt_below l.workers l.bundle) (whole (heap_opening l.fn.config).machines);
   orders : (number : ℕ) (order : Order) → machine_of (orders_of l.all) number ≡ Some order → order ≡ Nothing;
+  steps : (number made : ℕ) → machine_of (steps_of l.all) number ≡ Some made → made ≡ 0;
   count : length l.bundles.items ≡ l.bundle;
   each : (k : ℕ) (b : Bundle) → slice_get l.bundles.items k ≡ Some b → IsFresh l.heap b (dealt_to l.workers k (whole (heap_opening l.fn.config).machines));
 }

@@ -1,13 +1,13 @@
 use Rattle.std.proofs.Common.{length, refl, sym, ap, ◌∙◌, subst}
 use Rattle.shared_table.specs.Views.{machine_of, kept_in_view}
-use Rattle.shared_table.specs.Counted.{uncounted_view}
+use Rattle.shared_table.specs.Counted.{uncounted_view, steps_in_view}
 use Rattle.shared_table.proofs.Counted.{first_view}
 use Rattle.step_core.proofs.Theorem.OpeningStands.{length-opening}
 use Rattle.heap_machines.specs.Shown.{shown, order_of}
 use Rattle.table_heap.specs.Core.{heap_opening, machine_in}
 use Rattle.table_heap.specs.Known.{AreOfHeap}
 use Rattle.table_heap.proofs.Core.{first_words}
-use Rattle.table_heap.proofs.Opened.{opened_count, opened_kept, opened_of_heap, opened_orders}
+use Rattle.table_heap.proofs.Opened.{opened_count, opened_kept, opened_of_heap, opened_orders, opened_steps}
 use Rattle.table_heap.proofs.heap.Heap.open_whole.Goals as goal
 
 pub open_table-requires : goal.open_table-requires
@@ -37,4 +37,5 @@ returns-clause-bundle c =
       of = record { table = c.in-Ok-open_table.ensures.3; config = refl };
       machines = ap (λ me. uncounted_view me.0) c.in-Ok-open_table.ensures.4 ∙ first_view (heap_opening c.args.config);
       orders = λ number order there. opened_orders machines c.in_ok-open_machines.ensures.orders number order (ap (λ v. machine_of (kept_in_view order_of v) number) (sym c.in_ok-machines.ensures) ∙ there);
+      steps = λ number made there. opened_steps (heap_opening c.args.config).machines number made (ap (λ me. machine_of (steps_in_view me.0) number) (sym c.in-Ok-open_table.ensures.4) ∙ there);
     }
