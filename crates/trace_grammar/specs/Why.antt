@@ -1,7 +1,7 @@
 -- What is said of a line that is refused.
 use Rattle.std.specs.Prelude.{ℕ, List, codes}
 use Rattle.trace_grammar.specs.declared.why.Why.{Why}
-use Rattle.trace_grammar.specs.declared.why.Why.TheVariants.{EndOfLine, Header, ScheduleLast, Command, Item, Number, Range, AnswerWanted, HistoryWanted, EntryWanted}
+use Rattle.trace_grammar.specs.declared.why.Why.TheVariants.{EndOfLine, Header, ScheduleLast, Command, Item, Number, Range, AnswerWanted, HistoryWanted, EntryWanted, DumpWanted}
 
 abbrev pub text_of : Why → List ℕ
 text_of EndOfLine = codes "end of line wanted"
@@ -14,3 +14,4 @@ text_of Range = codes "out of range"
 text_of AnswerWanted = codes "answer wanted"
 text_of HistoryWanted = codes "history wanted"
 text_of EntryWanted = codes "entry wanted"
+text_of DumpWanted = codes "dump wanted"

@@ -1,7 +1,7 @@
 ghost use Rattle.std.specs.Prelude.{◌≡◌};
 ghost use Rattle.trace_grammar.specs.Why.{text_of};
 
-/// Why a line of a trace is refused, or one of what stands behind a trace.
+/// Why a line of a trace or of a dump is refused, or one of what stands behind a trace.
 #[derive(Clone, Copy, Debug, PartialEq, Eq)]
 pub enum Why {
     /// The input ends within the line, or where a line of the head is to come: `end of line wanted`.
@@ -24,6 +24,9 @@ pub enum Why {
     HistoryWanted,
     /// A line of the history is none of an entry: `entry wanted`.
     EntryWanted,
+    /// A line of a dump is outside its form, its ranges or the order of names, or the dump does not list what its roots lead to:
+    /// `dump wanted`.
+    DumpWanted,
 }
 
 impl Why {
@@ -42,6 +45,7 @@ impl Why {
             Why::AnswerWanted => b"answer wanted",
             Why::HistoryWanted => b"history wanted",
             Why::EntryWanted => b"entry wanted",
+            Why::DumpWanted => b"dump wanted",
         }
     }
 }

@@ -1,5 +1,5 @@
 -- Bytes at which no line stands have a cause.
-use Rattle.std.proofs.Common.{◌≡◌, ◌≢◌, ◌⊎◌, ℕ, ◌+◌, ◌≤◌, Bool, true, false, eqb, ltb, List, [], ◌∷◌, ◌++◌, length, Option, Some, None, inl, inr, refl, sym, ap, subst, arith}
+use Rattle.std.proofs.Common.{◌≡◌, ◌≢◌, ◌⊎◌, ℕ, ◌+◌, ◌≤◌, Bool, true, false, eqb, ltb, List, [], ◌∷◌, ◌++◌, length, Option, Some, None, inl, inr, refl, sym, ap, ◌∙◌, subst, arith}
 use Rattle.std.specs.List.{flat_map}
 use Rattle.std.proofs.lemmas.Bool.Decides.{nat_tests}
 use Rattle.std.proofs.lemmas.List.{length-append}
@@ -16,7 +16,7 @@ use Rattle.trace_refusals.specs.Causes.{parts}
 use Rattle.trace_refusals.specs.Refused.{Commands, body_stage, cause_of, StopsAt}
 use Rattle.trace_refusals.proofs.Begins.{Begun, begun_head, begun_lines, begun_turns, begun_stops}
 use Rattle.trace_refusals.proofs.Spells.{BeginsWithCommand, BeginsWithTurn, commands_spell, turns_spell}
-use Rattle.trace_reading.specs.Stops.{StopsCommands, StopsTurns}
+use Rattle.trace_reading.specs.Stops.{StopsBody, StopsCommands, StopsTurns}
 
 -- ---- no line of a command
 
@@ -55,19 +55,38 @@ turns_fit turns bytes rest e = let few = few_turns turns in let size = ap length
 
 -- ---- the whole trace
 
-pub stops_in_commands : (bytes rest : List ℕ) (c : Config) (n : ℕ) (why : Why) → bytes ≡ header c ++ rest → StopsCommands c rest n why → StopsAt bytes n why
-stops_in_commands bytes rest c n why e stops =
-    let head = begun_head bytes rest c e in
-    let lines = begun_lines bytes stops.lines stops.rest 3 c stops.in_range (subst (λ (bs : List ℕ). Begun bytes bs 3 (Commands c)) stops.spelled head) in
-    begun_stops bytes stops.rest (3 + length stops.lines) n (Commands c) why lines (omega (arith, stops.number)) stops.cause
+pub stops_in_commands : (c : Config) (first : ℕ) (bytes : List ℕ) (n : ℕ) (why : Why) → StopsCommands c first bytes n why → StopsBody c first bytes n why
+stops_in_commands c first bytes n why stops = record {
+  lines = stops.lines;
+  in_range = stops.in_range;
+  turns = [];
+  turns_in_range = tt;
+  rest = stops.rest;
+  spelled = stops.spelled;
+  number = omega (arith, stops.number);
+  cause = stops.cause;
+}
 
-pub stops_in_turns : (bytes rest behind : List ℕ) (c : Config) (scripts : List (List Command)) (first n : ℕ) (why : Why) (taken : HasReadLines c.mutators rest behind scripts) → bytes ≡ header c ++ rest → first ≡ 4 + length taken.lines
-    → StopsTurns c first behind n why → StopsAt bytes n why
-stops_in_turns bytes rest behind c scripts first n why taken e number stops =
+pub stops_in_turns : (c : Config) (first next : ℕ) (bytes behind : List ℕ) (scripts : List (List Command)) (n : ℕ) (why : Why) (taken : HasReadLines c.mutators bytes behind scripts) → next ≡ first + length taken.lines
+    → StopsTurns c next behind n why → StopsBody c first bytes n why
+stops_in_turns c first next bytes behind scripts n why taken number stops = record {
+  lines = taken.lines;
+  in_range = taken.in_range;
+  turns = stops.turns;
+  turns_in_range = stops.in_range;
+  rest = stops.rest;
+  spelled = taken.spelled ∙ ap (λ (t : List ℕ). flat_map line taken.lines ++ t) stops.spelled;
+  number = omega (arith, number, stops.number);
+  cause = stops.cause;
+}
+
+pub stops_behind_head : (bytes rest : List ℕ) (c : Config) (n : ℕ) (why : Why) → bytes ≡ header c ++ rest → StopsBody c 4 rest n why → StopsAt bytes n why
+stops_behind_head bytes rest c n why e stops =
     let head = begun_head bytes rest c e in
-    let lines = begun_lines bytes taken.lines behind 3 c taken.in_range (subst (λ (bs : List ℕ). Begun bytes bs 3 (Commands c)) taken.spelled head) in
-    let turns = begun_turns bytes stops.turns stops.rest (3 + length taken.lines) c stops.in_range (subst (λ (bs : List ℕ). Begun bytes bs (3 + length taken.lines) (Commands c)) stops.spelled lines) in
-    begun_stops bytes stops.rest (3 + length taken.lines + length stops.turns) n (body_stage c (ltb 0 (length stops.turns))) why turns (omega (arith, number, stops.number)) stops.cause
+    let behind = flat_map schedule_line stops.turns ++ stops.rest in
+    let lines = begun_lines bytes stops.lines behind 3 c stops.in_range (subst (λ (bs : List ℕ). Begun bytes bs 3 (Commands c)) stops.spelled head) in
+    let turns = begun_turns bytes stops.turns stops.rest (3 + length stops.lines) c stops.turns_in_range lines in
+    begun_stops bytes stops.rest (3 + length stops.lines + length stops.turns) n (body_stage c (ltb 0 (length stops.turns))) why turns (omega (arith, stops.number)) stops.cause
 
 pub known : (o : Option Why) → (o ≡ None → ⊥) → IsSome o
 known (Some why) some = refl

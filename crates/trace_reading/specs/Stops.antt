@@ -1,20 +1,22 @@
 -- Where the lines behind the head stop being those of a trace.
 use Rattle.std.specs.Prelude.{ℕ, ◌≡◌, ◌+◌, List, ◌++◌, length, nat_lt, false, Some}
 use Rattle.std.specs.List.{flat_map, AllByRecursion}
+use Rattle.shen_graph.specs.declared.command.Command.{Command}
 use Rattle.heap_words.specs.declared.config.Config.{Config}
 use Rattle.heap_words.specs.declared.schedule.Item.{Item}
 use Rattle.trace_grammar.specs.Spelling.{newline, TraceLine, line, IsLine, schedule_line, IsScheduleLine}
+use Rattle.trace_grammar.specs.Grammar.{scripts_of, items_of}
 use Rattle.trace_grammar.specs.declared.why.Why.{Why}
 use Rattle.trace_refusals.specs.Causes.{parts}
 use Rattle.trace_refusals.specs.Refused.{body_stage, cause_of}
 
--- behind lines of commands, of which the first is line 4, these bytes are refused at line n
-pub record StopsCommands (c : Config) (bytes : List ℕ) (n : ℕ) (why : Why) : Type 0 where
+-- behind lines of commands, of which the first has this number, these bytes are refused at line n
+pub record StopsCommands (c : Config) (first : ℕ) (bytes : List ℕ) (n : ℕ) (why : Why) : Type 0 where
   pub lines : List TraceLine
   pub in_range : AllByRecursion (IsLine c.mutators) lines
   pub rest : List ℕ
   pub spelled : bytes ≡ flat_map line lines ++ rest
-  pub number : n ≡ 4 + length lines
+  pub number : n ≡ first + length lines
   pub cause : cause_of (body_stage c false) (parts newline rest) ≡ Some why
 
 -- behind lines of the schedule, of which the first has this number, these bytes are refused at line n
@@ -24,4 +26,25 @@ pub record StopsTurns (c : Config) (first : ℕ) (bytes : List ℕ) (n : ℕ) (w
   pub rest : List ℕ
   pub spelled : bytes ≡ flat_map schedule_line turns ++ rest
   pub number : n ≡ first + length turns
+  pub cause : cause_of (body_stage c (nat_lt 0 (length turns))) (parts newline rest) ≡ Some why
+
+-- the bytes are lines of commands and lines of a schedule, of these scripts and items
+pub record HasReadBody (c : Config) (bytes : List ℕ) (scripts : List (List Command)) (items : List Item) : Type 0 where
+  pub lines : List TraceLine
+  pub in_range : AllByRecursion (IsLine c.mutators) lines
+  pub turns : List (List Item)
+  pub turns_in_range : AllByRecursion (IsScheduleLine c) turns
+  pub spelled : bytes ≡ flat_map line lines ++ flat_map schedule_line turns
+  pub by_thread : scripts ≡ scripts_of c.mutators lines
+  pub in_order : items ≡ items_of turns
+
+-- behind lines of commands and of a schedule, of which the first has this number, these bytes are refused at line n
+pub record StopsBody (c : Config) (first : ℕ) (bytes : List ℕ) (n : ℕ) (why : Why) : Type 0 where
+  pub lines : List TraceLine
+  pub in_range : AllByRecursion (IsLine c.mutators) lines
+  pub turns : List (List Item)
+  pub turns_in_range : AllByRecursion (IsScheduleLine c) turns
+  pub rest : List ℕ
+  pub spelled : bytes ≡ flat_map line lines ++ (flat_map schedule_line turns ++ rest)
+  pub number : n ≡ first + length lines + length turns
   pub cause : cause_of (body_stage c (nat_lt 0 (length turns))) (parts newline rest) ≡ Some why

@@ -15,7 +15,7 @@ pub enum TraceFault {
 
 /// Why a line was not taken.
 #[derive(Clone, Copy)]
-pub(crate) enum LineFault {
+pub(crate) enum NotTaken {
     /// No line of the kind stands there.
     Refused,
     /// Memory was refused.

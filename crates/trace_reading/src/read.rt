@@ -1,5 +1,5 @@
 //! Reading a trace.
-ghost use Rattle.std.specs.Prelude.{false, ◌≡◌, ◌≢◌, ◌↔◌, ℕ, ◌+◌, ◌≤◌, List, [], ◌++◌, Err, length, take, Some, IfSome, IfNone, IfOk, IfErr, IsTrue};
+ghost use Rattle.std.specs.Prelude.{false, ◌≡◌, ◌≢◌, ◌↔◌, ℕ, ◌+◌, ◌^◌, ◌<◌, ◌≤◌, List, [], ◌++◌, Err, length, take, Some, IfSome, IfNone, IfOk, IfErr, IsTrue};
 ghost use Rattle.std.specs.Option.{option_map};
 ghost use Rattle.std.specs.Io.KnownBytes.{Consumes};
 ghost use Rattle.shen_base.specs.Count.{Rose};
@@ -12,10 +12,10 @@ ghost use Rattle.trace_grammar.specs.declared.why.Why.{Why as Cause};
 ghost use Rattle.trace_refusals.specs.Causes.{parts};
 ghost use Rattle.trace_refusals.specs.Refused.{body_stage, cause_of, StopsAt, Refused};
 ghost use Rattle.trace_reading.specs.Calls.{HasFewCalls};
-ghost use Rattle.trace_reading.specs.Stops.{StopsCommands};
+ghost use Rattle.trace_reading.specs.Stops.{HasReadBody, StopsBody, StopsCommands};
 ghost use Rattle.trace_reading.specs.Faults.{IsTextFault};
 
-use crate::fault::{LineFault, TraceFault};
+use crate::fault::{NotTaken, TraceFault};
 use crate::line::line_at;
 use crate::schedule_lines::take_schedule;
 use crate::source_bytes::all_bytes;
@@ -65,17 +65,17 @@ fn take_line<'a>(
     threads: u32,
     bytes: &'a [u8],
     scripts: &mut Vec<Script>,
-) -> Result<&'a [u8], LineFault>
+) -> Result<&'a [u8], NotTaken>
     requires { length scripts.old.items ≡ threads }
     ensures ok { IfOk result (λ rest. (l : TraceLine) × IsLine threads l × (bytes.now ≡ line l ++ rest.now) × (scripts.new.items ≡ with_line scripts.old.items l)) }
-    ensures refused { result ≡ Err LineFault.Refused → (l : TraceLine) (rest : List ℕ) → IsLine threads l → bytes.now ≢ line l ++ rest }
+    ensures refused { result ≡ Err NotTaken.Refused → (l : TraceLine) (rest : List ℕ) → IsLine threads l → bytes.now ≢ line l ++ rest }
 {
     let Some((thread, command, rest)) = line_at(threads, bytes) else {
-        return Err(LineFault::Refused);
+        return Err(NotTaken::Refused);
     };
     match scripts[thread as usize - 1].push(alloc, command) {
         Ok(()) => Ok(rest),
-        Err(_) => Err(LineFault::NoMemory),
+        Err(_) => Err(NotTaken::NoMemory),
     }
 }
 
@@ -89,29 +89,30 @@ fn is_behind_commands(bytes: &[u8]) -> bool
     }
 }
 
-/// Takes all lines of commands, the first of which is line 4, and returns the number of the line behind them and the bytes
-/// from it on.
+/// Takes all lines of commands, the first of which has this number, and returns the number of the line behind them and the
+/// bytes from it on.
 fn take_lines<'a>(
     alloc: Global,
     config: &Config,
+    first: u64,
     bytes: &'a [u8],
     scripts: &mut Vec<Script>,
 ) -> Result<(u64, &'a [u8]), TraceFault>
     requires scripts { scripts.old.items ≡ scripts_of config.now.mutators [] }
-    requires few { length bytes.now ≤ most_bytes }
-    ensures ok { IfOk result (λ x. (taken : HasReadLines config.now.mutators bytes.now x.1.now scripts.new.items) × (x.0 ≡ 4 + length taken.lines)) }
+    requires few { first + length bytes.now < 2 ^ 64 }
+    ensures ok { IfOk result (λ x. (taken : HasReadLines config.now.mutators bytes.now x.1.now scripts.new.items) × (x.0 ≡ first + length taken.lines)) }
     ensures behind { IfOk result (λ x. IsBehindCommands x.1.now) }
     ensures fault { IfErr result IsTextFault }
-    ensures bad_line { (n : ℕ) (why : Cause) → result ≡ Err (TraceFault.BadLine n why) → StopsCommands config.now bytes.now n why }
+    ensures bad_line { (n : ℕ) (why : Cause) → result ≡ Err (TraceFault.BadLine n why) → StopsCommands config.now first bytes.now n why }
 {
     let threads = config.mutators() as u32;
     let mut rest = bytes;
-    let mut line = 4;
+    let mut line = first;
     'lines: while !is_behind_commands(rest) {
         rest = match take_line(alloc, threads, rest, scripts) {
             Ok(behind) => behind,
-            Err(LineFault::NoMemory) => return Err(TraceFault::NoMemory),
-            Err(LineFault::Refused) => return Err(bad_command(config, line, rest)),
+            Err(NotTaken::NoMemory) => return Err(TraceFault::NoMemory),
+            Err(NotTaken::Refused) => return Err(bad_command(config, line, rest)),
         };
         line += 1;
     }
@@ -167,11 +168,28 @@ pub fn trace_of(alloc: Global, bytes: &[u8]) -> Result<Trace, TraceFault>
     let Some((config, rest)) = config_at(bytes) else {
         return Err(bad_head(bytes));
     };
+    trace_behind(alloc, config, 4, rest)
+}
+
+/// The trace of this configuration whose lines of commands and of a schedule these bytes are. The first of the lines has this
+/// number.
+pub fn trace_behind(
+    alloc: Global,
+    config: Config,
+    first: u64,
+    bytes: &[u8],
+) -> Result<Trace, TraceFault>
+    requires { first + length bytes.now < 2 ^ 64 }
+    ensures config { IfOk result (λ trace. trace.config ≡ config) }
+    ensures ok { IfOk result (λ trace. HasReadBody config bytes.now trace.scripts trace.schedule) }
+    ensures fault { IfErr result IsTextFault }
+    ensures bad_line { (n : ℕ) (why : Cause) → result ≡ Err (TraceFault.BadLine n why) → StopsBody config first bytes.now n why }
+{
     let mut scripts = empty_scripts(alloc, config.mutators() as u32)?;
     let Ok(mut schedule) = Schedule::open(alloc) else {
         return Err(TraceFault::NoMemory);
     };
-    let (line, turns) = take_lines(alloc, &config, rest, &mut scripts)?;
+    let (line, turns) = take_lines(alloc, &config, first, bytes, &mut scripts)?;
     take_schedule(alloc, &config, line, turns, &mut schedule)?;
     Ok(Trace {
         config,

@@ -11,7 +11,7 @@ ghost use Rattle.trace_refusals.specs.Causes.{parts};
 ghost use Rattle.trace_refusals.specs.Refused.{body_stage, cause_of};
 ghost use Rattle.trace_reading.specs.Stops.{StopsTurns};
 
-use crate::fault::{LineFault, TraceFault};
+use crate::fault::{NotTaken, TraceFault};
 use crate::items::item_at;
 use heap_words::{Config, Schedule};
 use std::alloc::Global;
@@ -24,19 +24,19 @@ fn take_item<'a>(
     config: &Config,
     bytes: &'a [u8],
     schedule: &mut Schedule,
-) -> Result<&'a [u8], LineFault>
+) -> Result<&'a [u8], NotTaken>
     ensures ok { IfOk result (λ rest. (i : Piece) × BeginsWith spaced_item (IsItem config.now) bytes.now i rest.now × (schedule.new ≡ schedule.old ++ i ∷ [])) }
-    ensures refused { result ≡ Err LineFault.Refused → BeginsWithNone spaced_item (IsItem config.now) bytes.now }
+    ensures refused { result ≡ Err NotTaken.Refused → BeginsWithNone spaced_item (IsItem config.now) bytes.now }
 {
     let Some(word) = text_at(b" ", bytes) else {
-        return Err(LineFault::Refused);
+        return Err(NotTaken::Refused);
     };
     let Some((item, rest)) = item_at(config, word) else {
-        return Err(LineFault::Refused);
+        return Err(NotTaken::Refused);
     };
     match schedule.push(alloc, item) {
         Ok(()) => Ok(rest),
-        Err(_) => Err(LineFault::NoMemory),
+        Err(_) => Err(NotTaken::NoMemory),
     }
 }
 
@@ -56,9 +56,9 @@ fn take_items<'a>(
     config: &Config,
     bytes: &'a [u8],
     schedule: &mut Schedule,
-) -> Result<&'a [u8], LineFault>
+) -> Result<&'a [u8], NotTaken>
     ensures ok { IfOk result (λ rest. (items : List Piece) × BeginsWith items_and_end (AllByRecursion (IsItem config.now)) bytes.now items rest.now × (schedule.new ≡ schedule.old ++ items)) }
-    ensures refused { result ≡ Err LineFault.Refused → (items : List Piece) (rest : List ℕ) → AllByRecursion (IsItem config.now) items → bytes.now ≢ items_and_end items ++ rest }
+    ensures refused { result ≡ Err NotTaken.Refused → (items : List Piece) (rest : List ℕ) → AllByRecursion (IsItem config.now) items → bytes.now ≢ items_and_end items ++ rest }
 {
     let mut rest = bytes;
     'items: while !is_line_end(rest) {
@@ -73,15 +73,15 @@ fn take_schedule_line<'a>(
     config: &Config,
     bytes: &'a [u8],
     schedule: &mut Schedule,
-) -> Result<&'a [u8], LineFault>
+) -> Result<&'a [u8], NotTaken>
     ensures ok { IfOk result (λ rest. (items : List Piece) × BeginsWith schedule_line (IsScheduleLine config.now) bytes.now items rest.now × (schedule.new ≡ schedule.old ++ items)) }
-    ensures refused { result ≡ Err LineFault.Refused → (items : List Piece) (rest : List ℕ) → IsScheduleLine config.now items → bytes.now ≢ schedule_line items ++ rest }
+    ensures refused { result ≡ Err NotTaken.Refused → (items : List Piece) (rest : List ℕ) → IsScheduleLine config.now items → bytes.now ≢ schedule_line items ++ rest }
 {
     let Some(items) = text_at(b"!", bytes) else {
-        return Err(LineFault::Refused);
+        return Err(NotTaken::Refused);
     };
     if is_line_end(items) {
-        return Err(LineFault::Refused);
+        return Err(NotTaken::Refused);
     }
     take_items(alloc, config, items, schedule)
 }
@@ -105,8 +105,8 @@ pub(crate) fn take_schedule(
     'turns: while !rest.is_empty() {
         rest = match take_schedule_line(alloc, config, rest, schedule) {
             Ok(behind) => behind,
-            Err(LineFault::NoMemory) => return Err(TraceFault::NoMemory),
-            Err(LineFault::Refused) => return Err(bad_turn(config, first, line, rest)),
+            Err(NotTaken::NoMemory) => return Err(TraceFault::NoMemory),
+            Err(NotTaken::Refused) => return Err(bad_turn(config, first, line, rest)),
         };
         line += 1;
     }

@@ -70,8 +70,9 @@ fn command_cause(threads: u64, thread: &[u8], words: &[u8]) -> Option<Why>
     }
 }
 
-/// Why a line behind the head is none, where a line of the schedule stands before it or not.
-fn text_cause(config: &Config, behind_schedule: bool, text: &[u8]) -> Option<Why>
+/// Why a line behind the head, given without its end, is none, where a line of the schedule stands before it or not: the first cause
+/// that holds.
+pub fn text_cause(config: &Config, behind_schedule: bool, text: &[u8]) -> Option<Why>
     ensures { result ≡ words_cause (body_stage config.now behind_schedule) (parts 32 text.now) }
 {
     let (word, words) = cut(b' ', text);

@@ -7,7 +7,7 @@ use crate::parts::next_word;
 use trace_grammar::{Why, digits_at, is_numeral, value_of};
 
 /// Digits with no needless zero in front.
-pub(crate) fn is_number(word: &[u8]) -> bool
+pub fn is_number(word: &[u8]) -> bool
     ensures { result ≡ is_plain_number word.now }
 {
     digits_at(word) == word.len() && is_numeral(word)
@@ -27,7 +27,7 @@ pub(crate) fn range_cause(least: u64, most: u64, digits: &[u8]) -> Option<Why>
 
 /// Why no number from `least` to `most` is this word.
 #[tactic(auto, unfolding(crate::specs::Causes::number_cause))]
-pub(crate) fn number_cause(least: u64, most: u64, word: &[u8]) -> Option<Why>
+pub fn number_cause(least: u64, most: u64, word: &[u8]) -> Option<Why>
     ensures { result ≡ number_cause least most word.now }
 {
     if is_number(word) {

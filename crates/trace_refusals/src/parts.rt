@@ -4,7 +4,7 @@ ghost use Rattle.std.specs.List.{prefix_len};
 ghost use Rattle.trace_refusals.specs.Causes.{parts, parts_behind};
 
 /// What stands before the first such byte, and the bytes from it on.
-pub(crate) fn cut(separator: u8, bytes: &[u8]) -> (&[u8], &[u8])
+pub fn cut(separator: u8, bytes: &[u8]) -> (&[u8], &[u8])
     ensures parts { parts separator bytes.now ≡ result.0.now ∷ parts_behind separator result.1.now }
     ensures shorter { length result.1.now ≤ length bytes.now }
 {
@@ -24,7 +24,7 @@ fn before(separator: u8, bytes: &[u8]) -> usize
 }
 
 /// The next word, and the bytes from the space behind it on.
-pub(crate) fn next_word(words: &[u8]) -> Option<(&[u8], &[u8])>
+pub fn next_word(words: &[u8]) -> Option<(&[u8], &[u8])>
     ensures shorter { IfSome result (λ x. length x.1.now < length words.now) }
     ensures words { MatchOption result (parts_behind 32 words.now ≡ []) (λ x. parts_behind 32 words.now ≡ x.0.now ∷ parts_behind 32 x.1.now) }
 {

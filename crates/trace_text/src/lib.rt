@@ -4,6 +4,7 @@
 
 pub use churn::Summary;
 pub use trace_grammar::{CommandKind, Scripts, Trace, Why, traces_are_read_once};
+pub use trace_lines::{LineFault, TraceLines, lines_taken_are_read};
 pub use trace_pairs::{
     Body, Pair, histories_can_be_read, pairs_are_read_once, pairs_are_read_or_refused, read_pair,
 };

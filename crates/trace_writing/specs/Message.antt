@@ -5,7 +5,7 @@ use Rattle.churn.specs.declared.summary.Summary.{Summary}
 use Rattle.trace_grammar.specs.Spelling.{newline}
 use Rattle.trace_grammar.specs.Why.{text_of}
 use Rattle.trace_writing.specs.declared.message.Line.{Line}
-use Rattle.trace_writing.specs.declared.message.Line.TheVariants.{BadWords, BadLine, TooLong, Unfinished, ReadFault, NoMemory, Churn, Queue, Yes, NoEntry, NoScript, NoText}
+use Rattle.trace_writing.specs.declared.message.Line.TheVariants.{BadWords, BadLine, TooLong, HeapTooSmall, Unfinished, ReadFault, NoMemory, Churn, Queue, Yes, NoEntry, NoScript, NoText}
 
 -- what is told of a run of the workload, whose threads are three: a line each, the last one without its end
 abbrev pub summary_text : Summary → List ℕ
@@ -27,6 +27,7 @@ abbrev pub message : Line → List ℕ
 message BadWords = codes "bad words"
 message (BadLine n why) = codes "bad line " ++ (decimal n ++ (codes ": " ++ text_of why))
 message TooLong = codes "too long: more than 16777216 bytes"
+message HeapTooSmall = codes "heap too small"
 message (Unfinished steps) = codes "unfinished after " ++ decimal steps ++ codes " steps"
 message ReadFault = codes "read fault"
 message NoMemory = codes "out of memory"

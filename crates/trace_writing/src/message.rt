@@ -19,6 +19,8 @@ pub enum Line {
     BadLine { line: u64, why: Why },
     /// More bytes came than a trace may have: `too long: more than 16777216 bytes`.
     TooLong,
+    /// The objects of a dump, placed in the order of names, need more regions than there are: `heap too small`.
+    HeapTooSmall,
     /// A machine still had work after so many steps: `unfinished after N steps`.
     Unfinished { steps: u64 },
     /// The source failed: `read fault`.
@@ -50,6 +52,7 @@ pub fn write_line<K: Sink>(sink: &mut K, line: &Line) -> Result<(), WriteFault>
         Line::BadWords => write_all(sink, b"bad words\n"),
         Line::BadLine { line, why } => write_bad_line(sink, *line, *why),
         Line::TooLong => write_all(sink, b"too long: more than 16777216 bytes\n"),
+        Line::HeapTooSmall => write_all(sink, b"heap too small\n"),
         Line::Unfinished { steps } => write_unfinished(sink, *steps),
         Line::ReadFault => write_all(sink, b"read fault\n"),
         Line::NoMemory => write_all(sink, b"out of memory\n"),

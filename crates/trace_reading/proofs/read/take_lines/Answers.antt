@@ -1,20 +1,27 @@
-use Rattle.std.proofs.Common.{ℕ, [], length, refl, sym, ap, subst, ◌∙◌, arith}
+use Rattle.std.proofs.Common.{ℕ, [], ◌∷◌, length, length-append, append-nil, refl, sym, ap, subst, ◌∙◌, arith}
 use Rattle.std.proofs.lemmas.List.FromFn.{length-map-range_with_len}
-use Rattle.trace_grammar.specs.Spelling.{IsLine}
+use Rattle.trace_grammar.specs.Spelling.{IsLine, line}
 use Rattle.trace_grammar.specs.Grammar.{commands_in}
-use Rattle.trace_grammar.proofs.Traces.{taken_more, taken_count}
+use Rattle.trace_grammar.proofs.Traces.{taken_more, taken_count, few_lines}
 use Rattle.trace_reading.proofs.Bad.{lines_fit}
 use Rattle.trace_reading.proofs.read.take_lines.Goals as goal
 
 pub lines-init : goal.lines-init
-lines-init c = (record { lines = []; in_range = tt; spelled = refl; by_thread = c.requires.scripts }, refl)
+lines-init c = (record { lines = []; in_range = tt; spelled = refl; by_thread = c.requires.scripts }, omega arith)
 
 pub take_line-requires : goal.take_line-requires
 take_line-requires c =
     ap length c.lines.invariant.0.by_thread ∙ length-map-range_with_len (commands_in c.lines.invariant.0.lines) 1 c.args.config.now.mutators ∙ sym c.mutators-threads.ensures
 
 pub overflow_add-line : goal.overflow_add-line
-overflow_add-line c = let fit = lines_fit c.lines.invariant.0.lines c.args.bytes.now c.lines.rest.now c.lines.invariant.0.spelled in omega (arith, fit, c.lines.invariant.1, c.requires.few)
+overflow_add-line c =
+    let fit = lines_fit c.lines.invariant.0.lines c.args.bytes.now c.lines.rest.now c.lines.invariant.0.spelled in
+    let took = c.in-Ok.ensures.ok in
+    let some = few_lines (took.0 ∷ []) in
+    let whole = ap length (append-nil (line took.0)) in
+    let taken = ap length took.2 in
+    let sizes = length-append (line took.0) c.in-Ok.behind.now in
+    omega (arith, fit, c.lines.invariant.1, c.requires.few, some, whole, taken, sizes)
 
 pub lines-preserved : goal.lines-preserved
 lines-preserved c =

@@ -1,25 +1,8 @@
-use Rattle.std.proofs.Common.{length, ap, arith}
-use Rattle.std.proofs.lemmas.List.{length-append}
-use Rattle.std.proofs.lemmas.Result.{err_from_is_err_and}
-use Rattle.trace_grammar.specs.Spelling.{header}
-use Rattle.trace_reading.proofs.Bad.{lines_fit, stops_in_commands, stops_in_turns}
+use Rattle.trace_reading.proofs.Bad.{stops_behind_head}
 use Rattle.trace_reading.proofs.read.trace_of.Goals as goal
 
-pub returns-in_err-line-clause-bad_line : goal.returns-in_err-line-clause-bad_line
-returns-in_err-line-clause-bad_line c = λ n why h.
-    let p = err_from_is_err_and c.from_residual-in_err-line.result c.from_residual-in_err-line.ensures.1 in
-    (stops_in_commands c.args.bytes.now c.in-Some.rest.now c.in-Some.config n why c.in-Some.ensures.found (c.in_err-line.ensures.bad_line n why (let q = p.1 in let r = p.2 in cc)), c.requires)
-
-pub take_schedule-requires-clause-few : goal.take_schedule-requires-clause-few
-take_schedule-requires-clause-few c =
-    let taken = c.in_ok-line.ensures.ok in
-    let fit = lines_fit taken.0.lines c.in-Some.rest.now c.in_ok-line.turns.now taken.0.spelled in
-    let whole = ap length c.in-Some.ensures.found in
-    let sizes = length-append (header c.in-Some.config) c.in-Some.rest.now in
-    omega (arith, fit, taken.1, whole, sizes, c.requires)
-
-pub returns-in_err-take_schedule-clause-bad_line : goal.returns-in_err-take_schedule-clause-bad_line
-returns-in_err-take_schedule-clause-bad_line c = λ n why h.
-    let p = err_from_is_err_and c.from_residual-in_err-take_schedule.result c.from_residual-in_err-take_schedule.ensures.1 in
-    let taken = c.in_ok-line.ensures.ok in
-    (stops_in_turns c.args.bytes.now c.in-Some.rest.now c.in_ok-line.turns.now c.in-Some.config _ c.in_ok-line.line n why taken.0 c.in-Some.ensures.found taken.1 (c.in_err-take_schedule.ensures.bad_line n why (let q = p.1 in let r = p.2 in cc)), c.requires)
+pub returns-clause-bad_line : goal.returns-clause-bad_line
+returns-clause-bad_line c = λ n why h. (
+  stops_behind_head c.args.bytes.now c.in-Some.rest.now c.in-Some.config n why c.in-Some.ensures.found (c.trace_behind.ensures.bad_line n why h),
+  c.requires,
+)

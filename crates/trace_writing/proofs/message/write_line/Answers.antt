@@ -10,6 +10,9 @@ returns-in-BadLine g c = rw c.in-BadLine.is (simp append_assoc c.write_bad_line.
 pub returns-in-TooLong : goal.returns-in-TooLong
 returns-in-TooLong g c = rw c.in-TooLong.is c.write_all-in-TooLong.ensures
 
+pub returns-in-HeapTooSmall : goal.returns-in-HeapTooSmall
+returns-in-HeapTooSmall g c = rw c.in-HeapTooSmall.is c.write_all-in-HeapTooSmall.ensures
+
 pub returns-in-ReadFault : goal.returns-in-ReadFault
 returns-in-ReadFault g c = rw c.in-ReadFault.is c.write_all-in-ReadFault.ensures
 

@@ -1,0 +1,7 @@
+pub mod Resumes
+pub mod DumpLines
+pub mod HeldReferences
+pub mod ObjectWords
+pub mod Steps
+pub mod RowsReached
+pub mod Listing

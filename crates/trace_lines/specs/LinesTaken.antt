@@ -1,0 +1,65 @@
+-- Lines of a trace behind its head, taken one after the other.
+use Rattle.std.specs.Prelude.{ℕ, ◌≡◌, ◌⊎◌, ◌==◌, Bool, true, false, if◌then◌else◌, List, [], ◌∷◌, ◌++◌, length, Option, Some, None}
+use Rattle.std.specs.List.{flat_map}
+use Rattle.shen_graph.specs.declared.command.Command.{Command}
+use Rattle.heap_words.specs.declared.config.Config.{Config}
+use Rattle.heap_words.specs.declared.schedule.Item.{Item}
+use Rattle.trace_grammar.specs.Spelling.{space, newline, TraceLine, line, IsLine, schedule_line, IsScheduleLine}
+use Rattle.trace_grammar.specs.Scanning.{◌>>=◌, behind, positive_at, spelled_command}
+use Rattle.trace_grammar.specs.Grammar.{scripts_of, with_line}
+use Rattle.trace_grammar.specs.declared.why.Why.{Why}
+use Rattle.trace_refusals.specs.Causes.{parts}
+use Rattle.trace_refusals.specs.Refused.{body_stage, words_cause}
+
+-- what was taken: the commands of each thread, the items of the schedule, and whether a line of the schedule was taken
+pub record Taken : Type 0 where
+  pub config : Config
+  pub scripts : List (List Command)
+  pub items : List Item
+  pub scheduled : Bool
+
+-- no line was taken yet
+abbrev pub none_taken : Config → Taken
+none_taken c = record { config = c; scripts = scripts_of c.mutators []; items = []; scheduled = false }
+
+-- the line, without its end, is that of a command, which is now the last of its thread
+abbrev pub TakesCommand : Taken → List ℕ → Taken → Type 0
+TakesCommand before text after =
+    (l : TraceLine) × (before.scheduled ≡ false) × IsLine before.config.mutators l × (text ++ newline ∷ [] ≡ line l) × (after ≡ record before { scripts = with_line before.scripts l })
+
+-- the line, without its end, is one of the schedule, whose items are now its last
+abbrev pub TakesItems : Taken → List ℕ → Taken → Type 0
+TakesItems before text after =
+    (items : List Item) × IsScheduleLine before.config items × (text ++ newline ∷ [] ≡ schedule_line items) × (after ≡ record before { items = before.items ++ items; scheduled = true })
+
+abbrev pub TakesLine : Taken → List ℕ → Taken → Type 0
+TakesLine before text after = TakesCommand before text after ⊎ TakesItems before text after
+
+-- the first cause that holds for the line there
+abbrev pub line_cause : Taken → List ℕ → Option Why
+line_cause t text = words_cause (body_stage t.config t.scheduled) (parts space text)
+
+-- a line of a command, without its end
+abbrev pub IsCommandText : Config → List ℕ → Type 0
+IsCommandText c text = (l : TraceLine) × IsLine c.mutators l × (text ++ newline ∷ [] ≡ line l)
+
+-- a line of the schedule, without its end
+abbrev pub IsItemsText : Config → List ℕ → Type 0
+IsItemsText c text = (items : List Item) × IsScheduleLine c items × (text ++ newline ∷ [] ≡ schedule_line items)
+
+-- the thread and the command that a text spells, to its end
+unfoldable pub spelled_line : ℕ → List ℕ → Option TraceLine
+spelled_line threads text = do
+  t ← positive_at threads text
+  rest ← behind (32 ∷ []) t.1
+  c ← spelled_command rest
+  if length c.1 == 0 then Some (record { thread = t.0; command = c.0 }) else None
+
+-- lines, each without its end, are taken one after the other
+abbrev pub TakesLines : Taken → List (List ℕ) → Taken → Type 0
+TakesLines before [] after = before ≡ after
+TakesLines before (text ∷ texts) after = (next : Taken) × TakesLine before text next × TakesLines next texts after
+
+-- the lines, each with its end
+abbrev pub ended_lines : List (List ℕ) → List ℕ
+ended_lines texts = flat_map (λ text. text ++ newline ∷ []) texts
