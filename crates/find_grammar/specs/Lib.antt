@@ -1,0 +1,3 @@
+pub mod Wanted
+pub mod Meaning
+pub mod Names

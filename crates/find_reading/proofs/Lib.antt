@@ -1,0 +1,4 @@
+mod KindLoop
+mod Blocks
+mod Said
+mod SaidLines

@@ -1,0 +1,18 @@
+//! Reading a test of interleavings from text.
+#![tactic(auto)]
+
+mod draft;
+mod fault;
+mod kind;
+mod laws;
+mod line;
+mod made;
+mod read;
+mod slot;
+mod words;
+
+pub use fault::{TestFault, TestWhy};
+pub use kind::LineKind;
+pub use laws::lines_are_of_their_words;
+pub use read::{read_test, test_of};
+pub use slot::{Slot, Value};

@@ -1,0 +1,189 @@
+//! Reading a test.
+ghost use Rattle.std.specs.Prelude.{◌≡◌, ◌≢◌, ℕ, ◌+◌, ◌≤◌, List, ◌++◌, Err, length, vec_len, take, IfSome, IfNone, IfOk, IfErr};
+ghost use Rattle.std.specs.Option.{option_map};
+ghost use Rattle.std.specs.Io.KnownBytes.{Consumes};
+ghost use Rattle.shen_base.specs.Count.{Rose};
+ghost use Rattle.heap_words.specs.declared.config.Config.{Config as Sizes};
+ghost use Rattle.trace_grammar.specs.Spelling.{header};
+ghost use Rattle.trace_grammar.specs.Scanning.{sizes_at};
+ghost use Rattle.trace_grammar.specs.Grammar.{most_bytes, Came};
+ghost use Rattle.trace_grammar.specs.declared.why.Why.{Why as Cause};
+ghost use Rattle.trace_refusals.specs.Refused.{StopsAt};
+ghost use Rattle.trace_reading.specs.Calls.{HasFewCalls};
+ghost use Rattle.find_reading.specs.declared.fault.TestWhy.{TestWhy as Said};
+ghost use Rattle.find_reading.specs.TestFaults.{IsLineFault, IsTraceRefusal};
+
+use crate::draft::Draft;
+use crate::fault::{TestFault, TestWhy};
+use crate::line::line_in;
+use crate::words::cut;
+use find_grammar::{Bounds, Test};
+use heap_words::Config;
+use shen_base::Source;
+use std::alloc::Global;
+use trace_grammar::{Why, numbers_at, text_at};
+use trace_reading::{TraceFault, all_bytes};
+use trace_refusals::head_refusal;
+
+/// The numbers at the head of a test, and the bytes behind its three lines.
+#[tactic(auto, unfolding(trace_grammar::specs::Scanning::sizes_at))]
+fn sizes_at(bytes: &[u8]) -> Option<([u64; 4], [u64; 4], &[u8])>
+    ensures { option_map (λ x. ((take 3 x.0, take 2 x.1), x.2.now)) result ≡ sizes_at bytes.now }
+{
+    let rest = text_at(b"shen 1\nheap", bytes)?;
+    let (heap, rest) = numbers_at(&[64, 1024, 63], rest)?;
+    let rest = text_at(b"\nthreads", rest)?;
+    let (threads, rest) = numbers_at(&[8, 3], rest)?;
+    let rest = text_at(b"\n", rest)?;
+    Some((heap, threads, rest))
+}
+
+/// The configuration at the head of a test, and the bytes behind its three lines.
+fn config_at(bytes: &[u8]) -> Option<(Config, &[u8])>
+    ensures found { IfSome result (λ x. bytes.now ≡ header x.0 ++ x.1.now) }
+    ensures none { IfNone result ((config : Sizes) (rest : List ℕ) → bytes.now ≢ header config ++ rest) }
+{
+    let (heap, threads, rest) = sizes_at(bytes)?;
+    let [regions, region_words, reserve, _] = heap;
+    let [mutators, helpers, _, _] = threads;
+    match Config::new(
+        regions as usize,
+        region_words as usize,
+        mutators as usize,
+        helpers as usize,
+        reserve as usize,
+    ) {
+        Ok(config) => Some((config, rest)),
+        Err(_) => None,
+    }
+}
+
+/// The fault of bytes that do not begin with the head of a test.
+fn bad_head(bytes: &[u8]) -> TestFault
+    requires { (config : Sizes) (rest : List ℕ) → bytes.now ≢ header config ++ rest }
+    ensures { (n : ℕ) × (why : Cause) × (result ≡ TestFault.BadLine n (TestWhy.Trace why)) × StopsAt bytes.now n why }
+{
+    let refusal = head_refusal(bytes).unwrap();
+    TestFault::BadLine {
+        line: refusal.line,
+        why: TestWhy::Trace(refusal.why),
+    }
+}
+
+/// Takes the line at the front, which is line `line`, and returns the bytes behind it.
+fn take_line<'a>(
+    alloc: Global,
+    draft: &mut Draft,
+    line: u64,
+    bytes: &'a [u8],
+) -> Result<&'a [u8], TestFault>
+    ensures shorter { IfOk result (λ rest. length rest.now + 1 ≤ length bytes.now) }
+    ensures fault { IfErr result IsLineFault }
+    ensures threads { draft.new.threads ≡ draft.old.threads }
+{
+    let (text, end) = cut(b'\n', bytes);
+    let Some((_, rest)) = end.split_first() else {
+        let why = TestWhy::Trace(Why::EndOfLine);
+        return Err(TestFault::BadLine { line, why });
+    };
+    match line_in(draft, text) {
+        Ok(read) => match draft.take(alloc, read) {
+            Ok(()) => Ok(rest),
+            Err(_) => Err(TestFault::NoMemory),
+        },
+        Err(why) => Err(TestFault::BadLine { line, why }),
+    }
+}
+
+/// Takes all lines behind the head, the first of which is line 4, and returns the number of the line behind them.
+fn take_lines(alloc: Global, draft: &mut Draft, bytes: &[u8]) -> Result<u64, TestFault>
+    requires { length bytes.now ≤ most_bytes }
+    ensures fault { IfErr result IsLineFault }
+    ensures threads { draft.new.threads ≡ draft.old.threads }
+{
+    let mut rest = bytes;
+    let mut line = 4;
+    'lines: while !rest.is_empty() {
+        rest = take_line(alloc, draft, line, rest)?;
+        line += 1;
+    }
+    Ok(line)
+}
+
+/// The test of a draft whose next line would be line `line`.
+fn finish(config: Config, draft: Draft, line: u64) -> Result<Test, TestFault>
+    ensures config { IfOk result (λ test. test.config ≡ config) }
+    ensures threads { IfOk result (λ test. vec_len test.programs ≡ draft.threads) }
+    ensures fault { IfErr result IsLineFault }
+{
+    let whole = draft.is_whole();
+    let why = TestWhy::More;
+    match draft.bounds {
+        Some(bounds) if whole => Ok(Test {
+            config,
+            bounds,
+            programs: draft.programs,
+            notes: draft.notes,
+            place_names: draft.place_names,
+            places: draft.places,
+            claims: draft.claims,
+        }),
+        _ => Err(TestFault::BadLine { line, why }),
+    }
+}
+
+/// The test of this configuration whose lines behind the head these bytes are.
+fn body_of(alloc: Global, config: Config, bytes: &[u8]) -> Result<Test, TestFault>
+    requires { length bytes.now ≤ most_bytes }
+    ensures config { IfOk result (λ test. test.config ≡ config) }
+    ensures threads { IfOk result (λ test. vec_len test.programs ≡ config.mutators) }
+    ensures fault { IfErr result IsLineFault }
+{
+    let Ok(mut draft) = Draft::open(alloc, config.mutators()) else {
+        return Err(TestFault::NoMemory);
+    };
+    let line = take_lines(alloc, &mut draft, bytes)?;
+    finish(config, draft, line)
+}
+
+/// The test that these bytes spell; or the first line that is refused, or `NoMemory`.
+pub fn test_of(alloc: Global, bytes: &[u8]) -> Result<Test, TestFault>
+    requires { length bytes.now ≤ most_bytes }
+    ensures head { IfOk result (λ test. (rest : List ℕ) × (bytes.now ≡ header test.config ++ rest)) }
+    ensures threads { IfOk result (λ test. vec_len test.programs ≡ test.config.mutators) }
+    ensures fault { IfErr result IsLineFault }
+
+    // Bytes without a head are refused where a trace would be, for the same cause.
+    ensures bad_head { ((config : Sizes) (rest : List ℕ) → bytes.now ≢ header config ++ rest)
+        → (n : ℕ) × (why : Cause) × (result ≡ Err (TestFault.BadLine n (TestWhy.Trace why))) × StopsAt bytes.now n why }
+    ensures bad_line { (n : ℕ) (why : Said) → result ≡ Err (TestFault.BadLine n why) → IsTraceRefusal bytes.now n why }
+{
+    match config_at(bytes) {
+        Some((config, rest)) => body_of(alloc, config, rest),
+        None => Err(bad_head(bytes)),
+    }
+}
+
+/// Reads a test. It reads to the end of the source, or until one byte more came than a test may have, and then looks at
+/// the lines.
+pub fn read_test<S: Source>(alloc: Global, source: &mut S) -> Result<Test, TestFault>
+    ensures head { IfOk result (λ test. (bytes : List ℕ) × Came (S.left source.old) (S.left source.new) bytes × (rest : List ℕ) × (bytes ≡ header test.config ++ rest)) }
+    ensures threads { IfOk result (λ test. vec_len test.programs ≡ test.config.mutators) }
+
+    // The bytes came whole; and where they have no head, a trace would be refused at that line and for that cause.
+    ensures bad_line { (n : ℕ) (why : Said) → result ≡ Err (TestFault.BadLine n why)
+        → (bytes : List ℕ) × Came (S.left source.old) (S.left source.new) bytes × (length bytes ≤ most_bytes) × IsTraceRefusal bytes n why }
+
+    ensures too_long { (n : ℕ) → result ≡ Err (TestFault.TooLong n) → (n ≡ most_bytes + 1)
+        × ((bytes : List ℕ) × Consumes (S.left source.old) (S.left source.new) bytes × (length bytes ≡ most_bytes + 1)) }
+    ensures read_fault { result ≡ Err TestFault.ReadFault → Rose (S.faults source.old) (S.faults source.new) }
+    ensures faults_never_fall { S.faults source.old ≤ S.faults source.new }
+    ensures few_calls { HasFewCalls (S.left source.old) (S.left source.new) (S.calls source.old) (S.calls source.new) }
+{
+    match all_bytes(alloc, source) {
+        Ok(bytes) => test_of(alloc, &bytes),
+        Err(TraceFault::TooLong { bytes }) => Err(TestFault::TooLong { bytes }),
+        Err(TraceFault::ReadFault) => Err(TestFault::ReadFault),
+        Err(_) => Err(TestFault::NoMemory),
+    }
+}
