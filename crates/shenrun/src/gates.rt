@@ -59,13 +59,29 @@ impl Gate for Held {
     }
 }
 
+/// A gate at which a machine lets others go first now and then: by the numbers of a sequence of 2^64, of which each seed begins elsewhere.
+#[derive(Drop)]
+struct Yielding(AtomicU64);
+
+impl Gate for Yielding {
+    fn pass(&self, _number: usize) {
+        let drawn = self.0.fetch_add(0x9E37_79B9_7F4A_7C15, Ordering::SeqCst);
+        let mixed = drawn ^ (drawn >> 29) ^ (drawn >> 47);
+        if mixed % 3 == 0 {
+            for _ in 0..mixed % 5 {
+                thread::yield_now();
+            }
+        }
+    }
+}
+
 /// Runs the program behind the gate. What it writes is an answer, with status 0.
-fn answer<R: Threads + Wait + Sync>(
+fn answer<R: Threads + Wait + Sync, G: Gate>(
     rt: &R,
     alloc: Global,
     words: &[&str],
     trace: &str,
-    gate: &Held,
+    gate: &G,
 ) -> Result<Option<Vec<u8>>, Fail> {
     let mut list = Vec::new(alloc);
     for word in words {
@@ -115,5 +131,50 @@ fn gate_orders(rt: HostRuntime) -> Result<(), Fail> {
     let run = answer(&rt, rt.alloc(), &["run"], trace, &gate)?;
     assert!(rt; run.is_some_and(|it| it.as_slice().starts_with(b"1 2.1\n")));
     assert!(rt; gate.has_seen(1, 1));
+    Ok(())
+}
+
+/// A trace, and all answers to it that are legal.
+struct Raced {
+    trace: &'static str,
+    answers: &'static [&'static str],
+}
+
+// An object is evacuated while its thread loads and reads it and the other loads and writes it: the other comes before it is there, or
+// before it is read, or behind. And two threads exchange null for an object of their own: one of them does.
+const RACED: [Raced; 2] = [
+    Raced {
+        trace: "shen 1\nheap 8 64 0\nthreads 2 1\n1 new 1 0 1\n1 set 0 0 1\n1 new 2 16 16\n1 new 2 16 16\n1 drop 1\n1 drop 2\n1 gc\n1 get 1 0 0\n1 rd 1 0\n2 get 1 0 0\n2 wr 1 0 77\n",
+        answers: &[
+            "1 1.1\n1 ok\n1 1.2\n1 1.3\n1 ok\n1 ok\n1 ok\n1 1.1\n1 0\n2 -\n2 bad\ngraph\nobject 0.1 1.1 - - - - - - - - - - - - - - - /\nobject 1.1 / 0\nroots 1 0.1 1.1 - - - - - - - - - - - - - -\nroots 2 0.1 - - - - - - - - - - - - - - -\n",
+            "1 1.1\n1 ok\n1 1.2\n1 1.3\n1 ok\n1 ok\n1 ok\n1 1.1\n1 0\n2 1.1\n2 ok\ngraph\nobject 0.1 1.1 - - - - - - - - - - - - - - - /\nobject 1.1 / 77\nroots 1 0.1 1.1 - - - - - - - - - - - - - -\nroots 2 0.1 1.1 - - - - - - - - - - - - - -\n",
+            "1 1.1\n1 ok\n1 1.2\n1 1.3\n1 ok\n1 ok\n1 ok\n1 1.1\n1 77\n2 1.1\n2 ok\ngraph\nobject 0.1 1.1 - - - - - - - - - - - - - - - /\nobject 1.1 / 77\nroots 1 0.1 1.1 - - - - - - - - - - - - - -\nroots 2 0.1 1.1 - - - - - - - - - - - - - -\n",
+        ],
+    },
+    Raced {
+        trace: "shen 1\nheap 8 64 0\nthreads 2 1\n1 new 1 0 0\n1 gc\n1 cas 0 0 2 1\n2 new 1 0 0\n2 gc\n2 cas 0 0 2 1\n",
+        answers: &[
+            "1 1.1\n1 ok\n1 yes\n2 2.1\n2 ok\n2 no\ngraph\nobject 0.1 1.1 - - - - - - - - - - - - - - - /\nobject 1.1 /\nobject 2.1 /\nroots 1 0.1 1.1 - - - - - - - - - - - - - -\nroots 2 0.1 2.1 - - - - - - - - - - - - - -\n",
+            "1 1.1\n1 ok\n1 no\n2 2.1\n2 ok\n2 yes\ngraph\nobject 0.1 2.1 - - - - - - - - - - - - - - - /\nobject 1.1 /\nobject 2.1 /\nroots 1 0.1 1.1 - - - - - - - - - - - - - -\nroots 2 0.1 2.1 - - - - - - - - - - - - - -\n",
+        ],
+    },
+];
+
+/// Wherever the threads let others go first, the answer is one of those that are legal.
+#[test]
+fn answers_are_legal_behind_a_gate_that_yields(rt: HostRuntime) -> Result<(), Fail> {
+    for raced in &RACED {
+        for seed in 0..16u64 {
+            let gate = Yielding(AtomicU64::new(seed));
+            let run = answer(&rt, rt.alloc(), &["run"], raced.trace, &gate)?;
+            let mut legal = false;
+            for allowed in raced.answers {
+                legal |= run
+                    .as_ref()
+                    .is_some_and(|it| it.as_slice() == allowed.as_bytes());
+            }
+            assert!(rt; legal, "{seed}");
+        }
+    }
     Ok(())
 }

@@ -1,0 +1,2 @@
+pub mod TurnsAgain
+pub mod FirstScenes
