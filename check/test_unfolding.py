@@ -2,7 +2,8 @@
 """Holds the forms of a listing to one another, and to a graph of objects that never move, on random traces and the examples.
 
 The text with its runs of like lines unfolded is the text without runs; both, and the objects of `--json`, have the same events, begin,
-settle and reply the same, and end with the graph and the replies of that graph. No answer was taken from the program.
+settle and reply the same, and end with the graph and the replies of that graph. What they settle are the entries of the history that
+`shenrun` writes, by their numbers, also where a pause is one line. No answer was taken from the program.
 
 usage: test_unfolding.py [TRACES [SEED]]
 """
@@ -24,6 +25,7 @@ EVENT = re.compile(r" *(\d+)  (thread \d|helper \d|control) +(\S\S)  ")
 PAUSE = re.compile(r"  pause \d+: ")
 FORMS = [[], ["--pauses", "full"], ["--columns", "--pauses", "changed"]]
 # (behind a word found that fills its column there is one space alone)
+ENTRY = re.compile(r"(?:, |settles |(?<=\d) )entry (\d+)")
 SAYS = re.compile(r"(?:^|[ ,;] ?)(begins|settles full of|settles|replies) ([^,;]+?)(?=$|, |; |  )")
 
 
@@ -88,6 +90,36 @@ def forms_fail(of):
     return None
 
 
+def entries_of(of, *words):
+    """The entries that the objects of a listing settle, with their numbers: thread and reply; of a pause that is one line, `full`."""
+    for it in objects(of, *words)[1]:
+        if it["kind"] == "pause":
+            yield from ((number, None, "full") for number in it["entries"])
+        elif "entry" in it:
+            yield it["entry"], it.get("settles_full_of", it.get("index")), it.get("settles", "full")
+
+
+def entries_fail(of):
+    """What is wrong with the entries that a listing settles, by the history that `shenrun` writes."""
+    ran = subprocess.run([program("shenrun"), "replay", "--history"], input=of, stdout=subprocess.PIPE, text=True, check=False)
+    if ran.returncode:
+        return None
+    lines = ran.stdout.splitlines()
+    history = [(int(line.split()[0]), line.split(" : ")[1]) for line in lines[lines.index("history") + 1 :]]
+    # (what a pause settles stands in its line once more)
+    full = [it for it in entries_of(of, "--pauses", "full") if it[1]]
+    if full != [(number, *entry) for number, entry in enumerate(history)]:
+        return "it settles other entries than those of the history"
+    if [(number, reply) for number, _, reply in entries_of(of)] != [(number, reply) for number, _, reply in full]:
+        return "it settles other entries where a pause is one line"
+    if [it[0] for it in entries_of(of, "--calls")] != list(range(len(history))):
+        return "it leaves out entries where calls alone are listed"
+    shown = [int(it) for line in text(of, "--no-fold") for it in ENTRY.findall(line)]
+    if shown != list(range(len(history))):
+        return "the text has other numbers of entries"
+    return None
+
+
 def graph_lines(listing):
     """The replies and the graph with which the objects end, as an answer has them."""
     end, graph = (next(it for it in listing if it["kind"] == kind) for kind in ("end", "graph"))
@@ -124,7 +156,7 @@ def main():
     traces += [(name, of) for name, of in examples if "answer" not in of.splitlines()]
     failed, lines, folded = False, 0, 0
     for name, of in traces:
-        why = forms_fail(of) or ends_fail(of)
+        why = forms_fail(of) or ends_fail(of) or entries_fail(of)
         if why:
             failed = True
             print(f"{name}: {why}")

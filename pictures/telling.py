@@ -128,6 +128,8 @@ def says(event):
             parts.append(f"{key} {event[key]}")
     if "settles_full_of" in event:
         parts.append(f"settles full of thread {event['settles_full_of']}")
+    if "entry" in event:
+        parts.append(f"entry {event['entry']}")
     if "again" in event:
         parts.append("again")
     if "replies" in event:
@@ -153,4 +155,6 @@ def pause(it):
     if it["freed"]:
         text += f"; frees {{{' '.join(map(str, it['freed']))}}}"
     text += some(it["copied"], "object", " copied") + some(it["answered"], "request", " answered") + some(it["refused"], "request", " refused")
-    return f"{text}; {it['changed']} of {it['words']} word{'' if it['words'] == 1 else 's'} changed"
+    text += f"; {it['changed']} of {it['words']} word{'' if it['words'] == 1 else 's'} changed"
+    entries = "".join(f" entry {entry}" for entry in it.get("entries", []))
+    return f"{text}; settles{entries}" if entries else text

@@ -8,14 +8,12 @@ ghost use Rattle.schedule_walk.specs.Nexts.{HasNoNext, MakesNext};
 ghost use Rattle.trace_grammar.specs.Grammar.{Reads};
 ghost use Rattle.shensteps.specs.Listed.{CountsEvents};
 
-use crate::ends::write_head;
-use crate::filter::{Needle, Stranger};
-use crate::lines::Listing;
-use crate::scout::limit_of;
 use crate::status::Status;
-use crate::words::{Asked, FORM, Refusal, Wanted, asked_by};
 use heap_words::{Config, Schedule};
 use listing::Row;
+use listing_ends::{limit_of, write_head};
+use listing_lines::Listing;
+use listing_words::{Asked, FORM, Needle, Refusal, Stranger, Wanted, asked_by};
 use schedule_walk::{Seen, Walk};
 use shen_base::{Sink, Source};
 use shen_core::{Plain, Ran};

@@ -1,17 +1,8 @@
 //! `shensteps` lists what a trace and its schedule do on a region heap, atomic step by atomic step.
 #![tactic(auto)]
 
-mod changes;
-mod ends;
-mod filter;
-mod graph;
-mod heap;
-mod heap_objects;
-mod lines;
 mod list;
-mod scout;
 mod status;
-mod words;
 
 use list::shensteps;
 use shen_base::{InSource, OutSink};

@@ -154,7 +154,7 @@ fn put_cycle(row: &mut Row, table: &Table, config: Config, region: usize, rooms:
         return;
     }
     let start = table.word(config.tams_at(region));
-    if region < 64 && is_in(table.word(config.cset_at()), region) {
+    if is_in(table.word(config.cset_at()), region) {
         row.put(b" in the set,");
     }
     row.put(b" mark start ");

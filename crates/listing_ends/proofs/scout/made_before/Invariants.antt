@@ -2,7 +2,7 @@ use Rattle.std.proofs.Common.{◌≡◌, ◌≤◌, ◌-◌}
 use Rattle.shen_core.specs.State.{config_of}
 use Rattle.shen_core.specs.Progress.{CanRun}
 use Rattle.schedule_walk.specs.Agendas.{IsWalkOf}
-use Rattle.shensteps.proofs.scout.made_before.Given as goal
+use Rattle.listing_ends.proofs.scout.made_before.Given as goal
 
 abbrev pub invariant-loop-made : goal.invariant-loop-made
 invariant-loop-made l = record {

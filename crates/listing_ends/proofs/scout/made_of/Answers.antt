@@ -6,7 +6,7 @@ use Rattle.shen_core.specs.State.{config_of}
 use Rattle.shen_core.specs.Progress.{IsInSeats}
 use Rattle.trace_runs.proofs.Scripts.{count_scripts, runnable_scripts, items_in_seats}
 use Rattle.trace_runs.proofs.Ran.{can_run}
-use Rattle.shensteps.proofs.scout.made_of.Goals as goal
+use Rattle.listing_ends.proofs.scout.made_of.Goals as goal
 
 pub open-requires : goal.open-requires
 open-requires c =

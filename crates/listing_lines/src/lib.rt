@@ -1,0 +1,15 @@
+//! The listing: a line an event, in columns, under headings for the parts of the schedule; or an object of JSON for each.
+#![tactic(auto)]
+
+mod columns;
+mod course;
+mod ending;
+mod event_lines;
+mod hands;
+mod headings;
+mod heaps;
+mod json_lines;
+mod pause_lines;
+mod text_lines;
+
+pub use course::Listing;
