@@ -7,8 +7,9 @@ usage: wrong_bodies.py [--jobs N] [NAME..]   tries them all, or the bodies of th
 
 A wrong body, bench/edits/CRATE/NAME.edit, changes the code of one crate, so that its own contract must refuse it. The gate tries those
 of crates/NAME/must-fail, three or more for each crate with code; those here each show what no other shows. They are tried on a throwaway
-copy of the crates as they stand, without the edits of the gate, by `rt ci CRATE..`, which takes what the gate proved on this machine: a
-crate costs one check of its own and ten to thirty seconds for each edit.
+copy of the crates as they stand, without the edits of the gate, by `rt ci CRATE..`, which takes what the gate proved on this machine, or, with
+a kit whose `rt ci` takes no names, by `rt must-fail CRATE..` over the libraries that `rt check` kept in this tree: a crate costs one check of
+its own and ten to thirty seconds for each edit.
 
 A wrong protocol, bench/protocols/NAME.protocol, changes code and row together, so that the code is its row still, and a law above has
 to refuse it. Its file says in words what is turned and what would go wrong, and then, a line each:
@@ -109,11 +110,14 @@ def note(folder, head, noted):
 
 def refusals(names):
     """Tries the edits of these crates, and returns how many of each were refused."""
+    told = subprocess.run(["rt", "help"], stdout=subprocess.PIPE, stderr=subprocess.STDOUT, text=True).stdout
+    takes_names = "rt ci [" in told or "rt ci NAME" in told
     with tempfile.TemporaryDirectory() as room:
-        lay_out(room)
+        lay_out(room, () if takes_names else os.listdir(CRATES))
         for name in names:
             shutil.copytree(os.path.join(EDITS, name), os.path.join(room, "crates", name, "must-fail"))
-        said = subprocess.run(["rt", "ci", *names], cwd=room, stdout=subprocess.PIPE, stderr=subprocess.STDOUT, text=True).stdout
+        words = ["rt", "ci" if takes_names else "must-fail", *names]
+        said = subprocess.run(words, cwd=room, stdout=subprocess.PIPE, stderr=subprocess.STDOUT, text=True).stdout
     print(said, end="", flush=True)
     found = REFUSED.findall(said)
     return {name: found.count(name) for name in names}

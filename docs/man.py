@@ -47,6 +47,9 @@ def page(text):
 
 
 def main():
+    if any(word.startswith("-") for word in sys.argv[1:]) or len(sys.argv) > 2:
+        print("usage: man.py [FOLDER]", file=sys.stderr)
+        sys.exit(2)
     folder = pathlib.Path(sys.argv[1] if len(sys.argv) > 1 else os.path.expanduser("~/.local/share/man/man1"))
     help_text = subprocess.run([TOP / NAME, "--help"], stdout=subprocess.PIPE, text=True, check=True).stdout
     folder.mkdir(parents=True, exist_ok=True)
