@@ -3,7 +3,7 @@
 
 ghost use Rattle.cycle_runs.specs.Evacuation.Runs.{HeadersLeadInRuns, CopiesAreSpared, AllIsForwardedInRuns};
 ghost use Rattle.cycle_runs.specs.Evacuation.OneEvent.{EventsSpareCopies};
-ghost use Rattle.cycle_runs.specs.Evacuation.Due.{PausesComeWhenDue, EvacuationIsWhole, UpdatingIsWhole};
+ghost use Rattle.cycle_runs.specs.Evacuation.Due.{PausesComeWhenDue, EvacuationIsWhole, ImagesAreEvacuated, UpdatingIsWhole};
 
 /// A law: after every list of steps each old copy of an object lies in the collection set, and its header leads to the object's one
 /// current copy, which lies outside and has the header of an object that has not moved.
@@ -44,6 +44,12 @@ pub fn pauses_come_when_due()
 /// object of the collection set is forwarded.
 pub fn evacuation_is_whole()
     ensures { EvacuationIsWhole }
+{}
+
+/// A law: and so it is of the image itself that the control has read in such a pause, with the last word that it finds: each marked object of
+/// the collection set was copied before the updating of references begins.
+pub fn images_are_evacuated()
+    ensures { ImagesAreEvacuated }
 {}
 
 /// A law: where the control reads the image in a pause in phase 3 for which no allocation waits, no root, no answer and no field of a

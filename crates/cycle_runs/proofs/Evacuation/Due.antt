@@ -1,34 +1,40 @@
 -- A pause begins only where it is due, and then all has been copied, or updated.
-use Rattle.std.proofs.Common.{◌≡◌, ◌≢◌, ℕ, ◌+◌, ◌<◌, ◌≤◌, true, List, Some, ap, subst, arith}
-use Rattle.std.specs.Prelude.{slice_get}
+use Rattle.std.proofs.Common.{◌≡◌, ◌≢◌, ℕ, ◌+◌, ◌<◌, ◌≤◌, true, List, [], ◌∷◌, ◌++◌, Some, sym, ap, ◌∙◌, subst, arith}
+use Rattle.std.specs.Prelude.{slice_get, slice_index}
 use Rattle.heap_words.specs.declared.config.Config.{Config}
-use Rattle.heap_words.specs.Words.{Phase, Cset, Evac, Claim, Root, Answer, Heap}
-use Rattle.steps_base.specs.Steps.{Stage, go}
+use Rattle.heap_words.specs.Access.{table_index}
+use Rattle.heap_words.specs.Words.{Phase, Cset, Evac, Claim, Root, Answer, Heap, image_start, view}
+use Rattle.steps_base.specs.Steps.{Stage, Event, go}
+use Rattle.steps_base.proofs.Runs.{reached_has}
+use Rattle.shen_graph.specs.declared.order.Order.{Order}
+use Rattle.shen_graph.specs.declared.order.Order.TheVariants.{Nothing}
 use Rattle.shen_graph.specs.Graph.{Graph}
 use Rattle.shen_graph.specs.History.{Entry, after, of_thread}
 use Rattle.handshake.specs.Standing.{is_pausing}
 use Rattle.heap_world.specs.World.{World, promised, IsCollected, IsUsable, IsCurrent}
 use Rattle.heap_world.specs.Asking.{Asking, nothing, asks, refused, given, IsAsked}
-use Rattle.heap_world.specs.Change.{IsDue}
+use Rattle.heap_world.specs.Change.{Change, IsDue, IsPause, image_view, image_words}
 use Rattle.heap_world.proofs.Updated.{usable_current}
 use Rattle.move_steps.proofs.Updating.Done.{units_are_updated, all_is_updated}
 use Rattle.mutator.specs.Rows.{Mutating}
 use Rattle.control_rows.specs.declared.spot.ControlSpot.{ControlSpot}
 use Rattle.control_rows.specs.declared.spot.ControlSpot.TheVariants as control
-use Rattle.control_rows.specs.Rows.{Controlling}
-use Rattle.step_core.specs.Actor.{mutating, Actor}
+use Rattle.control_rows.specs.Rows.{Controlling, access_with, word_stored}
+use Rattle.step_core.specs.Actor.{Machine, mutating, controlling, Actor}
+use Rattle.step_core.specs.Begins.{Begins}
 use Rattle.step_core.specs.History.{history}
-use Rattle.step_core.specs.Machines.{kind}
-use Rattle.step_core.specs.Pausing.{IsInPause, IsEmpty}
-use Rattle.step_core.specs.Settled.{settled, control_number}
+use Rattle.step_core.specs.Machines.{HasNumber, kind, plan_of}
+use Rattle.step_core.specs.Pausing.{IsInPause, IsEmpty, IsAim, AreRead}
+use Rattle.step_core.specs.Settled.{stored_image, image_read, image_of, settled_by, settled, control_number}
 use Rattle.step_core.specs.Standing.{control_standing}
 use Rattle.step_core.proofs.Control.Asked.{asking_at}
+use Rattle.step_core.proofs.Control.Images.{mixed_whole, image_grows}
 use Rattle.step_core.proofs.Machines.Owed.{IsMachine, IsThread, ControlFacts}
 use Rattle.step_core.proofs.Theorem.Induction.{Goes}
 use Rattle.step_core.proofs.Control.Paused.{asked_outside}
 use Rattle.step_core.proofs.Machines.Roles.{mutator_there}
-use Rattle.step_core.proofs.Theorem.EveryList.{run_pauses}
-use Rattle.cycle_runs.specs.Evacuation.Due.{has_begun, HasControl, PausesComeWhenDue, EvacuationIsWhole, NamesNoSet, AreUpdated, UpdatingIsWhole}
+use Rattle.step_core.proofs.Theorem.EveryList.{every_run, run_aims, run_pauses}
+use Rattle.cycle_runs.specs.Evacuation.Due.{has_begun, HasControl, PausesComeWhenDue, IsEvacuated, EvacuationIsWhole, ImagesAreEvacuated, NamesNoSet, AreUpdated, UpdatingIsWhole}
 use Rattle.cycle_runs.proofs.Evacuation.Runs.{the_world, stands, idle, stage_goes, all_is_forwarded_in_runs}
 
 -- where the control has begun a pause, that is due
@@ -105,6 +111,45 @@ pub evacuation_is_whole : EvacuationIsWhole
 evacuation_is_whole change law c s g begins events k has index is two quiet room =
     all_is_forwarded_in_runs change law c s g begins events (reads_in_pause c (go (kind change c) s events) k has index is) two
     (pauses_come_when_due change law c s g begins events k has (ap has_begun is) (omega (arith, two)) quiet) room
+
+-- The control that has found the last word of the image.
+module _ (change : Change) (law : IsPause change) (c : Config) (s : Stage Actor) (g : Graph) (begins : Begins c s g) (number index : ℕ) (a : Actor) (k : Controlling) (is : a.machine ≡ controlling k)
+    (at : k.spot ≡ control.LoadWord index) (last : index + 1 ≡ image_words c) (events : List (Event Order)) (here : slice_get (go (kind change c) s events).machines number ≡ Some a) where
+  abbrev t : Stage Actor
+  t = go (kind change c) s events
+
+  -- the image with that word
+  abbrev image : List ℕ
+  image = k.image ++ slice_index t.words (image_start c + index) ∷ []
+
+  -- it has the words of the table
+  aims : IsAim c t.words (control.LoadWord index) k.image
+  aims = subst (λ spot. IsAim c t.words spot k.image) at (run_aims change law c s g begins events number a k here is).1
+
+  read : AreRead c t.words image (image_words c)
+  read i below = image_grows c t.words k.image index aims.0 aims.1 i (omega (arith, below, last))
+
+  -- the machine is that of the control's number
+  there : slice_get t.machines (control_number c) ≡ Some a
+  there = subst (λ n. slice_get t.machines n ≡ Some a) (subst (λ (m : Machine). HasNumber c number m) is ((every_run change law c s g begins events).of_heap.roles number a here)) here
+
+  -- no image counts yet
+  table_counts : settled c t ≡ view c t.words
+  table_counts = ap (λ o. settled_by c t.words (image_of o)) there ∙ ap (λ m. settled_by c t.words (image_read m)) is ∙ ap (λ spot. settled_by c t.words (stored_image spot k.image)) at
+
+  image_evacuated : IsEvacuated c (image_view c image)
+  image_evacuated = subst (λ memory. IsEvacuated c memory) (table_counts ∙ sym (mixed_whole c t.words image read)) (evacuation_is_whole change law c s g begins events k (record { actor = a; here = there; is = is }) index at)
+
+pub images_are_evacuated : ImagesAreEvacuated
+unfolding kind
+images_are_evacuated change law c s g begins number index got a k finds is at last =
+    (reached_has (kind change c) (λ t. slice_get t.machines number ≡ Some a → got ≡ slice_index t.words (table_index (plan_of c Nothing a.machine)) → IsEvacuated c (image_view c (k.image ++ got ∷ []))) s finds.stage
+    (λ events here found.
+    let word : got ≡ slice_index (go (kind change c) s events).words (image_start c + index) =
+    found ∙ ap (λ m. slice_index (go (kind change c) s events).words (table_index (plan_of c Nothing m))) is
+    ∙ ap (λ spot. slice_index (go (kind change c) s events).words (table_index (access_with c spot (word_stored spot k.image)))) at in
+    subst (λ n. IsEvacuated c (image_view c (k.image ++ n ∷ []))) (sym word) (image_evacuated change law c s g begins number index a k is at last events here))
+    finds.reached) finds.here finds.found
 
 pub updating_is_whole : UpdatingIsWhole
 updating_is_whole change law c s g begins events k has index is three quiet =

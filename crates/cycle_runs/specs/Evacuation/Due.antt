@@ -1,18 +1,19 @@
 -- When the pauses come that end evacuation and updating, and what has been copied and updated then.
-use Rattle.std.specs.Prelude.{ℕ, ◌≡◌, ◌≢◌, ◌+◌, ◌<◌, ◌≤◌, Bool, true, false, List, Some, slice_get}
+use Rattle.std.specs.Prelude.{ℕ, ◌≡◌, ◌≢◌, ◌+◌, ◌<◌, ◌≤◌, Bool, true, false, List, [], ◌∷◌, ◌++◌, Some, slice_get}
 use Rattle.std.specs.Int.{bit_at}
 use Rattle.heap_words.specs.declared.config.Config.{Config}
 use Rattle.heap_words.specs.Encoding.{is_forwarded}
 use Rattle.heap_words.specs.Words.{Word, Phase, Cset, Evac, Ask, Root, Answer, Black, Heap}
-use Rattle.steps_base.specs.Steps.{Stage, Event, go}
+use Rattle.steps_base.specs.Steps.{Stage, Event, go, Finds}
 use Rattle.shen_graph.specs.declared.name.Name.{Name}
 use Rattle.shen_graph.specs.declared.order.Order.{Order}
+use Rattle.shen_graph.specs.declared.order.Order.TheVariants.{Nothing}
 use Rattle.shen_graph.specs.Graph.{Graph}
 use Rattle.shen_graph.specs.History.{after}
 use Rattle.regions.specs.Marks.{HasMark}
 use Rattle.heap_words.specs.Counter.{is_out_of_room}
 use Rattle.heap_world.specs.World.{thing, IsCollected}
-use Rattle.heap_world.specs.Change.{Change, IsDue, IsPause}
+use Rattle.heap_world.specs.Change.{Change, IsDue, IsPause, image_view, image_words}
 use Rattle.control_rows.specs.declared.spot.ControlSpot.{ControlSpot}
 use Rattle.control_rows.specs.declared.spot.ControlSpot.TheVariants.{Stopping, LoadWord}
 use Rattle.control_rows.specs.Rows.{Controlling}
@@ -51,6 +52,12 @@ abbrev pub EvacuationIsWhole : Type 0
 EvacuationIsWhole = (change : Change) → IsPause change → (c : Config) (s : Stage Actor) (g : Graph) → Begins c s g → (events : List (Event Order))
     → (control : Controlling) → HasControl c (go (kind change c) s events) control → (index : ℕ) → control.spot ≡ LoadWord index
     → IsEvacuated c (settled c (go (kind change c) s events))
+
+-- and of the image itself that it has read, with the last word that it finds: each marked object was copied before updating begins
+abbrev pub ImagesAreEvacuated : Type 0
+ImagesAreEvacuated = (change : Change) → IsPause change → (c : Config) (s : Stage Actor) (g : Graph) → Begins c s g
+    → (number index got : ℕ) (a : Actor) (k : Controlling) → Finds (kind change c) s number a Nothing got → a.machine ≡ controlling k → k.spot ≡ LoadWord index → index + 1 ≡ image_words c
+    → IsEvacuated c (image_view c (k.image ++ got ∷ []))
 
 -- a word is null, or names no address of the collection set
 abbrev pub NamesNoSet : Config → (Word → ℕ) → Word → Type 0
