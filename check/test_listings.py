@@ -19,7 +19,7 @@ from listed import objects  # pylint: disable=wrong-import-position
 from settling import trace, wrong  # pylint: disable=wrong-import-position
 
 TOP = pathlib.Path(__file__).resolve().parent.parent
-PAGES = ["README.md", "docs/RACES.md"]
+PAGES = ["README.md", "docs/RACES.md", "docs/QUEUE.md"]
 INDENT = "    "
 PROGRAMS = [TOP / "crates" / "shensteps" / "out" / "shensteps", TOP / "out" / "shensteps"]
 TRACES = 60

@@ -7,17 +7,20 @@ The commands of each operation are those of the table of docs/QUEUE.md, by the r
 effect next; `replay` makes the same turns on the heap and has to reply the same, and the operations, in the order in which they take
 effect, have to be a queue's. Tried are: all schedules of two operations with at most three switches, on a queue that is empty, has one
 number, or has a tail that lags; random users while the heap is marked, evacuated and updated all the time; a put that is stopped between
-its two exchanges, and a thread that holds a node, while others put and take ten thousand times; a node that is held, let go and its
-words used again; and `queue COUNT` many times.
+its two exchanges, and a thread that holds a node, while others put and take ten thousand times; a take that holds the node that it found
+at the head, which is taken, moved and its words given to a node that then comes to the head; a node that is held, let go and its words used
+again; and `queue COUNT` many times.
 """
 import itertools
+import os
 import random
+import re
 import subprocess
 import sys
 from collections import deque
 
 sys.dont_write_bytecode = True
-from cases import program  # pylint: disable=wrong-import-position
+from cases import TOP, program  # pylint: disable=wrong-import-position
 from settling import Graph  # pylint: disable=wrong-import-position
 
 SETS_UP = ["new 1 2 0", "new 2 1 1", "set 1 0 2", "set 1 1 2", "set 0 0 1"]
@@ -26,6 +29,12 @@ SETS_UP = ["new 1 2 0", "new 2 1 1", "set 1 0 2", "set 1 1 2", "set 0 0 1"]
 def set_up():
     for command in SETS_UP:
         yield command
+
+
+def commands(*those):
+    """These commands, whatever the replies are."""
+    for it in those:
+        yield it
 
 
 def join():
@@ -140,9 +149,13 @@ class World:
 
     def fails(self, heap="heap 16 256 2", helpers=1, between=lambda: ""):
         """What is wrong, if anything is."""
+        return self.fails_by(self.trace(heap, helpers, between))
+
+    def fails_by(self, trace):
+        """What is wrong where these turns are made by this trace."""
         if not self.is_queue():
             return f"no run of a queue: {self.run}"
-        ran = subprocess.run([program("shenrun"), "replay"], input=self.trace(heap, helpers, between), capture_output=True, text=True, check=False)
+        ran = subprocess.run([program("shenrun"), "replay"], input=trace, capture_output=True, text=True, check=False)
         wanted = [f"{thread} {reply}" for thread in self.users for it, _, reply in self.told if it == thread]
         if ran.returncode or ran.stdout.split("\n")[:len(wanted)] != wanted:
             return f"other replies, with status {ran.returncode}: {ran.stdout[:200]}"
@@ -194,7 +207,7 @@ def random_users(seed):
     for _ in range(60):
         thread = rand.randint(1, 5)
         world.give(thread, put(rand.randint(1, 10**6), world.run) if rand.random() < 0.55 else take(world.run))
-    world.give(6, (it for it in ["gc"] * 40))
+    world.give(6, commands(*["gc"] * 40))
     while any(world.users.values()):
         world.finish(rand.randint(1, 6), rand.randint(1, 4))
     return world.fails("heap 8 64 2", 0, lambda: f"7:{rand.randint(1, 400)}")
@@ -206,7 +219,7 @@ def while_others_go_on():
     world = opened(4, None)
     world.give(1, put(1, world.run))
     world.finish(1, 5)
-    world.give(2, (it for it in ["get 8 1 0", "get 9 8 0", "rd 9 0"]))
+    world.give(2, commands("get 8 1 0", "get 9 8 0", "rd 9 0"))
     world.finish(2)
     for value in range(2, 5002):
         world.give(3, put(value, world.run))
@@ -214,19 +227,53 @@ def while_others_go_on():
         world.give(4, take(world.run))
         world.finish(4)
     world.finish(1)
-    world.give(2, (it for it in ["rd 9 0", "cas 1 0 8 9", "get 10 9 0", "rd 10 0"]))
+    world.give(2, commands("rd 9 0", "cas 1 0 8 9", "get 10 9 0", "rd 10 0"))
     world.finish(2)
     if [reply for thread, _, reply in world.told if thread == 2][-4:] != ["1", "no", "3.1", "2"]:
         return f"thread 2 has {world.told[-4:]}"
     return world.fails("heap 32 1024 2")
 
 
+def words_given_on():
+    """Thread 3 has made all of a take but its exchange. The node that it found at the head is taken, a cycle moves it out of its region,
+    and the next node of thread 2 gets the words where it lay, is put, and is at the head when thread 3 goes on. Its trace is an example."""
+    world = opened(3, None)
+
+    def does(thread, *operations):
+        for it in operations:
+            world.give(thread, it)
+        world.finish(thread)
+
+    does(1, commands("drop 2"))
+    does(2, put(9, world.run))
+    does(1, take(world.run), put(10, world.run))
+    # Objects that nobody keeps fill the region of 2.1, and the one that thread 2 allocates from.
+    does(2, commands("drop 3", "drop 4", "new 10 16 16", "new 10 8 8", "new 10 16 16", "new 10 13 13", "drop 10"))
+    world.give(3, take(world.run))
+    world.finish(3, 5)
+    does(1, take(world.run), commands("drop 3", "drop 4", "drop 5", "drop 6", "gc"))
+    asked, turns = len(world.told), itertools.count(1)
+    does(2, put(11, world.run))
+    does(1, take(world.run))
+    world.finish(3)
+    trace = world.trace("heap 8 64 2", 0, lambda: "4:8000" if next(turns) == asked else "")
+    if [reply for thread, _, reply in world.told if thread == 3] != ["1.1", "2.1", "1.3", "1.3", "no", "10", "no", "2.6", "2.6", "-", "yes"]:
+        return f"thread 3 has {[it for it in world.told if it[0] == 3]}"
+    with open(os.path.join(TOP, "examples", "queue_again.trace"), encoding="utf-8") as example:
+        if example.read() != trace:
+            return f"examples/queue_again.trace is another one than\n{trace}"
+    listed = subprocess.run([program("shensteps"), "--place", "IW"], input=trace, capture_output=True, text=True, check=False)
+    if not re.search(r" store name of the new object: 2\.6 +2\.1\n", listed.stdout):
+        return f"2.6 has not the words of 2.1: {listed.stdout}{listed.stderr}"
+    return world.fails_by(trace)
+
+
 def used_again(seed):
     """Thread 3 holds a node that was taken, and then lets it go, while 1 and 2 put and take until each word was used many times."""
     rand = random.Random(seed)
     world = opened(3, "one")
-    world.give(1, (it for it in ["drop 2"]))
-    world.give(3, (it for it in ["get 8 1 0", "get 9 8 0", "drop 8"]))
+    world.give(1, commands("drop 2"))
+    world.give(3, commands("get 8 1 0", "get 9 8 0", "drop 8"))
     world.finish(1)
     world.finish(3)
     for value in range(2000):
@@ -235,7 +282,7 @@ def used_again(seed):
         while world.users[1] or world.users[2]:
             world.finish(rand.randint(1, 2), rand.randint(1, 4))
         if value == 200:
-            world.give(3, (it for it in ["rd 9 0", "drop 9", "drop 3", "drop 4"]))
+            world.give(3, commands("rd 9 0", "drop 9", "drop 3", "drop 4"))
             world.finish(3)
     return world.fails("heap 8 256 2", 0, lambda: f"4:{rand.randint(1, 40)}" if rand.random() < 0.1 else "")
 
@@ -249,13 +296,14 @@ def many_runs():
 
 
 def main():
-    if not program("shenrun"):
+    if not program("shenrun") or not program("shensteps"):
         sys.exit("test_queue.py: there is no proved program")
     failed = 0
     for name, those in [
         ("schedules of two operations", two_at_once()),
         ("random users of a heap that is collected all the time", (random_users(seed) for seed in range(30))),
         ("ten thousand operations beside one that is stopped", iter([while_others_go_on()])),
+        ("take of a node that is taken, moved and its words given to the next", iter([words_given_on()])),
         ("times a node held, let go and its words used again", (used_again(seed) for seed in range(5))),
         ("runs on threads", many_runs()),
     ]:
