@@ -42,6 +42,9 @@ machines: thread 1 at CS, control at I0
 replies of thread 1:
 unfinished after 6 steps
 """
+MAKES = "shen 1\nheap 4 64 0\nthreads 1 0\n1 new 1 0 0\n"
+NOTHING = f"{LISTED.splitlines()[0]}\nno event is listed that names 1.1\n"
+NO_EVENT = f"{LISTED.splitlines()[0]}\nthere is no event 4000, behind which the heap was to be shown\n"
 HAS = "in this heap, which has 1 thread, 0 helpers and the control\n"
 REFUSED = (
     "replay",
@@ -50,7 +53,7 @@ REFUSED = (
     "--steps 4000000001",
     "--steps 1 --steps 1",
     "--heap --heap",
-    "--only 13",
+    "--only 1000000000",
     "--only 1,",
     "--only thread",
     "--pauses some",
@@ -64,10 +67,17 @@ CALLS = [
     ("", "heap 1\n", 3, "bad line 1: header wanted\n"),
     ("--only 1 --steps 6 --from 2", ASKS, 4, LISTED),
     ("--only 1,3", ASKS, 2, f"bad words: there is no machine 3 {HAS}"),
+    ("--only 13", ASKS, 2, f"bad words: there is no machine 13 {HAS}"),
+    ("--only thread_9,1", ASKS, 2, f"bad words: there is no thread 9 {HAS}"),
+    ("--only helper_4", ASKS, 2, f"bad words: there is no helper 4 {HAS}"),
     ("--only control,4", ASKS, 2, f"bad words: there is no machine 4 {HAS}"),
     ("--only helper_1,1", ASKS, 2, f"bad words: there is no helper 1 {HAS}"),
     ("--only thread_2", ASKS, 2, f"bad words: there is no thread 2 {HAS}"),
     ("--place HX,ZZ", ASKS, 2, "bad words: there is no place ZZ\n"),
+    *((f"--object {it}", ASKS, 2, f"bad words: there is no object {it} in this trace\n") for it in ("1.1", "2.1", "0.2", "1", "x.1")),
+    *((f"--object {it}", MAKES, 2, f"bad words: there is no object {it} in this trace\n") for it in ("1.2", "1.01", "1.0")),
+    ("--object 1.1 --from 9 --to 8", MAKES, 0, NOTHING),
+    ("--heap-at 4000 --from 3 --to 2", MAKES, 0, NO_EVENT),
     ("--item 1", ASKS, 2, "bad words: there is no item 1 in this schedule, which has 0\n"),
 ]
 

@@ -22,7 +22,7 @@ KNOWN = {"$schema", "title", "$defs", "$ref", "oneOf", "anyOf", "type", "propert
 WORDS = ["--pauses", "changed", "--heap"]
 # An example of which the heap is shown behind each event that changes it, and what no event names.
 CHANGES = "first.trace"
-NONE = ["--object", "9.9"]
+NONE = ["--word", "nothing of this name", "--heap-at", "4000000000"]
 # An example in which a pause finishes a cycle, each event of which is looked at.
 FULL = "finished.trace"
 # A schedule that cannot go on: the control waits for a thread that is inside.

@@ -3,7 +3,7 @@
 
 The text with its runs of like lines unfolded is the text without runs; both, and the objects of `--json`, have the same events, begin,
 settle and reply the same, and end with the graph and the replies of that graph. What they settle are the entries of the history that
-`shenrun` writes, by their numbers, also where a pause is one line. No answer was taken from the program.
+`shenrun` writes, by their numbers, also where a pause is one line; and a replay takes as many events. No answer was taken from the program.
 
 usage: test_unfolding.py [TRACES [SEED]]
 """
@@ -13,7 +13,7 @@ import subprocess
 import sys
 
 sys.dont_write_bytecode = True
-from cases import program  # pylint: disable=wrong-import-position
+from cases import program, replay  # pylint: disable=wrong-import-position
 from listed import machine, objects  # pylint: disable=wrong-import-position
 from settling import said, trace  # pylint: disable=wrong-import-position
 from soak import history_fails  # pylint: disable=wrong-import-position
@@ -129,6 +129,16 @@ def graph_lines(listing):
     return lines + [" ".join(["roots", str(thread), *(to or "-" for to in roots)]) for thread, roots in enumerate(graph["roots"], 1)]
 
 
+def count_fails(of):
+    """Whether a replay of a trace takes another count of events than its listing has."""
+    status, listing = objects(of)
+    events = next(it["events"] for it in listing if it["kind"] == "end")
+    counts = [(events, 0), (events - 1, 4)] if status == 0 else []
+    if any(replay(of.encode(), steps)[0] != wanted for steps, wanted in counts):
+        return "a replay takes another count of events"
+    return None
+
+
 def ends_fail(of):
     """What is wrong with how the listings of a trace end, by a graph whose objects never move."""
     heap = tuple(map(int, of.splitlines()[1].split()[1:3]))
@@ -156,7 +166,7 @@ def main():
     traces += [(name, of) for name, of in examples if "answer" not in of.splitlines()]
     failed, lines, folded = False, 0, 0
     for name, of in traces:
-        why = forms_fail(of) or ends_fail(of) or entries_fail(of)
+        why = forms_fail(of) or ends_fail(of) or entries_fail(of) or count_fails(of)
         if why:
             failed = True
             print(f"{name}: {why}")

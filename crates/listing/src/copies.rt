@@ -32,8 +32,8 @@ fn leads_to(table: &Table, region: usize, address: u64) -> bool {
     false
 }
 
-/// Whether an old copy of an object leads to the address.
-pub fn forwards_to(table: &Table, address: u64) -> bool {
+// Whether an old copy of an object leads to the address.
+fn forwards_to(table: &Table, address: u64) -> bool {
     let set = cset(table);
     for region in 0..table.config().regions() {
         if is_region_in(set, region) && leads_to(table, region, address) {

@@ -10,14 +10,12 @@ mod json;
 mod line;
 mod pauses;
 mod row;
-mod settling;
 mod stall;
 mod table;
 mod terms;
 mod view;
 
 pub use commands::put_command;
-pub use copies::{forwards_to, is_moving};
 pub use event::Event;
 pub use fold::Folds;
 pub use json::{
@@ -27,11 +25,10 @@ pub use json::{
 pub use line::NUMBER;
 pub use pauses::{Cause, Pauses, Told, put_pause};
 pub use row::Row;
-pub use settling::{refused, settled};
 pub use stall::Stall;
 pub use table::Table;
 pub use terms::{
     Within, look_within, put_access, put_item, put_machine, put_name, put_place, put_reference,
-    put_regions, put_reply, put_value, put_word_at,
+    put_regions, put_reply, put_value,
 };
-pub use view::{Reading, base, heap_word, name_at, region_of, size_at, top};
+pub use view::{Reading, base, heap_word, name_at, size_at, top};

@@ -23,6 +23,8 @@ pub struct Line {
     wide: usize,
     numbers: [u64; 16],
     count: usize,
+    // The byte that was taken last.
+    last: u8,
     // Whether there was room for all of it.
     is_whole: bool,
 }
@@ -30,40 +32,36 @@ pub struct Line {
 impl Line {
     /// The line of an event with this text.
     pub fn of(event: &Event, text: &[u8]) -> Line {
+        let used = text.len().min(WIDTH);
         let mut line = Line {
             event: *event,
             text: [b' '; 200],
-            used: 0,
+            used,
             shape: [b' '; 200],
             wide: 0,
             numbers: [0; 16],
             count: 0,
+            last: b' ',
             is_whole: text.len() <= WIDTH,
         };
-        for at in 0..text.len() {
-            line.take(text[at]);
+        line.text[..used].copy_from_slice(&text[..used]);
+        for byte in &text[..used] {
+            line.take(*byte);
         }
         line
     }
 
-    // The byte that was taken last.
-    fn last(&self) -> u8 {
-        if self.used == 0 {
-            b' '
-        } else {
-            self.text[(self.used - 1) % WIDTH]
-        }
-    }
-
     // Puts a byte of the shape.
     fn put_shape(&mut self, byte: u8) {
-        self.shape[self.wide % WIDTH] = byte;
-        self.wide = self.wide.saturating_add(1).min(WIDTH);
+        if self.wide < WIDTH {
+            self.shape[self.wide] = byte;
+            self.wide += 1;
+        }
     }
 
     // Takes a digit, which begins a number where none is before it.
     fn take_digit(&mut self, digit: u64) {
-        if !self.last().is_ascii_digit() {
+        if !self.last.is_ascii_digit() {
             self.put_shape(b'0');
             self.is_whole = self.is_whole && self.count < NUMBERS;
             self.count = self.count.saturating_add(1).min(NUMBERS);
@@ -76,11 +74,10 @@ impl Line {
     fn take(&mut self, byte: u8) {
         if byte.is_ascii_digit() {
             self.take_digit(byte.saturating_sub(b'0') as u64);
-        } else if byte != b' ' || self.last() != b' ' {
+        } else if byte != b' ' || self.last != b' ' {
             self.put_shape(byte);
         }
-        self.text[self.used % WIDTH] = byte;
-        self.used = self.used.saturating_add(1).min(WIDTH);
+        self.last = byte;
     }
 
     // Its shape.

@@ -97,9 +97,8 @@ pub struct Pauses {
     before: Table,
     number: u64,
     cause: Cause,
-    // The words that the pause has loaded and stored.
-    loaded: u64,
-    stored: u64,
+    // Whether the pause has loaded a word.
+    has_loaded: bool,
     // What the control's last event was outside of pauses, and what it has found.
     looked: Option<Place>,
     found: u64,
@@ -113,8 +112,7 @@ impl Pauses {
             before,
             number: 0,
             cause: Cause::Asked,
-            loaded: 0,
-            stored: 0,
+            has_loaded: false,
             looked: None,
             found: 0,
         })
@@ -123,16 +121,6 @@ impl Pauses {
     /// The words before the last pause.
     pub fn before(&self) -> &Table {
         &self.before
-    }
-
-    /// How many words the pause has loaded.
-    pub fn loaded(&self) -> u64 {
-        self.loaded
-    }
-
-    /// How many words the pause has stored.
-    pub fn stored(&self) -> u64 {
-        self.stored
     }
 
     /// The pauses that were wanted so far.
@@ -154,8 +142,7 @@ impl Pauses {
     fn begin(&mut self) {
         self.cause = self.cause_now();
         self.number = self.number.saturating_add(1);
-        self.loaded = 0;
-        self.stored = 0;
+        self.has_loaded = false;
     }
 
     /// Takes down an event of the control; the words are those after it.
@@ -163,12 +150,12 @@ impl Pauses {
         match event.place {
             Place::P1 => self.begin(),
             Place::PL => {
-                if self.loaded == 0 {
+                if !self.has_loaded {
                     self.before.copy(table);
+                    self.has_loaded = true;
                 }
-                self.loaded = self.loaded.saturating_add(1);
             }
-            Place::PS => self.stored = self.stored.saturating_add(1),
+            Place::PS => {}
             place => {
                 self.looked = Some(place);
                 self.found = event.found;

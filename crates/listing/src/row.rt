@@ -21,6 +21,23 @@ pub struct Row {
     last: u8,
 }
 
+// The most digits of a number.
+const DIGITS: usize = 20;
+
+// Spells a number in decimal at the end, and says where it begins there.
+fn spell(number: u64, digits: &mut [u8; 20]) -> usize {
+    let mut left = number;
+    for place in 0..20 {
+        let at = 19 - place;
+        digits[at] = b'0' + (left % 10) as u8;
+        left /= 10;
+        if left == 0 {
+            return at;
+        }
+    }
+    0
+}
+
 impl Row {
     /// An empty row.
     pub fn new() -> Row {
@@ -85,31 +102,21 @@ impl Row {
 
     /// Puts a number in decimal.
     pub fn put_number(&mut self, number: u64) {
-        let mut digits = [b'0'; 20];
-        let mut left = number;
-        let mut from: usize = 20;
-        for place in 0..20 {
-            if left > 0 || place == 0 {
-                from = 19 - place;
-                digits[from] = b'0' + (left % 10) as u8;
-                left /= 10;
-            }
+        if number < 10 {
+            self.put_byte(b'0' + number as u8);
+            return;
         }
-        self.put(&digits[from.min(20)..]);
+        let mut digits = [b'0'; 20];
+        let from = spell(number, &mut digits);
+        self.put(&digits[from.min(DIGITS)..]);
     }
 
     /// Puts a number so that it ends before this column.
     pub fn put_number_to(&mut self, number: u64, column: usize) {
-        let mut wide: usize = 1;
-        let mut left = number / 10;
-        for _ in 0..20 {
-            if left > 0 {
-                wide = wide.saturating_add(1);
-                left /= 10;
-            }
-        }
-        self.pad(column.saturating_sub(wide));
-        self.put_number(number);
+        let mut digits = [b'0'; 20];
+        let from = spell(number, &mut digits);
+        self.pad(column.saturating_sub(DIGITS.saturating_sub(from)));
+        self.put(&digits[from.min(DIGITS)..]);
     }
 
     /// Puts a number of things, as `1 object` and `2 objects`.
@@ -135,7 +142,9 @@ impl Row {
 
     /// Is empty then.
     pub fn clear(&mut self) {
-        self.bytes = [b' '; 4096];
+        for at in 0..self.used.min(ROOM) {
+            self.bytes[at] = b' ';
+        }
         self.used = 0;
         self.end = 0;
     }

@@ -208,8 +208,8 @@ fn put_of_seat(row: &mut Row, config: Config, what: &[u8], seat: usize) {
     put_machine(row, config, seat);
 }
 
-/// Puts the name of a word outside the heap.
-pub fn put_word(row: &mut Row, config: Config, name: WordName) {
+// Puts the name of a word outside the heap.
+fn put_word(row: &mut Row, config: Config, name: WordName) {
     match name {
         WordName::Pause => row.put(b"pause word"),
         WordName::Left => row.put(b"threads left"),
@@ -245,8 +245,8 @@ pub fn put_word(row: &mut Row, config: Config, name: WordName) {
     }
 }
 
-/// Puts a part of an object.
-pub fn put_part(row: &mut Row, part: Part) {
+// Puts a part of an object.
+fn put_part(row: &mut Row, part: Part) {
     match part {
         Part::Header => row.put(b"header"),
         Part::Shape => row.put(b"shape"),
@@ -275,8 +275,8 @@ pub enum Within {
     Elsewhere,
 }
 
-/// Puts the word at an index of the table, and says how it is to be read.
-pub fn put_word_at(row: &mut Row, table: &Table, at: usize, within: Within) -> Reading {
+// Puts the word at an index of the table, and says how it is to be read.
+fn put_word_at(row: &mut Row, table: &Table, at: usize, within: Within) -> Reading {
     let config = table.config();
     if at >= config.table_words() {
         row.put(b"?");
@@ -315,8 +315,8 @@ pub fn put_word_at(row: &mut Row, table: &Table, at: usize, within: Within) -> R
     }
 }
 
-/// The address of the heap's word at an index of the table.
-pub fn address_at(config: Config, at: usize) -> Option<u64> {
+// The address of the heap's word at an index of the table.
+fn address_at(config: Config, at: usize) -> Option<u64> {
     if at >= config.table_words() {
         return None;
     }

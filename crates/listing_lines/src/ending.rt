@@ -4,30 +4,76 @@ ghost use Rattle.shen_core.specs.Progress.{CanRun};
 
 use crate::columns::{NARROW_WRAP, WRAP};
 use crate::course::Listing;
-use listing::json_text;
+use heap_words::Item;
+use listing::{Row, json_number, json_text};
 use listing_ends::{json_end, json_stuck, machine_of, put_end, put_stuck};
 use listing_heap::{json_graph, put_graph};
 use shen_base::Sink;
 use shen_core::Plain;
 use shen_graph::{GraphText, Work};
 
+// Puts that no event was listed that names a text.
+fn put_none(row: &mut Row, text: &[u8]) {
+    row.put(b"no event is listed that names ");
+    row.put(text);
+}
+
+// Puts the object for that.
+fn json_none(row: &mut Row) {
+    row.put(b"{");
+    json_text(row, b"kind", b"none");
+    row.put(b"}");
+}
+
+// Puts that no event was made that has a number, behind which the heap was to be shown.
+fn put_no_event(row: &mut Row, number: u64) {
+    row.put(b"there is no event ");
+    row.put_number(number);
+    row.put(b", behind which the heap was to be shown");
+}
+
+// Puts the object for that.
+fn json_no_event(row: &mut Row, number: u64) {
+    row.put(b"{");
+    json_text(row, b"kind", b"none");
+    json_number(row, b"event", number);
+    row.put(b"}");
+}
+
 impl Listing {
     // Writes that no event was listed that names what was looked for.
-    fn tell_nothing<K: Sink>(&mut self, sink: &mut K) {
+    fn tell_none<K: Sink>(&mut self, sink: &mut K) {
         if self.has_listed {
             return;
         }
         if let Some(name) = self.filter.name() {
             if self.wanted.json {
-                self.row.put(b"{");
-                json_text(&mut self.row, b"kind", b"none");
-                self.row.put(b"}");
+                json_none(&mut self.pen.row);
             } else {
-                self.row.put(b"no event is listed that names ");
-                self.row.put(name.text());
+                put_none(&mut self.pen.row, name.text());
             }
-            self.send(sink);
+            self.pen.send(sink);
         }
+    }
+
+    // Writes that there is no event of the number behind which the heap was to be shown.
+    fn tell_no_event<K: Sink>(&mut self, sink: &mut K) {
+        let number = self.wanted.heap_at;
+        if number <= self.tally.made {
+            return;
+        }
+        if self.wanted.json {
+            json_no_event(&mut self.pen.row, number);
+        } else {
+            put_no_event(&mut self.pen.row, number);
+        }
+        self.pen.send(sink);
+    }
+
+    // Writes what of all that was looked for is not there.
+    fn tell_nothing<K: Sink>(&mut self, sink: &mut K) {
+        self.tell_none(sink);
+        self.tell_no_event(sink);
     }
 
     // Writes that the item at work cannot end, and why, and how all stands; what is made then is not listed.
@@ -39,18 +85,24 @@ impl Listing {
         if self.is_cut() {
             return;
         }
-        if let Some(item) = self.at_work {
-            let last = self.stall.last(machine_of(item));
-            let control = self.stall.last(plain.seats() - 1);
-            if self.wanted.json {
-                json_stuck(&mut self.row, plain, self.begun, item, last, control);
-            } else {
-                put_stuck(&mut self.row, plain, self.begun, item, last, control);
-            }
-            self.send(sink);
+        if let Some(item) = self.parts.at_work {
+            self.put_stuck(plain, item);
+            self.pen.send(sink);
         }
         self.standing(plain, work, sink);
-        self.flush(sink);
+        self.pen.flush(sink);
+    }
+
+    // Puts that the item at work cannot end, and why.
+    fn put_stuck(&mut self, plain: &Plain, item: Item) {
+        let last = self.stall.last(machine_of(item));
+        let control = self.stall.last(plain.seats() - 1);
+        let number = self.parts.begun;
+        if self.wanted.json {
+            json_stuck(&mut self.pen.row, plain, number, item, last, control);
+        } else {
+            put_stuck(&mut self.pen.row, plain, number, item, last, control);
+        }
     }
 
     // Writes where each machine stands, and the replies so far.
@@ -58,14 +110,29 @@ impl Listing {
         requires { CanRun plain.now work.now }
     {
         if self.wanted.json {
-            json_end(&mut self.row, &mut self.block, sink, plain, work, self.made);
+            let made = self.tally.made;
+            json_end(
+                &mut self.pen.row,
+                &mut self.pen.block,
+                sink,
+                plain,
+                work,
+                made,
+            );
         } else {
             let wide = if self.wanted.is_wide() {
                 WRAP
             } else {
                 NARROW_WRAP
             };
-            put_end(&mut self.row, &mut self.block, sink, plain, work, wide);
+            put_end(
+                &mut self.pen.row,
+                &mut self.pen.block,
+                sink,
+                plain,
+                work,
+                wide,
+            );
         }
     }
 
@@ -84,10 +151,11 @@ impl Listing {
         }
         self.standing(plain, work, sink);
         if finished && !self.wanted.json {
-            self.row.put(b"all machines are idle after ");
-            self.row.put_number(self.made);
-            self.row.put(b" events");
-            self.send(sink);
+            let row = &mut self.pen.row;
+            row.put(b"all machines are idle after ");
+            row.put_number(self.tally.made);
+            row.put(b" events");
+            self.pen.send(sink);
         }
     }
 
@@ -99,9 +167,9 @@ impl Listing {
             return;
         }
         if self.wanted.json {
-            json_graph(&mut self.row, &mut self.block, sink, graph);
+            json_graph(&mut self.pen.row, &mut self.pen.block, sink, graph);
         } else {
-            put_graph(&mut self.row, &mut self.block, sink, graph);
+            put_graph(&mut self.pen.row, &mut self.pen.block, sink, graph);
         }
     }
 }

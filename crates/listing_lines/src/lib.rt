@@ -10,6 +10,10 @@ mod headings;
 mod heaps;
 mod json_lines;
 mod pause_lines;
+mod pen;
+mod said;
+mod tally;
 mod text_lines;
+mod words_now;
 
 pub use course::Listing;

@@ -7,6 +7,15 @@ use trace_grammar::number_in;
 // The most bytes of a text that is looked for.
 const MOST: usize = 64;
 
+// The most machines, threads and helpers of a heap, and the greatest number by which one may be named.
+const MACHINES: u64 = 12;
+
+const THREADS: u64 = 8;
+
+const HELPERS: u64 = 3;
+
+const MOST_NUMBER: u64 = 999_999_999;
+
 /// A text that is looked for in lines.
 #[derive(Clone, Copy, Debug)]
 pub struct Needle {
@@ -45,6 +54,8 @@ pub struct Filter {
     helpers: [bool; 3],
     control: bool,
     some_machines: bool,
+    // A machine that was named and that no heap has.
+    beyond: Option<Stranger>,
     // The places; all where none is named.
     places: [bool; 81],
     some_places: bool,
@@ -115,6 +126,7 @@ impl Filter {
             helpers: [false; 3],
             control: false,
             some_machines: false,
+            beyond: None,
             places: [false; 81],
             some_places: false,
             no_place: None,
@@ -124,20 +136,44 @@ impl Filter {
         }
     }
 
+    // Takes a thread by its number.
+    fn take_thread(&mut self, thread: u64) {
+        if thread > THREADS {
+            self.beyond = Some(Stranger::Thread(thread));
+        } else {
+            self.threads[(thread.saturating_sub(1) % THREADS) as usize] = true;
+        }
+    }
+
+    // Takes a helper by its number.
+    fn take_helper(&mut self, helper: u64) {
+        if helper > HELPERS {
+            self.beyond = Some(Stranger::Helper(helper));
+        } else {
+            self.helpers[(helper.saturating_sub(1) % HELPERS) as usize] = true;
+        }
+    }
+
+    // Takes a machine by its number in a schedule.
+    fn take_number(&mut self, machine: u64) {
+        if machine > MACHINES {
+            self.beyond = Some(Stranger::Machine(machine));
+        } else {
+            self.machines[(machine.saturating_sub(1) % MACHINES) as usize] = true;
+        }
+    }
+
     // Takes a machine by its number in a schedule or by its name.
     fn take_machine(&mut self, name: &[u8]) -> Option<()> {
         self.some_machines = true;
         if let Some(number) = behind(b"helper ", name) {
-            let helper = number_in(3, number)?;
-            self.helpers[(helper.saturating_sub(1) % 3) as usize] = true;
+            self.take_helper(number_in(MOST_NUMBER, number)?);
         } else if let Some(number) = behind(b"thread ", name) {
-            let thread = number_in(8, number)?;
-            self.threads[(thread.saturating_sub(1) % 8) as usize] = true;
+            self.take_thread(number_in(MOST_NUMBER, number)?);
         } else if name == b"control".as_slice() {
             self.control = true;
         } else {
-            let number = number_in(12, name)?;
-            self.machines[(number.saturating_sub(1) % 12) as usize] = true;
+            self.take_number(number_in(MOST_NUMBER, name)?);
         }
         Some(())
     }
@@ -182,6 +218,11 @@ impl Filter {
         if from <= text.len() { None } else { Some(()) }
     }
 
+    /// Whether lines are listed by what they name or say, and not by their machines and places alone.
+    pub fn has_needle(&self) -> bool {
+        self.calls || self.object.is_some() || self.word.is_some()
+    }
+
     /// The text that is looked for, if there is one.
     pub fn name(&self) -> Option<Needle> {
         match self.word {
@@ -207,6 +248,9 @@ impl Filter {
 
     /// A machine that is named and that the heap does not have.
     pub fn stranger(&self, config: Config) -> Option<Stranger> {
+        if self.beyond.is_some() {
+            return self.beyond;
+        }
         for seat in config.seats()..12 {
             if self.machines[seat % 12] {
                 return Some(Stranger::Machine((seat as u64).saturating_add(1)));

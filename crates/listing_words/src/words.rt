@@ -56,6 +56,16 @@ impl Wanted {
     pub fn is_wide(&self) -> bool {
         self.width >= WIDE
     }
+
+    /// Whether what is found and said stands in columns.
+    pub fn in_columns(&self) -> bool {
+        self.is_wide() && !self.columns
+    }
+
+    /// Whether the listing may begin behind the first event.
+    pub fn begins_later(&self) -> bool {
+        self.from > 1 || self.item.is_some()
+    }
 }
 
 // The columns of a line that has room for columns and bars, at least.

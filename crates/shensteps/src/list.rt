@@ -8,6 +8,7 @@ ghost use Rattle.schedule_walk.specs.Nexts.{HasNoNext, MakesNext};
 ghost use Rattle.trace_grammar.specs.Grammar.{Reads};
 ghost use Rattle.shensteps.specs.Listed.{CountsEvents};
 
+use crate::named::may_be_made;
 use crate::status::Status;
 use heap_words::{Config, Schedule};
 use listing::Row;
@@ -185,10 +186,32 @@ fn no_place<E: Sink>(errors: &mut E, code: Needle) -> Status {
     refuse(errors, &row)
 }
 
+// Writes the line that no object of the trace can have this name.
+fn no_object<E: Sink>(errors: &mut E, name: Needle) -> Status {
+    let mut row = Row::new();
+    row.put(b"bad words: there is no object ");
+    row.put(name.text());
+    row.put(b" in this trace\n");
+    refuse(errors, &row)
+}
+
+// The object that is looked for, where the trace cannot have it.
+fn strange_object(trace: &Trace, asked: &Asked) -> Option<Needle> {
+    let name = asked.filter.object?;
+    if may_be_made(trace, name.text()) {
+        None
+    } else {
+        Some(name)
+    }
+}
+
 // How a call ends whose words name what the trace does not have.
 fn refusal<E: Sink>(errors: &mut E, trace: &Trace, asked: &Asked) -> Option<Status> {
     if let Some(stranger) = asked.filter.stranger(trace.config) {
         return Some(no_machine(errors, stranger, trace.config));
+    }
+    if let Some(name) = strange_object(trace, asked) {
+        return Some(no_object(errors, name));
     }
     let items = trace.schedule.list().len();
     match asked.wanted.item {

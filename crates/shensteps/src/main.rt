@@ -2,6 +2,7 @@
 #![tactic(auto)]
 
 mod list;
+mod named;
 mod status;
 
 use list::shensteps;
