@@ -26,7 +26,7 @@ within_next (Behind stage) text next within f = subst IsWithin (sym f.2) tt
 
 -- ---- behind the line `trace`
 
-behind_lead : (xs : List (List ℕ)) (l : LineStage) (a : DumpStage) → DumpLead (Behind l) xs a → (m : LineStage) × (a ≡ Behind m) × Lead l xs m
+pub behind_lead : (xs : List (List ℕ)) (l : LineStage) (a : DumpStage) → DumpLead (Behind l) xs a → (m : LineStage) × (a ≡ Behind m) × Lead l xs m
 behind_lead [] l a lead = (l, sym lead, refl)
 behind_lead (x ∷ xs) l a lead =
     let more = behind_lead xs lead.1.0 a (subst (λ (s : DumpStage). DumpLead s xs a) lead.1.2 lead.2) in

@@ -19,3 +19,4 @@ pub mod LineOnce
 pub mod DumpEnds
 pub mod Relined
 pub mod Reread
+pub mod Neither

@@ -35,3 +35,9 @@ pub fn dumps_are_refused_once()
     ensures never_both { (bytes : List ℕ) (d : Dumped) (scripts : List (List Command)) (items : List Item) (n : ℕ) (why : Why) → Resumes bytes d scripts items → DumpRefused bytes n why → ⊥ }
     ensures once { (bytes : List ℕ) (n m : ℕ) (why other : Why) → DumpRefused bytes n why → DumpRefused bytes m other → (n ≡ m) × (why ≡ other) }
 {}
+
+/// A law: bytes within the limit are a dump with what is to run from it, or are refused at a line for a cause: it cannot be that they are
+/// neither. That they are never both, and neither in two ways, the two laws above say.
+pub fn bytes_are_a_dump_or_refused()
+    ensures { (bytes : List ℕ) → length bytes ≤ most_bytes → ((d : Dumped) (scripts : List (List Command)) (items : List Item) → Resumes bytes d scripts items → ⊥) → ((n : ℕ) (why : Why) → DumpRefused bytes n why → ⊥) → ⊥ }
+{}

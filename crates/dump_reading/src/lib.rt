@@ -10,5 +10,8 @@ mod roots;
 mod whole;
 mod words;
 
-pub use laws::{dumps_are_read_once, dumps_are_refused_once, written_dumps_are_read};
+pub use laws::{
+    bytes_are_a_dump_or_refused, dumps_are_read_once, dumps_are_refused_once,
+    written_dumps_are_read,
+};
 pub use read::{Resumed, read_dump};
