@@ -159,7 +159,8 @@ def judged(lines):
             " ".join(f"{number} {kind}" for kind, number in count.items()),
             f"{seen['users']} steps of users and {seen['control']} of the control",
             f"the heap's words given out {used:.1f} times",
-            f"{seen['pauses']} pauses; {seen['marking']} cycles, of which {seen['evacuating']} came to evacuating, {seen['updating']} to updating and {seen['whole']} to the end",
+            f"{seen['pauses']} pauses, {seen['marking']} began to mark, {seen['evacuating']} to evacuate and {seen['updating']} to update",
+            f"{seen['whole']} cycles came to their ends",
             f"the hub moved {seen['hub']} times",
         ]
     )
@@ -170,6 +171,7 @@ def main():
     bad = list(misjudged())
     for it in bad:
         print(f"the judge is wrong: {it}")
+    print(f"{len(JUDGED)} histories, {len(bad)} of which are misjudged")
     numbers = [*map(int, sys.argv[1:]), *[7, 4, 60][len(sys.argv) - 1 :]]
     failed, collected = 0, 0
     for lines in runs([str(it) for it in numbers]):
@@ -177,7 +179,7 @@ def main():
         failed += why is not None
         collected += was_collected
         print(f"{line}: {why or 'a queue'}")
-    print(f"{numbers[1]} seeds from {numbers[0]} on, {failed} of which fail; the heap was evacuated and updated under {collected}; {len(JUDGED)} histories, of which {len(bad)} were misjudged")
+    print(f"{numbers[1]} seeds from {numbers[0]} on, {failed} of which fail; the heap was evacuated and updated under {collected}")
     return failed > 0 or collected == 0 or bool(bad)
 
 
