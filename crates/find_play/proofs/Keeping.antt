@@ -1,0 +1,66 @@
+-- A thread that keeps a note has come further.
+use Rattle.std.proofs.Common.{◌≡◌, ℕ, suc, ◌+◌, ◌-◌, ◌*◌, ◌<◌, Bool, true, false, List, length, Option, Some, None, refl, subst, arith}
+use Rattle.std.proofs.lemmas.Option.{slice_get_within}
+use Rattle.std.specs.Prelude.{slice_get, if◌then◌else◌}
+use Rattle.shen_graph.specs.declared.command.Reply.{Reply}
+use Rattle.find_grammar.specs.declared.statement.Statement.{Statement}
+use Rattle.find_grammar.specs.declared.statement.Statement.TheVariants as statement
+use Rattle.find_grammar.specs.declared.thread.Part.TheVariants as part
+use Rattle.find_grammar.specs.declared.thread.Move.{Move}
+use Rattle.find_grammar.specs.declared.thread.Move.TheVariants.{Goes, Back, Gives}
+use Rattle.find_grammar.specs.declared.thread.Next.{Next}
+use Rattle.find_grammar.specs.declared.thread.Next.TheVariants.{Keep}
+use Rattle.find_grammar.specs.declared.thread.Thread.{Thread}
+use Rattle.find_grammar.specs.Meaning.{fits_last, behind, move_by, move_at, Runs, Gave, Went, Returned, Stopped}
+
+-- what is left of a program and of its returns
+abbrev pub room : List Statement → Thread → ℕ
+room program t = t.left * (length program + 1) + (length program - t.at)
+
+-- where a move leads: further, or it gives something and stands behind it
+abbrev IsFurther : List Statement → ℕ → Move → Type 0
+IsFurther program at (Goes to) = (at < length program) × (at < to)
+IsFurther program at (Back first) = Unit {0}
+IsFurther program at (Gives (Keep note) to) = (at < length program) × (to ≡ at + 1)
+IsFurther program at (Gives next to) = Unit {0}
+
+further_if : (program : List Statement) (at a b : ℕ) (test : Bool) → at < length program → at < a → at < b → IsFurther program at (if test then Goes a else Goes b)
+further_if program at a b true h x y = (h, x)
+further_if program at a b false h x y = (h, y)
+
+further : (program : List Statement) (reply : Option Reply) (at : ℕ) (o : Option Statement) → slice_get program at ≡ o → IsFurther program at (move_by program reply at o)
+further program reply at None h = tt
+further program reply at (Some (statement.Run c)) h = tt
+further program reply at (Some (statement.Keep note)) h = (slice_get_within program at (statement.Keep note) h, refl)
+further program reply at (Some statement.Loop) h = (slice_get_within program at statement.Loop h, omega arith)
+further program reply at (Some (statement.Until w)) h = further_if program at (behind part.Loop program at) (at + 1) (fits_last w reply) (slice_get_within program at (statement.Until w) h) (omega arith) (omega arith)
+further program reply at (Some (statement.If w)) h = further_if program at (at + 1) (behind part.If program at) (fits_last w reply) (slice_get_within program at (statement.If w) h) (omega arith) (omega arith)
+further program reply at (Some statement.Else) h = (slice_get_within program at statement.Else h, omega arith)
+further program reply at (Some statement.End) h = (slice_get_within program at statement.End h, omega arith)
+further program reply at (Some (statement.Again first)) h = tt
+
+-- where a statement leads
+leads : (program : List Statement) (reply : Option Reply) (at : ℕ) (m : Move) → move_at program reply at ≡ m → IsFurther program at m
+leads program reply at m h = subst (IsFurther program at) h (further program reply at (slice_get program at) refl)
+
+less_on : (n at to left : ℕ) → at < n → at < to → left * (n + 1) + (n - to) < left * (n + 1) + (n - at)
+less_on n at to left lt on = omega arith
+
+less_back : (n at first left : ℕ) → left * (n + 1) + (n - first) < suc left * (n + 1) + (n - at)
+less_back n at first left = omega arith
+
+-- a thread that keeps a note has less room then
+pub keeps_less : (program : List Statement) (reply : Option Reply) (note : ℕ) (t u : Thread) (next : Next) → Runs program reply t next u → next ≡ Keep note → room program u < room program t
+keeps_less program reply note t u next (Gave at left to _ h) is =
+    let at_end : IsFurther program at (Gives (Keep note) to) = subst (λ k. IsFurther program at (Gives k to)) is (leads program reply at (Gives next to) h) in
+    less_on (length program) at to left at_end.0 (omega (arith, at_end.1))
+keeps_less program reply note t u next (Went at left to _ _ h runs) is =
+    let on = leads program reply at (Goes to) h in
+    let less = keeps_less program reply note (record { at = to; left = left }) u next runs is in
+    let more = less_on (length program) at to left on.0 on.1 in
+    omega (arith, less, more)
+keeps_less program reply note t u next (Returned at left first _ _ h runs) is =
+    let less = keeps_less program reply note (record { at = first; left = left }) u next runs is in
+    let more = less_back (length program) at first left in
+    omega (arith, less, more)
+keeps_less program reply note t u next (Stopped at first h) is = absurd cc

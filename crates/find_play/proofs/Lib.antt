@@ -1,0 +1,5 @@
+mod Assertions
+mod Firsts
+mod Keeping
+mod Playing
+mod RowLaws

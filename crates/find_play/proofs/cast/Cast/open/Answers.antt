@@ -1,0 +1,15 @@
+use Rattle.std.proofs.Common.{◌≡◌, None, length, ap, sym, subst, ◌∙◌}
+use Rattle.find_play.specs.Plays.{Programs, Begun, Nobody, Another, StepsOn, opening}
+use Rattle.find_play.specs.Scenes.{scene}
+use Rattle.find_play.proofs.cast.Cast.open.Goals as goal
+
+pub loop-number-init : goal.loop-number-init
+loop-number-init c =
+    let t = c.args.test.now in
+    let e : scene c.in_ok-cast.cast ≡ opening t.bounds.returns (length t.notes) = c.in_ok-cast.ensures ∙ ap (opening t.bounds.returns) c.len.ensures in
+    subst (Begun t.programs.items (opening t.bounds.returns (length t.notes)) 0) (sym e) Nobody
+
+pub loop-number-preserved : goal.loop-number-preserved
+loop-number-preserved c =
+    Another c.loop-number.number (scene c.loop-number.cast) (scene c.step.new.self) c.loop-number.invariant
+    (subst (λ (ps : Programs). StepsOn ps c.loop-number.number None (scene c.loop-number.cast) (scene c.step.new.self)) c.deref.ensures.value c.step.ensures)

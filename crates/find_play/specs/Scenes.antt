@@ -1,0 +1,16 @@
+-- What a cast shows.
+use Rattle.std.specs.Prelude.{ℕ, ◌≡◌, ◌+◌, Some, slice_index_or}
+use Rattle.shen_graph.specs.History.{Entry}
+use Rattle.find_grammar.specs.declared.thread.Next.TheVariants.{Command, Done}
+use Rattle.find_play.specs.declared.cast.Cast.{Cast}
+use Rattle.find_play.specs.Plays.{Programs, Scene, StepsOn}
+
+abbrev pub scene : Cast → Scene
+scene c = record { threads = c.threads; acts = c.acts; notes = c.notes.items }
+
+-- the entry is the command that its thread was to give, and with the reply it went on
+pub record IsNextEntry (programs : Programs) (e : Entry) (before after : Scene) : Type 0 where
+  pub number : ℕ
+  pub thread : e.thread ≡ number + 1
+  pub was : slice_index_or before.acts number Done ≡ Command e.command
+  pub steps : StepsOn programs number (Some e.reply) before after
