@@ -22,7 +22,7 @@ TESTS = {"word_tests", "text_tests", "heap_tests", "hostile_tests"}
 # and the verifier of images, and the sink in memory, that tests use.
 PROMISED = {"apply", "reach", "is_valid", "is_done", "answer", "write_trace", "serve", "open_from", "place", "resume", "with_room",
             "stands", "drive", "of", "write_dump", "read_dump", "read_test",
-            "trace_lines::line", "trace_lines::end", "find_grammar::start", "find_grammar::next", "verdict_on"}
+            "trace_lines::line", "trace_lines::end", "find_grammar::start", "find_grammar::next", "verdict_on", "dump_of"}
 FUNCTION = re.compile(r"^([ ]*)pub (?:const )?(?:unsafe )?fn (\w+)", re.M)
 
 

@@ -1,0 +1,3 @@
+pub mod FormedGraphs
+pub mod ObjectCounts
+pub mod FormedDumps
