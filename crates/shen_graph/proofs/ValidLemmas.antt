@@ -1,12 +1,12 @@
 -- Each range of a command's numbers as a test.
-use Rattle.std.proofs.Common.{ℕ, ◌^◌, ◌≤◌, ◌∙◌, Bool, ◌&&◌, inl, inr, refl, sym}
+use Rattle.std.proofs.Common.{ℕ, ◌≤◌, ◌∙◌, Bool, ◌&&◌, inl, inr, refl, sym}
 use Rattle.std.specs.Prelude.{nat_le}
 use Rattle.std.specs.Bool.{Decides}
 use Rattle.std.proofs.lemmas.Bool.{false≢true, le-leb}
 use Rattle.std.proofs.lemmas.Bool.Decides.{Decides-and, Decides-like, Decides-ltb, leb_tells}
 use Rattle.shen_graph.specs.declared.command.Command.{Command}
 use Rattle.shen_graph.specs.declared.command.Command.TheVariants.{New, Get, Set, Cas, Xchg, Rd, Wr, Copy, Drop, Same, Gc}
-use Rattle.shen_graph.specs.Valid.{IsRoot, IsSize, IsIndex, IsValid, FitsValue, is_root, is_size, is_index, is_valid, fits_value}
+use Rattle.shen_graph.specs.Valid.{IsRoot, IsSize, IsIndex, IsValid, is_root, is_size, is_index, is_valid}
 
 root : (n : ℕ) → Decides (is_root n) (IsRoot n)
 root n = Decides-ltb n 16
@@ -41,7 +41,3 @@ is_valid-Decides (Copy dst src) = both (is_root dst) (is_root src) (root dst) (r
 is_valid-Decides (Drop dst) = root dst
 is_valid-Decides (Same a b) = both (is_root a) (is_root b) (root a) (root b)
 is_valid-Decides Gc = (λ e. tt, λ e. refl)
-
-pub fits_value-Decides : (command : Command) → Decides (fits_value command) (FitsValue command)
-fits_value-Decides (Wr obj i value) = Decides-ltb value (2 ^ 64)
-fits_value-Decides _ = (λ e. tt, λ e. refl)

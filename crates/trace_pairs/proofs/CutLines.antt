@@ -186,6 +186,3 @@ line_shorter rest line behind e = let size = ap length (bytes_of_line rest line 
 
 pub whole_before : (bytes front rest : List ℕ) → bytes ≡ front ++ rest → bytes ≡ take (length bytes - length rest) bytes ++ rest
 whole_before bytes front rest e = e ∙ ap (λ (bs : List ℕ). bs ++ rest) (sym (all_before bytes front rest e))
-
-pub part_short : (bytes front rest : List ℕ) → bytes ≡ front ++ rest → length rest ≤ length bytes
-part_short bytes front rest e = let sizes = ap length e ∙ length-append front rest in omega (arith, sizes)

@@ -24,7 +24,7 @@ use Rattle.table_heap.specs.Running.{Jobs}
 use Rattle.heap_machines.proofs.Openings.{first_count}
 use Rattle.table_heap.proofs.Starting.{fresh_can_start}
 use Rattle.trace_runs.specs.declared.load.Load.TheVariants.{Scripted}
-use Rattle.trace_runs.specs.DealtParts.{PartIsReady, BundlesAreFresh, CanBeDealt}
+use Rattle.trace_runs.specs.DealtParts.{PartIsReady, CanBeDealt}
 use Rattle.trace_runs.specs.DealtParts.Assigned.{scripts as by_scripts}
 
 -- ---- tests and options

@@ -15,7 +15,7 @@ use Rattle.shen_graph.specs.declared.order.Order.{Order}
 use Rattle.shen_graph.specs.declared.order.Order.TheVariants.{Nothing}
 use Rattle.shen_graph.specs.Valid.{IsValid}
 use Rattle.shen_graph.specs.Work.{Progress, progress_of, replies_of, begun, one_of, joined}
-use Rattle.managed_queue.specs.Users.{Use, next_of, used, to_come}
+use Rattle.managed_queue.specs.Users.{Use, to_come}
 use Rattle.shared_table.specs.Views as views
 use Rattle.shared_table.specs.Views.{View, machine_of, merged}
 use Rattle.shared_table.proofs.Kept.{kept_here, machine_of-kept}
@@ -28,9 +28,9 @@ use Rattle.heap_machines.specs.Shown.{shown}
 use Rattle.table_heap.specs.declared.bundle.Bundle.{Bundle}
 use Rattle.table_heap.specs.declared.heap.Heap.{Heap}
 use Rattle.table_heap.specs.Core.{machine_in}
-use Rattle.table_heap.specs.State.{config_of, heap_of, view_of, orders_of, IsBundleOf, IsSameBundle}
-use Rattle.table_heap.specs.Running.{Jobs, HasNoOrder, EachMutator, AreIdleForGood, CanStart, CanStartOn, HasDone, HaveDone, AreSameJobs}
-use Rattle.table_heap.specs.Driving.{has_mutator, mutators_below, CanDrive, HasDriven, HaveDriven}
+use Rattle.table_heap.specs.State.{config_of, heap_of, view_of, orders_of, IsBundleOf}
+use Rattle.table_heap.specs.Running.{Jobs, HasNoOrder, EachMutator, CanStart, CanStartOn, HasDone}
+use Rattle.table_heap.specs.Driving.{has_mutator, mutators_below, CanDrive}
 use Rattle.trace_runs.specs.declared.load.Load.{Load}
 use Rattle.trace_runs.specs.declared.load.Load.TheVariants.{Scripted, Driven}
 use Rattle.trace_runs.specs.declared.parts.Part.{Part}

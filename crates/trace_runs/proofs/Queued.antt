@@ -1,5 +1,5 @@
 -- Users of a queue on a heap that was just opened, and what comes of them.
-use Rattle.std.proofs.Common.{◌≡◌, ◌⊎◌, inl, inr, ℕ, zero, suc, ◌+◌, ◌-◌, ◌*◌, ◌^◌, ◌<◌, ◌≤◌, List, [], ◌∷◌, length, get_or, map, take, All, Option, Some, None, refl, sym, ap, subst, ◌∙◌, arith}
+use Rattle.std.proofs.Common.{◌≡◌, ℕ, zero, suc, ◌+◌, ◌-◌, ◌*◌, ◌^◌, ◌<◌, ◌≤◌, List, [], ◌∷◌, length, get_or, map, take, All, Some, None, refl, sym, ap, subst, ◌∙◌, arith}
 use Rattle.std.specs.Prelude.{slice_get}
 use Rattle.std.specs.List.{range_with_len}
 use Rattle.std.proofs.lemmas.List.{length-map}
@@ -9,22 +9,20 @@ use Rattle.std.proofs.lemmas.Option.{get_or_from_slice_get}
 use Rattle.std.proofs.Math.Nat.{mul-le-mul_left, mul-le-mul_right, le_trans}
 use Rattle.heap_words.specs.declared.config.Config.{Config}
 use Rattle.heap_words.specs.Ranges.{seat_count}
-use Rattle.steps_base.specs.Steps.{Stage, IsReached, Event}
-use Rattle.shen_graph.specs.History.{Entry, of_thread, commands_of, Follows}
+use Rattle.steps_base.specs.Steps.{Stage, IsReached}
+use Rattle.shen_graph.specs.History.{Entry, of_thread, commands_of}
 use Rattle.shen_graph.specs.Crowd.{IsLegalHistory}
 use Rattle.shen_graph.specs.Work.{opened, parted}
 use Rattle.shen_graph.specs.Valid.{IsValid}
 use Rattle.arrayvec.specs.ArrayVec.{ArrayVec}
 use Rattle.shen_graph.specs.declared.command.Command.{Command}
-use Rattle.shen_graph.specs.declared.order.Order.{Order}
 use Rattle.heap_machines.specs.Pause.{pause_image}
 use Rattle.shared_table.specs.Views.{whole, dealt_to}
 use Rattle.step_core.specs.Actor.{Actor}
 use Rattle.step_core.specs.Begins.{reached, past}
-use Rattle.step_core.specs.Schedule.{Scripts, nth_script}
-use Rattle.shen_core.specs.Calls.{HasCalled, AllHaveCalled}
+use Rattle.step_core.specs.Schedule.{Scripts}
+use Rattle.shen_core.specs.Calls.{AllHaveCalled}
 use Rattle.shen_core.specs.Progress.{AreIdle, IsRunnable}
-use Rattle.managed_queue.specs.declared.user.Gotten.{Gotten}
 use Rattle.managed_queue.specs.Users.{Use, next_of, used, to_come, IsDriven, use_after}
 use Rattle.managed_queue.specs.Workload.{queue_user, got_in, IsQueueRun, TellsQueue}
 use Rattle.managed_queue.proofs.Told.{queue_runs_tell}
@@ -34,13 +32,12 @@ use Rattle.table_heap.specs.declared.closed.Closed.{Closed}
 use Rattle.table_heap.specs.Closed as closed
 use Rattle.table_heap.specs.Core.{heap_kind, heap_opening, nobody}
 use Rattle.table_heap.specs.Driven.{IsDrivenFrom, driver_after}
-use Rattle.table_heap.specs.Driving.{mutators_below, CanDrive}
-use Rattle.table_heap.specs.State.{config_of, heap_of, view_of, IsFresh}
+use Rattle.table_heap.specs.State.{config_of, view_of, IsFresh}
 use Rattle.trace_writing.specs.Message.{line_text}
 use Rattle.trace_writing.specs.declared.message.Line.TheVariants as line
 use Rattle.trace_runs.specs.declared.load.Load.TheVariants.{Scripted, Driven}
 use Rattle.trace_runs.specs.declared.parts.Part.{Part}
-use Rattle.trace_runs.specs.DealtParts.{crew_of, IsPart, HasUsed, IsCrewed, LoadIsDone, PartIsReady, IsDone, BundlesAreFresh, CanBeDealt}
+use Rattle.trace_runs.specs.DealtParts.{crew_of, IsPart, HasUsed, IsCrewed, LoadIsDone, PartIsReady, IsDone, CanBeDealt}
 use Rattle.trace_runs.specs.DealtParts.Assigned.{users}
 use Rattle.trace_runs.specs.DealtParts.Assigned.{scripts as by_scripts}
 use Rattle.trace_runs.specs.Words.{most_numbers}

@@ -9,7 +9,7 @@ use Rattle.std.proofs.lemmas.List.{length-append}
 use Rattle.trace_grammar.specs.Spelling.{IsUpTo}
 use Rattle.trace_runs.specs.declared.mode.Mode.{Mode}
 use Rattle.trace_runs.specs.declared.mode.Mode.TheVariants.{Replay, Noted, Run, Churn, Queue, Check}
-use Rattle.trace_runs.specs.Words.{most_seed, most_rounds, most_numbers, most_steps, usual_steps, most_machines, IsNumbered, IsReplay, IsNotedReplay, IsRunBy, IsChurn, IsQueue, IsCheck, Asks, Ask}
+use Rattle.trace_runs.specs.Words.{most_seed, most_rounds, most_numbers, most_steps, usual_steps, most_machines, IsNumbered, IsReplay, IsNotedReplay, IsChurn, IsQueue, Asks}
 use Rattle.trace_runs.specs.Answered.{ReadsTrace, ReadsNothing}
 use Rattle.std.proofs.lemmas.Bool.Decides.{nat_tests}
 
@@ -199,19 +199,6 @@ trace_or_nothing a Check same reads none = none
 pub asks_alike : (words : List (List ℕ)) (a b : Mode) → Asks words a → Asks words b → ReadsTrace a → ReadsNothing b → ⊥
 asks_alike words a b asked also reads none = trace_or_nothing a b (one_name words a b asked also) reads none
 
--- words that ask for no mode
-pub asks_none : (words : List (List ℕ)) → (((steps : ℕ) × IsReplay words steps) → ⊥) → (((steps : ℕ) × IsNotedReplay words steps) → ⊥) → (((workers : ℕ) × IsRunBy words workers) → ⊥)
-    → (((seed : ℕ) × ((count : ℕ) × IsChurn words seed count)) → ⊥) → (((count : ℕ) × IsQueue words count) → ⊥) → (IsCheck words → ⊥) → Ask words → ⊥
-asks_none words replay noted run churn queue check asked = by_mode asked.0 asked.1
-  where
-    by_mode : (mode : Mode) → Asks words mode → ⊥
-    by_mode (Replay steps) this = replay (steps, this)
-    by_mode (Noted steps) this = noted (steps, this)
-    by_mode (Run workers) this = run (workers, this)
-    by_mode (Churn load) this = churn (load.seed, (load.count, this))
-    by_mode (Queue count) this = queue (count, this)
-    by_mode Check this = check this
-
 -- a list that is not empty begins with its first word
 pub first_word : {X : Type 0} (f : X → List ℕ) (words : List X) (w : X) (text : List ℕ) (r : Bool) → 1 ≤ length words → w ≡ get_or words 0 w → r ≡ pointwise eqb (f w) text
     → (r ≡ true → BeginWith text (map f words)) × (BeginWith text (map f words) → r ≡ true)
@@ -269,14 +256,3 @@ noted_by_front f words front w n (Some steps) long is are e asked =
 noted_by_front f words front w n None long is are e none = λ asked.
     let parts = last_of f words w asked.1.0 (codes "--history") n long is asked.1.1 in
     none (asked.0, subst (λ (ws : List (List ℕ)). IsReplay ws asked.0) (sym parts.1 ∙ ap (λ ws. map f ws) (sym are)) asked.1.2)
-
--- where the last word is another, none is asked for
-pub noted_by_last : {X : Type 0} (f : X → List ℕ) (words : List X) (w : X) (n : ℕ) → length words ≡ suc n → w ≡ get_or words n w → false ≡ pointwise eqb (f w) (codes "--history") → ((steps : ℕ) × IsNotedReplay (map f words) steps) → ⊥
-noted_by_last f words w n long is e asked =
-    let parts = last_of f words w asked.1.0 (codes "--history") n long is asked.1.1 in
-    false≢true (e ∙ ap (λ (t : List ℕ). pointwise eqb t (codes "--history")) parts.0 ∙ test_itself (codes "--history"))
-
--- nor where there are no words
-pub noted_by_none : {X : Type 0} (f : X → List ℕ) (words : List X) → length words < 1 → ((steps : ℕ) × IsNotedReplay (map f words) steps) → ⊥
-noted_by_none f [] few asked = absurd (omega (arith, ap length asked.1.1, length-append asked.1.0 (codes "--history" ∷ [])))
-noted_by_none f (x ∷ xs) few asked = absurd (omega arith)

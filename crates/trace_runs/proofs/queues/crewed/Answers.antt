@@ -1,4 +1,4 @@
-use Rattle.std.proofs.Common.{rules, ◌≡◌, suc, ◌+◌, length, ap, ◌∙◌, subst, arith, refl, Some}
+use Rattle.std.proofs.Common.{rules, ◌≡◌, suc, ◌+◌, length, ap, ◌∙◌, arith, refl, Some}
 use Rattle.std.specs.Prelude.{slice_get}
 use Rattle.trace_runs.specs.DealtParts.{crew_of}
 use Rattle.trace_runs.specs.DealtParts.Assigned.{users}

@@ -1,6 +1,5 @@
-use Rattle.std.proofs.Common.{rules, ◌≡◌, ◌<◌, ◌≤◌, ◌+◌, List, length, sym, subst, ap, ◌∙◌, arith}
+use Rattle.std.proofs.Common.{◌<◌, List, length, sym, subst, ap, ◌∙◌, arith}
 use Rattle.std.specs.Prelude.{slice_get}
-use Rattle.heap_words.specs.declared.config.Config.{Config}
 use Rattle.arrayvec.specs.ArrayVec.{ArrayVec}
 use Rattle.managed_queue.specs.Users.{Use}
 use Rattle.table_heap.specs.State.{config_of, view_of}
@@ -9,7 +8,7 @@ use Rattle.trace_runs.specs.DealtParts.{Assigned, AreReady, LoadIsDone, IsDone}
 use Rattle.trace_runs.specs.DealtParts.Assigned.{users}
 use Rattle.trace_runs.specs.Queued.{IsQueueHeap, queue_users, CanBeCrewed}
 use Rattle.trace_runs.proofs.Coming.{has_all, control_idle}
-use Rattle.trace_runs.proofs.Queued.{can_be_crewed, queue_tells, taker_there, small_items, small_sum, queued}
+use Rattle.trace_runs.proofs.Queued.{can_be_crewed, taker_there, small_items, small_sum, queued}
 use Rattle.trace_runs.proofs.queues.got_of.Goals as goal
 
 pub run_parts-requires-clause-some : goal.run_parts-requires-clause-some
