@@ -16,7 +16,7 @@ use Rattle.cycle_words.proofs.Marking.Bits.{one, bits_at}
 use Rattle.cycle_words.specs.Marking.Final.{is_current}
 use Rattle.cycle_words.specs.Evacuation.Live.{live_words, garbage, is_candidate}
 use Rattle.cycle_words.specs.Evacuation.Front.{comes_before, live_up_to, is_in_front}
-use Rattle.cset_choice.specs.Tables.{AreLive, adds, up_to}
+use Rattle.cset_choice.specs.Tables.{AreLive, adds, most_live, up_to}
 
 -- a set of regions below a number has no others
 pub members_past : (set n k : ℕ) → set < 2 ^ n → members_below set (n + k) ≡ members_below set n
@@ -79,7 +79,7 @@ adds_few live set r q bound few =
 -- a table with one entry more
 pub record AreLiveBelow (c : Config) (m : Word → ℕ) (live : List ℕ) (n : ℕ) : Type 0 where
   pub long : length live ≡ 64
-  pub small : (r : ℕ) → r < 64 → slice_index live r ≤ 525312
+  pub small : (r : ℕ) → r < 64 → slice_index live r ≤ most_live
   pub is : (r : ℕ) → r < n → slice_index live r ≡ live_words c m r
 
 pub live_none : (c : Config) (m : Word → ℕ) → AreLiveBelow c m (replicate 64 0) 0
@@ -89,7 +89,7 @@ live_none c m = record {
   is = λ r below. absurd (omega (arith, below));
 }
 
-pub live_more : (c : Config) (m : Word → ℕ) (live : List ℕ) (n words : ℕ) → n < 64 → words ≡ live_words c m n → words ≤ 525312 → AreLiveBelow c m live n
+pub live_more : (c : Config) (m : Word → ℕ) (live : List ℕ) (n words : ℕ) → n < 64 → words ≡ live_words c m n → words ≤ most_live → AreLiveBelow c m live n
     → AreLiveBelow c m (slice_set live n words) (n + 1)
 live_more c m live n words few is bound before =
     let inside : n < length live = omega (arith, few, before.long) in

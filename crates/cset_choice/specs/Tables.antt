@@ -7,10 +7,14 @@ use Rattle.packing.specs.Tops.{sum_below}
 use Rattle.cycle_words.specs.Evacuation.Live.{live_words}
 use Rattle.cycle_words.specs.Evacuation.Front.{comes_before}
 
+-- no more lives in a region than 513 words at each of 2^25 addresses
+abbrev pub most_live : ℕ
+most_live = 17213423616
+
 -- a table of 64 numbers has the live words of each region
 pub record AreLive (c : Config) (memory : Word → ℕ) (live : List ℕ) : Type 0 where
   pub long : length live ≡ 64
-  pub small : (r : ℕ) → r < 64 → slice_index live r ≤ 525312
+  pub small : (r : ℕ) → r < 64 → slice_index live r ≤ most_live
   pub is : (r : ℕ) → r < c.regions → slice_index live r ≡ live_words c memory r
 
 -- what a region adds to what lives, by a table, in the regions of a set up to another one, in the order of the choice

@@ -11,7 +11,7 @@ ghost use Rattle.cycle_words.specs.Evacuation.Front as front;
 ghost use Rattle.cycle_words.specs.Evacuation.Choice as choices;
 ghost use Rattle.cycle_words.specs.Evacuation.Begun.{CanBegin};
 ghost use Rattle.cycle_words.specs.Evacuation.Laws.{ReachableAreLive};
-ghost use Rattle.cset_choice.specs.Tables.{AreLive, adds, up_to};
+ghost use Rattle.cset_choice.specs.Tables.{AreLive, adds, most_live, up_to};
 
 use crate::live::live_words;
 use heap_words::Config;
@@ -109,7 +109,7 @@ fn added(live: &[u64], candidates: u64, region: usize, other: usize) -> u64
 fn live_up_to(config: Config, live: &[u64], candidates: u64, region: usize) -> u64
     requires region { region < config.regions }
     requires long { length live.now ≡ 64 }
-    requires small { (r : ℕ) → r < 64 → slice_index live.now r ≤ 525312 }
+    requires small { (r : ℕ) → r < 64 → slice_index live.now r ≤ most_live }
     ensures { result ≡ up_to live.now candidates config.regions region }
 {
     let mut words = 0;
@@ -123,7 +123,7 @@ fn live_up_to(config: Config, live: &[u64], candidates: u64, region: usize) -> u
 fn is_taken(config: Config, live: &[u64], candidates: u64, limit: u64, region: usize) -> bool
     requires region { region < config.regions }
     requires long { length live.now ≡ 64 }
-    requires small { (r : ℕ) → r < 64 → slice_index live.now r ≤ 525312 }
+    requires small { (r : ℕ) → r < 64 → slice_index live.now r ≤ most_live }
     ensures { result ≡ ((bit_at candidates region == 1) && nat_le (up_to live.now candidates config.regions region) limit) }
 {
     if !is_in(candidates, region) {

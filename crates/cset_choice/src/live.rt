@@ -7,6 +7,7 @@ ghost use Rattle.image_graph.specs.State.{config_of, memory_of};
 ghost use Rattle.cycle_words.specs.Marking.Marks as marks;
 ghost use Rattle.cycle_words.specs.Evacuation.Live as lives;
 ghost use Rattle.cycle_words.specs.Evacuation.Laws.{IsMarkedIn};
+ghost use Rattle.cset_choice.specs.Tables.{most_live};
 
 use heap_words::words_of;
 use image_graph::Image;
@@ -43,7 +44,7 @@ pub fn live_words(image: &Image, region: usize) -> u64
     requires apart { LieApart (config_of image.now).region_words (lives.marked_words (config_of image.now) (memory_of image.now)) }
     ensures value { result ≡ lives.live_words (config_of image.now) (memory_of image.now) region }
     ensures marked { IsMarkedIn (config_of image.now) (memory_of image.now) region result }
-    ensures bound { result ≤ 525312 }
+    ensures bound { result ≤ most_live }
 {
     let first = base(image.config(), region);
     let mut words = 0;

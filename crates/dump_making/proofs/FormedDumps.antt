@@ -9,6 +9,7 @@ use Rattle.std.proofs.lemmas.List.FromFn.{length-map-range_with_len, get_or-map-
 use Rattle.std.proofs.lemmas.Option.{slice_get-map, get_or_from_slice_get, slice_get_within}
 use Rattle.std.specs.Option.{option_map}
 use Rattle.heap_words.specs.declared.config.Config.{Config}
+use Rattle.heap_words.specs.Narrow.{IsNarrow}
 use Rattle.shen_graph.specs.declared.name.Name.{Name}
 use Rattle.shen_graph.specs.Graph.{Reference, Object, Graph, hub, named, opening}
 use Rattle.shen_graph.specs.GraphText.{Row, Text, row_in, names_of}
@@ -46,7 +47,7 @@ reachable_known threads g formed n (from_field m k field there is) = element (Is
 
 -- ---- a graph and the graph of its dump
 
-module _ (c : Config) (g : Graph) (formed : IsFormed c.mutators g) (few : (t : ℕ) → g.count t ≤ most_made) (d : Dumped) (is : IsDumpOf c g d) where
+module _ (c : Config) (g : Graph) (narrow : IsNarrow c) (formed : IsFormed c.mutators g) (few : (t : ℕ) → g.count t ≤ most_made) (d : Dumped) (is : IsDumpOf c g d) where
   config_is : d.config ≡ c
   config_is = ap (λ (x : Dumped). x.config) is.parts
 
@@ -151,6 +152,7 @@ module _ (c : Config) (g : Graph) (formed : IsFormed c.mutators g) (few : (t : �
 
   form_is : IsInForm d
   form_is = record {
+    narrow = subst IsNarrow (sym config_is) narrow;
     threads = length-counts ∙ sym (ap (λ (x : Config). x.mutators) config_is);
     counts = subst (All (λ n. n ≤ most_made)) (sym counts_are) (All-map (λ n. n ≤ most_made) g.count (range_with_len 1 c.mutators) (λ k t low. few _));
     rows = rows_formed;
@@ -170,9 +172,9 @@ counted threads history dumpable t = made-count (opening threads) history t dump
     none_before : (n : ℕ) → 0 + n ≡ n
     none_before n = omega arith
 
-pub is_dump : (c : Config) (history : List Entry) (d : Dumped) → IsDumpable c.mutators history → IsDumpOf c (after (opening c.mutators) history) d → IsDump d
-is_dump c history d dumpable is =
-    dump_is c (after (opening c.mutators) history) (history_formed c.mutators (opening c.mutators) history dumpable.each dumpable.entries (opening_formed c.mutators))
+pub is_dump : (c : Config) (history : List Entry) (d : Dumped) → IsNarrow c → IsDumpable c.mutators history → IsDumpOf c (after (opening c.mutators) history) d → IsDump d
+is_dump c history d narrow dumpable is =
+    dump_is c (after (opening c.mutators) history) narrow (history_formed c.mutators (opening c.mutators) history dumpable.each dumpable.entries (opening_formed c.mutators))
     (λ t. let few = dumpable.few t in let count = counted c.mutators history dumpable t in omega (arith, few, count)) d is
 
 pub counts_made : (c : Config) (history : List Entry) (d : Dumped) → IsDumpable c.mutators history → IsDumpOf c (after (opening c.mutators) history) d → d.counts ≡ objects_made_by_each history c.mutators

@@ -2,6 +2,7 @@ ghost use Rattle.std.specs.Prelude.{◌≡◌, ◌≤◌, ℕ, IfOk};
 ghost use Rattle.shen_graph.specs.Graph.{opening};
 ghost use Rattle.shen_graph.specs.History.{after};
 ghost use Rattle.shen_graph.specs.Noting.{seen};
+ghost use Rattle.heap_words.specs.Narrow.{IsNarrow};
 ghost use Rattle.heap_graph.specs.Shows.{ShowsGraph};
 ghost use Rattle.dump_writing.specs.Dumped.{dumped, most_made, IsDump, IsDumpOf};
 ghost use Rattle.dump_making.specs.ObjectsMade.{has_made, objects_made, objects_made_by_each, IsDumpable};
@@ -62,6 +63,7 @@ pub fn dump_of(
     history: &History,
     graph: &GraphText,
 ) -> Result<Dump, NoMemory>
+    requires narrow { IsNarrow config }
     requires history { IsDumpable config.mutators history.now.list }
     requires graph { ShowsGraph graph.now config.mutators (after (opening config.mutators) history.now.list) }
     ensures is_dump { IfOk result (λ d. IsDump (dumped d.config d.counts d.graph)) }

@@ -30,7 +30,7 @@ use Rattle.dump_reading.proofs.RowWords.{len_map}
 use Rattle.dump_reading.proofs.Rowed.{names_now}
 use Rattle.dump_reading.proofs.Steps.{leads_one, leads_both, stops_behind}
 use Rattle.dump_reading.proofs.Stopped.{refused, body_stops}
-use Rattle.dump_reading.proofs.Spelled.{ended, leads_bytes, head_spelled, counts_spelled, listed_spelled, all_spelled}
+use Rattle.dump_reading.proofs.Spelled.{ended, leads_bytes, head_spelled, head_narrow, counts_spelled, listed_spelled, all_spelled}
 use Rattle.dump_reading.proofs.HeldDump.{held_is_dump, dump_small}
 
 -- ---- faults
@@ -105,7 +105,7 @@ module _ (config : Config) (counts b0 b1 b2 b3 b4 : List ℕ) (lines : ℕ) (g0 
 
   pub held_now : IsHeldDump whole g2
   held_now = record {
-    form = (record { threads = sizes.0; counts = sizes.1; rows = rowed.all; order = rowed.order; each = rooted.count ∙ sym threads; roots = rooted.each });
+    form = (record { narrow = head_narrow b0 b1 config head; threads = sizes.0; counts = sizes.1; rows = rowed.all; order = rowed.order; each = rooted.count ∙ sym threads; roots = rooted.each });
     rows = rows_now;
     roots = roots_now;
   }

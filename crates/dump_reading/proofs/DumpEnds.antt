@@ -15,7 +15,7 @@ heads x y xs ys e = (cc, cc)
 
 pub within_next : (s : DumpStage) (text : List ℕ) (next : DumpStage) → IsWithin s → DumpFollows s text next → IsWithin next
 within_next Version text next within f = subst IsWithin (sym f.1) tt
-within_next Heap text next within f = subst IsWithin (sym f.2) tt
+within_next Heap text next within f = subst IsWithin (sym f.3) tt
 within_next (Threads h) text next within f = subst IsWithin (sym f.3) tt
 within_next (Counts c) text next within f = subst IsWithin (sym f.4) (omega (arith, f.1, c.in_range.most_mutators), omega arith, each_small f.0 f.2)
 within_next (Listed d) text next within (inl f) = subst IsWithin (sym f.7) (within.0, within.1, within.2)

@@ -5,6 +5,7 @@ use Rattle.std.proofs.lemmas.Bool.{false≢true, eqb-true}
 use Rattle.std.proofs.lemmas.Fmt.{decimal_digit}
 use Rattle.std.proofs.lemmas.List.{get_or-take}
 use Rattle.heap_words.specs.declared.config.Config.{Config}
+use Rattle.heap_words.specs.Narrow.{IsNarrow}
 use Rattle.heap_words.specs.declared.config.BadConfig.{BadConfig}
 use Rattle.heap_words.specs.Faults.{fault_of}
 use Rattle.trace_grammar.specs.Kinds.{AreWithinLimits}
@@ -66,22 +67,22 @@ heap_numbers c = c.regions ∷ c.region_words ∷ c.reserve ∷ []
 abbrev pub heap_small : AreSmall heap_limits
 heap_small = (lit< tt, (lit< tt, (lit< tt, tt)))
 
-pub heap_within : (c : Config) → AreWithinLimits heap_limits (heap_numbers c)
-heap_within c = (omega arith, (omega arith, (omega arith, tt)))
+pub heap_within : (c : Config) → IsNarrow c → AreWithinLimits heap_limits (heap_numbers c)
+heap_within c narrow = (omega arith, (omega arith, (omega arith, tt)))
 
-no_heap_fault : (c : Config) → fault_of c.regions c.region_words 1 0 c.reserve ≡ None
-no_heap_fault c = grind (arith, nat_tests)
+no_heap_fault : (c : Config) → IsNarrow c → fault_of c.regions c.region_words 1 0 c.reserve ≡ None
+no_heap_fault c narrow = grind (arith, nat_tests)
 
 pub heap_refused : (text rest more s : List ℕ) (r : Option BadConfig) → ◌≡◌ {A = Option (List ℕ)} (Some rest) (behind (codes "heap") text) → ◌≡◌ {A = Option (List ℕ × List ℕ)} (Some (take 3 s, more)) (numbers_at heap_limits rest)
-    → r ≡ fault_of (get_or s 0 0) (get_or s 1 0) 1 0 (get_or s 2 0) → (r ≡ None → ⊥) → (c : Config) → Spells text (heap_line c) → ⊥
-heap_refused text rest more s r first second fault some c e =
+    → r ≡ fault_of (get_or s 0 0) (get_or s 1 0) 1 0 (get_or s 2 0) → (r ≡ None → ⊥) → (c : Config) → IsNarrow c → Spells text (heap_line c) → ⊥
+heap_refused text rest more s r first second fault some c narrow e =
     let read : List ℕ × List ℕ = (take 3 s, more) in
-    let is = numbers_are heap_limits (heap_numbers c) rest read second (rest_is (codes "heap") (heap_numbers c) text rest first e) (heap_within c) heap_small in
+    let is = numbers_are heap_limits (heap_numbers c) rest read second (rest_is (codes "heap") (heap_numbers c) text rest first e) (heap_within c narrow) heap_small in
     let sizes : take 3 s ≡ heap_numbers c = ap (λ (x : List ℕ × List ℕ). x.0) is in
     let regions = sym (get_or-take 3 s 0 0 (lit< tt)) ∙ ap (λ (l : List ℕ). get_or l 0 0) sizes in
     let words = sym (get_or-take 3 s 1 0 (lit< tt)) ∙ ap (λ (l : List ℕ). get_or l 1 0) sizes in
     let reserve = sym (get_or-take 3 s 2 0 (lit< tt)) ∙ ap (λ (l : List ℕ). get_or l 2 0) sizes in
-    let fine : fault_of (get_or s 0 0) (get_or s 1 0) 1 0 (get_or s 2 0) ≡ None = rw (regions, words, reserve) (no_heap_fault c) in
+    let fine : fault_of (get_or s 0 0) (get_or s 1 0) 1 0 (get_or s 2 0) ≡ None = rw (regions, words, reserve) (no_heap_fault c narrow) in
     some (fault ∙ fine)
 
 pub heap_read : (text rest more s : List ℕ) (c : Config) → ◌≡◌ {A = Option (List ℕ)} (Some rest) (behind (codes "heap") text) → ◌≡◌ {A = Option (List ℕ × List ℕ)} (Some (take 3 s, more)) (numbers_at heap_limits rest) → more ≡ []
@@ -107,14 +108,14 @@ pub threads_within : (c : Config) → AreWithinLimits threads_limits (threads_nu
 threads_within c = (omega arith, (omega arith, tt))
 
 pub threads_refused : (h : Config) (text rest more s : List ℕ) (r : Option BadConfig) → ◌≡◌ {A = Option (List ℕ)} (Some rest) (behind (codes "threads") text) → ◌≡◌ {A = Option (List ℕ × List ℕ)} (Some (take 2 s, more)) (numbers_at threads_limits rest)
-    → r ≡ fault_of h.regions h.region_words (get_or s 0 0) (get_or s 1 0) h.reserve → (r ≡ None → ⊥) → (c : Config) → IsHeapOf h c → Spells text (threads_line c) → ⊥
-threads_refused h text rest more s r first second fault some c same e =
+    → r ≡ fault_of h.regions h.region_words (get_or s 0 0) (get_or s 1 0) h.reserve → (r ≡ None → ⊥) → IsNarrow h → (c : Config) → IsHeapOf h c → Spells text (threads_line c) → ⊥
+threads_refused h text rest more s r first second fault some narrow c same e =
     let read : List ℕ × List ℕ = (take 2 s, more) in
     let is = numbers_are threads_limits (threads_numbers c) rest read second (rest_is (codes "threads") (threads_numbers c) text rest first e) (threads_within c) threads_small in
     let sizes : take 2 s ≡ threads_numbers c = ap (λ (x : List ℕ × List ℕ). x.0) is in
     let mutators = sym (get_or-take 2 s 0 0 (lit< tt)) ∙ ap (λ (l : List ℕ). get_or l 0 0) sizes in
     let helpers = sym (get_or-take 2 s 1 0 (lit< tt)) ∙ ap (λ (l : List ℕ). get_or l 1 0) sizes in
-    let fine : fault_of h.regions h.region_words (get_or s 0 0) (get_or s 1 0) h.reserve ≡ None = rw (← same.regions, ← same.region_words, ← same.reserve, mutators, helpers) (no_fault c) in
+    let fine : fault_of h.regions h.region_words (get_or s 0 0) (get_or s 1 0) h.reserve ≡ None = rw (← same.regions, ← same.region_words, ← same.reserve, mutators, helpers) (no_fault c (omega (arith, narrow, same.region_words))) in
     some (fault ∙ fine)
 
 pub threads_read : (text rest more s : List ℕ) (c : Config) → ◌≡◌ {A = Option (List ℕ)} (Some rest) (behind (codes "threads") text) → ◌≡◌ {A = Option (List ℕ × List ℕ)} (Some (take 2 s, more)) (numbers_at threads_limits rest) → more ≡ []

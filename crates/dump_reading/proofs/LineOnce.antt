@@ -5,6 +5,7 @@ use Rattle.std.specs.Fmt.{decimal}
 use Rattle.std.proofs.lemmas.List.{get_or_past}
 use Rattle.std.proofs.lemmas.List.Elements.{All-head, All-tail, All-get_or}
 use Rattle.heap_words.specs.declared.config.Config.{Config}
+use Rattle.heap_words.specs.Narrow.{IsNarrow}
 use Rattle.shen_graph.specs.declared.name.Name.{Name}
 use Rattle.shen_graph.specs.Graph.{Reference}
 use Rattle.shen_graph.specs.GraphText.{Row}
@@ -84,9 +85,9 @@ heap_numbers c = map decimal (c.regions ∷ c.region_words ∷ c.reserve ∷ [])
 word_at : (ws vs : List (List ℕ)) (i : ℕ) → ws ≡ vs → get_or ws i [] ≡ get_or vs i []
 word_at ws vs i e = ap (λ (l : List (List ℕ)). get_or l i []) e
 
-same_heap : (c d : Config) (text : List ℕ) → Spells text (heap_line c) → Spells text (heap_line d) → IsHeapOf c d
-same_heap c d text e f =
-    let same = sym (heap_again d text f).2 ∙ (heap_again c text e).2 in
+same_heap : (c d : Config) (text : List ℕ) → IsNarrow c → IsNarrow d → Spells text (heap_line c) → Spells text (heap_line d) → IsHeapOf c d
+same_heap c d text one other e f =
+    let same = sym (heap_again d text other f).2 ∙ (heap_again c text one e).2 in
     let ws = codes "heap" ∷ heap_numbers d in
     let vs = codes "heap" ∷ heap_numbers c in
     record {
@@ -184,7 +185,7 @@ carry s t text next (inr x) f = subst (λ (y : DumpStage). DumpFollows y text ne
 -- a line leads on in one way
 pub follows_once : (s : DumpStage) (text : List ℕ) (a b : DumpStage) → IsDumping s → IsWithin s → DumpFollows s text a → DumpFollows s text b → Same a b
 follows_once Version text a b is within f g = inl (f.1 ∙ sym g.1)
-follows_once Heap text a b is within f g = inr (f.0, g.0, f.2, g.2, same_heap f.0 g.0 text f.1 g.1)
+follows_once Heap text a b is within f g = inr (f.0, g.0, f.3, g.3, same_heap f.0 g.0 text f.1 g.1 f.2 g.2)
 follows_once (Threads h) text a b is within f g = inl (f.3 ∙ ap Counts (same_threads h f.0 g.0 text f.1 g.1 f.2 g.2) ∙ sym g.3)
 follows_once (Counts c) text a b is within f g =
     let same = sym (counts_words text f.0 f.2 f.3) ∙ counts_words text g.0 g.2 g.3 in

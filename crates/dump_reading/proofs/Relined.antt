@@ -6,6 +6,7 @@ use Rattle.std.specs.Fmt.{decimal}
 use Rattle.std.proofs.lemmas.List.Concat.{flat_map-cons}
 use Rattle.std.proofs.lemmas.List.Elements.{All-head, All-tail}
 use Rattle.heap_words.specs.declared.config.Config.{Config}
+use Rattle.heap_words.specs.Narrow.{IsNarrow}
 use Rattle.shen_graph.specs.declared.name.Name.{Name}
 use Rattle.shen_graph.specs.Graph.{Reference, hub}
 use Rattle.shen_graph.specs.GraphText.{Row, bare}
@@ -63,8 +64,8 @@ all_one a x (suc k) d low = absurd (omega (arith, low))
 
 -- ---- the head
 
-head_leads : (c : Config) (counts rest : List ℕ) → length counts ≡ c.mutators → All (λ n. n ≤ most_made) counts → Leads Version (sizes_head c ++ (titled (codes "counts") counts ++ rest)) rest 4 (Listed (listed c counts [] []))
-head_leads c counts rest size all =
+head_leads : (c : Config) (counts rest : List ℕ) → IsNarrow c → length counts ≡ c.mutators → All (λ n. n ≤ most_made) counts → Leads Version (sizes_head c ++ (titled (codes "counts") counts ++ rest)) rest 4 (Listed (listed c counts [] []))
+head_leads c counts rest narrow size all =
     let version = titled (codes "dump") (1 ∷ []) in
     let last = Listed (listed c counts [] []) in
     let b3 = titled (codes "counts") counts ++ rest in
@@ -72,7 +73,7 @@ head_leads c counts rest size all =
     let b1 = heap_line c ++ b2 in
     let one = titled_lead Version Heap (codes "dump") (1 ∷ []) b1 (record { no_space = refl; no_end = refl }) (all_one 1 (lit< tt)) (λ text e. (e, refl)) in
     let two = titled_lead Heap (Threads c) (codes "heap") (c.regions ∷ c.region_words ∷ c.reserve ∷ []) b2 (record { no_space = refl; no_end = refl })
-    (all_three c.regions c.region_words c.reserve (omega (arith, c.in_range.most_regions)) (omega (arith, c.in_range.most_words)) (omega (arith, c.in_range.some_left, c.in_range.most_regions))) (λ text e. (c, e, refl)) in
+    (all_three c.regions c.region_words c.reserve (omega (arith, c.in_range.most_regions)) (omega (arith, c.in_range.most_words)) (omega (arith, c.in_range.some_left, c.in_range.most_regions))) (λ text e. (c, narrow, e, refl)) in
     let three = titled_lead (Threads c) (Counts c) (codes "threads") (c.mutators ∷ c.helpers ∷ []) b3 (record { no_space = refl; no_end = refl })
     (all_two c.mutators c.helpers (omega (arith, c.in_range.most_mutators)) (omega (arith, c.in_range.most_helpers))) (λ text e. (c, record { regions = refl; region_words = refl; reserve = refl }, e, refl)) in
     let four = titled_lead (Counts c) last (codes "counts") counts rest (record { no_space = refl; no_end = refl }) (small_counts counts all) (λ text e. (counts, size, all, e, refl)) in
@@ -182,7 +183,7 @@ dump_leads d rest is =
     let b2 = roots ++ rest in
     let s1 = Listed (listed d.config d.counts [] []) in
     let s2 = Listed (listed d.config d.counts d.rows []) in
-    let one = head_leads d.config d.counts b1 form.threads form.counts in
+    let one = head_leads d.config d.counts b1 form.narrow form.threads form.counts in
     let two = objects_lead d.config d.counts [] d.rows b2 (few_counts d form) (each_small d.counts form.counts) form.rows form.order small.0 in
     let lines : roots_lines 0 d.roots ≡ roots =
     all_roots d.roots d.roots 0 (λ k. let none : 0 + k ≡ k = omega arith in ap (λ j. get_or d.roots j []) none) form.roots ∙ ap (λ k. flat_map (roots_line_in d.roots) (thread_numbers k)) form.each in

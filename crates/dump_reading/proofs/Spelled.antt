@@ -9,6 +9,7 @@ use Rattle.std.proofs.lemmas.List.Splits.{join_with_byte-slice_split}
 use Rattle.std.proofs.lemmas.List.Elements.{All-head, All-tail}
 use Rattle.std.proofs.lemmas.List.FromFn.{fill_by_all}
 use Rattle.heap_words.specs.declared.config.Config.{Config}
+use Rattle.heap_words.specs.Narrow.{IsNarrow}
 use Rattle.shen_graph.specs.declared.name.Name.{Name}
 use Rattle.shen_graph.specs.Graph.{Reference, hub}
 use Rattle.shen_graph.specs.GraphText.{Row, bare}
@@ -66,7 +67,7 @@ third_spelled n h c t1 t2 t3 e1 e2 f is =
     ∙ ap (λ (bs : List ℕ). heap_line c ++ bs) (flat_map-cons ended t3 [] ∙ append-nil (ended t3) ∙ e3))
 
 second_spelled : (n m : DumpStage) (c : Config) (t1 t2 t3 : List ℕ) → Spells t1 (titled (codes "dump") (1 ∷ [])) → DumpFollows Heap t2 n → DumpFollows n t3 m → m ≡ Counts c → flat_map ended (t1 ∷ t2 ∷ t3 ∷ []) ≡ sizes_head c
-second_spelled n m c t1 t2 t3 e1 f g is = third_spelled m f.0 c t1 t2 t3 e1 f.1 (subst (λ (s : DumpStage). DumpFollows s t3 m) f.2 g) is
+second_spelled n m c t1 t2 t3 e1 f g is = third_spelled m f.0 c t1 t2 t3 e1 f.2 (subst (λ (s : DumpStage). DumpFollows s t3 m) f.3 g) is
 
 head_lines : (texts : List (List ℕ)) (c : Config) → length texts ≡ 3 → DumpLead Version texts (Counts c) → flat_map ended texts ≡ sizes_head c
 head_lines [] c size lead = absurd (omega (arith, size))
@@ -78,6 +79,24 @@ head_lines (t1 ∷ t2 ∷ t3 ∷ []) c size lead =
 
 pub head_spelled : (bytes rest : List ℕ) (c : Config) → Leads Version bytes rest 3 (Counts c) → bytes ≡ sizes_head c ++ rest
 head_spelled bytes rest c led = leads_bytes Version (Counts c) bytes rest 3 led ∙ ap (λ (bs : List ℕ). bs ++ rest) (head_lines led.texts c led.count led.lead)
+
+-- its heap is of a size that a trace can have
+third_narrow : (n : DumpStage) (h c : Config) (text : List ℕ) → IsNarrow h → DumpFollows (Threads h) text n → n ≡ Counts c → IsNarrow c
+third_narrow n h c text narrow f is =
+    let same : f.0 ≡ c = let x = f.3 in cc in
+    subst IsNarrow same (omega (arith, narrow, f.1.region_words))
+
+narrow_lines : (texts : List (List ℕ)) (c : Config) → length texts ≡ 3 → DumpLead Version texts (Counts c) → IsNarrow c
+narrow_lines [] c size lead = absurd (omega (arith, size))
+narrow_lines (t1 ∷ []) c size lead = absurd (omega (arith, size))
+narrow_lines (t1 ∷ t2 ∷ []) c size lead = absurd (omega (arith, size))
+narrow_lines (t1 ∷ t2 ∷ t3 ∷ t4 ∷ ts) c size lead = absurd (omega (arith, size))
+narrow_lines (t1 ∷ t2 ∷ t3 ∷ []) c size lead =
+    let heap = subst (λ (s : DumpStage). DumpFollows s t2 lead.2.0) lead.1.1 lead.2.1 in
+    third_narrow lead.2.2.0 heap.0 c t3 heap.1 (subst (λ (s : DumpStage). DumpFollows s t3 lead.2.2.0) heap.3 lead.2.2.1) lead.2.2.2
+
+pub head_narrow : (bytes rest : List ℕ) (c : Config) → Leads Version bytes rest 3 (Counts c) → IsNarrow c
+head_narrow bytes rest c led = narrow_lines led.texts c led.count led.lead
 
 counts_lines : (texts : List (List ℕ)) (c : Config) (d : Dumped) → length texts ≡ 1 → DumpLead (Counts c) texts (Listed d) → flat_map ended texts ≡ titled (codes "counts") d.counts
 counts_lines [] c d size lead = absurd (omega (arith, size))

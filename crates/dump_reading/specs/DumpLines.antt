@@ -3,6 +3,7 @@ use Rattle.std.specs.Prelude.{ℕ, ◌≡◌, ◌+◌, ◌<◌, ◌≤◌, ◌�
 use Rattle.std.specs.Fmt.{decimal}
 use Rattle.std.specs.Str.Parse.{digits_value}
 use Rattle.heap_words.specs.declared.config.Config.{Config}
+use Rattle.heap_words.specs.Narrow.{IsNarrow}
 use Rattle.shen_graph.specs.Graph.{Reference}
 use Rattle.shen_graph.specs.GraphText.{Row}
 use Rattle.shen_graph.specs.Reach.{InOrder}
@@ -89,7 +90,7 @@ MarkFollows d text next = IsDump d × Spells text mark_line × (next ≡ Behind 
 -- this text, with the end of its line, may stand there, and what is to stand on the next line
 abbrev pub DumpFollows : DumpStage → List ℕ → DumpStage → Type 0
 DumpFollows Version text next = Spells text (titled (codes "dump") (1 ∷ [])) × (next ≡ Heap)
-DumpFollows Heap text next = (c : Config) × Spells text (heap_line c) × (next ≡ Threads c)
+DumpFollows Heap text next = (c : Config) × IsNarrow c × Spells text (heap_line c) × (next ≡ Threads c)
 DumpFollows (Threads h) text next = (c : Config) × IsHeapOf h c × Spells text (threads_line c) × (next ≡ Counts c)
 DumpFollows (Counts c) text next =
     (counts : List ℕ) × (length counts ≡ c.mutators) × All (λ n. n ≤ most_made) counts × Spells text (titled (codes "counts") counts)

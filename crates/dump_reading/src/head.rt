@@ -1,6 +1,7 @@
 //! The first four lines of a dump.
 ghost use Rattle.std.specs.Prelude.{◌≡◌, ◌≢◌, ◌⊎◌, ◌++◌, ◌∷◌, [], ℕ, List, codes, IfOk, IfErr, MatchOption};
 ghost use Rattle.heap_words.specs.declared.config.Config.{Config as Sizes};
+ghost use Rattle.heap_words.specs.Narrow.{IsNarrow};
 ghost use Rattle.std.specs.Option.{option_map};
 ghost use Rattle.trace_grammar.specs.Scanning.{numbers_at};
 ghost use Rattle.dump_writing.specs.Dumped.{most_made};
@@ -33,7 +34,7 @@ fn take_version(bytes: &[u8]) -> Result<&[u8], TraceFault>
 
 /// The heap whose sizes a line spells, with one mutator.
 fn heap_in(text: &[u8]) -> Option<Config>
-    ensures { MatchOption result ((c : Sizes) → Spells text.now (heap_line c) → ⊥) (λ c. Spells text.now (heap_line c)) }
+    ensures { MatchOption result ((c : Sizes) → IsNarrow c → Spells text.now (heap_line c) → ⊥) (λ c. IsNarrow c × Spells text.now (heap_line c)) }
 {
     let rest = text_at(b"heap", text)?;
     let (sizes, rest) = numbers_at(&[64, 1024, 63], rest)?;
@@ -52,6 +53,7 @@ fn heap_in(text: &[u8]) -> Option<Config>
 
 /// The heap, with the mutators and helpers that a line spells.
 fn threads_in(heap: &Config, text: &[u8]) -> Option<Config>
+    requires { IsNarrow heap.now }
     ensures { MatchOption result ((c : Sizes) → IsHeapOf heap.now c → Spells text.now (threads_line c) → ⊥) (λ c. IsHeapOf heap.now c × Spells text.now (threads_line c)) }
 {
     let rest = text_at(b"threads", text)?;

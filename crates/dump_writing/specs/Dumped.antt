@@ -2,6 +2,7 @@
 use Rattle.std.specs.Prelude.{ℕ, ◌≡◌, ◌+◌, ◌-◌, ◌^◌, ◌<◌, ◌≤◌, ◌⊎◌, List, [], ◌∷◌, length, map, slice_index, All}
 use Rattle.std.specs.List.{range_with_len}
 use Rattle.heap_words.specs.declared.config.Config.{Config}
+use Rattle.heap_words.specs.Narrow.{IsNarrow}
 use Rattle.shen_graph.specs.declared.name.Name.{Name}
 use Rattle.shen_graph.specs.Graph.{Graph, Reference, hub}
 use Rattle.shen_graph.specs.GraphText.{Row, Text, row_in}
@@ -60,9 +61,10 @@ pub record IsRow (counts : List ℕ) (r : Row) : Type 0 where
   pub name : IsNamed counts r.name
   pub fields : HasFields r
 
--- Each line of a dump is of its form and in its ranges, and the names ascend; but references and roots may name anything, and an
+-- Each line of a dump is of its form and in its ranges (a region has at most 1,024 words), and the names ascend; but references and roots may name anything, and an
 -- object may be one to which nothing leads.
 pub record IsInForm (d : Dumped) : Type 0 where
+  pub narrow : IsNarrow d.config
   pub threads : length d.counts ≡ d.config.mutators
   pub counts : All (λ n. n ≤ most_made) d.counts
   pub rows : All (IsRow d.counts) d.rows

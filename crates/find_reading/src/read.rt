@@ -4,6 +4,7 @@ ghost use Rattle.std.specs.Option.{option_map};
 ghost use Rattle.std.specs.Io.KnownBytes.{Consumes};
 ghost use Rattle.shen_base.specs.Count.{Rose};
 ghost use Rattle.heap_words.specs.declared.config.Config.{Config as Sizes};
+ghost use Rattle.heap_words.specs.Narrow.{IsNarrow};
 ghost use Rattle.trace_grammar.specs.Spelling.{header};
 ghost use Rattle.trace_grammar.specs.Scanning.{sizes_at};
 ghost use Rattle.trace_grammar.specs.Grammar.{most_bytes, Came};
@@ -41,7 +42,8 @@ fn sizes_at(bytes: &[u8]) -> Option<([u64; 4], [u64; 4], &[u8])>
 /// The configuration at the head of a test, and the bytes behind its three lines.
 fn config_at(bytes: &[u8]) -> Option<(Config, &[u8])>
     ensures found { IfSome result (λ x. bytes.now ≡ header x.0 ++ x.1.now) }
-    ensures none { IfNone result ((config : Sizes) (rest : List ℕ) → bytes.now ≢ header config ++ rest) }
+    ensures narrow { IfSome result (λ x. IsNarrow x.0) }
+    ensures none { IfNone result ((config : Sizes) (rest : List ℕ) → IsNarrow config → bytes.now ≢ header config ++ rest) }
 {
     let (heap, threads, rest) = sizes_at(bytes)?;
     let [regions, region_words, reserve, _] = heap;
@@ -60,7 +62,7 @@ fn config_at(bytes: &[u8]) -> Option<(Config, &[u8])>
 
 /// The fault of bytes that do not begin with the head of a test.
 fn bad_head(bytes: &[u8]) -> TestFault
-    requires { (config : Sizes) (rest : List ℕ) → bytes.now ≢ header config ++ rest }
+    requires { (config : Sizes) (rest : List ℕ) → IsNarrow config → bytes.now ≢ header config ++ rest }
     ensures { (n : ℕ) × (why : Cause) × (result ≡ TestFault.BadLine n (TestWhy.Trace why)) × StopsAt bytes.now n why }
 {
     let refusal = head_refusal(bytes).unwrap();
@@ -154,7 +156,7 @@ pub fn test_of(alloc: Global, bytes: &[u8]) -> Result<Test, TestFault>
     ensures fault { IfErr result IsLineFault }
 
     // Bytes without a head are refused where a trace would be, for the same cause.
-    ensures bad_head { ((config : Sizes) (rest : List ℕ) → bytes.now ≢ header config ++ rest)
+    ensures bad_head { ((config : Sizes) (rest : List ℕ) → IsNarrow config → bytes.now ≢ header config ++ rest)
         → (n : ℕ) × (why : Cause) × (result ≡ Err (TestFault.BadLine n (TestWhy.Trace why))) × StopsAt bytes.now n why }
     ensures bad_line { (n : ℕ) (why : Said) → result ≡ Err (TestFault.BadLine n why) → IsTraceRefusal bytes.now n why }
 {

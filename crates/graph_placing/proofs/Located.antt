@@ -242,9 +242,6 @@ module _ (c : Config) (t : Text) (whole : IsPlaceable c t) where
 
   -- Where all objects fit.
 
-  pub heap_is_small : heap_end c ≤ 66560
-  heap_is_small = mul-le (c.regions + 1) w 65 1024 (omega (arith, c.in_range.most_regions)) (omega (arith, c.in_range.most_words))
-
   module _ (fits : Fits c t) where
     -- each lies in the heap
     pub in_heap : (k : ℕ) → k < n → address_of c t k + words_of_row t k ≤ heap_end c

@@ -15,3 +15,5 @@ mod parts_of_calls;
 mod shared_heap;
 #[cfg(test)]
 mod units;
+#[cfg(test)]
+mod wide_heap;

@@ -105,9 +105,9 @@ fn opened(alloc: Global, helpers: usize, commands: &[Command]) -> Result<(Heap, 
 
 /// How many steps were made, and which machine made the last one.
 #[derive(Drop)]
-struct Passes {
-    steps: AtomicU64,
-    last: AtomicU64,
+pub(crate) struct Passes {
+    pub(crate) steps: AtomicU64,
+    pub(crate) last: AtomicU64,
 }
 
 impl Gate for Passes {

@@ -1,5 +1,6 @@
 pub mod Ranges
 pub mod Faults
+pub mod Narrow
 pub mod Encoding
 pub mod Place
 pub mod Words

@@ -6,7 +6,7 @@ pub record IsInRange (regions region_words mutators helpers reserve : ℕ) : Typ
   pub least_regions : 4 ≤ regions
   pub most_regions : regions ≤ 64
   pub least_words : 64 ≤ region_words
-  pub most_words : region_words ≤ 1024
+  pub most_words : region_words ≤ 33554432
   pub least_mutators : 1 ≤ mutators
   pub most_mutators : mutators ≤ 8
   pub most_helpers : helpers ≤ 3

@@ -1,14 +1,14 @@
-ghost use Rattle.std.specs.Prelude.{◌≡◌, IfOk};
+ghost use Rattle.std.specs.Prelude.{◌≡◌, ◌≤◌, IfOk};
 ghost use Rattle.std.specs.Result.{result_err};
 ghost use Rattle.heap_words.specs.Ranges.{IsInRange, seat_count};
-ghost use Rattle.heap_words.specs.Faults.{fault_of};
+ghost use Rattle.heap_words.specs.Faults.{fault_of, fault_within, wide_fault_of};
 
 /// The number of a configuration that is outside its range.
 #[derive(Clone, Copy, Debug, PartialEq, Eq)]
 pub enum BadConfig {
     /// The regions are not 4 to 64.
     Regions,
-    /// The words of a region are not 64 to 1024.
+    /// The words of a region are not 64 to 1,024, or for `Config::wide` not 64 to 2^25.
     RegionWords,
     /// The mutators are not 1 to 8.
     Mutators,
@@ -36,7 +36,7 @@ pub struct Config {
 }
 
 impl Config {
-    /// The configuration of these numbers, or the first of them that is outside its range.
+    /// The configuration of these numbers, or the first of them that is outside its range. A region has 64 to 1,024 words, as in a trace.
     pub fn new(
         regions: usize,
         region_words: usize,
@@ -49,12 +49,60 @@ impl Config {
         ensures mutators { IfOk result (λ config. config.mutators ≡ mutators) }
         ensures helpers { IfOk result (λ config. config.helpers ≡ helpers) }
         ensures reserve { IfOk result (λ config. config.reserve ≡ reserve) }
+        ensures narrow { IfOk result (λ config. config.region_words ≤ 1024) }
         ensures fault { result_err result ≡ fault_of regions region_words mutators helpers reserve }
+    {
+        Config::within(1024, regions, region_words, mutators, helpers, reserve)
+    }
+
+    /// The configuration of these numbers, or the first of them that is outside its range. A region has 64 to 2^25 words: up to
+    /// 16 GiB in 64 regions. A trace has none of more than 1,024.
+    pub fn wide(
+        regions: usize,
+        region_words: usize,
+        mutators: usize,
+        helpers: usize,
+        reserve: usize,
+    ) -> Result<Config, BadConfig>
+        ensures regions { IfOk result (λ config. config.regions ≡ regions) }
+        ensures region_words { IfOk result (λ config. config.region_words ≡ region_words) }
+        ensures mutators { IfOk result (λ config. config.mutators ≡ mutators) }
+        ensures helpers { IfOk result (λ config. config.helpers ≡ helpers) }
+        ensures reserve { IfOk result (λ config. config.reserve ≡ reserve) }
+        ensures fault { result_err result ≡ wide_fault_of regions region_words mutators helpers reserve }
+    {
+        Config::within(
+            33_554_432,
+            regions,
+            region_words,
+            mutators,
+            helpers,
+            reserve,
+        )
+    }
+
+    // The same, where a region has at most so many words.
+    fn within(
+        most_words: usize,
+        regions: usize,
+        region_words: usize,
+        mutators: usize,
+        helpers: usize,
+        reserve: usize,
+    ) -> Result<Config, BadConfig>
+        requires { most_words ≤ 33554432 }
+        ensures regions { IfOk result (λ config. config.regions ≡ regions) }
+        ensures region_words { IfOk result (λ config. config.region_words ≡ region_words) }
+        ensures mutators { IfOk result (λ config. config.mutators ≡ mutators) }
+        ensures helpers { IfOk result (λ config. config.helpers ≡ helpers) }
+        ensures reserve { IfOk result (λ config. config.reserve ≡ reserve) }
+        ensures most { IfOk result (λ config. config.region_words ≤ most_words) }
+        ensures fault { result_err result ≡ fault_within most_words regions region_words mutators helpers reserve }
     {
         if regions < 4 || regions > 64 {
             return Err(BadConfig::Regions);
         }
-        if region_words < 64 || region_words > 1024 {
+        if region_words < 64 || region_words > most_words {
             return Err(BadConfig::RegionWords);
         }
         if mutators < 1 || mutators > 8 {
@@ -82,7 +130,7 @@ impl Config {
         self.regions
     }
 
-    /// Words of each region, 64 to 1024.
+    /// Words of each region, 64 to 2^25.
     pub fn region_words(&self) -> usize
         ensures { result ≡ self.now.region_words }
     {

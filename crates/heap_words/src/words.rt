@@ -8,14 +8,14 @@ impl Config {
     /// The words of the heap: those of all regions.
     pub fn heap_size(&self) -> usize
         ensures value { result ≡ heap_size self.now }
-        ensures bound { result ≤ 65536 }
+        ensures bound { result ≤ 2147483648 }
     {
         self.regions * self.region_words
     }
 
     pub(crate) fn bit_words(&self) -> usize
         ensures value { result ≡ bit_words self.now }
-        ensures bound { result ≤ 1024 }
+        ensures bound { result ≤ 33554432 }
     {
         (self.heap_size() + 63) / 64
     }
@@ -46,7 +46,7 @@ impl Config {
     /// Where the words of the heap begin in the table; they end it.
     pub fn heap_start(&self) -> usize
         ensures value { result ≡ heap_start self.now }
-        ensures bound { result ≤ 2488 }
+        ensures bound { result ≤ 67109304 }
     {
         self.marks_start() + 2 * self.bit_words()
     }

@@ -1,10 +1,11 @@
 -- Words that stand for references: null is 0 and nothing else, and one object has one address.
-use Rattle.std.proofs.Common.{◌≡◌, ◌≢◌, ℕ, ◌+◌, ◌*◌, ◌<◌, ◌≤◌, ◌⊎◌, true, Option, Some, None, inl, inr, ⊎_elim, refl, sym, ap, ◌∙◌, arith}
+use Rattle.std.proofs.Common.{◌≡◌, ◌≢◌, ℕ, ◌+◌, ◌*◌, ◌^◌, ◌<◌, ◌≤◌, ◌⊎◌, true, Option, Some, None, inl, inr, ⊎_elim, refl, sym, ap, ◌∙◌, arith}
 use Rattle.std.proofs.lemmas.Bool.Decides.{nat_tests}
 use Rattle.std.proofs.lemmas.Option.{same_Some}
 use Rattle.std.proofs.Math.Nat.{mul-le-mul_right}
 use Rattle.heap_words.specs.declared.config.Config.{Config}
 use Rattle.heap_words.specs.Words.{Heap, is_word}
+use Rattle.heap_words.proofs.Bounds.{end_small}
 use Rattle.shen_graph.specs.declared.name.Name.{Name}
 use Rattle.shen_graph.specs.Graph.{Reference}
 use Rattle.heap_world.specs.World.{Block, thing, moved, spent, hand, promised, filler, words_of, Plot, name_at, Body, body_of, body_at, body_words, Points, IsPlotted}
@@ -89,14 +90,13 @@ module _ (c : Config) (top : ℕ → ℕ) (block : Plot) (plotted : IsPlotted c 
   named_if_not_0 word (Some n) points other = (n, refl, points)
 
   -- the address of a piece is small
-  pub piece_small : (a : ℕ) (b : Block) → block a ≡ Some b → a < 2097152
+  pub piece_small : (a : ℕ) (b : Block) → block a ≡ Some b → a < 2 ^ 32
   piece_small a b is =
       let inside = piece_inside a b is in
-      let most : (c.regions + 1) * c.region_words ≤ (64 + 1) * c.region_words = mul-le-mul_right c.region_words (let few = c.in_range.most_regions in omega (arith, few)) in
-      let long = c.in_range.most_words in
-      omega (arith, inside.1, most, long)
+      let end = end_small c in
+      omega (arith, inside.1, end)
 
   -- and so is a word that stands for a reference
-  pub points_small : (word : ℕ) (r : Reference) → Points block word r → word < 2097152
+  pub points_small : (word : ℕ) (r : Reference) → Points block word r → word < 2 ^ 32
   points_small word None points = omega (arith, points)
   points_small word (Some n) points = let piece = named_piece (block word) n points in piece_small word piece.0 piece.1

@@ -1,5 +1,5 @@
 -- Words that are read at their places, and addresses of objects.
-use Rattle.std.proofs.Common.{◌≡◌, ◌≢◌, ℕ, ◌+◌, ◌-◌, ◌*◌, ◌<◌, ◌≤◌, true, List, sym, ap, ◌∙◌, refl, subst, ⊎_elim, arith}
+use Rattle.std.proofs.Common.{◌≡◌, ◌≢◌, ℕ, ◌+◌, ◌-◌, ◌*◌, ◌^◌, ◌<◌, ◌≤◌, true, List, sym, ap, ◌∙◌, refl, subst, ⊎_elim, arith}
 use Rattle.std.proofs.lemmas.Bool.{cases_eq}
 use Rattle.std.proofs.Math.Nat.{mul-le-mul}
 use Rattle.heap_words.specs.declared.config.Config.{Config}
@@ -25,12 +25,9 @@ placed c k w at same is place = subst (λ n. n < table_words c) (sym (place ∙ 
 pub head : (c k : Config) (m : Word → ℕ) (objects : List ℕ) (a i : ℕ) → k ≡ c → LiesRight c m objects a → i < 3 → IsWord k (Heap (a + i))
 head c k m objects a i same lies few = subst (λ (j : Config). IsWord j (Heap (a + i))) (sym same) (omega (arith, lies.above, few), omega (arith, lies.below, few))
 
--- no address is large
-pub small : (c : Config) → (c.regions + 1) * c.region_words ≤ 66560
-small c = omega (arith, heap_size_le c, c.in_range.most_words)
-
-pub low : (c : Config) (m : Word → ℕ) (objects : List ℕ) (a : ℕ) → LiesRight c m objects a → a + 3 ≤ 66560
-low c m objects a lies = omega (arith, lies.below, small c)
+-- no address is large, nor those of the fields of an object
+pub low : (c : Config) (m : Word → ℕ) (objects : List ℕ) (a : ℕ) → LiesRight c m objects a → a + 3 + 255 < 2 ^ 32
+low c m objects a lies = omega (arith, lies.below, heap_size_le c, c.in_range.most_words)
 
 -- a fact of neighbours that holds below an index, and at it
 pub more : (P : ℕ → ℕ → Type 0) (i : ℕ) → 1 ≤ i → ((k : ℕ) → k + 1 < i → P k (k + 1)) → P (i - 1) i → (k : ℕ) → k + 1 < i + 1 → P k (k + 1)
@@ -62,12 +59,6 @@ between k first size a i one two from left few = (omega (arith, one, from), omeg
 
 pub between_first : (k : Config) (first size a : ℕ) → first ≡ k.region_words → size ≡ heap_size k → first ≤ a → 3 ≤ first + size - a → IsWord k (Heap a)
 between_first k first size a one two from left = (omega (arith, one, from), omega (arith, one, two, from, left))
-
--- no end of a region is large
-pub small_end : (k : Config) (r : ℕ) → r < k.regions → base_of k r + k.region_words ≤ 66560
-small_end k r below =
-    let last : (r + 2) * k.region_words ≤ (k.regions + 1) * k.region_words = mul-le-mul (omega (arith, below)) (omega arith) in
-    omega (arith, last, small k)
 
 -- an object lies right by what was computed of it
 pub lies_by : (c k : Config) (m : Word → ℕ) (objects : List ℕ) (a first size words region base top : ℕ) → k ≡ c

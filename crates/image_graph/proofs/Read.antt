@@ -1,11 +1,11 @@
 -- Words that are read at their places, and parts of the heap.
-use Rattle.std.proofs.Common.{◌≡◌, ℕ, ◌+◌, ◌*◌, ◌<◌, ◌≤◌, List, length, sym, ap, ◌∙◌, subst, arith}
+use Rattle.std.proofs.Common.{◌≡◌, ℕ, ◌+◌, ◌*◌, ◌^◌, ◌<◌, ◌≤◌, List, length, sym, ap, ◌∙◌, subst, arith}
 use Rattle.std.proofs.Math.Nat.{mul-le-mul}
 use Rattle.std.proofs.lemmas.Grind.{common_steps}
 use Rattle.heap_words.specs.declared.config.Config.{Config}
 use Rattle.heap_words.specs.Words.{Word, Top, Wait, Heap, IsWord, word_at, table_words, heap_size, heap_in, roots_in}
 use Rattle.heap_words.specs.Encoding.{object_words, request_shape_in}
-use Rattle.heap_words.proofs.Bounds.{heap_size_le}
+use Rattle.heap_words.proofs.Bounds.{end_small}
 use Rattle.regions.specs.Place.{base_of}
 use Rattle.image_graph.specs.Make.{AreInHeap}
 use Rattle.image_graph.proofs.Room.{room_in_heap}
@@ -23,14 +23,14 @@ pub first_in : (c k : Config) (a n : ℕ) → k ≡ c → AreInHeap c a n → 0 
 first_in c k a n same inside some = subst (λ (j : Config). IsWord j (Heap a)) (sym same) (inside.from, omega (arith, inside.to, some))
 
 -- no part of the heap has a large address
-pub low_in : (c : Config) (a n : ℕ) → AreInHeap c a n → a + n ≤ 66560
-low_in c a n inside = omega (arith, inside.to, heap_size_le c, c.in_range.most_words)
+pub low_in : (c : Config) (a n : ℕ) → AreInHeap c a n → a + n < 2 ^ 32
+low_in c a n inside = omega (arith, inside.to, end_small c)
 
 -- no region has one
-pub low_region : (c : Config) (r : ℕ) → r < c.regions → base_of c r + c.region_words ≤ 66560
+pub low_region : (c : Config) (r : ℕ) → r < c.regions → base_of c r + c.region_words < 2 ^ 32
 low_region c r below =
     let last : (r + 2) * c.region_words ≤ (c.regions + 1) * c.region_words = mul-le-mul (omega (arith, below)) (omega arith) in
-    omega (arith, last, heap_size_le c, c.in_range.most_words)
+    omega (arith, last, end_small c)
 
 -- a new object is of the heap, by what was read of it
 pub made_inside : (c k : Config) (m : Word → ℕ) (t r base top request shape n : ℕ) → k ≡ c → r < c.regions

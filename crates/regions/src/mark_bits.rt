@@ -15,7 +15,7 @@ use heap_words::{Access, Config};
 /// The words of grey bits, as many as those of black bits.
 pub fn mark_words(config: Config) -> usize
     ensures value { result ≡ bit_words config }
-    ensures bound { result ≤ 1024 }
+    ensures bound { result ≤ 33554432 }
 {
     (config.heap_size() + 63) / 64
 }

@@ -26,10 +26,10 @@ reaches bound sum sat small is le = omega (arith, small, is, le)
 falls_short : (bound sum sat : ℕ) → bound < 2 ^ 32 → sat ≡ min sum (2 ^ 64 - 1) → sat < bound → sum < bound
 falls_short bound sum sat small is lt = omega (arith, small, is, lt)
 
-small : (r short : ℕ) → r ≤ 64 → short ≤ 1024 → r * (short + 1) < 2 ^ 32
+small : (r short : ℕ) → r ≤ 64 → short ≤ 33554432 → r * (short + 1) < 2 ^ 32
 small r short few less =
-    let s : short + 1 ≤ 1025 = omega (arith, less) in
-    let p : r * (short + 1) ≤ 64 * 1025 = mul-le-mul few s in
+    let s : short + 1 ≤ 33554433 = omega (arith, less) in
+    let p : r * (short + 1) ≤ 64 * 33554433 = mul-le-mul few s in
     omega (arith, p)
 
 pub full_for : (c : Config) (g : Graph) (work : List (Option Progress)) (thread : ℕ) (command : Command) (live waiting asked short sat regions words : ℕ)

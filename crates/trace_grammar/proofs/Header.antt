@@ -8,6 +8,7 @@ use Rattle.std.proofs.lemmas.List.{get_or-take}
 use Rattle.heap_words.specs.declared.config.Config.{Config}
 use Rattle.heap_words.specs.declared.config.BadConfig.{BadConfig}
 use Rattle.heap_words.specs.Faults.{fault_of}
+use Rattle.heap_words.specs.Narrow.{IsNarrow}
 use Rattle.trace_grammar.specs.Spelling.{numbers, titled, header}
 use Rattle.trace_grammar.specs.Scanning.{◌>>=◌, behind, numbers_at, sizes_at}
 use Rattle.trace_grammar.proofs.Numbers.{then_some, same_some, behind_takes, numbers_take, numbers_again}
@@ -47,9 +48,9 @@ sizes_take bytes x e =
     joined : (bytes first second heap after_heap threads after_threads end : List ℕ) → bytes ≡ (codes "shen 1" ++ 10 ∷ codes "heap") ++ first → first ≡ numbers heap ++ after_heap → after_heap ≡ (10 ∷ codes "threads") ++ second → second ≡ numbers threads ++ after_threads → after_threads ≡ 10 ∷ end → bytes ≡ head heap threads ++ end
     joined bytes first second heap after_heap threads after_threads end a b c d z = rw (a, b, c, d, z) (sym (head-append heap threads end))
 
-pub sizes_again : (c : Config) (rest : List ℕ) → sizes_at (header c ++ rest) ≡ Some ((c.regions ∷ c.region_words ∷ c.reserve ∷ [], c.mutators ∷ c.helpers ∷ []), rest)
+pub sizes_again : (c : Config) (rest : List ℕ) → IsNarrow c → sizes_at (header c ++ rest) ≡ Some ((c.regions ∷ c.region_words ∷ c.reserve ∷ [], c.mutators ∷ c.helpers ∷ []), rest)
 unfolding sizes_at
-sizes_again c rest =
+sizes_again c rest narrow =
     let heap = c.regions ∷ c.region_words ∷ c.reserve ∷ [] in
     let threads = c.mutators ∷ c.helpers ∷ [] in
     let fourth = numbers threads ++ 10 ∷ rest in
@@ -58,13 +59,13 @@ sizes_again c rest =
     let threads_are : numbers_at (8 ∷ 3 ∷ []) fourth ≡ Some (threads, 10 ∷ rest) = numbers_again (8 ∷ 3 ∷ []) threads (10 ∷ rest) (omega arith, (omega arith, tt)) (lit< tt, (lit< tt, tt)) refl in
     ap sizes_at (head-append heap threads rest) ∙ rw (heap_is, threads_are) refl
 
--- a configuration has no fault
-pub no_fault : (c : Config) → fault_of c.regions c.region_words c.mutators c.helpers c.reserve ≡ None
-no_fault c = grind (arith, nat_tests)
+-- a configuration that a trace can have has no fault
+pub no_fault : (c : Config) → IsNarrow c → fault_of c.regions c.region_words c.mutators c.helpers c.reserve ≡ None
+no_fault c narrow = grind (arith, nat_tests)
 
 -- where the head was not read there is none
-pub no_head : (bytes : List ℕ) → None ≡ sizes_at bytes → (config : Config) (rest : List ℕ) → bytes ≡ header config ++ rest → ⊥
-no_head bytes h config rest e = let again = sizes_again config rest in let here = ap sizes_at e in cc
+pub no_head : (bytes : List ℕ) → None ≡ sizes_at bytes → (config : Config) (rest : List ℕ) → IsNarrow config → bytes ≡ header config ++ rest → ⊥
+no_head bytes h config rest narrow e = let again = sizes_again config rest narrow in let here = ap sizes_at e in cc
 
 -- the numbers of the head, as an array holds them
 record HasNumbers (heap threads : List ℕ) (c : Config) : Type 0 where
@@ -77,11 +78,11 @@ record HasNumbers (heap threads : List ℕ) (c : Config) : Type 0 where
 at_front : (n i : ℕ) (xs ys : List ℕ) → i < n → take n xs ≡ ys → get_or xs i 0 ≡ get_or ys i 0
 at_front n i xs ys lt e = sym (get_or-take n xs i 0 lt) ∙ ap (λ (l : List ℕ). get_or l i 0) e
 
-numbers_of_head : (bytes heap threads rest : List ℕ) → ◌≡◌ {A = Option ((List ℕ × List ℕ) × List ℕ)} (Some ((take 3 heap, take 2 threads), rest)) (sizes_at bytes) → (config : Config) (after : List ℕ) → bytes ≡ header config ++ after → HasNumbers heap threads config
-numbers_of_head bytes heap threads rest h config after e =
+numbers_of_head : (bytes heap threads rest : List ℕ) → ◌≡◌ {A = Option ((List ℕ × List ℕ) × List ℕ)} (Some ((take 3 heap, take 2 threads), rest)) (sizes_at bytes) → (config : Config) (after : List ℕ) → IsNarrow config → bytes ≡ header config ++ after → HasNumbers heap threads config
+numbers_of_head bytes heap threads rest h config after narrow e =
     let read : (List ℕ × List ℕ) × List ℕ = ((take 3 heap, take 2 threads), rest) in
     let wanted : (List ℕ × List ℕ) × List ℕ = ((config.regions ∷ config.region_words ∷ config.reserve ∷ [], config.mutators ∷ config.helpers ∷ []), after) in
-    let same : read ≡ wanted = same_some read wanted (h ∙ ap sizes_at e ∙ sizes_again config after) in
+    let same : read ≡ wanted = same_some read wanted (h ∙ ap sizes_at e ∙ sizes_again config after narrow) in
     let heap_is : take 3 heap ≡ wanted.0.0 = ap (λ (x : (List ℕ × List ℕ) × List ℕ). x.0.0) same in
     let threads_are : take 2 threads ≡ wanted.0.1 = ap (λ (x : (List ℕ × List ℕ) × List ℕ). x.0.1) same in
     record {
@@ -95,11 +96,11 @@ numbers_of_head bytes heap threads rest h config after e =
 -- where the configuration was refused there is no head
 pub no_configuration : (bytes heap threads rest : List ℕ) (r : Result Config BadConfig) → ◌≡◌ {A = Option ((List ℕ × List ℕ) × List ℕ)} (Some ((take 3 heap, take 2 threads), rest)) (sizes_at bytes)
     → result_err r ≡ fault_of (get_or heap 0 0) (get_or heap 1 0) (get_or threads 0 0) (get_or threads 1 0) (get_or heap 2 0) → None ≡ result_ok r
-    → (config : Config) (after : List ℕ) → bytes ≡ header config ++ after → ⊥
-no_configuration bytes heap threads rest (Ok c) h fault refused config after e = cc
-no_configuration bytes heap threads rest (Err f) h fault refused config after e =
-    let n = numbers_of_head bytes heap threads rest h config after e in
-    let fine : fault_of (get_or heap 0 0) (get_or heap 1 0) (get_or threads 0 0) (get_or threads 1 0) (get_or heap 2 0) ≡ None = rw (n.regions, n.region_words, n.reserve, n.mutators, n.helpers) (no_fault config) in
+    → (config : Config) (after : List ℕ) → IsNarrow config → bytes ≡ header config ++ after → ⊥
+no_configuration bytes heap threads rest (Ok c) h fault refused config after narrow e = cc
+no_configuration bytes heap threads rest (Err f) h fault refused config after narrow e =
+    let n = numbers_of_head bytes heap threads rest h config after narrow e in
+    let fine : fault_of (get_or heap 0 0) (get_or heap 1 0) (get_or threads 0 0) (get_or threads 1 0) (get_or heap 2 0) ≡ None = rw (n.regions, n.region_words, n.reserve, n.mutators, n.helpers) (no_fault config narrow) in
     cc
 
 -- where a configuration was read, the bytes begin with its head

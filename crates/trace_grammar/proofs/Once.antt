@@ -117,7 +117,7 @@ read_once bytes c d xs ys is js p q =
     let after = flat_map line q.lines ++ flat_map schedule_line q.turns in
     let one : (List ℕ × List ℕ) × List ℕ = ((c.regions ∷ c.region_words ∷ c.reserve ∷ [], c.mutators ∷ c.helpers ∷ []), rest) in
     let two : (List ℕ × List ℕ) × List ℕ = ((d.regions ∷ d.region_words ∷ d.reserve ∷ [], d.mutators ∷ d.helpers ∷ []), after) in
-    let same : one ≡ two = same_some one two (sym (sizes_again c rest) ∙ ap sizes_at (sym p.spelled ∙ q.spelled) ∙ sizes_again d after) in
+    let same : one ≡ two = same_some one two (sym (sizes_again c rest p.narrow) ∙ ap sizes_at (sym p.spelled ∙ q.spelled) ∙ sizes_again d after q.narrow) in
     let config : c ≡ d = same_config c d (ap (λ (x : (List ℕ × List ℕ) × List ℕ). get_or x.0.0 0 0) same) (ap (λ (x : (List ℕ × List ℕ) × List ℕ). get_or x.0.0 1 0) same)
     (ap (λ (x : (List ℕ × List ℕ) × List ℕ). get_or x.0.1 0 0) same) (ap (λ (x : (List ℕ × List ℕ) × List ℕ). get_or x.0.1 1 0) same) (ap (λ (x : (List ℕ × List ℕ) × List ℕ). get_or x.0.0 2 0) same) in
     let lines = lines_once c.mutators p.lines q.lines (flat_map schedule_line p.turns) (flat_map schedule_line q.turns) (omega arith) p.in_range (subst (λ (e : Config). AllByRecursion (IsLine e.mutators) q.lines) (sym config) q.in_range)

@@ -12,6 +12,7 @@ use Rattle.std.proofs.lemmas.List.FromFn.{get_or-map-range_with_len, length-map-
 use Rattle.std.proofs.lemmas.Grind.{flat_map-append}
 use Rattle.shen_graph.specs.declared.command.Command.{Command}
 use Rattle.heap_words.specs.declared.config.Config.{Config}
+use Rattle.heap_words.specs.Narrow.{IsNarrow}
 use Rattle.heap_words.specs.declared.schedule.Item.{Item}
 use Rattle.trace_grammar.specs.Spelling.{TraceLine, IsLine, line, header, space, newline, numbers, command_word, numbers_of, schedule_line}
 use Rattle.trace_grammar.specs.Front.{IsBehindCommands}
@@ -141,9 +142,10 @@ turns_behind [] = tt
 turns_behind (items ∷ turns) = refl
 
 -- what was read is a trace
-pub whole : (bytes rest behind : List ℕ) (c : Config) (threads : ℕ) (scripts : List (List Command)) (items : List Item) → length bytes ≤ most_bytes → bytes ≡ header c ++ rest → threads ≡ c.mutators
+pub whole : (bytes rest behind : List ℕ) (c : Config) (threads : ℕ) (scripts : List (List Command)) (items : List Item) → IsNarrow c → length bytes ≤ most_bytes → bytes ≡ header c ++ rest → threads ≡ c.mutators
     → HasReadLines threads rest behind scripts → HasScheduled c behind [] items → Reads bytes c scripts items
-whole bytes rest behind c threads scripts items short found same taken turned = record {
+whole bytes rest behind c threads scripts items narrow short found same taken turned = record {
+  narrow = narrow;
   lines = taken.lines;
   in_range = subst (λ (n : ℕ). AllByRecursion (IsLine n) taken.lines) same taken.in_range;
   turns = turned.turns;

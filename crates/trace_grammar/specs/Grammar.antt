@@ -5,6 +5,7 @@ use Rattle.std.specs.Io.KnownBytes.{Consumes, IsAtEnd}
 use Rattle.std.specs.Prelude.{Option}
 use Rattle.shen_graph.specs.declared.command.Command.{Command}
 use Rattle.heap_words.specs.declared.config.Config.{Config}
+use Rattle.heap_words.specs.Narrow.{IsNarrow}
 use Rattle.heap_words.specs.declared.schedule.Item.{Item}
 use Rattle.trace_grammar.specs.Spelling.{TraceLine, IsLine, line, header, IsScheduleLine, schedule_line}
 
@@ -43,8 +44,9 @@ pub record HasScheduled (c : Config) (bytes : List ℕ) (before after : List Ite
   pub items : after ≡ before ++ items_of turns
 
 -- The bytes are the head of a trace, then lines of commands, and then lines of a schedule; and these are the threads'
--- scripts, and these the items.
+-- scripts, and these the items. A region of a trace has at most 1,024 words.
 pub record Reads (bytes : List ℕ) (config : Config) (scripts : List (List Command)) (items : List Item) : Type 0 where
+  pub narrow : IsNarrow config
   pub lines : List TraceLine
   pub in_range : AllByRecursion (IsLine config.mutators) lines
   pub turns : List (List Item)

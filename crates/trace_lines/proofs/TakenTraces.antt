@@ -5,6 +5,7 @@ use Rattle.std.proofs.lemmas.Bool.{false≢true}
 use Rattle.std.proofs.lemmas.Grind.{flat_map-append}
 use Rattle.std.proofs.lemmas.List.Concat.{flat_map-cons}
 use Rattle.heap_words.specs.declared.config.Config.{Config}
+use Rattle.heap_words.specs.Narrow.{IsNarrow}
 use Rattle.heap_words.specs.declared.schedule.Item.{Item}
 use Rattle.trace_grammar.specs.Spelling.{newline, TraceLine, line, IsLine, schedule_line, IsScheduleLine, header}
 use Rattle.trace_grammar.specs.Grammar.{most_bytes, scripts_of, items_of, with_line, HasReadLines, Reads}
@@ -87,10 +88,11 @@ all_taken c (text ∷ texts) bytes before after s it =
     subst (λ (bs : List ℕ). AreTaken c bs after) (append_assoc bytes (ended text) (ended_lines texts) ∙ ap (λ (bs : List ℕ). bytes ++ bs) (sym (flat_map-cons (λ (t : List ℕ). t ++ newline ∷ []) text texts)))
     (all_taken c texts (bytes ++ ended text) it.0 after (one_more c bytes text before it.0 s it.1) it.2)
 
-pub read_as_taken : (c : Config) (texts : List (List ℕ)) (t : Taken) → TakesLines (none_taken c) texts t → length (header c ++ ended_lines texts) ≤ most_bytes → Reads (header c ++ ended_lines texts) c t.scripts t.items
-read_as_taken c texts t it short =
+pub read_as_taken : (c : Config) (texts : List (List ℕ)) (t : Taken) → IsNarrow c → TakesLines (none_taken c) texts t → length (header c ++ ended_lines texts) ≤ most_bytes → Reads (header c ++ ended_lines texts) c t.scripts t.items
+read_as_taken c texts t narrow it short =
     let all = all_taken c texts [] (none_taken c) t (none_are_taken c) it in
     record {
+      narrow = narrow;
       lines = all.lines;
       in_range = all.in_range;
       turns = all.turns;

@@ -36,7 +36,7 @@ trace_cut trace behind c scripts items reads =
     let turns = flat_map schedule_line reads.turns in
     let spelled : whole ≡ header c ++ (lines ++ (turns ++ rest)) =
     ap (λ (bs : List ℕ). bs ++ rest) reads.spelled ∙ append_assoc (header c) (lines ++ turns) rest ∙ ap (λ (bs : List ℕ). header c ++ bs) (append_assoc lines turns rest) in
-    let head = begun_head whole (lines ++ (turns ++ rest)) c spelled in
+    let head = begun_head whole (lines ++ (turns ++ rest)) c reads.narrow spelled in
     let commands = begun_lines whole reads.lines (turns ++ rest) 3 c reads.in_range head in
     let all = begun_turns whole reads.turns rest (3 + length reads.lines) c reads.turns_in_range commands in
     record {

@@ -6,6 +6,7 @@ use Rattle.std.proofs.lemmas.List.{length-append}
 use Rattle.std.specs.Option.{IsSome}
 use Rattle.shen_graph.specs.declared.command.Command.{Command}
 use Rattle.heap_words.specs.declared.config.Config.{Config}
+use Rattle.heap_words.specs.Narrow.{IsNarrow}
 use Rattle.heap_words.specs.declared.schedule.Item.{Item}
 use Rattle.trace_grammar.specs.Spelling.{TraceLine, IsLine, line, header, schedule_line, IsScheduleLine}
 use Rattle.trace_grammar.specs.Front.{IsBehindCommands}
@@ -80,9 +81,9 @@ stops_in_turns c first next bytes behind scripts n why taken number stops = reco
   cause = stops.cause;
 }
 
-pub stops_behind_head : (bytes rest : List ℕ) (c : Config) (n : ℕ) (why : Why) → bytes ≡ header c ++ rest → StopsBody c 4 rest n why → StopsAt bytes n why
-stops_behind_head bytes rest c n why e stops =
-    let head = begun_head bytes rest c e in
+pub stops_behind_head : (bytes rest : List ℕ) (c : Config) (n : ℕ) (why : Why) → IsNarrow c → bytes ≡ header c ++ rest → StopsBody c 4 rest n why → StopsAt bytes n why
+stops_behind_head bytes rest c n why narrow e stops =
+    let head = begun_head bytes rest c narrow e in
     let behind = flat_map schedule_line stops.turns ++ stops.rest in
     let lines = begun_lines bytes stops.lines behind 3 c stops.in_range (subst (λ (bs : List ℕ). Begun bytes bs 3 (Commands c)) stops.spelled head) in
     let turns = begun_turns bytes stops.turns stops.rest (3 + length stops.lines) c stops.turns_in_range lines in

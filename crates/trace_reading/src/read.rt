@@ -4,6 +4,7 @@ ghost use Rattle.std.specs.Option.{option_map};
 ghost use Rattle.std.specs.Io.KnownBytes.{Consumes};
 ghost use Rattle.shen_base.specs.Count.{Rose};
 ghost use Rattle.heap_words.specs.declared.config.Config.{Config as Sizes};
+ghost use Rattle.heap_words.specs.Narrow.{IsNarrow};
 ghost use Rattle.trace_grammar.specs.Spelling.{TraceLine, IsLine, line, header};
 ghost use Rattle.trace_grammar.specs.Scanning.{sizes_at};
 ghost use Rattle.trace_grammar.specs.Front.{IsBehindCommands};
@@ -42,7 +43,8 @@ fn sizes_at(bytes: &[u8]) -> Option<([u64; 4], [u64; 4], &[u8])>
 /// The configuration at the head of a trace, and the bytes behind its three lines.
 fn config_at(bytes: &[u8]) -> Option<(Config, &[u8])>
     ensures found { IfSome result (λ x. bytes.now ≡ header x.0 ++ x.1.now) }
-    ensures none { IfNone result ((config : Sizes) (rest : List ℕ) → bytes.now ≢ header config ++ rest) }
+    ensures narrow { IfSome result (λ x. IsNarrow x.0) }
+    ensures none { IfNone result ((config : Sizes) (rest : List ℕ) → IsNarrow config → bytes.now ≢ header config ++ rest) }
 {
     let (heap, threads, rest) = sizes_at(bytes)?;
     let [regions, region_words, reserve, _] = heap;
@@ -131,7 +133,7 @@ fn bad_command(config: &Config, number: u64, bytes: &[u8]) -> TraceFault
 
 /// The fault of bytes that do not begin with the head of a trace.
 fn bad_head(bytes: &[u8]) -> TraceFault
-    requires { (config : Sizes) (rest : List ℕ) → bytes.now ≢ header config ++ rest }
+    requires { (config : Sizes) (rest : List ℕ) → IsNarrow config → bytes.now ≢ header config ++ rest }
     ensures { (n : ℕ) × (why : Cause) × (result ≡ TraceFault.BadLine n why) × StopsAt bytes.now n why }
 {
     let refusal = head_refusal(bytes).unwrap();

@@ -6,6 +6,7 @@ use Rattle.std.proofs.lemmas.Bool.Decides.{nat_tests}
 use Rattle.std.proofs.lemmas.List.Concat.{flat_map-cons}
 use Rattle.std.proofs.lemmas.List.{length-append}
 use Rattle.heap_words.specs.declared.config.Config.{Config}
+use Rattle.heap_words.specs.Narrow.{IsNarrow}
 use Rattle.heap_words.specs.declared.schedule.Item.{Item}
 use Rattle.trace_grammar.specs.Spelling.{TraceLine, IsLine, line, newline, titled, header, schedule_line, IsScheduleLine}
 use Rattle.trace_grammar.specs.declared.why.Why.{Why}
@@ -59,8 +60,8 @@ front_line text whole rest e = sym (append_assoc text (newline ∷ []) rest) ∙
 titled_line : (title : List ℕ) (ns : List ℕ) → (text : List ℕ) × (text ++ newline ∷ [] ≡ titled title ns)
 titled_line title ns = (_, titled_is title ns)
 
-pub begun_head : (bytes rest : List ℕ) (c : Config) → bytes ≡ header c ++ rest → Begun bytes rest 3 (Commands c)
-begun_head bytes rest c e =
+pub begun_head : (bytes rest : List ℕ) (c : Config) → IsNarrow c → bytes ≡ header c ++ rest → Begun bytes rest 3 (Commands c)
+begun_head bytes rest c narrow e =
     let shen = titled_line (codes "shen") (1 ∷ []) in
     let heap = titled_line (codes "heap") (c.regions ∷ c.region_words ∷ c.reserve ∷ []) in
     let threads = titled_line (codes "threads") (c.mutators ∷ c.helpers ∷ []) in
@@ -74,7 +75,7 @@ begun_head bytes rest c e =
     ∙ sym (front_line heap.0 (titled (codes "heap") (c.regions ∷ c.region_words ∷ c.reserve ∷ [])) third heap.1))
     ∙ sym (front_line shen.0 (titled (codes "shen") (1 ∷ [])) second shen.1) in
     let one = begun_more bytes shen.0 second 0 Version Heap (subst (λ (bs : List ℕ). Begun bytes bs 0 Version) whole (begun_none bytes)) (shen.1, refl) in
-    let two = begun_more bytes heap.0 third 1 Heap (Threads c.regions c.region_words c.reserve) one (c, heap.1, refl) in
+    let two = begun_more bytes heap.0 third 1 Heap (Threads c.regions c.region_words c.reserve) one (c, narrow, heap.1, refl) in
     begun_more bytes threads.0 rest 2 (Threads c.regions c.region_words c.reserve) (Commands c) two (c, refl, refl, refl, threads.1, refl)
 
 -- ---- the lines behind it
@@ -149,26 +150,28 @@ version_read bytes rest behind none =
     (begun_more bytes behind.0 rest 0 Version Heap (subst (λ (bs : List ℕ). Begun bytes bs 0 Version) whole (begun_none bytes)) (spelled, refl), whole ∙ front_line behind.0 (titled (codes "shen") (1 ∷ [])) rest spelled)
 
 pub heap_read : (bytes first rest : List ℕ) → Begun bytes first 1 Heap → IsBehindLine first rest → cause_of Heap (parts 10 first) ≡ None
-    → (h : Config) × Begun bytes rest 2 (Threads h.regions h.region_words h.reserve) × (first ≡ titled (codes "heap") (h.regions ∷ h.region_words ∷ h.reserve ∷ []) ++ rest)
+    → (h : Config) × IsNarrow h × Begun bytes rest 2 (Threads h.regions h.region_words h.reserve) × (first ≡ titled (codes "heap") (h.regions ∷ h.region_words ∷ h.reserve ∷ []) ++ rest)
 heap_read bytes first rest b behind none =
     let read = line_of Heap first rest behind.0 behind.1 refl none in
     let made = heap_spelled behind.0 read.1 in
     let h = made.0 in
     let whole = bytes_of_line first behind.0 rest read.0 in (
       h,
-      begun_more bytes behind.0 rest 1 Heap (Threads h.regions h.region_words h.reserve) (subst (λ (bs : List ℕ). Begun bytes bs 1 Heap) whole b) (h, made.1, refl),
-      whole ∙ front_line behind.0 (titled (codes "heap") (h.regions ∷ h.region_words ∷ h.reserve ∷ [])) rest made.1,
+      made.1,
+      begun_more bytes behind.0 rest 1 Heap (Threads h.regions h.region_words h.reserve) (subst (λ (bs : List ℕ). Begun bytes bs 1 Heap) whole b) (h, made.1, made.2, refl),
+      whole ∙ front_line behind.0 (titled (codes "heap") (h.regions ∷ h.region_words ∷ h.reserve ∷ [])) rest made.2,
     )
 
-pub threads_read : (h : Config) (first : List ℕ) → cause_of (Threads h.regions h.region_words h.reserve) (parts 10 first) ≡ None
-    → (c : Config) × (rest : List ℕ) × (titled (codes "heap") (h.regions ∷ h.region_words ∷ h.reserve ∷ []) ≡ titled (codes "heap") (c.regions ∷ c.region_words ∷ c.reserve ∷ [])) × (first ≡ titled (codes "threads") (c.mutators ∷ c.helpers ∷ []) ++ rest)
-threads_read h first none =
+pub threads_read : (h : Config) (first : List ℕ) → IsNarrow h → cause_of (Threads h.regions h.region_words h.reserve) (parts 10 first) ≡ None
+    → (c : Config) × IsNarrow c × (rest : List ℕ) × (titled (codes "heap") (h.regions ∷ h.region_words ∷ h.reserve ∷ []) ≡ titled (codes "heap") (c.regions ∷ c.region_words ∷ c.reserve ∷ [])) × (first ≡ titled (codes "threads") (c.mutators ∷ c.helpers ∷ []) ++ rest)
+threads_read h first narrow none =
     let behind = first_line first in
     let stage = Threads h.regions h.region_words h.reserve in
     let read = line_of stage first behind.1 behind.0 behind.2 refl none in
     let made = threads_spelled h.regions h.region_words h.reserve h behind.0 refl refl refl read.1 in
     let c = made.0 in (
       c,
+      omega (arith, narrow, made.2),
       behind.1,
       ap (λ (r : ℕ). titled (codes "heap") (r ∷ h.region_words ∷ h.reserve ∷ [])) (sym made.1) ∙ ap (λ (w : ℕ). titled (codes "heap") (c.regions ∷ w ∷ h.reserve ∷ [])) (sym made.2) ∙ ap (λ (e : ℕ). titled (codes "heap") (c.regions ∷ c.region_words ∷ e ∷ [])) (sym made.3),
       bytes_of_line first behind.0 behind.1 read.0 ∙ front_line behind.0 (titled (codes "threads") (c.mutators ∷ c.helpers ∷ [])) behind.1 made.4,

@@ -6,6 +6,7 @@ use Rattle.std.proofs.lemmas.List.{length-append}
 use Rattle.std.proofs.lemmas.List.Concat.{flat_map-cons}
 use Rattle.shen_graph.specs.declared.command.Command.{Command}
 use Rattle.heap_words.specs.declared.config.Config.{Config}
+use Rattle.heap_words.specs.Narrow.{IsNarrow}
 use Rattle.heap_words.specs.declared.schedule.Item.{Item}
 use Rattle.trace_grammar.specs.Spelling.{TraceLine, IsLine, line, newline, titled, header, schedule_line, IsScheduleLine}
 use Rattle.trace_grammar.specs.Grammar.{most_bytes, scripts_of, items_of, Reads}
@@ -142,17 +143,17 @@ of_threads r w e (text ∷ texts) last lead body =
     (c, f.1, f.2, f.3, others.0, others.1, others.2, others.3, ended-cons text texts (titled (codes "threads") (c.mutators ∷ c.helpers ∷ [])) (flat_map line others.0 ++ flat_map schedule_line others.1) f.4 others.4)
 
 of_heap : (texts : List (List ℕ)) (last : LineStage) → Lead Heap texts last → IsBody last
-    → (c : Config) × (lines : List TraceLine) × (turns : List (List Item)) × AllByRecursion (IsLine c.mutators) lines × AllByRecursion (IsScheduleLine c) turns
+    → (c : Config) × IsNarrow c × (lines : List TraceLine) × (turns : List (List Item)) × AllByRecursion (IsLine c.mutators) lines × AllByRecursion (IsScheduleLine c) turns
     × (ended texts ≡ titled (codes "heap") (c.regions ∷ c.region_words ∷ c.reserve ∷ []) ++ (titled (codes "threads") (c.mutators ∷ c.helpers ∷ []) ++ (flat_map line lines ++ flat_map schedule_line turns)))
 of_heap [] last lead body = absurd (subst IsBody (sym lead) body)
 of_heap (text ∷ texts) last lead body =
     let f = lead.1 in
     let h = f.0 in
-    let others = of_threads h.regions h.region_words h.reserve texts last (subst (λ (s : LineStage). Lead s texts last) f.2 lead.2) body in
+    let others = of_threads h.regions h.region_words h.reserve texts last (subst (λ (s : LineStage). Lead s texts last) f.3 lead.2) body in
     let c = others.0 in
     let same : titled (codes "heap") (h.regions ∷ h.region_words ∷ h.reserve ∷ []) ≡ titled (codes "heap") (c.regions ∷ c.region_words ∷ c.reserve ∷ []) =
     ap (λ (r : ℕ). titled (codes "heap") (r ∷ h.region_words ∷ h.reserve ∷ [])) (sym others.1) ∙ ap (λ (w : ℕ). titled (codes "heap") (c.regions ∷ w ∷ h.reserve ∷ [])) (sym others.2) ∙ ap (λ (e : ℕ). titled (codes "heap") (c.regions ∷ c.region_words ∷ e ∷ [])) (sym others.3) in
-    (c, others.4, others.5, others.6, others.7, ended-cons text texts (titled (codes "heap") (c.regions ∷ c.region_words ∷ c.reserve ∷ [])) (titled (codes "threads") (c.mutators ∷ c.helpers ∷ []) ++ (flat_map line others.4 ++ flat_map schedule_line others.5)) (f.1 ∙ same) others.8)
+    (c, omega (arith, f.1, others.2), others.4, others.5, others.6, others.7, ended-cons text texts (titled (codes "heap") (c.regions ∷ c.region_words ∷ c.reserve ∷ [])) (titled (codes "threads") (c.mutators ∷ c.helpers ∷ []) ++ (flat_map line others.4 ++ flat_map schedule_line others.5)) (f.2 ∙ same) others.8)
 
 of_version : (bytes : List ℕ) (texts : List (List ℕ)) (last : LineStage) → length bytes ≤ most_bytes → bytes ≡ ended texts → Lead Version texts last → IsBody last → (c : Config) × (scripts : List (List Command)) × (items : List Item) × Reads bytes c scripts items
 of_version bytes [] last short spelled lead body = absurd (subst IsBody (sym lead) body)
@@ -163,9 +164,9 @@ of_version bytes (text ∷ texts) last short spelled lead body =
     let shen = titled (codes "shen") (1 ∷ []) in
     let heap = titled (codes "heap") (c.regions ∷ c.region_words ∷ c.reserve ∷ []) in
     let threads = titled (codes "threads") (c.mutators ∷ c.helpers ∷ []) in
-    let rest = flat_map line others.1 ++ flat_map schedule_line others.2 in
-    let whole : bytes ≡ header c ++ rest = spelled ∙ ended-cons text texts shen (heap ++ (threads ++ rest)) f.0 others.5 ∙ ap (λ (t : List ℕ). shen ++ t) (sym (append_assoc heap threads rest)) ∙ sym (append_assoc shen (heap ++ threads) rest) in
-    (c, scripts_of c.mutators others.1, items_of others.2, record { lines = others.1; in_range = others.3; turns = others.2; turns_in_range = others.4; spelled = whole; by_thread = refl; in_order = refl; short = short })
+    let rest = flat_map line others.2 ++ flat_map schedule_line others.3 in
+    let whole : bytes ≡ header c ++ rest = spelled ∙ ended-cons text texts shen (heap ++ (threads ++ rest)) f.0 others.6 ∙ ap (λ (t : List ℕ). shen ++ t) (sym (append_assoc heap threads rest)) ∙ sym (append_assoc shen (heap ++ threads) rest) in
+    (c, scripts_of c.mutators others.2, items_of others.3, record { narrow = others.1; lines = others.2; in_range = others.4; turns = others.3; turns_in_range = others.5; spelled = whole; by_thread = refl; in_order = refl; short = short })
 
 pub either : (bytes : List ℕ) → length bytes ≤ most_bytes → ((c : Config) × (scripts : List (List Command)) × (items : List Item) × Reads bytes c scripts items) ⊎ ((n : ℕ) × (why : Why) × Refused bytes n why)
 either bytes short = by_end (walk (length bytes) Version bytes tt (omega arith))

@@ -58,7 +58,7 @@ not_both c text it other =
 
 same_next : (stage : LineStage) (text : List ℕ) (a b : LineStage) → LineFollows stage text a → LineFollows stage text b → a ≡ b
 same_next Version text a b f g = f.1 ∙ sym g.1
-same_next Heap text a b f g = f.2 ∙ same_heap f.0 g.0 (sym (heap_again f.0 text f.1).2 ∙ (heap_again g.0 text g.1).2) ∙ sym g.2
+same_next Heap text a b f g = f.3 ∙ same_heap f.0 g.0 (sym (heap_again f.0 text f.1 f.2).2 ∙ (heap_again g.0 text g.1 g.2).2) ∙ sym g.3
 same_next (Threads r w e) text a b f g =
     f.5 ∙ ap Commands (same_threads r w e f.0 g.0 f.1 f.2 f.3 g.1 g.2 g.3 (sym (threads_again r w e f.0 text f.4).2 ∙ (threads_again r w e g.0 text g.4).2)) ∙ sym g.5
 same_next (Commands c) text a b (inl f) (inl g) = f.1 ∙ sym g.1
@@ -118,7 +118,7 @@ body_ends c false = refl
 
 pub never_both : (bytes : List ℕ) (c : Config) (scripts : List (List Command)) (items : List Item) (n : ℕ) (why : Why) → Reads bytes c scripts items → StopsAt bytes n why → ⊥
 never_both bytes c scripts items n why reads stops =
-    let head = begun_head bytes (flat_map line reads.lines ++ flat_map schedule_line reads.turns) c reads.spelled in
+    let head = begun_head bytes (flat_map line reads.lines ++ flat_map schedule_line reads.turns) c reads.narrow reads.spelled in
     let lines = begun_lines bytes reads.lines (flat_map schedule_line reads.turns) 3 c reads.in_range head in
     let turns = begun_turns bytes reads.turns [] (3 + length reads.lines) c reads.turns_in_range (subst (λ (bs : List ℕ). Begun bytes bs (3 + length reads.lines) (Commands c)) (sym (append-nil (flat_map schedule_line reads.turns))) lines) in
     let stage = body_stage c (ltb 0 (length reads.turns)) in

@@ -11,6 +11,7 @@ use Rattle.std.proofs.lemmas.List.Folds.{flat_map-map}
 use Rattle.std.proofs.lemmas.List.Splits.{join_with_byte-slice_split}
 use Rattle.std.proofs.lemmas.Fmt.{digits_value-decimal}
 use Rattle.heap_words.specs.declared.config.Config.{Config}
+use Rattle.heap_words.specs.Narrow.{IsNarrow}
 use Rattle.trace_grammar.specs.Spelling.{newline, numbers, titled}
 use Rattle.trace_grammar.specs.declared.why.Why.TheVariants.{Header}
 use Rattle.trace_grammar.proofs.Numbers.{own}
@@ -133,7 +134,7 @@ at_most_64 n = by_test (ltb 64 n) refl
     by_test true e = (64, omega arith, λ le. absurd (above n e le))
     by_test false e = (n, ltb-false _ _ e, λ le. refl)
 
-pub heap_spelled : (text : List ℕ) → words_cause Heap (parts 32 text) ≡ None → (c : Config) × (text ++ newline ∷ [] ≡ titled (codes "heap") (c.regions ∷ c.region_words ∷ c.reserve ∷ []))
+pub heap_spelled : (text : List ℕ) → words_cause Heap (parts 32 text) ≡ None → (c : Config) × IsNarrow c × (text ++ newline ∷ [] ≡ titled (codes "heap") (c.regions ∷ c.region_words ∷ c.reserve ∷ []))
 heap_spelled text e =
     let words = parts 32 text in
     let d = digits_value 10 (get_or words 1 []) in
@@ -153,17 +154,17 @@ heap_spelled text e =
       mutators = 1;
       helpers = 0;
       reserve = k;
-      in_range = record { least_regions = numbers.4; most_regions = numbers.5; least_words = numbers.6; most_words = numbers.7; least_mutators = omega arith; most_mutators = omega arith; most_helpers = omega arith; some_left = omega (arith, numbers.9, same, numbers.4) };
+      in_range = record { least_regions = numbers.4; most_regions = numbers.5; least_words = numbers.6; most_words = omega (arith, numbers.7); least_mutators = omega arith; most_mutators = omega arith; most_helpers = omega arith; some_left = omega (arith, numbers.9, same, numbers.4) };
     } in
-    (c, titled_text (codes "heap") (r ∷ w ∷ k ∷ []) text spelled)
+    (c, numbers.7, titled_text (codes "heap") (r ∷ w ∷ k ∷ []) text spelled)
 
-pub heap_again : (c : Config) (text : List ℕ) → text ++ newline ∷ [] ≡ titled (codes "heap") (c.regions ∷ c.region_words ∷ c.reserve ∷ [])
+pub heap_again : (c : Config) (text : List ℕ) → IsNarrow c → text ++ newline ∷ [] ≡ titled (codes "heap") (c.regions ∷ c.region_words ∷ c.reserve ∷ [])
     → (words_cause Heap (parts 32 text) ≡ None) × (is_free 10 text ≡ true) × (parts 32 text ≡ codes "heap" ∷ map decimal (c.regions ∷ c.region_words ∷ c.reserve ∷ []))
-heap_again c text e =
+heap_again c text narrow e =
     let ns = c.regions ∷ c.region_words ∷ c.reserve ∷ [] in
     let ranges : List (ℕ × ℕ) = (4, 64) ∷ (64, 1024) ∷ (0, c.regions - 1) ∷ [] in
     let small : AreSmallRanges ranges = (lit< tt, (lit< tt, (omega (arith, c.in_range.most_regions), tt))) in
-    let between : AreBetween ranges ns = (c.in_range.least_regions, c.in_range.most_regions, (c.in_range.least_words, c.in_range.most_words, (omega arith, omega (arith, c.in_range.some_left), tt))) in
+    let between : AreBetween ranges ns = (c.in_range.least_regions, c.in_range.most_regions, (c.in_range.least_words, narrow, (omega arith, omega (arith, c.in_range.some_left), tt))) in
     let read = titled_parts (codes "heap") ranges ns text heap_word small between e in
     let value : digits_value 10 (decimal c.regions) ≡ c.regions = digits_value-decimal own c.regions (omega (arith, c.in_range.most_regions)) in
     let bounds : heap_ranges (codes "heap" ∷ map decimal ns) ≡ ranges = ap (λ (n : ℕ). up n) value in (

@@ -63,7 +63,7 @@ turn_fine c behind text it =
 
 pub fine : (stage : LineStage) (text : List ℕ) (next : LineStage) → LineFollows stage text next → (words_cause stage (parts 32 text) ≡ None) × (is_free 10 text ≡ true)
 fine Version text next f = version_again text f.0
-fine Heap text next f = let read = heap_again f.0 text f.1 in (read.0, read.1)
+fine Heap text next f = let read = heap_again f.0 text f.1 f.2 in (read.0, read.1)
 fine (Threads r w e) text next f = let read = threads_again r w e f.0 text f.4 in (read.0, read.1)
 fine (Commands c) text next (inl f) = command_fine c text f.0
 fine (Commands c) text next (inr f) = turn_fine c false text f.0
@@ -108,7 +108,7 @@ pub follows : (stage : LineStage) (text : List ℕ) → Fits stage → words_cau
 follows Version text fits none = (Heap, (version_spelled text none, refl), tt)
 follows Heap text fits none =
     let made = heap_spelled text none in
-    (Threads made.0.regions made.0.region_words made.0.reserve, (made.0, made.1, refl), (made.0, refl, refl, refl))
+    (Threads made.0.regions made.0.region_words made.0.reserve, (made.0, made.1, made.2, refl), (made.0, refl, refl, refl))
 follows (Threads r w e) text fits none =
     let made = threads_spelled r w e fits.0 text fits.1 fits.2 fits.3 none in
     (Commands made.0, (made.0, made.1, made.2, made.3, made.4, refl), tt)

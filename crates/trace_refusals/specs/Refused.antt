@@ -1,6 +1,7 @@
 -- Which bytes are refused, at which line, and why.
 use Rattle.std.specs.Prelude.{ℕ, ◌≡◌, ◌⊎◌, ◌+◌, ◌≤◌, Bool, true, false, List, [], ◌∷◌, ◌++◌, codes, length, if◌then◌else◌, Option, Some, None}
 use Rattle.heap_words.specs.declared.config.Config.{Config}
+use Rattle.heap_words.specs.Narrow.{IsNarrow}
 use Rattle.heap_words.specs.declared.schedule.Item.{Item}
 use Rattle.trace_grammar.specs.Spelling.{space, newline, titled, TraceLine, line, IsLine, schedule_line, IsScheduleLine}
 use Rattle.trace_grammar.specs.Grammar.{most_bytes}
@@ -35,7 +36,7 @@ IsTurnItem c text = (items : List Item) × IsScheduleLine c items × (text ++ ne
 -- this text, with the end of its line, is a line of the grammar there, and what is to stand on the next
 abbrev pub LineFollows : LineStage → List ℕ → LineStage → Type 0
 LineFollows Version text next = (text ++ newline ∷ [] ≡ titled (codes "shen") (1 ∷ [])) × (next ≡ Heap)
-LineFollows Heap text next = (c : Config) × (text ++ newline ∷ [] ≡ titled (codes "heap") (c.regions ∷ c.region_words ∷ c.reserve ∷ [])) × (next ≡ Threads c.regions c.region_words c.reserve)
+LineFollows Heap text next = (c : Config) × IsNarrow c × (text ++ newline ∷ [] ≡ titled (codes "heap") (c.regions ∷ c.region_words ∷ c.reserve ∷ [])) × (next ≡ Threads c.regions c.region_words c.reserve)
 LineFollows (Threads r w e) text next = (c : Config) × (c.regions ≡ r) × (c.region_words ≡ w) × (c.reserve ≡ e) × (text ++ newline ∷ [] ≡ titled (codes "threads") (c.mutators ∷ c.helpers ∷ [])) × (next ≡ Commands c)
 LineFollows (Commands c) text next = (IsCommandLine c text × (next ≡ Commands c)) ⊎ (IsTurnItem c text × (next ≡ Turns c))
 LineFollows (Turns c) text next = IsTurnItem c text × (next ≡ Turns c)

@@ -3,6 +3,7 @@ ghost use Rattle.std.specs.Prelude.{◌≡◌, ◌⊎◌, ℕ, ◌-◌, List, []
 ghost use Rattle.std.specs.Str.Parse.{digits_value};
 ghost use Rattle.trace_refusals.specs.Causes.{parts, number_cause, title_cause};
 ghost use Rattle.heap_words.specs.declared.config.Config.{Config};
+ghost use Rattle.heap_words.specs.Narrow.{IsNarrow};
 ghost use Rattle.trace_grammar.specs.Spelling.{header};
 ghost use Rattle.trace_refusals.specs.Refused.{cause_of, StopsAt};
 ghost use Rattle.trace_refusals.specs.Refused as stage;
@@ -104,7 +105,7 @@ pub struct Refusal {
 
 /// The first line of a trace's head that is refused, and why. None: the bytes begin with a head.
 pub fn head_refusal(bytes: &[u8]) -> Option<Refusal>
-    ensures { MatchOption result ((c : Config) × (rest : List ℕ) × (bytes.now ≡ header c ++ rest)) (λ r. StopsAt bytes.now r.line r.why) }
+    ensures { MatchOption result ((c : Config) × (rest : List ℕ) × IsNarrow c × (bytes.now ≡ header c ++ rest)) (λ r. StopsAt bytes.now r.line r.why) }
 {
     if let Some(why) = version_cause(bytes) {
         return Some(Refusal { line: 1, why });

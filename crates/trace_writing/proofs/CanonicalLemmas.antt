@@ -84,6 +84,7 @@ items_again (i ∷ items) = sym (append-nil (i ∷ items))
 
 pub reads_again : (c : Config) (scripts : List (List Command)) (items : List Item) → IsWritable c scripts items → Reads (spelling_of c scripts items) c scripts items
 reads_again c scripts items h = record {
+  narrow = h.narrow;
   lines = lines_from 1 scripts;
   in_range = h.lines_fit;
   turns = turns_of items;

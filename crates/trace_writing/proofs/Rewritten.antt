@@ -146,6 +146,7 @@ can_be_written bytes c scripts items r =
     let written : length (spelling_of c scripts items) ≡ length (header c) + (length (flat_map line (lines_from 1 scripts)) + length (flat_map schedule_line (turns_of items))) =
     length-append (header c) (flat_map line (lines_from 1 scripts) ++ flat_map schedule_line (turns_of items)) ∙ ap (λ (n : ℕ). length (header c) + n) (length-append (flat_map line (lines_from 1 scripts)) (flat_map schedule_line (turns_of items))) in
     record {
+      narrow = r.narrow;
       threads = ap length r.by_thread ∙ length-map-range_with_len (commands_in r.lines) 1 c.mutators;
       lines_fit = subst (λ (ss : List (List Command)). AllByRecursion (IsLine c.mutators) (lines_from 1 ss)) (sym r.by_thread) (scripts_fit c.mutators 1 c.mutators r.lines (omega arith) (omega arith) r.in_range);
       items_fit = subst (AllByRecursion (IsItem c)) (sym r.in_order) (items_fit c r.turns r.turns_in_range);

@@ -4,6 +4,7 @@ use Rattle.std.specs.Prelude.{ℕ, ◌≡◌, ◌+◌, ◌≤◌, List, [], ◌�
 use Rattle.std.specs.List.{flat_map, AllByRecursion}
 use Rattle.shen_graph.specs.declared.command.Command.{Command}
 use Rattle.heap_words.specs.declared.config.Config.{Config}
+use Rattle.heap_words.specs.Narrow.{IsNarrow}
 use Rattle.heap_words.specs.declared.schedule.Item.{Item}
 use Rattle.trace_grammar.specs.Spelling.{TraceLine, IsLine, line, header, IsItem, schedule_line}
 use Rattle.trace_grammar.specs.Grammar.{most_bytes}
@@ -26,9 +27,10 @@ turns_of (i ∷ items) = (i ∷ items) ∷ []
 abbrev pub spelling_of : Config → List (List Command) → List Item → List ℕ
 spelling_of c scripts items = header c ++ (flat_map line (lines_from 1 scripts) ++ flat_map schedule_line (turns_of items))
 
--- A trace can be written: it has a script for each mutator, its commands and its items may stand in a trace, and its text is
--- not too long for one.
+-- A trace can be written: a region has at most 1,024 words, it has a script for each mutator, its commands and its items may
+-- stand in a trace, and its text is not too long for one.
 pub record IsWritable (c : Config) (scripts : List (List Command)) (items : List Item) : Type 0 where
+  pub narrow : IsNarrow c
   pub threads : length scripts ≡ c.mutators
   pub lines_fit : AllByRecursion (IsLine c.mutators) (lines_from 1 scripts)
   pub items_fit : AllByRecursion (IsItem c) items

@@ -7,19 +7,33 @@ use std::process::Abort;
 use std::test::Fail;
 
 // The numbers of configurations, with the first that is outside its range.
-const CONFIGS: [([usize; 5], Option<BadConfig>); 6] = [
+const CONFIGS: [([usize; 5], Option<BadConfig>); 7] = [
     ([3, 63, 0, 4, 3], Some(BadConfig::Regions)),
     ([4, 63, 0, 0, 0], Some(BadConfig::RegionWords)),
+    ([64, 1025, 8, 3, 63], Some(BadConfig::RegionWords)),
     ([64, 1024, 9, 4, 64], Some(BadConfig::Mutators)),
     ([64, 1024, 8, 4, 64], Some(BadConfig::Helpers)),
     ([4, 64, 1, 0, 4], Some(BadConfig::Reserve)),
     ([64, 1024, 8, 3, 63], None),
 ];
 
+// The same for a wide heap.
+const WIDE: [([usize; 5], Option<BadConfig>); 5] = [
+    ([65, 33_554_433, 0, 4, 65], Some(BadConfig::Regions)),
+    ([4, 63, 1, 0, 0], Some(BadConfig::RegionWords)),
+    ([64, 33_554_433, 8, 3, 63], Some(BadConfig::RegionWords)),
+    ([64, 33_554_432, 9, 3, 63], Some(BadConfig::Mutators)),
+    ([64, 33_554_432, 8, 3, 63], None),
+];
+
 #[test]
 fn ranges(rt: HostRuntime) {
     for ([regions, region_words, mutators, helpers, reserve], fault) in &CONFIGS {
         let config = Config::new(*regions, *region_words, *mutators, *helpers, *reserve);
+        assert!(rt; config.err() == *fault);
+    }
+    for ([regions, region_words, mutators, helpers, reserve], fault) in &WIDE {
+        let config = Config::wide(*regions, *region_words, *mutators, *helpers, *reserve);
         assert!(rt; config.err() == *fault);
     }
 }

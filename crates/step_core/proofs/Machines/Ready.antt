@@ -30,7 +30,7 @@ pub ready_of : (b d : Bool) → b ≡ true → d ≡ true → ((b && d) && true)
 ready_of b d is_b is_d = rw (is_b, is_d) refl
 
 -- a small number is one that a word holds
-pub number_small : (n : ℕ) → n < 2097152 → is_number n ≡ true
+pub number_small : (n : ℕ) → n < 2 ^ 32 → is_number n ≡ true
 number_small n small = lt-ltb n (2 ^ 64) (omega arith)
 
 -- a state word of a mutator is one of the table

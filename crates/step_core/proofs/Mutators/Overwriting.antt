@@ -1,6 +1,6 @@
 -- A mutator that overwrites a reference, while objects are marked and in other phases: it takes the reference in hand, to record it, or
 -- marking needs the field no more.
-use Rattle.std.proofs.Common.{◌≡◌, ◌≢◌, ℕ, ◌+◌, ◌<◌, ⊎_elim, inl, inr, true, false, Option, Some, None, refl, sym, ◌∙◌, arith}
+use Rattle.std.proofs.Common.{◌≡◌, ◌≢◌, ℕ, ◌+◌, ◌^◌, ◌<◌, ⊎_elim, inl, inr, true, false, Option, Some, None, refl, sym, ◌∙◌, arith}
 use Rattle.std.specs.Prelude.{◌==◌, nat_lt, if◌then◌else◌}
 use Rattle.std.proofs.lemmas.Bool.{and_from, and_parts, cases_Bool, eqb-true, eqb-false, lt-ltb, ltb-true}
 use Rattle.std.proofs.lemmas.Bool.Decides.{nat_tests}
@@ -34,7 +34,7 @@ use Rattle.step_core.proofs.Mutators.WhileMarking.{covered_found, covered_unmark
 use Rattle.step_core.proofs.Machines.Ready.{number_small}
 
 -- the address of an object is small
-markable_small : (c : Config) (w : World) (a : ℕ) → Shared c w → IsMarkable w.block a → a < 2097152
+markable_small : (c : Config) (w : World) (a : ℕ) → Shared c w → IsMarkable w.block a → a < 2 ^ 32
 markable_small c w a shared (IsMarkable.object name refs nums is) = piece_small c (λ r. w.memory (Top r)) w.block shared.parsable.plotted a (thing name refs nums) is
 markable_small c w a shared (IsMarkable.to_come seat words is) = piece_small c (λ r. w.memory (Top r)) w.block shared.parsable.plotted a (promised seat words) is
 

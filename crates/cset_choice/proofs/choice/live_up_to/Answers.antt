@@ -1,6 +1,6 @@
 use Rattle.std.proofs.Common.{◌<◌, sym, arith}
 use Rattle.packing.proofs.Sums.{sum_none}
-use Rattle.cset_choice.specs.Tables.{adds}
+use Rattle.cset_choice.specs.Tables.{adds, most_live}
 use Rattle.cset_choice.proofs.Objects.{sum_more}
 use Rattle.cset_choice.proofs.Choosing.{adds_few}
 use Rattle.cset_choice.proofs.choice.live_up_to.Goals as goal
@@ -14,7 +14,7 @@ loop-other-preserved c =
     let other = c.loop-other.other in
     let most = c.args.config.in_range.most_regions in
     let few : other < 64 = omega (arith, c.loop-other-test.true, c.regions-other-end.ensures, most) in
-    let small = adds_few live c.args.candidates c.args.region other 525312 (c.requires.small other few) in
+    let small = adds_few live c.args.candidates c.args.region other most_live (c.requires.small other few) in
     record {
       value = sum_more (adds live c.args.candidates c.args.region) other c.loop-other.words c.added-words.result c.loop-other.invariant.value c.added-words.ensures;
       bound = omega (arith, c.loop-other.invariant.bound, small, c.added-words.ensures);

@@ -1,10 +1,10 @@
 use Rattle.std.proofs.Common.{◌≡◌, ◌*◌, ◌≤◌}
 use Rattle.packing.specs.Tops.{sum_below}
-use Rattle.cset_choice.specs.Tables.{adds}
+use Rattle.cset_choice.specs.Tables.{adds, most_live}
 use Rattle.cset_choice.proofs.choice.live_up_to.Given as goal
 
 abbrev pub invariant-loop-other : goal.invariant-loop-other
 invariant-loop-other l = record {
   value : l.words ≡ sum_below (adds l.live l.candidates l.region) l.other;
-  bound : l.words ≤ 525312 * l.other;
+  bound : l.words ≤ most_live * l.other;
 }

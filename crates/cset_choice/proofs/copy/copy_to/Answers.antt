@@ -10,7 +10,8 @@ use Rattle.image_graph.proofs.NamedStores.{stored, placed_inside}
 use Rattle.cycle_words.specs.Evacuation.Live.{words_at}
 use Rattle.cycle_words.specs.Evacuation.Copied.{top_address}
 use Rattle.cset_choice.proofs.Objects.{object_in_heap, word_of_heap}
-use Rattle.cset_choice.proofs.Reading.{word_in, first_in, low_in}
+use Rattle.image_graph.proofs.Read.{low_in}
+use Rattle.cset_choice.proofs.Reading.{word_in, first_in}
 use Rattle.cset_choice.proofs.CopyStores.{copies_apart, copied_stores}
 use Rattle.cset_choice.proofs.copy.copy_to.Goals as goal
 

@@ -1,4 +1,5 @@
-use Rattle.cset_choice.proofs.Reading.{word_in, low_in}
+use Rattle.image_graph.proofs.Read.{low_in}
+use Rattle.cset_choice.proofs.Reading.{word_in}
 use Rattle.std.proofs.Common.{◌≡◌, ◌+◌, ℕ, sym, ap, ◌∙◌, subst, arith}
 use Rattle.heap_words.specs.declared.config.Config.{Config}
 use Rattle.heap_words.specs.Words.{Word, Heap, IsWord, word_at, write}

@@ -5,9 +5,10 @@ use Rattle.heap_words.specs.Words.{Word, Heap, IsWord}
 use Rattle.image_graph.specs.State.{config_of, memory_of}
 use Rattle.image_graph.proofs.NamedStores.{placed_inside}
 use Rattle.heap_words.specs.Encoding.{object_words}
+use Rattle.heap_words.proofs.Bounds.{address_small}
 use Rattle.cycle_words.specs.Marking.Marks.{is_black}
 use Rattle.cycle_words.specs.Evacuation.Live.{words_at}
-use Rattle.cset_choice.proofs.Reading.{read, low_word}
+use Rattle.cset_choice.proofs.Reading.{read}
 use Rattle.cset_choice.proofs.Objects.{shape_in_heap}
 use Rattle.cset_choice.proofs.live.marked_words.Goals as goal
 
@@ -28,7 +29,7 @@ word-shape-requires c =
     c.heap_at.ensures
 
 pub overflow_add-address : goal.overflow_add-address
-overflow_add-address c = omega (arith, low_word (config_of c.args.image.now) _ c.requires.inside)
+overflow_add-address c = omega (arith, address_small (config_of c.args.image.now) _ c.requires.inside)
 
 pub is_black-requires : goal.is_black-requires
 is_black-requires c = c.requires.inside

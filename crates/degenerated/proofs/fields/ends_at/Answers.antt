@@ -2,13 +2,14 @@ use Rattle.std.proofs.Common.{◌≡◌, ◌+◌, ◌==◌, ℕ, sym, ap, ◌∙
 use Rattle.heap_words.specs.declared.config.Config.{Config}
 use Rattle.heap_words.specs.Words.{Word, Heap, IsWord}
 use Rattle.heap_words.specs.Encoding.{object_words}
+use Rattle.heap_words.proofs.Bounds.{address_small}
 use Rattle.image_graph.specs.State.{config_of, memory_of}
 use Rattle.image_graph.proofs.NamedStores.{placed_inside}
-use Rattle.degenerated.proofs.Reading.{read, low_word}
+use Rattle.degenerated.proofs.Reading.{read}
 use Rattle.degenerated.proofs.fields.ends_at.Goals as goal
 
 pub overflow_add-object : goal.overflow_add-object
-overflow_add-object c = omega (arith, low_word (config_of c.args.image.now) _ c.requires)
+overflow_add-object c = omega (arith, address_small (config_of c.args.image.now) _ c.requires)
 
 pub heap_at-requires : goal.heap_at-requires
 heap_at-requires c = subst (λ (j : Config). IsWord j (Heap (c.args.object + 1))) (sym c.config.ensures) c.requires
@@ -19,7 +20,7 @@ word-shape-requires c =
     (subst (λ (j : Config). IsWord j (Heap (c.args.object + 1))) (sym c.config.ensures) c.requires) c.heap_at.ensures
 
 pub overflow_add-result : goal.overflow_add-result
-overflow_add-result c = omega (arith, low_word (config_of c.args.image.now) _ c.requires, c.words_of.ensures)
+overflow_add-result c = omega (arith, address_small (config_of c.args.image.now) _ c.requires, c.words_of.ensures)
 
 pub returns : goal.returns
 returns c =

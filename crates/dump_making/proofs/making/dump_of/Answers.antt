@@ -20,7 +20,7 @@ pub of-requires : goal.of-requires
 of-requires c =
     let h = c.args.history.now.list in
     let config = c.args.config in
-    is_dump config h (dumped config c.in_ok-counts.counts c.args.graph.now) c.requires.history
+    is_dump config h (dumped config c.in_ok-counts.counts c.args.graph.now) c.requires.narrow c.requires.history
     (text_is_dump config h c.in_ok-counts.counts c.args.graph.now c.requires.history c.requires.graph (c.in_ok-counts.ensures ∙ ap (objects_made_by_each h) c.mutators.ensures))
 
 pub returns-clause-is_dump : goal.returns-clause-is_dump
@@ -28,7 +28,7 @@ returns-clause-is_dump c =
     let h = c.args.history.now.list in
     let config = c.args.config in
     carried IsDump (dumped config c.in_ok-counts.counts c.args.graph.now)
-    (is_dump config h (dumped config c.in_ok-counts.counts c.args.graph.now) c.requires.history
+    (is_dump config h (dumped config c.in_ok-counts.counts c.args.graph.now) c.requires.narrow c.requires.history
     (text_is_dump config h c.in_ok-counts.counts c.args.graph.now c.requires.history c.requires.graph (c.in_ok-counts.ensures ∙ ap (objects_made_by_each h) c.mutators.ensures)))
     c.of.result c.of.ensures
 

@@ -25,4 +25,4 @@ returns-in_default c = λ h same e.
 pub returns-in_default-2 : goal.returns-in_default-2
 returns-in_default-2 c = λ h same e.
     let fault = rw (c.regions.ensures, c.region_words.ensures, c.reserve.ensures) at c.in_default.ensures.fault in
-    threads_refused c.args.heap.now c.args.text.now c.in_ok-rest.rest.now c.in_ok-threads.rest.now c.in_ok-threads.threads _ c.in_ok-rest.ensures c.in_ok-threads.ensures fault (λ is. let e = is in cc) h same e
+    threads_refused c.args.heap.now c.args.text.now c.in_ok-rest.rest.now c.in_ok-threads.rest.now c.in_ok-threads.threads _ c.in_ok-rest.ensures c.in_ok-threads.ensures fault (λ is. let e = is in cc) c.requires h same e

@@ -1,6 +1,7 @@
 use Rattle.std.proofs.Common.{◌≡◌, ◌<◌, ◌+◌, ℕ, List, length, get_or, refl, sym, ap, ◌∙◌, subst, arith}
 use Rattle.heap_words.specs.declared.config.Config.{Config}
 use Rattle.heap_words.specs.Words.{Word, Heap, IsWord, write}
+use Rattle.heap_words.proofs.Bounds.{address_small}
 use Rattle.shen_graph.specs.GraphText.{Text, row_of}
 use Rattle.image_graph.specs.State.{config_of, memory_of}
 use Rattle.image_graph.proofs.NamedStores.{stored, placed_inside}
@@ -23,7 +24,7 @@ overflow_add-address c =
     let t = c.args.text.now in
     let inside : c.loop-index.index < words_of_row t c.args.row = omega (arith, c.loop-index-test.true, c.words_of_row-index-end.ensures.value) in
     let is = word_of_object g t c.args.addresses.now c.args.row c.loop-index.index c.requires.whole c.requires.fits c.requires.addresses c.requires.row inside in
-    omega (arith, is.1, located.heap_is_small g t c.requires.whole)
+    omega (arith, address_small g _ is)
 
 pub heap_at-requires : goal.heap_at-requires
 heap_at-requires c =

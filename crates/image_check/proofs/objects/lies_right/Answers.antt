@@ -6,7 +6,8 @@ use Rattle.regions.specs.Place.{base_of}
 use Rattle.heap_words.specs.Encoding.{object_words}
 use Rattle.image_graph.specs.State.{config_of, memory_of}
 use Rattle.image_check.specs.Laid.{laid_words}
-use Rattle.image_check.proofs.Reading.{read, placed, between, between_first, small_end, lies_by}
+use Rattle.image_graph.proofs.Read.{low_region}
+use Rattle.image_check.proofs.Reading.{read, placed, between, between_first, lies_by}
 use Rattle.image_check.proofs.objects.lies_right.Goals as goal
 
 pub overflow_add-last : goal.overflow_add-last
@@ -49,7 +50,7 @@ overflow_add-end c =
     let top : c.word-2.result ≡ memory_of c.args.image.now (Top r) =
     read k _ (memory_of c.args.image.now) (Top r) _ _ c.config-config.ensures below c.top_at.ensures c.word-2.ensures.named in
     let base : c.base.result ≡ base_of k r = c.base.ensures ∙ ap (λ (j : Config). base_of j r) c.config-config.ensures in
-    omega (arith, top, base, c.requires r below, small_end k r below)
+    omega (arith, top, base, c.requires r below, low_region k r below)
 
 pub returns-then-behind-end-2 : goal.returns-then-behind-end-2
 returns-then-behind-end-2 c =

@@ -17,8 +17,8 @@ returns-in_err-why c =
     let first = version_read bytes c.behind_line-heap.result.now c.behind_line-heap.ensures (sym c.version_cause.ensures ∙ c.in_default.is) in
     let second = heap_read bytes c.behind_line-heap.result.now c.behind_line.result.now first.0 c.behind_line.ensures (sym c.heap_cause.ensures ∙ c.in_default-heap_cause.is) in
     let h = second.0 in
-    let third = threads_read h c.behind_line.result.now (sym (c.threads_cause.ensures h.regions h.region_words h.reserve) ∙ c.in_err-why.was) in
-    rw c.from_residual.ensures (third.0, third.1, head_read bytes c.behind_line-heap.result.now c.behind_line.result.now third.1 h third.0 first.1 second.2 third.2 third.3)
+    let third = threads_read h c.behind_line.result.now second.1 (sym (c.threads_cause.ensures h.regions h.region_words h.reserve) ∙ c.in_err-why.was) in
+    rw c.from_residual.ensures (third.0, third.2, third.1, head_read bytes c.behind_line-heap.result.now c.behind_line.result.now third.2 h third.0 first.1 second.3 third.3 third.4)
 
 pub returns : goal.returns
 returns c =
@@ -26,4 +26,4 @@ returns c =
     let first = version_read bytes c.behind_line-heap.result.now c.behind_line-heap.ensures (sym c.version_cause.ensures ∙ c.in_default.is) in
     let second = heap_read bytes c.behind_line-heap.result.now c.behind_line.result.now first.0 c.behind_line.ensures (sym c.heap_cause.ensures ∙ c.in_default-heap_cause.is) in
     let h = second.0 in
-    begun_stops bytes c.behind_line.result.now 2 3 (Threads h.regions h.region_words h.reserve) c.in_ok-why.why second.1 refl (sym (c.threads_cause.ensures h.regions h.region_words h.reserve) ∙ c.in_ok-why.was)
+    begun_stops bytes c.behind_line.result.now 2 3 (Threads h.regions h.region_words h.reserve) c.in_ok-why.why second.2 refl (sym (c.threads_cause.ensures h.regions h.region_words h.reserve) ∙ c.in_ok-why.was)
