@@ -1,8 +1,8 @@
 -- What a machine counts on while it takes room stays true while another machine makes a step.
-use Rattle.std.proofs.Common.{◌≡◌, ℕ, ◌+◌, Some, sym, ◌∙◌}
+use Rattle.std.proofs.Common.{◌≡◌, ℕ, ◌+◌, Some, refl, sym, ◌∙◌}
 use Rattle.heap_words.specs.declared.config.Config.{Config}
 use Rattle.heap_words.specs.Words.{Current}
-use Rattle.heap_world.specs.World.{World, Shared}
+use Rattle.heap_world.specs.World.{World, hand, Shared}
 use Rattle.heap_world.specs.Rely.{Rely}
 use Rattle.alloc_buffers.specs.declared.spot.Taken.TheVariants.{At, NoRoom}
 use Rattle.alloc_buffers.specs.declared.spot.TakeSpot.{TakeSpot}
@@ -29,7 +29,7 @@ module _ (c : Config) (u w : World) (seat : ℕ) (rely : Rely c seat u w) (own :
     top_is = rely.tops region (own region facts.is_current) ∙ facts.top_is;
     room = facts.room;
   }
-  take_stays words (Ended (At address)) facts = rely.hands address words facts
+  take_stays words (Ended (At address)) facts = rely.rooms address (hand seat words) facts refl
   take_stays words (Ended NoRoom) facts = less_stays words facts
 
 -- all that it counts on stays
@@ -40,7 +40,7 @@ can_take_stays c u w seat words take shared rely can = record {
   most = can.most;
   ready = can.ready;
   facts = take_stays c u w seat rely (λ r is. shared.owned.currents.own seat r is) words take can.facts;
-  hands = λ a more is. can.hands a more (rely.no_hands a more is);
+  hands = λ a more is. can.hands a more (rely.no_rooms a (hand seat more) is refl);
   records_none = rely.marks.recording ∙ can.records_none;
   scans_none = rely.marks.scanning ∙ can.scans_none;
 }

@@ -12,12 +12,12 @@ use Rattle.steps_base.specs.Touch.{touch, loads, touched}
 use Rattle.regions.specs.Place.{base_of}
 use Rattle.regions.specs.Sets.{IsIn, lowest_in, all_but}
 use Rattle.shen_graph.specs.declared.name.Name.{Name}
-use Rattle.heap_world.specs.World.{World, with_owner, Plot, Block, thing, moved, spent, hand, promised, filler, name_at, IsMarkable, AreCurrent, AreRooms, Shared}
+use Rattle.heap_world.specs.World.{World, with_owner, Plot, Block, thing, moved, spent, hand, promised, dead, name_at, IsMarkable, AreCurrent, AreRooms, Shared}
 use Rattle.heap_world.specs.Rely.{Keeps, RelyMarks, RelyCopies, Rely}
 use Rattle.heap_world.specs.Part.{PartStep, SameWork}
 use Rattle.heap_world.proofs.Updates.{updated, updated_same, updated_there, updated_else}
 use Rattle.heap_world.proofs.Keeping.{load_keeps, rely_same, keeps_of}
-use Rattle.heap_world.proofs.NewPiece.{CanGrow, names_stay, stays, old_hand, own_hand, old_promise, parsable_more, contents_more, owned_more, old_thing, unwritten_more, markable_more, marking_more, evacuating_more, updating_more}
+use Rattle.heap_world.proofs.NewPiece.{CanGrow, names_stay, stays, same_but_loose, old_room, own_hand, old_promise, parsable_more, contents_more, owned_more, unwritten_more, markable_more, marking_more, evacuating_more, updating_more}
 use Rattle.heap_world.proofs.Copies.{CopiesStay, keeps_copies, rely_copies, same_plot}
 use Rattle.heap_world.proofs.Evacuated.{evacuated_taken}
 use Rattle.heap_world.proofs.Fields.{fields_stored, fields_kept}
@@ -50,17 +50,21 @@ currents_with c current owner seat region within own currents = record {
 -- a seat with no room in hand may change its current region
 rooms_with : (c : Config) (top current : ℕ → ℕ) (block : Plot) (seat region : ℕ) → ((a words : ℕ) → block a ≡ Some (hand seat words) → ⊥) → AreRooms c top current block
     → AreRooms c top (updated current seat (region + 1)) block
-rooms_with c top current block seat region none rooms a s words is =
-    let is_room = rooms a s words is in
-    let other : seat ≢ s = λ same. none a words (subst (λ k. block a ≡ Some (hand k words)) (sym same) is) in
-    record {
-      seated = is_room.seated;
-      some = is_room.some;
-      region = is_room.region;
-      is_current = updated_else current seat (region + 1) s other ∙ is_room.is_current;
-      from_base = is_room.from_base;
-      at_top = is_room.at_top;
-    }
+rooms_with c top current block seat region none rooms = record {
+  hands = λ a s words is.
+      let is_room = rooms.hands a s words is in
+      let other : seat ≢ s = λ same. none a words (subst (λ k. block a ≡ Some (hand k words)) (sym same) is) in
+      record {
+        seated = is_room.seated;
+        some = is_room.some;
+        region = is_room.region;
+        is_current = updated_else current seat (region + 1) s other ∙ is_room.is_current;
+        from_base = is_room.from_base;
+        at_top = is_room.at_top;
+      };
+  spares = rooms.spares;
+  carveds = rooms.carveds;
+}
 
 -- what a step of a taking of room owes: whether the seat copies, and on what it works, stays as it is
 abbrev pub TakeStep : Config → World → ℕ → ℕ → Kind → TakeSpot → Type 0
@@ -233,9 +237,9 @@ module _ (c : Config) (u : World) (seat words : ℕ) (kind : Kind) where
         others = λ j d. record {
           names = λ a n is. is;
           targets = λ a more_refs more_nums n has. has;
-          hands = λ a more is. is;
-          no_hands = λ a more is. is;
-          hand_words = λ a more k is below. refl;
+          rooms = λ a x is room. is;
+          no_rooms = λ a x is room. is;
+          room_words = λ a k x is room below. refl;
           promises = λ a more is. is;
           no_promises = λ a more is. is;
           promise_words = λ a more k is below. refl;
@@ -359,6 +363,10 @@ module _ (c : Config) (u : World) (seat words : ℕ) (kind : Kind) where
     own : u.ghost.owner region ≡ Some seat
     own = shared.owned.currents.own seat region roomy.is_current
 
+    -- so it is not set aside
+    outside : IsIn (u.memory Cset) region → ⊥
+    outside = shared.evacuated.aside.nobodys region seat own
+
     -- there is no room in hand yet
     none : (a more : ℕ) → u.block a ≡ Some (hand seat more) → ⊥
     none = none_in_hand (StoreTop region top) refl shared can
@@ -378,7 +386,7 @@ module _ (c : Config) (u : World) (seat words : ℕ) (kind : Kind) where
       marked = marking_more c tops currents u.block region top words seat grows (u.memory Phase) (λ n. u.memory (Grey n)) (λ n. u.memory (Black n)) (λ t. u.memory (Count t)) (λ t k. u.memory (Buffer t k))
           (λ r. u.memory (Tams r)) (λ a. u.memory (Heap a)) u.ghost.snapshot u.ghost.recording u.ghost.scanning shared.marked;
       evacuated = evacuating_more c tops currents u.block region top words seat grows (u.memory Phase) (u.memory Cset) (u.memory Evac) (u.memory Claim) (u.memory Free) (λ r. u.memory (Tams r)) (λ a. u.memory (Heap a)) (λ n. u.memory (Black n))
-          u.ghost.owner u.ghost.copying u.ghost.working own shared.evacuated;
+          u.ghost.owner u.ghost.copying u.ghost.working outside shared.evacuated;
       updated = λ on. updating_more c tops currents u.block region top words seat grows (u.memory Cset) (u.memory Claim) (λ r. u.memory (Limit r)) (λ a. u.memory (Heap a)) u.ghost.scanning (shared.updated on);
     }
 
@@ -416,8 +424,8 @@ module _ (c : Config) (u : World) (seat words : ℕ) (kind : Kind) where
       moveds = λ a refs nums to n is. stays_there a (moved n refs nums to) is;
       spents = λ a more to is. stays_there a (spent more to) is;
       pieces = λ a x inside is. (x, stays_there a x is, refl);
-      no_new = λ a refs nums n inside is. old_thing c tops currents u.block region top words seat grows a refs nums n is;
-      tops = λ r is. updated_else tops region (top + words) r (λ same. shared.evacuated.aside.nobodys region seat own (subst (λ k. IsIn (u.memory Cset) k) (sym same) is));
+      no_new = λ a refs nums n inside is. (same_but_loose c tops currents u.block region top words seat grows).came a (thing n refs nums) refl is;
+      tops = λ r is. updated_else tops region (top + words) r (λ same. outside (subst (λ k. IsIn (u.memory Cset) k) (sym same) is));
     }
 
     -- the facts of the seat's machine stand
@@ -442,9 +450,9 @@ module _ (c : Config) (u : World) (seat words : ℕ) (kind : Kind) where
     others_grown j differs = record {
       names = names;
       targets = λ a refs nums n has. record { piece = stays_there a (thing n refs nums) has.piece; safe = has.safe };
-      hands = λ a more is. stays_there a (hand j more) is;
-      no_hands = λ a more is. old_hand c tops currents u.block region top words seat grows a j more differs is;
-      hand_words = λ a more k is below. refl;
+      rooms = λ a x is room. stays_there a x is;
+      no_rooms = λ a x is room. old_room c tops currents u.block region top words seat grows a j x differs is room;
+      room_words = λ a k x is room below. refl;
       promises = λ a more is. stays_there a (promised j more) is;
       no_promises = λ a more is. old_promise c tops currents u.block region top words seat grows a j more is;
       promise_words = λ a more k is below. refl;
@@ -460,7 +468,7 @@ module _ (c : Config) (u : World) (seat words : ℕ) (kind : Kind) where
       asked = λ is. is;
       marks = marks_grown j;
       copies = rely_copies c u grown_world j set_stays refl refl (λ a k b seated counted inside is from below. refl);
-      fields = fields_stored c u grown_world (λ r. refl) (λ r. refl) refl (λ a more is. stays_there a (filler more) is) (λ on a refs nums k n is below. inl refl);
+      fields = fields_stored c u grown_world (λ r. refl) (λ r. refl) refl (λ a more is. stays_there a (dead more) is) (λ on a refs nums k n is below. inl refl);
     }
 
     -- the store of the top puts the words into hand

@@ -23,7 +23,7 @@ pub fn copies_are_spared()
 /// computed begin to count. Where a copier found no room and nobody copies any more, it stays so. The header of an object, live, dead or
 /// moved, stays, or it was that of an object that has not moved and leads to a copy then, which the step publishes whole. And the words behind
 /// the header stay of an object of the collection set that may still be copied, of the old copy of one that has moved, of an object that is
-/// promised, and of words that only fill.
+/// promised, of a dead one, and of words that only fill.
 pub fn events_spare_copies()
     ensures { EventsSpareCopies }
 {}

@@ -16,7 +16,8 @@ use Rattle.full_words.specs.Plot.{AreThings, heap_end, packed_block, packed_top}
 use Rattle.full_words.specs.Pack.{CanPack}
 use Rattle.full_words.specs.Full.{packed}
 use Rattle.full_words.specs.Laws.{packed_world, IsBeforePacking, KeepsGraph}
-use Rattle.full_words.proofs.Named.{no_moved, no_spent, no_hand, no_promised, no_filler}
+use Rattle.heap_world.proofs.Roomless.{rooms_none}
+use Rattle.full_words.proofs.Named.{no_moved, no_spent, no_room, no_promised, no_dead, no_filler}
 use Rattle.full_words.proofs.Reached.{can_pack}
 use Rattle.full_words.proofs.Origin.{kept_inside, lie_apart, block_from}
 use Rattle.full_words.proofs.Packed.{slid_is_plotted, slid_is_filled}
@@ -57,20 +58,22 @@ module _ (c : Config) (memory : Word → ℕ) (block : Plot) (g : Graph) (now ke
       plotted = slid_is_plotted c top heap block g.object now kept can;
       filled = slid_is_filled c top heap block g.object now kept can;
       promises = λ a seat words is. absurd (no_promised new_block are_things a seat words is);
-      fillers = λ a words is. absurd (no_filler new_block are_things a words is);
+      deads = λ a words is. absurd (no_dead new_block are_things a words is);
       spents = λ a words to is. absurd (no_spent new_block are_things a words to is);
+      fillers = λ a words is. absurd (no_filler new_block are_things a words is);
     };
     contents = record { objects = objects_again; given = given };
     owned = record {
       free_word = free_again c (packed_top c kept);
       currents = record { within = λ seat r is. absurd (omega (arith, is)); own = λ seat r is. absurd (omega (arith, is)) };
-      rooms = λ a seat words is. absurd (no_hand new_block are_things a seat words is);
+      rooms = rooms_none c _ _ new_block (no_room new_block are_things);
     };
     phased = record { phase_is = omega arith; cset_is = λ other. refl; evac_is = λ other. refl };
     unwritten = record {
       blanks = λ a seat words is. absurd (no_promised new_block are_things a seat words is);
-      headers = λ a words is. absurd (no_filler new_block are_things a words is);
-      lengths = λ a words is. absurd (no_filler new_block are_things a words is);
+      headers = λ a words is. absurd (no_dead new_block are_things a words is);
+      lengths = λ a words is. absurd (no_dead new_block are_things a words is);
+      fillers = no_filler new_block are_things;
     };
     marked = none_marked c _ _ _ _ _ _ _ _ _ _ _ refl;
     evacuated = none_evacuated c _ _ _ _ _ _ _ _ _ _ _ (λ on. omega (arith, on)) (no_moved new_block are_things) (no_spent new_block are_things) (λ seat inside. refl);

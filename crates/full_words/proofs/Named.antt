@@ -1,8 +1,8 @@
 -- Where each piece is an object, whatever stands for a name is one.
 use Rattle.std.proofs.Common.{◌≡◌, ℕ, ◌≤◌, Some, sym, ap, ◌∙◌, arith}
-use Rattle.std.proofs.lemmas.Option.{same_Some}
+use Rattle.std.proofs.lemmas.Option.{none-some, same_Some}
 use Rattle.shen_graph.specs.declared.name.Name.{Name}
-use Rattle.heap_world.specs.World.{Block, thing, moved, spent, hand, promised, filler, words_of, Plot, name_at}
+use Rattle.heap_world.specs.World.{Block, thing, moved, spent, promised, dead, filler, words_of, room_of, Plot, name_at, HasNoRoom}
 use Rattle.heap_world.proofs.Pointing.{named_piece}
 use Rattle.full_words.specs.Plot.{AreThings, NamedAreThings}
 
@@ -22,11 +22,14 @@ module _ (block : Plot) (things : AreThings block) where
   pub no_spent : (a words to : ℕ) → block a ≡ Some (spent words to) → ⊥
   no_spent a words to is = let found = (things a (spent words to) is).3 in cc
 
-  pub no_hand : (a seat words : ℕ) → block a ≡ Some (hand seat words) → ⊥
-  no_hand a seat words is = let found = (things a (hand seat words) is).3 in cc
+  pub no_room : HasNoRoom block
+  no_room a seat x is room = none-some seat (ap room_of (sym (things a x is).3) ∙ room)
 
   pub no_promised : (a seat words : ℕ) → block a ≡ Some (promised seat words) → ⊥
   no_promised a seat words is = let found = (things a (promised seat words) is).3 in cc
+
+  pub no_dead : (a words : ℕ) → block a ≡ Some (dead words) → ⊥
+  no_dead a words is = let found = (things a (dead words) is).3 in cc
 
   pub no_filler : (a words : ℕ) → block a ≡ Some (filler words) → ⊥
   no_filler a words is = let found = (things a (filler words) is).3 in cc
@@ -36,4 +39,4 @@ module _ (block : Plot) (things : AreThings block) where
   some_words a piece is = let size = ap words_of (things a piece is).3 in omega (arith, size)
 
   pub named_things : NamedAreThings block
-  named_things = record { named = thing_at; unpromised = no_promised; unheld = no_hand; some = some_words }
+  named_things = record { named = thing_at; unpromised = no_promised; roomless = no_room; some = some_words }

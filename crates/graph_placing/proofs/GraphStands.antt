@@ -1,17 +1,18 @@
 -- A heap in which a text was placed stands for each graph of the text.
 use Rattle.std.proofs.Common.{◌≡◌, ℕ, ◌+◌, ◌<◌, false, List, length, Some, None, refl, sym, ap, ◌∙◌, subst, arith, add-zero}
 use Rattle.std.specs.Prelude.{Contains}
-use Rattle.std.proofs.lemmas.Option.{slice_get_within, get_or_from_slice_get}
+use Rattle.std.proofs.lemmas.Option.{none-some, slice_get_within, get_or_from_slice_get}
 use Rattle.heap_words.specs.declared.config.Config.{Config}
 use Rattle.heap_words.specs.Words.{Word, Phase, Cset, Free, Evac, Claim, Top, Tams, Current, Root, Count, Buffer, Wait, Answer, Grey, Black, Heap}
 use Rattle.shen_graph.specs.declared.name.Name.{Name}
 use Rattle.shen_graph.specs.Graph.{Graph, Object, Reference, hub}
 use Rattle.shen_graph.specs.GraphText.{Text, row_of, names_of, root_of}
-use Rattle.heap_world.specs.World.{World, Plot, Block, thing, moved, spent, hand, promised, filler, no_ghost, name_at, Points, IsThing, AreObjects, IsFreeWord, IsUsable, IsEvacuating, Shared}
+use Rattle.heap_world.specs.World.{World, Plot, Block, thing, moved, spent, hand, promised, dead, filler, no_ghost, name_at, room_of, HasNoRoom, Points, IsThing, AreObjects, IsFreeWord, IsUsable, IsEvacuating, Shared}
 use Rattle.heap_world.specs.Asking.{nothing}
 use Rattle.heap_world.specs.Represents.{Represents}
 use Rattle.heap_world.proofs.Keeping.{usable_now}
 use Rattle.heap_world.proofs.Copies.{none_evacuated}
+use Rattle.heap_world.proofs.Roomless.{rooms_none}
 use Rattle.heap_world.proofs.Unmarked.{none_marked}
 use Rattle.full_words.proofs.FreeWord.{free_again}
 use Rattle.graph_placing.specs.ByName.{address_of, Fits}
@@ -79,11 +80,14 @@ module _ (c : Config) (t : Text) (whole : IsPlaceable c t) (fits : Fits c t) (me
   no_spent : (a words to : ℕ) → block a ≡ Some (spent words to) → ⊥
   no_spent a words to is = let no = (plot_from c t n a (spent words to) is).3 in cc
 
-  no_hand : (a seat words : ℕ) → block a ≡ Some (hand seat words) → ⊥
-  no_hand a seat words is = let no = (plot_from c t n a (hand seat words) is).3 in cc
+  no_room : HasNoRoom block
+  no_room a seat x is room = none-some seat (ap room_of (plot_from c t n a x is).3 ∙ room)
 
   no_promised : (a seat words : ℕ) → block a ≡ Some (promised seat words) → ⊥
   no_promised a seat words is = let no = (plot_from c t n a (promised seat words) is).3 in cc
+
+  no_dead : (a words : ℕ) → block a ≡ Some (dead words) → ⊥
+  no_dead a words is = let no = (plot_from c t n a (dead words) is).3 in cc
 
   no_filler : (a words : ℕ) → block a ≡ Some (filler words) → ⊥
   no_filler a words is = let no = (plot_from c t n a (filler words) is).3 in cc
@@ -92,11 +96,7 @@ module _ (c : Config) (t : Text) (whole : IsPlaceable c t) (fits : Fits c t) (me
     -- a piece is an object of the graph
     abbrev IsHeld : ℕ → Block → Type 0
     IsHeld a (thing name refs nums) = (o : Object) × (g.object name ≡ Some o) × IsThing heap block a refs nums name o
-    IsHeld a (moved name refs nums to) = Unit {0}
-    IsHeld a (spent words to) = Unit {0}
-    IsHeld a (hand seat words) = Unit {0}
-    IsHeld a (promised seat words) = Unit {0}
-    IsHeld a (filler words) = Unit {0}
+    IsHeld a _ = Unit {0}
 
     held : (a : ℕ) (b : Block) → block a ≡ Some b → IsHeld a b
     held a b there =
@@ -148,8 +148,9 @@ module _ (c : Config) (t : Text) (whole : IsPlaceable c t) (fits : Fits c t) (me
         plotted = plotted c t whole fits (λ r. memory (Top r)) placed.tops;
         filled = filled c t whole fits (λ r. memory (Top r)) placed.tops;
         promises = λ a seat words there. absurd (no_promised a seat words there);
-        fillers = λ a words there. absurd (no_filler a words there);
+        deads = λ a words there. absurd (no_dead a words there);
         spents = λ a words to there. absurd (no_spent a words to there);
+        fillers = λ a words there. absurd (no_filler a words there);
       };
       contents = record { objects = objects; given = is.given };
       owned = record {
@@ -158,13 +159,14 @@ module _ (c : Config) (t : Text) (whole : IsPlaceable c t) (fits : Fits c t) (me
           within = λ seat r at. absurd (omega (arith, placed.others (Current seat) refl, at));
           own = λ seat r at. absurd (omega (arith, placed.others (Current seat) refl, at));
         };
-        rooms = λ a seat words there. absurd (no_hand a seat words there);
+        rooms = rooms_none c _ _ block no_room;
       };
       phased = record { phase_is = omega (arith, phase); cset_is = λ other. set; evac_is = λ other. copiers };
       unwritten = record {
         blanks = λ a seat words there. absurd (no_promised a seat words there);
-        headers = λ a words there. absurd (no_filler a words there);
-        lengths = λ a words there. absurd (no_filler a words there);
+        headers = λ a words there. absurd (no_dead a words there);
+        lengths = λ a words there. absurd (no_dead a words there);
+        fillers = no_filler;
       };
       marked = none_marked c (memory Phase) (λ m. memory (Grey m)) (λ m. memory (Black m)) (λ m. memory (Count m)) (λ m k. memory (Buffer m k)) (λ r. memory (Top r)) (λ r. memory (Tams r)) heap block (λ seat. None) (λ seat. None) phase;
       evacuated = evacuated;
@@ -185,7 +187,7 @@ module _ (c : Config) (t : Text) (whole : IsPlaceable c t) (fits : Fits c t) (me
       roots = roots;
       usable = λ m i below small.
           subst (λ (s : ℕ). IsUsable c s (memory Evac) block (memory (Root m i))) (sym set) (usable_now c (memory Evac) block no_moved (memory (Root m i)) (g.root (m + 1) i) (roots m i below small));
-      none = no_hand;
+      none = λ a seat words there. no_room a seat (hand seat words) there refl;
       asked = λ m below. (placed.others (Wait m) refl, placed.others (Answer m) refl, λ a words there. no_promised a m words there);
       heard = λ m refs nums below asks_it. absurd (cc);
       promised_to = λ a seat words there. absurd (no_promised a seat words there);

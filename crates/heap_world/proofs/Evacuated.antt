@@ -1,4 +1,4 @@
--- Evacuation goes on while words of other pieces change, a piece joins, and a piece becomes an object.
+-- Evacuation goes on while words of other pieces change, and a piece becomes an object.
 use Rattle.std.proofs.Common.{◌≡◌, ◌≢◌, ℕ, ◌+◌, ◌<◌, ◌≤◌, ◌⊎◌, Bool, Option, Some, None, inl, inr, ⊎_elim, refl, sym, ap, ◌∙◌, subst, arith}
 use Rattle.std.proofs.lemmas.Bool.{cases_eq}
 use Rattle.std.proofs.lemmas.Option.{none-some, same_Some}
@@ -10,13 +10,13 @@ use Rattle.regions.proofs.PlaceLemmas.{regions_tile}
 use Rattle.regions.specs.Sets.{IsIn}
 use Rattle.shen_graph.specs.declared.name.Name.{Name}
 use Rattle.shen_graph.specs.Graph.{Reference}
-use Rattle.heap_world.specs.World.{Block, thing, moved, spent, hand, promised, filler, words_of, name_at, Plot, Points, Body, body_at, IsCollected, IsMarkable, IsYoung, HasCopy, IsEvacuating}
+use Rattle.heap_world.specs.World.{Block, thing, moved, spent, promised, dead, words_of, room_of, name_at, Plot, Points, Body, body_at, IsCollected, IsMarkable, IsYoung, HasCopy, IsEvacuating}
 use Rattle.heap_world.proofs.Marked.{markable_stays}
 use Rattle.heap_world.proofs.Copies.{bodies_stay}
 use Rattle.heap_world.proofs.Pointing.{named_piece}
 
 -- what is marked in the set stays a copy where copies stay
-copy_stays : (u w : Plot) → ((a : ℕ) (b : Body) → body_at (u a) ≡ Some b → body_at (w a) ≡ Some b) → ((a words to : ℕ) → u a ≡ Some (spent words to) → w a ≡ Some (spent words to)) → (a : ℕ) → HasCopy u a → HasCopy w a
+pub copy_stays : (u w : Plot) → ((a : ℕ) (b : Body) → body_at (u a) ≡ Some b → body_at (w a) ≡ Some b) → ((a words to : ℕ) → u a ≡ Some (spent words to) → w a ≡ Some (spent words to)) → (a : ℕ) → HasCopy u a → HasCopy w a
 copy_stays u w bodies spents a (HasCopy.copy b is) = HasCopy.copy b (bodies a b is)
 copy_stays u w bodies spents a (HasCopy.spent_copy words to is) = HasCopy.spent_copy words to (spents a words to is)
 
@@ -57,61 +57,11 @@ module _ (c : Config) (phase cset evac claim free : ℕ) (top tams heap black : 
       nobodys = λ r seat own is. ⊎_elim (λ was. e.aside.nobodys r seat was is) (λ was_free. e.aside.in_use r was_free is) (owned r seat own);
       no_new = e.aside.no_new;
       no_promises = e.aside.no_promises;
+      no_rooms = e.aside.no_rooms;
     };
     kept = e.kept;
     units = e.units;
   }
-
-  -- A new piece in a hand at the top of a region that is not set aside, which rises: it is young.
-  pub evacuated_more : (new_top : ℕ → ℕ) (new_block : Plot) (address : ℕ) → (IsCollected c cset address → ⊥) → (2 ≤ phase → IsYoung c tams address) → ((r : ℕ) → top r ≤ new_top r)
-      → ((r : ℕ) → IsIn cset r → new_top r ≡ top r)
-      → ((a : ℕ) (b : Block) → block a ≡ Some b → new_block a ≡ Some b)
-      → ((a : ℕ) (b : Block) → new_block a ≡ Some b → (block a ≡ Some b) ⊎ ((a ≡ address) × (seat : ℕ) × (words : ℕ) × (b ≡ hand seat words)))
-      → IsEvacuating c phase cset evac claim free new_top tams heap black new_block owner copying working
-  evacuated_more new_top new_block address outside young rises set_tops stays only = record {
-    moved = record {
-      moveds = λ a refs nums to name is.
-          let was = e.moved.moveds a refs nums to name (old a (moved name refs nums to) (λ seat words same. (let differ = same in cc)) is) in
-          record { header = was.header; shape = was.shape; name_word = was.name_word; few_refs = was.few_refs; few_nums = was.few_nums; inside = was.inside; copy = stays to (thing name refs nums) was.copy; outside = was.outside; references = λ k below. let there = was.references k below in (there.0, points_on (heap (a + 3 + k)) there.0 there.1) };
-      spents = λ a words to is.
-          let was = e.moved.spents a words to (old a (spent words to) (λ seat more same. (let differ = same in cc)) is) in
-          record { header = was.header; shape = was.shape; inside = was.inside; copy = still to was.copy; piece = was.piece; there = stays to was.piece was.there; long = was.long; outside = was.outside };
-    };
-    counted = e.counted;
-    aside = record {
-      in_heap = e.aside.in_heap;
-      in_use = e.aside.in_use;
-      nobodys = e.aside.nobodys;
-      no_new = λ r is. set_tops r is ∙ e.aside.no_new r is;
-      no_promises = λ a seat words is. e.aside.no_promises a seat words (old a (promised seat words) (λ other more same. (let differ = same in cc)) is);
-    };
-    kept = record {
-      objects = λ on a is. e.kept.objects on a (was_markable a is);
-      young = λ on a seat words is. ⊎_elim (λ was. e.kept.young on a seat words was) (λ new. subst (IsYoung c tams) (sym new.0) (young on)) (only a (hand seat words) is);
-      floors = λ on r inside. (let floor = e.kept.floors on r inside in let rise = rises r in omega (arith, floor, rise));
-      unmarked = λ on a words is. e.kept.unmarked on a words (old a (filler words) (λ seat more same. (let differ = same in cc)) is);
-      fillers = λ on a words is. e.kept.fillers on a words (old a (filler words) (λ seat more same. (let differ = same in cc)) is);
-      only = λ on a above mark inside. copy_stays block new_block (bodies_stay block new_block (λ x refs nums name. stays x (thing name refs nums)) (λ x refs nums to name. stays x (moved name refs nums to))) (λ x words to. stays x (spent words to)) a (e.kept.only on a above mark inside);
-    };
-    units = λ on r before is. ⊎_elim
-        (λ swept. inl (⊎_elim (λ out. inl out) (λ none. inr (λ a refs nums name from to there. none a refs nums name from to (old a (thing name refs nums) (λ seat words same. (let differ = same in cc)) there))) swept))
-        (λ works. inr works)
-        (e.units on r before is);
-  }
-    where
-      old : (a : ℕ) (b : Block) → ((seat words : ℕ) → b ≡ hand seat words → ⊥) → new_block a ≡ Some b → block a ≡ Some b
-      old a b no_hand is = ⊎_elim (λ was. was) (λ new. absurd (no_hand new.1 new.2 new.3)) (only a b is)
-
-      points_on : (v : ℕ) (reference : Reference) → Points block v reference → Points new_block v reference
-      points_on v None is = is
-      points_on v (Some name) is = let piece = named_piece (block v) name is in ap name_at (stays v piece.0 piece.1) ∙ piece.2
-
-      still : (a : ℕ) → IsMarkable block a → IsMarkable new_block a
-      still = markable_stays block new_block (λ a refs nums name is. stays a (thing name refs nums) is) (λ a seat words is. IsMarkable.to_come seat words (stays a (promised seat words) is))
-
-      was_markable : (a : ℕ) → IsMarkable new_block a → IsMarkable block a
-      was_markable a (IsMarkable.object name refs nums is) = IsMarkable.object name refs nums (old a (thing name refs nums) (λ seat words same. (let differ = same in cc)) is)
-      was_markable a (IsMarkable.to_come seat words is) = IsMarkable.to_come seat words (old a (promised seat words) (λ other more same. (let differ = same in cc)) is)
 
   -- A piece that stands for no object becomes one. It is not set aside, and is marked or was allocated since mark start.
   pub evacuated_made : (new_block : Plot) (address refs nums : ℕ) (name : Name) (piece : Block) → block address ≡ Some piece → words_of piece ≡ 3 + refs + nums → new_block address ≡ Some (thing name refs nums)
@@ -137,16 +87,17 @@ module _ (c : Config) (phase cset evac claim free : ℕ) (top tams heap black : 
       nobodys = e.aside.nobodys;
       no_new = e.aside.no_new;
       no_promises = λ a seat words is. e.aside.no_promises a seat words (old a (promised seat words) (λ same. (let differ = same in cc)) is);
+      no_rooms = λ a seat x is room. e.aside.no_rooms a seat x (old_room a seat x is room) room;
     };
     kept = record {
       objects = λ on a is. ⊎_elim
           (λ (same : a ≡ address). subst (λ x. HasMark c black x ⊎ IsYoung c tams x) (sym same) (known on))
           (λ (other : a ≢ address). e.kept.objects on a (was_markable a other is))
           (cases_eq a address);
-      young = λ on a seat words is. e.kept.young on a seat words (old a (hand seat words) (λ same. (let differ = same in cc)) is);
+      young = λ on a seat x is room. e.kept.young on a seat x (old_room a seat x is room) room;
       floors = e.kept.floors;
-      unmarked = λ on a words is. e.kept.unmarked on a words (old a (filler words) (λ same. (let differ = same in cc)) is);
-      fillers = λ on a words is. e.kept.fillers on a words (old a (filler words) (λ same. (let differ = same in cc)) is);
+      unmarked = λ on a words is. e.kept.unmarked on a words (old a (dead words) (λ same. (let differ = same in cc)) is);
+      deads = λ on a words is. e.kept.deads on a words (old a (dead words) (λ same. (let differ = same in cc)) is);
       only = λ on a above mark inside. copy_stays block new_block (bodies_stay block new_block things moveds) spents a (e.kept.only on a above mark inside);
     };
     units = λ on r before is. ⊎_elim
@@ -163,6 +114,9 @@ module _ (c : Config) (phase cset evac claim free : ℕ) (top tams heap black : 
     where
       old : (a : ℕ) (b : Block) → (thing name refs nums ≡ b → ⊥) → new_block a ≡ Some b → block a ≡ Some b
       old a b differs is = only a b is (λ same. differs (same_Some (thing name refs nums) b (sym here ∙ ap new_block (sym same) ∙ is)))
+
+      old_room : (a seat : ℕ) (x : Block) → new_block a ≡ Some x → room_of x ≡ Some seat → block a ≡ Some x
+      old_room a seat x is room = old a x (λ same. none-some seat (ap room_of same ∙ room)) is
 
       away : (a : ℕ) (b : Block) (n : Name) → block a ≡ Some b → name_at (Some b) ≡ Some n → new_block a ≡ Some b
       away a b n is named = stays a b is (λ same. none-some n (sym unnamed ∙ ap name_at (sym room ∙ ap block (sym same) ∙ is) ∙ named))

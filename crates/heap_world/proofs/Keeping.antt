@@ -44,9 +44,9 @@ pub rely_same : (c : Config) (seat : ℕ) (u : World) → Rely c seat u u
 rely_same c seat u = record {
   names = λ a name is. is;
   targets = λ a refs nums name is. is;
-  hands = λ a words is. is;
-  no_hands = λ a words is. is;
-  hand_words = λ a words k is below. refl;
+  rooms = λ a x is room. is;
+  no_rooms = λ a x is room. is;
+  room_words = λ a k x is room below. refl;
   promises = λ a words is. is;
   no_promises = λ a words is. is;
   promise_words = λ a words k is below. refl;

@@ -14,8 +14,10 @@ pub mod Fields
 pub mod Units
 pub mod Unmoved
 pub mod Unmarked
+pub mod Loose
 pub mod NewPiece
 pub mod FreeRegions
+pub mod Roomless
 pub mod Objects
 pub mod NewObject
 pub mod SharedOut

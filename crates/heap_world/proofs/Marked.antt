@@ -1,12 +1,13 @@
--- What marking counts on stays while the heap changes: a word of it, a new piece at a top, or a piece that becomes an object.
-use Rattle.std.proofs.Common.{◌≡◌, ◌≢◌, ℕ, ◌+◌, ◌<◌, ◌≤◌, ◌⊎◌, inl, inr, ⊎_elim, true, Option, Some, refl, sym, ap, ◌∙◌, subst, arith}
+-- What marking counts on stays while the heap changes: a word of it, or a piece that becomes an object.
+use Rattle.std.proofs.Common.{◌≡◌, ◌≢◌, ℕ, ◌+◌, ◌<◌, ◌⊎◌, inl, inr, ⊎_elim, true, Option, Some, refl, sym, ap, ◌∙◌, subst}
 use Rattle.std.specs.Int.{bit_at}
 use Rattle.std.proofs.lemmas.Bool.{cases_eq}
+use Rattle.std.proofs.lemmas.Option.{none-some}
 use Rattle.heap_words.specs.declared.config.Config.{Config}
 use Rattle.heap_words.specs.Words.{Phase, Grey, Count, Buffer, Heap}
 use Rattle.regions.specs.Marks.{mark_word, mark_bit}
 use Rattle.shen_graph.specs.declared.name.Name.{Name}
-use Rattle.heap_world.specs.World.{Block, thing, hand, promised, filler, Plot, Snapshot, Scan, World, IsMarkable, IsYoung, IsNoted, NeedsNoMarking, AreMarks, AreEntries, KeepsSnapshot, NotedIn}
+use Rattle.heap_world.specs.World.{Block, thing, promised, dead, room_of, Plot, Snapshot, Scan, World, IsMarkable, IsYoung, IsNoted, NeedsNoMarking, AreMarks, AreEntries, KeepsSnapshot, NotedIn}
 use Rattle.heap_world.specs.Rely.{RelyMarks}
 use Rattle.heap_world.proofs.Traced.{traced_stored}
 
@@ -62,7 +63,7 @@ module _ (c : Config) (phase : ℕ) (grey black count : ℕ → ℕ) (buffer : �
     kept = marked.kept;
     older = marked.older;
     promises = marked.promises;
-    fillers = marked.fillers;
+    deads = marked.deads;
     young = marked.young;
     floors = marked.floors;
     tams_are = marked.tams_are;
@@ -75,34 +76,6 @@ module _ (c : Config) (phase : ℕ) (grey black count : ℕ → ℕ) (buffer : �
   pub marked_elsewhere : (after : ℕ → ℕ) → ((a refs nums k : ℕ) (name : Name) → block a ≡ Some (thing name refs nums) → k < refs → after (a + 3 + k) ≡ heap (a + 3 + k))
       → KeepsSnapshot c phase grey black count buffer top tams after block s recording scanning
   marked_elsewhere after stays = marked_stored after (λ a refs nums k name is below. inl (stays a refs nums k name (marked.kept a refs nums name is) below))
-
-  -- A new piece in a hand at the top of a region, which rises: it is young.
-  pub marked_more : (new_top : ℕ → ℕ) (new_block : Plot) (address : ℕ) → IsYoung c s.top address → ((r : ℕ) → top r ≤ new_top r)
-      → ((a : ℕ) (b : Block) → block a ≡ Some b → new_block a ≡ Some b)
-      → ((a : ℕ) (b : Block) → new_block a ≡ Some b → (block a ≡ Some b) ⊎ ((a ≡ address) × (seat : ℕ) × (words : ℕ) × (b ≡ hand seat words)))
-      → KeepsSnapshot c phase grey black count buffer new_top tams heap new_block s recording scanning
-  marked_more new_top new_block address young rises stays only = record {
-    empty = marked.empty;
-    traced = marked.traced;
-    led = marked.led;
-    old = marked.old;
-    kept = λ a refs nums name is. stays a (thing name refs nums) (marked.kept a refs nums name is);
-    older = λ on a refs nums name is. marked.older on a refs nums name (old a (thing name refs nums) (λ seat words same. (let differ = same in cc)) is);
-    promises = λ on a seat words is. marked.promises on a seat words (old a (promised seat words) (λ other more same. (let differ = same in cc)) is);
-    fillers = λ on a words is. marked.fillers on a words (old a (filler words) (λ other more same. (let differ = same in cc)) is);
-    young = λ on a seat words is. ⊎_elim (λ was. marked.young on a seat words was) (λ new. subst (IsYoung c s.top) (sym new.0) young) (only a (hand seat words) is);
-    floors = λ r inside. (let floor = marked.floors r inside in let rise = rises r in omega (arith, floor, rise));
-    tams_are = marked.tams_are;
-    greys = λ on. marks_stay c grey block new_block still (marked.greys on);
-    blacks = λ on. marks_stay c black block new_block still (marked.blacks on);
-    entries = λ on. entries_stay c count buffer block new_block still (marked.entries on);
-  }
-    where
-      old : (a : ℕ) (b : Block) → ((seat words : ℕ) → b ≡ hand seat words → ⊥) → new_block a ≡ Some b → block a ≡ Some b
-      old a b no_hand is = ⊎_elim (λ was. was) (λ new. absurd (no_hand new.1 new.2 new.3)) (only a b is)
-
-      still : (a : ℕ) → IsMarkable block a → IsMarkable new_block a
-      still = markable_stays block new_block (λ a refs nums name is. stays a (thing name refs nums) is) (λ a seat words is. IsMarkable.to_come seat words (stays a (promised seat words) is))
 
   -- A piece becomes an object: one that is young, or was named when marking began.
   pub marked_made : (new_block : Plot) (address refs nums : ℕ) (name : Name) → new_block address ≡ Some (thing name refs nums)
@@ -122,8 +95,8 @@ module _ (c : Config) (phase : ℕ) (grey black count : ℕ → ℕ) (buffer : �
         (λ (other : a ≢ address). marked.older on a more_refs more_nums n (only a (thing n more_refs more_nums) is other))
         (cases_eq a address);
     promises = λ on a seat words is. marked.promises on a seat words (only a (promised seat words) is (elsewhere a (promised seat words) is (λ differ. cc)));
-    fillers = λ on a words is. marked.fillers on a words (only a (filler words) is (elsewhere a (filler words) is (λ differ. cc)));
-    young = λ on a seat words is. marked.young on a seat words (only a (hand seat words) is (elsewhere a (hand seat words) is (λ differ. cc)));
+    deads = λ on a words is. marked.deads on a words (only a (dead words) is (elsewhere a (dead words) is (λ differ. cc)));
+    young = λ on a seat x is room. marked.young on a seat x (only a x is (elsewhere a x is (λ same. none-some seat (ap room_of same ∙ room)))) room;
     floors = marked.floors;
     tams_are = marked.tams_are;
     greys = λ on. marks_stay c grey block new_block still (marked.greys on);

@@ -12,9 +12,9 @@ use Rattle.shen_graph.specs.declared.name.Name.{Name}
 use Rattle.shen_graph.specs.Graph.{Object, same_name, blank}
 use Rattle.shen_graph.proofs.PlainLemmas.{same_name-true, same_name-itself}
 use Rattle.heap_words.specs.Encoding.{fresh_word}
-use Rattle.heap_world.specs.World.{Block, thing, spent, hand, promised, filler, words_of, Plot, name_at, Points, IsInUse, IsPlotted, IsFilled, IsThing, IsGiven, AreObjects, IsParsable, AreOwned, AreUnwritten, Snapshot, Scan, IsMarkable, IsYoung, IsCollected, KeepsSnapshot, IsEvacuating, IsCurrent, IsUpdating}
+use Rattle.heap_world.specs.World.{Block, thing, spent, hand, promised, dead, filler, spare, carved, words_of, room_of, Plot, name_at, Points, IsInUse, IsPlotted, IsFilled, IsThing, IsGiven, AreObjects, IsParsable, AreOwned, AreUnwritten, Snapshot, Scan, IsMarkable, IsYoung, IsCollected, KeepsSnapshot, IsEvacuating, IsCurrent, IsUpdating}
 use Rattle.heap_world.proofs.Updates.{updated, updated_there, updated_else}
-use Rattle.heap_world.proofs.Pointing.{named_piece}
+use Rattle.heap_world.proofs.Pointing.{named_piece, room_unnamed}
 use Rattle.heap_world.proofs.Objects.{two_names, where_object}
 use Rattle.heap_world.proofs.Unwritten.{unwritten_stays}
 use Rattle.heap_world.proofs.Marked.{markable_stays, marked_made}
@@ -84,9 +84,9 @@ module _ (c : Config) (top : ℕ → ℕ) (block : Plot) (address refs nums : �
       (λ (old : (a ≢ address) × (block a ≡ Some b)). old)
       (piece_cases block address new_thing a b is)
 
-  -- so was room in hand
-  pub old_hand : (a other words : ℕ) → new_block a ≡ Some (hand other words) → (a ≢ address) × (block a ≡ Some (hand other words))
-  old_hand a other words is = old_unnamed a (hand other words) refl is
+  -- so was room
+  pub old_room : (a seat : ℕ) (x : Block) → new_block a ≡ Some x → room_of x ≡ Some seat → (a ≢ address) × (block a ≡ Some x)
+  old_room a seat x is room = old_unnamed a x (room_unnamed x seat room) is
 
   -- and a promised object
   pub old_promise : (a other words : ℕ) → new_block a ≡ Some (promised other words) → (a ≢ address) × (block a ≡ Some (promised other words))
@@ -135,13 +135,14 @@ module _ (c : Config) (top : ℕ → ℕ) (block : Plot) (address refs nums : �
     plotted = plotted_again parsable.plotted;
     filled = filled_again parsable.filled;
     promises = λ a other words is. parsable.promises a other words (old_promise a other words is).1;
-    fillers = λ a words is. parsable.fillers a words (old_unnamed a (filler words) refl is).1;
+    deads = λ a words is. parsable.deads a words (old_unnamed a (dead words) refl is).1;
     spents = λ a words to is. parsable.spents a words to (old_unnamed a (spent words to) refl is).1;
+    fillers = λ a words is. parsable.fillers a words (old_unnamed a (filler words) refl is).1;
   }
 
   -- pieces that nobody writes to are as before
   pub unwritten_again : (heap : ℕ → ℕ) → AreUnwritten heap block → AreUnwritten heap new_block
-  unwritten_again heap = unwritten_stays heap heap block new_block (λ a other more is. ((old_promise a other more is).1, λ k below. refl)) (λ a more is. ((old_unnamed a (filler more) refl is).1, refl, refl))
+  unwritten_again heap = unwritten_stays heap heap block new_block (λ a other more is. ((old_promise a other more is).1, λ k below. refl)) (λ a more is. ((old_unnamed a (dead more) refl is).1, refl, refl)) (λ a more is. (old_unnamed a (filler more) refl is).1)
 
   -- a piece elsewhere stands where it stood
   elsewhere : (a : ℕ) (b : Block) → block a ≡ Some b → a ≢ address → new_block a ≡ Some b
@@ -232,7 +233,11 @@ module _ (c : Config) (top : ℕ → ℕ) (block : Plot) (address refs nums : �
   owned_again free current owner owned = record {
     free_word = owned.free_word;
     currents = owned.currents;
-    rooms = λ a other words is. owned.rooms a other words (old_hand a other words is).1;
+    rooms = record {
+      hands = λ a other words is. owned.rooms.hands a other words (old_unnamed a (hand other words) refl is).1;
+      spares = λ a other words is. owned.rooms.spares a other words (old_unnamed a (spare other words) refl is).1;
+      carveds = λ a other words is. owned.rooms.carveds a other words (old_unnamed a (carved other words) refl is).1;
+    };
   }
 
 -- the counts with one more for a thread

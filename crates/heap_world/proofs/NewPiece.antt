@@ -1,6 +1,6 @@
 -- A new piece at the top of a region: the words between the old top and the new one, in a seat's hand.
-use Rattle.std.proofs.Common.{◌≡◌, ◌≢◌, ℕ, ◌+◌, ◌<◌, ◌≤◌, ◌⊎◌, Bool, Option, Some, inl, inr, ⊎_elim, refl, sym, ap, ◌∙◌, subst, arith}
-use Rattle.std.proofs.lemmas.Bool.{cases_eq}
+use Rattle.std.proofs.Common.{◌≡◌, ◌≢◌, ℕ, ◌+◌, ◌<◌, ◌≤◌, Bool, Option, Some, ⊎_elim, refl, sym, ap, ◌∙◌, subst, arith}
+use Rattle.std.proofs.lemmas.Bool.{cases_eq, true≢false}
 use Rattle.std.proofs.lemmas.Option.{none-some, same_Some}
 use Rattle.heap_words.specs.declared.config.Config.{Config}
 use Rattle.heap_words.specs.Ranges.{seat_count}
@@ -9,17 +9,15 @@ use Rattle.regions.specs.Sets.{IsIn}
 use Rattle.regions.proofs.PlaceLemmas.{regions_tile}
 use Rattle.shen_graph.specs.declared.name.Name.{Name}
 use Rattle.shen_graph.specs.Graph.{Object}
-use Rattle.heap_world.specs.World.{Block, thing, spent, hand, promised, filler, Plot, name_at, AreObjects, IsFreeWord, AreCurrent, IsRoom, AreRooms, IsParsable, HasContents, AreOwned, AreUnwritten, Snapshot, Scan, IsMarkable, IsYoung, KeepsSnapshot, IsEvacuating, IsUpdating}
+use Rattle.heap_world.specs.World.{Block, spent, hand, promised, dead, filler, spare, carved, Plot, name_at, room_of, is_loose, IsCollected, IsFreeWord, AreCurrent, IsRoom, AreRooms, IsParsable, HasContents, AreOwned, AreUnwritten, Snapshot, Scan, IsMarkable, IsYoung, AreYoungRooms, KeepsSnapshot, IsEvacuating, IsUpdating}
 use Rattle.heap_world.proofs.Updates.{updated, updated_there, updated_else}
 use Rattle.heap_world.proofs.Unwritten.{unwritten_stays}
-use Rattle.heap_world.proofs.Marked.{markable_stays, marked_more}
-use Rattle.heap_world.proofs.Evacuated.{evacuated_more}
-use Rattle.heap_world.proofs.Updated.{updated_more}
+use Rattle.heap_world.proofs.Loose.{SameButLoose, markable_loose, contents_loose, marked_loose, evacuated_loose, updated_loose}
 use Rattle.heap_world.proofs.Joined as joined
 use Rattle.heap_world.proofs.Joined.{CanJoin}
-use Rattle.heap_world.proofs.Pieces.{some_words, piece_cases, object_reads}
+use Rattle.heap_world.proofs.Pieces.{some_words, piece_cases}
 
--- A region has room for so many words above its top. The heap is parsable, and room in hand is as it should be.
+-- A region has room for so many words above its top. The heap is parsable, and room is as it should be.
 pub record CanGrow (c : Config) (top current : ℕ → ℕ) (block : Plot) (region at words : ℕ) : Type 0 where
   pub parsable : IsParsable c top block
   pub rooms : AreRooms c top current block
@@ -60,19 +58,26 @@ module _ (c : Config) (top current : ℕ → ℕ) (block : Plot) (region at word
   pub names_stay : (a : ℕ) (name : Name) → name_at (block a) ≡ Some name → name_at (new_block a) ≡ Some name
   names_stay = joined.names_stay c top block region at (hand seat words) joins
 
-  -- an object of the new plot is an old one
-  pub old_thing : (a refs nums : ℕ) (name : Name) → new_block a ≡ Some (thing name refs nums) → block a ≡ Some (thing name refs nums)
-  old_thing a refs nums name is = ⊎_elim
-      (λ (new : (a ≡ address) × (hand seat words ≡ thing name refs nums)). let differ = new.1 in cc)
-      (λ (old : (a ≢ address) × (block a ≡ Some (thing name refs nums))). old.1)
-      (piece_cases block address (hand seat words) a (thing name refs nums) is)
+  -- all pieces but loose ones are the same
+  pub same_but_loose : SameButLoose block new_block
+  same_but_loose = record {
+    stays = λ a x fixed is. stays a x is;
+    came = λ a x fixed is. ⊎_elim
+        (λ (new : (a ≡ address) × (hand seat words ≡ x)). absurd (true≢false (ap is_loose new.1 ∙ fixed)))
+        (λ (old : (a ≢ address) × (block a ≡ Some x)). old.1)
+        (piece_cases block address (hand seat words) a x is);
+  }
 
-  -- room in the hand of another seat is old
-  pub old_hand : (a other more : ℕ) → other ≢ seat → new_block a ≡ Some (hand other more) → block a ≡ Some (hand other more)
-  old_hand a other more differs is = ⊎_elim
-      (λ (new : (a ≡ address) × (hand seat words ≡ hand other more)). let same = new.1 in let seats : other ≡ seat = cc in absurd (differs seats))
-      (λ (old : (a ≢ address) × (block a ≡ Some (hand other more))). old.1)
-      (piece_cases block address (hand seat words) a (hand other more) is)
+  -- a promised object is an old one
+  pub old_promise : (a other more : ℕ) → new_block a ≡ Some (promised other more) → block a ≡ Some (promised other more)
+  old_promise a other more is = same_but_loose.came a (promised other more) refl is
+
+  -- room of another seat is old
+  pub old_room : (a other : ℕ) (x : Block) → other ≢ seat → new_block a ≡ Some x → room_of x ≡ Some other → block a ≡ Some x
+  old_room a other x differs is room = ⊎_elim
+      (λ (new : (a ≡ address) × (hand seat words ≡ x)). absurd (differs (sym (same_Some seat other (ap room_of new.1 ∙ room)))))
+      (λ (old : (a ≢ address) × (block a ≡ Some x)). old.1)
+      (piece_cases block address (hand seat words) a x is)
 
   -- room in the seat's own hand is the new piece, where it had none
   pub own_hand : ((a more : ℕ) → block a ≡ Some (hand seat more) → ⊥) → (a more : ℕ) → new_block a ≡ Some (hand seat more) → (a ≡ address) × (more ≡ words)
@@ -81,26 +86,12 @@ module _ (c : Config) (top current : ℕ → ℕ) (block : Plot) (region at word
       (λ (old : (a ≢ address) × (block a ≡ Some (hand seat more))). absurd (none a more old.1))
       (piece_cases block address (hand seat words) a (hand seat more) is)
 
-  -- a promised object is an old one
-  pub old_promise : (a other more : ℕ) → new_block a ≡ Some (promised other more) → block a ≡ Some (promised other more)
-  old_promise a other more is = ⊎_elim
-      (λ (new : (a ≡ address) × (hand seat words ≡ promised other more)). let differ = new.1 in cc)
-      (λ (old : (a ≢ address) × (block a ≡ Some (promised other more))). old.1)
-      (piece_cases block address (hand seat words) a (promised other more) is)
-
-  -- words that only fill did so before
-  old_filler : (a more : ℕ) → new_block a ≡ Some (filler more) → block a ≡ Some (filler more)
-  old_filler a more is = ⊎_elim
-      (λ (new : (a ≡ address) × (hand seat words ≡ filler more)). let differ = new.1 in cc)
-      (λ (old : (a ≢ address) × (block a ≡ Some (filler more))). old.1)
-      (piece_cases block address (hand seat words) a (filler more) is)
-
-  -- an old copy of an object that was promised is an old piece
-  old_spent : (a more to : ℕ) → new_block a ≡ Some (spent more to) → block a ≡ Some (spent more to)
-  old_spent a more to is = ⊎_elim
-      (λ (new : (a ≡ address) × (hand seat words ≡ spent more to)). let differ = new.1 in cc)
-      (λ (old : (a ≢ address) × (block a ≡ Some (spent more to))). old.1)
-      (piece_cases block address (hand seat words) a (spent more to) is)
+  -- a piece of another kind is old
+  old_other : (a : ℕ) (x : Block) → (hand seat words ≡ x → ⊥) → new_block a ≡ Some x → block a ≡ Some x
+  old_other a x differs is = ⊎_elim
+      (λ (new : (a ≡ address) × (hand seat words ≡ x)). absurd (differs new.1))
+      (λ (old : (a ≢ address) × (block a ≡ Some x)). old.1)
+      (piece_cases block address (hand seat words) a x is)
 
   -- the heap is parsable
   pub parsable_more : IsParsable c new_top new_block
@@ -108,17 +99,19 @@ module _ (c : Config) (top current : ℕ → ℕ) (block : Plot) (region at word
     plotted = joined.plotted_more c top block region at (hand seat words) joins;
     filled = joined.filled_more c top block region at (hand seat words) joins grows.parsable.filled;
     promises = λ a other more is. grows.parsable.promises a other more (old_promise a other more is);
-    fillers = λ a more is. grows.parsable.fillers a more (old_filler a more is);
-    spents = λ a more to is. grows.parsable.spents a more to (old_spent a more to is);
+    deads = λ a more is. grows.parsable.deads a more (same_but_loose.came a (dead more) refl is);
+    spents = λ a more to is. grows.parsable.spents a more to (same_but_loose.came a (spent more to) refl is);
+    fillers = λ a more is. grows.parsable.fillers a more (old_other a (filler more) (λ differ. cc) is);
   }
 
   -- pieces that nobody writes to are as before
   pub unwritten_more : (heap : ℕ → ℕ) → AreUnwritten heap block → AreUnwritten heap new_block
-  unwritten_more heap = unwritten_stays heap heap block new_block (λ a other more is. (old_promise a other more is, λ k below. refl)) (λ a more is. (old_filler a more is, refl, refl))
+  unwritten_more heap = unwritten_stays heap heap block new_block (λ a other more is. (old_promise a other more is, λ k below. refl)) (λ a more is. (same_but_loose.came a (dead more) refl is, refl, refl))
+      (λ a more is. old_other a (filler more) (λ differ. cc) is)
 
   -- what can be marked still can
   pub markable_more : (a : ℕ) → IsMarkable block a → IsMarkable new_block a
-  markable_more = markable_stays block new_block (λ a refs nums name is. stays a (thing name refs nums) is) (λ a other more is. IsMarkable.to_come other more (stays a (promised other more) is))
+  markable_more = markable_loose c block new_block same_but_loose
 
   -- the new piece is young: the top at mark start is no higher than the one on which it stands
   young_there : (start : ℕ → ℕ) → ((r : ℕ) → r < c.regions → start r ≤ top r) → IsYoung c start address
@@ -135,50 +128,47 @@ module _ (c : Config) (top current : ℕ → ℕ) (block : Plot) (region at word
       (λ (other : r ≢ region). let now : new_top r ≡ top r = updated_else top region (at + words) r (λ e. other (sym e)) in omega (arith, now))
       (cases_eq r region)
 
-  -- a piece is an old one, or the new one
-  old_or_new : (a : ℕ) (b : Block) → new_block a ≡ Some b → (block a ≡ Some b) ⊎ ((a ≡ address) × (s : ℕ) × (w : ℕ) × (b ≡ hand s w))
-  old_or_new a b is = ⊎_elim
-      (λ (new : (a ≡ address) × (hand seat words ≡ b)). inr (new.0, seat, words, sym new.1))
-      (λ (old : (a ≢ address) × (block a ≡ Some b)). inl old.1)
-      (piece_cases block address (hand seat words) a b is)
+  -- room is young, where it was
+  young_more : (start : ℕ → ℕ) → ((r : ℕ) → r < c.regions → start r ≤ top r) → AreYoungRooms c start block → AreYoungRooms c start new_block
+  young_more start floors young a other x is room = ⊎_elim
+      (λ (new : (a ≡ address) × (hand seat words ≡ x)). subst (IsYoung c start) (sym new.0) (young_there start floors))
+      (λ (old : (a ≢ address) × (block a ≡ Some x)). young a other x old.1 room)
+      (piece_cases block address (hand seat words) a x is)
+
+  -- tops lie at or above what they were at or above
+  floors_more : (start : ℕ → ℕ) → ((r : ℕ) → r < c.regions → start r ≤ top r) → (r : ℕ) → r < c.regions → start r ≤ new_top r
+  floors_more start floors r inside = let floor = floors r inside in let rise = tops_rise r in omega (arith, floor, rise)
 
   -- marking goes on
   pub marking_more : (phase : ℕ) (grey black count : ℕ → ℕ) (buffer : ℕ → ℕ → ℕ) (tams heap : ℕ → ℕ) (s : Snapshot) (recording : ℕ → Option ℕ) (scanning : ℕ → Option Scan)
       → KeepsSnapshot c phase grey black count buffer top tams heap block s recording scanning → KeepsSnapshot c phase grey black count buffer new_top tams heap new_block s recording scanning
   marking_more phase grey black count buffer tams heap s recording scanning marked =
-      marked_more c phase grey black count buffer top tams heap block s recording scanning marked new_top new_block address (young_there s.top marked.floors)
-      tops_rise stays old_or_new
+      marked_loose c block new_block same_but_loose phase grey black count buffer top new_top tams heap s recording scanning marked
+      (λ on. young_more s.top marked.floors (marked.young on)) (floors_more s.top marked.floors)
 
   -- evacuation goes on, where the region is not set aside
-  pub evacuating_more : (phase cset evac claim free : ℕ) (tams heap black : ℕ → ℕ) (owner : ℕ → Option ℕ) (copying : ℕ → Bool) (working : ℕ → Option ℕ) → owner region ≡ Some seat
+  pub evacuating_more : (phase cset evac claim free : ℕ) (tams heap black : ℕ → ℕ) (owner : ℕ → Option ℕ) (copying : ℕ → Bool) (working : ℕ → Option ℕ) → (IsIn cset region → ⊥)
       → IsEvacuating c phase cset evac claim free top tams heap black block owner copying working → IsEvacuating c phase cset evac claim free new_top tams heap black new_block owner copying working
-  evacuating_more phase cset evac claim free tams heap black owner copying working own e =
+  evacuating_more phase cset evac claim free tams heap black owner copying working outside e =
       let inside : IsOf c region address = record { from = omega arith; before = (let room = grows.room in let some = grows.some in omega (arith, room, some)) } in
       let of_region : region_with c address ≡ region = regions_tile.of_no_other c region address inside in
-      evacuated_more c phase cset evac claim free top tams heap black block owner copying working e new_top new_block address
-      (λ collected. e.aside.nobodys region seat own (subst (λ r. IsIn cset r) of_region collected))
-      (λ on. young_there tams (e.kept.floors on))
-      tops_rise
-      (λ r is. updated_else top region (at + words) r (λ same. e.aside.nobodys region seat own (subst (λ r. IsIn cset r) (sym same) is)))
-      stays old_or_new
+      evacuated_loose c block new_block same_but_loose phase cset evac claim free top new_top tams heap black owner copying working e
+      (λ on. young_more tams (e.kept.floors on) (e.kept.young on))
+      (λ a other x is room collected. ⊎_elim
+      (λ (new : (a ≡ address) × (hand seat words ≡ x)). outside (subst (λ r. IsIn cset r) of_region (subst (IsCollected c cset) new.0 collected)))
+      (λ (old : (a ≢ address) × (block a ≡ Some x)). e.aside.no_rooms a other x old.1 room collected)
+      (piece_cases block address (hand seat words) a x is))
+      (λ on. floors_more tams (e.kept.floors on))
+      (λ r is. updated_else top region (at + words) r (λ now. outside (subst (λ r. IsIn cset r) (sym now) is)))
 
   -- updating goes on
   pub updating_more : (cset claim : ℕ) (limit heap : ℕ → ℕ) (scanning : ℕ → Option Scan) → IsUpdating c cset claim top limit heap block scanning → IsUpdating c cset claim new_top limit heap new_block scanning
-  updating_more cset claim limit heap scanning e = updated_more c cset claim top limit heap block scanning e new_top new_block address (young_there limit e.limits) tops_rise stays old_or_new
-
-  -- the words are those of the graph's objects
-  objects_more : (heap : ℕ → ℕ) (object : Name → Option Object) → AreObjects heap block object → AreObjects heap new_block object
-  objects_more heap object objects = record {
-    each = λ a refs nums name is.
-        let o = objects.each a refs nums name (old_thing a refs nums name is) in
-        (o.0, o.1, object_reads heap heap block new_block a refs nums name o.0 (λ k below. refl) names_stay o.2);
-    once = λ a b refs nums more_refs more_nums name is_a is_b.
-        objects.once a b refs nums more_refs more_nums name (old_thing a refs nums name is_a) (old_thing b more_refs more_nums name is_b);
-  }
+  updating_more cset claim limit heap scanning e =
+      updated_loose c block new_block same_but_loose cset claim top new_top limit heap scanning e (young_more limit e.limits e.young) (floors_more limit e.limits)
 
   -- what the heap has is the graph's
   pub contents_more : (heap : ℕ → ℕ) (object : Name → Option Object) (count : ℕ → ℕ) → HasContents c heap block object count → HasContents c heap new_block object count
-  contents_more heap object count contents = record { objects = objects_more heap object contents.objects; given = contents.given }
+  contents_more = contents_loose c block new_block same_but_loose
 
   -- a region with a new top is a seat's, and so not free
   free_more : (free : ℕ) (owner : ℕ → Option ℕ) → owner region ≡ Some seat → IsFreeWord c free top owner → IsFreeWord c free new_top owner
@@ -189,9 +179,10 @@ module _ (c : Config) (top current : ℕ → ℕ) (block : Plot) (region at word
     nobodys = free_word.nobodys;
   }
 
-  -- rooms in hand are as they should be
-  rooms_more : (owner : ℕ → Option ℕ) → seat < seat_count c.mutators c.helpers → current seat ≡ region + 1 → AreCurrent c current owner → ((a more : ℕ) → block a ≡ Some (hand seat more) → ⊥) → AreRooms c new_top current new_block
-  rooms_more owner seated is_current currents none a other more is = ⊎_elim
+  -- room in hand is as it should be
+  hands_more : (owner : ℕ → Option ℕ) → seat < seat_count c.mutators c.helpers → current seat ≡ region + 1 → AreCurrent c current owner → ((a more : ℕ) → block a ≡ Some (hand seat more) → ⊥)
+      → (a other more : ℕ) → new_block a ≡ Some (hand other more) → IsRoom c new_top current a other more
+  hands_more owner seated is_current currents none a other more is = ⊎_elim
       (λ (new : (a ≡ address) × (hand seat words ≡ hand other more)).
       let same = new.1 in
       let seats : seat ≡ other = cc in
@@ -200,7 +191,7 @@ module _ (c : Config) (top current : ℕ → ℕ) (block : Plot) (region at word
       (subst (λ w. IsRoom c new_top current a seat w) sizes
       (record { seated = seated; some = grows.some; region = region; is_current = is_current; from_base = (let one = new.0 in omega (arith, one)); at_top = (let now = updated_there top region (at + words) in let one = new.0 in omega (arith, now, one)) })))
       (λ (old : (a ≢ address) × (block a ≡ Some (hand other more))).
-      let is_room = grows.rooms a other more old.1 in
+      let is_room = grows.rooms.hands a other more old.1 in
       let differs : region ≢ is_room.region = λ same.
       let own : Some seat ≡ Some other = sym (currents.own seat region is_current) ∙ ap owner same ∙ currents.own other is_room.region is_room.is_current in
       none a more (subst (λ s. block a ≡ Some (hand s more)) (sym (same_Some seat other own)) old.1)
@@ -214,6 +205,14 @@ module _ (c : Config) (top current : ℕ → ℕ) (block : Plot) (region at word
         at_top = is_room.at_top ∙ ap (λ t. base_of c is_room.region + t) (sym (updated_else top region (at + words) is_room.region differs));
       })
       (piece_cases block address (hand seat words) a (hand other more) is)
+
+  -- so is all room
+  rooms_more : (owner : ℕ → Option ℕ) → seat < seat_count c.mutators c.helpers → current seat ≡ region + 1 → AreCurrent c current owner → ((a more : ℕ) → block a ≡ Some (hand seat more) → ⊥) → AreRooms c new_top current new_block
+  rooms_more owner seated is_current currents none = record {
+    hands = hands_more owner seated is_current currents none;
+    spares = λ a other more is. grows.rooms.spares a other more (old_other a (spare other more) (λ differ. cc) is);
+    carveds = λ a other more is. grows.rooms.carveds a other more (old_other a (carved other more) (λ differ. cc) is);
+  }
 
   -- and regions are owned
   pub owned_more : (free : ℕ) (owner : ℕ → Option ℕ) → seat < seat_count c.mutators c.helpers → current seat ≡ region + 1 → ((a more : ℕ) → block a ≡ Some (hand seat more) → ⊥)

@@ -3,7 +3,7 @@ use Rattle.std.proofs.Common.{◌≡◌, ◌≢◌, ℕ, ◌+◌, ◌<◌, ◌�
 use Rattle.std.specs.Prelude.{if◌then◌else◌, slice_get, slice_set}
 use Rattle.std.proofs.lemmas.Bool.{cases_Bool, cases_eq, cond-true, cond-false}
 use Rattle.std.proofs.lemmas.List.{length-set}
-use Rattle.std.proofs.lemmas.Option.{same_Some, slice_get_within, slice_get-get_or}
+use Rattle.std.proofs.lemmas.Option.{none-some, same_Some, slice_get_within, slice_get-get_or}
 use Rattle.heap_words.specs.declared.config.Config.{Config}
 use Rattle.heap_words.specs.Words.{Phase, Cset, Evac, Claim, Free, Grey, Black, Count, Buffer, Heap, Top, Tams, Limit, write}
 use Rattle.heap_words.specs.Ranges.{seat_count}
@@ -11,7 +11,7 @@ use Rattle.steps_base.proofs.Places.{slice_get-set_same, slice_get-set_other}
 use Rattle.shen_graph.specs.declared.name.Name.{Name}
 use Rattle.shen_graph.specs.Graph.{Reference, Object, Graph, same_name}
 use Rattle.shen_graph.proofs.PlainLemmas.{same_name-true, same_name-itself}
-use Rattle.heap_world.specs.World.{World, Block, thing, moved, spent, hand, promised, filler, words_of, Plot, Body, body_at, body_words, IsCollected, Points, TargetIn, IsPlotted, IsThing, AreObjects, IsMarkable, IsCurrent, NeedsNoMarking, IsCovered, NotedIn, Shared}
+use Rattle.heap_world.specs.World.{World, Block, thing, moved, spent, promised, dead, words_of, room_of, Plot, Body, body_at, body_words, IsCollected, Points, TargetIn, IsPlotted, IsThing, AreObjects, IsMarkable, IsCurrent, NeedsNoMarking, IsCovered, NotedIn, Shared}
 use Rattle.heap_world.specs.Rely.{Rely}
 use Rattle.heap_world.proofs.Updates.{updated, updated_same, updated_else}
 use Rattle.heap_world.proofs.Unwritten.{unwritten_stays}
@@ -201,11 +201,12 @@ module _ (c : Config) (u : World) (a refs nums at value : ℕ) (name : Name) (o 
     phased = shared.phased;
     unwritten = unwritten_stays (λ b. u.memory (Heap b)) (updated (λ b. u.memory (Heap b)) at value) u.block u.block
         (λ b seat words is_promised. (is_promised, λ k below. else_stays from_start to_end b k (promised seat words) is_promised (λ differ. cc) below))
-        (λ b words is_filler. let long = shared.parsable.fillers b words is_filler in (
-          is_filler,
-          head_stays from_start to_end b (filler words) is_filler (λ differ. cc) (omega (arith, long)),
-          else_stays from_start to_end b 1 (filler words) is_filler (λ differ. cc) (omega (arith, long)),
+        (λ b words is_dead. let long = shared.parsable.deads b words is_dead in (
+          is_dead,
+          head_stays from_start to_end b (dead words) is_dead (λ differ. cc) (omega (arith, long)),
+          else_stays from_start to_end b 1 (dead words) is_dead (λ differ. cc) (omega (arith, long)),
         ))
+        (λ b words is_filler. is_filler)
         shared.unwritten;
     marked = marked_stored c (u.memory Phase) (λ n. u.memory (Grey n)) (λ n. u.memory (Black n)) (λ t. u.memory (Count t)) (λ t k. u.memory (Buffer t k)) (λ r. u.memory (Top r)) (λ r. u.memory (Tams r))
         (λ b. u.memory (Heap b)) u.block u.ghost.snapshot u.ghost.recording u.ghost.scanning shared.marked (updated (λ b. u.memory (Heap b)) at value) (field_stays from_start to_end covered);
@@ -237,12 +238,11 @@ module _ (c : Config) (u : World) (a refs nums at value : ℕ) (name : Name) (o 
   rely_stored behind to_end current seat roots = let from_start : a ≤ at = omega (arith, behind) in record {
     names = λ b n is. is;
     targets = λ b more_refs more_nums n has. record { piece = has.piece; safe = has.safe };
-    hands = λ b words is. is;
-    no_hands = λ b words is. is;
-    hand_words = λ b words k is below. updated_else (λ b. u.memory (Heap b)) at value (b + k) (λ same.
-        let same_piece : b ≡ a = one_piece c (λ r. u.memory (Top r)) u.block shared.parsable.plotted b a (b + k) (hand seat words) (thing name refs nums) is target.piece (omega arith) (omega arith) (omega arith) (omega arith) in
-        let both : Some (hand seat words) ≡ Some (thing name refs nums) = sym is ∙ ap u.block same_piece ∙ target.piece in
-        cc);
+    rooms = λ b x is room. is;
+    no_rooms = λ b x is room. is;
+    room_words = λ b k x is room below. updated_else (λ b. u.memory (Heap b)) at value (b + k) (λ same.
+        let same_piece : b ≡ a = one_piece c (λ r. u.memory (Top r)) u.block shared.parsable.plotted b a (b + k) x (thing name refs nums) is target.piece (omega arith) (omega (arith, below)) (omega (arith, same, from_start)) (omega (arith, same, to_end)) in
+        none-some seat (ap room_of (same_Some (thing name refs nums) x (sym target.piece ∙ ap u.block (sym same_piece) ∙ is)) ∙ room));
     promises = λ b words is. is;
     no_promises = λ b words is. is;
     promise_words = λ b words k is below. updated_else (λ b. u.memory (Heap b)) at value (b + k) (λ same.

@@ -7,7 +7,7 @@ use Rattle.heap_words.specs.declared.config.Config.{Config}
 use Rattle.regions.specs.Place.{base_of}
 use Rattle.shen_graph.specs.declared.name.Name.{Name}
 use Rattle.shen_graph.specs.Graph.{Object}
-use Rattle.heap_world.specs.World.{Block, thing, moved, spent, hand, promised, filler, words_of, Plot, name_at, Points, IsPlotted, IsThing, AreRooms, IsParsable}
+use Rattle.heap_world.specs.World.{Block, thing, moved, spent, hand, promised, dead, filler, spare, carved, words_of, Plot, name_at, Points, IsPlotted, IsThing, AreRooms, IsParsable}
 use Rattle.heap_world.proofs.Updates.{updated, updated_same, updated_else}
 use Rattle.heap_world.proofs.Keeping.{points_stay}
 
@@ -22,9 +22,12 @@ pub some_words : (c : Config) (top current : ℕ → ℕ) (block : Plot) → IsP
 some_words c top current block parsable rooms a (thing name refs nums) is = omega arith
 some_words c top current block parsable rooms a (moved name refs nums to) is = omega arith
 some_words c top current block parsable rooms a (spent words to) is = let long = parsable.spents a words to is in omega (arith, long)
-some_words c top current block parsable rooms a (hand seat words) is = let room = rooms a seat words is in omega (arith, room.some)
+some_words c top current block parsable rooms a (hand seat words) is = let room = rooms.hands a seat words is in omega (arith, room.some)
 some_words c top current block parsable rooms a (promised seat words) is = let long = parsable.promises a seat words is in omega (arith, long)
-some_words c top current block parsable rooms a (filler words) is = (let long = parsable.fillers a words is in omega (arith, long))
+some_words c top current block parsable rooms a (dead words) is = (let long = parsable.deads a words is in omega (arith, long))
+some_words c top current block parsable rooms a (filler words) is = parsable.fillers a words is
+some_words c top current block parsable rooms a (spare seat words) is = absurd (rooms.spares a seat words is)
+some_words c top current block parsable rooms a (carved seat words) is = absurd (rooms.carveds a seat words is)
 
 -- A piece ends before a region, or lies in its part in use, or begins behind it.
 abbrev Beside : Config → (ℕ → ℕ) → ℕ → ℕ → Block → Type 0

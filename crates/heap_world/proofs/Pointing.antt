@@ -8,7 +8,7 @@ use Rattle.heap_words.specs.Words.{Heap, is_word}
 use Rattle.heap_words.proofs.Bounds.{end_small}
 use Rattle.shen_graph.specs.declared.name.Name.{Name}
 use Rattle.shen_graph.specs.Graph.{Reference}
-use Rattle.heap_world.specs.World.{Block, thing, moved, spent, hand, promised, filler, words_of, Plot, name_at, Body, body_of, body_at, body_words, Points, IsPlotted}
+use Rattle.heap_world.specs.World.{Block, thing, moved, spent, hand, promised, dead, filler, spare, carved, words_of, room_of, Plot, name_at, Body, body_of, body_at, body_words, Points, IsPlotted}
 
 -- what stands for an object at an address is a copy of it
 pub named_body : (o : Option Block) (n : Name) → name_at o ≡ Some n → (refs : ℕ) × (nums : ℕ) × (body_at o ≡ Some (body_of n refs nums))
@@ -17,7 +17,10 @@ named_body (Some (moved name refs nums to)) n is = (refs, nums, ap (λ m. Some (
 named_body (Some (spent words to)) n is = cc
 named_body (Some (hand seat words)) n is = cc
 named_body (Some (promised seat words)) n is = cc
+named_body (Some (dead words)) n is = cc
 named_body (Some (filler words)) n is = cc
+named_body (Some (spare seat words)) n is = cc
+named_body (Some (carved seat words)) n is = cc
 named_body None n is = cc
 
 -- a copy stands for the object
@@ -27,7 +30,10 @@ body_named (Some (moved name refs nums to)) b is = ap (λ x. Some x.name) (same_
 body_named (Some (spent words to)) b is = cc
 body_named (Some (hand seat words)) b is = cc
 body_named (Some (promised seat words)) b is = cc
+body_named (Some (dead words)) b is = cc
 body_named (Some (filler words)) b is = cc
+body_named (Some (spare seat words)) b is = cc
+body_named (Some (carved seat words)) b is = cc
 body_named None b is = cc
 
 -- a copy is the current one or an old one
@@ -37,7 +43,10 @@ copy_cases (Some (moved name refs nums to)) b is = inr (to, ap (λ x. Some (move
 copy_cases (Some (spent words to)) b is = cc
 copy_cases (Some (hand seat words)) b is = cc
 copy_cases (Some (promised seat words)) b is = cc
+copy_cases (Some (dead words)) b is = cc
 copy_cases (Some (filler words)) b is = cc
+copy_cases (Some (spare seat words)) b is = cc
+copy_cases (Some (carved seat words)) b is = cc
 copy_cases None b is = cc
 
 -- it is a piece of so many words
@@ -49,6 +58,18 @@ pub named_thing : (o : Option Block) (n : Name) → ((refs nums to : ℕ) → o 
 named_thing o n unmoved is =
     let body = named_body o n is in
     (body.0, body.1, ⊎_elim (λ now. now) (λ was. absurd (unmoved body.0 body.1 was.0 was.1)) (copy_cases o (body_of n body.0 body.1) body.2))
+
+-- room stands for no object
+pub room_unnamed : (x : Block) (seat : ℕ) → room_of x ≡ Some seat → name_at (Some x) ≡ None
+room_unnamed (thing name refs nums) seat is = cc
+room_unnamed (moved name refs nums to) seat is = cc
+room_unnamed (spent words to) seat is = cc
+room_unnamed (hand other words) seat is = refl
+room_unnamed (promised other words) seat is = cc
+room_unnamed (dead words) seat is = cc
+room_unnamed (filler words) seat is = cc
+room_unnamed (spare other words) seat is = refl
+room_unnamed (carved other words) seat is = refl
 
 -- a piece stands where a name does
 pub named_piece : (o : Option Block) (n : Name) → name_at o ≡ Some n → (x : Block) × (o ≡ Some x) × (name_at (Some x) ≡ Some n)

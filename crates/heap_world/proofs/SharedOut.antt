@@ -17,7 +17,7 @@ module _ (c : Config) (w : World) (shared : Shared c w) where
   -- room in hand of a region ends at the region's top
   ends_at_top : (r a seat words : ℕ) → IsOf c r a → w.block a ≡ Some (hand seat words) → a + words ≡ base_of c r + w.memory (Top r)
   ends_at_top r a seat words of is =
-      let room = shared.owned.rooms a seat words is in
+      let room = shared.owned.rooms.hands a seat words is in
       let most = shared.parsable.plotted.tops room.region (shared.owned.currents.within seat room.region room.is_current) in
       ⊎_elim
       (λ (same : room.region ≡ r). room.at_top ∙ ap (λ k. base_of c k + w.memory (Top k)) same)
@@ -59,8 +59,8 @@ module _ (c : Config) (w : World) (shared : Shared c w) where
       let differ : a ≢ b = λ same. ⊎_elim (λ less. omega (arith, less, same)) (λ greater. omega (arith, greater, same)) order in
       let one = last r a b seat words (hand other more) of_a of_b is_a is_b differ in
       let two = last r b a other more (hand seat words) of_b of_a is_b is_a (λ same. differ (sym same)) in
-      let some = (shared.owned.rooms a seat words is_a).some in
-      let some_more = (shared.owned.rooms b other more is_b).some in
+      let some = (shared.owned.rooms.hands a seat words is_a).some in
+      let some_more = (shared.owned.rooms.hands b other more is_b).some in
       absurd (omega (arith, one, two, some, some_more)))
       (cases_order a b)
 

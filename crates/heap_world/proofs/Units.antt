@@ -5,7 +5,7 @@ use Rattle.std.proofs.lemmas.Option.{none-some}
 use Rattle.heap_words.specs.declared.config.Config.{Config}
 use Rattle.heap_words.specs.Ranges.{seat_count}
 use Rattle.heap_words.specs.Words.{Phase, Cset, Evac, Claim, Top, Limit, Heap}
-use Rattle.regions.specs.Place.{base_of, region_with, IsOf}
+use Rattle.regions.specs.Place.{region_with, IsOf}
 use Rattle.regions.proofs.PlaceLemmas.{regions_tile}
 use Rattle.heap_words.specs.Counter.{is_out_of_room}
 use Rattle.shen_graph.specs.declared.name.Name.{Name}

@@ -18,7 +18,7 @@ none_marked_in c phase grey black count buffer top tams heap block recording sca
   kept = λ a refs nums name there. absurd (none-some _ there);
   older = λ on. absurd (is on);
   promises = λ on. absurd (is on);
-  fillers = λ on. absurd (is on);
+  deads = λ on. absurd (is on);
   young = λ on. absurd (is on);
   floors = λ r inside. omega arith;
   tams_are = λ on. absurd (is on);

@@ -1,9 +1,10 @@
--- Updating of references goes on while words of objects change, a piece joins, and a piece becomes an object.
-use Rattle.std.proofs.Common.{◌≡◌, ◌≢◌, ℕ, ◌+◌, ◌<◌, ◌≤◌, ◌⊎◌, Option, Some, inl, inr, ⊎_elim, sym, ap, ◌∙◌, subst, arith}
+-- Updating of references goes on while words of objects change, and a piece becomes an object.
+use Rattle.std.proofs.Common.{◌≡◌, ◌≢◌, ℕ, ◌+◌, ◌<◌, ◌⊎◌, Option, Some, inl, inr, ⊎_elim, sym, ap, ◌∙◌, subst, arith}
 use Rattle.std.proofs.lemmas.Bool.{cases_eq}
+use Rattle.std.proofs.lemmas.Option.{none-some, same_Some}
 use Rattle.heap_words.specs.declared.config.Config.{Config}
 use Rattle.shen_graph.specs.declared.name.Name.{Name}
-use Rattle.heap_world.specs.World.{Block, thing, hand, Plot, Scan, IsCollected, IsUsable, IsYoung, IsCurrent, IsToUpdate, IsUpdating}
+use Rattle.heap_world.specs.World.{Block, thing, room_of, Plot, Scan, IsCollected, IsUsable, IsCurrent, IsToUpdate, IsUpdating}
 
 -- a word that may be used as a reference is current
 pub usable_current : (c : Config) (cset evac : ℕ) (block : Plot) (word : ℕ) → IsUsable c cset evac block word → IsCurrent block word
@@ -35,24 +36,6 @@ module _ (c : Config) (cset claim : ℕ) (top limit heap : ℕ → ℕ) (block :
       → IsUpdating c cset claim top limit after block scanning
   updated_elsewhere after stays = updated_stored after (λ a refs nums k name is below. inl (stays a refs nums k name is below))
 
-  -- A new piece in a hand at the top of a region, which rises: it lies at or above the limit.
-  pub updated_more : (new_top : ℕ → ℕ) (new_block : Plot) (address : ℕ) → IsYoung c limit address → ((r : ℕ) → top r ≤ new_top r)
-      → ((a : ℕ) (b : Block) → block a ≡ Some b → new_block a ≡ Some b)
-      → ((a : ℕ) (b : Block) → new_block a ≡ Some b → (block a ≡ Some b) ⊎ ((a ≡ address) × (seat : ℕ) × (words : ℕ) × (b ≡ hand seat words)))
-      → IsUpdating c cset claim new_top limit heap new_block scanning
-  updated_more new_top new_block address young rises stays only = record {
-    outside = λ a refs nums name is. e.outside a refs nums name (old a refs nums name is);
-    renewed = λ a refs nums k name is below. ⊎_elim
-        (λ current. inl (current_stays block new_block (λ b more_refs more_nums n. stays b (thing n more_refs more_nums)) (heap (a + 3 + k)) current))
-        (λ due. inr due)
-        (e.renewed a refs nums k name (old a refs nums name is) below);
-    young = λ a seat words is. ⊎_elim (λ was. e.young a seat words was) (λ new. subst (IsYoung c limit) (sym new.0) young) (only a (hand seat words) is);
-    limits = λ r inside. (let least = e.limits r inside in let rise = rises r in omega (arith, least, rise));
-  }
-    where
-      old : (a refs nums : ℕ) (name : Name) → new_block a ≡ Some (thing name refs nums) → block a ≡ Some (thing name refs nums)
-      old a refs nums name is = ⊎_elim (λ was. was) (λ new. (let differ = new.3 in cc)) (only a (thing name refs nums) is)
-
   -- A piece that stands for no object becomes one, outside of the collection set, whose references are current.
   pub updated_made : (new_block : Plot) (address refs nums : ℕ) (name : Name) → new_block address ≡ Some (thing name refs nums)
       → (IsCollected c cset address → ⊥) → ((k : ℕ) → k < refs → IsCurrent new_block (heap (address + 3 + k)))
@@ -74,8 +57,8 @@ module _ (c : Config) (cset claim : ℕ) (top limit heap : ℕ → ℕ) (block :
         (λ due. inr due)
         (e.renewed a more_refs more_nums k n (only a (thing n more_refs more_nums) is other) below))
         (cases_eq a address);
-    young = λ a seat words is. e.young a seat words (only a (hand seat words) is (λ same.
-        let both : Some (thing name refs nums) ≡ Some (hand seat words) = sym here ∙ ap new_block (sym same) ∙ is in
-        cc));
+    young = λ a seat x is room. e.young a seat x
+        (only a x is (λ same. none-some seat (ap room_of (same_Some (thing name refs nums) x (sym here ∙ ap new_block (sym same) ∙ is)) ∙ room)))
+        room;
     limits = e.limits;
   }

@@ -8,7 +8,7 @@ use Rattle.regions.specs.Sets.{IsIn}
 use Rattle.heap_words.specs.Counter.{is_out_of_room, IsQuiet}
 use Rattle.regions.specs.Marks.{HasMark}
 use Rattle.shen_graph.specs.declared.name.Name.{Name}
-use Rattle.heap_world.specs.World.{World, Block, TargetIn, thing, moved, spent, hand, promised, filler, words_of, name_at, Body, body_at, body_words, IsCollected, IsMarkable, IsCurrent, NotedIn}
+use Rattle.heap_world.specs.World.{World, Block, TargetIn, thing, moved, spent, promised, dead, words_of, room_of, name_at, Body, body_at, body_words, IsCollected, IsMarkable, IsCurrent, NotedIn}
 
 -- What holds of marking whoever steps, outside pauses: the phase and the snapshot stay, but while objects are evacuated what can be marked
 -- stays so, with its shape, and what is noted stays noted.
@@ -69,25 +69,24 @@ pub record RelyCopies (c : Config) (seat : ℕ) (u w : World) : Type 0 where
   pub words : (a k : ℕ) (b : Body) → seat < seat_count c.mutators c.helpers → u.ghost.copying seat ≡ true → IsCollected c (u.memory Cset) a → body_at (u.block a) ≡ Some b
       → 1 ≤ k → k < body_words b → w.memory (Heap (a + k)) ≡ u.memory (Heap (a + k))
 
--- What holds of the updating of references whoever steps, outside pauses: tops at mark start and limits stay, and so do words that only
--- fill; once all regions are claimed they stay claimed; and while references are updated each field of an object stays as it is or is
--- current then.
+-- What holds of the updating of references whoever steps, outside pauses: tops at mark start and limits stay, and so do dead objects; once
+-- all regions are claimed they stay claimed; and while references are updated each field of an object stays as it is or is current then.
 pub record KeepsFields (c : Config) (u w : World) : Type 0 where
   pub tams : (r : ℕ) → w.memory (Tams r) ≡ u.memory (Tams r)
   pub limits : (r : ℕ) → w.memory (Limit r) ≡ u.memory (Limit r)
-  pub fillers : (a words : ℕ) → u.block a ≡ Some (filler words) → w.block a ≡ Some (filler words)
+  pub deads : (a words : ℕ) → u.block a ≡ Some (dead words) → w.block a ≡ Some (dead words)
   pub claims : c.regions ≤ u.memory Claim → c.regions ≤ w.memory Claim
   pub fields : u.memory Phase ≡ 3 → (a refs nums k : ℕ) (name : Name) → u.block a ≡ Some (thing name refs nums) → k < refs
       → (w.memory (Heap (a + 3 + k)) ≡ u.memory (Heap (a + 3 + k))) ⊎ IsCurrent w.block (w.memory (Heap (a + 3 + k)))
 
 -- What the machine of a seat relies on while another machine leads from u to w: objects stay where they are; what is the
--- seat's own stays as it is; phase and collection set stay, which only a pause changes, and so does that a mutator waits.
+-- seat's own stays as it is, as its room does; phase and collection set stay, which only a pause changes, and so does that a mutator waits.
 pub record Rely (c : Config) (seat : ℕ) (u w : World) : Type 0 where
   pub names : (a : ℕ) (name : Name) → name_at (u.block a) ≡ Some name → name_at (w.block a) ≡ Some name
   pub targets : (a refs nums : ℕ) (name : Name) → TargetIn c u a refs nums name → TargetIn c w a refs nums name
-  pub hands : (a words : ℕ) → u.block a ≡ Some (hand seat words) → w.block a ≡ Some (hand seat words)
-  pub no_hands : (a words : ℕ) → w.block a ≡ Some (hand seat words) → u.block a ≡ Some (hand seat words)
-  pub hand_words : (a words k : ℕ) → u.block a ≡ Some (hand seat words) → k < words → w.memory (Heap (a + k)) ≡ u.memory (Heap (a + k))
+  pub rooms : (a : ℕ) (x : Block) → u.block a ≡ Some x → room_of x ≡ Some seat → w.block a ≡ Some x
+  pub no_rooms : (a : ℕ) (x : Block) → w.block a ≡ Some x → room_of x ≡ Some seat → u.block a ≡ Some x
+  pub room_words : (a k : ℕ) (x : Block) → u.block a ≡ Some x → room_of x ≡ Some seat → k < words_of x → w.memory (Heap (a + k)) ≡ u.memory (Heap (a + k))
   pub promises : (a words : ℕ) → u.block a ≡ Some (promised seat words) → w.block a ≡ Some (promised seat words)
   pub no_promises : (a words : ℕ) → w.block a ≡ Some (promised seat words) → u.block a ≡ Some (promised seat words)
   pub promise_words : (a words k : ℕ) → u.block a ≡ Some (promised seat words) → k < words → w.memory (Heap (a + k)) ≡ u.memory (Heap (a + k))

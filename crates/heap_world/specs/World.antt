@@ -16,15 +16,19 @@ use Rattle.heap_world.specs.Objects.{Refers, IsObject}
 -- A piece of the part of a region that is in use: the current copy of an object of a name, with so many references and numbers; an
 -- old copy of one, whose current copy is at an address; an old copy, of so many words, of an object that a pause had made for a mutator
 -- when its current copy was made at an address; so many words that a machine has in hand; an object of so many words that a pause has
--- made for the mutator of a seat, which waits for it and has not taken it into the graph yet; or so many words that only fill, and are no
--- object and nobody's.
+-- made for the mutator of a seat, which waits for it and has not taken it into the graph yet; a dead object, which nothing leads to, of so
+-- many words; so many words that only fill, and never were an object; so many free words of a seat's buffer; or so many words that a seat
+-- has carved for a buffer. No step makes a piece of the last three kinds yet (`AreRooms`, `AreUnwritten`).
 pub data Block : Type 0 where
   thing : (name : Name) (refs nums : ℕ) → Block
   moved : (name : Name) (refs nums to : ℕ) → Block
   spent : (words to : ℕ) → Block
   hand : (seat words : ℕ) → Block
   promised : (seat words : ℕ) → Block
+  dead : (words : ℕ) → Block
   filler : (words : ℕ) → Block
+  spare : (seat words : ℕ) → Block
+  carved : (seat words : ℕ) → Block
 
 abbrev pub words_of : Block → ℕ
 words_of (thing name refs nums) = 3 + refs + nums
@@ -32,7 +36,34 @@ words_of (moved name refs nums to) = 3 + refs + nums
 words_of (spent words to) = words
 words_of (hand seat words) = words
 words_of (promised seat words) = words
+words_of (dead words) = words
 words_of (filler words) = words
+words_of (spare seat words) = words
+words_of (carved seat words) = words
+
+-- the seat whose room a piece is: words in its hand, free words of its buffer, or words that it has carved
+abbrev pub room_of : Block → Option ℕ
+room_of (thing name refs nums) = None
+room_of (moved name refs nums to) = None
+room_of (spent words to) = None
+room_of (hand seat words) = Some seat
+room_of (promised seat words) = None
+room_of (dead words) = None
+room_of (filler words) = None
+room_of (spare seat words) = Some seat
+room_of (carved seat words) = Some seat
+
+-- whether a piece is loose: room, or words that only fill where room was
+abbrev pub is_loose : Block → Bool
+is_loose (thing name refs nums) = false
+is_loose (moved name refs nums to) = false
+is_loose (spent words to) = false
+is_loose (hand seat words) = true
+is_loose (promised seat words) = false
+is_loose (dead words) = false
+is_loose (filler words) = true
+is_loose (spare seat words) = true
+is_loose (carved seat words) = true
 
 -- by address, the piece that begins there
 abbrev pub Plot : Type 0
@@ -106,7 +137,10 @@ name_at (Some (moved name refs nums to)) = Some name
 name_at (Some (spent words to)) = None
 name_at (Some (hand seat words)) = None
 name_at (Some (promised seat words)) = None
+name_at (Some (dead words)) = None
 name_at (Some (filler words)) = None
+name_at (Some (spare seat words)) = None
+name_at (Some (carved seat words)) = None
 name_at None = None
 
 -- what a copy of an object is, current or old: its name, and how many references and numbers it has
@@ -127,7 +161,10 @@ body_at (Some (moved name refs nums to)) = Some (body_of name refs nums)
 body_at (Some (spent words to)) = None
 body_at (Some (hand seat words)) = None
 body_at (Some (promised seat words)) = None
+body_at (Some (dead words)) = None
 body_at (Some (filler words)) = None
+body_at (Some (spare seat words)) = None
+body_at (Some (carved seat words)) = None
 body_at None = None
 
 -- a word stands for a reference where objects stand so
@@ -205,28 +242,40 @@ pub record IsRoom (c : Config) (top current : ℕ → ℕ) (address seat words :
   pub from_base : base_of c region ≤ address
   pub at_top : address + words ≡ base_of c region + top region
 
-abbrev pub AreRooms : Config → (ℕ → ℕ) → (ℕ → ℕ) → Plot → Type 0
-AreRooms c top current block = (a seat words : ℕ) → block a ≡ Some (hand seat words) → IsRoom c top current a seat words
+-- all room is in hand, and it is so: no seat has free words in a buffer, and none has carved words
+pub record AreRooms (c : Config) (top current : ℕ → ℕ) (block : Plot) : Type 0 where
+  pub hands : (a seat words : ℕ) → block a ≡ Some (hand seat words) → IsRoom c top current a seat words
+  pub spares : (a seat words : ℕ) → block a ≡ Some (spare seat words) → ⊥
+  pub carveds : (a seat words : ℕ) → block a ≡ Some (carved seat words) → ⊥
+
+-- no piece is room
+abbrev pub HasNoRoom : Plot → Type 0
+HasNoRoom block = (a seat : ℕ) (x : Block) → block a ≡ Some x → room_of x ≡ Some seat → ⊥
 
 -- an object that is promised has a header, a shape and a name at least
 abbrev pub ArePromises : Plot → Type 0
 ArePromises block = (a seat words : ℕ) → block a ≡ Some (promised seat words) → 3 ≤ words
 
--- words that only fill were an object, so they are three words at least
-abbrev pub AreFillers : Plot → Type 0
-AreFillers block = (a words : ℕ) → block a ≡ Some (filler words) → 3 ≤ words
+-- a dead object has three words at least, as each object
+abbrev pub AreDeads : Plot → Type 0
+AreDeads block = (a words : ℕ) → block a ≡ Some (dead words) → 3 ≤ words
 
--- so were those of an object that was promised and has moved
+-- so has the old copy of an object that was promised
 abbrev pub AreSpents : Plot → Type 0
 AreSpents block = (a words to : ℕ) → block a ≡ Some (spent words to) → 3 ≤ words
+
+-- words that only fill are one at least
+abbrev pub AreFillers : Plot → Type 0
+AreFillers block = (a words : ℕ) → block a ≡ Some (filler words) → 1 ≤ words
 
 -- The heap is parsable: pieces fill the parts in use, one after another, and each has the least size of its kind.
 pub record IsParsable (c : Config) (top : ℕ → ℕ) (block : Plot) : Type 0 where
   pub plotted : IsPlotted c top block
   pub filled : IsFilled c top block
   pub promises : ArePromises block
-  pub fillers : AreFillers block
+  pub deads : AreDeads block
   pub spents : AreSpents block
+  pub fillers : AreFillers block
 
 -- The pieces that are objects are the graph's, and its names are given.
 pub record HasContents (c : Config) (heap : ℕ → ℕ) (block : Plot) (object : Name → Option Object) (count : ℕ → ℕ) : Type 0 where
@@ -256,12 +305,13 @@ pub record IsBlank (heap : ℕ → ℕ) (a words : ℕ) : Type 0 where
   pub shape : heap (a + 1) ≡ shape_word refs nums
   pub nulls : (i : ℕ) → i < refs → heap (a + 3 + i) ≡ 0
 
--- Pieces that nobody writes to: an object that was promised is a new one, and words that only fill begin with the header of an
--- object that has not moved, and a shape word that says how many they are.
+-- Pieces that nobody writes to: an object that was promised is a new one, and a dead object begins with the header of an object that has not
+-- moved, and a shape word that says how many words it has. No words only fill.
 pub record AreUnwritten (heap : ℕ → ℕ) (block : Plot) : Type 0 where
   pub blanks : (a seat words : ℕ) → block a ≡ Some (promised seat words) → IsBlank heap a words
-  pub headers : (a words : ℕ) → block a ≡ Some (filler words) → heap a ≡ plain_header
-  pub lengths : (a words : ℕ) → block a ≡ Some (filler words) → object_words (heap (a + 1)) ≡ words
+  pub headers : (a words : ℕ) → block a ≡ Some (dead words) → heap a ≡ plain_header
+  pub lengths : (a words : ℕ) → block a ≡ Some (dead words) → object_words (heap (a + 1)) ≡ words
+  pub fillers : (a words : ℕ) → block a ≡ Some (filler words) → ⊥
 
 -- Marking from a snapshot at the beginning: what is marked is an object: one of the graph, or one that is promised.
 pub data IsMarkable (block : Plot) (a : ℕ) : Type 0 where
@@ -271,6 +321,10 @@ pub data IsMarkable (block : Plot) (a : ℕ) : Type 0 where
 -- an address is at or above a top of its region, and so, where that is the top at mark start, was allocated since
 abbrev pub IsYoung : Config → (ℕ → ℕ) → ℕ → Type 0
 IsYoung c top a = base_of c (region_with c a) + top (region_with c a) ≤ a
+
+-- all room is young so
+abbrev pub AreYoungRooms : Config → (ℕ → ℕ) → Plot → Type 0
+AreYoungRooms c top block = (a seat : ℕ) (x : Block) → block a ≡ Some x → room_of x ≡ Some seat → IsYoung c top a
 
 -- An address is noted: it will be marked, for it is grey, an entry of a mutator's buffer below its count, or about to be recorded
 -- by a mutator. What is noted stays so until the pause that ends marking.
@@ -328,8 +382,8 @@ pub record KeepsSnapshot (c : Config) (phase : ℕ) (grey black count : ℕ → 
   pub kept : (a refs nums : ℕ) (name : Name) → s.block a ≡ Some (thing name refs nums) → block a ≡ Some (thing name refs nums)
   pub older : phase ≡ 1 → (a refs nums : ℕ) (name : Name) → block a ≡ Some (thing name refs nums) → (s.block a ≡ Some (thing name refs nums)) ⊎ ((s.starts a ≡ true) ⊎ IsYoung c s.top a)
   pub promises : phase ≡ 1 → (a seat words : ℕ) → block a ≡ Some (promised seat words) → s.starts a ≡ true
-  pub fillers : phase ≡ 1 → (a words : ℕ) → block a ≡ Some (filler words) → IsYoung c s.top a → ⊥
-  pub young : phase ≡ 1 → (a seat words : ℕ) → block a ≡ Some (hand seat words) → IsYoung c s.top a
+  pub deads : phase ≡ 1 → (a words : ℕ) → block a ≡ Some (dead words) → IsYoung c s.top a → ⊥
+  pub young : phase ≡ 1 → AreYoungRooms c s.top block
   pub floors : (r : ℕ) → r < c.regions → s.top r ≤ top r
   pub tams_are : phase ≡ 1 → (r : ℕ) → r < c.regions → tams r ≡ s.top r
   pub greys : phase ≡ 1 → AreMarks c grey block
@@ -374,28 +428,33 @@ pub record IsCounted (c : Config) (evac : ℕ) (copying : ℕ → Bool) : Type 0
   pub is_word : evac < 2 ^ 64
   pub counts : count_of evac ≡ copiers copying (seat_count c.mutators c.helpers)
 
+-- no room lies in the collection set
+abbrev pub AreRoomsOutside : Config → (cset : ℕ) → Plot → Type 0
+AreRoomsOutside c cset block = (a seat : ℕ) (x : Block) → block a ≡ Some x → room_of x ≡ Some seat → IsCollected c cset a → ⊥
+
 -- The regions of the collection set are set aside: each is one of the heap, in use and nobody's, nothing was allocated in it since mark
--- start, and no object that is promised lies there.
+-- start, and no room and no object that is promised lies there.
 pub record AreSetAside (c : Config) (cset free : ℕ) (top tams : ℕ → ℕ) (block : Plot) (owner : ℕ → Option ℕ) : Type 0 where
   pub in_heap : (r : ℕ) → IsIn cset r → r < c.regions
   pub in_use : (r : ℕ) → IsIn free r → IsIn cset r → ⊥
   pub nobodys : (r seat : ℕ) → owner r ≡ Some seat → IsIn cset r → ⊥
   pub no_new : (r : ℕ) → IsIn cset r → top r ≡ tams r
   pub no_promises : (a seat words : ℕ) → block a ≡ Some (promised seat words) → IsCollected c cset a → ⊥
+  pub no_rooms : AreRoomsOutside c cset block
 
 -- what is marked in the collection set: a current copy of an object, or an old one
 pub data HasCopy (block : Plot) (a : ℕ) : Type 0 where
   copy : (b : Body) → body_at (block a) ≡ Some b → HasCopy block a
   spent_copy : (words to : ℕ) → block a ≡ Some (spent words to) → HasCopy block a
 
--- While objects are evacuated and references to them updated, each object is marked or was allocated since mark start, as room in hand
--- was, and words that only fill are neither; and what is marked in the collection set is an object.
+-- While objects are evacuated and references to them updated, each object is marked or was allocated since mark start, as all room was,
+-- and a dead object is neither; and what is marked in the collection set is an object.
 pub record AreKept (c : Config) (phase cset : ℕ) (black top tams : ℕ → ℕ) (block : Plot) : Type 0 where
   pub objects : 2 ≤ phase → (a : ℕ) → IsMarkable block a → HasMark c black a ⊎ IsYoung c tams a
-  pub young : 2 ≤ phase → (a seat words : ℕ) → block a ≡ Some (hand seat words) → IsYoung c tams a
+  pub young : 2 ≤ phase → AreYoungRooms c tams block
   pub floors : 2 ≤ phase → (r : ℕ) → r < c.regions → tams r ≤ top r
-  pub unmarked : 2 ≤ phase → (a words : ℕ) → block a ≡ Some (filler words) → HasMark c black a → ⊥
-  pub fillers : 2 ≤ phase → (a words : ℕ) → block a ≡ Some (filler words) → IsYoung c tams a → ⊥
+  pub unmarked : 2 ≤ phase → (a words : ℕ) → block a ≡ Some (dead words) → HasMark c black a → ⊥
+  pub deads : 2 ≤ phase → (a words : ℕ) → block a ≡ Some (dead words) → IsYoung c tams a → ⊥
   pub only : 2 ≤ phase → (a : ℕ) → c.region_words ≤ a → HasMark c black a → IsCollected c cset a → HasCopy block a
 
 -- A region of the collection set is swept up to an address: no object has its current copy below it; or there was no room.
@@ -441,12 +500,12 @@ pub data IsToUpdate (c : Config) (claim : ℕ) (limit : ℕ → ℕ) (scanning :
       → region_with c at.object ≡ region_with c a → IsAhead at a k → IsToUpdate c claim limit scanning a k
 
 -- Updating of references: no object has its current copy in the collection set any more, and each field of a current copy is current or
--- still to be updated. Limits are tops when updating began: room in hand lies at or above them.
+-- still to be updated. Limits are tops when updating began: room lies at or above them.
 pub record IsUpdating (c : Config) (cset claim : ℕ) (top limit heap : ℕ → ℕ) (block : Plot) (scanning : ℕ → Option Scan) : Type 0 where
   pub outside : (a refs nums : ℕ) (name : Name) → block a ≡ Some (thing name refs nums) → IsCollected c cset a → ⊥
   pub renewed : (a refs nums k : ℕ) (name : Name) → block a ≡ Some (thing name refs nums) → k < refs
       → IsCurrent block (heap (a + 3 + k)) ⊎ IsToUpdate c claim limit scanning a k
-  pub young : (a seat words : ℕ) → block a ≡ Some (hand seat words) → IsYoung c limit a
+  pub young : AreYoungRooms c limit block
   pub limits : (r : ℕ) → r < c.regions → limit r ≤ top r
 
 -- The facts that all machines share, in groups, each over the words that it speaks of: a step that changes none of these words

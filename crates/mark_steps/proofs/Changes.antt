@@ -92,7 +92,7 @@ module _ (c : Config) (u : World) (seat : ℕ) (marking : Word → ℕ) (recordi
       kept = shared.marked.kept;
       older = shared.marked.older;
       promises = shared.marked.promises;
-      fillers = shared.marked.fillers;
+      deads = shared.marked.deads;
       young = shared.marked.young;
       floors = shared.marked.floors;
       tams_are = shared.marked.tams_are;
@@ -116,7 +116,7 @@ module _ (c : Config) (u : World) (seat : ℕ) (marking : Word → ℕ) (recordi
             young = λ on. absurd (other on);
             floors = λ on. absurd (other on);
             unmarked = λ on. absurd (other on);
-            fillers = λ on. absurd (other on);
+            deads = λ on. absurd (other on);
             only = λ on. absurd (other on);
           };
           units = λ on. absurd (other (omega (arith, on)));
@@ -165,9 +165,9 @@ module _ (c : Config) (u : World) (seat : ℕ) (marking : Word → ℕ) (recordi
     others_after j differs = record {
       names = λ a name is. is;
       targets = λ a refs nums name is. is;
-      hands = λ a words is. is;
-      no_hands = λ a words is. is;
-      hand_words = λ a words k is below. refl;
+      rooms = λ a x is room. is;
+      no_rooms = λ a x is room. is;
+      room_words = λ a k x is room below. refl;
       promises = λ a words is. is;
       no_promises = λ a words is. is;
       promise_words = λ a words k is below. refl;
@@ -193,7 +193,7 @@ module _ (c : Config) (u : World) (seat : ℕ) (marking : Word → ℕ) (recordi
       fields = record {
         tams = λ r. refl;
         limits = λ r. refl;
-        fillers = λ a words is. is;
+        deads = λ a words is. is;
         claims = λ all. (let more = step.claims in omega (arith, all, more));
         fields = λ on a refs nums k name is below. inl refl;
       };

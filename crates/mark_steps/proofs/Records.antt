@@ -291,7 +291,7 @@ module _ (c : Config) (u w : World) (mutator : ℕ) (rely : Rely c mutator u w) 
     markable = rely.marks.keeps.markable (λ two. (let one = can.phase in omega (arith, one, two))) v can.markable;
     recording = rely.marks.recording ∙ can.recording;
     scanning = rely.marks.scanning ∙ can.scanning;
-    hands = λ a words is. can.hands a words (rely.no_hands a words is);
+    hands = λ a words is. can.hands a words (rely.no_rooms a _ is refl);
     words = can_remember_stays c mutator u.memory w.memory buffer_left v at can.words;
   }
 

@@ -399,6 +399,6 @@ module _ (c : Config) (u w : World) (seat : ℕ) (rely : Rely c seat u w) where
     scanning = rely.marks.scanning ∙ can.scanning;
     records_none = rely.marks.recording ∙ can.records_none;
     ready = can.ready;
-    hands = λ a words is. can.hands a words (rely.no_hands a words is);
+    hands = λ a words is. can.hands a words (rely.no_rooms a _ is refl);
     facts = facts_stay (λ two. (let one = can.phase in omega (arith, one, two))) at can.facts;
   }

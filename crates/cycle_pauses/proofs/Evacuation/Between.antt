@@ -1,12 +1,12 @@
 -- What holds of the words in the pause that begins evacuation, between two objects that are copied: roots and answers aside.
-use Rattle.std.proofs.Common.{◌≡◌, ℕ, ◌<◌, ◌≤◌, ◌⊎◌, Option, Some, refl, ap}
+use Rattle.std.proofs.Common.{◌≡◌, ℕ, ◌<◌, ◌≤◌, ◌⊎◌, Option, Some, None, refl, ap}
 use Rattle.heap_words.specs.declared.config.Config.{Config}
 use Rattle.heap_words.specs.Words.{Word, Cset, Free, Top, Tams, Current, Black, Heap}
 use Rattle.regions.specs.Sets.{IsIn}
 use Rattle.shen_graph.specs.declared.name.Name.{Name}
 use Rattle.shen_graph.specs.Graph.{Graph}
 use Rattle.regions.specs.Marks.{HasMark}
-use Rattle.heap_world.specs.World.{Block, thing, moved, spent, hand, promised, filler, words_of, Plot, name_at, IsCollected, IsParsable, HasContents, AreOwned, AreUnwritten, HaveMoved, IsMarkable, IsYoung, HasCopy, body_at}
+use Rattle.heap_world.specs.World.{Block, thing, moved, spent, promised, dead, filler, words_of, room_of, HasNoRoom, Plot, name_at, IsCollected, IsParsable, HasContents, AreOwned, AreUnwritten, HaveMoved, IsMarkable, IsYoung, HasCopy, body_at}
 
 -- As in any pause of evacuation, but that objects which are promised may still lie in the collection set.
 pub record IsBetween (c : Config) (cset free : ℕ) (top tams heap black current : ℕ → ℕ) (block : Plot) (owner : ℕ → Option ℕ) (g : Graph) : Type 0 where
@@ -15,7 +15,7 @@ pub record IsBetween (c : Config) (cset free : ℕ) (top tams heap black current
   pub owned : AreOwned c top free current block owner
   pub unwritten : AreUnwritten heap block
   pub moves : HaveMoved c cset heap block
-  pub no_hands : (a seat words : ℕ) → block a ≡ Some (hand seat words) → ⊥
+  pub no_rooms : HasNoRoom block
   pub promised_to : (a seat words : ℕ) → block a ≡ Some (promised seat words) → seat < c.mutators
   pub in_heap : (r : ℕ) → IsIn cset r → r < c.regions
   pub used : (r : ℕ) → IsIn free r → IsIn cset r → ⊥
@@ -23,8 +23,8 @@ pub record IsBetween (c : Config) (cset free : ℕ) (top tams heap black current
   pub no_new : (r : ℕ) → IsIn cset r → top r ≡ tams r
   pub marked : (a : ℕ) → IsMarkable block a → HasMark c black a ⊎ IsYoung c tams a
   pub floors : (r : ℕ) → r < c.regions → tams r ≤ top r
-  pub unmarked : (a words : ℕ) → block a ≡ Some (filler words) → HasMark c black a → ⊥
-  pub fillers : (a words : ℕ) → block a ≡ Some (filler words) → IsYoung c tams a → ⊥
+  pub unmarked : (a words : ℕ) → block a ≡ Some (dead words) → HasMark c black a → ⊥
+  pub deads : (a words : ℕ) → block a ≡ Some (dead words) → IsYoung c tams a → ⊥
   pub only : (a : ℕ) → c.region_words ≤ a → HasMark c black a → IsCollected c cset a → IsMarkable block a ⊎ HasCopy block a
 
 -- so it is of words
@@ -56,10 +56,10 @@ old_name _ to live = absurd live
 
 -- an old copy is none of these
 pub old_is_old : (x : Block) (to : ℕ) → ((name : Name) (refs nums : ℕ) → old_of x to ≡ thing name refs nums → ⊥) × ((seat words : ℕ) → old_of x to ≡ promised seat words → ⊥)
-    × ((seat words : ℕ) → old_of x to ≡ hand seat words → ⊥) × ((words : ℕ) → old_of x to ≡ filler words → ⊥)
-old_is_old (thing n r s) to = (λ name refs nums is. cc, λ seat words is. cc, λ seat words is. cc, λ words is. cc)
-old_is_old (moved n r s at) to = (λ name refs nums is. cc, λ seat words is. cc, λ seat words is. cc, λ words is. cc)
-old_is_old _ to = (λ name refs nums is. cc, λ seat words is. cc, λ seat words is. cc, λ words is. cc)
+    × (room_of (old_of x to) ≡ None) × ((words : ℕ) → old_of x to ≡ dead words → ⊥) × ((words : ℕ) → old_of x to ≡ filler words → ⊥)
+old_is_old (thing n r s) to = (λ name refs nums is. cc, λ seat words is. cc, refl, λ words is. cc, λ words is. cc)
+old_is_old (moved n r s at) to = (λ name refs nums is. cc, λ seat words is. cc, refl, λ words is. cc, λ words is. cc)
+old_is_old _ to = (λ name refs nums is. cc, λ seat words is. cc, refl, λ words is. cc, λ words is. cc)
 
 -- where it is one of an object, the object was there; where it is one of an object that was promised, that was
 pub was_thing : (x : Block) (to : ℕ) → IsLive x → (name : Name) (refs nums at : ℕ) → old_of x to ≡ moved name refs nums at → (x ≡ thing name refs nums) × (at ≡ to)
@@ -74,9 +74,9 @@ was_promised _ to live words at is = absurd live
 
 -- a live piece is none of these
 pub live_is_live : (x : Block) → IsLive x → ((name : Name) (refs nums to : ℕ) → x ≡ moved name refs nums to → ⊥) × ((words to : ℕ) → x ≡ spent words to → ⊥)
-    × ((seat words : ℕ) → x ≡ hand seat words → ⊥) × ((words : ℕ) → x ≡ filler words → ⊥)
-live_is_live (thing n r s) live = (λ name refs nums to is. cc, λ words to is. cc, λ seat words is. cc, λ words is. cc)
-live_is_live (promised s w) live = (λ name refs nums to is. cc, λ words to is. cc, λ seat words is. cc, λ words is. cc)
+    × (room_of x ≡ None) × ((words : ℕ) → x ≡ dead words → ⊥) × ((words : ℕ) → x ≡ filler words → ⊥)
+live_is_live (thing n r s) live = (λ name refs nums to is. cc, λ words to is. cc, refl, λ words is. cc, λ words is. cc)
+live_is_live (promised s w) live = (λ name refs nums to is. cc, λ words to is. cc, refl, λ words is. cc, λ words is. cc)
 live_is_live _ live = absurd live
 
 -- it may be marked, and what is left of it is a copy

@@ -5,7 +5,7 @@ use Rattle.std.specs.Prelude.{bit_and}
 use Rattle.std.specs.Int.{bit_at}
 use Rattle.std.proofs.Math.Path.{fun_ext}
 use Rattle.std.proofs.lemmas.Bool.{cases_eq}
-use Rattle.std.proofs.lemmas.Option.{slice_get-get_or}
+use Rattle.std.proofs.lemmas.Option.{slice_get-get_or, none-some}
 use Rattle.std.proofs.lemmas.Nat.{and_le_l}
 use Rattle.heap_words.specs.declared.config.Config.{Config}
 use Rattle.heap_words.specs.Words.{Word, Cset, Free, Top, Tams, Current, Black, Heap}
@@ -16,7 +16,7 @@ use Rattle.regions.proofs.PlaceLemmas.{regions_tile}
 use Rattle.shen_graph.specs.declared.name.Name.{Name}
 use Rattle.shen_graph.specs.Graph.{Reference, Graph}
 use Rattle.regions.specs.Marks.{HasMark}
-use Rattle.heap_world.specs.World.{Block, thing, moved, spent, hand, promised, filler, words_of, Plot, name_at, Points, IsCollected, IsPlotted, IsFilled, IsThing, IsParsable, AreObjects, IsFreeWord, AreCurrent, IsBlank, AreUnwritten, IsMoved, IsSpent, IsMarkable, IsYoung, HasCopy, body_at}
+use Rattle.heap_world.specs.World.{Block, thing, moved, spent, promised, dead, filler, words_of, room_of, HasNoRoom, Plot, name_at, Points, IsCollected, IsPlotted, IsFilled, IsThing, IsParsable, AreObjects, IsFreeWord, AreCurrent, IsBlank, AreUnwritten, IsMoved, IsSpent, IsMarkable, IsYoung, HasCopy, body_at}
 use Rattle.heap_world.proofs.Updates.{updated, updated_same, updated_there, updated_else}
 use Rattle.heap_world.proofs.Keeping.{points_stay}
 use Rattle.heap_world.proofs.Pointing.{named_piece}
@@ -24,6 +24,7 @@ use Rattle.heap_world.proofs.Pieces.{some_words, beside, piece_cases, object_rea
 use Rattle.heap_world.proofs.Apart.{far}
 use Rattle.heap_world.proofs.Joined as joined
 use Rattle.heap_world.proofs.Joined.{CanJoin}
+use Rattle.heap_world.proofs.Roomless.{rooms_none}
 use Rattle.cycle_words.specs.Evacuation.Live.{words_at}
 use Rattle.cycle_words.specs.Evacuation.Copied.{MayChange, top_address, copied_to, copied_out, IsCopiedOut}
 use Rattle.cycle_words.proofs.Evacuation.CopiedOut.{copied_as}
@@ -205,6 +206,25 @@ module _ (c : Config) (m : Word → ℕ) (block : Plot) (owner : ℕ → Option 
   not_old : (p : ℕ) → (IsCollected c (m Cset) p → ⊥) → p ≢ a
   not_old p away same = away (subst (IsCollected c (m Cset)) (sym same) inside)
 
+  -- a dead object was there, and so were words that only fill
+  dead_from : (p words : ℕ) → plot p ≡ Some (dead words) → (p ≢ a) × (block p ≡ Some (dead words))
+  dead_from p words is = ⊎_elim
+      (λ (gone : (p ≡ a) × (old ≡ dead words)). absurd ((old_is_old x to).3 words gone.1))
+      (λ rest. ⊎_elim
+      (λ (new : (p ≡ to) × (x ≡ dead words)). absurd ((live_is_live x live).3 words new.1))
+      (λ (stood : (p ≢ a) × (block p ≡ Some (dead words))). stood)
+      rest)
+      (plot_cases p (dead words) is)
+
+  filler_was : (p words : ℕ) → plot p ≡ Some (filler words) → block p ≡ Some (filler words)
+  filler_was p words is = ⊎_elim
+      (λ (gone : (p ≡ a) × (old ≡ filler words)). absurd ((old_is_old x to).4 words gone.1))
+      (λ rest. ⊎_elim
+      (λ (new : (p ≡ to) × (x ≡ filler words)). absurd ((live_is_live x live).4 words new.1))
+      (λ (stood : (p ≢ a) × (block p ≡ Some (filler words))). stood.1)
+      rest)
+      (plot_cases p (filler words) is)
+
   parsable_again : IsParsable c (λ q. n (Top q)) plot
   parsable_again = record {
     plotted = subst (λ t. IsPlotted c t plot) (sym tops_are)
@@ -213,7 +233,7 @@ module _ (c : Config) (m : Word → ℕ) (block : Plot) (owner : ℕ → Option 
         (filled_still c (updated top r (m (Top r) + words_of x)) mid a x old (mid_stays a x here) (old_words x to)
         (joined.filled_more c top block r (m (Top r)) x joins b.parsable.filled));
     promises = λ p seat words is. let at = was_promise p seat words is in b.parsable.promises at.0 seat words at.1;
-    fillers = λ p words is. b.parsable.fillers p words (was_filler p words is).1;
+    deads = λ p words is. b.parsable.deads p words (dead_from p words is).1;
     spents = λ p words at is. ⊎_elim
         (λ (gone : (p ≡ a) × (old ≡ spent words at)).
         let was = was_promised x to live words at gone.1 in
@@ -223,6 +243,7 @@ module _ (c : Config) (m : Word → ℕ) (block : Plot) (owner : ℕ → Option 
         (λ (stood : (p ≢ a) × (block p ≡ Some (spent words at))). b.parsable.spents p words at stood.1)
         rest)
         (plot_cases p (spent words at) is);
+    fillers = λ p words is. b.parsable.fillers p words (filler_was p words is);
   }
     where
       was_promise : (p seat words : ℕ) → plot p ≡ Some (promised seat words) → (q : ℕ) × (block q ≡ Some (promised seat words))
@@ -233,15 +254,6 @@ module _ (c : Config) (m : Word → ℕ) (block : Plot) (owner : ℕ → Option 
           (λ (stood : (p ≢ a) × (block p ≡ Some (promised seat words))). (p, stood.1))
           rest)
           (plot_cases p (promised seat words) is)
-
-      was_filler : (p words : ℕ) → plot p ≡ Some (filler words) → (p ≢ a) × (block p ≡ Some (filler words))
-      was_filler p words is = ⊎_elim
-          (λ (gone : (p ≡ a) × (old ≡ filler words)). absurd ((old_is_old x to).3 words gone.1))
-          (λ rest. ⊎_elim
-          (λ (new : (p ≡ to) × (x ≡ filler words)). absurd ((live_is_live x live).3 words new.1))
-          (λ (stood : (p ≢ a) × (block p ≡ Some (filler words))). stood)
-          rest)
-          (plot_cases p (filler words) is)
 
   -- an object stood there, or where it was copied from
   thing_from : (p refs nums : ℕ) (name : Name) → plot p ≡ Some (thing name refs nums)
@@ -258,23 +270,14 @@ module _ (c : Config) (m : Word → ℕ) (block : Plot) (owner : ℕ → Option 
       (λ rest. rest)
       (plot_cases p (promised seat words) is)
 
-  filler_from : (p words : ℕ) → plot p ≡ Some (filler words) → (p ≢ a) × (block p ≡ Some (filler words))
-  filler_from p words is = ⊎_elim
-      (λ (gone : (p ≡ a) × (old ≡ filler words)). absurd ((old_is_old x to).3 words gone.1))
+  no_room : HasNoRoom plot
+  no_room p seat y is room = ⊎_elim
+      (λ (gone : (p ≡ a) × (old ≡ y)). none-some seat (sym (old_is_old x to).2 ∙ ap room_of gone.1 ∙ room))
       (λ rest. ⊎_elim
-      (λ (new : (p ≡ to) × (x ≡ filler words)). absurd ((live_is_live x live).3 words new.1))
-      (λ (stood : (p ≢ a) × (block p ≡ Some (filler words))). stood)
+      (λ (new : (p ≡ to) × (x ≡ y)). none-some seat (sym (live_is_live x live).2 ∙ ap room_of new.1 ∙ room))
+      (λ (stood : (p ≢ a) × (block p ≡ Some y)). b.no_rooms p seat y stood.1 room)
       rest)
-      (plot_cases p (filler words) is)
-
-  no_hand : (p seat words : ℕ) → plot p ≡ Some (hand seat words) → ⊥
-  no_hand p seat words is = ⊎_elim
-      (λ (gone : (p ≡ a) × (old ≡ hand seat words)). (old_is_old x to).2 seat words gone.1)
-      (λ rest. ⊎_elim
-      (λ (new : (p ≡ to) × (x ≡ hand seat words)). (live_is_live x live).2 seat words new.1)
-      (λ (stood : (p ≢ a) × (block p ≡ Some (hand seat words))). b.no_hands p seat words stood.1)
-      rest)
-      (plot_cases p (hand seat words) is)
+      (plot_cases p y is)
 
   objects_again : AreObjects after plot g.object
   objects_again = record {
@@ -337,14 +340,15 @@ module _ (c : Config) (m : Word → ℕ) (block : Plot) (owner : ℕ → Option 
         blank_copied heap after p p words (λ k below. kept p k (promised seat words) stood.0 stood.1 below) (b.unwritten.blanks p seat words stood.1))
         (promised_from p seat words is);
     headers = λ p words is.
-        let was = filler_from p words is in
-        let some = long p (filler words) was.1 in
+        let was = dead_from p words is in
+        let some = long p (dead words) was.1 in
         let first : p + 0 ≡ p = omega arith in
-        sym (ap after first) ∙ kept p 0 (filler words) was.0 was.1 some ∙ ap heap first ∙ b.unwritten.headers p words was.1;
+        sym (ap after first) ∙ kept p 0 (dead words) was.0 was.1 some ∙ ap heap first ∙ b.unwritten.headers p words was.1;
     lengths = λ p words is.
-        let was = filler_from p words is in
-        let some = b.parsable.fillers p words was.1 in
-        ap object_words (kept p 1 (filler words) was.0 was.1 (omega (arith, some))) ∙ b.unwritten.lengths p words was.1;
+        let was = dead_from p words is in
+        let some = b.parsable.deads p words was.1 in
+        ap object_words (kept p 1 (dead words) was.0 was.1 (omega (arith, some))) ∙ b.unwritten.lengths p words was.1;
+    fillers = λ p words is. b.unwritten.fillers p words (filler_was p words is);
   }
 
   -- an object that is not the one that is copied is where it was
@@ -516,10 +520,10 @@ module _ (c : Config) (m : Word → ℕ) (block : Plot) (owner : ℕ → Option 
   copied_between = record {
     parsable = parsable_again;
     contents = record { objects = objects_again; given = b.contents.given };
-    owned = record { free_word = free_again; currents = currents_again; rooms = λ p seat words is. absurd (no_hand p seat words is) };
+    owned = record { free_word = free_again; currents = currents_again; rooms = rooms_none c _ _ plot no_room };
     unwritten = unwritten_again;
     moves = record { moveds = moved_again; spents = spent_again };
-    no_hands = no_hand;
+    no_rooms = no_room;
     promised_to = λ p seat words is. ⊎_elim
         (λ (new : (p ≡ to) × (x ≡ promised seat words)). b.promised_to a seat words (here ∙ ap Some new.1))
         (λ (stood : (p ≢ a) × (block p ≡ Some (promised seat words))). b.promised_to p seat words stood.1)
@@ -541,8 +545,8 @@ module _ (c : Config) (m : Word → ℕ) (block : Plot) (owner : ℕ → Option 
         let tams : n (Tams q) ≡ m (Tams q) = word_same (Tams q) (λ never. never) in
         omega (arith, floor, same, tams))
         (cases_eq q r);
-    unmarked = λ p words is mark. let stood = filler_from p words is in b.unmarked p words stood.1 (subst (λ bits. HasMark c bits p) marks_same mark);
-    fillers = λ p words is young. let stood = filler_from p words is in b.fillers p words stood.1 (subst (λ floor. IsYoung c floor p) tams_same young);
+    unmarked = λ p words is mark. let stood = dead_from p words is in b.unmarked p words stood.1 (subst (λ bits. HasMark c bits p) marks_same mark);
+    deads = λ p words is young. let stood = dead_from p words is in b.deads p words stood.1 (subst (λ floor. IsYoung c floor p) tams_same young);
     only = only_again;
   }
 

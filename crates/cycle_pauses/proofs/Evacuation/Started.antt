@@ -7,7 +7,7 @@ use Rattle.heap_words.specs.Words.{Word, Cset, Evac, Ask, Free, Top, Tams, Root,
 use Rattle.regions.specs.Place.{region_with}
 use Rattle.regions.specs.Sets.{IsIn}
 use Rattle.shen_graph.specs.Graph.{Graph, Reference}
-use Rattle.heap_world.specs.World.{Block, thing, moved, promised, filler, Plot, Ghost, no_snapshot, Points, body_of, IsUsable, IsCollected, IsMarkable, HasCopy, IsEvacuating, body_at}
+use Rattle.heap_world.specs.World.{Block, thing, moved, hand, promised, dead, Plot, Ghost, no_snapshot, Points, body_of, IsUsable, IsCollected, IsMarkable, HasCopy, IsEvacuating, body_at}
 use Rattle.heap_world.specs.Asking.{Asking, nothing, asks, refused, given, IsAsked}
 use Rattle.heap_world.specs.Represents.{Represents}
 use Rattle.heap_world.proofs.Pointing.{named_body, copy_cases, piece_inside}
@@ -28,10 +28,10 @@ promise_is_answer m block count t (asks refs nums) asked a words is = absurd (as
 promise_is_answer m block count t refused asked a words is = absurd (asked.2 a words is)
 promise_is_answer m block count t (given refs nums) asked a words is = asked.2.only a words is
 
--- words that only fill are nothing that is marked
-no_filler : (block : Plot) (a words : ℕ) → block a ≡ Some (filler words) → IsMarkable block a → ⊥
-no_filler block a words is (IsMarkable.object name refs nums here) = let differ = sym is ∙ here in cc
-no_filler block a words is (IsMarkable.to_come seat more here) = let differ = sym is ∙ here in cc
+-- a dead object is nothing that is marked
+no_dead : (block : Plot) (a words : ℕ) → block a ≡ Some (dead words) → IsMarkable block a → ⊥
+no_dead block a words is (IsMarkable.object name refs nums here) = let differ = sym is ∙ here in cc
+no_dead block a words is (IsMarkable.to_come seat more here) = let differ = sym is ∙ here in cc
 
 module _ (c : Config) (memory : Word → ℕ) (block : Plot) (ghost : Ghost) (g : Graph) (asking : ℕ → Asking) (out : IsMarkedOut c memory block ghost g asking) where
   -- the ghost state, without a snapshot
@@ -58,7 +58,7 @@ module _ (c : Config) (memory : Word → ℕ) (block : Plot) (ghost : Ghost) (g 
         moveds = λ a refs nums to name is. absurd (out.unmoved.no_moved a refs nums to name is);
         spents = λ a words to is. absurd (out.unmoved.no_spent a words to is);
       };
-      no_hands = out.unmoved.no_hand;
+      no_rooms = out.unmoved.no_room;
       promised_to = out.promised_to;
       in_heap = λ r is. (candidates r is).0;
       used = λ r free is. let in_use = (candidates r is).1.in_use in omega (arith, free, in_use);
@@ -67,9 +67,9 @@ module _ (c : Config) (memory : Word → ℕ) (block : Plot) (ghost : Ghost) (g 
       marked = out.marked.objects;
       floors = out.marked.floors;
       unmarked = λ a words is mark.
-          let above = piece_inside c (λ r. memory (Top r)) block out.parsable.plotted a (filler words) is in
-          no_filler block a words is (out.marked.only a above.0 mark);
-      fillers = out.marked.fillers;
+          let above = piece_inside c (λ r. memory (Top r)) block out.parsable.plotted a (dead words) is in
+          no_dead block a words is (out.marked.only a above.0 mark);
+      deads = out.marked.deads;
       only = λ a above mark inside. inl (out.marked.only a above mark);
     };
     roots = out.roots;
@@ -145,13 +145,14 @@ module _ (c : Config) (memory : Word → ℕ) (block : Plot) (ghost : Ghost) (g 
             nobodys = s.between.nobodys;
             no_new = s.between.no_new;
             no_promises = no_promises;
+            no_rooms = λ a seat x is room. absurd (s.between.no_rooms a seat x is room);
           };
           kept = record {
             objects = λ on. s.between.marked;
-            young = λ on a seat words is. absurd (s.between.no_hands a seat words is);
+            young = λ on a seat x is room. absurd (s.between.no_rooms a seat x is room);
             floors = λ on. s.between.floors;
             unmarked = λ on. s.between.unmarked;
-            fillers = λ on. s.between.fillers;
+            deads = λ on. s.between.deads;
             only = λ on a above mark inside. has_copy a inside (s.between.only a above mark inside);
           };
           units = λ on r below. absurd (omega (arith, below));
@@ -160,7 +161,7 @@ module _ (c : Config) (memory : Word → ℕ) (block : Plot) (ghost : Ghost) (g 
       };
       roots = s.roots;
       usable = usable;
-      none = s.between.no_hands;
+      none = λ a seat words is. s.between.no_rooms a seat (hand seat words) is refl;
       asked = λ t inside. asked_stays e n plot plot g.count t refl refl (λ a words k is below. refl) (λ a words is. is) (λ a words is. is) (asking t) (s.asked t inside);
       heard = λ t refs nums inside is. ap (λ k. bit_at k 1) (s.same Ask (λ never. never) (λ never. never)) ∙ out.heard t refs nums inside is;
       promised_to = s.between.promised_to;
@@ -194,7 +195,7 @@ module _ (c : Config) (memory : Word → ℕ) (block : Plot) (ghost : Ghost) (g 
     };
     roots = out.roots;
     usable = λ t i inside few. usable_now c (memory Evac) block (λ a refs nums to name. out.unmoved.no_moved a refs nums to name) (memory (Root t i)) (g.root (t + 1) i) (out.roots t i inside few);
-    none = out.unmoved.no_hand;
+    none = λ a seat words is. out.unmoved.no_room a seat (hand seat words) is refl;
     asked = λ t inside. asked_stays memory idle block block g.count t refl refl (λ a words k is below. refl) (λ a words is. is) (λ a words is. is) (asking t) (out.asked t inside);
     heard = out.heard;
     promised_to = out.promised_to;

@@ -11,6 +11,7 @@ use Rattle.heap_world.specs.World.{Block, words_of, IsCollected}
 use Rattle.heap_world.specs.Asking.{Asking}
 use Rattle.heap_world.specs.Represents.{RepresentsByCopies}
 use Rattle.heap_world.proofs.Pieces.{some_words}
+use Rattle.heap_world.proofs.Roomless.{roomless}
 use Rattle.cycle_words.specs.Evacuation.Live.{words_at}
 use Rattle.cycle_words.specs.Finishing.Updated.{CanUpdateAll}
 use Rattle.cycle_words.specs.Finishing.Copies.{all_copied}
@@ -42,7 +43,7 @@ module _ (c : Config) (m : Word → ℕ) (g : Graph) (asking : ℕ → Asking) (
 
   -- a piece outside of the set has as many words as its shape word says
   sizes : (a : ℕ) (x : Block) → r.block a ≡ Some x → (IsCollected c (m Cset) a → ⊥) → words_at m a ≡ words_of x
-  sizes = piece_sizes c (m Cset) (λ a. m (Heap a)) r.block g.object r.shared.contents.objects r.shared.unwritten r.shared.evacuated.moved r.none
+  sizes = piece_sizes c (m Cset) (λ a. m (Heap a)) r.block g.object r.shared.contents.objects r.shared.unwritten r.shared.evacuated.moved (roomless c _ _ r.block r.shared.owned.rooms r.none)
 
   can_update : CanUpdateAll c m
   can_update = updates.can_update c m r.block r.shared.parsable.plotted r.shared.parsable.filled some sizes (few_bits (m Cset) c.regions r.shared.evacuated.aside.in_heap)

@@ -9,12 +9,13 @@ use Rattle.heap_words.specs.Words.{Word, Phase, Cset, Free, Evac, Claim, Ask, To
 use Rattle.regions.specs.Place.{base_of}
 use Rattle.shen_graph.specs.declared.name.Name.{Name}
 use Rattle.shen_graph.specs.Graph.{Graph}
-use Rattle.heap_world.specs.World.{thing, Plot, Ghost, no_snapshot, body_of, body_at, IsCollected, IsMarkable, HasCopy, IsCounted, IsSweptTo, IsCaredFor, IsEvacuating}
+use Rattle.heap_world.specs.World.{thing, Plot, Ghost, no_snapshot, body_of, body_at, IsCollected, IsMarkable, HasCopy, IsCounted, IsSweptTo, IsCaredFor, IsEvacuating, hand}
 use Rattle.heap_world.specs.Asking.{Asking}
 use Rattle.heap_world.specs.Represents.{Represents, RepresentsByCopies}
 use Rattle.heap_world.proofs.Pointing.{piece_inside}
 use Rattle.heap_world.proofs.Copies.{none_in_0}
 use Rattle.heap_world.proofs.Unmarked.{none_marked_in}
+use Rattle.heap_world.proofs.Roomless.{roomless}
 use Rattle.cycle_words.specs.Evacuation.Copied.{MayChange}
 use Rattle.cycle_pauses.proofs.Full.ByCopies.{by_copies}
 use Rattle.cycle_words.specs.Finishing.Copies.{CanCopyFrom, copied_from, is_room_from, all_copied, is_room_for_all}
@@ -45,7 +46,7 @@ module _ (c : Config) (m : Word → ℕ) (g : Graph) (asking : ℕ → Asking) (
       owned = r.shared.owned;
       unwritten = r.shared.unwritten;
       moves = evacuated.moved;
-      no_hands = r.none;
+      no_rooms = roomless c _ _ r.block r.shared.owned.rooms r.none;
       promised_to = r.promised_to;
       in_heap = evacuated.aside.in_heap;
       used = evacuated.aside.in_use;
@@ -54,7 +55,7 @@ module _ (c : Config) (m : Word → ℕ) (g : Graph) (asking : ℕ → Asking) (
       marked = evacuated.kept.objects two;
       floors = evacuated.kept.floors two;
       unmarked = evacuated.kept.unmarked two;
-      fillers = evacuated.kept.fillers two;
+      deads = evacuated.kept.deads two;
       only = λ a above mark inside. inr (evacuated.kept.only two a above mark inside);
     };
     roots = r.roots;
@@ -115,13 +116,14 @@ module _ (c : Config) (m : Word → ℕ) (g : Graph) (asking : ℕ → Asking) (
         nobodys = s.between.nobodys;
         no_new = s.between.no_new;
         no_promises = s.no_promises;
+        no_rooms = λ a seat x is room. absurd (s.between.no_rooms a seat x is room);
       };
       kept = record {
         objects = λ high. s.between.marked;
-        young = λ high a seat words is. absurd (s.between.no_hands a seat words is);
+        young = λ high a seat x is room. absurd (s.between.no_rooms a seat x is room);
         floors = λ high. s.between.floors;
         unmarked = λ high. s.between.unmarked;
-        fillers = λ high. s.between.fillers;
+        deads = λ high. s.between.deads;
         only = λ high a above mark inside. has_copy a inside (s.between.only a above mark inside);
       };
       units = λ high q below member. inl (s.units on_still q below member);
@@ -144,7 +146,7 @@ module _ (c : Config) (m : Word → ℕ) (g : Graph) (asking : ℕ → Asking) (
       };
       roots = s.roots;
       usable = tt;
-      none = s.between.no_hands;
+      none = λ a seat words is. s.between.no_rooms a seat (hand seat words) is refl;
       asked = s.asked;
       heard = λ t refs nums inside is. ap (λ k. bit_at k 1) (s.same Ask (λ never. never)) ∙ r.heard t refs nums inside is;
       promised_to = s.between.promised_to;

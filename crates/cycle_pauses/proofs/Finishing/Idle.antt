@@ -8,13 +8,14 @@ use Rattle.std.specs.Prelude.{bit_or}
 use Rattle.heap_words.specs.declared.config.Config.{Config}
 use Rattle.heap_words.specs.Words.{Word, Pause, Left, End, State, Phase, Cset, Free, Evac, Claim, Ask, Top, Tams, Limit, Current, Root, Count, Buffer, Wait, Answer, Grey, Black, Heap}
 use Rattle.shen_graph.specs.Graph.{Graph}
-use Rattle.heap_world.specs.World.{Plot, no_ghost, with_owner, IsCollected, IsEvacuating, IsUsable}
+use Rattle.heap_world.specs.World.{Plot, no_ghost, with_owner, IsCollected, IsEvacuating, IsUsable, hand}
 use Rattle.heap_world.specs.Asking.{Asking, asks}
 use Rattle.heap_world.specs.Roots.{HasNoMore}
 use Rattle.heap_world.specs.Represents.{Represents}
 use Rattle.heap_world.proofs.Copies.{none_in_0, none_is_in, none_evacuated}
 use Rattle.heap_world.proofs.Keeping.{usable_now}
 use Rattle.heap_world.proofs.Unmarked.{none_marked_in}
+use Rattle.heap_world.proofs.Roomless.{roomless}
 use Rattle.cycle_words.specs.Marking.Marks.{bits_of}
 use Rattle.cycle_pauses.proofs.Evacuation.Asked.{asked_stays}
 use Rattle.cycle_words.specs.Updating.Changes.{is_chosen, final_updated}
@@ -52,7 +53,7 @@ idle_represents c m block owner g asking s no_phase no_cset no_evac heard no_mor
   roots = s.roots;
   usable = λ t i inside few.
       subst (λ set. IsUsable c set (m Evac) block (m (Root t i))) (sym no_cset) (usable_now c (m Evac) block s.unmoved.no_moved (m (Root t i)) (g.root (t + 1) i) (s.roots t i inside few));
-  none = s.unmoved.no_hand;
+  none = λ a seat words is. s.unmoved.no_room a seat (hand seat words) is refl;
   asked = s.asked;
   heard = heard;
   promised_to = s.promised_to;
@@ -71,7 +72,7 @@ freed_idle c n g asking r = record {
   unmoved = record {
     no_moved = λ a refs nums to name is. none_in_0 c a (r.shared.evacuated.moved.moveds a refs nums to name is).inside;
     no_spent = λ a words to is. none_in_0 c a (r.shared.evacuated.moved.spents a words to is).inside;
-    no_hand = r.none;
+    no_room = roomless c _ _ r.block r.shared.owned.rooms r.none;
   };
   roots = r.roots;
   asked = λ t inside.
@@ -147,7 +148,7 @@ module _ (c : Config) (m : Word → ℕ) (none : m Cset ≡ 0) where
     unmoved = record {
       no_moved = λ a refs nums to name is. none_in_0 c a (subst (λ set. IsCollected c set a) none (r.shared.evacuated.moved.moveds a refs nums to name is).inside);
       no_spent = λ a words to is. none_in_0 c a (subst (λ set. IsCollected c set a) none (r.shared.evacuated.moved.spents a words to is).inside);
-      no_hand = r.none;
+      no_room = roomless c _ _ r.block r.shared.owned.rooms r.none;
     };
     roots = r.roots;
     asked = λ t inside. asked_stays m settled r.block r.block g.count t refl refl (λ a words k is below. refl) (λ a words is. is) (λ a words is. is) (asking t) (r.asked t inside);

@@ -18,7 +18,7 @@ use Rattle.regions.specs.Place.{base_of}
 use Rattle.regions.specs.Sets.{all_but}
 use Rattle.shen_graph.specs.declared.name.Name.{Name}
 use Rattle.shen_graph.specs.Graph.{Graph}
-use Rattle.heap_world.specs.World.{Block, thing, moved, spent, hand, promised, filler, words_of, Plot, name_at, Points, IsPlotted, IsFilled, IsParsable, HasContents, AreOwned, AreUnwritten, AreObjects, IsFreeWord, IsBlank}
+use Rattle.heap_world.specs.World.{Block, thing, moved, spent, promised, dead, filler, words_of, room_of, Plot, name_at, Points, IsPlotted, IsFilled, IsParsable, HasContents, AreOwned, AreUnwritten, AreObjects, IsFreeWord, IsBlank}
 use Rattle.heap_world.specs.Asking.{Asking, nothing, asks, refused, given, IsRequest, IsPromise, IsAsked}
 use Rattle.heap_world.proofs.Updates.{updated, updated_same, updated_there, updated_else}
 use Rattle.heap_world.proofs.Keeping.{points_stay}
@@ -26,6 +26,8 @@ use Rattle.heap_world.proofs.Pieces.{some_words, beside, piece_cases, object_rea
 use Rattle.heap_world.proofs.FreeRegions.{free_before}
 use Rattle.heap_world.proofs.Joined as joined
 use Rattle.heap_world.proofs.Joined.{CanJoin}
+use Rattle.heap_world.proofs.Roomless.{rooms_none}
+use Rattle.std.proofs.lemmas.Option.{none-some}
 use Rattle.full_words.specs.Full.{made_word, made_in, served_in, room_for, served}
 use Rattle.full_words.proofs.Made.{outside_fresh}
 use Rattle.full_words.proofs.Served.{served_first, turn_idle, turn_waits}
@@ -137,6 +139,9 @@ module _ (c : Config) (m : Word → ℕ) (block : Plot) (owner : ℕ → Option 
   -- an object of the graph stood there, and so did what is no promise
   thing_was : (p rs ns : ℕ) (name : Name) → plot p ≡ Some (thing name rs ns) → block p ≡ Some (thing name rs ns)
   thing_was p rs ns name is = ⊎_elim (λ (new : (p ≡ to) × (x ≡ thing name rs ns)). let differ = new.1 in cc) (λ old. old.1) (cases p (thing name rs ns) is)
+
+  dead_was : (p words : ℕ) → plot p ≡ Some (dead words) → block p ≡ Some (dead words)
+  dead_was p words is = ⊎_elim (λ (new : (p ≡ to) × (x ≡ dead words)). let differ = new.1 in cc) (λ old. old.1) (cases p (dead words) is)
 
   filler_was : (p words : ℕ) → plot p ≡ Some (filler words) → block p ≡ Some (filler words)
   filler_was p words is = ⊎_elim (λ (new : (p ≡ to) × (x ≡ filler words)). let differ = new.1 in cc) (λ old. old.1) (cases p (filler words) is)
@@ -287,19 +292,20 @@ module _ (c : Config) (m : Word → ℕ) (block : Plot) (owner : ℕ → Option 
         })
         (cases p (promised seat words) is);
     headers = λ p words is.
-        let was = filler_was p words is in
+        let was = dead_was p words is in
         let first_word : p + 0 ≡ p = omega arith in
-        sym (ap after first_word) ∙ kept p 0 (filler words) was (let size = s.parsable.fillers p words was in omega (arith, size)) ∙ ap heap first_word ∙ s.unwritten.headers p words was;
+        sym (ap after first_word) ∙ kept p 0 (dead words) was (let size = s.parsable.deads p words was in omega (arith, size)) ∙ ap heap first_word ∙ s.unwritten.headers p words was;
     lengths = λ p words is.
-        let was = filler_was p words is in
-        ap object_words (kept p 1 (filler words) was (let size = s.parsable.fillers p words was in omega (arith, size))) ∙ s.unwritten.lengths p words was;
+        let was = dead_was p words is in
+        ap object_words (kept p 1 (dead words) was (let size = s.parsable.deads p words was in omega (arith, size))) ∙ s.unwritten.lengths p words was;
+    fillers = λ p words is. s.unwritten.fillers p words (filler_was p words is);
   }
 
   unmoved_again : AreUnmoved plot
   unmoved_again = record {
     no_moved = λ p rs ns at name is. ⊎_elim (λ (new : (p ≡ to) × (x ≡ moved name rs ns at)). let differ = new.1 in cc) (λ old. s.unmoved.no_moved p rs ns at name old.1) (cases p (moved name rs ns at) is);
     no_spent = λ p words at is. ⊎_elim (λ (new : (p ≡ to) × (x ≡ spent words at)). let differ = new.1 in cc) (λ old. s.unmoved.no_spent p words at old.1) (cases p (spent words at) is);
-    no_hand = λ p seat words is. ⊎_elim (λ (new : (p ≡ to) × (x ≡ hand seat words)). let differ = new.1 in cc) (λ old. s.unmoved.no_hand p seat words old.1) (cases p (hand seat words) is);
+    no_room = λ p seat y is room. ⊎_elim (λ (new : (p ≡ to) × (x ≡ y)). none-some seat (ap room_of new.1 ∙ room)) (λ old. s.unmoved.no_room p seat y old.1 room) (cases p y is);
   }
 
   one_made : IsIdle c (made_in c m t r) plot owner g asking_then
@@ -311,8 +317,9 @@ module _ (c : Config) (m : Word → ℕ) (block : Plot) (owner : ℕ → Option 
           (λ (new : (p ≡ to) × (x ≡ promised seat words)). (let size = ap words_of new.1 in omega (arith, size)))
           (λ old. s.parsable.promises p seat words old.1)
           (cases p (promised seat words) is);
-      fillers = λ p words is. s.parsable.fillers p words (filler_was p words is);
+      deads = λ p words is. s.parsable.deads p words (dead_was p words is);
       spents = λ p words at is. absurd (unmoved_again.no_spent p words at is);
+      fillers = λ p words is. s.parsable.fillers p words (filler_was p words is);
     };
     contents = record { objects = objects_again; given = s.contents.given };
     owned = record {
@@ -321,7 +328,7 @@ module _ (c : Config) (m : Word → ℕ) (block : Plot) (owner : ℕ → Option 
         within = λ seat q is. s.owned.currents.within seat q (sym (same_current seat) ∙ is);
         own = λ seat q is. s.owned.currents.own seat q (sym (same_current seat) ∙ is);
       };
-      rooms = λ p seat words is. absurd (unmoved_again.no_hand p seat words is);
+      rooms = rooms_none c _ _ plot unmoved_again.no_room;
     };
     unwritten = unwritten_again;
     unmoved = unmoved_again;

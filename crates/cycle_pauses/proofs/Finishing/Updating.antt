@@ -10,7 +10,7 @@ use Rattle.heap_words.specs.Encoding.{refs_in, object_words}
 use Rattle.regions.specs.Place.{region_with}
 use Rattle.shen_graph.specs.declared.name.Name.{Name}
 use Rattle.shen_graph.specs.Graph.{Graph, Object, Reference}
-use Rattle.heap_world.specs.World.{Block, thing, moved, spent, promised, filler, words_of, Plot, no_ghost, with_owner, Points, name_at, body_of, body_at, IsCollected, IsThing, AreObjects, AreUnwritten, HaveMoved, IsMarkable, HasCopy, IsUsable, IsCurrent}
+use Rattle.heap_world.specs.World.{Block, thing, moved, spent, promised, dead, words_of, Plot, no_ghost, with_owner, Points, name_at, body_of, body_at, IsCollected, IsThing, AreObjects, AreUnwritten, HaveMoved, IsMarkable, HasCopy, IsUsable, IsCurrent, hand}
 use Rattle.heap_world.specs.Asking.{Asking, nothing, asks, refused, given, IsAsked}
 use Rattle.heap_world.specs.Roots.{HasNoMore}
 use Rattle.heap_world.specs.Represents.{Represents}
@@ -50,7 +50,7 @@ module _ (c : Config) (first m : Word → ℕ) (block : Plot) (owner : ℕ → O
 
   -- a piece outside of the set has as many words as its shape word says
   sizes : (a : ℕ) (x : Block) → block a ≡ Some x → (IsCollected c (m Cset) a → ⊥) → words_at m a ≡ words_of x
-  sizes = piece_sizes c (m Cset) heap block g.object s.between.contents.objects s.between.unwritten s.between.moves s.between.no_hands
+  sizes = piece_sizes c (m Cset) heap block g.object s.between.contents.objects s.between.unwritten s.between.moves s.between.no_rooms
 
   not_reference : (a k refs : ℕ) → refs_in (heap (a + 1)) ≡ refs → (k < 3) ⊎ (3 + refs ≤ k) → is_reference m a (a + k) ≡ false
   not_reference a k refs shape out = ⊎_elim
@@ -104,14 +104,14 @@ module _ (c : Config) (first m : Word → ℕ) (block : Plot) (owner : ℕ → O
       other_stays c m block s.between.parsable.plotted s.between.parsable.filled some sizes a k (promised seat words) here below away other)
       (cases_Bool (is_reference m a (a + k)))
 
-  -- so do words that only fill, ..
-  filler_word : (a words k : ℕ) → block a ≡ Some (filler words) → k < words → after (a + k) ≡ heap (a + k)
-  filler_word a words k here below = ⊎_elim
+  -- so do those of dead objects, ..
+  dead_word : (a words k : ℕ) → block a ≡ Some (dead words) → k < words → after (a + k) ≡ heap (a + k)
+  dead_word a words k here below = ⊎_elim
       (λ (inside : IsCollected c (m Cset) a).
-      collected_stays c m block s.between.parsable.plotted s.between.parsable.filled some sizes a k (filler words) here below inside)
+      collected_stays c m block s.between.parsable.plotted s.between.parsable.filled some sizes a k (dead words) here below inside)
       (λ (away : IsCollected c (m Cset) a → ⊥).
-      dead_stays c m block s.between.parsable.plotted s.between.parsable.filled some sizes a k (filler words) here below away
-      (s.between.unmarked a words here) (s.between.fillers a words here))
+      dead_stays c m block s.between.parsable.plotted s.between.parsable.filled some sizes a k (dead words) here below away
+      (s.between.unmarked a words here) (s.between.deads a words here))
       (inside_or_not a)
     where
       inside_or_not : (p : ℕ) → IsCollected c (m Cset) p ⊎ (IsCollected c (m Cset) p → ⊥)
@@ -197,11 +197,12 @@ module _ (c : Config) (first m : Word → ℕ) (block : Plot) (owner : ℕ → O
         };
     headers = λ a words is.
         let first_word : a + 0 ≡ a = omega arith in
-        let long = s.between.parsable.fillers a words is in
-        sym (ap after first_word) ∙ filler_word a words 0 is (omega (arith, long)) ∙ ap heap first_word ∙ s.between.unwritten.headers a words is;
+        let long = s.between.parsable.deads a words is in
+        sym (ap after first_word) ∙ dead_word a words 0 is (omega (arith, long)) ∙ ap heap first_word ∙ s.between.unwritten.headers a words is;
     lengths = λ a words is.
-        let long = s.between.parsable.fillers a words is in
-        ap object_words (filler_word a words 1 is (omega (arith, long))) ∙ s.between.unwritten.lengths a words is;
+        let long = s.between.parsable.deads a words is in
+        ap object_words (dead_word a words 1 is (omega (arith, long))) ∙ s.between.unwritten.lengths a words is;
+    fillers = s.between.unwritten.fillers;
   }
 
   moves_again : HaveMoved c (m Cset) after block
@@ -277,13 +278,14 @@ module _ (c : Config) (first m : Word → ℕ) (block : Plot) (owner : ℕ → O
           nobodys = s.between.nobodys;
           no_new = s.between.no_new;
           no_promises = s.no_promises;
+          no_rooms = λ a seat x is room. absurd (s.between.no_rooms a seat x is room);
         };
         kept = record {
           objects = λ on. s.between.marked;
-          young = λ on a seat words is. absurd (s.between.no_hands a seat words is);
+          young = λ on a seat x is room. absurd (s.between.no_rooms a seat x is room);
           floors = λ on. s.between.floors;
           unmarked = λ on. s.between.unmarked;
-          fillers = λ on. s.between.fillers;
+          deads = λ on. s.between.deads;
           only = λ on a above mark inside. has_copy a inside (s.between.only a above mark inside);
         };
         units = λ on. absurd (omega (arith, on));
@@ -291,13 +293,13 @@ module _ (c : Config) (first m : Word → ℕ) (block : Plot) (owner : ℕ → O
       updated = λ on. record {
         outside = outside;
         renewed = λ a refs nums k name is few. inl (field_current a refs nums k name is few);
-        young = λ a seat words is. absurd (s.between.no_hands a seat words is);
+        young = λ a seat x is room. absurd (s.between.no_rooms a seat x is room);
         limits = λ r inside. omega arith;
       };
     };
     roots = λ t i inside few. (updated_points (m (Root t i)) (g.root (t + 1) i) (s.roots t i inside few)).0;
     usable = λ t i inside few. usable (updated_word c m (m (Root t i))) (updated_points (m (Root t i)) (g.root (t + 1) i) (s.roots t i inside few)).1;
-    none = s.between.no_hands;
+    none = λ a seat words is. s.between.no_rooms a seat (hand seat words) is refl;
     asked = λ t inside.
         asked_stays m (as_updated c n) block block g.count t refl (answer_stays t (asking t) (s.asked t inside)) (λ a words k is below. promised_word a t words k is below)
         (λ a words is. is) (λ a words is. is) (asking t) (s.asked t inside);

@@ -3,16 +3,17 @@ use Rattle.std.proofs.Common.{zero, suc, length, replicate, subst, ◌≡◌, �
 use Rattle.std.specs.Prelude.{if◌then◌else◌}
 use Rattle.std.proofs.lemmas.Bool.{cond-true, cond-false, cases_Bool}
 use Rattle.std.proofs.lemmas.List.{length-replicate}
-use Rattle.std.proofs.lemmas.Option.{same_Some}
+use Rattle.std.proofs.lemmas.Option.{same_Some, none-some}
 use Rattle.heap_words.specs.declared.config.Config.{Config}
 use Rattle.heap_words.specs.Words.{Word, Free, Top, Root, Heap}
 use Rattle.shen_graph.specs.declared.name.Name.{Name}
 use Rattle.shen_graph.specs.Graph.{Graph, Object, Reference, blank, fresh, same_reference}
 use Rattle.shen_graph.proofs.PlainLemmas.{same_name-itself}
-use Rattle.heap_world.specs.World.{Block, thing, moved, spent, hand, promised, filler, no_ghost, words_of, Plot, name_at, Points, IsGiven, IsThing, AreObjects, IsBlank, IsEvacuating, IsUsable, AreUsable, SharedFacts}
+use Rattle.heap_world.specs.World.{Block, thing, moved, spent, promised, dead, filler, no_ghost, words_of, room_of, HasNoRoom, Plot, name_at, Points, IsGiven, IsThing, AreObjects, IsBlank, IsEvacuating, IsUsable, AreUsable, SharedFacts}
 use Rattle.heap_world.proofs.Keeping.{usable_now}
 use Rattle.heap_world.proofs.Copies.{none_evacuated}
 use Rattle.heap_world.proofs.Unmarked.{none_marked}
+use Rattle.heap_world.proofs.Roomless.{rooms_none}
 use Rattle.full_words.specs.Promised.{Promises, with_promised}
 use Rattle.full_words.specs.Image.{ImageStands}
 use Rattle.full_words.proofs.Named.{thing_at}
@@ -148,11 +149,14 @@ module _ (c : Config) (m : Word → ℕ) (block : Plot) (g : Graph) (p : Promise
       by_kind (stays_old name refs nums here other same) = unlike name refs nums same
       by_kind (is_taken name refs nums here test same) = unpromised (name.thread - 1) (3 + refs + nums) same
 
-  pub no_hands : (a seat words : ℕ) → taken a ≡ Some (hand seat words) → ⊥
-  no_hands a seat words = no_other a (hand seat words) (λ name refs nums wrong. (let differ = wrong in cc)) (λ other more wrong. (let differ = wrong in cc))
+  pub no_room : HasNoRoom taken
+  no_room a seat x is room = no_other a x (λ name refs nums same. none-some seat (ap room_of (sym same) ∙ room)) (λ other more same. none-some seat (ap room_of (sym same) ∙ room)) is
 
   no_fillers : (a words : ℕ) → taken a ≡ Some (filler words) → ⊥
   no_fillers a words = no_other a (filler words) (λ name refs nums wrong. (let differ = wrong in cc)) (λ other more wrong. (let differ = wrong in cc))
+
+  no_deads : (a words : ℕ) → taken a ≡ Some (dead words) → ⊥
+  no_deads a words = no_other a (dead words) (λ name refs nums wrong. (let differ = wrong in cc)) (λ other more wrong. (let differ = wrong in cc))
 
   no_moveds : (a refs nums to : ℕ) (n : Name) → taken a ≡ Some (moved n refs nums to) → ⊥
   no_moveds a refs nums to n = no_other a (moved n refs nums to) (λ name more less wrong. (let differ = wrong in cc)) (λ other more wrong. (let differ = wrong in cc))
@@ -216,8 +220,9 @@ module _ (c : Config) (m : Word → ℕ) (block : Plot) (g : Graph) (p : Promise
       plotted = plotted_alike c (λ q. m (Top q)) block (as_promised p) same_words stands.plotted;
       filled = filled_alike c (λ q. m (Top q)) block (as_promised p) same_words stands.filled;
       promises = λ a seat words is. (let at = gone a seat words is in omega (arith, at.words_are));
-      fillers = λ a words is. absurd (no_fillers a words is);
+      deads = λ a words is. absurd (no_deads a words is);
       spents = λ a words to is. absurd (no_spents a words to is);
+      fillers = λ a words is. absurd (no_fillers a words is);
     };
     contents = record { objects = objects_left; given = is_after.given };
     owned = record {
@@ -226,10 +231,10 @@ module _ (c : Config) (m : Word → ℕ) (block : Plot) (g : Graph) (p : Promise
         within = λ seat q is. absurd (omega (arith, is, none seat));
         own = λ seat q is. absurd (omega (arith, is, none seat));
       };
-      rooms = λ a seat words is. absurd (no_hands a seat words is);
+      rooms = rooms_none c _ _ taken no_room;
     };
     phased = record { phase_is = omega (arith, no_phase); cset_is = λ other. no_cset; evac_is = λ other. no_evac };
-    unwritten = record { blanks = blank_at; headers = λ a words is. absurd (no_fillers a words is); lengths = λ a words is. absurd (no_fillers a words is) };
+    unwritten = record { blanks = blank_at; headers = λ a words is. absurd (no_deads a words is); lengths = λ a words is. absurd (no_deads a words is); fillers = no_fillers };
     marked = none_marked c phase grey black entries buffer (λ q. m (Top q)) tams heap taken no_ghost.recording no_ghost.scanning no_phase;
     evacuated =
         subst (λ set. IsEvacuating c phase set evac claim (m Free) (λ q. m (Top q)) tams heap black taken no_ghost.owner no_ghost.copying no_ghost.working) (sym no_cset)

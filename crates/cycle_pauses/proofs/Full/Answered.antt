@@ -6,7 +6,7 @@ use Rattle.heap_words.specs.declared.config.Config.{Config}
 use Rattle.heap_words.specs.Words.{Word, Phase, Cset, Evac, Claim, Tams, Limit, Current, Count, Buffer, Wait, Answer, Grey, Black}
 use Rattle.heap_words.specs.Encoding.{request_shape_in, refs_in, nums_in}
 use Rattle.shen_graph.specs.Graph.{Graph, fresh}
-use Rattle.heap_world.specs.World.{no_ghost}
+use Rattle.heap_world.specs.World.{no_ghost, hand}
 use Rattle.heap_world.specs.Asking.{Asking, nothing, asks, refused, given, IsAsked}
 use Rattle.heap_world.specs.Represents.{Represents, RepresentsByCopies}
 use Rattle.heap_world.specs.Change.{Answers}
@@ -16,7 +16,7 @@ use Rattle.full_words.specs.Serving.{served_promises}
 use Rattle.cycle_pauses.proofs.Full.Promises.{promised_ref, promised_refs, promised_nums, promises_of, ref_of, refs_of, nums_of}
 use Rattle.cycle_pauses.proofs.Full.Holding.{request_reads, waits_for}
 use Rattle.full_words.proofs.Turned.{SamePromise, IsPromisedAsAsked, promise_after}
-use Rattle.cycle_pauses.proofs.Full.After.{gone, no_hands, shared_facts, roots_left, roots_usable}
+use Rattle.cycle_pauses.proofs.Full.After.{gone, no_room, shared_facts, roots_left, roots_usable}
 use Rattle.cycle_pauses.proofs.Full.Made.{promised_if_some, some_if_promised, no_promise, promise}
 use Rattle.full_words.proofs.Still.{full_phase, full_cset, full_evac, full_current, full_wait, packed_wait}
 use Rattle.cycle_pauses.proofs.Full.Paused.{then_of, packed_answer, asked_then, plot, is_after, plot_then, answer_left, answer_found}
@@ -123,7 +123,7 @@ module _ (c : Config) (m : Word → ℕ) (g : Graph) (asking : ℕ → Asking) (
             (λ n. full c m (Grey n)) (λ n. full c m (Black n)) (λ t. full c m (Count t)) (λ t k. full c m (Buffer t k)) (λ q. full c m (Tams q)) (λ q. full c m (Limit q)) (full_phase c m) (full_cset c m) (full_evac c m) (full_current c m);
         roots = roots_left c (full c m) (plot c m g asking r) g q facts;
         usable = roots_usable c (full c m) (plot c m g asking r) g q facts (full c m Cset) (full c m Evac) (full_cset c m);
-        none = no_hands c (full c m) (plot c m g asking r) g q facts;
+        none = λ a seat words is. no_room c (full c m) (plot c m g asking r) g q facts a seat (hand seat words) is refl;
         asked = λ t inside. asked_by t (asking t) inside refl (r.asked t inside);
         promised_to = λ a seat words is.
             let x = gone c (full c m) (plot c m g asking r) g q facts a seat words is in

@@ -8,7 +8,7 @@ use Rattle.heap_words.specs.Words.{Word, Top, Current, Root, Answer, Heap}
 use Rattle.shen_graph.specs.declared.name.Name.{Name}
 use Rattle.shen_graph.specs.Graph.{Graph, Object, blank, fresh, same_reference}
 use Rattle.shen_graph.proofs.PlainLemmas.{same_name-itself}
-use Rattle.heap_world.specs.World.{Block, thing, moved, spent, hand, promised, filler, words_of, Plot, name_at, body_of, IsPlotted, IsFilled, IsThing, IsMarkable}
+use Rattle.heap_world.specs.World.{Block, thing, moved, spent, hand, promised, dead, spare, carved, words_of, room_of, HasNoRoom, Plot, name_at, body_of, IsPlotted, IsFilled, IsThing, IsMarkable}
 use Rattle.heap_world.specs.Asking.{Asking, nothing, asks, refused, given, IsPromise, IsAsked}
 use Rattle.heap_world.specs.Roots.{is_root_of}
 use Rattle.heap_world.specs.Represents.{RepresentsByCopies}
@@ -32,16 +32,18 @@ as_current g asking _ other = other
 abbrev pub as_object : Graph → (ℕ → Asking) → Plot → Block → Block
 as_object g asking block (thing name refs nums) = thing name refs nums
 as_object g asking block (moved name refs nums to) = thing name refs nums
-as_object g asking block (spent words to) = as_current g asking (block to) (filler words)
+as_object g asking block (spent words to) = as_current g asking (block to) (dead words)
 as_object g asking block (promised seat words) = thing (fresh g (seat + 1)) (promised_refs (asking seat)) (promised_nums (asking seat))
 as_object g asking block piece = piece
 
--- a piece that is no object, old or new, nor room in hand
+-- a piece that is no object, old or new, nor room: it is a dead object, or only fills
 abbrev pub OnlyFills : Block → Type 0
 OnlyFills (thing name refs nums) = ⊥
 OnlyFills (moved name refs nums to) = ⊥
 OnlyFills (spent words to) = ⊥
 OnlyFills (hand seat words) = ⊥
+OnlyFills (spare seat words) = ⊥
+OnlyFills (carved seat words) = ⊥
 OnlyFills (promised seat words) = ⊥
 OnlyFills _ = Unit {0}
 
@@ -51,6 +53,8 @@ fills_still g asking block (thing name refs nums) fills = absurd fills
 fills_still g asking block (moved name refs nums to) fills = absurd fills
 fills_still g asking block (spent words to) fills = absurd fills
 fills_still g asking block (hand seat words) fills = absurd fills
+fills_still g asking block (spare seat words) fills = absurd fills
+fills_still g asking block (carved seat words) fills = absurd fills
 fills_still g asking block (promised seat words) fills = absurd fills
 fills_still g asking block _ fills = refl
 
@@ -58,6 +62,13 @@ pub fills_unnamed : (b : Block) (name : Name) → OnlyFills b → name_at (Some 
 fills_unnamed (thing n refs nums) name fills is = fills
 fills_unnamed (moved n refs nums to) name fills is = fills
 fills_unnamed _ name fills is = none-some name is
+
+-- nor is it room
+fills_no_room : (b : Block) (seat : ℕ) → OnlyFills b → room_of b ≡ Some seat → ⊥
+fills_no_room (hand other words) seat fills is = fills
+fills_no_room (spare other words) seat fills is = fills
+fills_no_room (carved other words) seat fills is = fills
+fills_no_room _ seat fills is = none-some seat is
 
 -- what the words at an address are as a piece
 abbrev ObjectAt : (ℕ → ℕ) → Plot → (Name → Option Object) → ℕ → Block → Type 0
@@ -116,10 +127,10 @@ module _ (c : Config) (m : Word → ℕ) (g : Graph) (asking : ℕ → Asking) (
       omega (arith, refs, nums, at.long)
 
   -- an old copy has as many words as the current one
-  spent_words : (to words : ℕ) → IsMarkable r.block to → ((b : Block) → r.block to ≡ Some b → words_of b ≡ words) → words_of (as_current g asking (r.block to) (filler words)) ≡ words
-  spent_words to words (IsMarkable.object name refs nums is) long = ap (λ o. words_of (as_current g asking o (filler words))) is ∙ long (thing name refs nums) is
+  spent_words : (to words : ℕ) → IsMarkable r.block to → ((b : Block) → r.block to ≡ Some b → words_of b ≡ words) → words_of (as_current g asking (r.block to) (dead words)) ≡ words
+  spent_words to words (IsMarkable.object name refs nums is) long = ap (λ o. words_of (as_current g asking o (dead words))) is ∙ long (thing name refs nums) is
   spent_words to words (IsMarkable.to_come seat more is) long =
-      ap (λ o. words_of (as_current g asking o (filler words))) is ∙ promised_words to seat more is ∙ long (promised seat more) is
+      ap (λ o. words_of (as_current g asking o (dead words))) is ∙ promised_words to seat more is ∙ long (promised seat more) is
 
   -- a piece keeps its words
   pub same_words : (a : ℕ) (b : Block) → r.block a ≡ Some b → words_of (as_object g asking r.block b) ≡ words_of b
@@ -137,10 +148,12 @@ module _ (c : Config) (m : Word → ℕ) (g : Graph) (asking : ℕ → Asking) (
   pieces_are a (moved name refs nums to) is = inl (name, refs, nums, refl)
   pieces_are a (spent words to) is = inl (by_copy (r.shared.evacuated.moved.spents a words to is).copy)
     where
-      by_copy : IsMarkable r.block to → (name : Name) × (refs : ℕ) × (nums : ℕ) × (as_current g asking (r.block to) (filler words) ≡ thing name refs nums)
-      by_copy (IsMarkable.object name refs nums here) = (name, refs, nums, ap (λ o. as_current g asking o (filler words)) here)
-      by_copy (IsMarkable.to_come seat more here) = (fresh g (seat + 1), promised_refs (asking seat), promised_nums (asking seat), ap (λ o. as_current g asking o (filler words)) here)
+      by_copy : IsMarkable r.block to → (name : Name) × (refs : ℕ) × (nums : ℕ) × (as_current g asking (r.block to) (dead words) ≡ thing name refs nums)
+      by_copy (IsMarkable.object name refs nums here) = (name, refs, nums, ap (λ o. as_current g asking o (dead words)) here)
+      by_copy (IsMarkable.to_come seat more here) = (fresh g (seat + 1), promised_refs (asking seat), promised_nums (asking seat), ap (λ o. as_current g asking o (dead words)) here)
   pieces_are a (hand seat words) is = absurd (r.none a seat words is)
+  pieces_are a (spare seat words) is = absurd (r.shared.owned.rooms.spares a seat words is)
+  pieces_are a (carved seat words) is = absurd (r.shared.owned.rooms.carveds a seat words is)
   pieces_are a (promised seat words) is = inl (fresh g (seat + 1), promised_refs (asking seat), promised_nums (asking seat), refl)
   pieces_are a _ is = inr tt
 
@@ -277,17 +290,17 @@ module _ (c : Config) (m : Word → ℕ) (g : Graph) (asking : ℕ → Asking) (
       (λ (fills : (r.block a ≡ Some (promised seat words)) × OnlyFills (promised seat words)). fills.1)
       (live_cases a (promised seat words) is)
 
-  pub live_unheld : (a seat words : ℕ) → live a ≡ Some (hand seat words) → ⊥
-  live_unheld a seat words is = ⊎_elim
-      (λ (one : (name : Name) × (refs : ℕ) × (nums : ℕ) × (hand seat words ≡ thing name refs nums)). (let differ = one.3 in cc))
-      (λ (fills : (r.block a ≡ Some (hand seat words)) × OnlyFills (hand seat words)). fills.1)
-      (live_cases a (hand seat words) is)
+  pub live_roomless : HasNoRoom live
+  live_roomless a seat x is room = ⊎_elim
+      (λ (one : (name : Name) × (refs : ℕ) × (nums : ℕ) × (x ≡ thing name refs nums)). none-some seat (ap room_of (sym one.3) ∙ room))
+      (λ (fills : (r.block a ≡ Some x) × OnlyFills x). fills_no_room x seat fills.1 room)
+      (live_cases a x is)
 
-  pub live_filler : (a words : ℕ) → live a ≡ Some (filler words) → r.block a ≡ Some (filler words)
-  live_filler a words is = ⊎_elim
-      (λ (one : (name : Name) × (refs : ℕ) × (nums : ℕ) × (filler words ≡ thing name refs nums)). absurd (let differ = one.3 in cc))
-      (λ (fills : (r.block a ≡ Some (filler words)) × OnlyFills (filler words)). fills.0)
-      (live_cases a (filler words) is)
+  pub live_dead : (a words : ℕ) → live a ≡ Some (dead words) → r.block a ≡ Some (dead words)
+  live_dead a words is = ⊎_elim
+      (λ (one : (name : Name) × (refs : ℕ) × (nums : ℕ) × (dead words ≡ thing name refs nums)). absurd (let differ = one.3 in cc))
+      (λ (fills : (r.block a ≡ Some (dead words)) × OnlyFills (dead words)). fills.0)
+      (live_cases a (dead words) is)
 
   -- each piece has some words
   pub live_some : (a : ℕ) (b : Block) → live a ≡ Some b → 1 ≤ words_of b

@@ -10,7 +10,7 @@ use Rattle.shen_graph.specs.declared.name.Name.{Name}
 use Rattle.shen_graph.specs.Graph.{Graph, Object, Reference}
 use Rattle.shen_graph.specs.Reach.{IsReachable}
 use Rattle.shen_graph.specs.Reach as reach
-use Rattle.heap_world.specs.World.{Block, thing, moved, spent, promised, filler, Plot, name_at, body_of, Points, IsCollected, IsMarkable}
+use Rattle.heap_world.specs.World.{Block, thing, moved, spent, promised, dead, Plot, name_at, body_of, Points, IsCollected, IsMarkable}
 use Rattle.heap_world.specs.Asking.{Asking}
 use Rattle.heap_world.specs.Represents.{RepresentsByCopies}
 use Rattle.heap_world.proofs.Pointing.{named_body, named_piece, named_if_not_0, copy_cases}
@@ -60,9 +60,9 @@ module _ (c : Config) (m : Word → ℕ) (g : Graph) (asking : ℕ → Asking) (
     pub same : old to ≡ Some (thing name refs nums)
 
   -- what stands at the current copy of an object that was promised
-  spent_same : (words to : ℕ) → Current to → old to ≡ Some (as_current g asking (r.block to) (filler words))
-  spent_same words to (IsMarkable.object name refs nums is) = live_at c m g asking r to (thing name refs nums) is ∙ ap (λ o. Some (as_current g asking o (filler words))) (sym is)
-  spent_same words to (IsMarkable.to_come seat more is) = live_at c m g asking r to (promised seat more) is ∙ ap (λ o. Some (as_current g asking o (filler words))) (sym is)
+  spent_same : (words to : ℕ) → Current to → old to ≡ Some (as_current g asking (r.block to) (dead words))
+  spent_same words to (IsMarkable.object name refs nums is) = live_at c m g asking r to (thing name refs nums) is ∙ ap (λ o. Some (as_current g asking o (dead words))) (sym is)
+  spent_same words to (IsMarkable.to_come seat more is) = live_at c m g asking r to (promised seat more) is ∙ ap (λ o. Some (as_current g asking o (dead words))) (sym is)
 
   -- an object of the larger graph is a current copy, or an old one
   pub data Kind (a refs nums : ℕ) (name : Name) : Type 0 where

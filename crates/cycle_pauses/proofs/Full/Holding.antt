@@ -12,7 +12,7 @@ use Rattle.regions.specs.Marks.{HasMark, mark_word, mark_bit}
 use Rattle.heap_words.proofs.Shapes.{refs_in-shape_word, nums_in-shape_word}
 use Rattle.shen_graph.specs.declared.name.Name.{Name}
 use Rattle.shen_graph.specs.Graph.{Graph, Object, blank, fresh, same_reference}
-use Rattle.heap_world.specs.World.{Block, thing, moved, spent, hand, promised, filler, words_of, IsCollected, IsMarkable, IsYoung, HasCopy}
+use Rattle.heap_world.specs.World.{Block, thing, moved, spent, hand, promised, dead, filler, spare, carved, words_of, IsCollected, IsMarkable, IsYoung, HasCopy}
 use Rattle.heap_world.proofs.Pointing.{body_piece, piece_inside}
 use Rattle.full_words.proofs.Reached.{words_read}
 use Rattle.heap_world.specs.Asking.{Asking, nothing, asks, refused, given, IsRequest, IsAsked}
@@ -25,7 +25,7 @@ use Rattle.cycle_words.specs.Marking.Marks.{IsKept}
 use Rattle.cycle_words.specs.StillHolds.{AreMarkedPieces, WhileCollecting}
 use Rattle.cycle_pauses.proofs.Full.Promises.{promised_ref, promises_of, ref_of, promised_one}
 use Rattle.cycle_pauses.proofs.Full.Mapped.{mapped_from}
-use Rattle.cycle_pauses.proofs.Full.Before.{as_object, live, live_at, same_words, not_next, live_rooted, live_filled, live_unpromised, live_unheld, live_some}
+use Rattle.cycle_pauses.proofs.Full.Before.{as_object, live, live_at, same_words, not_next, live_rooted, live_filled, live_unpromised, live_roomless, live_some}
 use Rattle.cycle_pauses.proofs.Full.Current.{led_to, header_of, held_current, Kind, is_current, is_old, kind_at, old_thing, live_holds, reached_at}
 use Rattle.cycle_pauses.proofs.Full.ByCopies.{by_copies}
 use Rattle.cycle_pauses.specs.Full.Laws.{RepresentingIsSized}
@@ -150,7 +150,7 @@ module _ (c : Config) (m : Word → ℕ) (g : Graph) (asking : ℕ → Asking) (
     rooted = live_rooted c m g asking r;
     moved = λ a refs nums name is forwarded. moved_by a refs nums name forwarded (kind_at c m g asking r a refs nums name is);
     filled = live_filled c m g asking r;
-    pieces = record { named = old_thing c m g asking r; unpromised = live_unpromised c m g asking r; unheld = live_unheld c m g asking r; some = live_some c m g asking r };
+    pieces = record { named = old_thing c m g asking r; unpromised = live_unpromised c m g asking r; roomless = live_roomless c m g asking r; some = live_some c m g asking r };
     free_word = r.shared.owned.free_word;
     currents = r.shared.owned.currents;
     asking = λ t from inside waits. are_asking t inside waits;
@@ -178,7 +178,10 @@ module _ (c : Config) (m : Word → ℕ) (g : Graph) (asking : ℕ → Asking) (
   size_of a (promised seat words) is =
       let blank = r.shared.unwritten.blanks a seat words is in
       ap object_words blank.shape ∙ words_read blank.refs blank.nums blank.few_refs blank.few_nums ∙ sym blank.long
-  size_of a (filler words) is = r.shared.unwritten.lengths a words is
+  size_of a (dead words) is = r.shared.unwritten.lengths a words is
+  size_of a (filler words) is = absurd (r.shared.unwritten.fillers a words is)
+  size_of a (spare seat words) is = absurd (r.shared.owned.rooms.spares a seat words is)
+  size_of a (carved seat words) is = absurd (r.shared.owned.rooms.carveds a seat words is)
 
   pub are_sized : AreSized m (live c m g asking r)
   are_sized a b is =

@@ -1,16 +1,17 @@
 -- The beginning of marking: the words represent the same graph, and the snapshot is what can be reached.
 use Rattle.std.proofs.Common.{◌≡◌, ◌≢◌, ℕ, ◌+◌, ◌<◌, ◌≤◌, Bool, true, Some, None, refl, sym, ap, ◌∙◌, subst, arith}
 use Rattle.heap_words.specs.declared.config.Config.{Config}
-use Rattle.heap_words.specs.Words.{Word, Phase, Cset, Free, Evac, Top, Tams, Root, Count, Buffer, Answer, Grey, Black, Heap}
+use Rattle.heap_words.specs.Words.{Word, Phase, Cset, Free, Evac, Top, Current, Tams, Root, Count, Buffer, Answer, Grey, Black, Heap}
 use Rattle.heap_words.specs.Encoding.{refs_in, object_words}
 use Rattle.shen_graph.specs.declared.name.Name.{Name}
 use Rattle.shen_graph.specs.Graph.{Graph, Object, Reference}
 use Rattle.heap_graph.specs.Walk.{has}
-use Rattle.heap_world.specs.World.{Block, moved, promised, filler, words_of, Plot, Snapshot, Ghost, name_at, Points, IsThing, AreObjects, AreUnwritten, IsMarkable, IsYoung, IsLed, KeepsSnapshot, IsEvacuating, IsUsable, AreUsable}
+use Rattle.heap_world.specs.World.{Block, moved, hand, promised, dead, words_of, HasNoRoom, Plot, Snapshot, Ghost, name_at, Points, IsThing, AreObjects, AreUnwritten, IsMarkable, IsYoung, IsLed, KeepsSnapshot, IsEvacuating, IsUsable, AreUsable}
 use Rattle.heap_world.specs.Asking.{Asking, asks, given, IsAsked}
 use Rattle.heap_world.specs.Represents.{Represents, RepresentsByCopies}
 use Rattle.heap_world.proofs.Keeping.{usable_now}
 use Rattle.heap_world.proofs.Copies.{none_evacuated}
+use Rattle.heap_world.proofs.Roomless.{roomless, rooms_none}
 use Rattle.full_words.specs.Held.{IsAmong}
 use Rattle.full_words.specs.Full.{root_words, held_in}
 use Rattle.full_words.specs.Promised.{Promises}
@@ -28,7 +29,7 @@ use Rattle.cycle_words.proofs.Marking.Plain.{root_reached, field_reached, reach_
 use Rattle.cycle_pauses.proofs.Evacuation.Asked.{asked_stays}
 use Rattle.cycle_pauses.proofs.Marking.FromSnapshot.{no_moved, no_spent, thing_at, piece_below, piece_above, markable_piece, reached_markable}
 use Rattle.cycle_words.proofs.Marking.Trimmed.{object_stands}
-use Rattle.cycle_words.proofs.Marking.Pruned.{WasPiece, piece_was, thing_stays, promised_stays, thing_was, hand_was, promised_was, moved_was, spent_was, pruned_from, pruned_plotted, pruned_filled}
+use Rattle.cycle_words.proofs.Marking.Pruned.{WasPiece, piece_was, thing_stays, promised_stays, thing_was, room_was, filler_was, promised_was, moved_was, spent_was, pruned_from, pruned_plotted, pruned_filled}
 use Rattle.cycle_words.proofs.Marking.FirstSnapshot.{first, first_snapshot, is_first, first_marked}
 
 module _ (c : Config) (m : Word → ℕ) (g : Graph) (asking : ℕ → Asking) (r : Represents c m g asking) (rests : m Phase ≡ 0) where
@@ -106,25 +107,30 @@ module _ (c : Config) (m : Word → ℕ) (g : Graph) (asking : ℕ → Asking) (
         r.shared.contents.objects.once a b refs nums more_refs more_nums name (thing_was found r.block a refs nums name is_a).0 (thing_was found r.block b more_refs more_nums name is_b).0;
   }
 
-  -- words that only fill are at least as many as an object has, begin with a header, and have a shape word of so many
-  filler_of : (a words : ℕ) (x : Block) → r.block a ≡ Some x → WasPiece (found a) x (filler words) → (3 ≤ words) × (heap a ≡ 1) × (object_words (heap (a + 1)) ≡ words)
-  filler_of a words x is (WasPiece.was_left same is_live) =
-      let was : r.block a ≡ Some (filler words) = is ∙ ap Some same in
-      (r.shared.parsable.fillers a words was, r.shared.unwritten.headers a words was, r.shared.unwritten.lengths a words was)
-  filler_of a words x is (WasPiece.was_object name refs nums same fills) =
+  -- a dead object has at least as many words as an object has, begins with a header, and has a shape word of so many
+  dead_of : (a words : ℕ) (x : Block) → r.block a ≡ Some x → WasPiece (found a) x (dead words) → (3 ≤ words) × (heap a ≡ 1) × (object_words (heap (a + 1)) ≡ words)
+  dead_of a words x is (WasPiece.was_left same is_live) =
+      let was : r.block a ≡ Some (dead words) = is ∙ ap Some same in
+      (r.shared.parsable.deads a words was, r.shared.unwritten.headers a words was, r.shared.unwritten.lengths a words was)
+  dead_of a words x is (WasPiece.was_object name refs nums same fills) =
       let o = r.shared.contents.objects.each a refs nums name (is ∙ ap Some same) in
       let long : words ≡ 3 + refs + nums = ap words_of fills in
       (omega (arith, long), o.2.header, ap object_words o.2.shape ∙ words_read refs nums o.2.few_refs o.2.few_nums ∙ sym long)
 
-  filler_at : (a words : ℕ) → plot a ≡ Some (filler words) → (3 ≤ words) × (heap a ≡ 1) × (object_words (heap (a + 1)) ≡ words)
-  filler_at a words is = let was = piece_was found r.block a (filler words) is in filler_of a words was.0 was.1 was.2
+  dead_at : (a words : ℕ) → plot a ≡ Some (dead words) → (3 ≤ words) × (heap a ≡ 1) × (object_words (heap (a + 1)) ≡ words)
+  dead_at a words is = let was = piece_was found r.block a (dead words) is in dead_of a words was.0 was.1 was.2
 
   unwritten_again : AreUnwritten heap plot
   unwritten_again = record {
     blanks = λ a seat words is. r.shared.unwritten.blanks a seat words (promised_was found r.block a seat words is);
-    headers = λ a words is. (filler_at a words is).1;
-    lengths = λ a words is. (filler_at a words is).2;
+    headers = λ a words is. (dead_at a words is).1;
+    lengths = λ a words is. (dead_at a words is).2;
+    fillers = λ a words is. r.shared.unwritten.fillers a words (filler_was found r.block a words is);
   }
+
+  -- no piece is room
+  no_room : HasNoRoom plot
+  no_room a seat x is room = roomless c top (λ s. m (Current s)) r.block r.shared.owned.rooms r.none a seat x (room_was found r.block a seat x room is) room
 
   -- The snapshot: the objects that can be reached, and what roots and answers name.
   abbrev snapshot : Snapshot
@@ -179,7 +185,7 @@ module _ (c : Config) (m : Word → ℕ) (g : Graph) (asking : ℕ → Asking) (
       (λ a refs nums name is. led a (found_held c m g asking copies a (thing_was found r.block a refs nums name is).1))
       root_markable
       (λ a seat words is. promise_first a seat words (promised_was found r.block a seat words is))
-      (λ a seat words is. r.none a seat words (hand_was found r.block a seat words is))
+      no_room
       none_young
 
   -- what is asked and promised stays
@@ -207,14 +213,15 @@ module _ (c : Config) (m : Word → ℕ) (g : Graph) (asking : ℕ → Asking) (
         plotted = pruned_plotted found r.block c top r.shared.parsable.plotted;
         filled = pruned_filled found r.block c top r.shared.parsable.filled;
         promises = λ a seat words is. r.shared.parsable.promises a seat words (promised_was found r.block a seat words is);
-        fillers = λ a words is. (filler_at a words is).0;
+        deads = λ a words is. (dead_at a words is).0;
         spents = λ a words to is. absurd (no_spent c m g asking r calm a words to (spent_was found r.block a words to is));
+        fillers = λ a words is. r.shared.parsable.fillers a words (filler_was found r.block a words is);
       };
       contents = record { objects = objects_again; given = r.shared.contents.given };
       owned = record {
         free_word = r.shared.owned.free_word;
         currents = r.shared.owned.currents;
-        rooms = λ a seat words is. absurd (r.none a seat words (hand_was found r.block a seat words is));
+        rooms = rooms_none c _ _ plot no_room;
       };
       phased = record { phase_is = omega arith; cset_is = λ other. calm; evac_is = λ other. no_copier };
       unwritten = unwritten_again;
@@ -228,7 +235,7 @@ module _ (c : Config) (m : Word → ℕ) (g : Graph) (asking : ℕ → Asking) (
     };
     roots = roots_again;
     usable = roots_usable;
-    none = λ a seat words is. r.none a seat words (hand_was found r.block a seat words is);
+    none = λ a seat words is. no_room a seat (hand seat words) is refl;
     asked = λ t inside. asked_again t (r.asked t inside);
     heard = λ t refs nums inside is. absurd (nobody t refs nums inside is);
     promised_to = λ a seat words is. r.promised_to a seat words (promised_was found r.block a seat words is);

@@ -8,11 +8,12 @@ use Rattle.heap_words.specs.Words.{Word, Phase, Cset, Free, Top, Tams, Current, 
 use Rattle.regions.specs.Place.{region_with}
 use Rattle.shen_graph.specs.declared.name.Name.{Name}
 use Rattle.shen_graph.specs.Graph.{Graph}
-use Rattle.heap_world.specs.World.{Block, thing, moved, spent, hand, promised, filler, words_of, Plot, Ghost, no_snapshot, name_at, AreObjects, IsFreeWord, AreCurrent, IsMarkable, IsYoung}
+use Rattle.heap_world.specs.World.{Block, thing, moved, spent, promised, dead, words_of, Plot, Ghost, no_snapshot, name_at, AreObjects, IsFreeWord, AreCurrent, IsMarkable, IsYoung, HasNoRoom}
 use Rattle.heap_world.specs.Asking.{Asking, IsAsked}
 use Rattle.heap_world.specs.Represents.{Represents}
 use Rattle.heap_world.proofs.Pieces.{some_words, object_reads}
 use Rattle.heap_world.proofs.Keeping.{points_stay}
+use Rattle.heap_world.proofs.Roomless.{roomless, rooms_none}
 use Rattle.regions.specs.Marks.{HasMark}
 use Rattle.image_graph.specs.State.{IsSomeSeats}
 use Rattle.cycle_words.specs.Marking.Marks.{is_black, IsNew}
@@ -84,14 +85,14 @@ module _ (c : Config) (m : Word → ℕ) (g : Graph) (asking : ℕ → Asking) (
   owner q = if is_current c m q then freed_owner out r.ghost.owner q else None
 
   owner_out : (q : ℕ) → out q ≡ true → freed_owner out r.ghost.owner q ≡ None
-  owner_out q dead = let none : Option ℕ = None in cond-true (out q) none (r.ghost.owner q) dead
+  owner_out q gone = let none : Option ℕ = None in cond-true (out q) none (r.ghost.owner q) gone
 
   owner_stays : (q : ℕ) → out q ≡ false → freed_owner out r.ghost.owner q ≡ r.ghost.owner q
   owner_stays q other = let none : Option ℕ = None in cond-false (out q) none (r.ghost.owner q) other
 
   owner_none : (q : ℕ) → r.ghost.owner q ≡ None → freed_owner out r.ghost.owner q ≡ None
   owner_none q none = ⊎_elim
-      (λ (dead : out q ≡ true). owner_out q dead)
+      (λ (gone : out q ≡ true). owner_out q gone)
       (λ (other : out q ≡ false). owner_stays q other ∙ none)
       (cases_Bool (out q))
 
@@ -100,7 +101,7 @@ module _ (c : Config) (m : Word → ℕ) (g : Graph) (asking : ℕ → Asking) (
 
   free_again : IsFreeWord c (n Free) (λ q. n (Top q)) owner
   free_again =
-      freed.free_again c out (closed c m) r.block r.shared.parsable.plotted some r.ghost.owner owner r.shared.owned.free_word (λ q dead. none_owns q (owner_out q dead)) (λ q none. none_owns q (owner_none q none))
+      freed.free_again c out (closed c m) r.block r.shared.parsable.plotted some r.ghost.owner owner r.shared.owned.free_word (λ q gone. none_owns q (owner_out q gone)) (λ q none. none_owns q (owner_none q none))
 
   -- nobody's current region is dead
   module _ (no_more : HasNoMoreSeats c m) where
@@ -145,7 +146,7 @@ module _ (c : Config) (m : Word → ℕ) (g : Graph) (asking : ℕ → Asking) (
 
   floors_again : (q : ℕ) → q < c.regions → n (Tams q) ≤ n (Top q)
   floors_again q inside = ⊎_elim
-      (λ (dead : out q ≡ true). (let none = freed.tams_out c out (closed c m) q dead in omega (arith, none)))
+      (λ (gone : out q ≡ true). (let none = freed.tams_out c out (closed c m) q gone in omega (arith, none)))
       (λ (other : out q ≡ false).
       let top = top_stays q other in
       let tams = tams_stays q other in
@@ -154,14 +155,18 @@ module _ (c : Config) (m : Word → ℕ) (g : Graph) (asking : ℕ → Asking) (
       omega (arith, top, tams, same, floor))
       (cases_Bool (out q))
 
-  -- words that only fill lie below the tops at mark start
-  fillers_again : (a words : ℕ) → plot a ≡ Some (filler words) → IsYoung c (λ q. n (Tams q)) a → ⊥
-  fillers_again a words is young =
-      let was = left a (filler words) is in
-      let at = piece_below c m g asking r calm a (filler words) was.1 in
+  -- no piece is room
+  no_room : HasNoRoom plot
+  no_room a seat x is room = roomless c (λ q. m (Top q)) (λ s. m (Current s)) r.block r.shared.owned.rooms r.none a seat x (left a x is).1 room
+
+  -- dead objects lie below the tops at mark start
+  deads_again : (a words : ℕ) → plot a ≡ Some (dead words) → IsYoung c (λ q. n (Tams q)) a → ⊥
+  deads_again a words is young =
+      let was = left a (dead words) is in
+      let at = piece_below c m g asking r calm a (dead words) was.1 in
       let tams = tams_stays (region_with c a) was.0 in
       let same = r.shared.marked.tams_are on (region_with c a) at.0 in
-      r.shared.marked.fillers on a words was.1 (omega (arith, young, tams, same))
+      r.shared.marked.deads on a words was.1 (omega (arith, young, tams, same))
 
   -- what is asked and promised stays
   asked_again : (t : ℕ) → IsAsked m r.block g.count t (asking t) → IsAsked n plot g.count t (asking t)
@@ -188,20 +193,20 @@ module _ (c : Config) (m : Word → ℕ) (g : Graph) (asking : ℕ → Asking) (
     owned = record {
       free_word = free_again;
       currents = currents_again no_more;
-      rooms = λ a seat words is. absurd (r.none a seat words (left a (hand seat words) is).1);
+      rooms = rooms_none c _ _ plot no_room;
     };
     seats = seats_own;
     unwritten = freed.unwritten_again c out (closed c m) r.block r.shared.parsable.plotted some r.shared.unwritten;
     unmoved = record {
       no_moved = λ a refs nums to name is. no_moved c m g asking r calm a refs nums to name (left a (moved name refs nums to) is).1;
       no_spent = λ a words to is. no_spent c m g asking r calm a words to (left a (spent words to) is).1;
-      no_hand = λ a seat words is. r.none a seat words (left a (hand seat words) is).1;
+      no_room = no_room;
     };
     marked = record {
       objects = λ a is. black_or_young a (was_markable a is);
       only = λ a high mark. still_markable a (closed_markable c m g asking r calm on a (is_mark c (λ k. n (Black k)) a high mark));
       floors = floors_again;
-      fillers = fillers_again;
+      deads = deads_again;
     };
     snapshot_is = refl;
     unmarking = record { records_none = r.unmarking.records_none; scans_none = r.unmarking.scans_none };

@@ -18,7 +18,7 @@ use Rattle.full_words.specs.Promised.{with_promised}
 use Rattle.image_graph.specs.Holds.{HoldsBy}
 use Rattle.cycle_pauses.proofs.Full.ByCopies.{by_copies}
 use Rattle.cycle_pauses.proofs.Full.Promises.{promises_of}
-use Rattle.cycle_pauses.proofs.Full.Before.{live, live_at, object_at, once_each, live_unpromised, live_unheld, live_filler}
+use Rattle.cycle_pauses.proofs.Full.Before.{live, live_at, object_at, once_each, live_unpromised, live_roomless, live_dead}
 use Rattle.cycle_pauses.proofs.Full.Current.{Kind, is_current, is_old, kind_at, held_current}
 use Rattle.cycle_pauses.proofs.Full.Holding.{holds_by}
 use Rattle.cycle_words.specs.Marking.Marks.{is_black, IsKept}
@@ -121,8 +121,8 @@ module _ (c : Config) (m : Word → ℕ) (g : Graph) (asking : ℕ → Asking) (
             kept = λ a refs nums name is. live_at c m g asking copies a (thing name refs nums) (was.kept a refs nums name is);
             older = λ _ a refs nums name is. older_of a refs nums name (live_markable a refs nums name is) is;
             promises = λ _ a seat words is. absurd (live_unpromised c m g asking copies a seat words is);
-            fillers = λ _ a words is. was.fillers on a words (live_filler c m g asking copies a words is);
-            young = λ _ a seat words is. absurd (live_unheld c m g asking copies a seat words is);
+            deads = λ _ a words is. was.deads on a words (live_dead c m g asking copies a words is);
+            young = λ _ a seat x is room. absurd (live_roomless c m g asking copies a seat x is room);
             floors = was.floors;
             tams_are = λ _. was.tams_are on;
             greys = λ _. marks_still (λ q. m (Grey q)) (was.greys on);

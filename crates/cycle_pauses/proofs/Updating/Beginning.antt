@@ -4,7 +4,7 @@ use Rattle.std.proofs.Common.{◌≡◌, ℕ, ◌≤◌, true, false, Some, inl,
 use Rattle.std.specs.Int.{bit_at}
 use Rattle.std.proofs.lemmas.Bool.{cond-true, cond-false, cases_Bool, ne_eqb}
 use Rattle.heap_words.specs.declared.config.Config.{Config}
-use Rattle.heap_words.specs.Words.{Word, Phase, Cset, Free, Evac, Claim, Top, Tams, Limit, Root, Count, Buffer, Grey, Black, Heap}
+use Rattle.heap_words.specs.Words.{Word, Phase, Cset, Free, Evac, Claim, Top, Tams, Limit, Root, Count, Buffer, Grey, Black, Heap, Current}
 use Rattle.regions.specs.Place.{region_with}
 use Rattle.regions.specs.Sets.{IsIn}
 use Rattle.heap_words.specs.Counter.{is_out_of_room}
@@ -16,6 +16,7 @@ use Rattle.heap_world.specs.Represents.{Represents}
 use Rattle.heap_world.proofs.Copies.{counted_none}
 use Rattle.heap_world.proofs.Unmarked.{none_marked_in}
 use Rattle.heap_world.proofs.Units.{none_is_left}
+use Rattle.heap_world.proofs.Roomless.{roomless}
 use Rattle.cycle_words.proofs.Marking.Plain.{below_top}
 use Rattle.cycle_pauses.proofs.Evacuation.Asked.{asked_stays}
 use Rattle.cycle_words.specs.Updating.Changes.{is_chosen, init_updated}
@@ -54,7 +55,7 @@ module _ (c : Config) (m : Word → ℕ) (g : Graph) (asking : ℕ → Asking) (
   are_updating = record {
     outside = outside;
     renewed = λ a refs nums k name is below. inr (IsToUpdate.unclaimed (below_limit a refs nums name is) (omega arith));
-    young = λ a seat words is. absurd (r.none a seat words is);
+    young = λ a seat x is room. absurd (roomless c (λ q. m (Top q)) (λ s. m (Current s)) r.block r.shared.owned.rooms r.none a seat x is room);
     limits = λ q inside. no_higher q;
   }
 
@@ -74,7 +75,7 @@ module _ (c : Config) (m : Word → ℕ) (g : Graph) (asking : ℕ → Asking) (
           young = λ later. kept.young on_still;
           floors = λ later. kept.floors on_still;
           unmarked = λ later. kept.unmarked on_still;
-          fillers = λ later. kept.fillers on_still;
+          deads = λ later. kept.deads on_still;
           only = λ later. kept.only on_still;
         };
         units = λ two. absurd (omega (arith, two));

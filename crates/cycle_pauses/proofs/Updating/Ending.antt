@@ -6,7 +6,7 @@ use Rattle.heap_words.specs.Words.{Word, Phase, Cset, Free, Evac, Claim, Top, Ta
 use Rattle.regions.specs.Place.{region_with}
 use Rattle.shen_graph.specs.declared.name.Name.{Name}
 use Rattle.shen_graph.specs.Graph.{Graph, Object, Reference}
-use Rattle.heap_world.specs.World.{Block, thing, moved, spent, hand, promised, words_of, Plot, Ghost, no_snapshot, Points, name_at, IsCollected, IsThing, AreObjects, IsCurrent, IsEvacuating, IsUsable}
+use Rattle.heap_world.specs.World.{Block, thing, moved, spent, hand, promised, words_of, HasNoRoom, Plot, Ghost, no_snapshot, Points, name_at, IsCollected, IsThing, AreObjects, IsCurrent, IsEvacuating, IsUsable}
 use Rattle.heap_world.specs.Asking.{Asking}
 use Rattle.heap_world.specs.Represents.{Represents}
 use Rattle.heap_world.proofs.Pieces.{some_words}
@@ -14,6 +14,7 @@ use Rattle.heap_world.proofs.Copies.{none_evacuated}
 use Rattle.heap_world.proofs.Keeping.{usable_now}
 use Rattle.heap_world.proofs.Unmarked.{none_marked_in}
 use Rattle.heap_world.proofs.Units.{all_is_current}
+use Rattle.heap_world.proofs.Roomless.{roomless, rooms_none}
 use Rattle.full_words.proofs.Reached.{none_at_0}
 use Rattle.cycle_words.specs.Marking.Final.{freed_block}
 use Rattle.cycle_pauses.proofs.Evacuation.Asked.{asked_stays}
@@ -80,8 +81,8 @@ module _ (c : Config) (m : Word → ℕ) (g : Graph) (asking : ℕ → Asking) (
       let was = left a (spent words to) is in
       not_in_set m (region_with c a) was.0 (r.shared.evacuated.moved.spents a words to was.1).inside
 
-  no_hand : (a seat words : ℕ) → plot a ≡ Some (hand seat words) → ⊥
-  no_hand a seat words is = r.none a seat words (left a (hand seat words) is).1
+  no_room : HasNoRoom plot
+  no_room a seat x is room = roomless c (λ q. m (Top q)) (λ s. m (Current s)) r.block r.shared.owned.rooms r.none a seat x (left a x is).1 room
 
   -- a current word stands for what it stood for
   points_still : (word : ℕ) (reference : Reference) → IsCurrent r.block word → Points r.block word reference → Points plot word reference
@@ -134,7 +135,7 @@ module _ (c : Config) (m : Word → ℕ) (g : Graph) (asking : ℕ → Asking) (
       owned = record {
         free_word = freed.free_again c out m r.block r.shared.parsable.plotted some r.ghost.owner r.ghost.owner r.shared.owned.free_word set_nobodys (λ q none. none);
         currents = r.shared.owned.currents;
-        rooms = λ a seat words is. absurd (no_hand a seat words is);
+        rooms = rooms_none c _ _ plot no_room;
       };
       phased = record { phase_is = omega arith; cset_is = λ low. refl; evac_is = λ other. no_copier };
       unwritten = freed.unwritten_again c out m r.block r.shared.parsable.plotted some r.shared.unwritten;
@@ -145,7 +146,7 @@ module _ (c : Config) (m : Word → ℕ) (g : Graph) (asking : ℕ → Asking) (
     };
     roots = roots_again;
     usable = λ t i inside few. usable_now c (m Evac) plot no_moved (m (Root t i)) (g.root (t + 1) i) (roots_again t i inside few);
-    none = no_hand;
+    none = λ a seat words is. no_room a seat (hand seat words) is refl;
     asked = λ t inside.
         asked_stays m n r.block plot g.count t refl refl (λ a words k is below. refl) (λ a words is. promised_stays a t words is) (λ a words is. (left a (promised t words) is).1) (asking t) (r.asked t inside);
     heard = r.heard;

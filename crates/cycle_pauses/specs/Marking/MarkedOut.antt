@@ -6,25 +6,25 @@ use Rattle.heap_words.specs.Words.{Word, Phase, Cset, Evac, Ask, Free, Top, Tams
 use Rattle.shen_graph.specs.declared.name.Name.{Name}
 use Rattle.shen_graph.specs.Graph.{Graph}
 use Rattle.regions.specs.Marks.{HasMark}
-use Rattle.heap_world.specs.World.{moved, spent, hand, promised, filler, Plot, Ghost, no_snapshot, Points, IsParsable, HasContents, AreOwned, AreUnwritten, IsMarkable, IsYoung}
+use Rattle.heap_world.specs.World.{moved, spent, promised, dead, HasNoRoom, Plot, Ghost, no_snapshot, Points, IsParsable, HasContents, AreOwned, AreUnwritten, IsMarkable, IsYoung}
 use Rattle.heap_world.specs.Asking.{Asking, asks, IsAsked}
 use Rattle.heap_world.specs.Represents.{NobodyMarks, NobodyCopies}
 use Rattle.heap_world.specs.Roots.{HasNoMore}
 use Rattle.image_graph.specs.State.{IsSomeSeats}
 
--- no piece is an old copy, or room in hand
+-- no piece is an old copy, or room
 pub record AreUnmoved (block : Plot) : Type 0 where
   pub no_moved : (a refs nums to : ℕ) (name : Name) → block a ≡ Some (moved name refs nums to) → ⊥
   pub no_spent : (a words to : ℕ) → block a ≡ Some (spent words to) → ⊥
-  pub no_hand : (a seat words : ℕ) → block a ≡ Some (hand seat words) → ⊥
+  pub no_room : HasNoRoom block
 
--- Each object, of the graph or promised, is marked or was allocated since mark start, and what is marked is an object. Words that only
--- fill are neither.
+-- Each object, of the graph or promised, is marked or was allocated since mark start, and what is marked is an object. Dead objects are
+-- neither.
 pub record AreMarkedOut (c : Config) (black top tams : ℕ → ℕ) (block : Plot) : Type 0 where
   pub objects : (a : ℕ) → IsMarkable block a → HasMark c black a ⊎ IsYoung c tams a
   pub only : (a : ℕ) → c.region_words ≤ a → HasMark c black a → IsMarkable block a
   pub floors : (r : ℕ) → r < c.regions → tams r ≤ top r
-  pub fillers : (a words : ℕ) → block a ≡ Some (filler words) → IsYoung c tams a → ⊥
+  pub deads : (a words : ℕ) → block a ≡ Some (dead words) → IsYoung c tams a → ⊥
 
 -- The words stand for a graph as ever, with what mutators have asked for. The marks are closed, no object has moved, and a region has an
 -- owner only where it is some seat's current one.

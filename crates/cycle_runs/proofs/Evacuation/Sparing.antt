@@ -12,21 +12,24 @@ use Rattle.heap_words.proofs.Stores.{same_word_true}
 use Rattle.steps_base.specs.Touch.{Touch, loads, exchanges, formed, access_at, placed, touched}
 use Rattle.shen_graph.specs.declared.name.Name.{Name}
 use Rattle.load_barrier.proofs.Knows.{header_forwarded}
-use Rattle.heap_world.specs.World.{World, Block, thing, moved, spent, hand, promised, filler, words_of, Body, body_at, IsCollected, TargetIn, Shared}
+use Rattle.heap_world.specs.World.{World, Block, thing, moved, spent, hand, promised, dead, filler, spare, carved, words_of, Body, body_at, IsCollected, TargetIn, Shared}
 use Rattle.heap_world.proofs.Apart.{one_piece}
 use Rattle.heap_world.proofs.Pointing.{copy_cases, body_piece}
 use Rattle.cycle_runs.specs.Evacuation.Runs.{IsPublishing}
 use Rattle.cycle_runs.specs.Evacuation.OneEvent.{IsNoRoom, IsLeftAlone}
 use Rattle.cycle_runs.proofs.Evacuation.Writes.{is_watched, IsPublication, Writes}
 
--- a copy is no room in hand
+-- a copy is no room
 pub body_no_room : (o : Option Block) (b : Body) → body_at o ≡ Some b → (x : Block) → o ≡ Some x → IsNoRoom x
 body_no_room (Some (thing name refs nums)) b is x there = subst IsNoRoom (same_Some (thing name refs nums) x there) tt
 body_no_room (Some (moved name refs nums to)) b is x there = subst IsNoRoom (same_Some (moved name refs nums to) x there) tt
 body_no_room (Some (spent words to)) b is x there = cc
 body_no_room (Some (hand seat words)) b is x there = cc
 body_no_room (Some (promised seat words)) b is x there = cc
+body_no_room (Some (dead words)) b is x there = cc
 body_no_room (Some (filler words)) b is x there = cc
+body_no_room (Some (spare seat words)) b is x there = cc
+body_no_room (Some (carved seat words)) b is x there = cc
 body_no_room None b is x there = cc
 
 -- an exchange that publishes a copy, as an access of the table
@@ -52,7 +55,7 @@ touched_loads memory t word form = ⊎_elim
     (λ (differs : same_word t.word word ≡ false). cond-false (same_word t.word word) _ _ differs)
     (cases_Bool (same_word t.word word))
 
--- What an access does that is of a word of a piece which is no room in hand: it loads it; it publishes a copy, and the word is the header;
+-- What an access does that is of a word of a piece which is no room: it loads it; it publishes a copy, and the word is the header;
 -- or it writes behind the shape and the name of a current copy, which may be used, or lies outside the collection set.
 pub data Hits (c : Config) (w : World) (seat : ℕ) (t : Touch) (Work : Type 0) (d k : ℕ) (x : Block) : Type 0 where
   loads_it : t.form ≡ loads → Hits c w seat t Work d k x
@@ -113,7 +116,10 @@ module _ (c : Config) (w : World) (shared : Shared c w) (seat : ℕ) (t : Touch)
     alone_no_room (spent words to) alone = tt
     alone_no_room (hand of words) alone = alone
     alone_no_room (promised of words) alone = tt
+    alone_no_room (dead words) alone = tt
     alone_no_room (filler words) alone = tt
+    alone_no_room (spare of words) alone = alone
+    alone_no_room (carved of words) alone = alone
 
     left_alone : IsLeftAlone c (w.memory Cset) (w.memory Evac) d x → 1 ≤ k → Hits c w seat t Work d k x → touched w.memory t (Heap (d + k)) ≡ w.memory (Heap (d + k))
     left_alone alone behind (Hits.loads_it form) = touched_loads w.memory t (Heap (d + k)) form

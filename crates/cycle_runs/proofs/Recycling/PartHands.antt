@@ -17,7 +17,7 @@ use Rattle.load_barrier.specs.declared.evac_spot.EvacSpot.{EvacSpot}
 use Rattle.load_barrier.specs.declared.evac_spot.EvacSpot.TheVariants as evac
 use Rattle.update_part.specs.declared.spot.UpdateSpot.{UpdateSpot}
 use Rattle.update_part.specs.declared.spot.UpdateSpot.TheVariants as update
-use Rattle.heap_world.specs.World.{World, thing, moved, hand, filler, Body, body_words, IsMarkable, Shared}
+use Rattle.heap_world.specs.World.{World, thing, moved, hand, dead, Body, body_words, IsMarkable, Shared}
 use Rattle.move_steps.specs.Resolving.Facts.{HasMovedTo, CopyFacts, CanResolve}
 use Rattle.move_steps.specs.Evacuation.Facts.{IsMeasured, CanEvacuate}
 use Rattle.move_steps.proofs.Evacuation.Walks.{placed}
@@ -136,13 +136,13 @@ module _ (c : Config) (w : World) (shared : Shared c w) (r : ℕ) (inside : r < 
   walked_apart : (a : ℕ) → IsPiece w a → IsApart a
   walked_apart a is = ⊎_elim
       (λ (object : IsMarkable w.block a). markable_elsewhere c w shared r inside free a object)
-      (λ (fills : (words : ℕ) × (w.block a ≡ Some (filler words))). piece_elsewhere c w shared r inside free a (filler fills.0) fills.1)
+      (λ (fills : (words : ℕ) × (w.block a ≡ Some (dead words))). piece_elsewhere c w shared r inside free a (dead fills.0) fills.1)
       is
 
   shaped_apart : (a shape : ℕ) → HasShape w a shape → IsApart a
   shaped_apart a shape is = ⊎_elim
       (λ object. markable_elsewhere c w shared r inside free a object.0)
-      (λ fills. piece_elsewhere c w shared r inside free a (filler fills.0) fills.1)
+      (λ fills. piece_elsewhere c w shared r inside free a (dead fills.0) fills.1)
       is
 
   -- of who updates references

@@ -8,7 +8,7 @@ use Rattle.steps_base.specs.Steps.{Stage, Event, IsEvent, act, go}
 use Rattle.shen_graph.specs.declared.order.Order.{Order}
 use Rattle.shen_graph.specs.Graph.{Graph}
 use Rattle.shen_graph.specs.History.{after}
-use Rattle.heap_world.specs.World.{World, Block, thing, hand, words_of, Body, IsCollected}
+use Rattle.heap_world.specs.World.{World, Block, thing, hand, spare, carved, words_of, Body, IsCollected}
 use Rattle.heap_world.specs.Change.{Change, IsPause}
 use Rattle.step_core.specs.Actor.{Actor}
 use Rattle.step_core.specs.Begins.{Begins}
@@ -38,16 +38,20 @@ pub record IsForwarding (change : Change) (c : Config) (s : Stage Actor) (w : Wo
   pub was : w.memory (Heap a) ≡ plain_header
   pub leads : header ≡ header_word publishing.copy
 
--- the piece is no room in hand: it is an object, live or dead, or an old copy of one
+-- the piece is no room: it is an object, live or dead, an old copy of one, or words that only fill
 abbrev pub IsNoRoom : Block → Type 0
 IsNoRoom (hand seat words) = ⊥
+IsNoRoom (spare seat words) = ⊥
+IsNoRoom (carved seat words) = ⊥
 IsNoRoom _ = ⊤
 
 -- Nobody but a pause writes the words behind the header of a piece: it is an object of the collection set that may still be copied, the
--- old copy of one that has moved, one that is promised, or words that only fill.
+-- old copy of one that has moved, one that is promised, a dead one, or words that only fill.
 abbrev pub IsLeftAlone : Config → (cset evac a : ℕ) → Block → Type 0
 IsLeftAlone c cset evac a (thing name refs nums) = IsCollected c cset a × (IsQuiet evac → ⊥)
 IsLeftAlone c cset evac a (hand seat words) = ⊥
+IsLeftAlone c cset evac a (spare seat words) = ⊥
+IsLeftAlone c cset evac a (carved seat words) = ⊥
 IsLeftAlone c cset evac a _ = ⊤
 
 -- Words and machines stand for a graph by some plot, and an event of any machine keeps this of the words that count:
@@ -55,7 +59,7 @@ pub record EventSpares (change : Change) (c : Config) (s : Stage Actor) (g : Gra
   pub stands : StandsFor c s g
   -- once a copier found no room and nobody copies any more, it stays so
   pub quiet : IsQuiet (settled c s Evac) → IsQuiet (later Evac)
-  -- the header of each piece but room in hand stays, or the event publishes a copy of the object
+  -- the header of each piece but room stays, or the event publishes a copy of the object
   pub headers : (a : ℕ) (x : Block) → stands.block a ≡ Some x → IsNoRoom x
       → (later (Heap a) ≡ settled c s (Heap a)) ⊎ IsForwarding change c s (world_of c s stands.block stands.ghost g) e a (later (Heap a))
   -- and the words behind the header of each piece that is to be left alone stay

@@ -15,7 +15,7 @@ use Rattle.regions.specs.Marks.{mark_word, mark_bit}
 use Rattle.regions.proofs.PlaceLemmas.{regions_tile}
 use Rattle.shen_graph.specs.declared.name.Name.{Name}
 use Rattle.shen_graph.specs.Graph.{Graph}
-use Rattle.heap_world.specs.World.{Block, thing, hand, promised, words_of, Plot, name_at, IsCollected, IsPlotted, IsFilled, IsFreeWord, AreCurrent}
+use Rattle.heap_world.specs.World.{Block, thing, promised, words_of, Plot, name_at, IsCollected, IsPlotted, IsFilled, IsFreeWord, AreCurrent}
 use Rattle.heap_world.proofs.Updates.{updated, updated_same, updated_there, updated_else}
 use Rattle.heap_world.proofs.Pieces.{beside, piece_cases}
 use Rattle.heap_world.proofs.Pointing.{named_piece}
@@ -222,10 +222,10 @@ module _ (c : Config) (m : Word → ℕ) (block : Plot) (owner : ℕ → Option 
         (λ (new : (q ≡ to) × (x ≡ promised seat words)). holds.pieces.unpromised a seat words (here ∙ ap Some new.1))
         (λ (old : (q ≢ to) × (block q ≡ Some (promised seat words))). holds.pieces.unpromised q seat words old.1)
         (cases q (promised seat words) is);
-    unheld = λ q seat words is. ⊎_elim
-        (λ (new : (q ≡ to) × (x ≡ hand seat words)). holds.pieces.unheld a seat words (here ∙ ap Some new.1))
-        (λ (old : (q ≢ to) × (block q ≡ Some (hand seat words))). holds.pieces.unheld q seat words old.1)
-        (cases q (hand seat words) is);
+    roomless = λ q seat y is room. ⊎_elim
+        (λ (new : (q ≡ to) × (x ≡ y)). holds.pieces.roomless a seat y (here ∙ ap Some new.1) room)
+        (λ (old : (q ≢ to) × (block q ≡ Some y)). holds.pieces.roomless q seat y old.1 room)
+        (cases q y is);
     some = λ q z is. ⊎_elim
         (λ (new : (q ≡ to) × (x ≡ z)). subst (λ b. 1 ≤ words_of b) new.1 own)
         (λ (old : (q ≢ to) × (block q ≡ Some z)). long q z old.1)

@@ -21,7 +21,7 @@ use Rattle.cycle_words.specs.Marking.Laws.{BeginsMarking}
 use Rattle.cycle_words.proofs.Marking.Alike.{AreAlike, holds_alike}
 use Rattle.cycle_words.proofs.Marking.Plain.{below_top, reached_object, root_reached, object_above, reach_ind}
 use Rattle.cycle_words.proofs.Marking.Trimmed.{IsTrimmed, calm_trimmed, trimmed_objects, trimmed_rooted}
-use Rattle.cycle_words.proofs.Marking.Pruned.{thing_stays, thing_was, hand_was, promised_was, moved_was, pruned_from, pruned_plotted, pruned_filled}
+use Rattle.cycle_words.proofs.Marking.Pruned.{thing_stays, thing_was, room_was, promised_was, moved_was, pruned_from, pruned_plotted, pruned_filled}
 use Rattle.cycle_words.proofs.Marking.FirstSnapshot.{first_snapshot, is_first, first_marked}
 
 module _ (c : Config) (m : Word → ℕ) (block : Plot) (owner : ℕ → Option ℕ) (p : Promises) (g : Graph) (holds : HoldsBy c m block owner p g) (calm : m Cset ≡ 0) where
@@ -89,7 +89,7 @@ module _ (c : Config) (m : Word → ℕ) (block : Plot) (owner : ℕ → Option 
     pieces = record {
       named = named;
       unpromised = λ a seat words is. holds.pieces.unpromised a seat words (promised_was found block a seat words is);
-      unheld = λ a seat words is. holds.pieces.unheld a seat words (hand_was found block a seat words is);
+      roomless = λ a seat x is room. holds.pieces.roomless a seat x (room_was found block a seat x room is) room;
       some = λ a b is. (let from = pruned_from found block a b is in let long = holds.pieces.some a from.0 from.1 in omega (arith, long, from.2));
     };
     free_word = holds.free_word;
@@ -138,7 +138,7 @@ module _ (c : Config) (m : Word → ℕ) (block : Plot) (owner : ℕ → Option 
     ghost = record { owner = no_ghost.owner; snapshot = first_snapshot c m left; recording = no_ghost.recording; scanning = no_ghost.scanning; copying = no_ghost.copying; working = no_ghost.working };
     object = (with_promised g p).object;
     marked = first_marked c m left no_ghost.recording no_ghost.scanning (λ a refs nums name is. led a (thing_reached a refs nums name is)) root_markable
-        (λ a seat words is. absurd (left_holds.pieces.unpromised a seat words is)) left_holds.pieces.unheld none_young;
+        (λ a seat words is. absurd (left_holds.pieces.unpromised a seat words is)) left_holds.pieces.roomless none_young;
     unmarking = record { records_none = λ seat inside. refl; scans_none = λ seat inside. refl };
     objects = objects;
     uncollected = calm;

@@ -7,7 +7,7 @@ use Rattle.heap_words.specs.Words.{Word, Top, Buffer, Heap}
 use Rattle.shen_graph.specs.declared.name.Name.{Name}
 use Rattle.regions.specs.Marks.{mark_bit}
 use Rattle.heap_graph.specs.Walk.{has}
-use Rattle.heap_world.specs.World.{Block, thing, hand, promised, filler, Plot, Scan, Snapshot, AreMarks, IsMarkable, IsYoung, IsNoted, IsToScan, IsTracedAt, IsLed, KeepsSnapshot}
+use Rattle.heap_world.specs.World.{Block, thing, promised, dead, Plot, HasNoRoom, Scan, Snapshot, AreMarks, IsMarkable, IsYoung, IsNoted, IsToScan, IsTracedAt, IsLed, KeepsSnapshot}
 use Rattle.full_words.specs.Held.{IsAmong}
 use Rattle.full_words.specs.Full.{root_words}
 use Rattle.cycle_words.specs.Marking.Marks.{mark_bits}
@@ -33,7 +33,7 @@ module _ (c : Config) (m : Word → ℕ) (plot : Plot) where
   -- Where its objects are those that it leads to, what roots and answers name can be marked, and what is promised is so named.
   module _ (recording : ℕ → Option ℕ) (scanning : ℕ → Option Scan) (led : (a refs nums : ℕ) (name : Name) → plot a ≡ Some (thing name refs nums) → IsLed first_snapshot a)
       (markable : (a : ℕ) → IsAmong (root_words c m) a → a ≢ 0 → IsMarkable plot a) (promises : (a seat words : ℕ) → plot a ≡ Some (promised seat words) → first a ≡ true)
-      (unheld : (a seat words : ℕ) → plot a ≡ Some (hand seat words) → ⊥) (none_young : (a : ℕ) (b : Block) → plot a ≡ Some b → IsYoung c (λ q. m (Top q)) a → ⊥) where
+      (roomless : HasNoRoom plot) (none_young : (a : ℕ) (b : Block) → plot a ≡ Some b → IsYoung c (λ q. m (Top q)) a → ⊥) where
     -- what roots and answers name is grey
     first_noted : (a : ℕ) → first a ≡ true → IsNoted c (mark_bits c named) (λ t. 0) (λ t k. m (Buffer t k)) recording a
     first_noted a is =
@@ -63,8 +63,8 @@ module _ (c : Config) (m : Word → ℕ) (plot : Plot) where
       kept = λ a refs nums name is. is;
       older = λ on a refs nums name is. inl is;
       promises = λ on a seat words is. promises a seat words is;
-      fillers = λ on a words is. none_young a (filler words) is;
-      young = λ on a seat words is. absurd (unheld a seat words is);
+      deads = λ on a words is. none_young a (dead words) is;
+      young = λ on a seat x is room. absurd (roomless a seat x is room);
       floors = λ q inside. omega arith;
       tams_are = λ on q inside. refl;
       greys = λ on. greys_are;

@@ -7,7 +7,7 @@ use Rattle.heap_words.specs.Encoding.{is_forwarded, refs_in}
 use Rattle.regions.specs.Place.{region_with}
 use Rattle.shen_graph.specs.declared.name.Name.{Name}
 use Rattle.shen_graph.specs.Graph.{Graph}
-use Rattle.heap_world.specs.World.{Plot, thing, hand, promised, name_at, IsPlotted, AreCurrent}
+use Rattle.heap_world.specs.World.{Plot, thing, promised, name_at, IsPlotted, AreCurrent}
 use Rattle.heap_world.proofs.Pointing.{named_piece}
 use Rattle.full_words.specs.Held.{IsAmong, IsCopy, HoldsGraph}
 use Rattle.full_words.specs.Full.{now_in, root_words}
@@ -125,7 +125,7 @@ module _ (c : Config) (out : ℕ → Bool) (m : Word → ℕ) (block : Plot) (ow
     pieces = record {
       named = named;
       unpromised = λ a seat words is. holds.pieces.unpromised a seat words (piece_was c out block a (promised seat words) is).1;
-      unheld = λ a seat words is. holds.pieces.unheld a seat words (piece_was c out block a (hand seat words) is).1;
+      roomless = λ a seat x is room. holds.pieces.roomless a seat x (piece_was c out block a x is).1 room;
       some = λ a b is. holds.pieces.some a b (piece_was c out block a b is).1;
     };
     free_word = free_again c out m block holds.objects.plotted holds.pieces.some owner owned holds.free_word owned_none still_none;

@@ -1,4 +1,4 @@
--- The plot in which objects that are not of a set only fill.
+-- The plot in which objects that are not of a set are dead.
 use Rattle.std.proofs.Common.{◌≡◌, ℕ, ◌+◌, Bool, true, false, Option, Some, None, refl, sym, ap, ◌∙◌, subst, arith}
 use Rattle.std.specs.Option.{option_map}
 use Rattle.std.proofs.lemmas.Bool.{cond-true}
@@ -6,7 +6,7 @@ use Rattle.std.proofs.lemmas.Option.{none-some, same_Some}
 use Rattle.heap_words.specs.declared.config.Config.{Config}
 use Rattle.regions.specs.Place.{base_of}
 use Rattle.shen_graph.specs.declared.name.Name.{Name}
-use Rattle.heap_world.specs.World.{Block, thing, moved, spent, hand, promised, filler, words_of, Plot, IsInUse, IsPlotted, IsFilled}
+use Rattle.heap_world.specs.World.{Block, thing, moved, spent, promised, dead, filler, words_of, room_of, Plot, IsInUse, IsPlotted, IsFilled}
 use Rattle.cycle_words.specs.Marking.Init.{pruned_piece, pruned}
 
 -- the piece that there was
@@ -14,10 +14,10 @@ pub from_option : (f : Block → Block) (o : Option Block) (b : Block) → optio
 from_option f None b is = absurd (none-some b is)
 from_option f (Some x) b is = (x, refl, same_Some (f x) b is)
 
--- a piece was the same one, of the set if it is an object; or it only fills, and was an object
+-- a piece was the same one, of the set if it is an object; or it is dead, and was an object
 pub data WasPiece (live : Bool) (x y : Block) : Type 0 where
   was_left : x ≡ y → ((name : Name) (refs nums : ℕ) → y ≡ thing name refs nums → live ≡ true) → WasPiece live x y
-  was_object : (name : Name) (refs nums : ℕ) → x ≡ thing name refs nums → y ≡ filler (3 + refs + nums) → WasPiece live x y
+  was_object : (name : Name) (refs nums : ℕ) → x ≡ thing name refs nums → y ≡ dead (3 + refs + nums) → WasPiece live x y
 
 was_piece : (live : Bool) (x : Block) → WasPiece live x (pruned_piece live x)
 was_piece true (thing name refs nums) = WasPiece.was_left refl (λ n more less is. refl)
@@ -41,7 +41,7 @@ module _ (live : ℕ → Bool) (block : Plot) where
   pruned_at a x is = ap (option_map (pruned_piece (live a))) is
 
   pub thing_stays : (a refs nums : ℕ) (name : Name) → live a ≡ true → block a ≡ Some (thing name refs nums) → pruned live block a ≡ Some (thing name refs nums)
-  thing_stays a refs nums name kept is = pruned_at a (thing name refs nums) is ∙ ap Some (cond-true (live a) (thing name refs nums) (filler (3 + refs + nums)) kept)
+  thing_stays a refs nums name kept is = pruned_at a (thing name refs nums) is ∙ ap Some (cond-true (live a) (thing name refs nums) (dead (3 + refs + nums)) kept)
 
   pub promised_stays : (a seat words : ℕ) → block a ≡ Some (promised seat words) → pruned live block a ≡ Some (promised seat words)
   promised_stays a seat words is = pruned_at a (promised seat words) is
@@ -54,16 +54,19 @@ module _ (live : ℕ → Bool) (block : Plot) where
   pub thing_was : (a refs nums : ℕ) (name : Name) → pruned live block a ≡ Some (thing name refs nums) → (block a ≡ Some (thing name refs nums)) × (live a ≡ true)
   thing_was a refs nums name is = let was = piece_was a (thing name refs nums) is in thing_of a refs nums name was.0 was.1 was.2
 
-  -- a piece that does not only fill was there
-  other_of : (a : ℕ) (x y : Block) → ((words : ℕ) → y ≡ filler words → ⊥) → block a ≡ Some x → WasPiece (live a) x y → block a ≡ Some y
+  -- a piece that is not dead was there
+  other_of : (a : ℕ) (x y : Block) → ((words : ℕ) → y ≡ dead words → ⊥) → block a ≡ Some x → WasPiece (live a) x y → block a ≡ Some y
   other_of a x y unlike here (WasPiece.was_left same is_live) = here ∙ ap Some same
   other_of a x y unlike here (WasPiece.was_object name refs nums was is) = absurd (unlike (3 + refs + nums) is)
 
-  other_was : (a : ℕ) (y : Block) → ((words : ℕ) → y ≡ filler words → ⊥) → pruned live block a ≡ Some y → block a ≡ Some y
+  other_was : (a : ℕ) (y : Block) → ((words : ℕ) → y ≡ dead words → ⊥) → pruned live block a ≡ Some y → block a ≡ Some y
   other_was a y unlike is = let was = piece_was a y is in other_of a was.0 y unlike was.1 was.2
 
-  pub hand_was : (a seat words : ℕ) → pruned live block a ≡ Some (hand seat words) → block a ≡ Some (hand seat words)
-  hand_was a seat words = other_was a (hand seat words) (λ more wrong. (let differ = wrong in cc))
+  pub room_was : (a seat : ℕ) (x : Block) → room_of x ≡ Some seat → pruned live block a ≡ Some x → block a ≡ Some x
+  room_was a seat x room = other_was a x (λ more dies. none-some seat (ap room_of (sym dies) ∙ room))
+
+  pub filler_was : (a words : ℕ) → pruned live block a ≡ Some (filler words) → block a ≡ Some (filler words)
+  filler_was a words = other_was a (filler words) (λ more wrong. (let differ = wrong in cc))
 
   pub promised_was : (a seat words : ℕ) → pruned live block a ≡ Some (promised seat words) → block a ≡ Some (promised seat words)
   promised_was a seat words = other_was a (promised seat words) (λ more wrong. (let differ = wrong in cc))

@@ -10,7 +10,7 @@ use Rattle.heap_words.specs.Words.{Word, Free, Top, Tams, Limit, Heap}
 use Rattle.regions.specs.Place.{base_of, region_with}
 use Rattle.regions.specs.Sets.{IsIn}
 use Rattle.regions.proofs.PlaceLemmas.{regions_tile}
-use Rattle.heap_world.specs.World.{Block, spent, promised, filler, words_of, Plot, IsInUse, IsPlotted, IsFilled, IsParsable, IsFreeWord, AreUnwritten}
+use Rattle.heap_world.specs.World.{Block, spent, promised, dead, filler, words_of, Plot, IsInUse, IsPlotted, IsFilled, IsParsable, IsFreeWord, AreUnwritten}
 use Rattle.cycle_words.specs.Marking.Marks.{bits_of}
 use Rattle.cycle_words.specs.Marking.Final.{freed, freed_block}
 use Rattle.cycle_words.proofs.Marking.Bits.{one, bits_small, bits_at}
@@ -132,16 +132,18 @@ module _ (c : Config) (out : ℕ → Bool) (m : Word → ℕ) (block : Plot) (pl
     plotted = plotted_again;
     filled = filled_again parsable.filled;
     promises = λ a seat words is. parsable.promises a seat words (piece_was c out block a (promised seat words) is).1;
-    fillers = λ a words is. parsable.fillers a words (piece_was c out block a (filler words) is).1;
+    deads = λ a words is. parsable.deads a words (piece_was c out block a (dead words) is).1;
     spents = λ a words to is. parsable.spents a words to (piece_was c out block a (spent words to) is).1;
+    fillers = λ a words is. parsable.fillers a words (piece_was c out block a (filler words) is).1;
   }
 
   -- what nobody writes to stays so
   pub unwritten_again : AreUnwritten (λ a. m (Heap a)) block → AreUnwritten (λ a. m (Heap a)) left
   unwritten_again unwritten = record {
     blanks = λ a seat words is. unwritten.blanks a seat words (piece_was c out block a (promised seat words) is).1;
-    headers = λ a words is. unwritten.headers a words (piece_was c out block a (filler words) is).1;
-    lengths = λ a words is. unwritten.lengths a words (piece_was c out block a (filler words) is).1;
+    headers = λ a words is. unwritten.headers a words (piece_was c out block a (dead words) is).1;
+    lengths = λ a words is. unwritten.lengths a words (piece_was c out block a (dead words) is).1;
+    fillers = λ a words is. unwritten.fillers a words (piece_was c out block a (filler words) is).1;
   }
 
   -- A region is free where it was or where it is freed. It is nobody's then, if what is freed and what was nobody's is.

@@ -4,7 +4,7 @@ use Rattle.std.specs.Option.{option_map}
 use Rattle.heap_words.specs.declared.config.Config.{Config}
 use Rattle.heap_words.specs.Words.{Word, Phase, Claim, Ask, Top, Tams, Count, Grey, Black}
 use Rattle.heap_graph.specs.Walk.{has}
-use Rattle.heap_world.specs.World.{Block, thing, filler, Plot}
+use Rattle.heap_world.specs.World.{Block, thing, dead, Plot}
 use Rattle.full_words.specs.Full.{root_words}
 use Rattle.cycle_words.specs.Marking.Marks.{mark_bits}
 
@@ -22,9 +22,9 @@ init_marked c memory word = memory word
 
 -- a piece that stays, or of whose object only the words stay
 abbrev pub pruned_piece : Bool → Block → Block
-pruned_piece live (thing name refs nums) = if live then thing name refs nums else filler (3 + refs + nums)
+pruned_piece live (thing name refs nums) = if live then thing name refs nums else dead (3 + refs + nums)
 pruned_piece live piece = piece
 
--- the pieces where objects that are not of a set only fill
+-- the pieces where objects that are not of a set are dead
 abbrev pub pruned : (ℕ → Bool) → Plot → Plot
 pruned live block a = option_map (pruned_piece (live a)) (block a)

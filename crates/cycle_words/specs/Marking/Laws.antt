@@ -15,7 +15,7 @@ use Rattle.cycle_words.specs.Marking.Close.{IsTraced, closed}
 use Rattle.cycle_words.specs.Marking.WhileMarking.{IsMarking, IsMarkedThrough}
 use Rattle.cycle_words.specs.Marking.Final.{IsDead, is_dead, dead_in, freed_block, freed_owner, final_marked}
 
--- The words stand for the same graph, also where objects that nothing leads to only fill; and of these pieces what holds while marking
+-- The words stand for the same graph, also where objects that nothing leads to are dead; and of these pieces what holds while marking
 -- runs holds. Where each piece said how many words it has, each of these does.
 pub record BeginsMarking (c : Config) (before after : Word → ℕ) (block : Plot) (owner : ℕ → Option ℕ) (p : Promises) (g : Graph) : Type 0 where
   pub holds : HoldsBy c after block owner p g

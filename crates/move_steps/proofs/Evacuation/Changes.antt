@@ -81,9 +81,9 @@ module _ (c : Config) (u w : World) (seat claim : ℕ) (unit : Option ℕ) (on :
   others_then k differs rely = record {
     names = rely.names;
     targets = rely.targets;
-    hands = rely.hands;
-    no_hands = rely.no_hands;
-    hand_words = rely.hand_words;
+    rooms = rely.rooms;
+    no_rooms = rely.no_rooms;
+    room_words = rely.room_words;
     promises = rely.promises;
     no_promises = rely.no_promises;
     promise_words = rely.promise_words;
@@ -124,7 +124,7 @@ module _ (c : Config) (u w : World) (seat claim : ℕ) (unit : Option ℕ) (on :
     fields = record {
       tams = rely.fields.tams;
       limits = rely.fields.limits;
-      fillers = rely.fields.fillers;
+      deads = rely.fields.deads;
       claims = λ all. (let claimed = rely.fields.claims all in omega (arith, claimed, most));
       fields = rely.fields.fields;
     };

@@ -32,7 +32,7 @@ module _ (resolving : ResolvingSteps) (c : Config) (u w : World) (seat : ℕ) (s
     copying = rely.copies.copying ∙ nothing.copying;
     records_none = rely.marks.recording ∙ nothing.records_none;
     scans_none = rely.marks.scanning ∙ nothing.scans_none;
-    hands = λ a words is. nothing.hands a words (rely.no_hands a words is);
+    hands = λ a words is. nothing.hands a words (rely.no_rooms a _ is refl);
   }
 
   facts_stay : (at : EvacSpot) → WorkFacts c u seat at → WorkFacts c w seat at

@@ -1,5 +1,5 @@
 -- Walks of regions of the collection set: where a piece of such a region lies, what its words say, and up to where the region is swept.
-use Rattle.std.proofs.Common.{◌≡◌, ◌≢◌, ℕ, ◌+◌, ◌-◌, ◌*◌, ◌/◌, ◌<◌, ◌≤◌, Some, ⊎_elim, inl, inr, sym, ap, ◌∙◌, subst, arith}
+use Rattle.std.proofs.Common.{◌≡◌, ◌≢◌, ℕ, ◌+◌, ◌-◌, ◌*◌, ◌/◌, ◌<◌, ◌≤◌, Some, ⊎_elim, inl, inr, refl, sym, ap, ◌∙◌, subst, arith}
 use Rattle.std.proofs.Math.Nat.{mul-le-mul_right, lt-div-mul-add}
 use Rattle.std.proofs.lemmas.Nat.{le-div}
 use Rattle.std.proofs.lemmas.Bool.{cases_lt, cases_eq}
@@ -10,7 +10,7 @@ use Rattle.regions.specs.Place.{base_of, region_with}
 use Rattle.regions.specs.Sets.{IsIn}
 use Rattle.regions.proofs.PlaceLemmas.{regions_tile}
 use Rattle.shen_graph.specs.declared.name.Name.{Name}
-use Rattle.heap_world.specs.World.{World, Block, thing, moved, spent, hand, promised, filler, words_of, IsCollected, IsSweptTo, Shared}
+use Rattle.heap_world.specs.World.{World, Block, thing, moved, spent, hand, promised, dead, filler, spare, carved, words_of, IsCollected, IsSweptTo, Shared}
 use Rattle.heap_world.specs.Rely.{KeepsCopies}
 use Rattle.move_steps.specs.Evacuation.Facts.{IsSwept, IsWalkedTo, IsMeasured}
 
@@ -49,9 +49,12 @@ module _ (c : Config) (w : World) (shared : Shared c w) where
   three_words a (thing name refs nums) is = omega arith
   three_words a (moved name refs nums to) is = omega arith
   three_words a (spent words to) is = shared.parsable.spents a words to is
-  three_words a (hand seat words) is = (shared.owned.rooms a seat words is).some
+  three_words a (hand seat words) is = (shared.owned.rooms.hands a seat words is).some
   three_words a (promised seat words) is = shared.parsable.promises a seat words is
-  three_words a (filler words) is = shared.parsable.fillers a words is
+  three_words a (dead words) is = shared.parsable.deads a words is
+  three_words a (filler words) is = absurd (shared.unwritten.fillers a words is)
+  three_words a (spare seat words) is = absurd (shared.owned.rooms.spares a seat words is)
+  three_words a (carved seat words) is = absurd (shared.owned.rooms.carveds a seat words is)
 
   pub placed : (a : ℕ) (x : Block) → w.block a ≡ Some x → IsPlaced c w a x
   placed a x is =
@@ -65,15 +68,6 @@ module _ (c : Config) (w : World) (shared : Shared c w) where
         to_top = subst (λ r. a + words_of x ≤ base_of c r + w.memory (Top r)) (sym here) used.to_top;
         short = subst (λ r. w.memory (Top r) ≤ c.region_words) (sym here) most;
       }
-
-  -- room in hand lies outside the collection set
-  room_outside : (a seat words : ℕ) → w.block a ≡ Some (hand seat words) → IsCollected c (w.memory Cset) a → ⊥
-  room_outside a seat words is inside =
-      let room = shared.owned.rooms a seat words is in
-      let own = shared.owned.currents.own seat room.region room.is_current in
-      let most : w.memory (Top room.region) ≤ c.region_words = shared.parsable.plotted.tops room.region (shared.owned.currents.within seat room.region room.is_current) in
-      let here : region_with c a ≡ room.region = region_is c room.region a room.from_base (omega (arith, room.at_top, most, room.some)) in
-      shared.evacuated.aside.nobodys room.region seat own (subst (λ r. IsIn (w.memory Cset) r) here inside)
 
   -- the shape word of a piece of the set says how long it is
   pub words_there : (a : ℕ) (x : Block) → IsCollected c (w.memory Cset) a → w.block a ≡ Some x → object_words (w.memory (Heap (a + 1))) ≡ words_of x
@@ -90,9 +84,12 @@ module _ (c : Config) (w : World) (shared : Shared c w) where
       shaped : (refs nums : ℕ) → refs ≤ 16 → nums ≤ 16 → object_words (shape_word refs nums) ≡ 3 + refs + nums
       shaped refs nums few_refs few_nums = omega arith
   words_there a (spent words to) inside is = (shared.evacuated.moved.spents a words to is).shape
-  words_there a (hand seat words) inside is = absurd (room_outside a seat words is inside)
+  words_there a (hand seat words) inside is = absurd (shared.evacuated.aside.no_rooms a seat (hand seat words) is refl inside)
   words_there a (promised seat words) inside is = absurd (shared.evacuated.aside.no_promises a seat words is inside)
-  words_there a (filler words) inside is = shared.unwritten.lengths a words is
+  words_there a (dead words) inside is = shared.unwritten.lengths a words is
+  words_there a (filler words) inside is = absurd (shared.unwritten.fillers a words is)
+  words_there a (spare seat words) inside is = absurd (shared.evacuated.aside.no_rooms a seat (spare seat words) is refl inside)
+  words_there a (carved seat words) inside is = absurd (shared.evacuated.aside.no_rooms a seat (carved seat words) is refl inside)
 
   -- a region without an object that is not forwarded at an address is swept up to the piece behind it
   pub swept_past : (region a : ℕ) (x : Block) → w.block a ≡ Some x → ((refs nums : ℕ) (name : Name) → w.block a ≡ Some (thing name refs nums) → ⊥)

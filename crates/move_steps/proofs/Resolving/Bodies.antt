@@ -1,5 +1,5 @@
 -- Where copies and room in hand lie, and what the words of copies say.
-use Rattle.std.proofs.Common.{◌≡◌, ℕ, ◌+◌, ◌*◌, ◌<◌, ◌≤◌, ⊎_elim, true, Some, sym, ap, ◌∙◌, subst, arith}
+use Rattle.std.proofs.Common.{◌≡◌, ℕ, ◌+◌, ◌*◌, ◌<◌, ◌≤◌, ⊎_elim, true, Some, refl, sym, ap, ◌∙◌, subst, arith}
 use Rattle.std.proofs.lemmas.Bool.{and_from, le-leb}
 use Rattle.std.proofs.lemmas.Bool.Decides.{nat_tests}
 use Rattle.heap_words.specs.declared.config.Config.{Config}
@@ -72,9 +72,9 @@ module _ (c : Config) (u : World) (shared : Shared c u) where
 
   module _ (copy seat words : ℕ) (room : u.block copy ≡ Some (hand seat words)) where
     -- room in hand is of its seat's region
-    pub room_of : region_with c copy ≡ (shared.owned.rooms copy seat words room).region
-    room_of =
-        let is_room = shared.owned.rooms copy seat words room in
+    pub room_region : region_with c copy ≡ (shared.owned.rooms.hands copy seat words room).region
+    room_region =
+        let is_room = shared.owned.rooms.hands copy seat words room in
         let most = shared.parsable.plotted.tops is_room.region (shared.owned.currents.within seat is_room.region is_room.is_current) in
         let some = is_room.some in
         let from = is_room.from_base in
@@ -83,23 +83,23 @@ module _ (c : Config) (u : World) (shared : Shared c u) where
 
     -- which the seat owns
     pub room_owned : u.ghost.owner (region_with c copy) ≡ Some seat
-    room_owned = ap u.ghost.owner room_of ∙ shared.owned.currents.own seat _ (shared.owned.rooms copy seat words room).is_current
+    room_owned = ap u.ghost.owner room_region ∙ shared.owned.currents.own seat _ (shared.owned.rooms.hands copy seat words room).is_current
 
     -- and which is one of the heap
     pub room_within : region_with c copy < c.regions
-    room_within = subst (λ r. r < c.regions) (sym room_of) (shared.owned.currents.within seat _ (shared.owned.rooms copy seat words room).is_current)
+    room_within = subst (λ r. r < c.regions) (sym room_region) (shared.owned.currents.within seat _ (shared.owned.rooms.hands copy seat words room).is_current)
 
     -- it lies outside the collection set
     pub room_outside : IsCollected c (u.memory Cset) copy → ⊥
-    room_outside inside = shared.evacuated.aside.nobodys (region_with c copy) seat room_owned inside
+    room_outside inside = shared.evacuated.aside.no_rooms copy seat (hand seat words) room refl inside
 
     -- above its region's base
     pub room_from : base_of c (region_with c copy) ≤ copy
-    room_from = subst (λ r. base_of c r ≤ copy) (sym room_of) (shared.owned.rooms copy seat words room).from_base
+    room_from = subst (λ r. base_of c r ≤ copy) (sym room_region) (shared.owned.rooms.hands copy seat words room).from_base
 
     -- up to the top
     pub room_top : copy + words ≡ base_of c (region_with c copy) + u.memory (Top (region_with c copy))
-    room_top = subst (λ r. copy + words ≡ base_of c r + u.memory (Top r)) (sym room_of) (shared.owned.rooms copy seat words room).at_top
+    room_top = subst (λ r. copy + words ≡ base_of c r + u.memory (Top r)) (sym room_region) (shared.owned.rooms.hands copy seat words room).at_top
 
     -- and it is no copy
     pub room_no_copy : (b : Body) → body_at (u.block copy) ≡ Some b → ⊥

@@ -1,7 +1,7 @@
 -- What a step owes that changes only words of the heap, tops, the counter of copiers, pieces, and who copies.
 use Rattle.std.proofs.Common.{◌≡◌, ◌≢◌, ℕ, ◌+◌, ◌<◌, ◌≤◌, ◌⊎◌, ⊎_elim, inl, inr, Bool, true, Option, Some, None, refl, sym, ap, ◌∙◌, subst, arith}
 use Rattle.std.proofs.Math.Path.{fun_ext}
-use Rattle.std.proofs.lemmas.Option.{none-some}
+use Rattle.std.proofs.lemmas.Option.{none-some, same_Some}
 use Rattle.std.proofs.lemmas.Bool.{false≢true}
 use Rattle.heap_words.specs.declared.config.Config.{Config}
 use Rattle.heap_words.specs.Words.{Word, Phase, Cset, Free, Evac, Top, Tams, Current, Count, Buffer, Grey, Black, Heap, write}
@@ -11,11 +11,11 @@ use Rattle.regions.specs.Sets.{IsIn}
 use Rattle.shen_graph.specs.declared.name.Name.{Name}
 use Rattle.steps_base.specs.Touch.{Touch, touched}
 use Rattle.heap_words.specs.Counter.{is_out_of_room, IsQuiet}
-use Rattle.heap_world.specs.World.{World, Block, thing, moved, spent, hand, promised, filler, words_of, Plot, Snapshot, Scan, no_snapshot, with_copying, name_at, Body, body_of, body_at, Target, IsCollected, IsParsable, AreObjects, AreOwned, IsMarkable, HaveMoved, IsCounted, AreKept, KeepsSnapshot, Shared}
+use Rattle.heap_world.specs.World.{World, Block, thing, moved, spent, promised, dead, filler, words_of, room_of, Plot, Snapshot, Scan, no_snapshot, with_copying, name_at, Body, body_of, body_at, Target, IsCollected, IsParsable, AreObjects, AreOwned, IsMarkable, HaveMoved, IsCounted, AreKept, KeepsSnapshot, Shared}
 use Rattle.heap_world.specs.Rely.{KeepsMarks, KeepsCopies, Keeps, Rely}
 use Rattle.heap_world.specs.Part.{PartStep}
 use Rattle.heap_world.proofs.Updates.{updated}
-use Rattle.heap_world.proofs.Pointing.{named_body, body_named, body_piece}
+use Rattle.heap_world.proofs.Pointing.{named_body, body_named, body_piece, room_unnamed}
 use Rattle.heap_world.proofs.Marked.{noted_same}
 use Rattle.heap_world.proofs.Unwritten.{unwritten_stays}
 
@@ -64,7 +64,7 @@ unmarked c phase grey black count buffer top tams heap block s recording scannin
   kept = λ a refs nums name there. absurd (none-some _ there);
   older = λ on. absurd (other on);
   promises = λ on. absurd (other on);
-  fillers = λ on. absurd (other on);
+  deads = λ on. absurd (other on);
   young = λ on. absurd (other on);
   floors = λ r inside. omega arith;
   tams_are = λ on. absurd (other on);
@@ -96,13 +96,14 @@ module _ (c : Config) (u : World) (seat : ℕ) (heap top : ℕ → ℕ) (evac : 
     pub set_tops : (r : ℕ) → IsIn (u.memory Cset) r → top r ≡ u.memory (Top r)
     pub out : is_out_of_room (u.memory Evac) ≡ true → is_out_of_room evac ≡ true
     pub quiet : IsQuiet (u.memory Evac) → IsQuiet evac
-    pub hands : (j a words : ℕ) → j ≢ seat → u.block a ≡ Some (hand j words) → block a ≡ Some (hand j words)
-    pub no_hands : (j a words : ℕ) → j ≢ seat → block a ≡ Some (hand j words) → u.block a ≡ Some (hand j words)
+    pub rooms : (j a : ℕ) (x : Block) → j ≢ seat → u.block a ≡ Some x → room_of x ≡ Some j → block a ≡ Some x
+    pub no_rooms : (j a : ℕ) (x : Block) → block a ≡ Some x → room_of x ≡ Some j → u.block a ≡ Some x
     pub promises : (a j words : ℕ) → u.block a ≡ Some (promised j words) → block a ≡ Some (promised j words)
     pub no_promises : (a j words : ℕ) → block a ≡ Some (promised j words) → u.block a ≡ Some (promised j words)
-    pub fillers : (a words : ℕ) → u.block a ≡ Some (filler words) → block a ≡ Some (filler words)
+    pub deads : (a words : ℕ) → u.block a ≡ Some (dead words) → block a ≡ Some (dead words)
+    pub no_deads : (a words : ℕ) → block a ≡ Some (dead words) → u.block a ≡ Some (dead words)
     pub no_fillers : (a words : ℕ) → block a ≡ Some (filler words) → u.block a ≡ Some (filler words)
-    pub words : (a k : ℕ) (x : Block) → u.block a ≡ Some x → k < words_of x → ((more : ℕ) → x ≡ hand seat more → ⊥) → (1 ≤ k) ⊎ (body_at (Some x) ≡ None) → heap (a + k) ≡ u.memory (Heap (a + k))
+    pub words : (a k : ℕ) (x : Block) → u.block a ≡ Some x → k < words_of x → room_of x ≢ Some seat → (1 ≤ k) ⊎ (name_at (Some x) ≡ None) → heap (a + k) ≡ u.memory (Heap (a + k))
     pub own_tops : (r j : ℕ) → j ≢ seat → u.ghost.owner r ≡ Some j → top r ≡ u.memory (Top r)
     pub copiers_else : (j : ℕ) → j ≢ seat → copying j ≡ u.ghost.copying j
 
@@ -111,21 +112,21 @@ module _ (c : Config) (u : World) (seat : ℕ) (heap top : ℕ → ℕ) (evac : 
     names_after : (a : ℕ) (name : Name) → name_at (u.block a) ≡ Some name → name_at (block a) ≡ Some name
     names_after a name is = let body = named_body (u.block a) name is in body_named (block a) (body_of name body.0 body.1) (step.bodies a (body_of name body.0 body.1) body.2)
 
-    -- a filler has its header still
-    filler_header : (a words : ℕ) → u.block a ≡ Some (filler words) → heap a ≡ u.memory (Heap a)
-    filler_header a words is =
+    -- a dead object has its header still
+    dead_header : (a words : ℕ) → u.block a ≡ Some (dead words) → heap a ≡ u.memory (Heap a)
+    dead_header a words is =
         let there : a + 0 ≡ a = omega arith in
         subst (λ x. heap x ≡ u.memory (Heap x)) there
-        (step.words a 0 (filler words) is (let long = shared.parsable.fillers a words is in omega (arith, long)) (λ more same. (let differ = same in cc)) (inr refl))
+        (step.words a 0 (dead words) is (let long = shared.parsable.deads a words is in omega (arith, long)) (λ own. none-some seat own) (inr refl))
 
     -- and its length
-    filler_shape : (a words : ℕ) → u.block a ≡ Some (filler words) → heap (a + 1) ≡ u.memory (Heap (a + 1))
-    filler_shape a words is =
-        step.words a 1 (filler words) is (let long = shared.parsable.fillers a words is in omega (arith, long)) (λ more same. (let differ = same in cc)) (inr refl)
+    dead_shape : (a words : ℕ) → u.block a ≡ Some (dead words) → heap (a + 1) ≡ u.memory (Heap (a + 1))
+    dead_shape a words is =
+        step.words a 1 (dead words) is (let long = shared.parsable.deads a words is in omega (arith, long)) (λ own. none-some seat own) (inr refl)
 
     -- the words of a promised object stay
     promise_after : (a j words k : ℕ) → u.block a ≡ Some (promised j words) → k < words → heap (a + k) ≡ u.memory (Heap (a + k))
-    promise_after a j words k is below = step.words a k (promised j words) is below (λ more same. (let differ = same in cc)) (inr refl)
+    promise_after a j words k is below = step.words a k (promised j words) is below (λ own. none-some seat own) (inr refl)
 
     -- machines share what they should
     pub shared_after : Shared c world_after
@@ -136,7 +137,8 @@ module _ (c : Config) (u : World) (seat : ℕ) (heap top : ℕ → ℕ) (evac : 
       phased = record { phase_is = shared.phased.phase_is; cset_is = λ early. absurd (omega (arith, early, on)); evac_is = λ other. absurd (other on) };
       unwritten = unwritten_stays (λ a. u.memory (Heap a)) heap u.block block
           (λ a j words is. let was = step.no_promises a j words is in (was, λ k below. promise_after a j words k was below))
-          (λ a words is. let was = step.no_fillers a words is in (was, filler_header a words was, filler_shape a words was))
+          (λ a words is. let was = step.no_deads a words is in (was, dead_header a words was, dead_shape a words was))
+          step.no_fillers
           shared.unwritten;
       marked = unmarked c (u.memory Phase) (λ n. u.memory (Grey n)) (λ n. u.memory (Black n)) (λ t. u.memory (Count t)) (λ t k. u.memory (Buffer t k)) top (λ r. u.memory (Tams r)) heap block u.ghost.snapshot u.ghost.recording u.ghost.scanning
           (λ marking. omega (arith, marking, on)) (shared.marked.empty (λ marking. omega (arith, marking, on)));
@@ -149,6 +151,7 @@ module _ (c : Config) (u : World) (seat : ℕ) (heap top : ℕ → ℕ) (evac : 
           nobodys = shared.evacuated.aside.nobodys;
           no_new = λ r is. step.set_tops r is ∙ shared.evacuated.aside.no_new r is;
           no_promises = λ a j words is. shared.evacuated.aside.no_promises a j words (step.no_promises a j words is);
+          no_rooms = λ a j x is room. shared.evacuated.aside.no_rooms a j x (step.no_rooms j a x is room) room;
         };
         kept = step.kept;
         units = λ still r claimed is. ⊎_elim
@@ -176,7 +179,7 @@ module _ (c : Config) (u : World) (seat : ℕ) (heap top : ℕ → ℕ) (evac : 
     }
       where
         shapes : (a : ℕ) → IsMarkable u.block a → heap (a + 1) ≡ u.memory (Heap (a + 1))
-        shapes a (IsMarkable.object name refs nums is) = step.words a 1 (thing name refs nums) is (omega arith) (λ more same. (let differ = same in cc)) (inl (omega arith))
+        shapes a (IsMarkable.object name refs nums is) = step.words a 1 (thing name refs nums) is (omega arith) (λ own. none-some seat own) (inl (omega arith))
         shapes a (IsMarkable.to_come j words is) = promise_after a j words 1 is (let long = shared.parsable.promises a j words is in omega (arith, long))
 
     -- and what holds of evacuation
@@ -215,9 +218,9 @@ module _ (c : Config) (u : World) (seat : ℕ) (heap top : ℕ → ℕ) (evac : 
     others_after j differs = record {
       names = names_after;
       targets = step.targets;
-      hands = λ a words is. step.hands j a words differs is;
-      no_hands = λ a words is. step.no_hands j a words differs is;
-      hand_words = λ a words k is below. step.words a k (hand j words) is below (λ more same. differs (same_seat words more same)) (inr refl);
+      rooms = λ a x is room. step.rooms j a x differs is room;
+      no_rooms = λ a x is room. step.no_rooms j a x is room;
+      room_words = λ a k x is room below. step.words a k x is below (λ own. differs (same_Some j seat (sym room ∙ own))) (inr (room_unnamed x j room));
       promises = λ a words is. step.promises a j words is;
       no_promises = λ a words is. step.no_promises a j words is;
       promise_words = λ a words k is below. promise_after a j words k is below;
@@ -243,13 +246,10 @@ module _ (c : Config) (u : World) (seat : ℕ) (heap top : ℕ → ℕ) (evac : 
         keeps = copies_kept;
         copying = step.copiers_else j differs;
         working = refl;
-        words = λ a k b seated counted inside is from below. let piece = body_piece (u.block a) b is in step.words a k piece.0 piece.1 (omega (arith, below, piece.2)) (λ more same. none-some b (ap (λ x. body_at (Some x)) (sym same) ∙ ap body_at (sym piece.1) ∙ is)) (inl from);
+        words = λ a k b seated counted inside is from below. let piece = body_piece (u.block a) b is in step.words a k piece.0 piece.1 (omega (arith, below, piece.2)) (λ own. none-some b.name (sym (room_unnamed piece.0 seat own) ∙ body_named (Some piece.0) b (ap body_at (sym piece.1) ∙ is))) (inl from);
       };
-      fields = record { tams = λ r. refl; limits = λ r. refl; fillers = step.fillers; claims = λ all. all; fields = λ updating. absurd (omega (arith, updating, on)) };
+      fields = record { tams = λ r. refl; limits = λ r. refl; deads = step.deads; claims = λ all. all; fields = λ updating. absurd (omega (arith, updating, on)) };
     }
-      where
-        same_seat : (words more : ℕ) → hand j words ≡ hand seat more → j ≡ seat
-        same_seat words more same = (let both = same in cc)
 
     -- the step owes no more
     pub step_after : (t : Touch) (facts : World → Type 0) → with_words u.memory heap top evac ≡ touched u.memory t → facts world_after → PartStep c u seat t facts

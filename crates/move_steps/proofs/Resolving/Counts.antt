@@ -117,13 +117,14 @@ module _ (c : Config) (u : World) (seat : ℕ) (spot : RoomSpot) (shared : Share
     set_tops = λ r is. refl;
     out = counter_kept.bit_stays;
     quiet = quiet_then;
-    hands = λ j a words differs is. is;
-    no_hands = λ j a words differs is. is;
+    rooms = λ j a x differs is own. is;
+    no_rooms = λ j a x is own. is;
     promises = λ a j words is. is;
     no_promises = λ a j words is. is;
-    fillers = λ a words is. is;
+    deads = λ a words is. is;
+    no_deads = λ a words is. is;
     no_fillers = λ a words is. is;
-    words = λ a k x is below no_hand which. refl;
+    words = λ a k x is below no_room which. refl;
     own_tops = λ r j differs is. refl;
     copiers_else = λ j differs. updated_else u.ghost.copying seat (is_counted (next_at spot (u.memory Evac))) j (λ same. differs (sym same));
   }

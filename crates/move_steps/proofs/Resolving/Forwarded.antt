@@ -11,7 +11,7 @@ use Rattle.regions.specs.Place.{base_of}
 use Rattle.steps_base.specs.Touch.{touch, exchanges}
 use Rattle.shen_graph.specs.declared.name.Name.{Name}
 use Rattle.shen_graph.specs.Graph.{Reference, Object}
-use Rattle.heap_world.specs.World.{World, Block, thing, moved, spent, hand, promised, filler, words_of, Plot, name_at, Points, IsInUse, Body, body_of, body_at, IsPlotted, IsFilled, IsThing, IsCollected, IsMarkable, IsYoung, HasCopy, IsMoved, Shared}
+use Rattle.heap_world.specs.World.{World, Block, thing, moved, spent, hand, promised, dead, filler, spare, carved, words_of, room_of, Plot, name_at, Points, IsInUse, Body, body_of, body_at, IsPlotted, IsFilled, IsThing, IsCollected, IsMarkable, IsYoung, HasCopy, IsMoved, Shared}
 use Rattle.heap_world.specs.Part.{PartStep}
 use Rattle.heap_world.proofs.Updates.{updated, updated_there, updated_else}
 use Rattle.heap_world.proofs.Apart.{one_piece}
@@ -144,6 +144,10 @@ module _ (c : Config) (u : World) (seat a copy refs nums : ℕ) (name : Name) (s
   came : (b : ℕ) (x : Block) → (x ≡ thing name refs nums → ⊥) → (x ≡ moved name refs nums copy → ⊥) → block_then b ≡ Some x → (b ≢ a) × (b ≢ copy) × (u.block b ≡ Some x)
   came b x no_thing no_moved is = ⊎_elim (λ new. absurd (no_thing new.1)) (λ rest. ⊎_elim (λ old. absurd (no_moved old.1)) (λ same. same) rest) (now_cases b x is)
 
+  -- room was there
+  room_came : (b j : ℕ) (x : Block) → block_then b ≡ Some x → room_of x ≡ Some j → u.block b ≡ Some x
+  room_came b j x is own = (came b x (λ same. none-some j (ap room_of (sym same) ∙ own)) (λ same. none-some j (ap room_of (sym same) ∙ own)) is).2
+
   -- a piece stood where one stands, as long
   was_piece : (b : ℕ) (x : Block) → block_then b ≡ Some x → (y : Block) × (u.block b ≡ Some y) × (words_of y ≡ words_of x)
   was_piece b x is = ⊎_elim
@@ -268,8 +272,9 @@ module _ (c : Config) (u : World) (seat a copy refs nums : ℕ) (name : Name) (s
       plotted = plotted_same c tops u.block block_then was_piece shared.parsable.plotted;
       filled = filled_same c tops u.block block_then was_piece (λ b x is. let now = now_piece b x is in (now.0, now.1)) shared.parsable.filled;
       promises = λ b j more is. shared.parsable.promises b j more (came b (promised j more) (λ same. (let differ = same in cc)) (λ same. (let differ = same in cc)) is).2;
-      fillers = λ b more is. shared.parsable.fillers b more (came b (filler more) (λ same. (let differ = same in cc)) (λ same. (let differ = same in cc)) is).2;
+      deads = λ b more is. shared.parsable.deads b more (came b (dead more) (λ same. (let differ = same in cc)) (λ same. (let differ = same in cc)) is).2;
       spents = λ b more to is. shared.parsable.spents b more to (came b (spent more to) (λ same. (let differ = same in cc)) (λ same. (let differ = same in cc)) is).2;
+      fillers = λ b more is. shared.parsable.fillers b more (came b (filler more) (λ same. (let differ = same in cc)) (λ same. (let differ = same in cc)) is).2;
     };
     objects = record {
       each = λ b more_refs more_nums n is. ⊎_elim
@@ -297,7 +302,11 @@ module _ (c : Config) (u : World) (seat a copy refs nums : ℕ) (name : Name) (s
     owned = record {
       free_word = shared.owned.free_word;
       currents = shared.owned.currents;
-      rooms = λ b j more is. shared.owned.rooms b j more (came b (hand j more) (λ same. (let differ = same in cc)) (λ same. (let differ = same in cc)) is).2;
+      rooms = record {
+        hands = λ b j more is. shared.owned.rooms.hands b j more (room_came b j (hand j more) is refl);
+        spares = λ b j more is. shared.owned.rooms.spares b j more (room_came b j (spare j more) is refl);
+        carveds = λ b j more is. shared.owned.rooms.carveds b j more (room_came b j (carved j more) is refl);
+      };
     };
     moved_are = record {
       moveds = λ b more_refs more_nums to n is. ⊎_elim
@@ -332,13 +341,13 @@ module _ (c : Config) (u : World) (seat a copy refs nums : ℕ) (name : Name) (s
     counted = shared.evacuated.counted;
     kept = record {
       objects = λ still b is. ⊎_elim
-          (λ (new : b ≡ copy). inr (subst (λ x. IsYoung c (λ r. u.memory (Tams r)) x) (sym new) (shared.evacuated.kept.young still copy seat words room)))
+          (λ (new : b ≡ copy). inr (subst (λ x. IsYoung c (λ r. u.memory (Tams r)) x) (sym new) (shared.evacuated.kept.young still copy seat (hand seat words) room refl)))
           (λ was. shared.evacuated.kept.objects still b was)
           (markable_was b is);
-      young = λ still b j more is. shared.evacuated.kept.young still b j more (came b (hand j more) (λ same. (let differ = same in cc)) (λ same. (let differ = same in cc)) is).2;
+      young = λ still b j x is own. shared.evacuated.kept.young still b j x (room_came b j x is own) own;
       floors = shared.evacuated.kept.floors;
-      unmarked = λ still b more is. shared.evacuated.kept.unmarked still b more (came b (filler more) (λ same. (let differ = same in cc)) (λ same. (let differ = same in cc)) is).2;
-      fillers = λ still b more is. shared.evacuated.kept.fillers still b more (came b (filler more) (λ same. (let differ = same in cc)) (λ same. (let differ = same in cc)) is).2;
+      unmarked = λ still b more is. shared.evacuated.kept.unmarked still b more (came b (dead more) (λ same. (let differ = same in cc)) (λ same. (let differ = same in cc)) is).2;
+      deads = λ still b more is. shared.evacuated.kept.deads still b more (came b (dead more) (λ same. (let differ = same in cc)) (λ same. (let differ = same in cc)) is).2;
       only = λ still b from mark collected. copy_stays b (shared.evacuated.kept.only still b from mark collected);
     };
     bodies = bodies;
@@ -355,13 +364,14 @@ module _ (c : Config) (u : World) (seat a copy refs nums : ℕ) (name : Name) (s
     set_tops = λ r is. refl;
     out = λ is. is;
     quiet = λ is. is;
-    hands = λ j b more differs is. stays b (hand j more) (λ same. differs (let both = same in cc)) (λ same. (let differ = same in cc)) is;
-    no_hands = λ j b more differs is. (came b (hand j more) (λ same. (let differ = same in cc)) (λ same. (let differ = same in cc)) is).2;
+    rooms = λ j b x differs is own. stays b x (λ same. differs (same_Some j seat (sym own ∙ ap room_of same))) (λ same. none-some j (ap room_of (sym same) ∙ own)) is;
+    no_rooms = λ j b x is own. room_came b j x is own;
     promises = λ b j more is. stays b (promised j more) (λ same. (let differ = same in cc)) (λ same. (let differ = same in cc)) is;
     no_promises = λ b j more is. (came b (promised j more) (λ same. (let differ = same in cc)) (λ same. (let differ = same in cc)) is).2;
-    fillers = λ b more is. stays b (filler more) (λ same. (let differ = same in cc)) (λ same. (let differ = same in cc)) is;
+    deads = λ b more is. stays b (dead more) (λ same. (let differ = same in cc)) (λ same. (let differ = same in cc)) is;
+    no_deads = λ b more is. (came b (dead more) (λ same. (let differ = same in cc)) (λ same. (let differ = same in cc)) is).2;
     no_fillers = λ b more is. (came b (filler more) (λ same. (let differ = same in cc)) (λ same. (let differ = same in cc)) is).2;
-    words = λ b k x is below no_hand which. word_stays b k x is below (⊎_elim (λ some. inr some) (λ none. inl (λ same. none-some (body_of name refs nums) (sym none ∙ ap body_at (sym is ∙ ap u.block same ∙ object)))) which);
+    words = λ b k x is below no_room which. word_stays b k x is below (⊎_elim (λ some. inr some) (λ none. inl (λ same. none-some name (sym none ∙ ap name_at (sym is ∙ ap u.block same ∙ object)))) which);
     own_tops = λ r j differs is. refl;
     copiers_else = λ j differs. refl;
   }

@@ -8,7 +8,7 @@ use Rattle.steps_base.specs.Touch.{touch, stores}
 use Rattle.regions.specs.Place.{base_of, region_with}
 use Rattle.regions.specs.Sets.{IsIn}
 use Rattle.shen_graph.specs.declared.name.Name.{Name}
-use Rattle.heap_world.specs.World.{World, Block, thing, moved, spent, hand, promised, filler, words_of, Plot, name_at, Body, body_at, IsPlotted, IsFilled, IsCollected, IsMarkable, HasCopy, Shared}
+use Rattle.heap_world.specs.World.{World, Block, thing, moved, spent, hand, promised, dead, filler, spare, carved, words_of, room_of, Plot, name_at, Body, body_at, IsPlotted, IsFilled, IsCollected, IsMarkable, HasCopy, Shared}
 use Rattle.heap_world.specs.Part.{PartStep}
 use Rattle.heap_world.proofs.Keeping.{points_stay}
 use Rattle.heap_world.proofs.Updates.{updated, updated_same, updated_there, updated_else}
@@ -49,7 +49,7 @@ module _ (c : Config) (u : World) (seat copy words : ℕ) (shared : Shared c u) 
   at_top = room_top c u shared copy seat words room
 
   some_room : 3 ≤ words
-  some_room = (shared.owned.rooms copy seat words room).some
+  some_room = (shared.owned.rooms.hands copy seat words room).some
 
   -- the top of its region, and of others
   top_now : tops_then region ≡ copy - base_of c region
@@ -183,9 +183,9 @@ module _ (c : Config) (u : World) (seat copy words : ℕ) (shared : Shared c u) 
   copy_stays a (HasCopy.spent_copy more to is) = HasCopy.spent_copy more to (stays a (spent more to) (λ same. (let differ = same in cc)) is)
 
   -- the region is another's than that of room in another hand
-  other_room : (a j more : ℕ) (is : u.block a ≡ Some (hand j more)) → a ≢ copy → (shared.owned.rooms a j more is).region ≢ region
+  other_room : (a j more : ℕ) (is : u.block a ≡ Some (hand j more)) → a ≢ copy → (shared.owned.rooms.hands a j more is).region ≢ region
   other_room a j more is other same =
-      let is_room = shared.owned.rooms a j more is in
+      let is_room = shared.owned.rooms.hands a j more is in
       let seats : Some j ≡ Some seat = sym (shared.owned.currents.own j is_room.region is_room.is_current) ∙ ap u.ghost.owner same ∙ room_owned c u shared copy seat words room in
       other (only a more (subst (λ s. u.block a ≡ Some (hand s more)) (same_Some j seat seats) is))
 
@@ -195,8 +195,9 @@ module _ (c : Config) (u : World) (seat copy words : ℕ) (shared : Shared c u) 
       plotted = plotted_then;
       filled = filled_then;
       promises = λ a j more is. shared.parsable.promises a j more (came a (promised j more) is).1;
-      fillers = λ a more is. shared.parsable.fillers a more (came a (filler more) is).1;
+      deads = λ a more is. shared.parsable.deads a more (came a (dead more) is).1;
       spents = λ a more to is. shared.parsable.spents a more to (came a (spent more to) is).1;
+      fillers = λ a more is. shared.parsable.fillers a more (came a (filler more) is).1;
     };
     objects = record {
       each = λ a refs nums n is.
@@ -211,17 +212,21 @@ module _ (c : Config) (u : World) (seat copy words : ℕ) (shared : Shared c u) 
         nobodys = shared.owned.free_word.nobodys;
       };
       currents = shared.owned.currents;
-      rooms = λ a j more is.
-          let was = came a (hand j more) is in
-          let is_room = shared.owned.rooms a j more was.1 in
-          record {
-            seated = is_room.seated;
-            some = is_room.some;
-            region = is_room.region;
-            is_current = is_room.is_current;
-            from_base = is_room.from_base;
-            at_top = is_room.at_top ∙ ap (λ t. base_of c is_room.region + t) (sym (top_else is_room.region (other_room a j more was.1 was.0)));
-          };
+      rooms = record {
+        hands = λ a j more is.
+            let was = came a (hand j more) is in
+            let is_room = shared.owned.rooms.hands a j more was.1 in
+            record {
+              seated = is_room.seated;
+              some = is_room.some;
+              region = is_room.region;
+              is_current = is_room.is_current;
+              from_base = is_room.from_base;
+              at_top = is_room.at_top ∙ ap (λ t. base_of c is_room.region + t) (sym (top_else is_room.region (other_room a j more was.1 was.0)));
+            };
+        spares = λ a j more is. shared.owned.rooms.spares a j more (came a (spare j more) is).1;
+        carveds = λ a j more is. shared.owned.rooms.carveds a j more (came a (carved j more) is).1;
+      };
     };
     moved_are = record {
       moveds = λ a refs nums to n is.
@@ -254,17 +259,17 @@ module _ (c : Config) (u : World) (seat copy words : ℕ) (shared : Shared c u) 
     counted = shared.evacuated.counted;
     kept = record {
       objects = λ still a is. shared.evacuated.kept.objects still a (markable_was a is);
-      young = λ still a j more is. shared.evacuated.kept.young still a j more (came a (hand j more) is).1;
+      young = λ still a j x is own. shared.evacuated.kept.young still a j x (came a x is).1 own;
       floors = λ still r inside. ⊎_elim
           (λ (same : r ≡ region).
-          let young = shared.evacuated.kept.young still copy seat words room in
+          let young = shared.evacuated.kept.young still copy seat (hand seat words) room refl in
           let end : base_of c r + tops_then r ≡ copy = ap (λ k. base_of c k + tops_then k) same ∙ ends in
           let floor : base_of c r + u.memory (Tams r) ≤ copy = subst (λ k. base_of c k + u.memory (Tams k) ≤ copy) (sym same) young in
           omega (arith, end, floor))
           (λ (other : r ≢ region). let now = top_else r other in let floor = shared.evacuated.kept.floors still r inside in omega (arith, now, floor))
           (cases_eq r region);
-      unmarked = λ still a more is. shared.evacuated.kept.unmarked still a more (came a (filler more) is).1;
-      fillers = λ still a more is. shared.evacuated.kept.fillers still a more (came a (filler more) is).1;
+      unmarked = λ still a more is. shared.evacuated.kept.unmarked still a more (came a (dead more) is).1;
+      deads = λ still a more is. shared.evacuated.kept.deads still a more (came a (dead more) is).1;
       only = λ still a from mark collected. copy_stays a (shared.evacuated.kept.only still a from mark collected);
     };
     bodies = bodies;
@@ -276,13 +281,14 @@ module _ (c : Config) (u : World) (seat copy words : ℕ) (shared : Shared c u) 
     set_tops = λ r is. top_else r (λ same. room_outside c u shared copy seat words room (subst (λ k. IsIn (u.memory Cset) k) same is));
     out = λ is. is;
     quiet = λ is. is;
-    hands = λ j a more differs is. stays a (hand j more) (λ same. differs (let both = same in cc)) is;
-    no_hands = λ j a more differs is. (came a (hand j more) is).1;
+    rooms = λ j a x differs is own. stays a x (λ same. differs (same_Some j seat (sym own ∙ ap room_of same))) is;
+    no_rooms = λ j a x is own. (came a x is).1;
     promises = λ a j more is. stays a (promised j more) (λ same. (let differ = same in cc)) is;
     no_promises = λ a j more is. (came a (promised j more) is).1;
-    fillers = λ a more is. stays a (filler more) (λ same. (let differ = same in cc)) is;
+    deads = λ a more is. stays a (dead more) (λ same. (let differ = same in cc)) is;
+    no_deads = λ a more is. (came a (dead more) is).1;
     no_fillers = λ a more is. (came a (filler more) is).1;
-    words = λ a k x is below no_hand which. refl;
+    words = λ a k x is below no_room which. refl;
     own_tops = λ r j differs is. top_else r (λ same. differs (same_Some j seat (sym is ∙ ap u.ghost.owner same ∙ room_owned c u shared copy seat words room)));
     copiers_else = λ j differs. refl;
   }

@@ -1,5 +1,5 @@
 -- What a machine counts on that resolves an address stays while others step.
-use Rattle.std.proofs.Common.{◌≡◌, ℕ, ◌+◌, ◌<◌, ◌≤◌, Some, true, sym, ap, ◌∙◌, subst, arith}
+use Rattle.std.proofs.Common.{◌≡◌, ℕ, ◌+◌, ◌<◌, ◌≤◌, Some, true, sym, ap, ◌∙◌, subst, arith, refl}
 use Rattle.std.proofs.lemmas.Option.{none-some}
 use Rattle.heap_words.specs.declared.config.Config.{Config}
 use Rattle.heap_words.specs.Ranges.{seat_count}
@@ -45,9 +45,9 @@ module _ (c : Config) (u w : World) (seat a : ℕ) (shared : Shared c u) (rely :
     -- words that are copied stay so, for its room is its own and while it copies the object's words stay
     copied_stays : (copy index : ℕ) → u.ghost.copying seat ≡ true → index ≤ body_words b → IsCopied u seat a copy b index → IsCopied w seat a copy b index
     copied_stays copy index counted most copied = record {
-      room = rely.hands copy (body_words b) copied.room;
+      room = rely.rooms copy _ copied.room refl;
       same = λ k some below.
-          rely.hand_words copy (body_words b) k copied.room (omega (arith, below, most))
+          rely.room_words copy k _ copied.room refl (omega (arith, below, most))
           ∙ copied.same k some below
           ∙ sym (rely.copies.words a k b seated counted inside is some (omega (arith, below, most)));
     }
@@ -68,9 +68,9 @@ module _ (c : Config) (u w : World) (seat a : ℕ) (shared : Shared c u) (rely :
     copy_facts_stay copy StoreHeader counted facts = copied_stays copy (body_words b) counted (omega arith) facts
     copy_facts_stay copy Publish counted facts = (
       copied_stays copy (body_words b) counted (omega arith) facts.0,
-      (let there : copy + 0 ≡ copy = omega arith in subst (λ x. w.memory (Heap x) ≡ u.memory (Heap x)) there (rely.hand_words copy (body_words b) 0 facts.0.room (omega arith))) ∙ facts.1,
+      (let there : copy + 0 ≡ copy = omega arith in subst (λ x. w.memory (Heap x) ≡ u.memory (Heap x)) there (rely.room_words copy 0 _ facts.0.room refl (omega arith))) ∙ facts.1,
     )
-    copy_facts_stay copy (GiveBack answer) counted facts = (rely.hands copy (body_words b) facts.0, rely.copies.keeps.moveds a b.refs b.nums answer b.name facts.1)
+    copy_facts_stay copy (GiveBack answer) counted facts = (rely.rooms copy _ facts.0 refl, rely.copies.keeps.moveds a b.refs b.nums answer b.name facts.1)
 
     stop_stays : (at : RoomSpot) → StopFacts (u.memory Evac) at → StopFacts (w.memory Evac) at
     stop_stays Wait facts = rely.copies.keeps.out facts
@@ -108,7 +108,7 @@ module _ (c : Config) (u w : World) (seat a : ℕ) (shared : Shared c u) (rely :
     copying = rely.copies.copying ∙ can.copying;
     records_none = rely.marks.recording ∙ can.records_none;
     scans_none = rely.marks.scanning ∙ can.scans_none;
-    hands = λ b words is. can.hands b words (rely.no_hands b words is);
+    hands = λ b words is. can.hands b words (rely.no_rooms b _ is refl);
     ready = can.ready;
     facts = facts_stay at can can.facts;
   }

@@ -5,7 +5,7 @@ use Rattle.heap_words.specs.declared.config.Config.{Config}
 use Rattle.heap_words.specs.Encoding.{object_words}
 use Rattle.heap_words.specs.Words.{Phase, Evac, Top, Heap}
 use Rattle.steps_base.specs.Touch.{touch, stores}
-use Rattle.heap_world.specs.World.{World, Block, thing, moved, spent, hand, words_of, Points, Shared}
+use Rattle.heap_world.specs.World.{World, Block, thing, moved, spent, hand, words_of, room_of, Points, Shared}
 use Rattle.heap_world.specs.Part.{PartStep}
 use Rattle.heap_world.proofs.Updates.{updated, updated_else}
 use Rattle.heap_world.proofs.Apart.{far}
@@ -92,13 +92,14 @@ module _ (c : Config) (u : World) (seat copy words at place value : ℕ) (shared
     set_tops = λ r is. refl;
     out = λ is. is;
     quiet = λ is. is;
-    hands = λ j a more differs is. is;
-    no_hands = λ j a more differs is. is;
+    rooms = λ j a x differs is own. is;
+    no_rooms = λ j a x is own. is;
     promises = λ a j more is. is;
     no_promises = λ a j more is. is;
-    fillers = λ a more is. is;
+    deads = λ a more is. is;
+    no_deads = λ a more is. is;
     no_fillers = λ a more is. is;
-    words = λ a k x is inside no_hand which. else_stays a k x is (elsewhere a x is (λ same. no_hand words (sym same))) inside;
+    words = λ a k x is inside no_room which. else_stays a k x is (elsewhere a x is (λ same. no_room (ap room_of (sym same)))) inside;
     own_tops = λ r j differs is. refl;
     copiers_else = λ j differs. refl;
   }

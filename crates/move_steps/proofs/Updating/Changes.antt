@@ -71,16 +71,16 @@ module _ (c : Config) (u w : World) (seat claim : ℕ) (pass : Option Scan) wher
 
   -- so do those of updating
   pub fields_then : (c.regions ≤ u.memory Claim → c.regions ≤ claim) → KeepsFields c u w → KeepsFields c u (world_then w seat claim pass)
-  fields_then claims fields = record { tams = fields.tams; limits = fields.limits; fillers = fields.fillers; claims = claims; fields = fields.fields }
+  fields_then claims fields = record { tams = fields.tams; limits = fields.limits; deads = fields.deads; claims = claims; fields = fields.fields }
 
   -- others can rely on what they knew
   others_then : (c.regions ≤ u.memory Claim → c.regions ≤ claim) → (k : ℕ) → k ≢ seat → Rely c k u w → Rely c k u (world_then w seat claim pass)
   others_then claims k differs rely = record {
     names = rely.names;
     targets = rely.targets;
-    hands = rely.hands;
-    no_hands = rely.no_hands;
-    hand_words = rely.hand_words;
+    rooms = rely.rooms;
+    no_rooms = rely.no_rooms;
+    room_words = rely.room_words;
     promises = rely.promises;
     no_promises = rely.no_promises;
     promise_words = rely.promise_words;

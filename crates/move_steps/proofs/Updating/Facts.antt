@@ -1,5 +1,5 @@
 -- What a machine counts on while it works on a unit of updating stays while others step, and while it goes on itself.
-use Rattle.std.proofs.Common.{◌≡◌, ℕ, ◌+◌, Some, ⊎_elim, inl, inr, sym, ap, ◌∙◌, subst, arith}
+use Rattle.std.proofs.Common.{◌≡◌, ℕ, ◌+◌, Some, ⊎_elim, inl, inr, sym, ap, ◌∙◌, subst, arith, refl}
 use Rattle.heap_words.specs.declared.config.Config.{Config}
 use Rattle.heap_words.specs.Encoding.{refs_in}
 use Rattle.heap_words.proofs.Shapes.{refs_in-shape_word}
@@ -38,12 +38,12 @@ module _ (c : Config) (u w : World) (seat : ℕ) (shared : Shared c u) (on : u.m
   -- a piece
   piece_stays : (a : ℕ) → IsPiece u a → IsPiece w a
   piece_stays a (inl alive) = inl (alive_stays a alive)
-  piece_stays a (inr fills) = inr (fills.0, fields.fillers a fills.0 fills.1)
+  piece_stays a (inr fills) = inr (fills.0, fields.deads a fills.0 fills.1)
 
   -- its shape word
   shape_stays : (a shape : ℕ) → HasShape u a shape → HasShape w a shape
   shape_stays a shape (inl object) = inl (alive_stays a object.0, object.1 ∙ sym (keeps.marks.shapes a object.0))
-  shape_stays a shape (inr fills) = inr (fills.0, fields.fillers a fills.0 fills.1, fills.2)
+  shape_stays a shape (inr fills) = inr (fills.0, fields.deads a fills.0 fills.1, fills.2)
 
   -- a reference of an object
   pub field_stays : (at : Visit) (field : ℕ) → HasField c u at field → HasField c w at field
@@ -103,6 +103,6 @@ can_update_stays c u w seat cset at shared keeps rely can = record {
   working = rely.copies.working ∙ can.working;
   records_none = rely.marks.recording ∙ can.records_none;
   scanning = rely.marks.scanning ∙ can.scanning;
-  hands = λ a words is. can.hands a words (rely.no_hands a words is);
+  hands = λ a words is. can.hands a words (rely.no_rooms a _ is refl);
   facts = facts_stay c u w seat shared can.phase keeps rely.fields at can.facts;
 }

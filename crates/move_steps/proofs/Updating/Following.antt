@@ -133,7 +133,7 @@ module _ (c : Config) (u w : World) (seat a : ℕ) (shared : Shared c u) (rely :
       copying = rely.copies.copying ∙ can.nothing.copying;
       records_none = rely.marks.recording ∙ can.nothing.records_none;
       scans_none = rely.marks.scanning ∙ can.nothing.scans_none;
-      hands = λ b words is. can.nothing.hands b words (rely.no_hands b words is);
+      hands = λ b words is. can.nothing.hands b words (rely.no_rooms b _ is refl);
     };
     facts = facts_stay at can;
   }

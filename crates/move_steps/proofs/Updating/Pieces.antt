@@ -13,7 +13,7 @@ use Rattle.regions.specs.Place.{base_of, region_with}
 use Rattle.regions.specs.Sets.{IsIn}
 use Rattle.shen_graph.specs.declared.name.Name.{Name}
 use Rattle.shen_graph.specs.Graph.{Reference}
-use Rattle.heap_world.specs.World.{World, Block, thing, moved, spent, hand, promised, filler, words_of, Points, body_of, IsMarkable, IsCurrent, Shared}
+use Rattle.heap_world.specs.World.{World, Block, thing, moved, spent, hand, promised, dead, filler, spare, carved, words_of, room_of, Points, body_of, IsMarkable, IsCurrent, Shared}
 use Rattle.heap_world.proofs.Pointing.{named_body, copy_cases, piece_word}
 use Rattle.update_part.specs.declared.spot.Walk.{Walk}
 use Rattle.update_part.specs.declared.spot.Visit.{Visit}
@@ -48,18 +48,25 @@ module _ (c : Config) (w : World) (shared : Shared c w) (on : w.memory Phase ≡
       let short = limit_short walk.region walked.unit.0 in
       region_is c walk.region address walked.from_base (omega (arith, less, limit_is, short))
 
-  -- a piece of a unit below its limit is an object, a promised one, or words that only fill
+  -- no piece of a unit below its limit is room
+  no_room_below : (region a seat : ℕ) (x : Block) → region_with c a ≡ region → a < base_of c region + w.memory (Limit region) → w.block a ≡ Some x → room_of x ≡ Some seat → ⊥
+  no_room_below region a seat x here below is room =
+      let young : base_of c region + w.memory (Limit region) ≤ a = subst (λ r. base_of c r + w.memory (Limit r) ≤ a) here ((shared.updated on).young a seat x is room) in
+      omega (arith, below, young)
+
+  -- it is an object, a promised one, or a dead one
   pub piece_of_unit : (region a : ℕ) (x : Block) → IsUnit c w region → region_with c a ≡ region → a < base_of c region + w.memory (Limit region) → w.block a ≡ Some x → IsPiece w a
   piece_of_unit region a (thing name refs nums) unit here below is = inl (IsMarkable.object name refs nums is)
   piece_of_unit region a (moved name refs nums to) unit here below is =
       absurd (unit.1 (subst (λ r. IsIn (w.memory Cset) r) here (shared.evacuated.moved.moveds a refs nums to name is).inside))
   piece_of_unit region a (spent words to) unit here below is =
       absurd (unit.1 (subst (λ r. IsIn (w.memory Cset) r) here (shared.evacuated.moved.spents a words to is).inside))
-  piece_of_unit region a (hand seat words) unit here below is =
-      let young : base_of c region + w.memory (Limit region) ≤ a = subst (λ r. base_of c r + w.memory (Limit r) ≤ a) here ((shared.updated on).young a seat words is) in
-      absurd (omega (arith, below, young))
+  piece_of_unit region a (hand seat words) unit here below is = absurd (no_room_below region a seat (hand seat words) here below is refl)
   piece_of_unit region a (promised seat words) unit here below is = inl (IsMarkable.to_come seat words is)
-  piece_of_unit region a (filler words) unit here below is = inr (words, is)
+  piece_of_unit region a (dead words) unit here below is = inr (words, is)
+  piece_of_unit region a (filler words) unit here below is = absurd (shared.unwritten.fillers a words is)
+  piece_of_unit region a (spare seat words) unit here below is = absurd (no_room_below region a seat (spare seat words) here below is refl)
+  piece_of_unit region a (carved seat words) unit here below is = absurd (no_room_below region a seat (carved seat words) here below is refl)
 
   -- a walk comes to a piece below the limit
   pub walks_to : (walk : Walk) (address : ℕ) (x : Block) → IsUnit c w walk.region → walk.limit ≡ w.memory (Limit walk.region) → walk.tams ≡ w.memory (Tams walk.region)
@@ -90,14 +97,14 @@ module _ (c : Config) (w : World) (shared : Shared c w) (on : w.memory Phase ≡
   shape_words a shape (inl (IsMarkable.to_come seat words is, same)) =
       let blank = shared.unwritten.blanks a seat words is in
       (promised seat words, is, ap object_words (same ∙ blank.shape) ∙ shaped blank.refs blank.nums blank.few_refs blank.few_nums ∙ sym blank.long)
-  shape_words a shape (inr fills) = (filler fills.0, fills.1, fills.2)
+  shape_words a shape (inr fills) = (dead fills.0, fills.1, fills.2)
 
   -- and that of an object how many references
   pub shape_refs : (a shape refs nums : ℕ) (name : Name) → w.block a ≡ Some (thing name refs nums) → HasShape w a shape → refs_in shape ≡ refs
   shape_refs a shape refs nums name is (inl object) =
       let there = (shared.contents.objects.each a refs nums name is).2 in
       ap refs_in (object.1 ∙ there.shape) ∙ refs_in-shape_word refs nums there.few_refs there.few_nums
-  shape_refs a shape refs nums name is (inr fills) = (let both : Some (filler fills.0) ≡ Some (thing name refs nums) = sym fills.1 ∙ is in absurd (cc (both)))
+  shape_refs a shape refs nums name is (inr fills) = (let both : Some (dead fills.0) ≡ Some (thing name refs nums) = sym fills.1 ∙ is in absurd (cc (both)))
 
   -- a word that stands for a reference, of an object of the graph, is current, or an old copy's address
   reference_word : (at : Visit) (field : ℕ) (name : Name) (refs nums : ℕ) → w.block at.address ≡ Some (thing name refs nums) → (r : Reference) → Points w.block (w.memory (Heap (at.address + 3 + field))) r

@@ -252,12 +252,12 @@ module _ (c : Config) (u : World) (seat cset : ℕ) where
       stays_there (LoadTams region limit) (LoadShape walk (base_of c region)) u (loads_at (LoadTams region limit) (Tams region) refl shared) can refl refl
       (walks_to c u shared can.phase walk (base_of c region) first.0 unit limit_is refl (omega arith) (omega (arith, some)) first.1)
 
-  -- an object above the top at mark start does not only fill
+  -- an object above the top at mark start is not dead
   alive_above : (walk : Walk) (address : ℕ) → Shared c u → u.memory Phase ≡ 3 → HasComeTo c u walk address → IsPiece u address → tams_of c walk ≤ address → IsMarkable u.block address
   alive_above walk address shared on walked (inl alive) above = alive
   alive_above walk address shared on walked (inr fills) above =
       let tams_is = walked.tams_is in
-      absurd (shared.evacuated.kept.fillers (omega (arith, on)) address fills.0 fills.1
+      absurd (shared.evacuated.kept.deads (omega (arith, on)) address fills.0 fills.1
       (subst (λ r. base_of c r + u.memory (Tams r) ≤ address) (sym (walked_region c u shared on walk address walked)) (omega (arith, above, tams_is))))
 
   -- the load of a shape
@@ -288,7 +288,7 @@ module _ (c : Config) (u : World) (seat cset : ℕ) where
       (cases_Bool (nat_lt address (tams_of c walk))))
       (cases_Bool (refs_in got == 0))
 
-  -- a marked object does not only fill
+  -- a marked object is not dead
   alive_marked : (at : Visit) → Shared c u → u.memory Phase ≡ 3 → HasComeTo c u at.walk at.address → HasShape u at.address at.shape → refs_in at.shape ≢ 0 → HasMark c (λ n. u.memory (Black n)) at.address
       → HasField c u at 0
   alive_marked at shared on walked (inl object) some mark = record { walked = walked; alive = object.0; shape_is = object.1; below = omega (arith, some) }

@@ -8,7 +8,7 @@ use Rattle.heap_words.specs.Words.{Phase, Cset, Limit, Tams, Heap}
 use Rattle.regions.specs.Place.{base_of}
 use Rattle.regions.specs.Sets.{IsIn}
 use Rattle.shen_graph.specs.declared.name.Name.{Name}
-use Rattle.heap_world.specs.World.{World, Scan, thing, moved, hand, filler, IsMarkable, IsCurrent}
+use Rattle.heap_world.specs.World.{World, Scan, thing, moved, hand, dead, IsMarkable, IsCurrent}
 use Rattle.update_part.specs.declared.spot.Walk.{Walk}
 use Rattle.update_part.specs.declared.spot.Visit.{Visit}
 use Rattle.update_part.specs.declared.spot.UpdateSpot.{UpdateSpot}
@@ -38,14 +38,14 @@ pub record HasComeTo (c : Config) (w : World) (walk : Walk) (address : ℕ) : Ty
   pub from_base : base_of c walk.region ≤ address
   pub before : address < limit_of c walk
 
--- the piece there is an object or a promised one, or words that only fill
+-- the piece there is an object, a promised one, or a dead one
 abbrev pub IsPiece : World → ℕ → Type 0
-IsPiece w a = IsMarkable w.block a ⊎ ((words : ℕ) × (w.block a ≡ Some (filler words)))
+IsPiece w a = IsMarkable w.block a ⊎ ((words : ℕ) × (w.block a ≡ Some (dead words)))
 
--- and a shape word tells how long it is: that of the object, or one of as many words as only fill
+-- and a shape word tells how long it is: that of the object, or one of as many words as the dead one has
 abbrev pub HasShape : World → (a shape : ℕ) → Type 0
 HasShape w a shape =
-    (IsMarkable w.block a × (shape ≡ w.memory (Heap (a + 1)))) ⊎ ((words : ℕ) × (w.block a ≡ Some (filler words)) × (object_words shape ≡ words))
+    (IsMarkable w.block a × (shape ≡ w.memory (Heap (a + 1)))) ⊎ ((words : ℕ) × (w.block a ≡ Some (dead words)) × (object_words shape ≡ words))
 
 -- the object that it visits is not dead, and has a reference of this number
 pub record HasField (c : Config) (w : World) (at : Visit) (field : ℕ) : Type 0 where

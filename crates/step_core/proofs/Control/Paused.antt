@@ -306,7 +306,7 @@ module _ (c : Config) (words : List ℕ) (block : Plot) (ghost : Ghost) (g : Gra
 
   -- nobody has room in hand
   pub no_hands : Shared c before → AllKnown → AllOutside → (a seat more : ℕ) → block a ≡ Some (hand seat more) → ⊥
-  no_hands shared known outside a seat more here = (all_rest known outside seat (shared.owned.rooms a seat more here).seated).hands a more here
+  no_hands shared known outside a seat more here = (all_rest known outside seat (shared.owned.rooms.hands a seat more here).seated).hands a more here
 
   -- what it has asked for stands in the words
   asked_there : AllKnown → AllOutside → (t : ℕ) → t < c.mutators → IsAsked (view c words) block g.count t (asking t)

@@ -58,7 +58,7 @@ rests_on c u w seat rely rests = record {
   scans_none = rely.marks.scanning ∙ rests.scans_none;
   copies_none = rely.copies.copying ∙ rests.copies_none;
   works_none = rely.copies.working ∙ rests.works_none;
-  hands = λ a words is. rests.hands a words (rely.no_hands a words is);
+  hands = λ a words is. rests.hands a words (rely.no_rooms a _ is refl);
 }
 
 -- what a machine counts on in its unit stays while others step

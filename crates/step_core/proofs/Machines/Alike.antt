@@ -145,9 +145,9 @@ module _ (c : Config) (u : World) (memory : Word → ℕ) (seat : ℕ) (alike : 
   rely_alike state = record {
     names = λ a name is. is;
     targets = λ a refs nums name is. targets_alike a refs nums name is;
-    hands = λ a words is. is;
-    no_hands = λ a words is. is;
-    hand_words = λ a words k is below. alike.heap (a + k);
+    rooms = λ a x is room. is;
+    no_rooms = λ a x is room. is;
+    room_words = λ a k x is room below. alike.heap (a + k);
     promises = λ a words is. is;
     no_promises = λ a words is. is;
     promise_words = λ a words k is below. alike.heap (a + k);

@@ -321,9 +321,9 @@ module _ (c : Config) (u w : World) (seat : ℕ) (keeps : Keeps c seat u w) wher
 -- the words of a new object stay
 filling_stays : (c : Config) (u w : World) (seat : ℕ) → Rely c seat u w → (made refs nums address done : ℕ) → IsFilling u seat made refs nums address done → IsFilling w seat made refs nums address done
 filling_stays c u w seat rely made refs nums address done facts = record {
-  room = rely.hands address (3 + refs + nums) facts.room;
+  room = rely.rooms address _ facts.room refl;
   within = facts.within;
-  stored = λ k below. rely.hand_words address (3 + refs + nums) k facts.room (let within = facts.within in omega arith) ∙ facts.stored k below;
+  stored = λ k below. rely.room_words address k _ facts.room refl (let within = facts.within in omega arith) ∙ facts.stored k below;
 }
 
 -- all that it knows stays
@@ -334,7 +334,7 @@ mine_stays c u w m command fixed shared rely mine = let keeps : Keeps c m.seat u
   marking = marking_relied c u w m.seat (recording_of m.spot) m.kept.phase (has_phase m.spot) rely.marks mine.marking;
   copying = copying_relied c u w m.seat (copies_at m.spot) m.kept.cset (has_set m.spot) rely.copies mine.copying;
   roots = λ i below. rw (now_stays c u w m.seat keeps m.kept m.spot i) (root_stays c u w m.seat keeps _ i (mine.roots i below));
-  hands = λ a words is. mine.hands a words (rely.no_hands a words is);
+  hands = λ a words is. mine.hands a words (rely.no_rooms a _ is refl);
   facts = facts_stay c u w m.seat keeps m.made m.kept command fixed (take_stays c u w m.seat rely (λ r is. shared.owned.currents.own m.seat r is))
       (filling_stays c u w m.seat rely m.made)
       (λ address at can. still_resolving c u w m.seat address at shared rely can)

@@ -14,12 +14,12 @@ use Rattle.mutator.specs.declared.makes.MakeSpot.TheVariants as make
 use Rattle.mutator.specs.declared.spot.Kept.{Kept}
 use Rattle.mutator.specs.Commands.{dst_of, refs_of, nums_of}
 use Rattle.mutator.specs.Rows.{Mutating}
-use Rattle.heap_world.specs.World.{World, Block, thing, moved, spent, hand, promised, filler, words_of, Body, body_at, IsMarkable, Shared}
+use Rattle.heap_world.specs.World.{World, Block, thing, moved, spent, hand, promised, dead, words_of, room_of, Body, body_at, IsMarkable, Shared}
 use Rattle.step_core.proofs.Machines.Stepped.{IsFilling, Mine, Row}
 use Rattle.heap_world.specs.Rely.{Rely}
 use Rattle.step_core.proofs.Mutators.Spots.{mutator_at, accessed}
 use Rattle.step_core.proofs.Machines.Ready.{leaving, word_ready, fresh_ready}
-use Rattle.step_core.proofs.Mutators.FreshRoot.{usable_made, HasNew, made_world, made_reply, hand_before, promise_before, roots_made, count_made, legal_made, graph_made, shared_made, others_made}
+use Rattle.step_core.proofs.Mutators.FreshRoot.{usable_made, HasNew, made_world, made_reply, room_before, promise_before, roots_made, count_made, legal_made, graph_made, shared_made, others_made}
 use Rattle.heap_world.proofs.Apart.{far}
 use Rattle.heap_world.proofs.Copies.{same_plot, rely_copies}
 use Rattle.heap_world.proofs.Evacuated.{evacuated_words}
@@ -99,9 +99,10 @@ module _ (c : Config) (u : World) (seat made : ℕ) (kept : Kept) (command : Com
           (λ a seat_then words is. (is, λ k below. else_stays a k (promised seat_then words) is (not_room a (promised seat_then words) is (λ differ. cc)) below))
           (λ a words is. (
             is,
-            head_stays a (filler words) is (λ differ. cc) (let long = shared.parsable.fillers a words is in omega (arith, long)),
-            else_stays a 1 (filler words) is (not_room a (filler words) is (λ differ. cc)) (let long = shared.parsable.fillers a words is in omega (arith, long)),
+            head_stays a (dead words) is (λ differ. cc) (let long = shared.parsable.deads a words is in omega (arith, long)),
+            else_stays a 1 (dead words) is (not_room a (dead words) is (λ differ. cc)) (let long = shared.parsable.deads a words is in omega (arith, long)),
           ))
+          (λ a words is. is)
           shared.unwritten;
       marked = marked_elsewhere c (u.memory Phase) (λ n. u.memory (Grey n)) (λ n. u.memory (Black n)) (λ t. u.memory (Count t)) (λ t k. u.memory (Buffer t k)) (λ r. u.memory (Top r)) (λ r. u.memory (Tams r))
           (λ a. u.memory (Heap a)) u.block u.ghost.snapshot u.ghost.recording u.ghost.scanning shared.marked (λ a. stored_world.memory (Heap a))
@@ -177,11 +178,9 @@ module _ (c : Config) (u : World) (seat made : ℕ) (kept : Kept) (command : Com
     others_stored j differs = record {
       names = λ a n is. is;
       targets = λ a more_refs more_nums n has. record { piece = has.piece; safe = has.safe };
-      hands = λ a words is. is;
-      no_hands = λ a words is. is;
-      hand_words = λ a words k is below.
-          let other : a ≢ address = not_room a (hand j words) is (λ same. (let seats : j ≡ seat = cc in differs seats)) in
-          else_stays a k (hand j words) is other below;
+      rooms = λ a x is room. is;
+      no_rooms = λ a x is room. is;
+      room_words = λ a k x is room below. else_stays a k x is (not_room a x is (λ same. differs (sym (same_Some seat j (ap room_of same ∙ room))))) below;
       promises = λ a words is. is;
       no_promises = λ a words is. is;
       promise_words = λ a words k is below.
@@ -229,10 +228,10 @@ module _ (c : Config) (u : World) (seat made : ℕ) (kept : Kept) (command : Com
       here = mine.facts.1.room;
       unnamed = refl;
       long = refl;
-      own = record { no_hand = λ j words differs same. (let seats : j ≡ seat = cc in differs seats); no_promise = λ j words differs same. cc; no_filler = λ words same. cc };
-      known = λ on. inr (shared.marked.young on address seat (3 + refs + nums) mine.facts.1.room);
+      own = record { no_room = λ j differs room. differs (sym (same_Some seat j room)); no_promise = λ j words differs same. cc; no_dead = λ words same. cc };
+      known = λ on. inr (shared.marked.young on address seat (hand seat (3 + refs + nums)) mine.facts.1.room refl);
       outside = room_outside c u shared address seat (3 + refs + nums) mine.facts.1.room;
-      kept = λ on. inr (shared.evacuated.kept.young on address seat (3 + refs + nums) mine.facts.1.room);
+      kept = λ on. inr (shared.evacuated.kept.young on address seat (hand seat (3 + refs + nums)) mine.facts.1.room refl);
       stored = mine.facts.1.stored;
       shared = shared;
     }
@@ -244,7 +243,7 @@ module _ (c : Config) (u : World) (seat made : ℕ) (kept : Kept) (command : Com
         (record { below = mine.seated.below; counted = count_made has; usable = usable_made has mine.seated.usable; unasked = λ calm. let was = mine.seated.unasked calm in (was.0, was.1, λ a words is. was.2 a words (promise_before has a seat words is).1) })
         (mine.marking.records, mine.marking.scans, mine.copying.copies_is, mine.copying.works_none)
         (roots_made has mine.roots)
-        (λ a words is. let old = hand_before has a seat words is in old.0 (mine.hands a words old.1).0)
+        (λ a words is. let old = room_before has a seat (hand seat words) is refl in old.0 (mine.hands a words old.1).0)
 
   -- the step that stores a new object into a root settles its name
   pub at_store_fresh : (address : ℕ) → Row c u (at_spot (Making (make.StoreRoot address))) command fixed

@@ -16,7 +16,7 @@ use Rattle.shen_graph.specs.Graph.{Object, blank, fresh, with_root, with_fresh}
 use Rattle.shen_graph.specs.Step.{outcome}
 use Rattle.mutator.specs.Commands.{dst_of, refs_of, nums_of}
 use Rattle.mutator.specs.WaitRows.{next_name}
-use Rattle.heap_world.specs.World.{World, Block, thing, moved, hand, promised, filler, words_of, name_at, Points, IsCollected, TargetIn, UsableIn, IsThing, IsGiven, IsYoung, Shared}
+use Rattle.heap_world.specs.World.{World, Block, thing, moved, promised, dead, words_of, room_of, name_at, Points, IsCollected, TargetIn, UsableIn, IsThing, IsGiven, IsYoung, Shared}
 use Rattle.heap_world.specs.Rely.{Rely}
 use Rattle.heap_world.proofs.Updates.{updated, updated_there, updated_else}
 use Rattle.heap_world.proofs.Keeping.{points_stay, usable_stays}
@@ -25,16 +25,16 @@ use Rattle.std.proofs.lemmas.Option.{none-some}
 use Rattle.heap_world.proofs.Copies.{CopiesStay, rely_copies}
 use Rattle.heap_world.proofs.Marked.{rely_marks}
 use Rattle.heap_world.proofs.Fields.{fields_stored}
-use Rattle.heap_world.proofs.NewObject.{new_object, stays, names_stay, things_stay, old_hand, old_promise, parsable_again, objects_again, owned_again, unwritten_again, markable_again, marking_again, evacuating_again, updating_again, given_again, with_count, count_own}
+use Rattle.heap_world.proofs.NewObject.{new_object, stays, names_stay, things_stay, old_room, old_promise, parsable_again, objects_again, owned_again, unwritten_again, markable_again, marking_again, evacuating_again, updating_again, given_again, with_count, count_own}
 use Rattle.step_core.proofs.Machines.Stepped.{IsMaking, LegalBy, graph_by}
 use Rattle.step_core.proofs.History.Settling.{legal_answer, graph_answer}
 use Rattle.heap_world.proofs.RootChanges.{roots_written, usable_written}
 
--- a piece that is no other seat's, neither in its hand nor promised to it, and does not only fill
+-- a piece that is no other seat's, neither its room nor promised to it, and no dead object
 pub record IsOwn (seat : ℕ) (piece : Block) : Type 0 where
-  pub no_hand : (j words : ℕ) → j ≢ seat → piece ≡ hand j words → ⊥
+  pub no_room : (j : ℕ) → j ≢ seat → room_of piece ≢ Some j
   pub no_promise : (j words : ℕ) → j ≢ seat → piece ≡ promised j words → ⊥
-  pub no_filler : (words : ℕ) → piece ≡ filler words → ⊥
+  pub no_dead : (words : ℕ) → piece ≡ dead words → ⊥
 
 -- What is needed where a mutator stores its next object into a root: the command makes it, and a piece of the seat's own has all
 -- its words.
@@ -133,9 +133,9 @@ module _ {c : Config} {u : World} {seat made : ℕ} {command k : Command} {fixed
     updated = λ on. updating_again c top u.block address refs nums name has.piece has.unnamed has.long has.here (u.memory Cset) (u.memory Claim) (λ r. u.memory (Limit r)) (λ a. u.memory (Heap a)) u.ghost.scanning has.outside nulls (has.shared.updated on);
   }
 
-  -- room in hand was in hand before, elsewhere
-  pub hand_before : (a j words : ℕ) → made_world.block a ≡ Some (hand j words) → (a ≢ address) × (u.block a ≡ Some (hand j words))
-  hand_before = old_hand c top u.block address refs nums name has.piece has.unnamed has.long has.here
+  -- room was there before, elsewhere
+  pub room_before : (a j : ℕ) (x : Block) → made_world.block a ≡ Some x → room_of x ≡ Some j → (a ≢ address) × (u.block a ≡ Some x)
+  room_before = old_room c top u.block address refs nums name has.piece has.unnamed has.long has.here
 
   -- what is promised was promised before, elsewhere
   pub promise_before : (a j words : ℕ) → made_world.block a ≡ Some (promised j words) → (a ≢ address) × (u.block a ≡ Some (promised j words))
@@ -201,9 +201,9 @@ module _ {c : Config} {u : World} {seat made : ℕ} {command k : Command} {fixed
   others_made j differs = record {
     names = names;
     targets = targets;
-    hands = λ a words is. stays c top u.block address refs nums name has.piece has.unnamed has.long has.here a (hand j words) is (has.own.no_hand j words differs);
-    no_hands = λ a words is. (hand_before a j words is).1;
-    hand_words = λ a words i is below. refl;
+    rooms = λ a x is room. stays c top u.block address refs nums name has.piece has.unnamed has.long has.here a x is (λ same. has.own.no_room j differs (ap room_of same ∙ room));
+    no_rooms = λ a x is room. (room_before a j x is room).1;
+    room_words = λ a i x is room below. refl;
     promises = λ a words is. stays c top u.block address refs nums name has.piece has.unnamed has.long has.here a (promised j words) is (has.own.no_promise j words differs);
     no_promises = λ a words is. (promise_before a j words is).1;
     promise_words = λ a words i is below. refl;
@@ -219,5 +219,5 @@ module _ {c : Config} {u : World} {seat made : ℕ} {command k : Command} {fixed
     asked = λ is. is;
     marks = rely_marks c u made_world j refl (λ n. refl) (λ t. refl) (λ t i. refl) refl (λ t. refl) refl (markable_again c top u.block address refs nums name has.piece has.unnamed has.long has.here) (λ a is. refl);
     copies = rely_copies c u made_world j copies_stay refl refl (λ a i b seated copies inside is from below. refl);
-    fields = fields_stored c u made_world (λ r. refl) (λ r. refl) refl (λ a words is. stays c top u.block address refs nums name has.piece has.unnamed has.long has.here a (filler words) is (has.own.no_filler words)) (λ on a more_refs more_nums i n is below. inl refl);
+    fields = fields_stored c u made_world (λ r. refl) (λ r. refl) refl (λ a words is. stays c top u.block address refs nums name has.piece has.unnamed has.long has.here a (dead words) is (has.own.no_dead words)) (λ on a more_refs more_nums i n is below. inl refl);
   }

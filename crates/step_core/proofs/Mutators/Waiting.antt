@@ -3,6 +3,7 @@ use Rattle.std.proofs.Common.{◌≡◌, ℕ, ◌+◌, ◌⊎◌, inl, inr, ⊎_
 use Rattle.std.specs.Prelude.{◌==◌, bit_or, if◌then◌else◌}
 use Rattle.std.specs.Int.{bit_at}
 use Rattle.std.proofs.lemmas.Bool.{cond-true, eq-eqb, eqb-true, eqb-false, lt-ltb}
+use Rattle.std.proofs.lemmas.Option.{none-some}
 use Rattle.std.proofs.lemmas.Bool.Decides.{nat_tests}
 use Rattle.heap_words.specs.declared.config.Config.{Config}
 use Rattle.heap_words.specs.Encoding.{shape_word, fresh_word, request_code}
@@ -19,7 +20,7 @@ use Rattle.mutator.specs.declared.waits.WaitSpot.TheVariants as wait
 use Rattle.mutator.specs.Commands.{dst_of, refs_of, nums_of}
 use Rattle.mutator.specs.Rows.{Mutating}
 use Rattle.mutator.specs.WaitRows.{next_name}
-use Rattle.heap_world.specs.World.{World, Shared, promised, TargetIn, IsMarkable}
+use Rattle.heap_world.specs.World.{World, Shared, hand, promised, TargetIn, IsMarkable}
 use Rattle.heap_world.specs.Asking as asking
 use Rattle.heap_world.specs.Asking.{IsPromise}
 use Rattle.heap_world.specs.Rely.{Keeps, KeepsFields, RelyCopies, RelyMarks}
@@ -30,7 +31,7 @@ use Rattle.step_core.proofs.Machines.Stable.{asking_stays, heard_stays}
 use Rattle.step_core.proofs.Mutators.Loading.{looks}
 use Rattle.step_core.proofs.Mutators.Entering.{state_keeps}
 use Rattle.step_core.proofs.Machines.Ready.{ready_of, state_word, leaving, given_ready}
-use Rattle.step_core.proofs.Mutators.FreshRoot.{taken_made, usable_made, HasNew, made_world, made_reply, hand_before, promise_before, roots_made, count_made, legal_made, graph_made, shared_made, others_made}
+use Rattle.step_core.proofs.Mutators.FreshRoot.{taken_made, usable_made, HasNew, made_world, made_reply, room_before, promise_before, roots_made, count_made, legal_made, graph_made, shared_made, others_made}
 
 module _ (c : Config) (u : World) (seat made : ℕ) (kept : Kept) (command : Command) (fixed : Option Reply) where
   abbrev at_spot : WaitSpot → Mutating
@@ -210,7 +211,7 @@ module _ (c : Config) (u : World) (seat made : ℕ) (kept : Kept) (command : Com
       here = promise.here;
       unnamed = refl;
       long = refl;
-      own = record { no_hand = λ j words differs same. cc; no_promise = λ j words differs same. (let seats : j ≡ seat = cc in differs seats); no_filler = λ words same. cc };
+      own = record { no_room = λ j differs room. none-some j room; no_promise = λ j words differs same. (let seats : j ≡ seat = cc in differs seats); no_dead = λ words same. cc };
       known = λ on. inl (shared.marked.promises on address seat (3 + refs + nums) promise.here);
       outside = λ inside. shared.evacuated.aside.no_promises address seat (3 + refs + nums) promise.here inside;
       kept = λ on. shared.evacuated.kept.objects on address (IsMarkable.to_come seat (3 + refs + nums) promise.here);
@@ -226,7 +227,7 @@ module _ (c : Config) (u : World) (seat made : ℕ) (kept : Kept) (command : Com
       marking = mine.marking;
       copying = mine.copying;
       roots = roots_made has mine.roots;
-      hands = λ a words is. mine.hands a words (hand_before has a seat words is).1;
+      hands = λ a words is. mine.hands a words (room_before has a seat (hand seat words) is refl).1;
       facts = (
         refl,
         mine.facts.0.1.0,

@@ -131,7 +131,7 @@ fields_twice : (c : Config) (u v w : World) → u.memory Phase ≡ 1 → KeepsFi
 fields_twice c u v w marking first second = record {
   tams = λ r. second.tams r ∙ first.tams r;
   limits = λ r. second.limits r ∙ first.limits r;
-  fillers = λ a words is. second.fillers a words (first.fillers a words is);
+  deads = λ a words is. second.deads a words (first.deads a words is);
   claims = λ all. second.claims (first.claims all);
   fields = λ on a refs nums k name is below. absurd (omega (arith, on, marking));
 }
@@ -141,9 +141,9 @@ pub rely_twice : (c : Config) (seat : ℕ) (u v w : World) → u.memory Phase �
 rely_twice c seat u v w marking first second = record {
   names = λ a name is. second.names a name (first.names a name is);
   targets = λ a refs nums name is. second.targets a refs nums name (first.targets a refs nums name is);
-  hands = λ a words is. second.hands a words (first.hands a words is);
-  no_hands = λ a words is. first.no_hands a words (second.no_hands a words is);
-  hand_words = λ a words k is below. second.hand_words a words k (first.hands a words is) below ∙ first.hand_words a words k is below;
+  rooms = λ a x is room. second.rooms a x (first.rooms a x is room) room;
+  no_rooms = λ a x is room. first.no_rooms a x (second.no_rooms a x is room) room;
+  room_words = λ a k x is room below. second.room_words a k x (first.rooms a x is room) room below ∙ first.room_words a k x is room below;
   promises = λ a words is. second.promises a words (first.promises a words is);
   no_promises = λ a words is. first.no_promises a words (second.no_promises a words is);
   promise_words = λ a words k is below. second.promise_words a words k (first.promises a words is) below ∙ first.promise_words a words k is below;

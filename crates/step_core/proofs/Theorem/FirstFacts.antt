@@ -2,7 +2,7 @@
 use Rattle.std.proofs.Common.{◌≡◌, ◌≢◌, ℕ, zero, suc, ◌+◌, ◌<◌, ◌≤◌, ⊎_elim, Bool, true, false, [], length, Some, None, refl, sym, ap, ◌∙◌, subst, arith}
 use Rattle.std.specs.Prelude.{nat_lt, ◌^◌, ◌*◌, ◌==◌, if◌then◌else◌}
 use Rattle.std.proofs.lemmas.List.FromFn.{get_or-map-range_with_len, length-map-range_with_len}
-use Rattle.std.proofs.lemmas.Option.{cond_some, slice_get_within, get_or_from_slice_get}
+use Rattle.std.proofs.lemmas.Option.{cond_some, none-some, slice_get_within, get_or_from_slice_get}
 use Rattle.std.specs.Int.{bit_at}
 use Rattle.std.proofs.lemmas.Nat.Bits.{bit_at_lowest}
 use Rattle.std.proofs.lemmas.Nat.{pow_pos}
@@ -22,13 +22,14 @@ use Rattle.shen_graph.specs.Graph.{Object, hub, same_name, blank}
 use Rattle.mutator.specs.Rows.{fresh_mutator}
 use Rattle.step_core.specs.Actor.{mutating, fresh_helper, fresh_control}
 use Rattle.step_core.specs.Opening.{opening_actor, opening, first_free}
-use Rattle.heap_world.specs.World.{World, Plot, Block, thing, moved, spent, hand, promised, filler, no_ghost, words_of, name_at, Points, IsInUse, IsPlotted, IsFilled, IsThing, IsGiven, AreObjects, IsFreeWord, IsUsable, IsEvacuating, Shared}
+use Rattle.heap_world.specs.World.{World, Plot, Block, thing, moved, spent, hand, promised, dead, filler, no_ghost, words_of, room_of, HasNoRoom, name_at, Points, IsInUse, IsPlotted, IsFilled, IsThing, IsGiven, AreObjects, IsFreeWord, IsUsable, IsEvacuating, Shared}
 use Rattle.heap_world.specs.Asking.{nothing}
 use Rattle.heap_world.specs.Represents.{Represents}
 use Rattle.step_core.specs.Begins.{HasCalledNothing, IsCalmOutside, Begins, Run, first_graph}
 use Rattle.step_core.proofs.Mutators.Roots.{no_more_opening}
 use Rattle.shen_graph.proofs.PlainLemmas.{same_name-true}
 use Rattle.heap_world.proofs.NewObject.{all_alike}
+use Rattle.heap_world.proofs.Roomless.{rooms_none}
 use Rattle.heap_world.proofs.Keeping.{usable_now}
 use Rattle.heap_world.proofs.Copies.{none_evacuated}
 use Rattle.heap_world.proofs.Unmarked.{none_marked}
@@ -198,6 +199,10 @@ first_phase c = rooted_else c Phase (λ k. refl) c.mutators
 none_promised : (c : Config) (a seat words : ℕ) → first_block c a ≡ Some (promised seat words) → ⊥
 none_promised c a seat words is = let no = (block_only c a (promised seat words) is).1 in cc
 
+-- no piece is room
+no_room : (c : Config) → HasNoRoom (first_block c)
+no_room c a seat x is room = none-some seat (ap room_of (block_only c a x is).1 ∙ room)
+
 -- no copy is old
 none_moved : (c : Config) (a refs nums to : ℕ) (name : Name) → first_block c a ≡ Some (moved name refs nums to) → ⊥
 none_moved c a refs nums to name is = let no = (block_only c a (moved name refs nums to) is).1 in cc
@@ -230,8 +235,9 @@ first_shared c = record {
     plotted = first_plotted c;
     filled = first_filled c;
     promises = λ a seat words is. absurd (none_promised c a seat words is);
-    fillers = λ a words is. absurd (let no = (block_only c a (filler words) is).1 in cc);
+    deads = λ a words is. absurd (let no = (block_only c a (dead words) is).1 in cc);
     spents = λ a words to is. absurd (none_spent c a words to is);
+    fillers = λ a words is. absurd (let no = (block_only c a (filler words) is).1 in cc);
   };
   contents = record {
     objects = first_objects c;
@@ -245,10 +251,10 @@ first_shared c = record {
       within = λ seat r is. let none = rooted_else c (Current seat) (λ k. refl) c.mutators in absurd (omega (arith, none, is));
       own = λ seat r is. let none = rooted_else c (Current seat) (λ k. refl) c.mutators in absurd (omega (arith, none, is));
     };
-    rooms = λ a seat words is. absurd (let no = (block_only c a (hand seat words) is).1 in cc);
+    rooms = rooms_none c (λ r. first_memory c (Top r)) (λ s. first_memory c (Current s)) (first_block c) (no_room c);
   };
   phased = record { phase_is = (let none = first_phase c in omega (arith, none)); cset_is = λ other. rooted_else c Cset (λ k. refl) c.mutators; evac_is = λ other. rooted_else c Evac (λ k. refl) c.mutators };
-  unwritten = record { blanks = λ a seat words is. absurd (none_promised c a seat words is); headers = λ a words is. absurd (let no = (block_only c a (filler words) is).1 in cc); lengths = λ a words is. absurd (let no = (block_only c a (filler words) is).1 in cc) };
+  unwritten = record { blanks = λ a seat words is. absurd (none_promised c a seat words is); headers = λ a words is. absurd (let no = (block_only c a (dead words) is).1 in cc); lengths = λ a words is. absurd (let no = (block_only c a (dead words) is).1 in cc); fillers = λ a words is. (let no = (block_only c a (filler words) is).1 in cc) };
   marked = none_marked c (first_memory c Phase) (λ n. first_memory c (Grey n)) (λ n. first_memory c (Black n)) (λ t. first_memory c (Count t)) (λ t k. first_memory c (Buffer t k)) (λ r. first_memory c (Top r))
       (λ r. first_memory c (Tams r)) (λ a. first_memory c (Heap a)) (first_block c) (λ seat. None) (λ seat. None) (first_phase c);
   evacuated = first_evacuated c;
@@ -280,7 +286,7 @@ first_stands c = record {
   shared = first_shared c;
   roots = λ t i below small. first_roots c t i below;
   usable = λ t i below small. subst (λ set. IsUsable c set (first_memory c Evac) (first_block c) (first_memory c (Root t i))) (sym (first_set c)) (usable_now c (first_memory c Evac) (first_block c) (none_moved c) _ _ (first_roots c t i below));
-  none = λ a seat words is. (let no = (block_only c a (hand seat words) is).1 in cc);
+  none = λ a seat words is. no_room c a seat (hand seat words) is refl;
   asked = λ t below. (rooted_else c (Wait t) (λ k. refl) c.mutators, rooted_else c (Answer t) (λ k. refl) c.mutators, λ a words is. none_promised c a t words is);
   heard = λ t refs nums below is. absurd (cc (is));
   promised_to = λ a seat words is. absurd (none_promised c a seat words is);

@@ -27,7 +27,7 @@ module _ (c : Config) (g : Graph) (s : Stage Actor) (h : List Entry) (goes : Goe
     block = goes.follows.block;
     ghost = goes.follows.ghost;
     shared = goes.follows.shared;
-    in_hand = λ a seat words is. (goes.follows.shared.owned.rooms a seat words is).seated;
+    in_hand = λ a seat words is. (goes.follows.shared.owned.rooms.hands a seat words is).seated;
     promised_to = goes.follows.promised_to;
     mutators = λ number a m here. let mine = (thread_of number a m here).mine in record { made = mine.seated.counted; roots = mine.roots; hands = mine.hands };
     asked = λ number a m here going. let thread = thread_of number a m here in has_asked c the_world m.seat m.made m.kept a.command thread.fixed m.spot going thread.mine;
