@@ -189,8 +189,8 @@ impl Machine {
         }
     }
 
-    // Whether it may be given a command, or the end.
-    fn may_begin(&self) -> bool
+    /// Whether it may be given a command, or the end: a mutator between two calls that has not ended.
+    pub fn may_begin(&self) -> bool
         ensures { result ≡ may_begin (shown self.now) }
     {
         match self {

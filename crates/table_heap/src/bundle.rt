@@ -29,7 +29,7 @@ pub struct Bundle {
 }
 
 impl Bundle {
-    ghost use Rattle.std.specs.Prelude.{◌<◌, ◌↔◌, ◌≢◌, true, false, Some, None, IfOk, slice_set};
+    ghost use Rattle.std.specs.Prelude.{◌<◌, ◌↔◌, ◌≢◌, true, false, not, Some, None, IfOk, slice_set};
     ghost use Rattle.std.specs.Option.{is_some};
     ghost use Rattle.heap_words.specs.declared.place.Place.TheVariants as places;
     ghost use Rattle.shared_table.specs.Views.{machine_of, merged, dealt_to, machines_left, is_dealt_to};
@@ -76,6 +76,39 @@ impl Bundle {
         ensures view { result ≡ is_some (machine_of (view_of self.now) number) }
     {
         number < self.machines.len() && self.machines[number].is_some()
+    }
+
+    /// Whether the machine may be given a command, or the end: a mutator between two calls that has not ended.
+    pub fn may_begin(&self, number: usize) -> bool
+        requires here { HasMachine self.now number }
+        ensures { result ≡ may_begin (machine_at self.now number) }
+    {
+        let Some(machine) = &self.machines[number] else {
+            unreachable!()
+        };
+        machine.may_begin()
+    }
+
+    /// How many objects the machine's thread has made. A helper or the control makes none.
+    pub fn made(&self, number: usize) -> u32
+        requires here { HasMachine self.now number }
+        ensures { result ≡ made_of_machine (machine_at self.now number) }
+    {
+        let Some(machine) = &self.machines[number] else {
+            unreachable!()
+        };
+        machine.made()
+    }
+
+    /// Whether the machine makes no step under its order.
+    pub fn is_idle(&self, number: usize) -> bool
+        requires here { HasMachine self.now number }
+        ensures { has_turn self.now number ≡ not result }
+    {
+        let Some(machine) = &self.machines[number] else {
+            unreachable!()
+        };
+        machine.is_idle()
     }
 
     /// Orders the command, which the mutator's next step begins. Between two calls only.
