@@ -11,7 +11,7 @@ use Rattle.alloc_buffers.specs.declared.spot.Taken.TheVariants.{At, NoRoom}
 use Rattle.alloc_buffers.specs.declared.spot.TakeSpot.{TakeSpot}
 use Rattle.alloc_buffers.specs.declared.spot.TakeSpot.TheVariants.{LoadCurrent, LoadTop, LoadFree, TakeRegion, StoreCurrent, StoreTop, Ended}
 use Rattle.alloc_buffers.specs.Rows.{has_room, has_none, next_at, is_ended}
-use Rattle.alloc_buffers.specs.Room.{after_words, HasNoRoom, IsFull, HasLess, MayTakeNone, IsLackOfRoom}
+use Rattle.alloc_buffers.specs.Room.{after_words, FindsNoRoom, IsFull, HasLess, MayTakeNone, IsLackOfRoom}
 
 -- the test of the row, in numbers
 may_take_none : (c : Config) (kind : Kind) (free : ℕ) → has_none c kind free ≡ true → MayTakeNone c kind free
@@ -54,7 +54,7 @@ module _ (c : Config) (words : ℕ) (kind : Kind) where
       stays taken [] is = cc
       stays taken (got ∷ more) is = stays taken more is
 
-  less : (found : List ℕ) (free : ℕ) → HasNoRoom c words kind found free → HasLess c words found
+  less : (found : List ℕ) (free : ℕ) → FindsNoRoom c words kind found free → HasLess c words found
   less [] free none = by_test (free == 0) none.ends
     where
       by_test : (b : Bool) → (if b then LoadFree else LoadTop (free - 1)) ≡ Ended NoRoom → ⊥
@@ -80,7 +80,7 @@ module _ (c : Config) (words : ℕ) (kind : Kind) where
       by_current true is going ends = absurd cc
       by_current false is going ends = by_more more going ends
 
-  pub its_cause : (found : List ℕ) (free : ℕ) → HasNoRoom c words kind found free → IsLackOfRoom c words kind found free
+  pub its_cause : (found : List ℕ) (free : ℕ) → FindsNoRoom c words kind found free → IsLackOfRoom c words kind found free
   its_cause found free none = record {
     less = less found free none;
     none = may_take_none c kind free (ends_at_free (after_words c words kind LoadCurrent found) free none.going none.ends);

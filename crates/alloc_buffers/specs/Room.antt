@@ -15,7 +15,7 @@ after_words c words kind spot [] = spot
 after_words c words kind spot (got ∷ more) = after_words c words kind (next_at c words kind spot got) more
 
 -- it has found these words, and ends without room at the next
-pub record HasNoRoom (c : Config) (words : ℕ) (kind : Kind) (found : List ℕ) (free : ℕ) : Type 0 where
+pub record FindsNoRoom (c : Config) (words : ℕ) (kind : Kind) (found : List ℕ) (free : ℕ) : Type 0 where
   pub going : is_ended (after_words c words kind LoadCurrent found) ≡ false
   pub ends : next_at c words kind (after_words c words kind LoadCurrent found) free ≡ Ended NoRoom
 

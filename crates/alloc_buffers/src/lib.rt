@@ -10,7 +10,7 @@ mod take;
 ghost use Rattle.std.specs.Prelude.{ℕ, List};
 ghost use Rattle.heap_words.specs.declared.config.Config.{Config};
 ghost use Rattle.alloc_buffers.specs.declared.spot.Kind.{Kind as Purpose};
-ghost use Rattle.alloc_buffers.specs.Room.{HasNoRoom, IsLackOfRoom};
+ghost use Rattle.alloc_buffers.specs.Room.{FindsNoRoom, IsLackOfRoom};
 
 pub use spot::{Kind, TakeSpot, Taken};
 pub use take::Take;
@@ -19,5 +19,5 @@ pub use take::Take;
 /// region, by the words that it has found, has too little room or is none, and the free word that it finds last has no region
 /// that may be taken.
 pub fn no_room_has_its_cause()
-    ensures { (c : Config) (words : ℕ) (kind : Purpose) (found : List ℕ) (free : ℕ) → HasNoRoom c words kind found free → IsLackOfRoom c words kind found free }
+    ensures { (c : Config) (words : ℕ) (kind : Purpose) (found : List ℕ) (free : ℕ) → FindsNoRoom c words kind found free → IsLackOfRoom c words kind found free }
 {}
