@@ -210,7 +210,7 @@ module _ (b0 : List ℕ) (short : length b0 ≤ most_bytes) (none : (d : Dumped)
 
   from_heap : (b : List ℕ) → Leads Version b0 b 1 Heap → ⊥
   from_heap b led = step Heap tt b 1 led (λ text rest next cut f.
-      from_threads f.0 rest (subst (λ (s : DumpStage). Leads Version b0 rest 2 s) f.2 (leads_both Version Heap next b0 b rest 1 1 led (leads_one Heap next b text rest cut f))))
+      from_threads f.0 rest (subst (λ (s : DumpStage). Leads Version b0 rest 2 s) f.3 (leads_both Version Heap next b0 b rest 1 1 led (leads_one Heap next b text rest cut f))))
 
   pub not_neither : ⊥
   not_neither = step Version tt b0 0 (leads_none Version b0) (λ text rest next cut f. from_heap rest (subst (λ (s : DumpStage). Leads Version b0 rest 1 s) f.1 (leads_one Version next b0 text rest cut f)))

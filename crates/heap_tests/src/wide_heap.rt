@@ -1,6 +1,7 @@
 //! A heap with larger regions than a trace can have: 64 of 65,536 words.
 ghost use Rattle.std.specs.Prelude.{◌<◌, length, All, IfOk};
 ghost use Rattle.shen_graph.specs.Valid.{IsValid};
+ghost use Rattle.shen_graph.specs.Work.{HasScript};
 ghost use Rattle.table_heap.specs.State.{IsBundleOf};
 ghost use Rattle.table_heap.specs.Running.{CanStart};
 
@@ -42,6 +43,7 @@ const PAUSE: u64 = 2 * 64 * 65_536;
 
 // A script of those of these commands that are in range, and then, up to so many in all, of some that only take time.
 fn script(alloc: Global, commands: &[Command], long: u32) -> Result<Script, Fail>
+    requires { long < 4294967295 }
     ensures valid { IfOk result (λ script. All IsValid script) }
     ensures few { IfOk result (λ script. length script < 4294967295) }
 {
@@ -63,6 +65,7 @@ fn script(alloc: Global, commands: &[Command], long: u32) -> Result<Script, Fail
 fn opened(alloc: Global) -> Result<(Heap, Bundle, Work), Fail>
     ensures heap { IfOk result (λ made. IsBundleOf made.1 made.0) }
     ensures start { IfOk result (λ made. CanStart made.1 made.2) }
+    ensures scripts { IfOk result (λ made. HasScript made.2 0 × HasScript made.2 1) }
 {
     let config = Config::wide(64, 65_536, 2, 0, 0)?;
     let (heap, mut bundles) = Heap::open(alloc, config, 1)?;

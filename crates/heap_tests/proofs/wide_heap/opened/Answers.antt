@@ -1,9 +1,9 @@
-use Rattle.std.proofs.Common.{◌≡◌, ◌-◌, ℕ, zero, suc, ◌<◌, [], ◌∷◌, ◌++◌, List, length, Option, Some, refl, sym, ap, ◌∙◌, arith}
+use Rattle.std.proofs.Common.{◌≡◌, ◌-◌, ℕ, zero, suc, ◌<◌, [], ◌∷◌, ◌++◌, List, length, Option, Some, refl, sym, ap, subst, ◌∙◌, arith}
 use Rattle.std.specs.Prelude.{All, slice_index_or}
 use Rattle.std.proofs.lemmas.Option.{slice_get-get_or}
 use Rattle.shen_graph.specs.declared.command.Command.{Command}
 use Rattle.shen_graph.specs.Valid.{IsValid}
-use Rattle.shen_graph.specs.Work.{Progress, begun, progress_of, opened}
+use Rattle.shen_graph.specs.Work.{Progress, HasScript, begun, progress_of, opened}
 use Rattle.table_heap.proofs.Starting.{fresh_can_start}
 use Rattle.heap_tests.proofs.wide_heap.opened.Goals as goal
 
@@ -40,3 +40,11 @@ returns-clause-start c =
     c.in_ok-work.ensures ∙ ap opened (c.deref.ensures.value ∙ c.in_ok-push-2.ensures.items ∙ ap (λ xs. xs ++ second ∷ []) (c.in_ok-push.ensures.items ∙ ap (λ xs. xs ++ first ∷ []) c.new-scripts.ensures.items)) in
     fresh_can_start c.in_ok-heap.heap b c.in_ok-config.config 1 0 c.in_ok-work.work (c.in_ok-heap.ensures.bundles 0 b there) (λ number below dealt.
     script_of c.in_ok-work.work first second jobs (c.in_ok-script.ensures.valid, c.in_ok-script.ensures.few) (c.in_ok-script-2.ensures.valid, c.in_ok-script-2.ensures.few) number (omega (arith, below, c.in_ok-config.ensures.mutators)))
+
+pub returns-clause-scripts : goal.returns-clause-scripts
+returns-clause-scripts c =
+    let first = c.in_ok-script.field-0 in
+    let second = c.in_ok-script-2.field-0 in
+    let jobs : c.in_ok-work.work ≡ opened (first ∷ second ∷ []) =
+    c.in_ok-work.ensures ∙ ap opened (c.deref.ensures.value ∙ c.in_ok-push-2.ensures.items ∙ ap (λ xs. xs ++ second ∷ []) (c.in_ok-push.ensures.items ∙ ap (λ xs. xs ++ first ∷ []) c.new-scripts.ensures.items)) in
+    subst (λ work. HasScript work 0 × HasScript work 1) (sym jobs) (refl, refl)
