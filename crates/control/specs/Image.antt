@@ -1,7 +1,8 @@
 -- The words of the image that a control keeps.
-use Rattle.std.specs.Prelude.{ℕ, ◌≡◌, Bool, true, false, List, [], take, drop}
+use Rattle.std.specs.Prelude.{ℕ, ◌≡◌, ◌+◌, Bool, true, false, nat_lt, List, [], take, drop}
 use Rattle.heap_words.specs.declared.config.Config.{Config}
 use Rattle.heap_words.specs.Words.{image_start}
+use Rattle.heap_world.specs.Change.{image_words}
 use Rattle.image_graph.specs.declared.image.Image.{Image}
 use Rattle.image_graph.specs.State.{config_of, words_of}
 use Rattle.control_rows.specs.declared.spot.ControlSpot.{ControlSpot}
@@ -21,6 +22,12 @@ words_seen _ image = []
 abbrev pub is_storing : ControlSpot → Bool
 is_storing (StoreWord index) = true
 is_storing _ = false
+
+-- whether its next step goes from a word of the image to the next one
+abbrev pub is_inside_image : Config → ControlSpot → Bool
+is_inside_image c (LoadWord index) = nat_lt (index + 1) (image_words c)
+is_inside_image c (StoreWord index) = nat_lt (index + 1) (image_words c)
+is_inside_image c _ = false
 
 -- the words of the image in a table
 abbrev pub image_from : Config → List ℕ → List ℕ

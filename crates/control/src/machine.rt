@@ -1,4 +1,5 @@
-ghost use Rattle.std.specs.Prelude.{◌≡◌, true};
+ghost use Rattle.std.specs.Prelude.{◌≡◌, ◌+◌, true};
+ghost use Rattle.heap_world.specs.Change.{image_words};
 ghost use Rattle.image_graph.specs.State.{config_of};
 ghost use Rattle.control_rows.specs.Ready.{is_ready};
 ghost use Rattle.control.specs.Clear.{IsClear};
@@ -18,13 +19,17 @@ pub struct Control {
     last: LastPause,
     // In a pause the words loaded so far, and once all are, the words to be stored. What it is else does not matter.
     image: Image,
+    // The last word of the image, counted from 0 in the order of places.
+    last_word: usize,
     ghost ready: { is_ready (config_of image) spot ≡ true },
     ghost clear: { IsClear image },
+    ghost last_is: { last_word + 1 ≡ image_words (config_of image) },
 }
 
 impl Control {
-    ghost use Rattle.std.specs.Prelude.{◌<◌, ◌≤◌, ◌↔◌, [], length, false};
+    ghost use Rattle.std.specs.Prelude.{◌<◌, ◌≤◌, ◌↔◌, [], length, vec_len, slice_index, false};
     ghost use Rattle.heap_words.specs.Access.{table_index};
+    ghost use Rattle.steps_base.specs.Steps.{accessed};
     ghost use Rattle.heap_words.specs.Words.{Free, Phase, Cset, table_words, heap_size};
     ghost use Rattle.heap_world.specs.Change.{image_view};
     ghost use Rattle.image_graph.specs.State.{memory_of};
@@ -34,7 +39,7 @@ impl Control {
     ghost use Rattle.control_rows.specs.Waits.{WaitsAt};
     ghost use Rattle.cycle_pauses.specs.Collect.{collect_image};
     ghost use Rattle.control.specs.Fit.{IsFit};
-    ghost use Rattle.control.specs.Image.{image_from, is_storing, IsLoadedFrom};
+    ghost use Rattle.control.specs.Image.{image_from, is_storing, is_inside_image, IsLoadedFrom};
     ghost use Rattle.control.specs.Seen.{config_in, seen_control};
 
     /// The control of the image's heap. It has seen the image's phase, collection set and free word. Nothing else of the image
@@ -55,6 +60,7 @@ impl Control {
             spot: ControlSpot::LookLeft,
             last,
             image,
+            last_word: image_words(config) - 1,
         }
     }
 
@@ -70,6 +76,18 @@ impl Control {
         ensures { result ≡ is_storing (seen_control self.now).spot }
     {
         matches!(self.spot, ControlSpot::StoreWord { .. })
+    }
+
+    /// Whether its next step goes from a word of the image to the next one: nearly all steps of a pause do.
+    pub fn is_inside_image(&self) -> bool
+        ensures { result ≡ is_inside_image (config_in self.now) (seen_control self.now).spot }
+    {
+        match self.spot {
+            ControlSpot::LoadWord { index } | ControlSpot::StoreWord { index } => {
+                index < self.last_word
+            }
+            _ => false,
+        }
     }
 
     /// The place of its next access.
@@ -112,18 +130,41 @@ impl Control {
         ensures says { result ≡ true → control_says (config_in self.old) (seen_control self.old) got ≡ Took.More }
         ensures calm { result ≡ true → WaitsAt (config_in self.old) (seen_control self.old) got → ⊥ }
     {
-        let last_word = image_words(self.image.config()) - 1;
         match self.spot {
-            ControlSpot::LoadWord { index } if index < last_word => {
+            ControlSpot::LoadWord { index } if index < self.last_word => {
                 put_word(&mut self.image, index, got);
                 self.spot = ControlSpot::LoadWord { index: index + 1 };
                 true
             }
-            ControlSpot::StoreWord { index } if index < last_word => {
+            ControlSpot::StoreWord { index } if index < self.last_word => {
                 self.spot = ControlSpot::StoreWord { index: index + 1 };
                 true
             }
             _ => false,
+        }
+    }
+
+    /// Makes its next step, which goes from a word of the image to the next one, on the words of the heap's table. This is the
+    /// shortest way through a pause: what `plan` and `took` do, with nothing looked up.
+    pub fn step_inside_image(&mut self, words: &mut Vec<u64>)
+        requires inside { is_inside_image (config_in self.old) (seen_control self.old).spot ≡ true }
+        requires words { vec_len words.old ≡ table_words (config_in self.old) }
+        ensures config { config_in self.new ≡ config_in self.old }
+        ensures words { words.new.items ≡ accessed (control_access (config_in self.old) (seen_control self.old)) words.old.items }
+        ensures row { seen_control self.new ≡ control_next collect_image (config_in self.old) (seen_control self.old) (slice_index words.old.items (table_index (control_access (config_in self.old) (seen_control self.old)))) }
+    {
+        match self.spot {
+            ControlSpot::LoadWord { index } => {
+                let at = self.image.config().image_start() + index;
+                put_word(&mut self.image, index, words[at]);
+                self.spot = ControlSpot::LoadWord { index: index + 1 };
+            }
+            ControlSpot::StoreWord { index } => {
+                let at = self.image.config().image_start() + index;
+                words[at] = self.image.word(at);
+                self.spot = ControlSpot::StoreWord { index: index + 1 };
+            }
+            _ => unreachable!(),
         }
     }
 

@@ -1,15 +1,13 @@
 -- Who stands at E4 awaits the end of a pause.
-use Rattle.std.proofs.Common.{◌≡◌, ◌≢◌, ℕ, ◌∙◌, Bool, true, false, Some, None, refl, sym, ap, arith}
+use Rattle.std.proofs.Common.{◌≡◌, ◌≢◌, ℕ, ◌∙◌, Bool, true, false, Some, None, refl, sym, arith}
 use Rattle.std.specs.Prelude.{◌==◌, if◌then◌else◌}
 use Rattle.std.proofs.lemmas.Bool.{false≢true}
 use Rattle.std.proofs.lemmas.Bool.Decides.{nat_tests}
 use Rattle.heap_words.specs.declared.config.Config.{Config}
-use Rattle.heap_words.specs.declared.place.Place.{Place}
 use Rattle.heap_words.specs.declared.place.Place.TheVariants.{E4}
 use Rattle.heap_words.specs.Place.{same_place}
 use Rattle.heap_words.specs.declared.access.Unit.TheVariants.{Worked, NoneLeft}
-use Rattle.shen_graph.specs.declared.order.Order.{Order}
-use Rattle.shen_graph.specs.declared.order.Order.TheVariants.{Nothing, Begin, End}
+use Rattle.shen_graph.specs.declared.order.Order.TheVariants.{Nothing}
 use Rattle.handshake.specs.declared.enter_spot.EnterSpot.TheVariants as enter
 use Rattle.handshake.specs.declared.stop_spot.StopSpot.{StopSpot}
 use Rattle.handshake.specs.declared.stop_spot.StopSpot.TheVariants as stop
@@ -52,7 +50,6 @@ use Rattle.mutator.specs.declared.makes.MakeSpot.{MakeSpot}
 use Rattle.mutator.specs.declared.makes.MakeSpot.TheVariants as make
 use Rattle.mutator.specs.declared.waits.WaitSpot.{WaitSpot}
 use Rattle.mutator.specs.declared.waits.WaitSpot.TheVariants as wait
-use Rattle.mutator.specs.declared.spot.Entered.{Entered}
 use Rattle.mutator.specs.declared.spot.Entered.TheVariants.{Call, Waited}
 use Rattle.mutator.specs.declared.spot.Kept.{Kept}
 use Rattle.mutator.specs.declared.spot.Spot.{Spot}

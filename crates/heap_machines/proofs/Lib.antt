@@ -8,3 +8,4 @@ pub mod RestedGraph
 pub mod Pauses
 pub mod Fit
 mod Awaiting
+pub mod Inside

@@ -6,3 +6,4 @@ pub mod Scripts
 pub mod Pause
 pub mod Settles
 pub mod Awaits
+pub mod Inside

@@ -26,8 +26,9 @@ pub enum Machine {
 }
 
 impl Machine {
-    ghost use Rattle.std.specs.Prelude.{◌≡◌, ◌<◌, ◌≤◌, ◌↔◌, ◌≢◌, length, true, false, not, Option, Some, None, IfOk, IfSome, is_some, if◌then◌else◌};
+    ghost use Rattle.std.specs.Prelude.{◌≡◌, ◌<◌, ◌≤◌, ◌↔◌, ◌≢◌, length, vec_len, slice_index, true, false, not, Option, Some, None, IfOk, IfSome, is_some, if◌then◌else◌};
     ghost use Rattle.heap_words.specs.Access.{table_index};
+    ghost use Rattle.steps_base.specs.Steps.{accessed};
     ghost use Rattle.heap_words.specs.Words.{Cset, table_words, heap_size, view};
     ghost use Rattle.heap_world.specs.Change.{image_view};
     ghost use Rattle.image_graph.specs.Holds.{HoldsSome};
@@ -43,6 +44,7 @@ impl Machine {
     ghost use Rattle.heap_machines.specs.Settles.{command_in, reply_settled, refused_by};
     ghost use Rattle.heap_machines.specs.Turn.{order_for};
     ghost use Rattle.heap_machines.specs.Awaits.{Awaits};
+    ghost use Rattle.heap_machines.specs.Inside.{is_inside_image};
 
     /// The machine of a number, as a heap begins with it. The error is that memory for the control's image was refused.
     pub fn open(alloc: Global, config: Config, number: usize) -> Result<Machine, NoMemory>
@@ -91,6 +93,31 @@ impl Machine {
         ensures there { result ≡ is_machine_at Place.E4 (shown self.now) (order_for None (shown self.now)) }
     {
         self.is_at_place(None, Place::E4)
+    }
+
+    /// Whether it is the control, and its next step goes from a word of the image to the next one.
+    pub fn is_inside_image(&self) -> bool
+        ensures { result ≡ is_inside_image (heap_of self.now) (shown self.now) }
+    {
+        match self {
+            Machine::Control(control) => control.is_inside_image(),
+            Machine::Mutator(_) | Machine::Helper(_) => false,
+        }
+    }
+
+    /// Makes its next step, which goes from a word of the image to the next one, on the words of the heap's table. Of the control.
+    pub fn step_inside_image(&mut self, words: &mut Vec<u64>)
+        requires inside { is_inside_image (heap_of self.old) (shown self.old) ≡ true }
+        requires words { vec_len words.old ≡ table_words (heap_of self.old) }
+        ensures words { words.new.items ≡ accessed (plan_of (heap_of self.old) (order_of self.old) (shown self.old)) words.old.items }
+        ensures shown { shown self.new ≡ machine_after pause_image (heap_of self.old) (order_of self.old) (slice_index words.old.items (table_index (plan_of (heap_of self.old) (order_of self.old) (shown self.old)))) (shown self.old) }
+        ensures order { order_of self.new ≡ Order.Nothing }
+        ensures heap { heap_of self.new ≡ heap_of self.old }
+    {
+        match self {
+            Machine::Control(control) => control.step_inside_image(words),
+            Machine::Mutator(_) | Machine::Helper(_) => unreachable!(),
+        }
     }
 
     /// The order that it was given.

@@ -1,29 +1,25 @@
 -- The turn of a machine that waits for the end of a pause changes nothing.
-use Rattle.std.proofs.Common.{◌≡◌, ◌<◌, ℕ, true, List, [], length, map, All, None, Some, refl, sym, ap, ◌∙◌, subst, arith}
-use Rattle.std.specs.Prelude.{slice_get, slice_set, slice_index, nat_lt}
+use Rattle.std.proofs.Common.{◌≡◌, ◌<◌, ℕ, true, length, Some, refl, sym, ap, ◌∙◌, subst}
+use Rattle.std.specs.Prelude.{slice_set, slice_index}
 use Rattle.std.proofs.lemmas.List.{set-get_or}
 use Rattle.heap_words.specs.Access.{table_index}
 use Rattle.heap_words.specs.Words.{Pause, word_at, view}
-use Rattle.steps_base.specs.Steps.{Stage, accessed}
-use Rattle.steps_base.specs.Touch.{touch, loads, placed}
-use Rattle.shen_graph.specs.declared.order.Order.{Order}
+use Rattle.steps_base.specs.Steps.{accessed}
 use Rattle.shen_graph.specs.declared.order.Order.TheVariants.{Nothing}
 use Rattle.heap_machines.specs.Answer.{stepped_by}
 use Rattle.heap_machines.specs.Pause.{pause_image}
-use Rattle.heap_machines.specs.Roles.{is_mutating}
 use Rattle.heap_machines.specs.Shown.{no_machine}
 use Rattle.heap_machines.specs.declared.stepped.Stepped.TheVariants as stepped
-use Rattle.step_core.specs.Actor.{Machine, Actor}
+use Rattle.step_core.specs.Actor.{Machine}
 use Rattle.step_core.specs.Machines.{takes_of, plan_of, machine_after, answer_of}
-use Rattle.step_core.specs.Schedule.{Scripts, turn}
 use Rattle.shen_core.specs.declared.plain.Plain.{Plain}
-use Rattle.shen_core.specs.Runs.{IsOneEvent, event, machine_next}
-use Rattle.shen_core.specs.State.{config_of, words_of, machines_of, orders_of, machine_at, order_at, next_machine, Shows, IsHalted}
-use Rattle.shen_core.specs.Progress.{Jobs, CanRun, HasTurned, IsTurn, IsNextTurn, Tells, next_for}
-use Rattle.shen_core.specs.Noting.{NotesTurn, IsEnding, noted, told_by}
+use Rattle.shen_core.specs.Runs.{IsOneEvent}
+use Rattle.shen_core.specs.State.{config_of, words_of, machines_of, orders_of, machine_at, order_at, next_machine, IsHalted}
+use Rattle.shen_core.specs.Progress.{Jobs, HasTurned, IsNextTurn, next_for}
+use Rattle.shen_core.specs.Noting.{NotesTurn, noted, told_by}
 use Rattle.shen_core.proofs.Events.{one_event}
 use Rattle.shen_core.proofs.Noting.{noted_none}
-use Rattle.shen_core.proofs.Noted.{IsStepped, can_run_on, turned_on, none_given}
+use Rattle.shen_core.proofs.Noted.{IsStepped, turned_on, none_given}
 use Rattle.shen_core.proofs.Settles.{sees_nothing}
 use Rattle.shen_core.proofs.Turns.{machine_within, role_within, is_turn}
 

@@ -14,3 +14,5 @@ pub mod Fresh
 mod Graphs
 mod FromImage
 mod Halted
+mod Inside
+mod PauseRounds

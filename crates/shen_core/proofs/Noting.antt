@@ -1,20 +1,19 @@
 -- A run that notes what its events settle.
-use Rattle.std.proofs.Common.{◌≡◌, ◌<◌, ◌≤◌, ℕ, zero, suc, ◌+◌, ◌-◌, Bool, true, false, List, [], ◌∷◌, ◌++◌, length, get_or, map, drop, Option, Some, None, refl, sym, ap, ◌∙◌, subst, arith}
-use Rattle.std.specs.Prelude.{◌==◌, if◌then◌else◌}
-use Rattle.std.proofs.lemmas.List.{drop_more, append-nil, length-append}
+use Rattle.std.proofs.Common.{◌≡◌, ◌<◌, ℕ, zero, suc, ◌+◌, ◌-◌, true, false, List, [], ◌∷◌, ◌++◌, length, get_or, map, drop, Some, None, refl, sym, ap, ◌∙◌, subst, arith}
+use Rattle.std.specs.Prelude.{◌==◌}
+use Rattle.std.proofs.lemmas.List.{drop_more}
 use Rattle.std.proofs.lemmas.Bool.Decides.{nat_tests}
 use Rattle.heap_machines.specs.Pause.{pause_image}
 use Rattle.heap_words.specs.declared.config.Config.{Config}
 use Rattle.heap_words.specs.declared.schedule.Item.{Item}
 use Rattle.heap_words.specs.Ranges.{seat_count}
 use Rattle.steps_base.specs.Steps.{Stage, Event, act, go}
-use Rattle.steps_base.proofs.Runs.{go-none, go-append}
+use Rattle.steps_base.proofs.Runs.{go-append}
 use Rattle.shen_graph.specs.declared.order.Order.{Order}
 use Rattle.shen_graph.specs.History.{Entry}
 use Rattle.shen_graph.specs.Noting.{Noting}
 use Rattle.step_core.specs.Actor.{Actor}
 use Rattle.step_core.specs.Machines.{kind}
-use Rattle.step_core.specs.Begins.{Run, ending}
 use Rattle.step_core.specs.History.{told, history}
 use Rattle.step_core.specs.Schedule.{Scripts, turn, Task, task_of, Agenda, Next, next, next_by, after_move, and_then, move_of, moves, waits_then, scheduled}
 use Rattle.heap_machines.specs.declared.stepped.Stepped.{Stepped}
@@ -24,8 +23,7 @@ use Rattle.shen_core.specs.declared.run.Ran.{Ran}
 use Rattle.shen_core.specs.declared.run.Ran.TheVariants.{Finished, Unfinished}
 use Rattle.shen_core.specs.Runs.{event}
 use Rattle.shen_core.specs.State.{config_of, words_of, machines_of, notes_of, order_at, Shows}
-use Rattle.shen_core.specs.Progress.{Jobs, IsTurn, Goes, Tells, WentOn, agenda, Turned, HasTurned, IsPassed, AllIdle, SomeBusy}
-use Rattle.shen_core.specs.WholeRun.{HasRun}
+use Rattle.shen_core.specs.Progress.{Jobs, IsTurn, Goes, Tells, agenda, Turned, HasTurned, IsPassed, AllIdle, SomeBusy}
 use Rattle.shen_core.specs.Noting.{with_entry, noted, IsEnding, told_by, NotesTurn, HasGone, RunsNoted, DoesNoted, HasRunNoted, EndsNoted}
 use Rattle.shen_core.proofs.Going as going
 use Rattle.shen_core.proofs.Going.{goes_then, waiting_of, moved_of}

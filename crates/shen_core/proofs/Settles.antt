@@ -1,12 +1,12 @@
 -- What the next step of a machine settles, as memory sees it, is what its event settles in each run that leads to what memory shows.
-use Rattle.std.proofs.Common.{◌≡◌, ◌≢◌, ◌<◌, ◌≤◌, ◌⊎◌, inl, inr, ℕ, ◌+◌, Bool, true, false, ◌&&◌, List, [], ◌∷◌, ◌++◌, length, Option, Some, None, refl, sym, ap, ◌∙◌, subst, append_assoc, arith}
-use Rattle.std.specs.Prelude.{nat_lt, slice_get, slice_set, slice_index, slice_index_or, ◌==◌, if◌then◌else◌}
+use Rattle.std.proofs.Common.{◌≡◌, ◌≢◌, ◌<◌, ◌⊎◌, inl, inr, ℕ, ◌+◌, Bool, true, false, ◌&&◌, List, [], ◌∷◌, ◌++◌, length, Option, Some, None, refl, sym, ap, ◌∙◌, subst, append_assoc, arith}
+use Rattle.std.specs.Prelude.{nat_lt, slice_get, slice_index, slice_index_or, ◌==◌, if◌then◌else◌}
 use Rattle.std.specs.Option.{option_map}
 use Rattle.std.proofs.Math.Bool.{Bool-set}
 use Rattle.std.proofs.Math.Logic.{∥∥₁_elim}
-use Rattle.std.proofs.lemmas.Bool.{false≢true, cases_eq, lt-ltb}
+use Rattle.std.proofs.lemmas.Bool.{cases_eq, lt-ltb}
 use Rattle.std.proofs.lemmas.List.{length-append, append-nil}
-use Rattle.std.proofs.lemmas.Option.{same_Some, slice_get_within, slice_get-map, get_or_from_slice_get}
+use Rattle.std.proofs.lemmas.Option.{same_Some, slice_get-map, get_or_from_slice_get}
 use Rattle.heap_words.specs.declared.config.Config.{Config}
 use Rattle.heap_words.specs.Access.{table_index}
 use Rattle.heap_words.specs.Words.{Word, Answer, Phase, Cset, IsWord, view, image_start, table_words}
@@ -15,16 +15,16 @@ use Rattle.heap_words.proofs.Named.{are_named}
 use Rattle.steps_base.specs.Steps.{Stage, Event, act, go, moved}
 use Rattle.steps_base.proofs.Laws.{act_cases, machines_other}
 use Rattle.steps_base.proofs.Places.{slice_get-set_same, slice_get-set_other}
-use Rattle.steps_base.proofs.Runs.{go-none, go-first, go-step, go-append}
+use Rattle.steps_base.proofs.Runs.{go-none, go-first, go-step}
 use Rattle.shen_graph.specs.declared.command.Command.{Command}
 use Rattle.shen_graph.specs.declared.command.Reply.{Reply}
 use Rattle.shen_graph.specs.declared.command.Reply.TheVariants as reply
 use Rattle.shen_graph.specs.declared.order.Order.{Order}
 use Rattle.shen_graph.specs.declared.order.Order.TheVariants.{Nothing, Begin, End}
-use Rattle.shen_graph.specs.History.{Entry, of_thread}
+use Rattle.shen_graph.specs.History.{of_thread}
 use Rattle.handshake.specs.Standing.{is_within, is_pausing}
 use Rattle.mutator.specs.declared.spot.Spot.{Spot}
-use Rattle.mutator.specs.declared.spot.Spot.TheVariants.{Rest, Ended, Gone, Entering, Loading, OnField, OnNumber, Waiting, Leave}
+use Rattle.mutator.specs.declared.spot.Spot.TheVariants.{Rest, Ended, Gone, Loading, OnField, OnNumber}
 use Rattle.mutator.specs.Orders.{is_between_calls, takes_commands, takes_at}
 use Rattle.mutator.specs.Rows.{Mutating, next_at, next_of}
 use Rattle.mutator.specs.Told.{told_at, told_of}
@@ -36,14 +36,14 @@ use Rattle.heap_machines.specs.Pause.{pause_image}
 use Rattle.heap_machines.proofs.Pauses.{heap_pauses}
 use Rattle.heap_machines.specs.Settles.{reply_settled, command_in, refused_word, refused_at, refused_by}
 use Rattle.heap_machines.specs.Shown.{no_machine}
-use Rattle.step_core.specs.Actor.{Machine, mutating, helping, controlling, Actor, entry_of, entries_of, command_by}
-use Rattle.step_core.specs.Machines.{takes_of, plan_of, machine_after, told_with, told_word, told_storing, command_at, took_of, kind, is_mutating, is_resting, HasNumber, IsIdle}
+use Rattle.step_core.specs.Actor.{Machine, mutating, helping, controlling, Actor, entries_of, command_by}
+use Rattle.step_core.specs.Machines.{takes_of, plan_of, machine_after, told_word, told_storing, command_at, kind, is_mutating, is_resting, HasNumber, IsIdle}
 use Rattle.step_core.specs.Settled.{settled, settled_by, stored_image, image_read, image_of, control_number}
 use Rattle.step_core.specs.Standing.{standing_at, control_standing}
 use Rattle.step_core.specs.Pausing.{IsInPause}
 use Rattle.step_core.specs.Begins.{Run, ending, history_in}
 use Rattle.step_core.specs.History.{told, told_by, told_of_machine, history}
-use Rattle.step_core.specs.Sound.{IsMutator, SomeMutator, IsSound, AreCalls}
+use Rattle.step_core.specs.Sound.{IsMutator, IsSound, AreCalls}
 use Rattle.step_core.proofs.Theorem.EveryList.{run_sound, run_pauses}
 use Rattle.step_core.proofs.History.Entries.{own_more}
 use Rattle.shen_core.specs.Runs.{event, WordsShow, IsShownBySome}

@@ -1,8 +1,7 @@
 -- A `Plain` whose history was exchanged for another.
-use Rattle.std.proofs.Common.{◌≡◌, ◌<◌, ◌≤◌, ℕ, ◌+◌, false, List, length, get_or, All, sym, ap, ◌∙◌, subst, arith}
+use Rattle.std.proofs.Common.{◌≡◌, ◌<◌, ◌≤◌, ℕ, ◌+◌, List, length, get_or, All, sym, ap, ◌∙◌, subst, arith}
 use Rattle.heap_machines.specs.Pause.{pause_image}
 use Rattle.heap_machines.specs.Shown.{no_machine}
-use Rattle.heap_words.specs.declared.config.Config.{Config}
 use Rattle.heap_words.specs.declared.schedule.Item.{Item}
 use Rattle.steps_base.specs.Steps.{Stage, go}
 use Rattle.shen_graph.specs.declared.order.Order.TheVariants.{Nothing}
@@ -13,7 +12,7 @@ use Rattle.step_core.specs.Actor.{Actor}
 use Rattle.step_core.specs.Begins.{Run, ending}
 use Rattle.step_core.specs.History.{history}
 use Rattle.step_core.specs.Machines.{kind, is_resting, made_of_machine, at_hand_of}
-use Rattle.step_core.specs.Schedule.{Scripts, Agenda, agenda_of, schedule_events}
+use Rattle.step_core.specs.Schedule.{Agenda, agenda_of, schedule_events}
 use Rattle.shen_core.specs.declared.plain.Plain.{Plain}
 use Rattle.shen_core.specs.declared.run.Ran.{Ran}
 use Rattle.shen_core.specs.State.{config_of, words_of, machines_of, orders_of, machine_at, notes_of, Shows}

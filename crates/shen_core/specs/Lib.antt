@@ -4,4 +4,5 @@ pub mod Progress
 pub mod Calls
 pub mod WholeRun
 pub mod FromImage
+pub mod Halted
 pub mod Noting

@@ -1,5 +1,5 @@
 -- The history that a run notes: the entries that its events settle, in their order, as far as there is memory for them.
-use Rattle.std.specs.Prelude.{ℕ, zero, suc, ◌≡◌, ◌+◌, ◌-◌, ◌≤◌, ◌==◌, List, [], ◌∷◌, ◌++◌, length, sum_by, Option, Some, None, if◌then◌else◌}
+use Rattle.std.specs.Prelude.{ℕ, ◌≡◌, ◌+◌, ◌-◌, ◌==◌, List, [], ◌∷◌, ◌++◌, length, sum_by, Option, Some, None, if◌then◌else◌}
 use Rattle.std.specs.List.{range_with_len}
 use Rattle.heap_words.specs.declared.config.Config.{Config}
 use Rattle.heap_words.specs.declared.schedule.Item.{Item}
@@ -13,7 +13,7 @@ use Rattle.heap_machines.specs.Pause.{pause_image}
 use Rattle.step_core.specs.Actor.{Actor}
 use Rattle.step_core.specs.Begins.{Run, ending}
 use Rattle.step_core.specs.History.{told, history}
-use Rattle.step_core.specs.Schedule.{Scripts, turn, Task, Agenda, scheduled, schedule_events, agenda_of}
+use Rattle.step_core.specs.Schedule.{Scripts, turn, Task, Agenda, scheduled, schedule_events}
 use Rattle.shen_core.specs.declared.plain.Plain.{Plain}
 use Rattle.shen_core.specs.declared.run.Ran.{Ran}
 use Rattle.shen_core.specs.Runs.{event}

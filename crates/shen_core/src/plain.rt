@@ -43,12 +43,14 @@ impl Plain {
     ghost use Rattle.heap_graph.specs.Shows as texts;
     ghost use Rattle.shen_core.specs.State.{config_of, words_of, machines_of, orders_of, notes_of, order_at, seats_of, Shows, machine_at, has_turn, word_found_by, next_machine, IsStep, IsUnchanged, IsHalted};
     ghost use Rattle.heap_machines.specs.Answer.{says};
+    ghost use Rattle.heap_machines.specs.Inside.{is_inside_image};
     ghost use Rattle.heap_machines.specs.Roles.{is_mutating};
     ghost use Rattle.heap_machines.specs.Turn.{order_for};
-    ghost use Rattle.steps_base.specs.Steps.{Stage};
+    ghost use Rattle.steps_base.specs.Steps.{Stage, accessed};
     ghost use Rattle.step_core.specs.Actor.{Actor};
     ghost use Rattle.step_core.specs.History.{told};
     ghost use Rattle.shen_core.specs.Runs.{event};
+    ghost use Rattle.shen_core.specs.Halted.{IsAtEnd};
     ghost use Rattle.shen_core.specs.Noting.{IsEnding, NotesTurn, Settles, noted};
     ghost use Rattle.shen_core.specs.Progress.{CanRun, IsTurn, IsNextTurn, HasNext, AllRest, next_for};
 
@@ -158,6 +160,28 @@ impl Plain {
         Stepped::of(machine.took(found))
     }
 
+    // Whether the machine is the control, in a pause whose next step goes from a word of the image to the next one.
+    pub(crate) fn is_inside_image(&self, number: usize) -> bool
+        requires { number < seats_of self.now }
+        ensures { result ≡ true → is_inside_image (config_of self.now) (machine_at self.now number) ≡ true }
+    {
+        self.words[self.config.pause_at()] != 0 && self.machines[number].is_inside_image()
+    }
+
+    // Makes such a step of the control.
+    pub(crate) fn step_inside_image(&mut self, number: usize)
+        requires number { number < seats_of self.old }
+        requires inside { is_inside_image (config_of self.old) (machine_at self.old number) ≡ true }
+        ensures event { IsStep self.old self.new number }
+        ensures words { words_of self.new ≡ accessed (plan_of (config_of self.old) (order_at self.old number) (machine_at self.old number)) (words_of self.old) }
+        ensures machines { machines_of self.new ≡ slice_set (machines_of self.old) number (next_machine self.old number) }
+        ensures orders { orders_of self.new ≡ slice_set (orders_of self.old) number Nothing }
+        ensures config { config_of self.new ≡ config_of self.old }
+        ensures notes { notes_of self.new ≡ notes_of self.old }
+    {
+        self.machines[number].step_inside_image(&mut self.words);
+    }
+
     /// The entry of a history that the machine's next step settles, if it settles one: of its own thread the reply of the call in
     /// progress, which is given later; of another one, by the control, that the heap is full.
     pub fn settles(&self, number: usize) -> Option<Entry>
@@ -191,9 +215,22 @@ impl Plain {
         ensures machines { machines_of self.new ≡ machines_of self.old }
         ensures orders { orders_of self.new ≡ orders_of self.old }
     {
-        if self.notes.spare() == 0 {
-            return;
+        if self.notes.spare() > 0 {
+            self.note_settled(number);
         }
+    }
+
+    // The same, in a function of its own, which most runs never enter.
+    fn note_settled(&mut self, number: usize)
+        requires number { number < seats_of self.old }
+        requires turn { has_turn self.old number ≡ true }
+        requires spare { 0 < (notes_of self.old).spare }
+        ensures notes { (s : Stage Actor) → Shows self.old s → IsEnding (config_of self.old) s → notes_of self.new ≡ noted (notes_of self.old) (told (config_of self.old) s (event number (order_at self.old number))) }
+        ensures config { config_of self.new ≡ config_of self.old }
+        ensures words { words_of self.new ≡ words_of self.old }
+        ensures machines { machines_of self.new ≡ machines_of self.old }
+        ensures orders { orders_of self.new ≡ orders_of self.old }
+    {
         if let Some(entry) = self.settles(number) {
             self.notes.note(entry.thread, entry.command, entry.reply);
         }
@@ -303,6 +340,15 @@ impl Plain {
         requires number { number < seats_of self.now }
         requires orders { All (λ order. order ≡ Nothing) (orders_of self.now) }
         ensures { HasNext self.now number result }
+    {
+        self.machines[number].has_next()
+    }
+
+    // The same, as far as it is known of the machine alone.
+    pub(crate) fn may_move(&self, number: usize) -> bool
+        requires number { number < seats_of self.now }
+        requires orders { All (λ order. order ≡ Nothing) (orders_of self.now) }
+        ensures { result ≡ false → IsAtEnd self.now number }
     {
         self.machines[number].has_next()
     }

@@ -1,8 +1,10 @@
-ghost use Rattle.std.specs.Prelude.{ℕ, ◌≡◌, ◌<◌, ◌≤◌, true, false, [], length, slice_set, All};
+ghost use Rattle.std.specs.Prelude.{ℕ, ◌≡◌, ◌<◌, ◌≤◌, true, false, [], length, slice_set, All, IfSome};
 ghost use Rattle.shen_graph.specs.Work.{replies_of, script_in};
-ghost use Rattle.shen_core.specs.State.{config_of, words_of, machines_of, orders_of, order_at, seats_of, has_turn, IsUnchanged};
+ghost use Rattle.shen_core.specs.State.{config_of, words_of, machines_of, orders_of, order_at, machine_at, seats_of, has_turn, IsUnchanged};
 ghost use Rattle.shen_graph.specs.declared.order.Order.TheVariants.{Nothing};
 ghost use Rattle.shen_core.specs.Progress.{Jobs, CanRun, IsTurn, HasTurned, AllIdle, SomeBusy, HasNext, IsInSeats, agenda};
+ghost use Rattle.heap_machines.specs.Inside.{is_inside_image};
+ghost use Rattle.shen_core.specs.Halted.{AreHalted};
 ghost use Rattle.shen_core.specs.Noting.{NotesTurn, RunsNoted, DoesNoted, EndsNoted, NotesSchedule, commands_in};
 ghost use Rattle.step_core.specs.Schedule.{steps, until, replies, control, task_of, agenda_of};
 
@@ -47,6 +49,37 @@ impl Plain {
         stepped
     }
 
+    // One turn of the control that goes from a word of the image to the next one.
+    fn turn_inside_image(&mut self, work: &Work, number: usize)
+        requires number { number < seats_of self.old }
+        requires inside { is_inside_image (config_of self.old) (machine_at self.old number) ≡ true }
+        requires run { CanRun self.old work.now }
+        ensures run { CanRun self.new work.now }
+        ensures config { config_of self.new ≡ config_of self.old }
+        ensures turned { HasTurned self.old work.now number self.new work.now Stepped.More }
+        ensures notes { NotesTurn self.old work.now number self.new }
+        ensures halted { (waiting : ℕ) → AreHalted self.old number waiting → AreHalted self.new number waiting }
+    {
+        self.note_next(number);
+        self.step_inside_image(number);
+    }
+
+    // One turn of a machine, by the shortest way where it is the control inside an image.
+    fn short_turn(&mut self, work: &mut Work, number: usize) -> Stepped
+        requires number { number < seats_of self.old }
+        requires run { CanRun self.old work.old }
+        ensures run { CanRun self.new work.new }
+        ensures config { config_of self.new ≡ config_of self.old }
+        ensures turned { HasTurned self.old work.old number self.new work.new result }
+        ensures notes { NotesTurn self.old work.old number self.new }
+    {
+        if !self.is_inside_image(number) {
+            return self.turn(work, number);
+        }
+        self.turn_inside_image(work, number);
+        Stepped::More
+    }
+
     // Steps of one machine: so many, or fewer if it becomes idle or no more are left. What is left then.
     fn run_steps(&mut self, work: &mut Work, number: usize, count: u64, limit: u64) -> u64
         requires number { number < seats_of self.old }
@@ -58,7 +91,7 @@ impl Plain {
         let mut left = limit;
         let mut wanted = count;
         while wanted > 0 && left > 0 {
-            if let Stepped::Idle = self.turn(work, number) {
+            if let Stepped::Idle = self.short_turn(work, number) {
                 return left;
             }
             wanted -= 1;
@@ -77,7 +110,7 @@ impl Plain {
     {
         let mut left = limit;
         while left > 0 && !self.is_at_place(work, number, place) {
-            if let Stepped::Idle = self.turn(work, number) {
+            if let Stepped::Idle = self.short_turn(work, number) {
                 return left;
             }
             left -= 1;
@@ -117,7 +150,7 @@ impl Plain {
             return left;
         }
         let control = self.seats() - 1;
-        match self.turn(work, control) {
+        match self.short_turn(work, control) {
             Stepped::Idle => left,
             _ => left - 1,
         }
@@ -175,6 +208,47 @@ impl Plain {
         left
     }
 
+    // How many of the machines before this one wait for the end of a pause that goes on. None where another of them moves.
+    fn count_halted(&self, control: usize) -> Option<u64>
+        requires number { control < seats_of self.now }
+        requires orders { All (λ order. order ≡ Nothing) (orders_of self.now) }
+        ensures { IfSome result (λ waiting. AreHalted self.now control waiting) }
+    {
+        let mut waiting = 0;
+        for number in 0..control {
+            if self.is_halted(number) {
+                waiting += 1;
+            } else if self.may_move(number) {
+                return None;
+            }
+        }
+        Some(waiting)
+    }
+
+    // Whole rounds in which only the control moves, from word to word of the image, and all others wait for the end of its pause or
+    // are idle: as many as there are, and as there are steps left for. What is left then.
+    fn run_pause(&mut self, work: &Work, limit: u64) -> u64
+        requires { CanRun self.old work.now }
+        ensures run { CanRun self.new work.now }
+        ensures config { config_of self.new ≡ config_of self.old }
+        ensures less { result ≤ limit }
+        ensures rounds { RunsNoted self.old work.now (agenda [] 0) limit self.new work.now (agenda [] 0) result }
+    {
+        let control = self.seats() - 1;
+        if !self.is_inside_image(control) {
+            return limit;
+        }
+        let Some(waiting) = self.count_halted(control) else {
+            return limit;
+        };
+        let mut left = limit;
+        while left > waiting && self.is_inside_image(control) {
+            self.turn_inside_image(work, control);
+            left -= waiting + 1;
+        }
+        left
+    }
+
     // Rounds until all machines are idle or no more steps are left.
     fn run_rounds(&mut self, work: &mut Work, limit: u64) -> Ran
         requires { CanRun self.old work.old }
@@ -196,6 +270,7 @@ impl Plain {
             if left == before {
                 return Ran::Finished;
             }
+            left = self.run_pause(work, left);
         }
     }
 

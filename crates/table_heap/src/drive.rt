@@ -99,6 +99,23 @@ impl Bundle {
         round
     }
 
+    // The turns of the control from word to word of its image, one after the other, as in `run`.
+    fn drive_through_image<D: Driver, G: Gate>(&mut self, heap: &Heap, drivers: &mut [D], gate: &G)
+        requires heap { IsBundleOf self.old heap.now }
+        requires driving { (firsts : List D) × AreDriving D.next_of D.replied D.to_come self.old firsts drivers.old }
+        ensures driving { (firsts : List D) → AreDriving D.next_of D.replied D.to_come self.old firsts drivers.old → AreDriving D.next_of D.replied D.to_come self.new firsts drivers.new }
+        ensures same { IsSameBundle self.old self.new }
+    {
+        let control = self.config.seats() - 1;
+        let place = drivers.len();
+        for _ in 0..self.config.table_words() {
+            if !self.is_inside_image(control) {
+                return;
+            }
+            self.drive_turn(heap, drivers, gate, control, place);
+        }
+    }
+
     /// Runs the bundle's mutators by drivers, one for each in the order of their numbers, until all machines of the bundle are
     /// idle. It is as `run`, where each mutator between two calls begins what its driver gives next, ends where that is `None`,
     /// and hands each reply to its driver. No memory is taken.
@@ -125,6 +142,7 @@ impl Bundle {
                 return;
             }
             moving = back_off(&backoff, moving, said);
+            self.drive_through_image(heap, drivers, gate);
         }
     }
 }

@@ -1,4 +1,5 @@
 ghost use Rattle.std.specs.Prelude.{◌≡◌, ◌≢◌, ◌↔◌, ◌<◌, true, false, Some, None, IfSome, if◌then◌else◌, slice_set};
+ghost use Rattle.heap_words.specs.Ranges.{seat_count};
 ghost use Rattle.heap_machines.specs.Turn.{order_for};
 ghost use Rattle.shen_graph.specs.Valid.{IsValid};
 ghost use Rattle.step_core.specs.Machines.{reply_in, may_begin, made_of_machine};
@@ -156,9 +157,38 @@ impl Bundle {
         round
     }
 
+    // Whether the machine is the bundle's, and the control in a pause that goes from a word of the image to the next one.
+    pub(crate) fn is_inside_image(&self, number: usize) -> bool
+        requires { number < seat_count (heap_of self.now).mutators (heap_of self.now).helpers }
+        ensures { result ≡ true → HasMachine self.now number }
+    {
+        let Some(machine) = &self.machines[number] else {
+            return false;
+        };
+        machine.is_inside_image()
+    }
+
+    // The turns of the control from word to word of its image, one after the other, if the bundle has it: for each word it loads or
+    // stores, no more than there are words in a table. Nobody else of the heap can go on before the pause has ended.
+    fn go_through_image<G: Gate>(&mut self, heap: &Heap, work: &mut Work, gate: &G)
+        requires heap { IsBundleOf self.old heap.now }
+        requires work { AreAtWork self.old work.old }
+        ensures work { AreAtWork self.new work.new }
+        ensures same { IsSameBundle self.old self.new }
+        ensures jobs { AreSameJobs (view_of self.old) work.old work.new }
+    {
+        let control = self.config.seats() - 1;
+        for _ in 0..self.config.table_words() {
+            if !self.is_inside_image(control) {
+                return;
+            }
+            self.turn(heap, work, gate, control);
+        }
+    }
+
     /// Runs the scripts of the bundle's mutators, whose replies it notes in `work`, until all machines of the bundle are idle.
-    /// In a round each machine that is not idle makes one step, in the order of their numbers, when it has passed the gate. A
-    /// mutator between two calls begins the next command of its script, and ends where there is none; the control ends when
+    /// In a round each machine that is not idle makes one step, in the order of their numbers, when it has passed the gate; the
+    /// control then goes on from word to word of its image, by steps that pass the gate too. A mutator between two calls begins the next command of its script, and ends where there is none; the control ends when
     /// all mutators of the heap have, and a helper when the control has. After a round in which every step waits for another
     /// machine the thread backs off, each time for longer, until several rounds in a row went on. No memory is taken.
     pub fn run<R: Wait, G: Gate>(&mut self, rt: &R, heap: &Heap, work: &mut Work, gate: &G)
@@ -178,6 +208,7 @@ impl Bundle {
                 return;
             }
             moving = back_off(&backoff, moving, said);
+            self.go_through_image(heap, work, gate);
         }
     }
 }

@@ -1,4 +1,3 @@
-use Rattle.std.proofs.Common.{◌≡◌, true}
 use Rattle.control.proofs.machine.Control.took.Goals as goal
 
 pub returns-then-goes_on_in_image-clause-again : goal.returns-then-goes_on_in_image-clause-again

@@ -1,8 +1,5 @@
-use Rattle.std.proofs.Common.{◌≡◌, ◌≢◌, true, ap, ◌∙◌, subst, sym, arith}
-use Rattle.heap_words.specs.Words.{Pause, word_at}
-use Rattle.std.specs.Prelude.{slice_index}
-use Rattle.heap_machines.specs.Awaits.{Awaits}
-use Rattle.shen_core.proofs.Memory.{from_read, none_here, machine_here, heap_here}
+use Rattle.std.proofs.Common.{arith}
+use Rattle.shen_core.proofs.Memory.{from_read, none_here}
 use Rattle.shen_core.proofs.plain.Plain.is_halted.Goals as goal
 
 pub awaits-requires : goal.awaits-requires

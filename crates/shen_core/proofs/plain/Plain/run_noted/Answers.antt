@@ -1,7 +1,6 @@
 use Rattle.std.proofs.Common.{◌∙◌, sym, subst, All}
 use Rattle.shen_core.specs.Progress.{IsInSeats}
-use Rattle.shen_core.specs.declared.plain.Plain.{Plain}
-use Rattle.shen_core.proofs.Swapped.{IsSwapped, can_run_swapped, ran_swapped, swapped_history}
+use Rattle.shen_core.proofs.Swapped.{can_run_swapped, ran_swapped, swapped_history}
 use Rattle.shen_core.proofs.plain.Plain.run_noted.Goals as goal
 
 pub run_agenda-ran-requires-clause-run : goal.run_agenda-ran-requires-clause-run

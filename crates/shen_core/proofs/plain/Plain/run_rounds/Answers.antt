@@ -23,7 +23,8 @@ returns-then-left-before-clause-ends c =
 
 pub loop-left-preserved : goal.loop-left-preserved
 loop-left-preserved c = record {
-  run = c.run_round-left.ensures.run;
-  config = c.run_round-left.ensures.config ∙ c.loop-left.invariant.config;
-  runs = runs_then c.args.self.now c.loop-left.self c.run_round-left.new.self c.args.work.now c.loop-left.work c.run_round-left.new.work _ _ _ _ c.loop-left.left _ c.loop-left.invariant.config c.loop-left.invariant.runs c.run_round-left.ensures.round;
+  run = c.run_pause-left.ensures.run;
+  config = c.run_pause-left.ensures.config ∙ c.run_round-left.ensures.config ∙ c.loop-left.invariant.config;
+  runs = runs_then c.args.self.now c.loop-left.self c.run_pause-left.new.self c.args.work.now c.loop-left.work c.run_round-left.new.work _ _ _ _ c.loop-left.left _ c.loop-left.invariant.config c.loop-left.invariant.runs
+      (runs_then c.loop-left.self c.run_round-left.new.self c.run_pause-left.new.self c.loop-left.work c.run_round-left.new.work c.run_round-left.new.work _ _ _ _ c.run_round-left.result _ c.run_round-left.ensures.config c.run_round-left.ensures.round c.run_pause-left.ensures.rounds);
 }

@@ -11,17 +11,17 @@ loop-wanted-init c = record { run = c.requires.run; config = refl; runs = λ tas
 
 pub returns-in-Idle-clause-task : goal.returns-in-Idle-clause-task
 returns-in-Idle-clause-task c = λ tasks from.
-    runs_then c.args.self.now c.loop-wanted.self c.turn.new.self c.args.work.now c.loop-wanted.work c.turn.new.work _ (agenda (steps c.args.number c.loop-wanted.wanted ∷ tasks) from) (agenda tasks from) _ c.loop-wanted.left _ c.loop-wanted.invariant.config (c.loop-wanted.invariant.runs tasks from)
-    (task_idles c.loop-wanted.self c.turn.new.self c.loop-wanted.work c.turn.new.work c.args.number c.turn.result (steps c.args.number c.loop-wanted.wanted) c.loop-wanted.left c.turn.ensures.notes c.turn.ensures.turned c.in-Idle.is
+    runs_then c.args.self.now c.loop-wanted.self c.short_turn.new.self c.args.work.now c.loop-wanted.work c.short_turn.new.work _ (agenda (steps c.args.number c.loop-wanted.wanted ∷ tasks) from) (agenda tasks from) _ c.loop-wanted.left _ c.loop-wanted.invariant.config (c.loop-wanted.invariant.runs tasks from)
+    (task_idles c.loop-wanted.self c.short_turn.new.self c.loop-wanted.work c.short_turn.new.work c.args.number c.short_turn.result (steps c.args.number c.loop-wanted.wanted) c.loop-wanted.left c.short_turn.ensures.notes c.short_turn.ensures.turned c.in-Idle.is
     (λ scripts s shows tells none. steps_move (config_of c.loop-wanted.self) scripts s c.args.number c.loop-wanted.wanted c.loop-wanted-test.true ∙ ap (λ e. moves e (steps c.args.number (c.loop-wanted.wanted - 1) ∷ [])) none) tasks from)
 
 pub loop-wanted-preserved : goal.loop-wanted-preserved
 loop-wanted-preserved c = record {
-  run = c.turn.ensures.run;
-  config = c.turn.ensures.config ∙ c.loop-wanted.invariant.config;
+  run = c.short_turn.ensures.run;
+  config = c.short_turn.ensures.config ∙ c.loop-wanted.invariant.config;
   runs = λ tasks from.
-      runs_then c.args.self.now c.loop-wanted.self c.turn.new.self c.args.work.now c.loop-wanted.work c.turn.new.work _ (agenda (steps c.args.number c.loop-wanted.wanted ∷ tasks) from) (agenda (steps c.args.number (c.loop-wanted.wanted - 1) ∷ tasks) from) _ c.loop-wanted.left _ c.loop-wanted.invariant.config (c.loop-wanted.invariant.runs tasks from)
-      (task_moves c.loop-wanted.self c.turn.new.self c.loop-wanted.work c.turn.new.work c.args.number c.turn.result (steps c.args.number c.loop-wanted.wanted) (steps c.args.number (c.loop-wanted.wanted - 1) ∷ []) c.loop-wanted.left c.turn.ensures.notes c.turn.ensures.turned c.in_default.not-Idle c.if-left-gt0.true
+      runs_then c.args.self.now c.loop-wanted.self c.short_turn.new.self c.args.work.now c.loop-wanted.work c.short_turn.new.work _ (agenda (steps c.args.number c.loop-wanted.wanted ∷ tasks) from) (agenda (steps c.args.number (c.loop-wanted.wanted - 1) ∷ tasks) from) _ c.loop-wanted.left _ c.loop-wanted.invariant.config (c.loop-wanted.invariant.runs tasks from)
+      (task_moves c.loop-wanted.self c.short_turn.new.self c.loop-wanted.work c.short_turn.new.work c.args.number c.short_turn.result (steps c.args.number c.loop-wanted.wanted) (steps c.args.number (c.loop-wanted.wanted - 1) ∷ []) c.loop-wanted.left c.short_turn.ensures.notes c.short_turn.ensures.turned c.in_default.not-Idle c.if-left-gt0.true
       (λ scripts s shows tells waits. steps_move (config_of c.loop-wanted.self) scripts s c.args.number c.loop-wanted.wanted c.loop-wanted-test.true) tasks from);
 }
 

@@ -1,4 +1,4 @@
-use Rattle.std.proofs.Common.{◌≡◌, ◌<◌, ◌≤◌, ℕ, true, List, length, map, Option, Some, None, sym, ap, ◌∙◌, arith}
+use Rattle.std.proofs.Common.{◌≡◌, ℕ, true, List, map, Option, Some, sym, ap, ◌∙◌, arith}
 use Rattle.std.specs.Prelude.{slice_get}
 use Rattle.std.proofs.lemmas.Bool.{ltb-true}
 use Rattle.heap_words.specs.Words.{view}
@@ -11,7 +11,7 @@ use Rattle.shen_core.specs.declared.plain.Plain.{Plain}
 use Rattle.shen_core.specs.State.{has_turn, order_at}
 use Rattle.shen_core.specs.Noting.{entries_in}
 use Rattle.shen_core.proofs.Memory.{from_read, shown_here, heap_here, machine_here}
-use Rattle.shen_core.proofs.Settles.{sees_reply, sees_nothing, sees_refusal, waiting, IsWaiting, settling_role}
+use Rattle.shen_core.proofs.Settles.{sees_reply, sees_nothing, sees_refusal, waiting, IsWaiting}
 use Rattle.shen_core.proofs.plain.Plain.settles.Goals as goal
 
 -- the machine takes its order

@@ -17,7 +17,13 @@ returns-in-Idle-clause-driven g c =
     (c.drive_round-said.ensures.driving c.args.drivers.now c.loop.invariant.driving) (c.drive_round-said.ensures.idle c.in-Idle.is)
 
 pub loop-preserved : goal.loop-preserved
-loop-preserved g c = record {
-  driving = c.drive_round-said.ensures.driving c.args.drivers.now c.loop.invariant.driving;
-  same = same_bundle_more c.args.self.now c.loop.self c.drive_round-said.new.self c.loop.invariant.same c.drive_round-said.ensures.same;
-}
+loop-preserved g c =
+    let mid = c.drive_round-said.new in
+    let driving = c.drive_round-said.ensures.driving c.args.drivers.now c.loop.invariant.driving in
+    record {
+      driving = c.drive_through_image.ensures.driving c.args.drivers.now driving;
+      same = same_bundle_more c.args.self.now mid.self c.drive_through_image.new.self (same_bundle_more c.args.self.now c.loop.self mid.self c.loop.invariant.same c.drive_round-said.ensures.same) c.drive_through_image.ensures.same;
+    }
+
+pub drive_through_image-requires-clause-driving : goal.drive_through_image-requires-clause-driving
+drive_through_image-requires-clause-driving g c κs within = (c.args.drivers.now, c.drive_round-said.ensures.driving c.args.drivers.now c.loop.invariant.driving)

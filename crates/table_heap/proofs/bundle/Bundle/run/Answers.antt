@@ -27,10 +27,13 @@ returns-in-Idle-clause-jobs g c =
 pub loop-preserved : goal.loop-preserved
 loop-preserved g c =
     let l = c.loop in
+    let mid = c.round-said.new in
+    let same = same_bundle_more c.args.self.now l.self mid.self l.invariant.same c.round-said.ensures.same in
+    let jobs = same_jobs_more c.args.self.now l.self c.args.work.now l.work mid.work l.invariant.same l.invariant.jobs c.round-said.ensures.jobs in
     record {
-      work = c.round-said.ensures.work;
-      same = same_bundle_more c.args.self.now l.self c.round-said.new.self l.invariant.same c.round-said.ensures.same;
-      jobs = same_jobs_more c.args.self.now l.self c.args.work.now l.work c.round-said.new.work l.invariant.same l.invariant.jobs c.round-said.ensures.jobs;
+      work = c.go_through_image.ensures.work;
+      same = same_bundle_more c.args.self.now mid.self c.go_through_image.new.self same c.go_through_image.ensures.same;
+      jobs = same_jobs_more c.args.self.now mid.self c.args.work.now mid.work c.go_through_image.new.work same jobs c.go_through_image.ensures.jobs;
     }
 
 pub round-said-requires-clause-work : goal.round-said-requires-clause-work

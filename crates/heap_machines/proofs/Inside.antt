@@ -1,0 +1,36 @@
+-- The control that goes from a word of the image to the next one.
+use Rattle.std.proofs.Common.{◌≡◌, ◌≢◌, ◌+◌, ℕ, true, List, Option, Some, refl, arith}
+use Rattle.std.proofs.lemmas.Bool.{false≢true}
+use Rattle.heap_words.specs.declared.config.Config.{Config}
+use Rattle.heap_words.specs.declared.access.Took.TheVariants.{More}
+use Rattle.heap_words.specs.Access.{table_index}
+use Rattle.heap_words.specs.Words.{Pause, word_at, image_start}
+use Rattle.shen_graph.specs.declared.command.Command.{Command}
+use Rattle.shen_graph.specs.declared.order.Order.TheVariants.{Nothing}
+use Rattle.control_rows.specs.declared.spot.ControlSpot.{ControlSpot}
+use Rattle.control_rows.specs.declared.spot.ControlSpot.TheVariants.{LoadWord, StoreWord}
+use Rattle.control.specs.Image as controls
+use Rattle.step_core.specs.Actor.{Machine, controlling, mutating, helping}
+use Rattle.step_core.specs.Machines.{order_for, takes_of, plan_of, answer_of}
+use Rattle.heap_machines.specs.Inside.{is_inside_image}
+
+-- it has a turn, under no order, says that there is more to do, and makes its access beside the pause word
+pub record GoesInside (c : Config) (machine : Machine) : Type 0 where
+  pub takes : takes_of machine Nothing ≡ true
+  pub goes_on : (next : Option Command) → order_for next machine ≡ Some Nothing
+  pub says : (got : ℕ) → answer_of c machine got ≡ Some More
+  pub beside : word_at c Pause ≢ table_index (plan_of c Nothing machine)
+
+-- a word of the image is not the pause word
+apart : (c : Config) (index : ℕ) → 0 ≢ image_start c + index
+apart c index is = omega arith
+
+control_goes : (c : Config) (seen phase cset : ℕ) (image : List ℕ) (spot : ControlSpot) → controls.is_inside_image c spot ≡ true → GoesInside c (controlling (record { spot = spot; seen = seen; phase = phase; cset = cset; image = image }))
+control_goes c seen phase cset image (LoadWord index) inside = record { takes = refl; goes_on = λ next. refl; says = λ got. refl; beside = apart c index }
+control_goes c seen phase cset image (StoreWord index) inside = record { takes = refl; goes_on = λ next. refl; says = λ got. refl; beside = apart c index }
+control_goes c seen phase cset image _ inside = absurd (false≢true inside)
+
+pub goes_inside : (c : Config) (machine : Machine) → is_inside_image c machine ≡ true → GoesInside c machine
+goes_inside c (mutating m) inside = absurd (false≢true inside)
+goes_inside c (helping h) inside = absurd (false≢true inside)
+goes_inside c (controlling k) inside = control_goes c k.seen k.phase k.cset k.image k.spot inside

@@ -1,0 +1,107 @@
+-- The turn of the control that goes from a word of the image to the next one.
+use Rattle.std.proofs.Common.{◌≡◌, ◌<◌, ℕ, true, length, get_or, Some, sym, ap, ◌∙◌, arith}
+use Rattle.std.specs.Prelude.{slice_set, slice_index}
+use Rattle.std.proofs.lemmas.List.{set-get_or, get_or-set_other}
+use Rattle.heap_words.specs.Access.{table_index}
+use Rattle.heap_words.specs.Words.{Pause, word_at}
+use Rattle.steps_base.specs.Steps.{Stage, accessed}
+use Rattle.shen_graph.specs.declared.order.Order.TheVariants.{Nothing}
+use Rattle.heap_machines.specs.Answer.{stepped_by}
+use Rattle.heap_machines.specs.Inside.{is_inside_image}
+use Rattle.heap_machines.specs.Shown.{no_machine}
+use Rattle.heap_machines.specs.declared.stepped.Stepped.TheVariants as stepped
+use Rattle.heap_machines.proofs.Inside.{GoesInside, goes_inside}
+use Rattle.step_core.specs.Actor.{Actor}
+use Rattle.step_core.specs.History.{told}
+use Rattle.step_core.specs.Machines.{takes_of, plan_of, answer_of}
+use Rattle.shen_core.specs.declared.plain.Plain.{Plain}
+use Rattle.shen_core.specs.Runs.{event}
+use Rattle.shen_core.specs.State.{config_of, words_of, machines_of, orders_of, notes_of, machine_at, order_at, next_machine, word_found_by, Shows, IsStep}
+use Rattle.shen_core.specs.Progress.{Jobs, CanRun, HasTurned, next_for}
+use Rattle.shen_core.specs.Noting.{NotesTurn, IsEnding, noted}
+use Rattle.shen_core.proofs.Noted.{IsStepped, can_run_on, turned_on, none_given}
+use Rattle.shen_core.proofs.Noting.{turn_notes, turn_kept}
+use Rattle.shen_core.proofs.Turns.{role_within, is_turn}
+
+-- what its step settles was noted, and then the step made
+pub record StepsInside (p mid q : Plain) (number : ℕ) : Type 0 where
+  pub mid_words : words_of mid ≡ words_of p
+  pub mid_machines : machines_of mid ≡ machines_of p
+  pub mid_orders : orders_of mid ≡ orders_of p
+  pub mid_config : config_of mid ≡ config_of p
+  pub mid_notes : (s : Stage Actor) → Shows p s → IsEnding (config_of p) s → notes_of mid ≡ noted (notes_of p) (told (config_of p) s (event number (order_at p number)))
+  pub event : IsStep mid q number
+  pub words : words_of q ≡ accessed (plan_of (config_of mid) (order_at mid number) (machine_at mid number)) (words_of mid)
+  pub machines : machines_of q ≡ slice_set (machines_of mid) number (next_machine mid number)
+  pub orders : orders_of q ≡ slice_set (orders_of mid) number Nothing
+  pub config : config_of q ≡ config_of mid
+  pub notes : notes_of q ≡ notes_of mid
+
+module _ (p mid q : Plain) (number : ℕ) (within : number < length (machines_of p)) (none : order_at p number ≡ Nothing) (inside : is_inside_image (config_of p) (machine_at p number) ≡ true)
+    (facts : StepsInside p mid q number) where
+  goes : GoesInside (config_of p) (machine_at p number)
+  goes = goes_inside (config_of p) (machine_at p number) inside
+
+  -- in between it has no order, and is the same
+  order_mid : order_at mid number ≡ Nothing
+  order_mid = ap (λ os. get_or os number Nothing) facts.mid_orders ∙ none
+
+  machine_mid : machine_at mid number ≡ machine_at p number
+  machine_mid = ap (λ ms. get_or ms number no_machine) facts.mid_machines
+
+  -- its turn is one event
+  stepped_inside : (jobs : Jobs) → IsStepped p mid q jobs number stepped.More
+  stepped_inside jobs =
+      let role = role_within p number within in
+      let got = word_found_by mid number in
+      let next = goes.goes_on (next_for (config_of p) jobs number) ∙ ap Some (sym order_mid) in
+      record {
+        within = within;
+        mid_words = facts.mid_words;
+        mid_machines = facts.mid_machines;
+        mid_config = facts.mid_config;
+        mid_orders = facts.mid_orders ∙ sym (ap (slice_set (orders_of p) number) (order_mid ∙ sym none) ∙ set-get_or (orders_of p) number Nothing);
+        role = role;
+        turn = is_turn p jobs number true (order_at mid number) within role next;
+        next = next;
+        has = ap (λ m. takes_of m (order_at mid number)) machine_mid ∙ ap (takes_of (machine_at p number)) order_mid ∙ goes.takes;
+        event = facts.event;
+        says = sym (ap (λ c. stepped_by (answer_of c (machine_at mid number) got)) facts.mid_config ∙ ap (λ m. stepped_by (answer_of (config_of p) m got)) machine_mid ∙ ap stepped_by (goes.says got));
+        machines = facts.machines;
+        orders = facts.orders;
+        config = facts.config;
+      }
+
+  -- the heap has made its turn
+  pub inside_turned : (jobs : Jobs) → HasTurned p jobs number q jobs stepped.More
+  inside_turned jobs = turned_on p mid q jobs number stepped.More (stepped_inside jobs) (none_given p mid q jobs number stepped.More (stepped_inside jobs) (λ done. absurd cc))
+
+  -- and can go on
+  pub inside_runs : (jobs : Jobs) → CanRun p jobs → CanRun q jobs
+  inside_runs jobs before = can_run_on p mid q jobs number stepped.More (stepped_inside jobs) (none_given p mid q jobs number stepped.More (stepped_inside jobs) (λ done. absurd cc)) before
+
+  -- what it settles was noted
+  pub inside_notes : (jobs : Jobs) → NotesTurn p jobs number q
+  inside_notes jobs =
+      turn_kept p mid q jobs number
+      (turn_notes p mid jobs number (order_at p number) (is_turn p jobs number true (order_at p number) within (role_within p number within) (goes.goes_on (next_for (config_of p) jobs number) ∙ ap Some (sym none))) facts.mid_notes)
+      facts.notes
+
+  -- the pause word stays
+  pub inside_pause : slice_index (words_of q) (word_at (config_of q) Pause) ≡ slice_index (words_of p) (word_at (config_of p) Pause)
+  inside_pause =
+      let at = table_index (plan_of (config_of mid) (order_at mid number) (machine_at mid number)) in
+      let is : at ≡ table_index (plan_of (config_of p) Nothing (machine_at p number)) =
+      ap (λ c. table_index (plan_of c (order_at mid number) (machine_at mid number))) facts.mid_config
+      ∙ ap (λ o. table_index (plan_of (config_of p) o (machine_at mid number))) order_mid
+      ∙ ap (λ m. table_index (plan_of (config_of p) Nothing m)) machine_mid in
+      ap (λ ws. get_or ws 0 0) facts.words
+      ∙ get_or-set_other (words_of mid) at 0 _ 0 (λ same. goes.beside (same ∙ is))
+      ∙ ap (λ ws. get_or ws 0 0) facts.mid_words
+
+  -- and so do all other machines
+  pub inside_others : (k : ℕ) → k < number → machine_at q k ≡ machine_at p k
+  inside_others k below =
+      ap (λ ms. get_or ms k no_machine) facts.machines
+      ∙ get_or-set_other (machines_of mid) number k (next_machine mid number) no_machine (λ same. absurd (omega arith))
+      ∙ ap (λ ms. get_or ms k no_machine) facts.mid_machines

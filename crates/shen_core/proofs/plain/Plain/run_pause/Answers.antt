@@ -1,0 +1,34 @@
+use Rattle.std.proofs.Common.{◌≡◌, ◌-◌, ◌+◌, ◌<◌, [], refl, ap, ◌∙◌, arith}
+use Rattle.heap_words.specs.Ranges.{seat_count}
+use Rattle.shen_core.specs.State.{seats_of}
+use Rattle.shen_core.specs.Progress.{agenda}
+use Rattle.shen_core.proofs.Noting.{runs_none, runs_then}
+use Rattle.shen_core.proofs.PauseRounds.{pause_round}
+use Rattle.shen_core.proofs.plain.Plain.run_pause.Goals as goal
+
+pub returns-then-not-is_inside_image-clause-rounds : goal.returns-then-not-is_inside_image-clause-rounds
+returns-then-not-is_inside_image-clause-rounds c = runs_none _ _ _ _
+
+pub returns-in_default-clause-rounds : goal.returns-in_default-clause-rounds
+returns-in_default-clause-rounds c = runs_none _ _ _ _
+
+pub loop-left-init : goal.loop-left-init
+loop-left-init c = record { run = c.requires; config = refl; less = omega arith; halted = c.in-Some.ensures; runs = runs_none _ _ _ _ }
+
+pub loop-left-preserved : goal.loop-left-preserved
+loop-left-preserved c =
+    let p = c.loop-left.self in
+    let q = c.turn_inside_image.new.self in
+    let jobs = c.args.work.now in
+    let control = c.seats-control.result - 1 in
+    let same : seats_of p ≡ seats_of c.args.self.now = ap (λ k. seat_count k.mutators k.helpers) c.loop-left.invariant.config in
+    let last : control + 1 ≡ seats_of p = omega (arith, c.seats-control.ensures, same) in
+    let enough : c.in-Some.waiting < c.loop-left.left = c.loop-left-test.true in
+    record {
+      run = c.turn_inside_image.ensures.run;
+      config = c.turn_inside_image.ensures.config ∙ c.loop-left.invariant.config;
+      less = (let l = c.loop-left.invariant.less in omega arith);
+      halted = c.turn_inside_image.ensures.halted c.in-Some.waiting c.loop-left.invariant.halted;
+      runs = runs_then c.args.self.now p q jobs jobs jobs (agenda [] 0) (agenda [] 0) (agenda [] 0) c.args.limit c.loop-left.left (c.loop-left.left - (c.in-Some.waiting + 1)) c.loop-left.invariant.config c.loop-left.invariant.runs
+          (pause_round p jobs c.loop-left.invariant.run q control c.in-Some.waiting c.loop-left.left last enough c.loop-left.invariant.halted c.turn_inside_image.ensures.config c.turn_inside_image.ensures.notes c.turn_inside_image.ensures.turned);
+    }

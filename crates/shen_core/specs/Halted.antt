@@ -1,0 +1,15 @@
+-- Rounds of a pause in which nobody moves but the control.
+use Rattle.std.specs.Prelude.{ℕ, zero, suc, ◌≡◌, ◌<◌, ◌-◌, false, ◌⊎◌, Option, is_some}
+use Rattle.shen_graph.specs.declared.command.Command.{Command}
+use Rattle.step_core.specs.Machines.{order_for}
+use Rattle.shen_core.specs.declared.plain.Plain.{Plain}
+use Rattle.shen_core.specs.State.{machine_at, IsHalted}
+
+-- the machine makes no step on its turn, whatever command would follow
+abbrev pub IsAtEnd : Plain → ℕ → Type 0
+IsAtEnd p number = (next : Option Command) → is_some (order_for next (machine_at p number)) ≡ false
+
+-- of the machines below a number so many wait for the end of a pause that goes on, and all others make no step
+abbrev pub AreHalted : Plain → ℕ → ℕ → Type 0
+AreHalted p zero waiting = waiting ≡ 0
+AreHalted p (suc k) waiting = ((0 < waiting) × IsHalted p k × AreHalted p k (waiting - 1)) ⊎ (IsAtEnd p k × AreHalted p k waiting)
