@@ -71,7 +71,8 @@ impl Seat {
 
     /// The machine's number, counted from 0.
     pub fn number(&self) -> usize
-        ensures { result ≡ number_of self.now }
+        ensures number { result ≡ number_of self.now }
+        ensures inside { result < seat_count (config_of self.now).mutators (config_of self.now).helpers }
     {
         self.number
     }
