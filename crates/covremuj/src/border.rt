@@ -1,4 +1,8 @@
 // What C passes and is told, beside the handles, and the numbers that answer.
+ghost use Rattle.std.specs.Prelude.{◌≡◌};
+ghost use Rattle.std.specs.Result.{result_err};
+ghost use Rattle.covremuj.specs.Numbers as numbers;
+ghost use Rattle.covremuj.specs.Answers as answers;
 
 use heap_seats::{Progress, Refused, Seat, State};
 use heap_words::BadConfig;
@@ -105,7 +109,9 @@ pub(crate) const NO_MEMORY: u32 = 55;
 pub(crate) const NOT_ALL: u32 = 56;
 
 // The number of a configuration's fault.
-pub(crate) fn of_fault(fault: BadConfig) -> u32 {
+pub(crate) fn of_fault(fault: BadConfig) -> u32
+    ensures { result ≡ numbers.number_of_fault fault }
+{
     match fault {
         BadConfig::Regions => BAD_REGIONS,
         BadConfig::RegionWords => BAD_REGION_WORDS,
@@ -116,7 +122,9 @@ pub(crate) fn of_fault(fault: BadConfig) -> u32 {
 }
 
 // The number of an order that was taken, or refused.
-pub(crate) fn of_order(answer: Result<(), Refused>) -> u32 {
+pub(crate) fn of_order(answer: Result<(), Refused>) -> u32
+    ensures { result ≡ numbers.number_of_order (result_err answer) }
+{
     match answer {
         Ok(()) => DONE,
         Err(refused) => of_refused(refused),
@@ -124,7 +132,9 @@ pub(crate) fn of_order(answer: Result<(), Refused>) -> u32 {
 }
 
 // The number of a refusal.
-pub(crate) fn of_refused(refused: Refused) -> u32 {
+pub(crate) fn of_refused(refused: Refused) -> u32
+    ensures { result ≡ numbers.number_of_refused refused }
+{
     match refused {
         Refused::Ended => ENDED,
         Refused::Busy => BUSY,
@@ -134,7 +144,9 @@ pub(crate) fn of_refused(refused: Refused) -> u32 {
 }
 
 // The number of a progress.
-pub(crate) fn of_progress(progress: Progress) -> u32 {
+pub(crate) fn of_progress(progress: Progress) -> u32
+    ensures { result ≡ numbers.number_of_progress progress }
+{
     match progress {
         Progress::More => MORE,
         Progress::Again => AGAIN,
@@ -145,7 +157,9 @@ pub(crate) fn of_progress(progress: Progress) -> u32 {
 }
 
 // The number of a reply.
-pub(crate) fn of_reply(reply: Reply) -> u32 {
+pub(crate) fn of_reply(reply: Reply) -> u32
+    ensures { result ≡ numbers.number_of_reply reply }
+{
     match reply {
         Reply::Ref(_) => REF,
         Reply::Null => NULL,
@@ -158,8 +172,20 @@ pub(crate) fn of_reply(reply: Reply) -> u32 {
     }
 }
 
+// It is written with a reply, and only then.
+pub(crate) fn value_after(progress: Progress, before: Value) -> Value
+    ensures { result ≡ answers.value_after progress before }
+{
+    match progress {
+        Progress::Replied(reply) => value_of(reply),
+        _ => before,
+    }
+}
+
 // What belongs to a reply.
-pub(crate) fn value_of(reply: Reply) -> Value {
+fn value_of(reply: Reply) -> Value
+    ensures { result ≡ answers.value_of reply }
+{
     match reply {
         Reply::Ref(Name { thread, count }) => Value {
             number: 0,
@@ -180,7 +206,9 @@ pub(crate) fn value_of(reply: Reply) -> Value {
 }
 
 // The command of a number and its arguments, if there is one.
-pub(crate) fn command_of(op: u32, a: u32, b: u32, c: u32, d: u32, value: u64) -> Option<Command> {
+pub(crate) fn command_of(op: u32, a: u32, b: u32, c: u32, d: u32, value: u64) -> Option<Command>
+    ensures { result ≡ numbers.command_numbered op a b c d value }
+{
     match op {
         0 => Some(Command::New {
             dst: a,
@@ -224,7 +252,9 @@ pub(crate) fn command_of(op: u32, a: u32, b: u32, c: u32, d: u32, value: u64) ->
 }
 
 // What is told of a seat.
-pub(crate) fn told_of(seat: &Seat) -> Told {
+pub(crate) fn told_of(seat: &Seat) -> Told
+    ensures { result ≡ answers.told_of seat.now }
+{
     let made = seat.made();
     Told {
         number: seat.number() as u64 + 1,
@@ -240,7 +270,9 @@ pub(crate) fn told_of(seat: &Seat) -> Told {
 }
 
 // 1 a mutator, 2 a helper, 3 the control.
-fn kind_of(seat: &Seat) -> u64 {
+fn kind_of(seat: &Seat) -> u64
+    ensures { result ≡ answers.kind_of seat.now }
+{
     let config = seat.config();
     if seat.is_mutator() {
         1
@@ -252,7 +284,9 @@ fn kind_of(seat: &Seat) -> u64 {
 }
 
 // 0 free, 1 at work, 2 ended.
-fn state_number(state: State) -> u64 {
+fn state_number(state: State) -> u64
+    ensures { result ≡ answers.state_number state }
+{
     match state {
         State::Free => 0,
         State::AtWork => 1,

@@ -1,9 +1,14 @@
+ghost use Rattle.std.specs.Prelude.{◌≡◌, true, Some};
+ghost use Rattle.covremuj.specs.Numbers.{command_numbered};
+ghost use Rattle.covremuj.specs.Border.{Begins, BeginsBy, Ends, EndsBy, GoesOn, GoesBy};
+ghost use Rattle.heap_seats.specs.Seats.{is_mutator};
+
 use crate::border::{
-    DONE, NO_COMMAND, NOT_OPEN, Value, WRONG_SEAT, command_of, of_order, of_progress, of_refused,
-    value_of,
+    NO_COMMAND, NOT_OPEN, Value, WRONG_SEAT, command_of, of_order, of_progress, of_refused,
+    value_after,
 };
 use crate::handle::Handle;
-use heap_seats::{Progress, Seat};
+use heap_seats::Seat;
 use shen_graph::Command;
 use std::alloc::Global;
 
@@ -18,7 +23,9 @@ pub extern "C" fn cvm_begin(
     c: u32,
     d: u32,
     value: u64,
-) -> u32 {
+) -> u32
+    ensures { Begins handle.old.held handle.new.held (command_numbered op a b c d value) result }
+{
     let Some(mut seat) = handle.take(alloc) else {
         return NOT_OPEN;
     };
@@ -27,7 +34,9 @@ pub extern "C" fn cvm_begin(
     said
 }
 
-fn begin(seat: &mut Seat, command: Option<Command>) -> u32 {
+fn begin(seat: &mut Seat, command: Option<Command>) -> u32
+    ensures { BeginsBy (is_mutator seat.old) seat.old (Some seat.new) command result }
+{
     if !seat.is_mutator() {
         return WRONG_SEAT;
     }
@@ -40,7 +49,9 @@ fn begin(seat: &mut Seat, command: Option<Command>) -> u32 {
 
 /// Makes so many steps of a mutator at most, until one ends its call, or one waits.
 #[unsafe(no_mangle)]
-pub extern "C" fn cvm_go(alloc: Global, handle: &mut Handle, steps: u32, value: &mut Value) -> u32 {
+pub extern "C" fn cvm_go(alloc: Global, handle: &mut Handle, steps: u32, value: &mut Value) -> u32
+    ensures { GoesOn handle.old.held handle.new.held steps result value.old value.new }
+{
     let Some(mut seat) = handle.take(alloc) else {
         return NOT_OPEN;
     };
@@ -49,20 +60,22 @@ pub extern "C" fn cvm_go(alloc: Global, handle: &mut Handle, steps: u32, value: 
     said
 }
 
-fn go(seat: &mut Seat, steps: u32, value: &mut Value) -> u32 {
+fn go(seat: &mut Seat, steps: u32, value: &mut Value) -> u32
+    ensures { GoesBy (is_mutator seat.old) seat.old (Some seat.new) steps result value.old value.new }
+{
     if !seat.is_mutator() {
         return WRONG_SEAT;
     }
     let progress = seat.go(steps);
-    if let Progress::Replied(reply) = progress {
-        *value = value_of(reply);
-    }
+    *value = value_after(progress, *value);
     of_progress(progress)
 }
 
 /// Orders the end of a mutator. Its next step is its last one.
 #[unsafe(no_mangle)]
-pub extern "C" fn cvm_end(alloc: Global, handle: &mut Handle) -> u32 {
+pub extern "C" fn cvm_end(alloc: Global, handle: &mut Handle) -> u32
+    ensures { Ends handle.old.held handle.new.held result }
+{
     let Some(mut seat) = handle.take(alloc) else {
         return NOT_OPEN;
     };
@@ -71,7 +84,9 @@ pub extern "C" fn cvm_end(alloc: Global, handle: &mut Handle) -> u32 {
     said
 }
 
-fn end(seat: &mut Seat) -> u32 {
+fn end(seat: &mut Seat) -> u32
+    ensures { EndsBy (is_mutator seat.old) seat.old (Some seat.new) result }
+{
     if !seat.is_mutator() {
         return WRONG_SEAT;
     }
