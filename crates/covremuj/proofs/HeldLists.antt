@@ -81,3 +81,16 @@ boxed_more c before after s boxes b split is fresh =
     (ap (λ (xs : List Seat). xs ++ reverse (seats_of boxes)) split ∙ append_assoc after (s ∷ []) (reverse (seats_of boxes))
     ∙ ap (λ (x : Seat). after ++ x ∷ reverse (seats_of boxes)) (sym is) ∙ ap (λ (xs : List Seat). after ++ xs) (sym (last_first boxes b)))
     fresh
+
+-- one handle more is emptied
+none_behind : (os : List (Option Seat)) → any_held os ≡ false → any_held (os ++ None ∷ []) ≡ false
+none_behind [] none = refl
+none_behind (None ∷ os) none = none_behind os none
+none_behind (Some s ∷ os) none = absurd cc
+
+pub emptied_more : (hs : List Handle) (at : ℕ) (new : Handle) → at < length hs → new.held ≡ None → any_held (take at (held_in hs)) ≡ false → any_held (take (at + 1) (held_in (slice_set hs at new))) ≡ false
+emptied_more hs at new below holds none =
+    let next : at + 1 ≡ suc at = omega arith in
+    ap (λ n. any_held (take n (held_in (slice_set hs at new)))) next
+    ∙ ap any_held (filled_there hs at new below ∙ ap (λ (o : Option Seat). take at (held_in hs) ++ o ∷ []) holds)
+    ∙ none_behind (take at (held_in hs)) none

@@ -3,6 +3,7 @@
 #![tactic(auto)]
 
 mod border;
+mod closing;
 mod handle;
 mod loose;
 mod mutators;

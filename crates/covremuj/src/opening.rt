@@ -5,7 +5,7 @@ ghost use Rattle.covremuj.specs.Opening.{held_in, any_held, HoldFreshSeats, HasS
 ghost use Rattle.heap_words.specs.declared.config.Config.{Config as Configs};
 ghost use mathlib.Core.List.{reverse};
 
-use crate::border::{ALREADY_OPEN, BAD_SEATS, Configuration, DONE, NO_MEMORY, NOT_OPEN, of_fault};
+use crate::border::{ALREADY_OPEN, BAD_SEATS, Configuration, DONE, NO_MEMORY, of_fault};
 use crate::handle::Handle;
 use heap_seats::{Seat, open_seats};
 use heap_words::{Config, NoMemory};
@@ -92,17 +92,4 @@ fn fill_all(handles: &mut [Handle], mut seats: Vec<Box<Seat>>)
         };
         handles[at].fill(seat);
     }
-}
-
-/// Gives a seat up. The handle is empty afterwards.
-#[unsafe(no_mangle)]
-pub extern "C" fn cvm_close(alloc: Global, handle: &mut Handle) -> u32
-    ensures empty { handle.new.held ≡ None }
-    ensures answer { MatchOption handle.old.held (result ≡ 32) (λ _. result ≡ 0) }
-{
-    let Some(seat) = handle.take(alloc) else {
-        return NOT_OPEN;
-    };
-    drop(seat);
-    DONE
 }

@@ -5,7 +5,9 @@
 mod opening;
 mod progress;
 mod seat;
+mod share;
 
 pub use opening::open_seats;
 pub use progress::{Progress, Refused, State};
 pub use seat::Seat;
+pub use share::Share;
