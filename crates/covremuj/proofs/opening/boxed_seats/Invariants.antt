@@ -1,0 +1,11 @@
+use Rattle.std.proofs.Common.{◌≡◌, ◌++◌, map, vec_len}
+use mathlib.Core.List.{reverse}
+use Rattle.heap_seats.specs.Opening.{AreFreshSeats}
+use Rattle.covremuj.proofs.opening.boxed_seats.Given as goal
+
+-- those that are left come before those in boxes, the last one first
+abbrev pub invariant-loop-seat : goal.invariant-loop-seat
+invariant-loop-seat l = AreFreshSeats l.fn.config (l.seats.items ++ reverse (map (λ b. b.value) l.boxes.items))
+
+abbrev pub decreases-loop-seat : goal.decreases-loop-seat
+decreases-loop-seat l = vec_len l.seats

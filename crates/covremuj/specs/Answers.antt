@@ -1,0 +1,39 @@
+-- What belongs to a reply, and what is told of a seat.
+use Rattle.std.specs.Prelude.{ℕ, ◌+◌, ◌-◌, Bool, nat_lt, if◌then◌else◌}
+use Rattle.shen_graph.specs.declared.command.Reply.{Reply}
+use Rattle.shen_graph.specs.declared.command.Reply.TheVariants as reply
+use Rattle.heap_seats.specs.declared.progress.Progress.{Progress}
+use Rattle.heap_seats.specs.declared.progress.Progress.TheVariants as progress
+use Rattle.heap_seats.specs.declared.progress.State.{State}
+use Rattle.heap_seats.specs.declared.progress.State.TheVariants.{Free, AtWork, Ended}
+use Rattle.heap_seats.specs.declared.seat.Seat.{Seat}
+use Rattle.heap_seats.specs.Seats.{config_of, number_of, made_by, is_mutator, state_in}
+use Rattle.covremuj.specs.declared.border.Value.{Value}
+use Rattle.covremuj.specs.declared.border.Told.{Told}
+
+abbrev pub value_of : Reply → Value
+value_of (reply.Ref name) = record { number = 0; thread = name.thread; count = name.count }
+value_of (reply.Number value) = record { number = value; thread = 0; count = 0 }
+value_of _ = record { number = 0; thread = 0; count = 0 }
+
+-- it is written with a reply, and only then
+abbrev pub value_after : Progress → Value → Value
+value_after (progress.Replied reply) before = value_of reply
+value_after _ before = before
+
+abbrev pub kind_of : Seat → ℕ
+kind_of s = if is_mutator s then 1 else (if nat_lt (number_of s) ((config_of s).mutators + (config_of s).helpers) then 2 else 3)
+
+abbrev pub state_number : State → ℕ
+state_number Free = 0
+state_number AtWork = 1
+state_number Ended = 2
+
+abbrev pub told_of : Seat → Told
+told_of s = record {
+  number = number_of s + 1;
+  kind = kind_of s;
+  state = state_number (state_in s);
+  made = made_by s;
+  left = if is_mutator s then 4294967295 - made_by s else 0;
+}

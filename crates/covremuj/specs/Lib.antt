@@ -1,0 +1,5 @@
+pub mod Held
+pub mod Numbers
+pub mod Answers
+pub mod Border
+pub mod Opening

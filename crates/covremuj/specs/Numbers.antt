@@ -1,0 +1,63 @@
+-- The numbers by which C is answered, and the commands by theirs.
+use Rattle.std.specs.Prelude.{ℕ, ◌==◌, Option, Some, None, if◌then◌else◌}
+use Rattle.heap_words.specs.declared.config.BadConfig.{BadConfig}
+use Rattle.heap_words.specs.declared.config.BadConfig.TheVariants.{Regions, RegionWords, Mutators, Helpers, Reserve}
+use Rattle.shen_graph.specs.declared.command.Command.{Command}
+use Rattle.shen_graph.specs.declared.command.Command.TheVariants as command
+use Rattle.shen_graph.specs.declared.command.Reply.{Reply}
+use Rattle.shen_graph.specs.declared.command.Reply.TheVariants as reply
+use Rattle.heap_seats.specs.declared.progress.Progress.{Progress}
+use Rattle.heap_seats.specs.declared.progress.Progress.TheVariants as progress
+use Rattle.heap_seats.specs.declared.progress.Refused.{Refused}
+use Rattle.heap_seats.specs.declared.progress.Refused.TheVariants as refused
+
+abbrev pub number_of_reply : Reply → ℕ
+number_of_reply (reply.Ref name) = 8
+number_of_reply reply.Null = 9
+number_of_reply reply.Ok = 10
+number_of_reply reply.Yes = 11
+number_of_reply reply.No = 12
+number_of_reply (reply.Number value) = 13
+number_of_reply reply.Bad = 14
+number_of_reply reply.Full = 15
+
+abbrev pub number_of_progress : Progress → ℕ
+number_of_progress progress.More = 1
+number_of_progress progress.Again = 2
+number_of_progress progress.Idle = 3
+number_of_progress progress.Ended = 4
+number_of_progress (progress.Replied reply) = number_of_reply reply
+
+abbrev pub number_of_refused : Refused → ℕ
+number_of_refused refused.Ended = 4
+number_of_refused refused.Busy = 34
+number_of_refused refused.Spent = 35
+number_of_refused refused.OutOfRange = 37
+
+-- an order that was taken, or why it was not
+abbrev pub number_of_order : Option Refused → ℕ
+number_of_order None = 0
+number_of_order (Some why) = number_of_refused why
+
+abbrev pub number_of_fault : BadConfig → ℕ
+number_of_fault Regions = 48
+number_of_fault RegionWords = 49
+number_of_fault Mutators = 50
+number_of_fault Helpers = 51
+number_of_fault Reserve = 52
+
+-- the command of a number, with its arguments
+abbrev pub command_numbered : (op a b c d value : ℕ) → Option Command
+command_numbered op a b c d value =
+    if op == 0 then Some (command.New a b c)
+    else if op == 1 then Some (command.Get a b c)
+    else if op == 2 then Some (command.Set a b c)
+    else if op == 3 then Some (command.Cas a b c d)
+    else if op == 4 then Some (command.Xchg a b c d)
+    else if op == 5 then Some (command.Rd a b)
+    else if op == 6 then Some (command.Wr a b value)
+    else if op == 7 then Some (command.Copy a b)
+    else if op == 8 then Some (command.Drop a)
+    else if op == 9 then Some (command.Same a b)
+    else if op == 10 then Some command.Gc
+    else None

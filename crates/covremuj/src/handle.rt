@@ -1,0 +1,98 @@
+ghost use Rattle.std.specs.Prelude.{◌≡◌, Option, Some, None, MatchOption};
+ghost use Rattle.std.specs.Option.{is_some};
+ghost use Rattle.heap_seats.specs.declared.seat.Seat.{Seat as Seats};
+ghost use Rattle.covremuj.specs.Held.{held_owns};
+
+use crate::loose::Loose;
+use heap_seats::Seat;
+use std::alloc::Global;
+use std::marker::Model;
+use std::ptr::null_mut;
+
+/// What C has of a seat: empty, or open. C keeps it in a place of its own, and passes its address.
+#[repr(C)]
+#[derive(Drop)]
+pub struct Handle {
+    at: *mut u8,
+    is_open: bool,
+    alloc: Global,
+    pub ghost held: { Option Seats },
+    ghost told: { is_open ≡ is_some held },
+}
+
+impl Model for Handle {
+    ghost also_owns = { λ h. held_owns h.at h.alloc h.held };
+}
+
+impl Handle {
+    // An empty one.
+    fn hollow(alloc: Global) -> Handle
+        ensures { result.held ≡ None }
+    {
+        Handle {
+            at: null_mut(),
+            is_open: false,
+            alloc,
+        }
+    }
+
+    // An open one.
+    fn of_loose(seat: Loose<Seat, Global>) -> Handle
+        ensures { result.held ≡ Some seat.value }
+    {
+        let Loose { at, alloc } = seat;
+        Handle {
+            at: at as *mut u8,
+            is_open: true,
+            alloc,
+        }
+    }
+
+    // What it holds.
+    fn into_loose(self) -> Option<Loose<Seat, Global>>
+        ensures { MatchOption result (self.held ≡ None) (λ loose. self.held ≡ Some loose.value) }
+    {
+        let Handle { at, is_open, alloc } = self;
+        if is_open {
+            Some(Loose {
+                at: at as *mut Seat,
+                alloc,
+            })
+        } else {
+            None
+        }
+    }
+
+    /// Puts a seat into its place.
+    pub fn fill(&mut self, seat: Box<Seat>)
+        ensures { self.new.held ≡ Some seat.value }
+    {
+        *self = Handle::of_loose(Loose::of(seat));
+    }
+
+    /// Takes its seat out, if it holds one. It is empty then.
+    pub fn take(&mut self, alloc: Global) -> Option<Box<Seat>>
+        ensures taken { MatchOption result (self.old.held ≡ None) (λ seat. self.old.held ≡ Some seat.value) }
+        ensures empty { self.new.held ≡ None }
+    {
+        let handle = std::mem::replace(self, Handle::hollow(alloc));
+        match handle.into_loose() {
+            Some(loose) => Some(loose.into_box()),
+            None => None,
+        }
+    }
+
+    /// Whether it is open.
+    pub fn is_open(&mut self, alloc: Global) -> bool
+        ensures open { result ≡ is_some self.old.held }
+        ensures held { self.new.held ≡ self.old.held }
+    {
+        match self.take(alloc) {
+            Some(seat) => {
+                self.fill(seat);
+                true
+            }
+            None => false,
+        }
+    }
+}

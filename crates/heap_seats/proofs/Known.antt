@@ -1,0 +1,66 @@
+-- What stays of a bundle of one seat: it is of its heap, it has its machine, and its machines stand as in some run.
+use Rattle.std.proofs.Common.{◌≡◌, ℕ, zero, suc, [], ◌∷◌, Bool, true, false, refl, sym, ap, ◌∙◌, subst}
+use Rattle.std.specs.Prelude.{Some, slice_set, unwrap_or}
+use Rattle.std.specs.Option.{is_some}
+use Rattle.shen_graph.specs.declared.order.Order.{Order}
+use Rattle.shen_graph.specs.declared.order.Order.TheVariants.{Nothing}
+use Rattle.heap_machines.specs.Shown.{shown, order_of, no_machine}
+use Rattle.step_core.specs.Machines.{takes_of}
+use Rattle.heap_words.specs.declared.config.Config.{Config}
+use Rattle.shared_table.specs.Views.{View, machine_of, kept_in_view}
+use Rattle.shared_table.specs.Counted.{uncounted_seat}
+use Rattle.shared_table.proofs.Kept.{kept_some}
+use Rattle.shared_table.proofs.Reached.{reached_step}
+use Rattle.heap_machines.specs.declared.stepped.Stepped.{Stepped}
+use Rattle.table_heap.specs.declared.heap.Heap.{Heap}
+use Rattle.table_heap.specs.declared.bundle.Bundle.{Bundle}
+use Rattle.table_heap.specs.Core.{heap_kind, heap_opening, machine_in}
+use Rattle.table_heap.specs.State.{heap_of, view_of, machines_of, orders_of, machine_at, order_at, has_turn, IsBundleOf, HasMachine, IsSameBundle, IsUnmoved, IsUnchanged, IsBundleStep}
+use Rattle.heap_seats.specs.Known.{HaveRun}
+
+pub stays_of : (h : Heap) (old new : Bundle) → IsSameBundle old new → IsBundleOf old h → IsBundleOf new h
+stays_of h old new same of = record { table = same.table ∙ of.table; config = same.config ∙ of.config }
+
+-- memory has the machines of the view
+pub has_seen : (b : Bundle) (number : ℕ) → is_some (machine_of (machines_of b) number) ≡ is_some (machine_of (view_of b) number)
+has_seen b number = ap (λ v. is_some (machine_of v number)) (sym b.kept) ∙ kept_some machine_in (view_of b) number
+
+pub stays_here : (old new : Bundle) (number : ℕ) → IsSameBundle old new → HasMachine old number → HasMachine new number
+stays_here old new number same here = has_seen new number ∙ same.numbers.here number ∙ sym (has_seen old number) ∙ here
+
+pub unmoved_run : (c : Config) (old new : Bundle) → IsUnmoved old new → HaveRun c old → HaveRun c new
+unmoved_run c old new unmoved run number a there = run number a (ap (λ v. machine_of v number) (sym unmoved.view) ∙ there)
+
+stepped_run : (c : Config) (old new : Bundle) (number : ℕ) (said : Stepped) → heap_of old ≡ c → IsBundleStep old new number said → HaveRun c old → HaveRun c new
+stepped_run c old new number said is step run =
+    let kept : HaveRun old.config old = subst (λ k. HaveRun k old) (sym is) run in
+    subst (λ k. HaveRun k new) is
+    (reached_step (heap_kind old.config) (heap_opening old.config) number (order_at old number) (uncounted_seat old.seat.me) (uncounted_seat new.seat.me) step.got step.took kept)
+
+-- so they do after what `Bundle::step` promises
+pub goes_run : (c : Config) (old new : Bundle) (number : ℕ) (said : Stepped) → heap_of old ≡ c → (has_turn old number ≡ false → IsUnchanged old new) → (has_turn old number ≡ true → IsBundleStep old new number said) → HaveRun c old → HaveRun c new
+goes_run c old new number said is none one run = by_turn (has_turn old number) none one
+  where
+    by_turn : (turn : Bool) → (turn ≡ false → IsUnchanged old new) → (turn ≡ true → IsBundleStep old new number said) → HaveRun c new
+    by_turn false none one = unmoved_run c old new (none refl).unmoved run
+    by_turn true none one = stepped_run c old new number said is (one refl) run
+
+-- what is put where there is a machine
+set_here : {T S U : Type 0} (f : T → S) (g : T → U) (items : View T) (number : ℕ) (x : U) → is_some (machine_of (kept_in_view f items) number) ≡ true → machine_of (slice_set (kept_in_view g items) number (Some x)) number ≡ Some x
+set_here f g [] number x here = absurd cc
+set_here f g (y ∷ ys) zero x here = refl
+set_here f g (y ∷ ys) (suc number) x here = set_here f g ys number x here
+
+same_machines : (old new : Bundle) → view_of new ≡ view_of old → machines_of new ≡ machines_of old
+same_machines old new view = sym new.kept ∙ ap (kept_in_view machine_in) view ∙ old.kept
+
+-- a machine that was given an order that it takes
+module _ (old new : Bundle) (number : ℕ) (order : Order) (unmoved : IsUnmoved old new) (orders : orders_of new ≡ slice_set (orders_of old) number (Some order)) (here : HasMachine old number) where
+  pub given_order : order_at new number ≡ order
+  given_order = ap (λ v. unwrap_or (machine_of v number) Nothing) orders ∙ ap (λ o. unwrap_or o Nothing) (set_here shown order_of old.machines.items number order here)
+
+  same_machine : machine_at new number ≡ machine_at old number
+  same_machine = ap (λ v. unwrap_or (machine_of v number) no_machine) (same_machines old new unmoved.view)
+
+  pub takes_turn : takes_of (machine_at old number) order ≡ true → has_turn new number ≡ true
+  takes_turn takes = ap (λ m. takes_of m (order_at new number)) same_machine ∙ ap (takes_of (machine_at old number)) given_order ∙ takes

@@ -1,0 +1,128 @@
+-- Seats of a heap before its first event.
+use Rattle.std.proofs.Common.{◌≡◌, ◌<◌, ℕ, zero, suc, ◌+◌, ◌-◌, Bool, true, List, [], ◌∷◌, ◌++◌, length, map, Option, Some, None, refl, sym, ap, ◌∙◌, subst, arith}
+use Rattle.std.specs.Prelude.{slice_get, unwrap_or, ◌%◌, if◌then◌else◌}
+use Rattle.std.specs.List.{range_with_len}
+use mathlib.Core.List.{reverse}
+use Rattle.std.specs.Option.{is_some}
+use Rattle.std.proofs.lemmas.Bool.Decides.{nat_tests}
+use Rattle.std.proofs.Math.Nat.{mod-eq_of_lt}
+use Rattle.std.proofs.lemmas.List.{get_or-reverse, length-reverse, length-map}
+use Rattle.std.proofs.lemmas.List.FromFn.{get_or-map-range_with_len, length-map-range_with_len}
+use Rattle.std.proofs.lemmas.Option.{slice_get_within, slice_get-get_or, get_or_from_slice_get}
+use Rattle.heap_words.specs.declared.config.Config.{Config}
+use Rattle.heap_words.specs.Ranges.{seat_count}
+use Rattle.shared_table.specs.Views.{View, machine_of, whole, dealt_to, is_dealt_to}
+use Rattle.shared_table.proofs.Reached.{reached_opens, reached_picked}
+use Rattle.shared_table.proofs.ViewsShow.{machine_of-whole, machine_of-picked}
+use Rattle.step_core.specs.Actor.{Actor}
+use Rattle.step_core.specs.Opening.{opening, opening_actor, opening_machine}
+use Rattle.shen_graph.specs.declared.order.Order.TheVariants.{Nothing}
+use Rattle.table_heap.specs.declared.heap.Heap.{Heap}
+use Rattle.table_heap.specs.declared.bundle.Bundle.{Bundle}
+use Rattle.table_heap.specs.Core.{heap_kind, heap_opening, nobody}
+use Rattle.table_heap.specs.State.{view_of, machine_at, order_at, steps_at, orders_of, steps_of, HasMachine, IsFresh}
+use Rattle.table_heap.proofs.Running.{at_number}
+use Rattle.heap_seats.specs.declared.seat.Seat.{Seat}
+use Rattle.heap_seats.specs.Known.{HaveRun}
+use Rattle.heap_seats.specs.Opening.{IsFreshSeat}
+use Rattle.heap_seats.proofs.Known.{has_seen}
+
+abbrev pub seats_in : Config → ℕ
+seats_in c = seat_count c.mutators c.helpers
+
+abbrev pub dealt_in : Config → ℕ → View Actor
+dealt_in c number = dealt_to (seats_in c) number (whole (heap_opening c).machines)
+
+-- the machine of a number at the opening
+opening_there : (c : Config) (number : ℕ) → number < seats_in c → slice_get (heap_opening c).machines number ≡ Some (opening_actor c number)
+unfolding opening
+opening_there c number inside =
+    let machines = map (opening_actor c) (range_with_len 0 (seats_in c)) in
+    let long : length machines ≡ seats_in c = length-map-range_with_len (opening_actor c) 0 (seats_in c) in
+    slice_get-get_or machines number nobody (omega (arith, inside, long)) ∙ ap (λ (a : Actor). Some a) (get_or-map-range_with_len (opening_actor c) 0 (seats_in c) number number nobody inside (omega arith))
+
+-- is dealt to the bundle of that number
+dealt_there : (c : Config) (number : ℕ) → number < seats_in c → machine_of (dealt_in c number) number ≡ Some (opening_actor c number)
+dealt_there c number inside =
+    let same : number % seats_in c ≡ number = mod-eq_of_lt inside in
+    let is : is_dealt_to (seats_in c) number number ≡ true = grind (arith, nat_tests, same) in
+    machine_of-picked (is_dealt_to (seats_in c) number) (whole (heap_opening c).machines) number
+    ∙ ap (λ (b : Bool). if b then machine_of (whole (heap_opening c).machines) number else None) is
+    ∙ machine_of-whole (heap_opening c).machines number ∙ opening_there c number inside
+
+default_or : {A : Type 0} (o : Option A) (d : A) → ((x : A) → o ≡ Some x → x ≡ d) → unwrap_or o d ≡ d
+default_or None d each = refl
+default_or (Some x) d each = each x refl
+
+module _ (c : Config) (h : Heap) (b : Bundle) (number : ℕ) (inside : number < seats_in c) (fresh : IsFresh h b (dealt_in c number)) where
+  there : machine_of (view_of b) number ≡ Some (opening_actor c number)
+  there = ap (λ v. machine_of v number) fresh.machines ∙ dealt_there c number inside
+
+  pub fresh_here : HasMachine b number
+  fresh_here = has_seen b number ∙ ap is_some there
+
+  pub fresh_run : HaveRun c b
+  fresh_run k a here =
+      reached_picked (heap_kind c) (heap_opening c) (is_dealt_to (seats_in c) number) (whole (heap_opening c).machines) (reached_opens (heap_kind c) (heap_opening c)) k a
+      (ap (λ v. machine_of v k) (sym fresh.machines) ∙ here)
+
+  pub fresh_machine : machine_at b number ≡ opening_machine c number
+  fresh_machine = at_number b number (opening_actor c number) there
+
+  pub fresh_order : order_at b number ≡ Nothing
+  fresh_order = default_or (machine_of (orders_of b) number) Nothing (λ order is. fresh.orders number order is)
+
+  pub fresh_steps : steps_at b number ≡ 0
+  fresh_steps = default_or (machine_of (steps_of b) number) 0 (λ made is. fresh.steps number made is)
+
+  pub fresh_calls : (unwrap_or (machine_of (view_of b) number) nobody).calls ≡ []
+  fresh_calls = ap (λ o. (unwrap_or o nobody).calls) there
+
+-- ---- lists
+
+pub get_reversed : {A : Type 0} (xs : List A) (k : ℕ) (x : A) → slice_get (reverse xs) k ≡ Some x → slice_get xs (length xs - 1 - k) ≡ Some x
+get_reversed {A = A} xs k x there =
+    let within = slice_get_within (reverse xs) k x there in
+    let below : k < length xs = omega (arith, within, length-reverse xs) in
+    slice_get-get_or xs (length xs - 1 - k) x (omega (arith, below)) ∙ ap (λ (y : A). Some y) (sym (get_or-reverse xs k x below) ∙ get_or_from_slice_get (reverse xs) k x x there)
+
+pub get_last : {A : Type 0} (xs : List A) (x : A) → slice_get (xs ++ x ∷ []) (length xs) ≡ Some x
+get_last [] x = refl
+get_last (y ∷ ys) x = get_last ys x
+
+pub get_init : {A : Type 0} (xs ys : List A) (k : ℕ) (x : A) → slice_get xs k ≡ Some x → slice_get (xs ++ ys) k ≡ Some x
+get_init [] ys k x there = absurd cc
+get_init (y ∷ xs) ys zero x there = there
+get_init (y ∷ xs) ys (suc k) x there = get_init xs ys k x there
+
+-- the bundles that are left, the last one for the next seat, and the seats so far
+pub record Opens (c : Config) (h : Heap) (bundles : List Bundle) (seats : List Seat) (number : ℕ) : Type 0 where
+  pub count : length bundles + number ≡ seats_in c
+  pub left : (k : ℕ) (b : Bundle) → slice_get bundles k ≡ Some b → IsFresh h b (dealt_in c (seats_in c - 1 - k))
+  pub long : length seats ≡ number
+  pub each : (k : ℕ) (s : Seat) → slice_get seats k ≡ Some s → IsFreshSeat c h k s
+
+pub opens_first : (c : Config) (h : Heap) (bundles : List Bundle) → length bundles ≡ seats_in c → ((k : ℕ) (b : Bundle) → slice_get bundles k ≡ Some b → IsFresh h b (dealt_in c k)) → Opens c h (reverse bundles) [] 0
+opens_first c h bundles count each = record {
+  count = omega (arith, count, length-reverse bundles);
+  left = λ k b there. subst (λ n. IsFresh h b (dealt_in c (n - 1 - k))) count (each (length bundles - 1 - k) b (get_reversed bundles k b there));
+  long = refl;
+  each = λ k s there. absurd cc;
+}
+
+pub last_fresh : (c : Config) (h : Heap) (before after : List Bundle) (b : Bundle) (seats : List Seat) (number : ℕ) → Opens c h before seats number → before ≡ after ++ b ∷ [] → IsFresh h b (dealt_in c number)
+last_fresh c h before after b seats number opens is =
+    let long : length before ≡ length after + 1 = ap length is ∙ Rattle.std.proofs.lemmas.List.length-append after (b ∷ []) in
+    let which : seats_in c - 1 - length after ≡ number = omega (arith, long, opens.count) in
+    subst (λ n. IsFresh h b (dealt_in c n)) which (opens.left (length after) b (ap (λ xs. slice_get xs (length after)) is ∙ get_last after b))
+
+pub opens_next : (c : Config) (h : Heap) (before after : List Bundle) (b : Bundle) (seats : List Seat) (s : Seat) (number : ℕ) → Opens c h before seats number → before ≡ after ++ b ∷ [] → IsFreshSeat c h number s → Opens c h after (seats ++ s ∷ []) (number + 1)
+opens_next c h before after b seats s number opens is fresh =
+    let long : length before ≡ length after + 1 = ap length is ∙ Rattle.std.proofs.lemmas.List.length-append after (b ∷ []) in
+    let more : length (seats ++ s ∷ []) ≡ length seats + 1 = Rattle.std.proofs.lemmas.List.length-append seats (s ∷ []) in
+    record {
+      count = omega (arith, long, opens.count);
+      left = λ k x there. opens.left k x (ap (λ xs. slice_get xs k) is ∙ get_init after (b ∷ []) k x there);
+      long = omega (arith, more, opens.long);
+      each = Rattle.table_heap.proofs.Opened.each_more (λ k x. IsFreshSeat c h k x) seats s number opens.long opens.each fresh;
+    }

@@ -1,0 +1,32 @@
+-- Why a seat takes no order, by its state.
+use Rattle.std.proofs.Common.{◌≡◌, ◌≢◌, ℕ, Bool, true, false, Some, None, refl, sym, ap, ◌∙◌, arith}
+use Rattle.std.specs.Prelude.{◌==◌, if◌then◌else◌}
+use Rattle.std.proofs.lemmas.Bool.Decides.{nat_tests}
+use Rattle.heap_seats.specs.declared.progress.State.{State}
+use Rattle.heap_seats.specs.declared.progress.State.TheVariants.{Free, AtWork, Ended}
+use Rattle.heap_seats.specs.declared.progress.Refused.{Refused}
+use Rattle.heap_seats.specs.declared.progress.Refused.TheVariants as refused
+use Rattle.heap_seats.specs.Ordering.{refused_in, refused_command}
+
+pub refused_first : (valid : Bool) (made : ℕ) (state : State) (r : Refused) → Some r ≡ refused_in state → Some r ≡ refused_command valid made state
+refused_first valid made Free r is = absurd cc
+refused_first valid made AtWork r is = is
+refused_first valid made Ended r is = is
+
+pub free_is : (state : State) → None ≡ refused_in state → state ≡ Free
+free_is Free is = refl
+free_is AtWork is = absurd cc
+free_is Ended is = absurd cc
+
+pub refused_range : (valid : Bool) (made : ℕ) (state : State) → state ≡ Free → valid ≡ false → Some refused.OutOfRange ≡ refused_command valid made state
+refused_range valid made state free is = sym (ap (refused_command valid made) free ∙ ap (λ (v : Bool). refused_command v made Free) is)
+
+pub refused_spent : (valid : Bool) (made : ℕ) (state : State) → state ≡ Free → valid ≡ true → made ≡ 4294967295 → Some refused.Spent ≡ refused_command valid made state
+refused_spent valid made state free is spent =
+    let test : (made == 4294967295) ≡ true = grind (arith, nat_tests, spent) in
+    sym (ap (refused_command valid made) free ∙ ap (λ (v : Bool). refused_command v made Free) is ∙ ap (λ (t : Bool). if t then Some refused.Spent else None) test)
+
+pub refused_none : (valid : Bool) (made : ℕ) (state : State) → state ≡ Free → valid ≡ true → made ≢ 4294967295 → None ≡ refused_command valid made state
+refused_none valid made state free is few =
+    let test : (made == 4294967295) ≡ false = grind (arith, nat_tests, few) in
+    sym (ap (refused_command valid made) free ∙ ap (λ (v : Bool). refused_command v made Free) is ∙ ap (λ (t : Bool). if t then Some refused.Spent else None) test)

@@ -1,0 +1,12 @@
+use Rattle.std.proofs.Common.{ap, ◌∙◌, arith}
+use Rattle.heap_words.specs.Ranges.{seat_count}
+use Rattle.heap_machines.specs.Shown.{shown}
+use Rattle.table_heap.proofs.MachineUnder.{within}
+use Rattle.heap_seats.proofs.seat.Seat.number.Goals as goal
+
+pub returns-clause-inside : goal.returns-clause-inside
+returns-clause-inside c =
+    let s = c.args.self.now in
+    let below = within shown s.bundle.machines.items s.number s.here in
+    let count = s.bundle.seats ∙ ap (λ k. seat_count k.mutators k.helpers) s.same_config in
+    omega (arith, below, count)

@@ -1,0 +1,36 @@
+use Rattle.std.proofs.Common.{◌≡◌, ◌≢◌, Bool, true, false, refl, ◌∙◌}
+use Rattle.std.specs.Arc.{arc_value}
+use Rattle.heap_machines.specs.declared.stepped.Stepped.{Stepped}
+use Rattle.heap_machines.specs.declared.stepped.Stepped.TheVariants as stepped
+use Rattle.table_heap.specs.State.{has_turn}
+use Rattle.heap_seats.proofs.Known.{stays_of, stays_here, goes_run}
+use Rattle.heap_seats.proofs.Stepped.{calls_go, doing_goes, order_then, steps_then}
+use Rattle.heap_seats.proofs.seat.Seat.step.Goals as goal
+
+has_one : (turn : Bool) (said : Stepped) → (turn ≡ false → said ≡ stepped.Idle) → said ≢ stepped.Idle → turn ≡ true
+has_one true said idle moved = refl
+has_one false said idle moved = absurd (moved (idle refl))
+
+pub invariant_of-self : goal.invariant_of-self
+invariant_of-self c =
+    let s = c.args.self.now in
+    let b = c.step.new.self in
+    let made = c.step.ensures in
+    record {
+      fits = stays_of (arc_value s.heap) s.bundle b made.same s.fits;
+      here = stays_here s.bundle b s.number made.same s.here;
+      same_config = made.same.config ∙ s.same_config;
+      reached = goes_run s.config s.bundle b s.number c.step.result s.same_config made.unchanged made.event s.reached;
+    }
+
+pub returns-clause-stepped : goal.returns-clause-stepped
+returns-clause-stepped c moved =
+    let s = c.args.self.now in
+    let b = c.step.new.self in
+    let step = c.step.ensures.event (has_one (has_turn s.bundle s.number) c.step.result c.step.ensures.idle.1 moved) in
+    record {
+      calls = calls_go s.bundle b s.number c.step.result step;
+      doing = doing_goes s.bundle b s.number c.step.result step;
+      order = order_then s.bundle b s.number c.step.result step;
+      steps = steps_then s.bundle b s.number c.step.result step;
+    }

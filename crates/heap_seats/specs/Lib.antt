@@ -1,0 +1,5 @@
+pub mod Seats
+pub mod Known
+pub mod Ordering
+pub mod Going
+pub mod Opening
