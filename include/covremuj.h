@@ -1,13 +1,14 @@
 /*
  * covremuj.h: a heap whose objects are collected and moved while threads use them.
  *
- * A program opens a heap with some seats. A seat is what one thread at a time works through: those of the mutators make,
- * load and store objects; those of the helpers and of the control collect. A mutator never holds an address. It has 16
- * roots, numbered 0 to 15, and each command names roots: "load field 2 of the object of root 3 into root 4". What no root of
- * any mutator leads to is garbage. There are no barriers to place, no handles of objects to register, and nothing to scan.
+ * A program opens a heap with some seats. A seat is what one thread at a time works through: those of the mutators
+ * make, load and store objects; those of the helpers and of the control collect. A mutator never holds an address. It
+ * has 16 roots, numbered 0 to 15, and each command names roots: "load field 2 of the object of root 3 into root 4".
+ * What no root of any mutator leads to is garbage. There are no barriers to place, no handles of objects to register,
+ * and nothing to scan.
  *
  *     cvm_config config = {.regions = 16, .region_words = 256, .mutators = 1, .helpers = 0, .reserve = 2};
- *     cvm_seat seats[CVM_MOST_SEATS] = {{NULL}};
+ *     cvm_seat seats[CVM_MOST_SEATS] = {{0}};
  *     cvm_workers *workers = NULL;
  *     if (cvm_open(&config, seats, 2) != CVM_DONE || cvm_start_workers(seats + 1, 1, &workers) != CVM_DONE) return 1;
  *     cvm_new(&seats[0], 1, 1, 1);        root 1 names a new object of one reference and one number
@@ -17,47 +18,54 @@
  *     cvm_join_workers(workers);
  *     cvm_close_all(seats, 2);
  *
- * An object has 0 to 16 references and 0 to 16 numbers of 64 bits, which are null and 0 at first. It takes 3 words of 8
- * bytes, and one more for each reference and each number. The hub is an object of 16 references and no number that exists
- * from the start, and that root 0 of every mutator names at first. All other roots are null at first.
+ * An object has 0 to 16 references and 0 to 16 numbers of 64 bits, which are null and 0 at first. It takes 3 words of
+ * 8 bytes, and one more for each reference and each number. The hub is an object of 16 references and no number that
+ * exists from the start, and that root 0 of every mutator names at first. All other roots are null at first.
  *
- * WHAT IS PROVED. The functions of the part "The proved functions" below are compiled from proved text: each call that they
- * end is answered as by one graph of objects that never moves or frees an object, in one order of all calls of all threads
- * (docs/LIBRARY.md says by which contracts). The inline functions, the file library/workers.c, and the wrappers for other
- * languages are not proved. Nothing is claimed about time, progress or fairness.
+ * WHAT IS PROVED. The functions of the part "The proved functions" below are compiled from proved text: each call
+ * that they end is answered as by one graph of objects that never moves or frees an object, in one order of all calls
+ * of all threads (docs/LIBRARY.md says by which contracts). The inline functions, the file library/workers.c, and the
+ * wrappers for other languages are not proved. Nothing is claimed about time, progress or fairness.
  *
- * WHAT IS BELIEVED AT THE BORDER. The proved functions check all that they can see: an empty seat, a seat of the wrong kind, a
- * call in progress, numbers out of range. They cannot check this:
+ * WHAT IS BELIEVED AT THE BORDER. The proved functions check all that they can see: an empty seat, a seat of the
+ * wrong kind, a call in progress, numbers out of range. They cannot check this:
  *
- *   1. A seat is used by one call at a time. It may go from one thread to another where something orders that: a lock, a
- *      thread's start or its join, or a sequentially consistent atomic. Two calls to one seat at once: one of them
- *      may find it empty (CVM_NOT_OPEN), or both free the same memory; from there on anything may happen.
- *   2. A cvm_seat holds what cvm_open, cvm_move or an initializer of {NULL} wrote there. Any other bytes are taken for an
- *      address. A copy is used by nobody: two copies of a seat lead to the same as two calls at once, and a copy of a
- *      seat that was closed is an address that was freed.
- *   3. Pointers are not null, point to what their types say, and what they point to is used by nobody else during the call.
- *   4. No call is made from a handler of signals, in the child of a fork where there were threads, or by the program's own
- *      malloc. A handler that breaks in between two accesses of its thread's own call does what rule 1 forbids.
- *   5. malloc, realloc and free are those of one allocator that keeps the rules of C. The memory of the heap and of the
- *      seats comes from there, once, in cvm_open; a call of a seat takes no memory.
+ *   1. A seat is used by one call at a time. It may go from one thread to another where something orders that: a
+ *      lock, a thread's start or its join, or a sequentially consistent atomic. Two calls to one seat at once: one of
+ *      them may find it empty (CVM_NOT_OPEN), or both free the same memory; from there on anything may happen.
+ *   2. A cvm_seat holds what cvm_open, cvm_move or an initializer of {0} wrote there. Any other bytes are taken
+ *      for an address. A copy is used by nobody: two copies of a seat lead to the same as two calls at once, and a
+ *      copy of a seat that was closed is an address that was freed.
+ *   3. Pointers are not null, point to what their types say, and what they point to is used by nobody else during
+ *      the call.
+ *   4. No call is made from a handler of signals, in the child of a fork where there were threads, or by the
+ *      program's own malloc. A handler that breaks in between two accesses of its thread's own call does what rule 1
+ *      forbids.
+ *   5. malloc, realloc and free are those of one allocator that keeps the rules of C. The memory of the heap and
+ *      of the seats comes from there, once, in cvm_open; a call of a seat takes no memory.
  *
  * These are no matters of safety, but a program stands still where they are broken:
  *
- *   6. Someone works for the control, and the more often the better. Else cvm_new answers CVM_AGAIN for ever once the regions are used up.
- *   7. A mutator whose call has begun goes on with it. While a call stands still, no collection ends: each
- *      waits for it, and calls of others wait for the collection. A seat between two calls holds up nobody. So a thread
+ *   6. Someone works for the control, and the more often the better. Else cvm_new answers CVM_AGAIN for ever once
+ *      the regions are used up.
+ *   7. A mutator whose call has begun goes on with it. While a call stands still, no collection ends: each waits
+ *      for it, and calls of others wait for the collection. A seat between two calls holds up nobody. So a thread
  *      that dies, or is cancelled, in a call holds up every collection for ever.
- *   8. A control that is in a pause goes on with it. cvm_stop_workers may leave it there.
+ *   8. A control that is in a pause goes on with it, and a helper with the unit of work that it has begun.
+ *      cvm_stop_workers may leave them there.
  *
- * THREADS. All functions may be called from any thread, also at the same time for different seats, of one heap or of many. cvm_open
- * and cvm_close_all use all seats that they are given. No function locks, and none waits but those that say so.
+ * THREADS. All functions may be called from any thread, also at the same time for different seats, of one heap or of
+ * many. cvm_open and cvm_close_all use all seats that they are given. No function locks, and none waits but those
+ * that say so.
  *
- * LIMITS. 4 to 64 regions, 1 to 8 mutators, 0 to 3 helpers, one control; 16 roots for each mutator; 16 references and 16
- * numbers for an object; 4,294,967,295 objects made by a mutator in its life. The number of seats is fixed by cvm_open.
+ * LIMITS. 4 to 64 regions, 1 to 8 mutators, 0 to 3 helpers, one control; 16 roots for each mutator; 16 references and
+ * 16 numbers for an object; 4,294,967,295 objects made by a mutator in its life. The number of seats is fixed by
+ * cvm_open.
  */
 #ifndef COVREMUJ_H
 #define COVREMUJ_H
 
+#include <stdbool.h>
 #include <stddef.h>
 #include <stdint.h>
 
@@ -79,9 +87,10 @@ enum {
     CVM_MOST_SEATS = 12
 };
 
-/* A seat of a heap, or none: {NULL}. It is passed by its address, never copied, and moved by cvm_move alone. */
+/* A seat of a heap, or none: {0}. It is passed by its address, never copied, and moved by cvm_move alone. */
 typedef struct cvm_seat {
-    void *at; /* the library's */
+    void *at;     /* the library's */
+    bool is_open; /* the library's */
 } cvm_seat;
 
 /* The sizes of a heap. */
@@ -160,7 +169,10 @@ typedef enum cvm_status {
     CVM_NO_THREAD = 64 /* the system made no thread */
 } cvm_status;
 
-/* The commands, with the arguments a, b, c, d and value that cvm_begin takes, and the replies. Others are not looked at. */
+/*
+ * The commands, with the arguments a, b, c, d and value that cvm_begin takes, and the replies. Others are not looked
+ * at.
+ */
 typedef enum cvm_op {
     CVM_NEW = 0,  /* dst, refs, nums:         CVM_REF or CVM_FULL */
     CVM_GET = 1,  /* dst, src, field:         CVM_REF, CVM_NULL or CVM_BAD */
@@ -178,35 +190,38 @@ typedef enum cvm_op {
 /* ---- The proved functions. None waits, locks, starts a thread or calls back. ---- */
 
 /*
- * Opens a heap. seats[0] to seats[T-1] become the mutators, the next H the helpers, the last one the control, and belong to
- * the caller, who closes them. `count` is T + H + 1. What it takes of memory it takes here: docs/LIBRARY.md says how much.
- * Answers CVM_DONE, or CVM_BAD_REGIONS to CVM_NO_MEMORY, of which the first that holds in the order of their numbers, and then every seat
- * is as it was.
+ * Opens a heap. seats[0] to seats[T-1] become the mutators, the next H the helpers, the last one the control, and
+ * belong to the caller, who closes them. `count` is T + H + 1. What it takes of memory it takes here: docs/LIBRARY.md
+ * says how much. Answers CVM_DONE, or CVM_BAD_REGIONS to CVM_NO_MEMORY, of which the first that holds in the order of
+ * their numbers, and then every seat is as it was.
  */
 cvm_status cvm_open(const cvm_config *config, cvm_seat *seats, size_t count);
 
 /*
- * Orders a command of a mutator between two calls, and makes no step of it. Answers CVM_DONE, or CVM_NOT_OPEN, CVM_WRONG_SEAT,
- * CVM_ENDED, CVM_BUSY, CVM_NO_COMMAND, CVM_OUT_OF_RANGE, CVM_SPENT: the first of these, in this order. An order cannot be taken back.
+ * Orders a command of a mutator between two calls, and makes no step of it. Answers CVM_DONE, or CVM_NOT_OPEN,
+ * CVM_WRONG_SEAT, CVM_ENDED, CVM_BUSY, CVM_NO_COMMAND, CVM_OUT_OF_RANGE, CVM_SPENT: the first of these, in this
+ * order. An order cannot be taken back.
  */
 cvm_status cvm_begin(cvm_seat *seat, uint32_t op, uint32_t a, uint32_t b, uint32_t c, uint32_t d, uint64_t value);
 
 /*
- * Makes at most `steps` steps of a mutator's call, each one access of one word. It stops at the step that ends the call, and answers the reply,
- * CVM_REF to CVM_FULL, with what belongs to it in *value; at the first that waits, with CVM_AGAIN; or after all, with
- * CVM_MORE. Or it makes none: CVM_NOT_OPEN, CVM_WRONG_SEAT, CVM_IDLE, CVM_ENDED. *value is written with a reply only.
+ * Makes at most `steps` steps of a mutator's call, each one access of one word. It stops at the step that ends the
+ * call, and answers the reply, CVM_REF to CVM_FULL, with what belongs to it in *value; at the first that waits, with
+ * CVM_AGAIN; or after all, with CVM_MORE. Or it makes none: CVM_NOT_OPEN, CVM_WRONG_SEAT, CVM_IDLE, CVM_ENDED. *value
+ * is written with a reply only.
  */
 cvm_status cvm_go(cvm_seat *seat, uint32_t steps, cvm_value *value);
 
 /*
- * Orders the end of a mutator between two calls; its next step is its last. Its roots are null from then on for the collector. Answers CVM_DONE, or
- * CVM_NOT_OPEN, CVM_WRONG_SEAT, CVM_ENDED, CVM_BUSY. The control ends once all mutators have, the helpers once the control has.
+ * Orders the end of a mutator between two calls; its next step is its last. Its roots stay, and keep alive what they
+ * lead to: drop them first. Answers CVM_DONE, or CVM_NOT_OPEN, CVM_WRONG_SEAT, CVM_ENDED, CVM_BUSY. The control ends
+ * once all mutators have, the helpers once the control has.
  */
 cvm_status cvm_end(cvm_seat *seat);
 
 /*
- * Makes at most `steps` steps of a helper or of the control. Answers CVM_MORE after all of them; CVM_AGAIN at the first that
- * waits or finds nothing to do; CVM_ENDED; or CVM_NOT_OPEN, CVM_WRONG_SEAT.
+ * Makes at most `steps` steps of a helper or of the control. Answers CVM_MORE after all of them; CVM_AGAIN at the
+ * first that waits or finds nothing to do; CVM_ENDED; or CVM_NOT_OPEN, CVM_WRONG_SEAT.
  */
 cvm_status cvm_work(cvm_seat *seat, uint32_t steps);
 
@@ -215,21 +230,23 @@ cvm_status cvm_look(cvm_seat *seat, cvm_state *state);
 
 /*
  * Gives a seat up, which is empty then. The last seat of a heap frees it. It is never refused: a seat that has not
- * ended is a machine that makes no step any more (rules 6 to 8). Answers CVM_DONE or CVM_NOT_OPEN, so closing twice does no harm.
+ * ended is a machine that makes no step any more (rules 6 to 8). Answers CVM_DONE or CVM_NOT_OPEN, so closing twice
+ * does no harm.
  */
 cvm_status cvm_close(cvm_seat *seat);
 
 /*
- * Gives all seats of a heap up that has come to its end, and frees it. `seats` and `count` as for cvm_open. Answers CVM_DONE, or
- * CVM_NOT_OPEN, CVM_NOT_ALL, CVM_BUSY, and then nothing has changed.
+ * Gives all seats of a heap up that has come to its end, and frees it. `seats` and `count` as for cvm_open. Answers
+ * CVM_DONE, or CVM_NOT_OPEN, CVM_NOT_ALL, CVM_BUSY, and then nothing has changed.
  */
 cvm_status cvm_close_all(cvm_seat *seats, size_t count);
 
 /* ---- Waiting and workers, of library/workers.c, which is not proved. ---- */
 
 /*
- * Lets others run after so many fruitless rounds in a row, and counts one more: it spins for some rounds, then yields, then sleeps, for at most
- * a fifth of a millisecond. A program with a scheduler of its own defines CVM_BACK_OFF before it includes this header.
+ * Lets others run after so many fruitless rounds in a row, and counts one more: it spins for some rounds, then
+ * yields, then sleeps, for at most a fifth of a millisecond. A program with a scheduler of its own defines
+ * CVM_BACK_OFF before it includes this header.
  */
 void cvm_back_off(uint32_t *rounds);
 #ifndef CVM_BACK_OFF
@@ -240,30 +257,44 @@ void cvm_back_off(uint32_t *rounds);
 typedef struct cvm_workers cvm_workers;
 
 /*
- * Starts a thread for each of these seats, of helpers and of the control, at most CVM_MOST_SEATS. They move to the threads, and are empty until
- * cvm_join_workers or cvm_stop_workers puts them back where they were, so that memory stays. Answers CVM_DONE, and *workers is the caller's; or
- * CVM_BAD_SEATS, CVM_NOT_OPEN, CVM_WRONG_SEAT, CVM_NO_MEMORY, CVM_NO_THREAD, and then no thread is left and all seats are where they were.
+ * Starts a thread for each of these seats, of helpers and of the control, at most CVM_MOST_SEATS. They move to the
+ * threads, and are empty until cvm_join_workers or cvm_stop_workers puts them back where they were, so that memory
+ * stays. Answers CVM_DONE, and *workers is the caller's; or CVM_BAD_SEATS, CVM_NOT_OPEN, CVM_WRONG_SEAT,
+ * CVM_NO_MEMORY, CVM_NO_THREAD, and then no thread is left and all seats are where they were.
  */
 cvm_status cvm_start_workers(cvm_seat *seats, size_t count, cvm_workers **workers);
 
-/* Waits until all of these machines have ended, which is when all mutators have, puts the seats back, and frees *workers. */
+/*
+ * Waits until all of these machines have ended, which is when all mutators have, puts the seats back, and frees
+ * *workers.
+ */
 void cvm_join_workers(cvm_workers *workers);
 
 /*
- * Lets each thread end after the steps that it is at, waits for that, puts the seats back, and frees *workers. Others may go on with the seats;
- * until somebody does, the heap may be in the middle of a pause, in which all mutators wait.
+ * Lets each thread end after the steps that it is at, waits for that, puts the seats back, and frees *workers. Others
+ * may go on with the seats; until somebody does, the heap may be in the middle of a pause, in which all mutators
+ * wait.
  */
 void cvm_stop_workers(cvm_workers *workers);
 
 /* ---- Calls in one piece. Each waits where it has to, and is not proved but for what it calls. ---- */
 
-/* Steps that a call in one piece asks for at once; it goes on until it has the reply, so this number only says how often it looks. */
+/*
+ * Steps that a call in one piece asks for at once; it goes on until it has the reply, so this number only says how
+ * often it looks.
+ */
 enum { CVM_STEPS = 4096 };
 
 /* Makes a seat that is empty the one that `from` is, and `from` empty. Both are used by nobody else meanwhile. */
 static inline void cvm_move(cvm_seat *to, cvm_seat *from) {
-    to->at = from->at;
+    *to = *from;
     from->at = NULL;
+    from->is_open = false;
+}
+
+/* Whether a seat is one of a heap, and not empty. */
+static inline int cvm_is_open(const cvm_seat *seat) {
+    return seat->is_open;
 }
 
 /* The seats of a heap of these sizes, as cvm_open takes them. */
@@ -282,8 +313,8 @@ static inline int cvm_is_refusal(cvm_status status) {
 }
 
 /*
- * Goes on with the call of a mutator until it waits or is answered: the reply, CVM_AGAIN, or what cvm_go refuses. Where it
- * answers CVM_AGAIN the call is still in progress: this function or cvm_wait goes on with it.
+ * Goes on with the call of a mutator until it waits or is answered: the reply, CVM_AGAIN, or what cvm_go refuses.
+ * Where it answers CVM_AGAIN the call is still in progress: this function or cvm_wait goes on with it.
  */
 static inline cvm_status cvm_poll(cvm_seat *seat, cvm_value *value) {
     cvm_status said = CVM_MORE;
@@ -305,8 +336,9 @@ static inline cvm_status cvm_wait(cvm_seat *seat, cvm_value *value) {
 }
 
 /*
- * The same for a thread that also works for helpers and the control of the heap, whose seats these are: where the call waits, it makes
- * steps of theirs. So a program of one thread needs no worker. CVM_AGAIN comes here only where one of these seats is empty or no worker's.
+ * The same for a thread that also works for helpers and the control of the heap, whose seats these are: where the
+ * call waits, it makes steps of theirs. So a program of one thread needs no worker. CVM_AGAIN comes here only where
+ * one of these seats is empty or no worker's.
  */
 static inline cvm_status cvm_wait_working(cvm_seat *seat, cvm_seat *working, size_t count, cvm_value *value) {
     cvm_status said = cvm_poll(seat, value);
@@ -328,8 +360,8 @@ static inline cvm_status cvm_call(cvm_seat *seat, cvm_op op, uint32_t a, uint32_
 }
 
 /*
- * Makes an object of `refs` null references and `nums` zeros, which root dst names then: CVM_REF; or CVM_FULL where live objects
- * leave no room. Where no region has room it waits for a collection, for as long as that takes (rule 6).
+ * Makes an object of `refs` null references and `nums` zeros, which root dst names then: CVM_REF; or CVM_FULL where
+ * live objects leave no room. Where no region has room it waits for a collection, for as long as that takes (rule 6).
  */
 static inline cvm_status cvm_new(cvm_seat *seat, uint32_t dst, uint32_t refs, uint32_t nums) {
     cvm_value name;
@@ -337,8 +369,8 @@ static inline cvm_status cvm_new(cvm_seat *seat, uint32_t dst, uint32_t refs, ui
 }
 
 /*
- * The same, but it does not wait: where it would have to, it answers CVM_AGAIN, and the call is in progress. It is ended by cvm_poll
- * or cvm_wait, with the reply of cvm_new; until then the seat takes no other command.
+ * The same, but it does not wait: where it would have to, it answers CVM_AGAIN, and the call is in progress. It is
+ * ended by cvm_poll or cvm_wait, with the reply of cvm_new; until then the seat takes no other command.
  */
 static inline cvm_status cvm_try_new(cvm_seat *seat, uint32_t dst, uint32_t refs, uint32_t nums) {
     cvm_value name;
@@ -358,13 +390,19 @@ static inline cvm_status cvm_set(cvm_seat *seat, uint32_t obj, uint32_t field, u
     return cvm_call(seat, CVM_SET, obj, field, val, 0, 0, &none);
 }
 
-/* Stores root val there if the reference is root expect, in one step: CVM_YES, CVM_NO where it is another one, or CVM_BAD. */
+/*
+ * Stores root val there if the reference is root expect, in one step: CVM_YES, CVM_NO where it is another one, or
+ * CVM_BAD.
+ */
 static inline cvm_status cvm_cas(cvm_seat *seat, uint32_t obj, uint32_t field, uint32_t expect, uint32_t val) {
     cvm_value none;
     return cvm_call(seat, CVM_CAS, obj, field, expect, val, 0, &none);
 }
 
-/* Stores root val there, and what was there into root dst, in one step: CVM_REF or CVM_NULL, what was there, or CVM_BAD. */
+/*
+ * Stores root val there, and what was there into root dst, in one step: CVM_REF or CVM_NULL, what was there, or
+ * CVM_BAD.
+ */
 static inline cvm_status cvm_xchg(cvm_seat *seat, uint32_t dst, uint32_t obj, uint32_t field, uint32_t val) {
     cvm_value name;
     return cvm_call(seat, CVM_XCHG, dst, obj, field, val, 0, &name);
@@ -410,7 +448,10 @@ static inline cvm_status cvm_gc(cvm_seat *seat) {
     return cvm_call(seat, CVM_GC, 0, 0, 0, 0, 0, &none);
 }
 
-/* Ends a mutator between two calls, and waits until it has: CVM_ENDED, also where it had before; or what cvm_end refuses. */
+/*
+ * Ends a mutator between two calls, and waits until it has: CVM_ENDED, also where it had before; or what cvm_end
+ * refuses.
+ */
 static inline cvm_status cvm_finish(cvm_seat *seat) {
     cvm_value none;
     cvm_status said = cvm_end(seat);
@@ -418,9 +459,9 @@ static inline cvm_status cvm_finish(cvm_seat *seat) {
 }
 
 /*
- * Works for a helper or the control until it has ended, or `goes_on` answers 0, which is asked after each round of steps and may be null. Backs off
- * where there is nothing to do. For a thread of the caller that serves the seat. Answers CVM_ENDED, CVM_MORE where it was told to stop,
- * or what cvm_work refuses.
+ * Works for a helper or the control until it has ended, or `goes_on` answers 0, which is asked after each round of
+ * steps and may be null. Backs off where there is nothing to do. For a thread of the caller that serves the seat.
+ * Answers CVM_ENDED, CVM_MORE where it was told to stop, or what cvm_work refuses.
  */
 static inline cvm_status cvm_serve(cvm_seat *seat, int (*goes_on)(void *), void *context) {
     uint32_t rounds = 0;

@@ -11,10 +11,11 @@
  *         list = node;
  *     }
  *
- * A heap has a thread for each helper and the control from its construction on, and its destructor waits until all of its mutators have ended: each
- * mutator is to be destroyed before its heap, and each root before its mutator. A mutator and its roots are used by one thread at a time, as
- * covremuj.h says of seats. A call throws cvm::refused where the library refuses it, cvm::full where the heap has no
- * room, and cvm::bad where the root is null or its object has no such field or number; then nothing has changed.
+ * A heap has a thread for each helper and the control from its construction on, and its destructor waits until all of
+ * its mutators have ended: each mutator is to be destroyed before its heap, and each root before its mutator. A
+ * mutator and its roots are used by one thread at a time, as covremuj.h says of seats. A call throws cvm::refused
+ * where the library refuses it, cvm::full where the heap has no room, and cvm::bad where the root is null or its
+ * object has no such field or number; then nothing has changed.
  */
 #ifndef COVREMUJ_HPP
 #define COVREMUJ_HPP
@@ -76,7 +77,7 @@ namespace detail {
 
 /* The seat of a mutator, on a cache line of its own, and which of its roots are in use. */
 struct alignas(64) desk {
-    cvm_seat seat{nullptr};
+    cvm_seat seat{};
     std::uint32_t used = 1;
 
     desk() = default;
@@ -120,7 +121,10 @@ struct alignas(64) desk {
 
 } /* namespace detail */
 
-/* One of a mutator's 16 roots, null or naming an object, for as long as this value lives. Copies are further roots that name the same. */
+/*
+ * One of a mutator's 16 roots, null or naming an object, for as long as this value lives. Copies are further roots
+ * that name the same.
+ */
 class root {
 public:
     root(root &&other) noexcept : desk_(std::exchange(other.desk_, nullptr)), index_(other.index_) {}
@@ -263,7 +267,10 @@ public:
         close();
     }
 
-    /* The next mutator, of as many as the sizes say. CVM_NOT_OPEN is thrown where all are taken. By one thread at a time. */
+    /*
+     * The next mutator, of as many as the sizes say. CVM_NOT_OPEN is thrown where all are taken. By one thread at a
+     * time.
+     */
     cvm::mutator mutator() {
         if (taken_ == sizes_.mutators) {
             throw refused(CVM_NOT_OPEN);

@@ -1,6 +1,6 @@
 /*
- * Threads that work for the helpers and the control of a heap, and the back-off of whoever waits. This file is not proved: it
- * calls proved functions, one thread to a seat.
+ * Threads that work for the helpers and the control of a heap, and the back-off of whoever waits. This file is not
+ * proved: it calls proved functions, one thread to a seat.
  */
 #define _POSIX_C_SOURCE 200809L
 
@@ -45,7 +45,10 @@ void cvm_back_off(uint32_t *rounds) {
     }
 }
 
-/* A thread, and the seat that it works for, which lies apart from those of other threads, so that they do not fight for one cache line. */
+/*
+ * A thread, and the seat that it works for, which lies apart from those of other threads, so that they do not fight
+ * for one cache line.
+ */
 typedef struct worker {
     alignas(64) cvm_seat seat;
     cvm_seat *given;
