@@ -75,11 +75,11 @@ def median_of(at, *words):
 
 def operations(bench):
     program = bench.over_heap("operations")
-    print("operations: millions a second of all threads together, on 32 regions of 256 words")
-    print(f"{'command':8}" + "".join(f"{mode + ' ' + str(threads):>10}" for mode in ("idle", "on") for threads in (1, 2, 4, 8)))
+    print("operations, on 32 regions of 256 words: millions a second of all threads together, and behind the stroke those of one thread in a second of its processor time")
+    print(f"{'command':8}" + "".join(f"{mode + ' ' + str(threads):>16}" for mode in ("idle", "on") for threads in (1, 2, 4, 8)))
     for command in COMMANDS:
-        row = [median_of(0, program, command, threads, mode, 300, 32, 256)[0] for mode in ("idle", "on") for threads in (1, 2, 4, 8)]
-        print(f"{command:8}" + "".join(f"{it / 1e6:10.3f}" for it in row), flush=True)
+        row = [median_of(1, program, command, threads, mode, 200, 32, 256) for mode in ("idle", "on") for threads in (1, 2, 4, 8)]
+        print(f"{command:8}" + "".join(f"{all / 1e6:9.3f} /{own / 1e6:5.2f}" for all, own in row), flush=True)
 
 
 def tell(name, nodes, seconds, ours):

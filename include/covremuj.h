@@ -51,8 +51,9 @@
  *   7. A mutator whose call has begun goes on with it. While a call stands still, no collection ends: each waits
  *      for it, and calls of others wait for the collection. A seat between two calls holds up nobody. So a thread
  *      that dies, or is cancelled, in a call holds up every collection for ever.
- *   8. A control that is in a pause goes on with it, and a helper with the unit of work that it has begun.
- *      cvm_stop_workers may leave them there.
+ *   8. A control that is in a pause goes on with it, and a helper with the unit of work that it has begun, for
+ *      which a pause waits. Who gives steps to several seats gives them in turn, and not to one until it has ended.
+ *      cvm_stop_workers may leave them in the middle.
  *
  * THREADS. All functions may be called from any thread, also at the same time for different seats, of one heap or of
  * many. cvm_open and cvm_close_all use all seats that they are given. No function locks, and none waits but those

@@ -31,6 +31,7 @@ typedef struct runner {
     size_t number;
     uint64_t count;    /* operations that it made */
     double longest;    /* the longest of them, in seconds, where they are timed */
+    double busy;       /* seconds of processor time */
     void (*body)(struct runner *);
     pthread_t thread;
 } runner;
@@ -58,7 +59,10 @@ static inline void open_bench(bench *bench, size_t regions, size_t words, size_t
 
 static inline void *run_one(void *context) {
     runner *me = context;
+    struct timespec time;
     me->body(me);
+    clock_gettime(CLOCK_THREAD_CPUTIME_ID, &time);
+    me->busy = (double)time.tv_sec + (double)time.tv_nsec * 1e-9;
     cvm_finish(&me->seat);
     return NULL;
 }

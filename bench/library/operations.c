@@ -72,13 +72,15 @@ int main(int count, char **words) {
     must(operation != NULL, "a command of this name");
     is_on = strcmp(words[3], "on") == 0;
     uint64_t millis = number_word(words, 4), total = 0;
+    double busy = 0;
     open_bench(&bench, number_word(words, 5), number_word(words, 6), number_word(words, 2), 0);
     pthread_create(&clock, NULL, clock_out, &millis);
     double seconds = run_bench(&bench, body);
     pthread_join(clock, NULL);
     for (size_t i = 0; i < bench.config.mutators; i++) {
         total += bench.runners[i].count;
+        busy += bench.runners[i].busy;
     }
-    printf("%.0f\n", (double)total / seconds);
+    printf("%.0f %.0f\n", (double)total / seconds, (double)total / busy);
     return 0;
 }

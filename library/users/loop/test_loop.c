@@ -119,18 +119,35 @@ static void loop(task *tasks, cvm_seat *seats, uint64_t turns, uint64_t *random)
     }
 }
 
+/* Goes on with all calls that are in progress, one beside the other, since a pause waits for each of them. */
+static void end_calls(task *tasks, cvm_seat *seats) {
+    int in_call = 1;
+    while (in_call) {
+        in_call = 0;
+        for (size_t i = 0; i < TASKS; i++) {
+            if (tasks[i].is_in_call) {
+                turn(&tasks[i], 8, 0);
+                in_call = 1;
+            }
+        }
+        for (size_t i = TASKS; i < SEATS; i++) {
+            MUST(!cvm_is_refusal(cvm_work(&seats[i], 64)));
+        }
+    }
+}
+
 /* Ends what is in progress, then the mutators, then the workers. */
 static void end(task *tasks, cvm_seat *seats) {
     cvm_value value;
+    end_calls(tasks, seats);
     for (size_t i = 0; i < TASKS; i++) {
-        if (tasks[i].is_in_call) {
-            take_reply(&tasks[i], cvm_wait_working(&seats[i], seats + TASKS, HELPERS + 1, &value), &value);
-        }
         MUST(cvm_end(&seats[i]) == CVM_DONE);
         MUST(cvm_wait_working(&seats[i], seats + TASKS, HELPERS + 1, &value) == CVM_ENDED);
     }
-    for (size_t i = SEATS - 1; i >= TASKS; i--) {
-        while (cvm_work(&seats[i], 100) != CVM_ENDED) {
+    for (size_t ended = 0; ended < HELPERS + 1;) {
+        ended = 0;
+        for (size_t i = TASKS; i < SEATS; i++) { /* in turns, since the control may wait for a helper */
+            ended += cvm_work(&seats[i], 100) == CVM_ENDED;
         }
     }
     MUST(cvm_close_all(seats, SEATS) == CVM_DONE);

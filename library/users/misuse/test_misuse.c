@@ -230,9 +230,8 @@ static void ends(cvm_seat *seats) {
         MUST(cvm_work(&seats[i], 1) == CVM_WRONG_SEAT);
     }
     MUST(cvm_close_all(seats, SEATS) == CVM_BUSY);
-    while (cvm_work(&seats[CONTROL], 100) != CVM_ENDED) {
-    }
-    while (cvm_work(&seats[HELPER], 100) != CVM_ENDED) {
+    for (int ended = 0; ended < 2;) {
+        ended = (cvm_work(&seats[CONTROL], 100) == CVM_ENDED) + (cvm_work(&seats[HELPER], 100) == CVM_ENDED);
     }
     MUST(cvm_work(&seats[CONTROL], 0) == CVM_ENDED);
     MUST(is_state(&seats[CONTROL], 4, CVM_CONTROL, CVM_IS_OVER, 0));

@@ -178,7 +178,7 @@ static void work(cvm_seat *seats, uint64_t random) {
 
 static uint64_t run(uint64_t seed, uint64_t calls, uint64_t *fulls) {
     static graph graph;
-    cvm_config config = {.regions = 8, .region_words = 64, .mutators = MUTATORS, .helpers = 1, .reserve = 1};
+    cvm_config config = {.regions = 5, .region_words = 64, .mutators = MUTATORS, .helpers = 1, .reserve = 1};
     cvm_seat seats[SEATS] = {{0}};
     uint64_t random = seed, made = 0;
     begin_graph(&graph);
