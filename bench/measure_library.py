@@ -82,32 +82,34 @@ def operations(bench):
         print(f"{command:8}" + "".join(f"{all / 1e6:9.3f} /{own / 1e6:5.2f}" for all, own in row), flush=True)
 
 
-def tell(name, nodes, seconds, ours):
-    rate = nodes / seconds / 1e6
-    print(f"  {name:42} {seconds:9.3f} s for {nodes:9.0f}, {rate:8.3f} million a second" + (f", {rate / ours:.1f} times ours" if ours else ""), flush=True)
-    return rate
+def tell(name, many, seconds, busy, ours):
+    """Writes the rates by the clock and by processor time, and how many times ours they are."""
+    rates = many / seconds / 1e6, many / busy / 1e6
+    beside = f"; {rates[0] / ours[0]:.0f} and {rates[1] / ours[1]:.0f} times ours" if ours else ""
+    print(f"  {name:38}{many:9.0f} in {seconds:7.3f} s: {rates[0]:7.3f} million a second, {rates[1]:7.3f} in a second of processor time{beside}", flush=True)
+    return rates
 
 
 def lists(bench):
     heap, plain = bench.over_heap("list_heap"), bench.build("list_plain", "list_plain.c")
-    boehm = bench.boehm("list_plain")
-    java = has_shenandoah(bench)
+    boehm, java = bench.boehm("list_plain"), has_shenandoah(bench)
     for threads in (1, 2, 4):
         length, times = 1000, 100
         print(f"lists: {threads} threads, lists of {length} numbers; nodes made, read and let go")
         rates = {}
-        for regions, words in ((64, 1024), (16, 1024)):
-            total, seconds, longest = median_of(1, heap, length, times, threads, regions, words, 0)
+        for regions, words in ((64, 1024), (32, 1024)):
+            total, seconds, busy, mutators, longest = median_of(3, heap, length, times, threads, regions, words, 0)
             check_sum(total, length, times, threads)
-            rates[regions] = tell(f"covremuj, {regions} regions of {words} words", length * times * threads, seconds, None)
-            print(f"  {'':42} the longest call that waited {longest:.3f} ms")
+            many = length * times * threads
+            rates[regions] = tell(f"covremuj, {regions} regions of {words} words", many, seconds, busy, None)
+            print(f"    of {busy:.3f} s of processor time {mutators:.3f} in the threads that make lists; the longest call that waited {longest:.3f} ms")
         times *= 20
-        rows = [("malloc and free", [plain]), ("Boehm's collector", [boehm]), ("Shenandoah of the JDK, its threads", java)]
+        rows = [("malloc and free", [plain]), ("Boehm's collector", [boehm]), ("Shenandoah of the JDK", java)]
         for name, words in rows:
             if words and words[0]:
-                total, seconds = median_of(1, *words, length, times, threads)
+                total, seconds, busy = median_of(2, *words, length, times, threads)
                 check_sum(total, length, times, threads)
-                tell(name, length * times * threads, seconds, rates[64])
+                tell(name, length * times * threads, seconds, busy, rates[64])
 
 
 def check_sum(total, length, times, threads):
@@ -136,17 +138,21 @@ def maps(bench):
         print(f"maps: {threads} threads, 1000 keys, half of the operations reads; operations of all threads")
         rates = []
         for regions, words in ((64, 1024), (32, 1024)):
-            left, wanted, seconds = median_of(2, heap, 1000, many, threads, regions, words, 0)
-            if left != wanted:
-                stop(f"{left} keys are left, and not {wanted}")
-            rates.append(tell(f"covremuj, {regions} regions of {words} words", many * threads, seconds, None))
+            left, wanted, seconds, busy, mutators = median_of(4, heap, 1000, many, threads, regions, words, 0)
+            check_keys(left, wanted)
+            rates.append(tell(f"covremuj, {regions} regions of {words} words", many * threads, seconds, busy, None))
+            print(f"    of {busy:.3f} s of processor time {mutators:.3f} in the threads that use the map")
         many *= 20
         for name, program in (("malloc and free, one lock", plain), ("Boehm's collector, compare-exchange", boehm)):
             if program:
-                left, wanted, seconds = median_of(2, program, 1000, many, threads)
-                if left != wanted:
-                    stop(f"{left} keys are left, and not {wanted}")
-                tell(name, many * threads, seconds, rates[0])
+                left, wanted, seconds, busy = median_of(3, program, 1000, many, threads)
+                check_keys(left, wanted)
+                tell(name, many * threads, seconds, busy, rates[0])
+
+
+def check_keys(left, wanted):
+    if left != wanted:
+        stop(f"{left} keys are left, and not {wanted}")
 
 
 def sizes(bench):

@@ -16,16 +16,18 @@
  *     cvm_set(&seats[0], 0, 3, 1);        field 3 of the hub, which root 0 names, becomes root 1
  *     cvm_finish(&seats[0]);              the mutator ends; then the control does
  *     cvm_join_workers(workers);
- *     cvm_close_all(seats, 2);
+ *     cvm_close(&seats[0]);
+ *     cvm_close(&seats[1]);               the last seat of a heap frees it
  *
  * An object has 0 to 16 references and 0 to 16 numbers of 64 bits, which are null and 0 at first. It takes 3 words of
  * 8 bytes, and one more for each reference and each number. The hub is an object of 16 references and no number that
  * exists from the start, and that root 0 of every mutator names at first. All other roots are null at first.
  *
- * WHAT IS PROVED. The functions of the part "The proved functions" below are compiled from proved text: each call
- * that they end is answered as by one graph of objects that never moves or frees an object, in one order of all calls
- * of all threads (docs/LIBRARY.md says by which contracts). The inline functions, the file library/workers.c, and the
- * wrappers for other languages are not proved. Nothing is claimed about time, progress or fairness.
+ * WHAT IS PROVED. The functions of the part "The proved functions" below are compiled from proved text. What a seat
+ * was answered is its thread's part of a legal history: one order of the calls of all threads, in which each is
+ * answered as by a graph of objects that are never moved and never freed (docs/LIBRARY.md says by which contracts).
+ * The inline functions, the file library/workers.c, and the wrappers for other languages are not proved. Nothing is
+ * claimed about time, progress or fairness.
  *
  * WHAT IS BELIEVED AT THE BORDER. The proved functions check all that they can see: an empty seat, a seat of the
  * wrong kind, a call in progress, numbers out of range. They cannot check this:

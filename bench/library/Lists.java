@@ -1,4 +1,7 @@
-/** The list program on the JDK's heap: `Lists LENGTH TIMES THREADS` writes the sum of all, and the seconds of the threads. */
+import com.sun.management.OperatingSystemMXBean;
+import java.lang.management.ManagementFactory;
+
+/** The list program on the JDK's heap: `Lists LENGTH TIMES THREADS` writes the sum of all, the seconds of the threads, and those of processor time meanwhile. */
 public class Lists {
     static final class Node {
         final Node next;
@@ -36,6 +39,8 @@ public class Lists {
 
     public static void main(String[] words) throws InterruptedException {
         Lister[] threads = new Lister[Integer.parseInt(words[2])];
+        OperatingSystemMXBean system = (OperatingSystemMXBean) ManagementFactory.getOperatingSystemMXBean();
+        long busy = system.getProcessCpuTime();
         long start = System.nanoTime();
         for (int i = 0; i < threads.length; i++) {
             threads[i] = new Lister(Integer.parseInt(words[0]), Integer.parseInt(words[1]));
@@ -46,6 +51,6 @@ public class Lists {
             thread.join();
             sum += thread.sum;
         }
-        System.out.println(sum + " " + (System.nanoTime() - start) / 1e9);
+        System.out.println(sum + " " + (System.nanoTime() - start) / 1e9 + " " + (system.getProcessCpuTime() - busy) / 1e9);
     }
 }

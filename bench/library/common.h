@@ -18,6 +18,11 @@ static inline double now(void) {
     return (double)time.tv_sec + (double)time.tv_nsec * 1e-9;
 }
 
+/* Seconds of processor time of all threads. */
+static inline double process_time(void) {
+    return (double)clock() / CLOCKS_PER_SEC;
+}
+
 static inline void must(int is_true, const char *what) {
     if (!is_true) {
         fprintf(stderr, "not true: %s\n", what);
@@ -86,7 +91,9 @@ static inline double run_bench(bench *bench, void (*body)(runner *)) {
     }
     double seconds = now() - start;
     cvm_join_workers(bench->workers);
-    must(cvm_close_all(bench->seats, cvm_seat_count(&bench->config)) == CVM_DONE, "the heap closes");
+    for (size_t i = 0; i < cvm_seat_count(&bench->config); i++) {
+        must(cvm_close(&bench->seats[i]) == CVM_DONE, "a seat closes");
+    }
     return seconds;
 }
 

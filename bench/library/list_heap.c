@@ -44,7 +44,7 @@ static void body(runner *me) {
 
 int main(int count, char **words) {
     static bench bench;
-    double longest = 0;
+    double longest = 0, busy = 0;
     if (count != 7) {
         return 2;
     }
@@ -54,7 +54,8 @@ int main(int count, char **words) {
     double seconds = run_bench(&bench, body);
     for (size_t i = 0; i < bench.config.mutators; i++) {
         longest = bench.runners[i].longest > longest ? bench.runners[i].longest : longest;
+        busy += bench.runners[i].busy;
     }
-    printf("%llu %.6f %.3f\n", (unsigned long long)atomic_load(&sum), seconds, longest * 1e3);
+    printf("%llu %.6f %.6f %.6f %.3f\n", (unsigned long long)atomic_load(&sum), seconds, process_time(), busy, longest * 1e3);
     return 0;
 }

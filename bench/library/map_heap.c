@@ -72,6 +72,10 @@ int main(int count, char **words) {
     threads = number_word(words, 3);
     open_bench(&bench, number_word(words, 4), number_word(words, 5), threads, number_word(words, 6));
     double seconds = run_bench(&bench, body);
-    printf("%llu %lld %.6f\n", (unsigned long long)left, atomic_load(&balance), seconds);
+    double busy = 0;
+    for (size_t i = 0; i < threads; i++) {
+        busy += bench.runners[i].busy;
+    }
+    printf("%llu %lld %.6f %.6f %.6f\n", (unsigned long long)left, atomic_load(&balance), seconds, process_time(), busy);
     return 0;
 }

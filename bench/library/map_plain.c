@@ -181,6 +181,6 @@ int main(int count, char **words) {
         pthread_join(threads[i], NULL);
     }
     double seconds = now() - start;
-    printf("%lld %lld %.6f\n", count_below(top), (long long)atomic_load(&balance), seconds);
+    printf("%lld %lld %.6f %.6f\n", count_below(top), (long long)atomic_load(&balance), seconds, (double)clock() / CLOCKS_PER_SEC);
     return 0;
 }

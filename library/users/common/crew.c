@@ -2,6 +2,17 @@
 
 #include <pthread.h>
 #include <stdalign.h>
+#include <stdatomic.h>
+
+static atomic_ullong waits;
+
+/* A call that waits calls this with 0 rounds at first. */
+void waits_back_off(uint32_t *rounds) {
+    if (*rounds == 0) {
+        atomic_fetch_add(&waits, 1);
+    }
+    cvm_back_off(rounds);
+}
 
 /* A thread, and its mutator, on a cache line of its own. */
 typedef struct member {
@@ -9,18 +20,23 @@ typedef struct member {
     size_t number;
     crew_body *body;
     void *context;
+    uint64_t objects; /* that it made */
     pthread_t thread;
 } member;
 
 static void *live(void *context) {
     member *me = context;
+    cvm_state state;
     me->body(&me->seat, me->number, me->context);
+    MUST(cvm_look(&me->seat, &state) == CVM_DONE);
+    me->objects = state.made;
     MUST(cvm_finish(&me->seat) == CVM_ENDED);
     return NULL;
 }
 
-static void run_members(cvm_seat *seats, size_t count, crew_body *body, void *context) {
+static uint64_t run_members(cvm_seat *seats, size_t count, crew_body *body, void *context) {
     static member members[CVM_MOST_MUTATORS];
+    uint64_t objects = 0;
     for (size_t i = 0; i < count; i++) {
         members[i].number = i;
         members[i].body = body;
@@ -31,16 +47,23 @@ static void run_members(cvm_seat *seats, size_t count, crew_body *body, void *co
     for (size_t i = 0; i < count; i++) {
         MUST(pthread_join(members[i].thread, NULL) == 0);
         cvm_move(&seats[i], &members[i].seat);
+        objects += members[i].objects;
     }
+    return objects;
 }
 
-void crew_run(const cvm_config *config, crew_body *body, void *context) {
+crew_counts crew_run(const cvm_config *config, crew_body *body, void *context) {
     cvm_seat seats[CVM_MOST_SEATS] = {{0}};
     size_t count = cvm_seat_count(config);
     cvm_workers *workers = NULL;
+    atomic_store(&waits, 0);
     MUST(cvm_open(config, seats, count) == CVM_DONE);
     MUST(cvm_start_workers(seats + config->mutators, config->helpers + 1, &workers) == CVM_DONE);
-    run_members(seats, config->mutators, body, context);
+    crew_counts counts = {run_members(seats, config->mutators, body, context), 0};
     cvm_join_workers(workers);
-    MUST(cvm_close_all(seats, count) == CVM_DONE);
+    for (size_t i = 0; i < count; i++) {
+        MUST(cvm_close(&seats[i]) == CVM_DONE);
+    }
+    counts.waits = atomic_load(&waits);
+    return counts;
 }

@@ -3,6 +3,7 @@
 #define CREW_H
 
 #include "covremuj.h"
+#include "waits.h"
 
 #include <stdio.h>
 #include <stdlib.h>
@@ -28,10 +29,16 @@ static inline uint64_t random_next(uint64_t *state) {
 /* What a thread does with the mutator that is its own; `thread` counts from 0. It does not end the mutator. */
 typedef void crew_body(cvm_seat *seat, size_t thread, void *context);
 
+/* What the mutators of a heap did. */
+typedef struct crew_counts {
+    uint64_t objects; /* that they made */
+    uint64_t waits;   /* calls that had to wait */
+} crew_counts;
+
 /*
  * Opens a heap, runs the body in a thread for each mutator while others work for helpers and control, ends all, and
  * frees it.
  */
-void crew_run(const cvm_config *config, crew_body *body, void *context);
+crew_counts crew_run(const cvm_config *config, crew_body *body, void *context);
 
 #endif

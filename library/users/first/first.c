@@ -66,7 +66,9 @@ int main(void) {
         pthread_join(threads[i], NULL);
     }
     cvm_join_workers(workers);
-    said = cvm_close_all(seats, 4);
-    printf("40 lists of 1000 numbers, %s\n", cvm_status_name(said));
-    return said == CVM_DONE ? 0 : 1;
+    for (int i = 0; i < 4; i++) {
+        cvm_close(&seats[i]); /* the last one frees the heap */
+    }
+    puts("40 lists of 1000 numbers");
+    return 0;
 }

@@ -161,14 +161,41 @@ static void play(cvm_seat *seat, size_t thread, void *context) {
     map_leave(&map);
 }
 
+/* One thread alone puts keys until the heap is full, finds all of them, and takes them out again, three times. */
+static void fill(cvm_seat *seat, size_t thread, void *context) {
+    map map = {seat, TOP, ROOM};
+    uint64_t value = 0;
+    MUST(thread == 0 && map_make(&map) == MAP_NONE);
+    for (uint64_t time = 0; time < 3; time++) {
+        uint64_t many = 0, key;
+        while (map_put(&map, many, many + time, &value) == MAP_NONE) {
+            many++;
+        }
+        MUST(many > 0 && map_get(&map, many, &value) == MAP_NONE); /* the one that found no room is not there */
+        for (key = 0; key < many; key++) {
+            MUST(map_get(&map, key, &value) == MAP_FOUND && value == key + time);
+            MUST(map_remove(&map, key, &value) == MAP_FOUND && value == key + time);
+            MUST(map_get(&map, key, &value) == MAP_NONE);
+        }
+        MUST(map_count(&map, &value) == MAP_FOUND && value == 0);
+        *(uint64_t *)context += many;
+    }
+    map_leave(&map);
+}
+
 int main(int count, char **words) {
     uint32_t operations = count > 1 ? (uint32_t)strtoul(words[1], NULL, 10) : 2000;
+    cvm_config alone = {.regions = 8, .region_words = 64, .mutators = 1, .helpers = 1, .reserve = 1};
+    uint64_t many = 0;
+    crew_counts filled = crew_run(&alone, fill, &many);
+    printf("map: one thread put %llu keys, three times until the heap was full; %llu calls waited\n", (unsigned long long)many,
+           (unsigned long long)filled.waits);
     for (size_t threads = 1; threads <= CVM_MOST_MUTATORS; threads++) {
-        cvm_config config = {.regions = 8 + 3 * threads, .region_words = 128, .mutators = threads, .helpers = threads % 3, .reserve = 2};
+        cvm_config config = {.regions = 6 + 4 * threads, .region_words = 64, .mutators = threads, .helpers = threads % 3, .reserve = 2};
         round round = {.threads = threads, .seed = threads, .operations = operations};
-        crew_run(&config, play, &round);
-        printf("map: %zu threads, %u operations each, %llu additions, %llu keys in the end, %llu answers that the heap is full\n", threads, operations,
-               atomic_load(&round.adds), atomic_load(&round.keys), atomic_load(&round.fulls));
+        crew_counts did = crew_run(&config, play, &round);
+        printf("map: %zu threads, %u operations each, on %zu words: %llu objects made, %llu calls waited, %llu found the heap full\n", threads,
+               operations, config.regions * config.region_words, (unsigned long long)did.objects, (unsigned long long)did.waits, atomic_load(&round.fulls));
     }
     return 0;
 }

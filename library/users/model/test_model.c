@@ -132,8 +132,8 @@ static call random_call(uint64_t *random) {
     uint32_t field = (uint32_t)(r >> 32) % 8 == 0 ? (uint32_t)(r >> 40) % 32 : (uint32_t)(r >> 40) % 3;
     call call = {.op = (cvm_op)(r % 11), .a = words[0], .b = words[1], .c = words[2], .d = (uint32_t)(r >> 48) % CVM_ROOTS, .value = random_next(random)};
     if (call.op == CVM_NEW) {
-        call.b = (uint32_t)(r >> 40) % 64 == 0 ? 16 : words[1] % 4;
-        call.c = words[2] % 4;
+        call.b = (uint32_t)(r >> 40) % 4 == 0 ? 16 : words[1] % 4;
+        call.c = (uint32_t)(r >> 42) % 4 == 0 ? 16 : words[2] % 4;
     } else if (call.op == CVM_GET || call.op == CVM_XCHG) {
         call.c = field;
     } else if (call.op != CVM_COPY && call.op != CVM_SAME) {
@@ -178,7 +178,7 @@ static void work(cvm_seat *seats, uint64_t random) {
 
 static uint64_t run(uint64_t seed, uint64_t calls, uint64_t *fulls) {
     static graph graph;
-    cvm_config config = {.regions = 5, .region_words = 64, .mutators = MUTATORS, .helpers = 1, .reserve = 1};
+    cvm_config config = {.regions = 6, .region_words = 64, .mutators = MUTATORS, .helpers = 1, .reserve = 1};
     cvm_seat seats[SEATS] = {{0}};
     uint64_t random = seed, made = 0;
     begin_graph(&graph);

@@ -20,7 +20,6 @@ typedef struct round {
     atomic_ullong put;
     atomic_ullong got;
     atomic_ullong fulls;
-    atomic_ullong empties;
     atomic_uchar seen[CVM_MOST_MUTATORS][MOST]; /* how often each number came out */
     uint32_t many[CVM_MOST_MUTATORS];           /* how many numbers each thread has put */
 } round;
@@ -65,7 +64,6 @@ static int take(const queue *queue, round *round, uint64_t *last) {
     uint64_t number = 0;
     queue_answer said = queue_take(queue, &number);
     if (said == QUEUE_EMPTY) {
-        atomic_fetch_add(&round->empties, 1);
         queue_let_go(queue);
         return 0;
     }
@@ -147,11 +145,12 @@ int main(int count, char **words) {
         MUST(round != NULL);
         round->threads = threads;
         round->operations = operations;
-        crew_run(&config, play, round);
+        crew_counts did = crew_run(&config, play, round);
         MUST(atomic_load(&round->put) == atomic_load(&round->got));
         check_all_came(round);
-        printf("queue: %zu threads put and got %llu numbers; %llu takes found none, %llu puts no room\n", threads, atomic_load(&round->put),
-               atomic_load(&round->empties), atomic_load(&round->fulls));
+        printf("queue: %zu threads put and got %llu numbers, on %zu words: %llu objects made, %llu calls waited, %llu found the heap full\n", threads,
+               atomic_load(&round->put), config.regions * config.region_words, (unsigned long long)did.objects, (unsigned long long)did.waits,
+               atomic_load(&round->fulls));
         free(round);
     }
     return 0;
