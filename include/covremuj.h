@@ -74,6 +74,9 @@
 
 #ifdef __cplusplus
 extern "C" {
+#define CVM_ASSERT(condition) static_assert(condition, #condition)
+#else
+#define CVM_ASSERT(condition) _Static_assert(condition, #condition)
 #endif
 
 enum {
@@ -189,6 +192,11 @@ typedef enum cvm_op {
     CVM_SAME = 9, /* a, b:                    CVM_YES or CVM_NO */
     CVM_GC = 10   /*                          CVM_OK */
 } cvm_op;
+
+/* What the archive is compiled for. */
+CVM_ASSERT(sizeof(cvm_status) == 4);
+CVM_ASSERT(sizeof(size_t) == 8 && sizeof(void *) == 8 && sizeof(bool) == 1);
+CVM_ASSERT(sizeof(cvm_seat) == 16);
 
 /* ---- The proved functions. None waits, locks, starts a thread or calls back. ---- */
 
@@ -517,6 +525,7 @@ static inline const char *cvm_status_name(cvm_status status) {
     return "no status";
 }
 
+#undef CVM_ASSERT
 #ifdef __cplusplus
 }
 #endif

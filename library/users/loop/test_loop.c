@@ -175,10 +175,41 @@ static void try_new(void) {
     MUST(cvm_close(&seats[0]) == CVM_DONE && cvm_close(&seats[1]) == CVM_DONE);
 }
 
+/* Makes so many objects, and waits for others where there is no room; the workers' own seats are empty where threads have them. */
+static void make_many(cvm_seat *seats, uint64_t many, int by_hand) {
+    cvm_value value;
+    for (uint64_t i = 0; i < many; i++) {
+        MUST(cvm_begin(&seats[0], CVM_NEW, 1, 16, 0, 0, 0) == CVM_DONE);
+        cvm_status said = by_hand ? cvm_wait_working(&seats[0], seats + 1, 2, &value) : cvm_wait(&seats[0], &value);
+        MUST(said == CVM_REF);
+    }
+}
+
+/* Helper and control go from this thread to threads of their own, back in the middle of whatever they do, and out again. */
+static void stop_and_go_on(void) {
+    cvm_config config = {.regions = 6, .region_words = 64, .mutators = 1, .helpers = 1, .reserve = 1};
+    cvm_seat seats[3] = {{0}};
+    cvm_workers *workers = NULL;
+    MUST(cvm_open(&config, seats, 3) == CVM_DONE);
+    for (int time = 0; time < 20; time++) {
+        make_many(seats, 50, 1);
+        MUST(cvm_start_workers(seats + 1, 2, &workers) == CVM_DONE);
+        MUST(!cvm_is_open(&seats[1]) && !cvm_is_open(&seats[2]));
+        make_many(seats, 50, 0);
+        cvm_stop_workers(workers);
+        MUST(cvm_is_open(&seats[1]) && cvm_is_open(&seats[2]));
+    }
+    MUST(cvm_start_workers(seats + 1, 2, &workers) == CVM_DONE);
+    MUST(cvm_finish(&seats[0]) == CVM_ENDED);
+    cvm_join_workers(workers);
+    MUST(cvm_close_all(seats, 3) == CVM_DONE);
+}
+
 int main(int count, char **words) {
     uint64_t turns = count > 1 ? strtoull(words[1], NULL, 10) : 400000;
     static task tasks[TASKS];
     try_new();
+    stop_and_go_on();
     for (uint64_t seed = 1; seed <= 3; seed++) {
         cvm_config config = {.regions = 8, .region_words = 64, .mutators = TASKS, .helpers = HELPERS, .reserve = 1};
         cvm_seat seats[SEATS] = {{0}};
