@@ -43,8 +43,9 @@
  *   4. No call is made from a handler of signals, in the child of a fork where there were threads, or by the
  *      program's own malloc. A handler that breaks in between two accesses of its thread's own call does what rule 1
  *      forbids.
- *   5. malloc, realloc and free are those of one allocator that keeps the rules of C. The memory of the heap and
- *      of the seats comes from there, once, in cvm_open; a call of a seat takes no memory.
+ *   5. malloc, realloc and free are those of one allocator, which aligns a block to each power of two up to 16 that
+ *      divides its size. The memory of the heap and of the seats comes from there, once, in cvm_open; a call of a
+ *      seat takes no memory.
  *
  * These are no matters of safety, but a program stands still where they are broken:
  *
@@ -247,8 +248,9 @@ cvm_status cvm_look(cvm_seat *seat, cvm_state *state);
 cvm_status cvm_close(cvm_seat *seat);
 
 /*
- * Gives all seats of a heap up that has come to its end, and frees it. `seats` and `count` as for cvm_open. Answers
- * CVM_DONE, or CVM_NOT_OPEN, CVM_NOT_ALL, CVM_BUSY, and then nothing has changed.
+ * Gives all seats of a heap up that has come to its end, and frees it. `seats` and `count` as for cvm_open; no other
+ * call is made on a seat of that heap meanwhile. Answers CVM_DONE, or CVM_NOT_OPEN, CVM_NOT_ALL, CVM_BUSY, and then
+ * nothing has changed.
  */
 cvm_status cvm_close_all(cvm_seat *seats, size_t count);
 

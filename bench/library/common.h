@@ -11,6 +11,9 @@
 #include <stdlib.h>
 #include <string.h>
 #include <time.h>
+#if defined(__GLIBC__)
+#include <malloc.h>
+#endif
 
 static inline double now(void) {
     struct timespec time;
@@ -47,14 +50,26 @@ typedef struct bench {
     cvm_workers *workers;
     runner runners[CVM_MOST_MUTATORS];
     double opening; /* seconds of cvm_open */
+    double bytes;   /* that it took, where the C library tells */
 } bench;
+
+/* Bytes that are taken of malloc, or 0 where the C library does not tell. */
+static inline double taken(void) {
+#if defined(__GLIBC__) && (__GLIBC__ > 2 || __GLIBC_MINOR__ >= 33)
+    struct mallinfo2 info = mallinfo2();
+    return (double)info.uordblks + (double)info.hblkhd;
+#else
+    return 0;
+#endif
+}
 
 static inline void open_bench(bench *bench, size_t regions, size_t words, size_t mutators, size_t helpers) {
     memset(bench, 0, sizeof *bench);
     bench->config = (cvm_config){regions, words, mutators, helpers, regions / 8};
-    double start = now();
+    double start = now(), before = taken();
     cvm_status said = cvm_open(&bench->config, bench->seats, cvm_seat_count(&bench->config));
     bench->opening = now() - start;
+    bench->bytes = taken() - before;
     if (said != CVM_DONE) {
         printf("%s\n", cvm_status_name(said));
         exit(3);

@@ -11,23 +11,10 @@
 #define _POSIX_C_SOURCE 200809L
 #include "common.h"
 
-#include <unistd.h>
-
 enum { MOST_WAITS = 1 << 16 };
 
 static uint64_t keep, millis, waits;
 static double wait_times[MOST_WAITS];
-
-/* Bytes of memory that the process has in use. */
-static double resident(void) {
-    unsigned long long all = 0, used = 0;
-    FILE *file = fopen("/proc/self/statm", "r");
-    if (file == NULL || fscanf(file, "%llu %llu", &all, &used) != 2) {
-        return 0;
-    }
-    fclose(file);
-    return (double)used * (double)sysconf(_SC_PAGESIZE);
-}
 
 static cvm_status timed(runner *me, cvm_op op, uint32_t a, uint32_t b, uint32_t c) {
     cvm_value value;
@@ -78,15 +65,13 @@ int main(int count, char **words) {
     uint64_t regions = number_word(words, 1), region_words = number_word(words, 2);
     keep = regions * region_words * number_word(words, 3) / 100 / 8;
     millis = number_word(words, 5);
-    double before = resident();
     open_bench(&bench, regions, region_words, 1, number_word(words, 4));
-    double bytes = resident() - before, opening = bench.opening;
     run_bench(&bench, body);
     size_t many = waits < MOST_WAITS ? waits : MOST_WAITS;
     qsort(wait_times, many, sizeof wait_times[0], by_size);
     const runner *one = &bench.runners[0];
     double median = many == 0 ? 0 : wait_times[many / 2];
-    printf("%.0f %.6f %llu %llu %.3f %.3f\n", bytes, opening, (unsigned long long)one->count, (unsigned long long)waits,
+    printf("%.0f %.6f %llu %llu %.3f %.3f\n", bench.bytes, bench.opening, (unsigned long long)one->count, (unsigned long long)waits,
            one->longest * 1e3, median * 1e3);
     return 0;
 }
