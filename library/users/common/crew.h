@@ -33,6 +33,7 @@ typedef void crew_body(cvm_seat *seat, size_t thread, void *context);
 typedef struct crew_counts {
     uint64_t objects; /* that they made */
     uint64_t waits;   /* calls that had to wait */
+    uint64_t pauses;  /* of the collector */
 } crew_counts;
 
 /*

@@ -8,6 +8,7 @@
  * middle of other calls.
  */
 #include "../common/crew.h"
+#include "../common/pauses.h"
 
 enum { TASKS = 3, HELPERS = 2, SEATS = TASKS + HELPERS + 1, MOST = 4096, LONGEST = 8, STACK = 1, NODE = 2 };
 
@@ -107,14 +108,16 @@ static void turn(task *task, uint32_t steps, uint64_t random) {
 }
 
 /* The loop: each turn is that of one seat. */
-static void loop(task *tasks, cvm_seat *seats, uint64_t turns, uint64_t *random) {
+static void loop(task *tasks, cvm_seat *seats, pauses *pauses, uint64_t turns, uint64_t *random) {
     for (uint64_t i = 0; i < turns; i++) {
         uint64_t r = random_next(random);
         uint32_t seat = (uint32_t)(r >> 32) % SEATS, steps = 1 + (uint32_t)(r >> 40) % 24;
         if (seat < TASKS) {
             turn(&tasks[seat], steps, r >> 8);
+        } else if (seat < SEATS - 1) {
+            MUST(!cvm_is_refusal(cvm_work(&seats[seat], steps)));
         } else {
-            MUST(!cvm_is_refusal(cvm_work(&seats[seat], seat == SEATS - 1 ? 8 * steps : steps)));
+            MUST(!cvm_is_refusal(pauses_work(pauses, &seats[seat], 8 * steps)));
         }
     }
 }
@@ -218,15 +221,16 @@ int main(int count, char **words) {
         for (size_t i = 0; i < TASKS; i++) {
             tasks[i] = (task){.seat = &seats[i]};
         }
-        loop(tasks, seats, turns, &random);
+        pauses pauses = pauses_of(&config);
+        loop(tasks, seats, &pauses, turns, &random);
         end(tasks, seats);
         for (size_t i = 0; i < TASKS; i++) {
             calls += tasks[i].calls;
             waits += tasks[i].waits;
             fulls += tasks[i].fulls;
         }
-        printf("loop: seed %llu: %llu calls in pieces, %llu turns that had to wait, %llu answers that the heap is full\n", (unsigned long long)seed,
-               (unsigned long long)calls, (unsigned long long)waits, (unsigned long long)fulls);
+        printf("loop: seed %llu: %llu calls in pieces, %llu pauses, %llu turns that had to wait, %llu answers that the heap is full\n",
+               (unsigned long long)seed, (unsigned long long)calls, (unsigned long long)pauses.many, (unsigned long long)waits, (unsigned long long)fulls);
     }
     return 0;
 }

@@ -188,14 +188,15 @@ int main(int count, char **words) {
     cvm_config alone = {.regions = 8, .region_words = 64, .mutators = 1, .helpers = 1, .reserve = 1};
     uint64_t many = 0;
     crew_counts filled = crew_run(&alone, fill, &many);
-    printf("map: one thread put %llu keys, three times until the heap was full; %llu calls waited\n", (unsigned long long)many,
-           (unsigned long long)filled.waits);
+    printf("map: one thread put %llu keys, three times until the heap was full; %llu pauses, %llu calls waited\n", (unsigned long long)many,
+           (unsigned long long)filled.pauses, (unsigned long long)filled.waits);
     for (size_t threads = 1; threads <= CVM_MOST_MUTATORS; threads++) {
         cvm_config config = {.regions = 6 + 4 * threads, .region_words = 64, .mutators = threads, .helpers = threads % 3, .reserve = 2};
         round round = {.threads = threads, .seed = threads, .operations = operations};
         crew_counts did = crew_run(&config, play, &round);
-        printf("map: %zu threads, %u operations each, on %zu words: %llu objects made, %llu calls waited, %llu found the heap full\n", threads,
-               operations, config.regions * config.region_words, (unsigned long long)did.objects, (unsigned long long)did.waits, atomic_load(&round.fulls));
+        printf("map: %zu threads, %u operations each, on %zu words: %llu objects made, %llu pauses, %llu calls waited, %llu found the heap full\n", threads,
+               operations, config.regions * config.region_words, (unsigned long long)did.objects, (unsigned long long)did.pauses,
+               (unsigned long long)did.waits, atomic_load(&round.fulls));
     }
     return 0;
 }

@@ -137,8 +137,9 @@ int main(int count, char **words) {
     cvm_config alone = {.regions = 6, .region_words = 64, .mutators = 1, .helpers = 1, .reserve = 1};
     uint64_t put_alone = 0;
     MUST(operations <= MOST);
-    crew_run(&alone, play_alone, &put_alone);
-    printf("queue: one thread put and got %llu numbers, three times until the heap was full\n", (unsigned long long)put_alone);
+    crew_counts filled = crew_run(&alone, play_alone, &put_alone);
+    printf("queue: one thread put and got %llu numbers, three times until the heap was full; %llu pauses\n", (unsigned long long)put_alone,
+           (unsigned long long)filled.pauses);
     for (size_t threads = 1; threads <= CVM_MOST_MUTATORS; threads++) {
         cvm_config config = {.regions = 6 + 3 * threads, .region_words = 64, .mutators = threads, .helpers = threads % 2, .reserve = 2};
         round *round = calloc(1, sizeof *round);
@@ -148,8 +149,9 @@ int main(int count, char **words) {
         crew_counts did = crew_run(&config, play, round);
         MUST(atomic_load(&round->put) == atomic_load(&round->got));
         check_all_came(round);
-        printf("queue: %zu threads put and got %llu numbers, on %zu words: %llu objects made, %llu calls waited, %llu found the heap full\n", threads,
-               atomic_load(&round->put), config.regions * config.region_words, (unsigned long long)did.objects, (unsigned long long)did.waits,
+        printf("queue: %zu threads put and got %llu numbers, on %zu words: %llu objects made, %llu pauses, %llu calls waited, %llu found the heap full\n", threads,
+               atomic_load(&round->put), config.regions * config.region_words, (unsigned long long)did.objects, (unsigned long long)did.pauses,
+               (unsigned long long)did.waits,
                atomic_load(&round->fulls));
         free(round);
     }
