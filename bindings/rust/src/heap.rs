@@ -1,0 +1,175 @@
+use crate::error::Error;
+use crate::ffi::{self, Seat, Sizes};
+use crate::mutator::Mutator;
+use std::marker::PhantomData;
+use std::sync::atomic::{AtomicBool, Ordering::SeqCst};
+use std::sync::{Arc, Mutex};
+use std::thread::JoinHandle;
+
+/// The sizes of a heap.
+#[derive(Clone, Copy, Debug, PartialEq, Eq)]
+pub struct Config {
+    /// Regions, 4 to 64.
+    pub regions: usize,
+    /// Words of 8 bytes of each region, 64 to 33554432.
+    pub region_words: usize,
+    /// Mutators, 1 to 8.
+    pub mutators: usize,
+    /// Helpers of the control, 0 to 3.
+    pub helpers: usize,
+    /// Free regions that a new object leaves to the copies of a collection, fewer than the regions.
+    pub reserve: usize,
+}
+
+// A seat that this thread may use, wherever it came from: the library orders nothing by threads.
+pub(crate) struct Owned(pub(crate) Seat);
+
+// SAFETY: a seat may go from one thread to another where something orders that, and what moves a value of Rust does.
+unsafe impl Send for Owned {}
+
+impl Drop for Owned {
+    fn drop(&mut self) {
+        // SAFETY: the seat is this value's own. Closing one that is empty does nothing.
+        unsafe { ffi::cvm_close(&mut self.0) };
+    }
+}
+
+fn open(config: &Config) -> Result<Vec<Owned>, Error> {
+    let sizes = Sizes {
+        regions: config.regions,
+        region_words: config.region_words,
+        mutators: config.mutators,
+        helpers: config.helpers,
+        reserve: config.reserve,
+    };
+    // Sizes that are out of range get one seat, and their own refusal, which comes before that of the count.
+    let count = if config.mutators <= 8 && config.helpers <= 3 { config.mutators + config.helpers + 1 } else { 1 };
+    let mut seats: Vec<Seat> = (0..count).map(|_| Seat::none()).collect();
+    // SAFETY: both pointers are to values of this frame, the second to as many as `count` says, each of them empty.
+    match unsafe { ffi::cvm_open(&sizes, seats.as_mut_ptr(), count) } {
+        ffi::DONE => Ok(seats.into_iter().map(Owned).collect()),
+        status => Err(Error::of(status)),
+    }
+}
+
+/// A helper or the control, for those who give it its steps themselves ([`Seats`]).
+pub struct Worker<'heap> {
+    pub(crate) seat: Owned,
+    heap: PhantomData<&'heap ()>,
+}
+
+impl Worker<'_> {
+    /// Makes at most so many steps: `Some(true)` if all were made, `Some(false)` if the machine waits, or finds nothing to do, and `None` if it has ended.
+    pub fn work(&mut self, steps: u32) -> Option<bool> {
+        // SAFETY: the seat is this value's own, and `&mut` keeps other calls away.
+        match unsafe { ffi::cvm_work(&mut self.seat.0, steps) } {
+            ffi::MORE => Some(true),
+            ffi::AGAIN => Some(false),
+            _ => None,
+        }
+    }
+}
+
+/// All seats of a heap, for a program that owns the schedule: nothing happens but by its calls, on whichever threads it makes them.
+///
+/// ```
+/// use covremuj::{Command, Config, Error, Progress, Reply, Seats};
+///
+/// # fn main() -> Result<(), Error> {
+/// let mut seats = Seats::open(&Config { regions: 4, region_words: 64, mutators: 1, helpers: 0, reserve: 0 })?;
+/// let me = &seats.mutators[0];
+/// let mut waits = 0;
+/// for _ in 0..100 {
+///     me.begin(Command::New { dst: 1, references: 16, numbers: 16 })?;
+///     loop {
+///         match me.go(3)? {
+///             Progress::More => {}
+///             Progress::Again => {
+///                 waits += 1; // an event loop would see to something else
+///                 seats.workers[0].work(1000);
+///             }
+///             Progress::Done(Reply::Reference(_)) => break,
+///             Progress::Done(other) => panic!("{other:?}"),
+///         }
+///     }
+/// }
+/// assert!(waits > 0);
+/// # Ok(())
+/// # }
+/// ```
+pub struct Seats {
+    /// The mutators.
+    pub mutators: Vec<Mutator<'static>>,
+    /// The helpers, and the control as the last one.
+    pub workers: Vec<Worker<'static>>,
+}
+
+impl Seats {
+    /// Opens a heap.
+    pub fn open(config: &Config) -> Result<Seats, Error> {
+        let mut mutators = open(config)?;
+        let workers = mutators.split_off(config.mutators);
+        Ok(Seats {
+            mutators: mutators.into_iter().map(|seat| Mutator::new(seat, false)).collect(),
+            workers: workers.into_iter().map(|seat| Worker { seat, heap: PhantomData }).collect(),
+        })
+    }
+}
+
+fn serve(mut worker: Worker<'static>, stops: Arc<AtomicBool>) {
+    let mut rounds = 0;
+    while !stops.load(SeqCst) {
+        match worker.work(4096) {
+            Some(true) => rounds = 0,
+            // SAFETY: the pointer is to a number of this frame.
+            Some(false) => unsafe { ffi::cvm_back_off(&mut rounds) },
+            None => return,
+        }
+    }
+}
+
+/// A heap, with a thread for each helper and the control. Dropping it waits until all of its mutators have ended.
+pub struct Heap {
+    mutators: Mutex<Vec<Mutator<'static>>>,
+    threads: Vec<JoinHandle<()>>,
+}
+
+impl Heap {
+    /// Opens a heap, and starts its threads.
+    pub fn open(config: &Config) -> Result<Heap, Error> {
+        let Seats { mut mutators, workers } = Seats::open(config)?;
+        mutators.reverse();
+        for mutator in &mut mutators {
+            mutator.waits_at_end = true;
+        }
+        let stops = Arc::new(AtomicBool::new(false));
+        let mut threads = Vec::new();
+        for worker in workers {
+            let stopped = Arc::clone(&stops);
+            match std::thread::Builder::new().spawn(move || serve(worker, stopped)) {
+                Ok(thread) => threads.push(thread),
+                Err(_) => {
+                    stops.store(true, SeqCst);
+                    threads.into_iter().for_each(|thread| drop(thread.join()));
+                    mutators.iter_mut().for_each(|mutator| mutator.waits_at_end = false);
+                    return Err(Error::NoThread);
+                }
+            }
+        }
+        Ok(Heap { mutators: Mutex::new(mutators), threads })
+    }
+
+    /// The next mutator, of as many as the heap was opened with.
+    pub fn mutator(&self) -> Option<Mutator<'_>> {
+        self.mutators.lock().unwrap_or_else(|poisoned| poisoned.into_inner()).pop()
+    }
+}
+
+impl Drop for Heap {
+    fn drop(&mut self) {
+        self.mutators.lock().unwrap_or_else(|poisoned| poisoned.into_inner()).clear();
+        for thread in self.threads.drain(..) {
+            drop(thread.join());
+        }
+    }
+}

@@ -1,0 +1,116 @@
+//! Each call, each error, and heaps that fill up.
+
+use covremuj::{Any, Command, Config, Error, Heap, Progress, Reply, Root, Seats, Shape};
+
+struct Pair;
+impl Shape for Pair {
+    const REFERENCES: u32 = 2;
+    const NUMBERS: u32 = 1;
+}
+
+struct Large;
+impl Shape for Large {
+    const REFERENCES: u32 = 16;
+    const NUMBERS: u32 = 16;
+}
+
+fn config(mutators: usize) -> Config {
+    Config { regions: 4 + 2 * mutators, region_words: 64, mutators, helpers: 1, reserve: 1 }
+}
+
+#[test]
+fn each_call() -> Result<(), Error> {
+    let heap = Heap::open(&config(1))?;
+    let me = heap.mutator().expect("a mutator");
+    assert!(heap.mutator().is_none());
+    let (pair, name) = me.make_named::<Pair>()?;
+    assert_eq!((name.thread, name.count), (1, 1));
+    let other: Root<Pair> = me.make()?;
+    let mut null: Root<Pair> = me.null()?;
+    assert!(pair.get::<Pair>(0)?.is_none());
+    pair.set(0, &other)?;
+    assert!(pair.get::<Pair>(0)?.expect("the other").same(&other)?);
+    assert!(!pair.compare_exchange(0, &pair, &null)?);
+    assert!(pair.compare_exchange(0, &other, &pair)?);
+    assert!(pair.exchange::<Pair, Pair>(0, &null)?.expect("itself").same(&pair)?);
+    pair.write(0, u64::MAX)?;
+    assert_eq!(pair.read(0)?, u64::MAX);
+    null.assign(&pair)?;
+    assert!(null.same(&pair)?);
+    assert!(!null.advance(1)?);
+    assert_eq!(null.read(0), Err(Error::Bad));
+    assert_eq!(pair.read(1), Err(Error::Bad));
+    assert_eq!(pair.read(32), Err(Error::OutOfRange));
+    assert_eq!(pair.get::<Any>(2).unwrap_err(), Error::Bad);
+    me.collect()
+}
+
+#[test]
+fn roots_come_back() -> Result<(), Error> {
+    let heap = Heap::open(&config(1))?;
+    let me = heap.mutator().expect("a mutator");
+    for _ in 0..3 {
+        let roots: Vec<Root<Any>> = (0..15).map(|_| me.null()).collect::<Result<_, _>>()?;
+        assert_eq!(me.null::<Any>().unwrap_err(), Error::NoRoot);
+        drop(roots);
+    }
+    Ok(())
+}
+
+#[test]
+fn a_root_of_another_mutator() -> Result<(), Error> {
+    let heap = Heap::open(&config(2))?;
+    let (one, two) = (heap.mutator().expect("one"), heap.mutator().expect("two"));
+    let (a, b) = (one.make::<Pair>()?, two.make::<Pair>()?);
+    assert_eq!(a.set(0, &b), Err(Error::OtherMutator));
+    assert_eq!(a.same(&b), Err(Error::OtherMutator));
+    Ok(())
+}
+
+#[test]
+fn full_and_on() -> Result<(), Error> {
+    let heap = Heap::open(&config(1))?;
+    let me = heap.mutator().expect("a mutator");
+    let mut kept: Root<Large> = me.null()?;
+    let full = loop {
+        match me.make::<Large>() {
+            Ok(made) => {
+                made.set(0, &kept)?;
+                kept.assign(&made)?;
+            }
+            Err(error) => break error,
+        }
+    };
+    assert_eq!(full, Error::Full);
+    kept.clear()?;
+    me.make::<Large>().map(drop)
+}
+
+#[test]
+fn sizes_out_of_range() {
+    let good = config(1);
+    let tries = [
+        (Config { regions: 3, ..good }, Error::BadRegions),
+        (Config { region_words: 63, ..good }, Error::BadRegionWords),
+        (Config { mutators: 9, ..good }, Error::BadMutators),
+        (Config { mutators: usize::MAX, ..good }, Error::BadMutators),
+        (Config { helpers: 4, ..good }, Error::BadHelpers),
+        (Config { reserve: 6, ..good }, Error::BadReserve),
+    ];
+    for (config, error) in tries {
+        assert_eq!(Heap::open(&config).err(), Some(error));
+    }
+}
+
+#[test]
+fn pieces() -> Result<(), Error> {
+    let seats = Seats::open(&config(1))?;
+    let me = &seats.mutators[0];
+    assert_eq!(me.go(1), Err(Error::Other(3)));
+    me.begin(Command::New { dst: 1, references: 1, numbers: 0 })?;
+    assert_eq!(me.begin(Command::Gc), Err(Error::Busy));
+    assert_eq!(me.go(1), Ok(Progress::More));
+    assert!(matches!(me.wait(), Ok(Reply::Reference(_))));
+    assert_eq!(me.call(Command::Copy { dst: 16, src: 0 }), Err(Error::OutOfRange));
+    Ok(())
+}
