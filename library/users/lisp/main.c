@@ -168,6 +168,9 @@ static void write_printed(const char *printed, size_t thread, bool several) {
 
 static void tell_counts(const report *came) {
     fprintf(stderr, "%s: %.3f seconds, %llu objects", memory_name(), came->seconds, (unsigned long long)came->counts.made);
+    if (came->counts.commands > 0) {
+        fprintf(stderr, ", %llu commands", (unsigned long long)came->counts.commands);
+    }
     if (came->counts.known) {
         fprintf(stderr, ", %llu cycles, %llu finished cycles, %llu full collections", (unsigned long long)came->counts.cycles,
                 (unsigned long long)came->counts.finished, (unsigned long long)came->counts.full);

@@ -3,7 +3,7 @@
  *
  * Everything else of the Lisp is written against the functions below. Which memory they are of is chosen when the Lisp is
  * compiled: the heap of covremuj.h, or, to measure beside it, C's malloc with nothing ever freed (-DLISP_OVER_MALLOC), or
- * Boehm's collector (-DLISP_OVER_BOEHM). Each file gives the same names.
+ * Boehm's collector (-DLISP_OVER_BOEHM). Each file gives the same names. With -DLISP_COUNTING, and malloc, calls are counted.
  *
  *     memory_heap, memory_seat                          a memory; what one thread works through
  *     memory_new(seat, dst, refs, nums)                 a memory_made
@@ -46,6 +46,7 @@ typedef struct memory_sizes {
 /* What a memory can tell of its life. */
 typedef struct memory_counts {
     uint64_t made;     /* objects made by all mutators */
+    uint64_t commands; /* calls of the functions above; 0 where they are not counted */
     bool known;        /* whether the rest is told */
     uint64_t cycles;   /* cycles that came to their own end */
     uint64_t finished; /* cycles that a pause finished (degenerated) */

@@ -45,6 +45,7 @@ memory_counts memory_close(memory_heap *heap) {
     memory_counts counts = {0};
     for (size_t i = 0; i < heap->mutators; i++) {
         counts.made += heap->seats[i]->made;
+        counts.commands += heap->seats[i]->commands;
 #ifdef LISP_OVER_BOEHM
         GC_FREE(heap->seats[i]);
 #else

@@ -26,7 +26,14 @@ typedef struct memory_object {
 typedef struct memory_seat {
     memory_object *roots[MEMORY_MOST];
     uint64_t made;
+    uint64_t commands; /* 0 where they are not counted */
 } memory_seat;
+
+#ifdef LISP_COUNTING
+#define MEMORY_COUNT(seat) ((void)(seat)->commands++)
+#else
+#define MEMORY_COUNT(seat) ((void)(seat))
+#endif
 
 typedef struct memory_heap {
     size_t mutators;
@@ -61,6 +68,7 @@ static inline void *memory_words(size_t bytes) {
 }
 
 static inline memory_made memory_new(memory_seat *seat, uint32_t dst, uint32_t refs, uint32_t nums) {
+    MEMORY_COUNT(seat);
     memory_object *object = memory_words(sizeof(memory_object) + (refs + nums) * sizeof(uint64_t));
     if (object == NULL) {
         return MEMORY_NO_ROOM;
@@ -73,6 +81,7 @@ static inline memory_made memory_new(memory_seat *seat, uint32_t dst, uint32_t r
 }
 
 static inline bool memory_get(memory_seat *seat, uint32_t dst, uint32_t src, uint32_t field) {
+    MEMORY_COUNT(seat);
     memory_object *object = seat->roots[src];
     if (object == NULL || field >= object->refs) {
         return false;
@@ -83,6 +92,7 @@ static inline bool memory_get(memory_seat *seat, uint32_t dst, uint32_t src, uin
 }
 
 static inline bool memory_set(memory_seat *seat, uint32_t obj, uint32_t field, uint32_t val) {
+    MEMORY_COUNT(seat);
     memory_object *object = seat->roots[obj];
     if (object == NULL || field >= object->refs) {
         return false;
@@ -92,6 +102,7 @@ static inline bool memory_set(memory_seat *seat, uint32_t obj, uint32_t field, u
 }
 
 static inline bool memory_cas(memory_seat *seat, uint32_t obj, uint32_t field, uint32_t expect, uint32_t val) {
+    MEMORY_COUNT(seat);
     memory_object *object = seat->roots[obj];
     if (object == NULL || field >= object->refs) {
         return false;
@@ -101,6 +112,7 @@ static inline bool memory_cas(memory_seat *seat, uint32_t obj, uint32_t field, u
 }
 
 static inline bool memory_xchg(memory_seat *seat, uint32_t dst, uint32_t obj, uint32_t field, uint32_t val) {
+    MEMORY_COUNT(seat);
     memory_object *object = seat->roots[obj];
     if (object == NULL || field >= object->refs) {
         return false;
@@ -111,6 +123,7 @@ static inline bool memory_xchg(memory_seat *seat, uint32_t dst, uint32_t obj, ui
 }
 
 static inline bool memory_rd(memory_seat *seat, uint32_t obj, uint32_t index, uint64_t *number) {
+    MEMORY_COUNT(seat);
     memory_object *object = seat->roots[obj];
     if (object == NULL || index >= object->nums) {
         return false;
@@ -120,6 +133,7 @@ static inline bool memory_rd(memory_seat *seat, uint32_t obj, uint32_t index, ui
 }
 
 static inline bool memory_wr(memory_seat *seat, uint32_t obj, uint32_t index, uint64_t number) {
+    MEMORY_COUNT(seat);
     memory_object *object = seat->roots[obj];
     if (object == NULL || index >= object->nums) {
         return false;
@@ -129,19 +143,22 @@ static inline bool memory_wr(memory_seat *seat, uint32_t obj, uint32_t index, ui
 }
 
 static inline void memory_copy(memory_seat *seat, uint32_t dst, uint32_t src) {
+    MEMORY_COUNT(seat);
     seat->roots[dst] = seat->roots[src];
 }
 
 static inline void memory_drop(memory_seat *seat, uint32_t dst) {
+    MEMORY_COUNT(seat);
     seat->roots[dst] = NULL;
 }
 
 static inline bool memory_same(memory_seat *seat, uint32_t a, uint32_t b) {
+    MEMORY_COUNT(seat);
     return seat->roots[a] == seat->roots[b];
 }
 
 static inline void memory_gc(memory_seat *seat) {
-    (void)seat;
+    MEMORY_COUNT(seat);
 #ifdef LISP_OVER_BOEHM
     GC_gcollect();
 #endif
