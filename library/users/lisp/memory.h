@@ -46,6 +46,7 @@ typedef struct memory_sizes {
 /* What a memory can tell of its life. */
 typedef struct memory_counts {
     uint64_t made;     /* objects made by all mutators */
+    uint64_t words;    /* of 8 bytes that they took in the heap; 0 in other memories */
     uint64_t commands; /* calls of the functions above; 0 where they are not counted */
     bool known;        /* whether the rest is told */
     uint64_t cycles;   /* cycles that came to their own end */

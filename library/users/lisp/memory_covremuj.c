@@ -3,11 +3,11 @@
 
 #if !defined LISP_OVER_MALLOC && !defined LISP_OVER_BOEHM
 
-/* The mutators' seats go to lines of their own, or back from there. */
+/* Each mutator's seat goes to its own place, or back from there. */
 static void move_seats(memory_heap *heap, bool back) {
     for (size_t i = 0; i < heap->config.mutators; i++) {
-        cvm_seat *line = &heap->lines[i].seat;
-        cvm_move(back ? &heap->seats[i] : line, back ? line : &heap->seats[i]);
+        cvm_seat *own = &heap->mutators[i].at;
+        cvm_move(back ? &heap->seats[i] : own, back ? own : &heap->seats[i]);
     }
 }
 
@@ -26,7 +26,8 @@ const char *memory_open(memory_heap *heap, const memory_sizes *sizes) {
         .helpers = sizes->helpers,
         .reserve = sizes->reserve,
     };
-    heap->config = config;
+    memory_heap closed = {.config = config};
+    *heap = closed;
     size_t count = cvm_seat_count(&config);
     cvm_status said = cvm_open(&config, heap->seats, count);
     if (said != CVM_DONE) {
@@ -42,7 +43,7 @@ const char *memory_open(memory_heap *heap, const memory_sizes *sizes) {
 }
 
 void memory_leave(memory_seat *seat) {
-    (void)cvm_finish(seat);
+    (void)cvm_finish(&seat->at);
 }
 
 memory_counts memory_close(memory_heap *heap) {
@@ -53,6 +54,7 @@ memory_counts memory_close(memory_heap *heap) {
         cvm_state state = {0};
         (void)cvm_look(&heap->seats[i], &state);
         counts.made += state.made;
+        counts.words += heap->mutators[i].words;
     }
     (void)cvm_close_all(heap->seats, cvm_seat_count(&heap->config));
     return counts;

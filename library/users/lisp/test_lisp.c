@@ -14,14 +14,17 @@ typedef struct trial {
     const char *program;
     size_t threads, helpers, regions, words;
     uint32_t every;
+    uint64_t turns; /* how many times the words of the heap its objects take, at least */
 } trial;
 
 static const trial trials[] = {
-    {"fib", 1, 1, 16, 256, 40},      {"fib", 4, 1, 64, 64, 0},          {"tak", 1, 0, 24, 160, 40},     {"tak", 2, 2, 24, 256, 60},
-    {"queens", 1, 1, 24, 192, 40},   {"queens", 3, 1, 32, 256, 100},    {"sort", 1, 1, 32, 320, 60},    {"sort", 2, 1, 48, 512, 200},
-    {"text", 1, 1, 32, 160, 50},     {"text", 2, 3, 32, 256, 100},      {"churn", 1, 1, 32, 256, 60},   {"churn", 4, 2, 48, 512, 200},
-    {"closures", 1, 1, 32, 320, 60}, {"shared", 4, 1, 32, 256, 100},    {"shared", 8, 3, 48, 256, 300}, {"names", 4, 1, 32, 256, 20},
-    {"errors", 1, 1, 24, 256, 20},   {"full", 1, 1, 16, 256, 100},      {"values", 1, 1, 32, 256, 20},
+    {"fib", 1, 1, 16, 256, 40, 2},      {"fib", 4, 1, 64, 64, 0, 8},         {"tak", 1, 0, 24, 160, 40, 1},
+    {"tak", 2, 2, 24, 256, 60, 1},      {"queens", 1, 1, 24, 192, 40, 3},    {"queens", 3, 1, 32, 256, 100, 6},
+    {"sort", 1, 1, 32, 320, 60, 3},     {"sort", 2, 1, 48, 512, 200, 2},     {"text", 1, 1, 32, 160, 50, 1},
+    {"text", 2, 3, 32, 256, 100, 2},    {"churn", 1, 1, 32, 256, 60, 10},     {"churn", 4, 2, 48, 512, 200, 12},
+    {"closures", 1, 1, 32, 320, 60, 1}, {"shared", 4, 1, 32, 256, 100, 1},   {"shared", 8, 3, 48, 256, 300, 1},
+    {"names", 4, 1, 32, 256, 20, 0},    {"errors", 1, 1, 24, 256, 20, 0},    {"full", 1, 1, 16, 256, 100, 3},
+    {"values", 1, 1, 32, 256, 20, 0},
 };
 
 enum { TRIALS = sizeof trials / sizeof trials[0] };
@@ -67,8 +70,8 @@ static const wrong wrongs[] = {
 
 enum { WRONGS = sizeof wrongs / sizeof wrongs[0] };
 
-static uint64_t made;
 static memory_counts counted;
+static uint64_t turned;
 
 static void give_up(const char *what, const char *of, const char *printed) {
     fprintf(stderr, "test_lisp: %s: %s: %s\n", what, of, printed == NULL ? "(nothing)" : printed);
@@ -88,12 +91,18 @@ static char *read_file(const char *folder, const char *name, const char *end) {
     return text;
 }
 
-static void count(const report *came) {
-    made += came->counts.made;
-    counted.known = came->counts.known;
-    counted.cycles += came->counts.cycles;
-    counted.finished += came->counts.finished;
-    counted.full += came->counts.full;
+/* What is told of a heap. A program that was to use its heap up many times has to. */
+static void count(const trial *of, const memory_counts *told) {
+    uint64_t turns = told->words / (of->regions * of->words);
+    if (turns < of->turns) {
+        give_up("it does not take that many times the words of its heap", of->program, NULL);
+    }
+    turned += turns;
+    counted.made += told->made;
+    counted.known = told->known;
+    counted.cycles += told->cycles;
+    counted.finished += told->finished;
+    counted.full += told->full;
 }
 
 /* Runs a text on a heap; each thread has to print the same. */
@@ -116,7 +125,7 @@ static void expect(const trial *of, const char *text, const char *wanted, bool d
             give_up("printed", of->program, came.printed[i]);
         }
     }
-    count(&came);
+    count(of, &came.counts);
     free_report(&came);
 }
 
@@ -132,7 +141,7 @@ static void try_programs(const char *folder) {
 
 /* What is printed where a text ends by an error, which is in its last line. */
 static void try_wrong(const wrong *of) {
-    static const trial heap = {"wrong text", 1, 1, 24, 256, 20};
+    static const trial heap = {"wrong text", 1, 1, 24, 256, 20, 0};
     char wanted[512];
     int line = 1;
     for (const char *at = of->text; *at != '\0'; at++) {
@@ -144,7 +153,7 @@ static void try_wrong(const wrong *of) {
 
 /* Values inside one another, deeper than reader and compiler go. */
 static void try_deep(void) {
-    static const trial heap = {"deep", 1, 1, 64, 256, 0};
+    static const trial heap = {"deep", 1, 1, 64, 256, 0, 0};
     char text[2048];
     memset(text, '(', sizeof text - 1);
     text[sizeof text - 1] = '\0';
@@ -153,13 +162,24 @@ static void try_deep(void) {
 
 /* A heap that does not hold the names, and sizes that are refused. */
 static void try_no_room(void) {
-    static const trial heap = {"no room", 1, 1, 4, 64, 0};
+    static const trial heap = {"no room", 1, 1, 4, 64, 0, 0};
     expect(&heap, "1", "the heap has no room for the names of the Lisp\n", false);
     team none = {.sizes = {3, 64, 1, 0, 0}, .every = 0, .programs = NULL, .count = 0, .direct = NULL};
     report came;
     run_team(&none, &came);
     if (came.refused == NULL) {
         give_up("a heap of 3 regions", "is opened", NULL);
+    }
+}
+
+static void tell(void) {
+    printf("lisp: %d programs on small heaps, %d wrong texts, %llu objects, %llu times the words of their heaps", (int)TRIALS, (int)WRONGS,
+           (unsigned long long)counted.made, (unsigned long long)turned);
+    if (counted.known) {
+        printf(", %llu cycles, %llu finished by a pause, %llu full collections\n", (unsigned long long)counted.cycles,
+               (unsigned long long)counted.finished, (unsigned long long)counted.full);
+    } else {
+        puts("; collections are not told");
     }
 }
 
@@ -174,13 +194,6 @@ int main(int argc, char **argv) {
     }
     try_deep();
     try_no_room();
-    printf("lisp: %d programs on small heaps, %d wrong texts, %llu objects made", (int)TRIALS, (int)WRONGS, (unsigned long long)made);
-    if (counted.known) {
-        printf(", %llu cycles, %llu finished by a pause, %llu full collections", (unsigned long long)counted.cycles,
-               (unsigned long long)counted.finished, (unsigned long long)counted.full);
-    } else {
-        printf("; the library does not tell collections");
-    }
-    putchar('\n');
+    tell();
     return 0;
 }
