@@ -116,15 +116,21 @@ def rounds(lisps, name, size, threads, heap, count):
     return {memory: statistics.median(took) for memory, took in seconds.items()}, told
 
 
-def tell(name, size, given, threads, middle, told):
-    """One line: of each memory the nanoseconds of a command, and the ratios."""
-    each = {memory: 1e9 * took / given for memory, took in middle.items()}
-    parts = [f"{memory} {middle[memory]:.3f} s ({each[memory]:.1f} ns a command)" for memory in middle]
+def turns(told, heap):
+    """How many times the words of the heap its objects took: the collector had to free that many, but for one."""
+    words = dict(zip(HEAPS[heap][::2], HEAPS[heap][1::2]))
+    found = re.search(r"([0-9]+) words", told)
+    return int(found.group(1)) / (int(words["--regions"]) * int(words["--words"])) if found else 0
+
+
+def tell(name, size, given, middle, told, heap):
+    """One line: of each memory the seconds and the nanoseconds of a command, and the ratios."""
+    parts = [f"{memory} {took:.3f} s ({1e9 * took / given:.1f} ns a command)" for memory, took in middle.items()]
     ours = middle.get("covremuj")
     if ours:
         parts += [f"{ours / took:.1f} times {memory}" for memory, took in middle.items() if memory != "covremuj" and took > 0]
-    found = re.search(r"[0-9]+ cycles.*", told)
-    say(f"  {name} {size}, {threads} thread{'s' if threads > 1 else ''}: " + ", ".join(parts) + (f"; {found.group(0)}" if found else ""))
+        parts.append(f"{turns(told, heap):.1f} times the words of its heap")
+    say(f"  {name} {size}, {given} commands: " + ", ".join(parts))
 
 
 def main():
@@ -145,7 +151,7 @@ def main():
                 say(f"{heap}, {threads} thread{'s' if threads > 1 else ''}, medians of {count}:")
                 for name, size in SIZES:
                     middle, told = rounds(lisps, name, size, threads, heap, count)
-                    tell(name, size, given[name], threads, middle, told)
+                    tell(name, size, threads * given[name], middle, told, heap)
 
 
 main()

@@ -32,7 +32,7 @@ static const char usage[] =
     "  --reserve N   regions that objects leave to collections [4]\n"
     "  --every N     each thread asks for a collection after N evaluations, 0 never [0]\n"
     "  --size N      the global `size`, which the standard programs look at\n"
-    "  --counts      at the end, on the standard error: seconds, objects, collections\n";
+    "  --counts      at the end, on the standard error: seconds, objects, and what else the memory tells\n";
 
 /* A number of the command line into *to. */
 static bool take_number(const char *word, size_t *to) {
@@ -166,15 +166,19 @@ static void write_printed(const char *printed, size_t thread, bool several) {
     }
 }
 
+static void tell_count(uint64_t count, const char *of) {
+    if (count > 0) {
+        fprintf(stderr, ", %llu %s", (unsigned long long)count, of);
+    }
+}
+
 static void tell_counts(const report *came) {
-    fprintf(stderr, "%s: %.3f seconds, %llu objects", memory_name(), came->seconds, (unsigned long long)came->counts.made);
-    if (came->counts.commands > 0) {
-        fprintf(stderr, ", %llu commands", (unsigned long long)came->counts.commands);
-    }
-    if (came->counts.known) {
-        fprintf(stderr, ", %llu cycles, %llu finished cycles, %llu full collections", (unsigned long long)came->counts.cycles,
-                (unsigned long long)came->counts.finished, (unsigned long long)came->counts.full);
-    }
+    fprintf(stderr, "%s: %.6f seconds", memory_name(), came->seconds);
+    tell_count(came->counts.made, "objects");
+    tell_count(came->counts.words, "words");
+    tell_count(came->counts.full_answers, "allocations without room");
+    tell_count(came->counts.commands, "commands");
+    tell_count(came->counts.collections, "collections");
     fputc('\n', stderr);
 }
 

@@ -43,15 +43,13 @@ typedef struct memory_sizes {
     size_t reserve;
 } memory_sizes;
 
-/* What a memory can tell of its life. */
+/* What a memory can tell of its life. What it does not know is 0. */
 typedef struct memory_counts {
-    uint64_t made;     /* objects made by all mutators */
-    uint64_t words;    /* of 8 bytes that they took in the heap; 0 in other memories */
-    uint64_t commands; /* calls of the functions above; 0 where they are not counted */
-    bool known;        /* whether the rest is told */
-    uint64_t cycles;   /* cycles that came to their own end */
-    uint64_t finished; /* cycles that a pause finished (degenerated) */
-    uint64_t full;     /* full collections */
+    uint64_t made;         /* objects made by all mutators */
+    uint64_t words;        /* of 8 bytes that they took in the heap */
+    uint64_t full_answers; /* allocations that were answered that there is no room, each of which a full collection had found */
+    uint64_t commands;     /* calls of the functions above, where they are counted */
+    uint64_t collections;  /* of Boehm's collector; the heap does not tell its own */
 } memory_counts;
 
 #if defined LISP_OVER_MALLOC || defined LISP_OVER_BOEHM

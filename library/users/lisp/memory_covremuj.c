@@ -55,6 +55,7 @@ memory_counts memory_close(memory_heap *heap) {
         (void)cvm_look(&heap->seats[i], &state);
         counts.made += state.made;
         counts.words += heap->mutators[i].words;
+        counts.full_answers += heap->mutators[i].full;
     }
     (void)cvm_close_all(heap->seats, cvm_seat_count(&heap->config));
     return counts;

@@ -10,6 +10,7 @@
 typedef struct memory_seat {
     alignas(64) cvm_seat at;
     uint64_t words; /* of the heap that its objects took */
+    uint64_t full;  /* how often it was told that there is no room */
 } memory_seat;
 
 typedef struct memory_heap {
@@ -43,6 +44,7 @@ static inline memory_made memory_new(memory_seat *seat, uint32_t dst, uint32_t r
         seat->words += CVM_HEAD_WORDS + refs + nums;
         return MEMORY_MADE;
     }
+    seat->full += said == CVM_FULL;
     return said == CVM_FULL ? MEMORY_NO_ROOM : MEMORY_SPENT;
 }
 

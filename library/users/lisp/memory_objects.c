@@ -54,8 +54,7 @@ memory_counts memory_close(memory_heap *heap) {
         heap->seats[i] = NULL;
     }
 #ifdef LISP_OVER_BOEHM
-    counts.known = true;
-    counts.full = GC_get_gc_no();
+    counts.collections = GC_get_gc_no();
 #endif
     return counts;
 }
