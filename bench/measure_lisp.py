@@ -3,10 +3,11 @@
 
 usage: measure_lisp.py [ROUNDS]
 
-ROUNDS is 5 where it is not given. The three are compiled alike, by CC (cc) with -O2, and run in turn in each round. What is told are medians: the seconds
-of the programs alone, without the start; the nanoseconds of a command, of which the Lisp over malloc counts how many there are; and how many times
-as long the heap takes as each other memory in this run. All have to print the same. The heap is tried with its collector idle, where there is enough
-room, and with a collection always asked for; and with 4 threads, each of which runs the same program. Times mean something only beside each other, from one run.
+ROUNDS is 5 where it is not given. The three are compiled alike, by CC (cc) with -O2, and run in turn in each round; all have to print the same. What is told
+are medians, of the programs alone, without the start: seconds on the clock; seconds of processors, which are the threads that collect too; the
+nanoseconds of processors for a command, of which the Lisp over malloc counts how many there are; and how many times as much of both the heap takes as
+each other memory. The heap is tried with collections where it wants room, and with one always asked for; and with 4 threads, each of which runs the same
+program. Times mean something only beside each other, from one run.
 
 The archive is the one that COVREMUJ_ARCHIVE names, or else that of library/build.sh. Boehm's collector is Debian's libgc-dev; nothing is installed,
 and what is missing is named and passed over.
@@ -25,12 +26,12 @@ PROGRAMS = os.path.join(LISP, "programs")
 CC = os.environ.get("CC", "cc")
 
 # A program, its size, and what it is: calls and numbers, calls, lists, lists and vectors, strings, lists that stay for a while.
-SIZES = [("fib", 21), ("tak", 18), ("queens", 7), ("sort", 600), ("text", 2000), ("churn", 3000)]
+SIZES = [("fib", 21), ("tak", 18), ("queens", 7), ("sort", 300), ("text", 2000), ("churn", 3000)]
 
 # The heap, by what its collector does.
 HEAPS = {
-    "collector idle": ["--regions", "64", "--words", "1024", "--helpers", "1"],
-    "always collecting": ["--regions", "32", "--words", "1024", "--helpers", "1", "--every", "100"],
+    "collecting where it wants room": ["--regions", "64", "--words", "1024", "--helpers", "1"],
+    "always collecting": ["--regions", "64", "--words", "1024", "--helpers", "1", "--every", "100"],
 }
 
 
@@ -85,13 +86,13 @@ def all_compiled(folder):
 
 
 def run(program, name, size, threads, words):
-    """What it prints, its seconds, and all that it tells."""
+    """What it prints, its seconds on the clock and of processors, and all that it tells."""
     orders = [program, "--counts", "--threads", str(threads), "--size", str(size), *words]
     done = subprocess.run([*orders, os.path.join(PROGRAMS, name + ".lisp")], capture_output=True, text=True, timeout=600)
-    told = re.search(r"([0-9.]+) seconds", done.stderr)
+    told = re.search(r"([0-9.]+) seconds, ([0-9.]+) of processors", done.stderr)
     if done.returncode or not told:
         stop(f"{program} {name}: {done.stdout}{done.stderr}")
-    return done.stdout, float(told.group(1)), done.stderr.strip()
+    return done.stdout, (float(told.group(1)), float(told.group(2))), done.stderr.strip()
 
 
 def commands(counting, name, size):
@@ -101,7 +102,7 @@ def commands(counting, name, size):
 
 
 def rounds(lisps, name, size, threads, heap, count):
-    """The median of the seconds of each memory, and what the heap told last."""
+    """The medians of the seconds of each memory, and what the heap told last."""
     seconds = {memory: [] for memory in lisps}
     printed = set()
     told = ""
@@ -113,7 +114,7 @@ def rounds(lisps, name, size, threads, heap, count):
             told = said if memory == "covremuj" else told
     if len(printed) != 1:
         stop(f"{name}: they print {printed}")
-    return {memory: statistics.median(took) for memory, took in seconds.items()}, told
+    return {memory: [statistics.median(kind) for kind in zip(*took)] for memory, took in seconds.items()}, told
 
 
 def turns(told, heap):
@@ -123,14 +124,21 @@ def turns(told, heap):
     return int(found.group(1)) / (int(words["--regions"]) * int(words["--words"])) if found else 0
 
 
+def times(ours, other):
+    return f"{ours / other:.0f}" if other > 0 else "?"
+
+
 def tell(name, size, given, middle, told, heap):
     """One line: of each memory the seconds and the nanoseconds of a command, and the ratios."""
-    parts = [f"{memory} {took:.3f} s ({1e9 * took / given:.1f} ns a command)" for memory, took in middle.items()]
+    parts = [
+        f"{memory} {clock:.3f} s, {used:.3f} s of processors ({1e9 * used / given:.1f} ns a command)" for memory, (clock, used) in middle.items()
+    ]
     ours = middle.get("covremuj")
     if ours:
-        parts += [f"{ours / took:.1f} times {memory}" for memory, took in middle.items() if memory != "covremuj" and took > 0]
+        others = [(memory, both) for memory, both in middle.items() if memory != "covremuj"]
+        parts += [f"{times(ours[0], clock)} and {times(ours[1], used)} times {memory}" for memory, (clock, used) in others]
         parts.append(f"{turns(told, heap):.1f} times the words of its heap")
-    say(f"  {name} {size}, {given} commands: " + ", ".join(parts))
+    say(f"  {name} {size}, {given} commands: " + "; ".join(parts))
 
 
 def main():

@@ -173,7 +173,7 @@ static void tell_count(uint64_t count, const char *of) {
 }
 
 static void tell_counts(const report *came) {
-    fprintf(stderr, "%s: %.6f seconds", memory_name(), came->seconds);
+    fprintf(stderr, "%s: %.6f seconds, %.6f of processors", memory_name(), came->seconds, came->processor);
     tell_count(came->counts.made, "objects");
     tell_count(came->counts.words, "words");
     tell_count(came->counts.full_answers, "allocations without room");

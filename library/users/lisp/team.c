@@ -16,9 +16,9 @@ typedef struct member {
     pthread_t thread;
 } member;
 
-static double now(void) {
+static double now(clockid_t of) {
     struct timespec time = {0};
-    (void)clock_gettime(CLOCK_MONOTONIC, &time);
+    (void)clock_gettime(of, &time);
     return (double)time.tv_sec + (double)time.tv_nsec / 1e9;
 }
 
@@ -109,11 +109,13 @@ void run_team(const team *of, report *came) {
         return;
     }
     bool begun = begin_members(of, members, &heap);
-    double from = now();
+    double from = now(CLOCK_MONOTONIC);
+    double used = now(CLOCK_PROCESS_CPUTIME_ID);
     if (begun) {
         run_members(members, of->sizes.mutators);
     }
-    came->seconds = now() - from;
+    came->seconds = now(CLOCK_MONOTONIC) - from;
+    came->processor = now(CLOCK_PROCESS_CPUTIME_ID) - used;
     end_members(members, &heap, of->sizes.mutators, came);
     came->counts = memory_close(&heap);
 }

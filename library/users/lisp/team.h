@@ -28,7 +28,8 @@ typedef struct report {
     char *printed[MOST_THREADS]; /* what each thread printed, with the errors; for free_report */
     bool done[MOST_THREADS];     /* whether it came to the end of all programs */
     memory_counts counts;
-    double seconds; /* of the programs, without opening and closing */
+    double seconds;   /* of the programs, without opening and closing */
+    double processor; /* seconds of processors in that time, those of the threads that collect too */
 } report;
 
 void run_team(const team *of, report *came);
