@@ -2,7 +2,7 @@
 use Rattle.std.specs.Prelude.{ℕ, ◌≡◌, ◌+◌, ◌==◌, Bool, true, false, List, [], ◌∷◌, length, map, Option, Some, None, if◌then◌else◌}
 use Rattle.heap_words.specs.declared.config.Config.{Config}
 use Rattle.heap_words.specs.declared.config.BadConfig.{BadConfig}
-use Rattle.heap_words.specs.Faults.{fault_of}
+use Rattle.heap_words.specs.Faults.{wide_fault_of}
 use Rattle.heap_seats.specs.declared.seat.Seat.{Seat}
 use Rattle.heap_seats.specs.Opening.{AreFreshSeats}
 use Rattle.covremuj.specs.declared.border.Configuration.{Configuration}
@@ -35,7 +35,7 @@ pub record HasSizes (sizes : Configuration) (c : Config) : Type 0 where
 
 -- the first of the sizes that is outside its range
 abbrev pub fault_in : Configuration → Option BadConfig
-fault_in sizes = fault_of sizes.regions sizes.region_words sizes.mutators sizes.helpers sizes.reserve
+fault_in sizes = wide_fault_of sizes.regions sizes.region_words sizes.mutators sizes.helpers sizes.reserve
 
 -- why no heap is opened, but for memory: sizes, the number of handles, an open handle
 abbrev pub handles_refused : (seats : ℕ) → List (Option Seat) → Option ℕ

@@ -18,7 +18,7 @@ pub extern "C" fn cvm_open(alloc: Global, sizes: &Configuration, handles: &mut [
     ensures unchanged { result ≢ 0 → held_in handles.new ≡ held_in handles.old }
     ensures opened { result ≡ 0 → ((config : Configs) × HasSizes sizes.now config × HoldFreshSeats config (held_in handles.new)) }
 {
-    match Config::new(
+    match Config::wide(
         sizes.regions,
         sizes.region_words,
         sizes.mutators,
