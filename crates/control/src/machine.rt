@@ -206,4 +206,16 @@ impl Control {
         load(&mut self.image, words);
         self.image.answer_graph(text);
     }
+
+    /// Its image, where a heap that has come to its end is read: of its words nothing is told.
+    pub fn into_image(self) -> Image
+        ensures { config_of result ≡ config_in self }
+    {
+        let Control {
+            spot: _,
+            last: _,
+            image,
+        } = self;
+        image
+    }
 }

@@ -33,12 +33,13 @@ impl Machine {
     ghost use Rattle.heap_world.specs.Change.{image_view};
     ghost use Rattle.image_graph.specs.Holds.{HoldsSome};
     ghost use Rattle.image_graph.specs.Left.{StandsForSome, ShowsTheGraph};
+    ghost use Rattle.image_graph.specs.State as images;
     ghost use Rattle.control.specs.Image.{image_from};
     ghost use Rattle.shen_graph.specs.Valid.{IsValid};
     ghost use Rattle.shen_graph.specs.declared.command.Command.{Command as Commands};
     ghost use Rattle.heap_machines.specs.Pause.{pause_image};
     ghost use Rattle.step_core.specs.Opening.{opening_machine};
-    ghost use Rattle.step_core.specs.Machines.{takes_of, plan_of, place_in, machine_after, answer_of, is_machine_at, reply_in, may_begin, made_of_machine, WaitsIn, IsFitFor, is_resting};
+    ghost use Rattle.step_core.specs.Machines.{control_in, takes_of, plan_of, place_in, machine_after, answer_of, is_machine_at, reply_in, may_begin, made_of_machine, WaitsIn, IsFitFor, is_resting};
     ghost use Rattle.heap_machines.specs.Shown.{shown, order_of, heap_of, has_turn};
     ghost use Rattle.heap_machines.specs.Roles.{is_mutating, CanShow};
     ghost use Rattle.heap_machines.specs.Settles.{command_in, reply_settled, refused_by};
@@ -322,6 +323,17 @@ impl Machine {
     {
         match self {
             Machine::Control(control) => control.answer_graph(words, text),
+            Machine::Mutator(_) | Machine::Helper(_) => unreachable!(),
+        }
+    }
+
+    /// The image of the control, where a heap that has come to its end is read. Of its words nothing is told.
+    pub fn into_image(self) -> Image
+        requires control { is_some (control_in (shown self)) ≡ true }
+        ensures heap { images.config_of result ≡ heap_of self }
+    {
+        match self {
+            Machine::Control(control) => control.into_image(),
             Machine::Mutator(_) | Machine::Helper(_) => unreachable!(),
         }
     }

@@ -1,5 +1,5 @@
 -- The end of the sharing: all words are read, and all machines are there.
-use Rattle.std.proofs.Common.{◌≡◌, ℕ, zero, suc, ◌+◌, ◌<◌, ◌≢◌, Bool, true, false, List, [], ◌∷◌, length, Some, None, refl, sym, ap, ◌∙◌, subst, arith}
+use Rattle.std.proofs.Common.{◌≡◌, ℕ, zero, suc, ◌+◌, ◌<◌, ◌≢◌, Bool, true, false, List, [], ◌∷◌, length, Option, Some, None, refl, sym, ap, ◌∙◌, subst, arith}
 use Rattle.std.specs.Prelude.{slice_get, slice_index, slice_set, ◌==◌}
 use Rattle.std.specs.Option.{is_some}
 use Rattle.std.proofs.lemmas.Bool.Decides.{nat_tests}
@@ -9,17 +9,27 @@ use lib.ListN.{get_elem?}
 use Rattle.heap_words.specs.declared.config.Config.{Config}
 use Rattle.heap_words.specs.Ranges.{seat_count}
 use Rattle.shen_graph.specs.declared.order.Order.TheVariants.{Nothing}
-use Rattle.steps_base.specs.Steps.{IsReached}
+use Rattle.steps_base.specs.Steps.{Stage, IsReached}
 use Rattle.shared_table.specs.Views.{View, machine_of, machines_of, whole, kept_in_view, HasAllMachines}
-use Rattle.shared_table.proofs.Kept.{length-kept, kept_some}
+use Rattle.shared_table.proofs.Kept.{length-kept, kept_some, kept_here}
 use Rattle.shared_table.proofs.Numbers.{all_here}
 use Rattle.shared_table.proofs.ViewsShow.{machine_of-whole}
 use Rattle.step_core.specs.Actor.{Machine, Actor}
 use Rattle.step_core.specs.Machines.{takes_of}
-use Rattle.step_core.specs.Settled.{image_of}
+use Rattle.step_core.specs.Settled.{image_of, control_number}
 use Rattle.table_heap.specs.Core.{heap_kind, heap_opening, machine_in}
 use Rattle.heap_machines.proofs.Openings.{first_count}
-use Rattle.table_heap.proofs.Core.{idle_is_calm}
+use Rattle.heap_machines.specs.declared.machine.Machine as memory
+use Rattle.heap_machines.specs.Shown.{shown}
+use Rattle.heap_machines.specs.Pause.{pause_image}
+use Rattle.heap_machines.proofs.Pauses.{heap_pauses}
+use Rattle.step_core.specs.Begins.{ending}
+use Rattle.step_core.specs.Machines.{control_in}
+use Rattle.step_core.proofs.Machines.Roles.{control_of}
+use Rattle.step_core.proofs.Theorem.EveryList.{run_sound}
+use Rattle.table_heap.specs.Known.{AreOfHeap, HasControl}
+use Rattle.table_heap.proofs.Core.{idle_is_calm, run_of}
+use Rattle.table_heap.proofs.MachineUnder.{shows_here}
 
 -- the word under a number
 number_at : (xs : List ℕ) (k x : ℕ) → get_elem? xs k ≡ some x → slice_index xs k ≡ x
@@ -63,3 +73,28 @@ reached_as k c words read view seen config all same reached =
     subst (λ (x : Config). IsReached (heap_kind x) (heap_opening x) (record { words = read; machines = machines_of seen })) config
     (subst (λ (xs : List ℕ). IsReached (heap_kind k) (heap_opening k) (record { words = xs; machines = machines_of seen })) all
     (subst (λ (v : View Actor). IsReached (heap_kind k) (heap_opening k) (record { words = words; machines = machines_of v })) same reached))
+
+-- after any events the machine under the number of the control is the control
+control_there : (c : Config) (s : Stage Actor) → IsReached (heap_kind c) (heap_opening c) s → (a : Actor) → slice_get s.machines (control_number c) ≡ Some a → is_some (control_in a.machine) ≡ true
+control_there c s reached a here =
+    let run = run_of c reached.events in
+    let there : slice_get (ending pause_image c run).machines (control_number c) ≡ Some a = ap (λ x. slice_get x.machines (control_number c)) reached.ends ∙ here in
+    let role = control_of c (control_number c) a.machine ((run_sound pause_image heap_pauses c run).of_heap.roles (control_number c) a there) refl in
+    ap (λ machine. is_some (control_in machine)) role.1
+
+-- so memory has it there
+pub has_control : (c : Config) (items : View memory.Machine) (view : View Actor) (words : List ℕ) → kept_in_view machine_in view ≡ kept_in_view shown items → AreOfHeap c items → view ≡ whole (machines_of view)
+    → is_some (machine_of (kept_in_view shown items) (control_number c)) ≡ true → IsReached (heap_kind c) (heap_opening c) (record { words = words; machines = machines_of view }) → HasControl c items
+has_control c items view words kept of_heap all here reached = by_machine (machine_of items (control_number c)) refl
+  where
+    by_machine : (o : Option memory.Machine) → machine_of items (control_number c) ≡ o → HasControl c items
+    by_machine None is = absurd (let none : is_some (machine_of (kept_in_view shown items) (control_number c)) ≡ false = kept_some shown items (control_number c) ∙ ap is_some is in cc)
+    by_machine (Some m) is =
+        let seen = kept_here machine_in view (control_number c) (shown m) (ap (λ v. machine_of v (control_number c)) kept ∙ shows_here shown items (control_number c) m is) in
+        let there : slice_get (machines_of view) (control_number c) ≡ Some seen.0 = sym (machine_of-whole (machines_of view) (control_number c)) ∙ ap (λ v. machine_of v (control_number c)) (sym all) ∙ seen.1 in
+        record {
+          machine = m;
+          here = is;
+          heap = (of_heap (control_number c) m is).heap;
+          role = ap (λ machine. is_some (control_in machine)) (sym seen.2) ∙ control_there c (record { words = words; machines = machines_of view }) reached seen.0 there;
+        }

@@ -5,6 +5,7 @@ use Rattle.heap_words.specs.Ranges.{seat_count}
 use Rattle.steps_base.specs.Steps.{Stage}
 use Rattle.shen_graph.specs.declared.order.Order.TheVariants.{Nothing}
 use Rattle.shared_table.specs.Views as views
+use Rattle.image_graph.specs.State as images
 use Rattle.shared_table.specs.Counted.{uncounted_view}
 use Rattle.step_core.specs.Actor.{Actor}
 use Rattle.step_core.specs.Machines.{takes_of, is_resting}
@@ -23,11 +24,11 @@ IsControlIdle b = (a : Actor) → views.machine_of (state.view_of b) (control_nu
 
 -- the configuration
 abbrev pub config_of : Closed → Config
-config_of h = h.config
+config_of h = images.config_of h.image
 
 -- its words, in the order of their places
 abbrev pub words_of : Closed → List ℕ
-words_of h = h.words.items
+words_of h = images.words_of h.image
 
 -- its machines by their numbers, as their events see them
 abbrev pub machines_of : Closed → List Actor

@@ -1,10 +1,13 @@
 -- What memory knows of the machines of a bundle, each under its number.
-use Rattle.std.specs.Prelude.{ℕ, ◌≡◌, nat_lt, Some}
+use Rattle.std.specs.Prelude.{ℕ, ◌≡◌, nat_lt, Some, true}
+use Rattle.std.specs.Option.{is_some}
 use Rattle.heap_words.specs.declared.config.Config.{Config}
 use Rattle.shared_table.specs.Views.{View, machine_of}
 use Rattle.heap_machines.specs.declared.machine.Machine.{Machine}
 use Rattle.heap_machines.specs.Shown.{shown, heap_of}
 use Rattle.heap_machines.specs.Roles.{is_mutating}
+use Rattle.step_core.specs.Machines.{control_in}
+use Rattle.step_core.specs.Settled.{control_number}
 
 -- they are machines of the heap, and those of the first numbers are its mutators
 pub record IsMachineOfHeap (c : Config) (number : ℕ) (m : Machine) : Type 0 where
@@ -13,3 +16,10 @@ pub record IsMachineOfHeap (c : Config) (number : ℕ) (m : Machine) : Type 0 wh
 
 abbrev pub AreOfHeap : Config → View Machine → Type 0
 AreOfHeap c machines = (number : ℕ) (m : Machine) → machine_of machines number ≡ Some m → IsMachineOfHeap c number m
+
+-- the control of the heap is under its number
+pub record HasControl (c : Config) (machines : View Machine) : Type 0 where
+  pub machine : Machine
+  pub here : machine_of machines (control_number c) ≡ Some machine
+  pub heap : heap_of machine ≡ c
+  pub role : is_some (control_in (shown machine)) ≡ true

@@ -1,18 +1,21 @@
-ghost use Rattle.std.specs.Prelude.{◌≡◌, ◌≤◌, None, length, vec_capacity, slice_get};
+ghost use Rattle.std.specs.Prelude.{◌≡◌, None, length, slice_get};
 ghost use Rattle.std.specs.Slots.{slots_items, slots_len, IsFull};
 ghost use Rattle.heap_words.specs.Words.{table_words, heap_size};
+ghost use Rattle.image_graph.specs.State as images;
 ghost use Rattle.steps_base.specs.Steps.{IsReached};
 ghost use Rattle.shared_table.specs.Views.{machines_of};
 ghost use Rattle.shared_table.specs.Counted.{uncounted_view};
 ghost use Rattle.step_core.specs.Settled.{image_of, control_number};
 ghost use Rattle.table_heap.specs.Core.{heap_kind, heap_opening};
+ghost use Rattle.table_heap.specs.Known.{HasControl};
 
 use crate::bundle::Bundle;
 use crate::heap::Heap;
 use crate::machines::{Acting, OfHeaps};
 use atomic_table::Closed as Rows;
-use heap_graph::write_graph;
-use heap_words::{Config, heap_in, roots_in};
+use heap_machines::Machine;
+use heap_words::Config;
+use image_graph::Image;
 use shared_table::{ViewSeat, close_table};
 use shen_graph::{GraphText, Order};
 use std::alloc::Global;
@@ -21,29 +24,36 @@ use std::snapshot::Snapshot;
 /// A heap that no thread shares any more: its words as the last event left them.
 #[derive(Drop)]
 pub struct Closed {
-    config: Config,
-    words: Vec<u64>,
-    // Where `graph` works.
-    marks: Vec<bool>,
-    addresses: Vec<u64>,
+    // The words, and where `graph` works: the image that was the control's.
+    image: Image,
     // Which machines led to the words.
     seat: Snapshot<ViewSeat<Acting>>,
-    ghost all_words: { length words.items ≡ table_words config },
-    ghost all_marks: { length marks.items ≡ heap_size config },
-    ghost enough_addresses: { heap_size config ≤ vec_capacity addresses },
-    ghost reached: { ∥ IsReached (heap_kind config) (heap_opening config) (record { words = words.items; machines = machines_of (uncounted_view seat.value.me.0) }) ∥₁ },
-    ghost calm: { image_of (slice_get (machines_of (uncounted_view seat.value.me.0)) (control_number config)) ≡ None },
+    ghost reached: { ∥ IsReached (heap_kind (images.config_of image)) (heap_opening (images.config_of image)) (record { words = images.words_of image; machines = machines_of (uncounted_view seat.value.me.0) }) ∥₁ },
+    ghost calm: { image_of (slice_get (machines_of (uncounted_view seat.value.me.0)) (control_number (images.config_of image))) ≡ None },
 }
 
 // Reads all words of a table.
-fn read_words(rows: &Rows<(), Global>, words: &mut Vec<u64>)
+fn read_words(rows: &Rows<(), Global>, image: &mut Image)
     requires full { IsFull rows.now.words }
-    requires room { length words.old.items ≡ slots_len rows.now.words }
-    ensures { words.new.items ≡ slots_items rows.now.words }
+    requires room { table_words (images.config_of image.old) ≡ slots_len rows.now.words }
+    ensures config { images.config_of image.new ≡ images.config_of image.old }
+    ensures words { images.words_of image.new ≡ slots_items rows.now.words }
 {
-    for at in 0..words.len() {
-        words[at] = rows.word(at);
+    for at in 0..image.config().table_words() {
+        image.set_word(at, rows.word(at));
     }
+}
+
+// The image of the control, which is the last of a heap's machines.
+fn control_image(config: Config, mut machines: Vec<Option<Machine>>) -> Image
+    requires { HasControl config machines.items }
+    ensures { images.config_of result ≡ config }
+{
+    let number = config.seats() - 1;
+    let Some(control) = machines[number].take() else {
+        unreachable!()
+    };
+    control.into_image()
 }
 
 impl Heap {
@@ -51,7 +61,8 @@ impl Heap {
     ghost use Rattle.table_heap.specs.State as state;
     ghost use Rattle.table_heap.specs.Closed.{HasAll, IsControlIdle, config_of, machines_of as actors_of, stage_of};
 
-    /// Ends the sharing, by a bundle that has all machines. The control is idle. No memory is taken.
+    /// Ends the sharing, by a bundle that has all machines. The control is idle. No memory is taken: the words are read into the
+    /// control's image, which serves no more.
     pub fn close(self, bundle: Bundle) -> Closed
         requires heap { state.IsBundleOf bundle self }
         requires all { HasAll bundle }
@@ -62,34 +73,23 @@ impl Heap {
         // Some events lead from the opening to just these words and machines.
         ensures reached { IsReached (heap_kind (state.config_of self)) (heap_opening (state.config_of self)) (stage_of result) }
     {
-        let Heap {
-            config,
-            table,
-            mut words,
-            marks,
-            addresses,
-        } = self;
+        let Heap { config, table } = self;
         let Bundle {
             config: _,
             seat,
-            machines: _,
+            machines,
         } = bundle;
         let last = Snapshot::of(&seat);
         let rows = close_table::<Acting, Order, Config, OfHeaps>(table, seat);
-        read_words(&rows, &mut words);
+        let mut image = control_image(config, machines);
+        read_words(&rows, &mut image);
         rows.free();
-        Closed {
-            config,
-            words,
-            marks,
-            addresses,
-            seat: last,
-        }
+        Closed { image, seat: last }
     }
 }
 
 impl Closed {
-    ghost use Rattle.std.specs.Prelude.{◌<◌, slice_index};
+    ghost use Rattle.std.specs.Prelude.{◌<◌, ◌≤◌, slice_index};
     ghost use Rattle.heap_machines.specs.Pause.{pause_image};
     ghost use Rattle.step_core.specs.Begins.{Run, ending, graph_after};
     ghost use Rattle.heap_graph.specs.Shows.{ShowsGraph};
@@ -100,7 +100,7 @@ impl Closed {
         requires { at < table_words (config_of self.now) }
         ensures { result ≡ slice_index (words_of self.now) at }
     {
-        self.words[at]
+        self.image.word(at)
     }
 
     /// Writes the graph that words and machines stand for: the objects that the mutators' roots lead to, in the order of
@@ -118,13 +118,6 @@ impl Closed {
         ensures same_room { text.new.room ≡ text.old.room }
         ensures same_threads { length text.new.roots ≡ length text.old.roots }
     {
-        write_graph(
-            self.config.region_words() as u64,
-            heap_in(self.config, &self.words),
-            roots_in(self.config, &self.words),
-            &mut self.marks,
-            &mut self.addresses,
-            text,
-        );
+        self.image.answer_graph(text);
     }
 }

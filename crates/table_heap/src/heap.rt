@@ -1,31 +1,44 @@
-ghost use Rattle.std.specs.Prelude.{◌≡◌, ◌≤◌, length, vec_capacity, IfOk};
+ghost use Rattle.std.specs.Prelude.{◌≡◌, [], length, IfOk};
 ghost use Rattle.shared_table.specs.Views.{whole};
-ghost use Rattle.heap_words.specs.Words.{table_words, heap_size};
+ghost use Rattle.heap_words.specs.Words.{table_words};
+ghost use Rattle.table_heap.specs.Core.{table_opening};
 
 use crate::bundle::Bundle;
 use crate::machines::{Acting, OfHeaps};
 use heap_machines::{Machine, open_machines};
 use heap_words::{Config, NoMemory};
-use shared_table::{StepsTable, open_table};
+use shared_table::{StepsTable, ViewSeat, open_table};
 use shen_graph::Order;
 use std::alloc::Global;
 use step_core::open_words;
 
-/// A heap that threads share, by a `&`. Its machines are in bundles, each of which is one thread's own.
+/// A heap that threads share, by a `&`. Its machines are in bundles, each of which is one thread's own. For each word of the heap
+/// the shared table and the control's image together have 33.5 bytes, the grey and black bits of the word with them.
 #[derive(Drop)]
 pub struct Heap {
     pub(crate) config: Config,
     pub(crate) table: StepsTable<Acting, Order, Config, OfHeaps>,
-    // Where the graph is found in the end.
-    pub(crate) words: Vec<u64>,
-    pub(crate) marks: Vec<bool>,
-    pub(crate) addresses: Vec<u64>,
     ghost key: { table.shared.key ≡ config },
     ghost all_words: { table.shared.table_id.words ≡ table_words config },
     ghost no_slots: { table.shared.table_id.slots ≡ 0 },
-    ghost room_for_words: { length words.items ≡ table_words config },
-    ghost all_marks: { length marks.items ≡ heap_size config },
-    ghost enough_addresses: { heap_size config ≤ vec_capacity addresses },
+}
+
+// The table of this configuration before the first event, and the seat that has all its machines. The words that the table begins
+// with are let go.
+fn opened_table(
+    alloc: Global,
+    config: Config,
+) -> Result<(StepsTable<Acting, Order, Config, OfHeaps>, ViewSeat<Acting>), NoMemory>
+    ensures key { IfOk result (λ t. t.0.shared.key ≡ config) }
+    ensures words { IfOk result (λ t. t.0.shared.table_id.words ≡ table_words config) }
+    ensures slots { IfOk result (λ t. t.0.shared.table_id.slots ≡ 0) }
+    ensures seat { IfOk result (λ t. (t.1.table_id ≡ t.0.shared.table_id) × (t.1.me ≡ (whole (table_opening config).machines, []))) }
+{
+    let words = open_words(alloc, config)?;
+    match open_table(alloc, &words, &config) {
+        Ok(opened) => Ok(opened),
+        Err(_) => Err(NoMemory),
+    }
 }
 
 // Machines, each in its place.
@@ -45,7 +58,7 @@ fn placed(alloc: Global, mut machines: Vec<Machine>) -> Result<Vec<Option<Machin
 }
 
 impl Heap {
-    ghost use Rattle.std.specs.Prelude.{ℕ, Some, slice_get};
+    ghost use Rattle.std.specs.Prelude.{ℕ, ◌≤◌, Some, slice_get};
     ghost use Rattle.shared_table.specs.Views.{dealt_to};
     ghost use Rattle.table_heap.specs.Core.{heap_opening};
     ghost use Rattle.table_heap.specs.State.{config_of, view_of, IsBundleOf, IsFresh};
@@ -56,24 +69,9 @@ impl Heap {
         ensures config { IfOk result (λ t. config_of t.0 ≡ config) }
         ensures bundle { IfOk result (λ t. IsFresh t.0 t.1 (whole (heap_opening config).machines)) }
     {
-        let words = open_words(alloc, config)?;
+        let (table, seat) = opened_table(alloc, config)?;
         let machines = placed(alloc, open_machines(alloc, config)?)?;
-        let Ok(marks) = vec![in alloc; false; config.heap_size()] else {
-            return Err(NoMemory);
-        };
-        let Ok(addresses) = Vec::with_capacity(alloc, config.heap_size()) else {
-            return Err(NoMemory);
-        };
-        let Ok((table, seat)) = open_table(alloc, &words, &config) else {
-            return Err(NoMemory);
-        };
-        let heap = Heap {
-            config,
-            table,
-            words,
-            marks,
-            addresses,
-        };
+        let heap = Heap { config, table };
         let bundle = Bundle {
             config,
             seat,

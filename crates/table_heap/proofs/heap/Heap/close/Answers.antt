@@ -1,4 +1,4 @@
-use Rattle.std.proofs.Common.{◌≡◌, length, sym, ap, ◌∙◌, subst}
+use Rattle.std.proofs.Common.{◌≡◌, length, refl, sym, ap, ◌∙◌, subst, arith}
 use Rattle.std.specs.Slots.{slots_items, slots_counts}
 use Rattle.std.proofs.lemmas.List.{length-map}
 use Rattle.heap_words.specs.declared.config.Config.{Config}
@@ -12,7 +12,9 @@ use Rattle.step_core.specs.Settled.{image_of, control_number}
 use Rattle.std.specs.Prelude.{slice_get, None}
 use Rattle.table_heap.specs.Core.{heap_kind, heap_opening, table_opening}
 use Rattle.table_heap.specs.State.{view_of}
-use Rattle.table_heap.proofs.Closing.{view_is_whole, view_is_calm, reached_as}
+use Rattle.image_graph.specs.State.{config_of, words_of}
+use Rattle.table_heap.specs.Known.{HasControl}
+use Rattle.table_heap.proofs.Closing.{view_is_whole, view_is_calm, reached_as, has_control}
 use Rattle.table_heap.proofs.heap.Heap.close.Goals as goal
 
 pub close_table-rows-requires-clause-all : goal.close_table-rows-requires-clause-all
@@ -24,6 +26,19 @@ close_table-rows-requires-clause-all c =
     (all_counted (length (heap_opening b.config).machines) b.seat.me.0
     (view_is_whole b.config (view_of b) (kept_in_view shown b.machines.items) b.kept (length-kept shown b.machines.items ∙ b.seats) c.requires.all)))
 
+pub control_image-image-requires : goal.control_image-image-requires
+control_image-image-requires c =
+    let h = c.args.self in
+    let b = c.args.bundle in
+    let view : View Actor = view_of b in
+    let all = view_is_whole b.config view (kept_in_view shown b.machines.items) b.kept (length-kept shown b.machines.items ∙ b.seats) c.requires.all in
+    let same : h.table.shared.key ≡ b.config = h.key ∙ sym c.requires.heap.config in
+    let words = slots_items c.close_table-rows.result.words in
+    subst (λ (k : Config). HasControl k b.machines.items) c.requires.heap.config
+    (has_control b.config b.machines.items view words b.kept b.of_heap all.all (c.requires.all (control_number b.config) (omega arith))
+    (reached_as h.table.shared.key b.config words words view view same refl refl
+    (view_reached (heap_kind h.table.shared.key) (heap_opening h.table.shared.key) words b.seat.me.0 c.close_table-rows.ensures.reached)))
+
 pub invariant_of-result : goal.invariant_of-result
 invariant_of-result c =
     let h = c.args.self in
@@ -32,14 +47,13 @@ invariant_of-result c =
     let last : View Actor = uncounted_view c.of-last.result.value.me.0 in
     let seen : view ≡ last = sym (ap (λ s. uncounted_view s.me.0) c.of-last.ensures) in
     let all = view_is_whole b.config view (kept_in_view shown b.machines.items) b.kept (length-kept shown b.machines.items ∙ b.seats) c.requires.all in
+    let image = c.read_words.new.image in
+    let config : h.config ≡ config_of image = sym (c.read_words.ensures.config ∙ c.control_image-image.ensures) in
     record {
-      all_words = ap length c.read_words.ensures ∙ sym (slots_counts c.close_table-rows.result.words).0 ∙ c.close_table-rows.ensures.words.1 ∙ h.all_words;
-      all_marks = h.all_marks;
-      enough_addresses = h.enough_addresses;
-      reached = ∣ reached_as h.table.shared.key h.config (slots_items c.close_table-rows.result.words) c.read_words.new.words.items view last h.key (sym c.read_words.ensures) seen
+      reached = ∣ reached_as h.table.shared.key (config_of image) (slots_items c.close_table-rows.result.words) (words_of image) view last (h.key ∙ config) (sym c.read_words.ensures.words) seen
           (view_reached (heap_kind h.table.shared.key) (heap_opening h.table.shared.key) (slots_items c.close_table-rows.result.words) b.seat.me.0 c.close_table-rows.ensures.reached) ∣₁;
       calm =
-          subst (λ (k : Config). image_of (slice_get (machines_of last) (control_number k)) ≡ None) c.requires.heap.config
+          subst (λ (k : Config). image_of (slice_get (machines_of last) (control_number k)) ≡ None) (c.requires.heap.config ∙ config)
           (subst (λ (v : View Actor). image_of (slice_get (machines_of v) (control_number b.config)) ≡ None) seen
           (view_is_calm view (control_number b.config) all.all c.requires.control));
     }
@@ -48,7 +62,7 @@ pub returns-clause-reached : goal.returns-clause-reached
 returns-clause-reached c =
     let h = c.args.self in
     let b = c.args.bundle in
-    reached_as h.table.shared.key h.config (slots_items c.close_table-rows.result.words) c.read_words.new.words.items (view_of b) (uncounted_view c.of-last.result.value.me.0) h.key (sym c.read_words.ensures)
+    reached_as h.table.shared.key h.config (slots_items c.close_table-rows.result.words) (words_of c.read_words.new.image) (view_of b) (uncounted_view c.of-last.result.value.me.0) h.key (sym c.read_words.ensures.words)
     (sym (ap (λ s. uncounted_view s.me.0) c.of-last.ensures))
     (view_reached (heap_kind h.table.shared.key) (heap_opening h.table.shared.key) (slots_items c.close_table-rows.result.words) b.seat.me.0 c.close_table-rows.ensures.reached)
 

@@ -2,22 +2,11 @@ use Rattle.std.proofs.Common.{length, refl, sym, ap, ◌∙◌, subst}
 use Rattle.shared_table.specs.Views.{machine_of, kept_in_view}
 use Rattle.shared_table.specs.Counted.{uncounted_view, steps_in_view}
 use Rattle.shared_table.proofs.Counted.{first_view}
-use Rattle.step_core.proofs.Theorem.OpeningStands.{length-opening}
 use Rattle.heap_machines.specs.Shown.{shown, order_of}
 use Rattle.table_heap.specs.Core.{heap_opening, machine_in}
 use Rattle.table_heap.specs.Known.{AreOfHeap}
-use Rattle.table_heap.proofs.Core.{first_words}
 use Rattle.table_heap.proofs.Opened.{opened_count, opened_kept, opened_of_heap, opened_orders, opened_steps}
 use Rattle.table_heap.proofs.heap.Heap.open_whole.Goals as goal
-
-pub open_table-requires : goal.open_table-requires
-open_table-requires c = c.deref.ensures.value ∙ c.in_ok-words.ensures ∙ sym (first_words c.args.config)
-
-pub invariant_of-heap-clause-all_words : goal.invariant_of-heap-clause-all_words
-invariant_of-heap-clause-all_words c = c.in-Ok-open_table.ensures.1 ∙ ap length c.deref.ensures.value ∙ ap length c.in_ok-words.ensures ∙ length-opening c.args.config
-
-pub invariant_of-heap-clause-room_for_words : goal.invariant_of-heap-clause-room_for_words
-invariant_of-heap-clause-room_for_words c = ap length c.in_ok-words.ensures ∙ length-opening c.args.config
 
 pub invariant_of-bundle : goal.invariant_of-bundle
 invariant_of-bundle c =
@@ -25,8 +14,8 @@ invariant_of-bundle c =
     let places = c.in_ok-machines.ensures in
     record {
       seats = ap length places ∙ opened_count c.args.config machines c.in_ok-open_machines.ensures.machines;
-      kept = ap (λ me. kept_in_view machine_in (uncounted_view me.0)) c.in-Ok-open_table.ensures.4 ∙ ap (kept_in_view machine_in) (first_view (heap_opening c.args.config)) ∙ opened_kept c.args.config machines c.in_ok-open_machines.ensures.machines ∙ ap (kept_in_view shown) (sym places);
-      slots = ap (λ me. me.1) c.in-Ok-open_table.ensures.4;
+      kept = ap (λ me. kept_in_view machine_in (uncounted_view me.0)) c.in_ok-table.ensures.seat.1 ∙ ap (kept_in_view machine_in) (first_view (heap_opening c.args.config)) ∙ opened_kept c.args.config machines c.in_ok-open_machines.ensures.machines ∙ ap (kept_in_view shown) (sym places);
+      slots = ap (λ me. me.1) c.in_ok-table.ensures.seat.1;
       of_heap = subst (AreOfHeap c.args.config) (sym places) (opened_of_heap c.args.config machines c.in_ok-open_machines.ensures.machines c.in_ok-open_machines.ensures.heap);
     }
 
@@ -34,8 +23,8 @@ pub returns-clause-bundle : goal.returns-clause-bundle
 returns-clause-bundle c =
     let machines = c.in_ok-open_machines.field-0.items in
     record {
-      of = record { table = c.in-Ok-open_table.ensures.3; config = refl };
-      machines = ap (λ me. uncounted_view me.0) c.in-Ok-open_table.ensures.4 ∙ first_view (heap_opening c.args.config);
+      of = record { table = c.in_ok-table.ensures.seat.0; config = refl };
+      machines = ap (λ me. uncounted_view me.0) c.in_ok-table.ensures.seat.1 ∙ first_view (heap_opening c.args.config);
       orders = λ number order there. opened_orders machines c.in_ok-open_machines.ensures.orders number order (ap (λ v. machine_of (kept_in_view order_of v) number) (sym c.in_ok-machines.ensures) ∙ there);
-      steps = λ number made there. opened_steps (heap_opening c.args.config).machines number made (ap (λ me. machine_of (steps_in_view me.0) number) (sym c.in-Ok-open_table.ensures.4) ∙ there);
+      steps = λ number made there. opened_steps (heap_opening c.args.config).machines number made (ap (λ me. machine_of (steps_in_view me.0) number) (sym c.in_ok-table.ensures.seat.1) ∙ there);
     }
