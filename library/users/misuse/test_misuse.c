@@ -183,6 +183,23 @@ static void busy(cvm_seat *seat) {
 
 /* ---- Replies that are no refusals ---- */
 
+/* Each call in one piece, with words of which no two could change places. */
+static void good_replies(cvm_seat *seat) {
+    uint64_t number = 0;
+    MUST(cvm_new(seat, 1, 2, 0) == CVM_REF && cvm_new(seat, 2, 0, 2) == CVM_REF);
+    MUST(cvm_set(seat, 1, 0, 2) == CVM_OK);
+    MUST(cvm_get(seat, 3, 1, 0) == CVM_REF && cvm_same(seat, 3, 2) == CVM_YES && cvm_same(seat, 3, 1) == CVM_NO);
+    MUST(cvm_xchg(seat, 4, 1, 0, 1) == CVM_REF && cvm_same(seat, 4, 2) == CVM_YES);
+    MUST(cvm_get(seat, 5, 1, 0) == CVM_REF && cvm_same(seat, 5, 1) == CVM_YES);
+    MUST(cvm_cas(seat, 1, 0, 2, 1) == CVM_NO && cvm_cas(seat, 1, 0, 1, 2) == CVM_YES);
+    MUST(cvm_get(seat, 5, 1, 0) == CVM_REF && cvm_same(seat, 5, 2) == CVM_YES);
+    MUST(cvm_wr(seat, 2, 1, 77) == CVM_OK && cvm_rd(seat, 2, 1, &number) == CVM_NUMBER && number == 77);
+    MUST(cvm_rd(seat, 2, 0, &number) == CVM_NUMBER && number == 0);
+    MUST(cvm_copy(seat, 6, 1) == CVM_OK && cvm_same(seat, 6, 1) == CVM_YES && cvm_get(seat, 7, 1, 1) == CVM_NULL);
+    MUST(cvm_drop(seat, 6) == CVM_OK && cvm_same(seat, 6, 7) == CVM_YES);
+    MUST(cvm_gc(seat) == CVM_OK);
+}
+
 static void bad_replies(cvm_seat *seat) {
     uint64_t number = 5;
     MUST(cvm_drop(seat, 1) == CVM_OK && cvm_drop(seat, 2) == CVM_OK);
@@ -298,6 +315,7 @@ int main(int count, char **words) {
     busy(&seats[0]);
     commands(seats);
     bad_replies(&seats[0]);
+    good_replies(&seats[0]);
     ends(seats);
     close_wrong(seats, others);
     MUST(cvm_close_all(seats, SEATS) == CVM_DONE);
