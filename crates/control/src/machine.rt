@@ -214,6 +214,7 @@ impl Control {
         let Control {
             spot: _,
             last: _,
+            last_word: _,
             image,
         } = self;
         image

@@ -27,7 +27,7 @@ use Rattle.step_core.specs.Begins.{ending}
 use Rattle.step_core.specs.Machines.{control_in}
 use Rattle.step_core.proofs.Machines.Roles.{control_of}
 use Rattle.step_core.proofs.Theorem.EveryList.{run_sound}
-use Rattle.table_heap.specs.Known.{AreOfHeap, HasControl}
+use Rattle.table_heap.specs.Known.{AreOfHeap, HasTheControl}
 use Rattle.table_heap.proofs.Core.{idle_is_calm, run_of}
 use Rattle.table_heap.proofs.MachineUnder.{shows_here}
 
@@ -84,10 +84,10 @@ control_there c s reached a here =
 
 -- so memory has it there
 pub has_control : (c : Config) (items : View memory.Machine) (view : View Actor) (words : List ℕ) → kept_in_view machine_in view ≡ kept_in_view shown items → AreOfHeap c items → view ≡ whole (machines_of view)
-    → is_some (machine_of (kept_in_view shown items) (control_number c)) ≡ true → IsReached (heap_kind c) (heap_opening c) (record { words = words; machines = machines_of view }) → HasControl c items
+    → is_some (machine_of (kept_in_view shown items) (control_number c)) ≡ true → IsReached (heap_kind c) (heap_opening c) (record { words = words; machines = machines_of view }) → HasTheControl c items
 has_control c items view words kept of_heap all here reached = by_machine (machine_of items (control_number c)) refl
   where
-    by_machine : (o : Option memory.Machine) → machine_of items (control_number c) ≡ o → HasControl c items
+    by_machine : (o : Option memory.Machine) → machine_of items (control_number c) ≡ o → HasTheControl c items
     by_machine None is = absurd (let none : is_some (machine_of (kept_in_view shown items) (control_number c)) ≡ false = kept_some shown items (control_number c) ∙ ap is_some is in cc)
     by_machine (Some m) is =
         let seen = kept_here machine_in view (control_number c) (shown m) (ap (λ v. machine_of v (control_number c)) kept ∙ shows_here shown items (control_number c) m is) in

@@ -18,7 +18,7 @@ abbrev pub AreOfHeap : Config → View Machine → Type 0
 AreOfHeap c machines = (number : ℕ) (m : Machine) → machine_of machines number ≡ Some m → IsMachineOfHeap c number m
 
 -- the control of the heap is under its number
-pub record HasControl (c : Config) (machines : View Machine) : Type 0 where
+pub record HasTheControl (c : Config) (machines : View Machine) : Type 0 where
   pub machine : Machine
   pub here : machine_of machines (control_number c) ≡ Some machine
   pub heap : heap_of machine ≡ c

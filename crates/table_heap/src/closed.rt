@@ -7,7 +7,7 @@ ghost use Rattle.shared_table.specs.Views.{machines_of};
 ghost use Rattle.shared_table.specs.Counted.{uncounted_view};
 ghost use Rattle.step_core.specs.Settled.{image_of, control_number};
 ghost use Rattle.table_heap.specs.Core.{heap_kind, heap_opening};
-ghost use Rattle.table_heap.specs.Known.{HasControl};
+ghost use Rattle.table_heap.specs.Known.{HasTheControl};
 
 use crate::bundle::Bundle;
 use crate::heap::Heap;
@@ -46,7 +46,7 @@ fn read_words(rows: &Rows<(), Global>, image: &mut Image)
 
 // The image of the control, which is the last of a heap's machines.
 fn control_image(config: Config, mut machines: Vec<Option<Machine>>) -> Image
-    requires { HasControl config machines.items }
+    requires { HasTheControl config machines.items }
     ensures { images.config_of result ≡ config }
 {
     let number = config.seats() - 1;

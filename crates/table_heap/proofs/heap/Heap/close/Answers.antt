@@ -13,7 +13,7 @@ use Rattle.std.specs.Prelude.{slice_get, None}
 use Rattle.table_heap.specs.Core.{heap_kind, heap_opening, table_opening}
 use Rattle.table_heap.specs.State.{view_of}
 use Rattle.image_graph.specs.State.{config_of, words_of}
-use Rattle.table_heap.specs.Known.{HasControl}
+use Rattle.table_heap.specs.Known.{HasTheControl}
 use Rattle.table_heap.proofs.Closing.{view_is_whole, view_is_calm, reached_as, has_control}
 use Rattle.table_heap.proofs.heap.Heap.close.Goals as goal
 
@@ -34,7 +34,7 @@ control_image-image-requires c =
     let all = view_is_whole b.config view (kept_in_view shown b.machines.items) b.kept (length-kept shown b.machines.items ∙ b.seats) c.requires.all in
     let same : h.table.shared.key ≡ b.config = h.key ∙ sym c.requires.heap.config in
     let words = slots_items c.close_table-rows.result.words in
-    subst (λ (k : Config). HasControl k b.machines.items) c.requires.heap.config
+    subst (λ (k : Config). HasTheControl k b.machines.items) c.requires.heap.config
     (has_control b.config b.machines.items view words b.kept b.of_heap all.all (c.requires.all (control_number b.config) (omega arith))
     (reached_as h.table.shared.key b.config words words view view same refl refl
     (view_reached (heap_kind h.table.shared.key) (heap_opening h.table.shared.key) words b.seat.me.0 c.close_table-rows.ensures.reached)))
