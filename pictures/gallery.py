@@ -27,8 +27,10 @@ MOMENTS = {
 
 
 def examples():
-    """The examples with a trace that is run, in the order of the table: one with a line `answer` is only judged."""
-    names = re.findall(r"^\| `(\w+)` \|", PAGE.read_text(), re.M)
+    """The examples with a trace that is run, in the order of the table: one with a line `answer` is only judged. What a dump is made of,
+    or goes on from, is no run whose events are drawn."""
+    rows = re.findall(r"^\| `(\w+)` \| `([^`]*)`", PAGE.read_text(), re.M)
+    names = [name for name, words in rows if "--dump" not in words and not words.startswith("resume")]
     files = {name: EXAMPLES / f"{name}.trace" for name in names}
     return [name for name in names if files[name].exists() and "answer" not in files[name].read_text().splitlines()]
 

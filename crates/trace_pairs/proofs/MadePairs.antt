@@ -29,7 +29,7 @@ use Rattle.trace_pairs.proofs.AnswerLines.{AreLines, IsSmallRow, answer_lines, l
 
 -- ---- each entry is asked for by a script
 
-abbrev Fits : Command → Type 0
+abbrev pub Fits : Command → Type 0
 Fits c = IsValid c × FitsWhenWritten c
 
 -- an entry's command is among those of its thread
@@ -51,10 +51,10 @@ script_fits c lines all t =
     All-map Fits (λ (l : TraceLine). l.command) (filter (λ l. eqb l.thread t) lines) (All-filter (λ l. eqb l.thread t) (λ (l : TraceLine). Fits l.command) lines each)
 
 -- a thread with a command is one of the trace's
-record IsOfScript (c : Config) (t : ℕ) (command : Command) : Type 0 where
-  from_one : 1 ≤ t
-  to_last : t ≤ c.mutators
-  fits : Fits command
+pub record IsOfScript (c : Config) (t : ℕ) (command : Command) : Type 0 where
+  pub from_one : 1 ≤ t
+  pub to_last : t ≤ c.mutators
+  pub fits : Fits command
 
 of_script : (bytes : List ℕ) (c : Config) (scripts : List (List Command)) (items : List Item) (t : ℕ) (command : Command) → Reads bytes c scripts items → Contains (script_of scripts t) command → IsOfScript c t command
 of_script bytes c scripts items zero command reads there = absurd (omega (arith, there.1))
@@ -82,7 +82,8 @@ entry_asked : (bytes : List ℕ) (c : Config) (scripts : List (List Command)) (i
 entry_asked bytes c scripts items es e reads follows there =
     of_script bytes c scripts items e.thread e.command reads (subst (λ (cs : List Command). Contains cs e.command) (follows e.thread) (held es e there.0 there.1 there.2))
 
-each_asked : (bytes : List ℕ) (c : Config) (scripts : List (List Command)) (items : List Item) (es : List Entry) → Reads bytes c scripts items → Follows scripts es → All (λ e. IsOfScript c e.thread e.command) es
+-- each entry has a thread of the trace, and a command of its script
+pub each_asked : (bytes : List ℕ) (c : Config) (scripts : List (List Command)) (items : List Item) (es : List Entry) → Reads bytes c scripts items → Follows scripts es → All (λ e. IsOfScript c e.thread e.command) es
 each_asked bytes c scripts items es reads follows = All-weaker (Contains es) (λ e. IsOfScript c e.thread e.command) (λ e there. entry_asked bytes c scripts items es e reads follows there) es (All-contains_itself es)
 
 -- ---- what is reached is small

@@ -8,13 +8,19 @@ use Rattle.trace_grammar.specs.Grammar.{most_bytes, Came}
 use Rattle.trace_grammar.specs.declared.why.Why.{Why}
 use Rattle.trace_refusals.proofs.Exact.{never_both}
 use Rattle.trace_pairs.proofs.PairLaws as pair
+use Rattle.dump_reading.proofs.Reread as reread
+use Rattle.heap_words.specs.declared.config.Config.{Config}
+use Rattle.shen_graph.specs.GraphText.{Text}
+use Rattle.graph_placing.specs.ByName.{Fits}
+use Rattle.dump_writing.specs.Dumped.{Dumped, dumped}
 use Rattle.trace_runs.specs.declared.mode.Mode.{Mode}
-use Rattle.trace_runs.specs.declared.mode.Mode.TheVariants.{Replay, Noted, Run, Churn, Queue, Check}
+use Rattle.trace_runs.specs.declared.mode.Mode.TheVariants.{Replay, Noted, Dump, Resume, Run, Churn, Queue, Check}
 use Rattle.trace_runs.specs.declared.status.Status.{Status}
 use Rattle.trace_runs.specs.declared.status.Status.TheVariants.{Ok, BadWords, BadTrace, Unfinished, ReadFault, WriteFault, NoMemory}
 use Rattle.trace_runs.specs.Words.{Asked}
-use Rattle.trace_runs.specs.Answered.{Input, Output, ReadsTrace, ReadsNothing, Takes, Refuses, bound_of, IsRefused, IsTooLong, StatusFits, IsTraceStatus}
-use Rattle.trace_runs.proofs.Words.{name_of, one_name, asks_alike}
+use Rattle.trace_runs.specs.Readings.{Reading, ReadNothing, ReadTrace, ReadPair, ReadDump, reading_of, ReadsInput, ReadsNothing, Takes, Refuses, IsTooLarge}
+use Rattle.trace_runs.specs.Answered.{Input, Output, HasRead, bound_of, IsRefused, IsTooLong, IsTooSmallHeap, IsTurnedDown, StatusFits, IsTraceStatus}
+use Rattle.trace_runs.proofs.Words.{one_reading, asks_alike}
 
 -- what came from known bytes to their end is these bytes
 came_all : (bytes other : List ℕ) (before after : Option (List ℕ)) → before ≡ Some bytes → Came before after other → other ≡ bytes
@@ -32,52 +38,55 @@ came_short bytes other before after told taken = by_after after (subst (λ (b : 
     by_after None taken = absurd taken
     by_after (Some rest) taken = omega (arith, ap length taken, length-append other rest)
 
--- bytes that a mode reads are not too many, and no mode of the same command refuses them
-takes_few : (mode : Mode) (bytes : List ℕ) → Takes mode bytes → length bytes ≤ most_bytes
-takes_few (Replay steps) bytes takes = takes.3.short
-takes_few (Noted steps) bytes takes = takes.3.short
-takes_few (Run workers) bytes takes = takes.3.short
-takes_few (Churn load) bytes takes = absurd takes
-takes_few (Queue count) bytes takes = absurd takes
-takes_few Check bytes takes = takes.5.short
+-- bytes that are read are not too many, and are neither refused nor too large
+takes_few : (reading : Reading) (bytes : List ℕ) → Takes reading bytes → length bytes ≤ most_bytes
+takes_few ReadNothing bytes takes = absurd takes
+takes_few ReadTrace bytes takes = takes.3.short
+takes_few ReadPair bytes takes = takes.5.short
+takes_few ReadDump bytes takes = takes.0.resumes.short
 
-takes_or_refuses : (a b : Mode) (bytes : List ℕ) (n : ℕ) (why : Why) → name_of a ≡ name_of b → Takes a bytes → Refuses b bytes n why → ⊥
-takes_or_refuses (Churn load) b bytes n why same takes refuses = takes
-takes_or_refuses (Queue count) b bytes n why same takes refuses = takes
-takes_or_refuses a (Churn load) bytes n why same takes refuses = refuses
-takes_or_refuses a (Queue count) bytes n why same takes refuses = refuses
-takes_or_refuses Check Check bytes n why same takes refuses = pair.never_both bytes takes.0 takes.1 takes.2 takes.3 takes.4 n why takes.5 refuses
-takes_or_refuses Check (Replay steps) bytes n why same takes refuses = absurd (omega (arith, ap length same))
-takes_or_refuses Check (Noted steps) bytes n why same takes refuses = absurd (omega (arith, ap length same))
-takes_or_refuses Check (Run workers) bytes n why same takes refuses = absurd (omega (arith, ap length same))
-takes_or_refuses (Replay steps) Check bytes n why same takes refuses = absurd (omega (arith, ap length same))
-takes_or_refuses (Noted steps) Check bytes n why same takes refuses = absurd (omega (arith, ap length same))
-takes_or_refuses (Run workers) Check bytes n why same takes refuses = absurd (omega (arith, ap length same))
-takes_or_refuses (Replay steps) (Replay most) bytes n why same takes refuses = never_both bytes takes.0 takes.1 takes.2 n why takes.3 refuses.0
-takes_or_refuses (Replay steps) (Noted most) bytes n why same takes refuses = never_both bytes takes.0 takes.1 takes.2 n why takes.3 refuses.0
-takes_or_refuses (Replay steps) (Run workers) bytes n why same takes refuses = never_both bytes takes.0 takes.1 takes.2 n why takes.3 refuses.0
-takes_or_refuses (Noted steps) (Replay most) bytes n why same takes refuses = never_both bytes takes.0 takes.1 takes.2 n why takes.3 refuses.0
-takes_or_refuses (Noted steps) (Noted most) bytes n why same takes refuses = never_both bytes takes.0 takes.1 takes.2 n why takes.3 refuses.0
-takes_or_refuses (Noted steps) (Run workers) bytes n why same takes refuses = never_both bytes takes.0 takes.1 takes.2 n why takes.3 refuses.0
-takes_or_refuses (Run some) (Replay most) bytes n why same takes refuses = never_both bytes takes.0 takes.1 takes.2 n why takes.3 refuses.0
-takes_or_refuses (Run some) (Noted most) bytes n why same takes refuses = never_both bytes takes.0 takes.1 takes.2 n why takes.3 refuses.0
-takes_or_refuses (Run some) (Run workers) bytes n why same takes refuses = never_both bytes takes.0 takes.1 takes.2 n why takes.3 refuses.0
+takes_or_refuses : (reading : Reading) (bytes : List ℕ) (n : ℕ) (why : Why) → Takes reading bytes → Refuses reading bytes n why → ⊥
+takes_or_refuses ReadNothing bytes n why takes refuses = takes
+takes_or_refuses ReadTrace bytes n why takes refuses = never_both bytes takes.0 takes.1 takes.2 n why takes.3 refuses.0
+takes_or_refuses ReadPair bytes n why takes refuses = pair.never_both bytes takes.0 takes.1 takes.2 takes.3 takes.4 n why takes.5 refuses
+takes_or_refuses ReadDump bytes n why takes refuses =
+    let read = takes.0 in
+    reread.never_both bytes (dumped read.config read.counts read.graph) read.scripts read.items n why read.resumes refuses.0
 
-no_bad_trace : (mode other : Mode) (input : Input) (out bytes : List ℕ) → name_of mode ≡ name_of other → Takes mode bytes → input.before ≡ Some bytes → IsRefused other input out ⊎ IsTooLong input out → ⊥
-no_bad_trace mode other input out bytes same takes told (inl bad) =
-    let read = bad.refused in
-    takes_or_refuses mode other read.bytes bad.number bad.why same (subst (Takes mode) (sym (came_all bytes read.bytes input.before input.after told read.came)) takes) read.is
-no_bad_trace mode other input out bytes same takes told (inr long) =
-    absurd (omega (arith, came_short bytes long.bytes input.before input.after told long.taken, long.many, takes_few mode bytes takes))
+-- two readings of bytes are of one dump, and so fit alike
+fits_alike : (c k : Config) (xs ys : List ℕ) (t u : Text) → dumped c xs t ≡ dumped k ys u → Fits c t → Fits k u
+fits_alike c k xs ys t u same fits =
+    subst (λ (d : Dumped). Fits d.config (record { rows = d.rows; roots = d.roots; spare = 0; room = 0 })) same fits
+
+takes_or_large : (reading : Reading) (bytes : List ℕ) → Takes reading bytes → IsTooLarge reading bytes → ⊥
+takes_or_large ReadNothing bytes takes large = takes
+takes_or_large ReadTrace bytes takes large = large
+takes_or_large ReadPair bytes takes large = large
+takes_or_large ReadDump bytes takes large =
+    let a = takes.0 in
+    let b = large.read in
+    let same = reread.read_once bytes (dumped a.config a.counts a.graph) (dumped b.config b.counts b.graph) a.scripts b.scripts a.items b.items a.resumes b.resumes in
+    large.too_large (fits_alike a.config b.config a.counts b.counts a.graph b.graph same.dump takes.1)
+
+not_turned_down : (reading : Reading) (input : Input) (out bytes : List ℕ) → Takes reading bytes → input.before ≡ Some bytes → IsTurnedDown reading input out → ⊥
+not_turned_down reading input out bytes takes told down = by_cause down.1
+  where
+    all_came : (P : List ℕ → Type 0) → ((xs : List ℕ) → Takes reading xs → P xs → ⊥) → HasRead input P → ⊥
+    all_came P never read = never read.bytes (subst (Takes reading) (sym (came_all bytes read.bytes input.before input.after told read.came)) takes) read.is
+
+    by_cause : IsRefused reading input out ⊎ (IsTooLong input out ⊎ IsTooSmallHeap reading input out) → ⊥
+    by_cause (inl bad) = all_came (λ xs. Refuses reading xs bad.number bad.why) (λ xs takes_xs refuses. takes_or_refuses reading xs bad.number bad.why takes_xs refuses) bad.refused
+    by_cause (inr (inl long)) = absurd (omega (arith, came_short bytes long.bytes input.before input.after told long.taken, long.many, takes_few reading bytes takes))
+    by_cause (inr (inr small)) = all_came (IsTooLarge reading) (takes_or_large reading) small.read
 
 pub complete : (words : List (List ℕ)) (input : Input) (output : Output) (status : Status) → StatusFits words input output status
-    → (bytes : List ℕ) → Asked words (λ mode. Takes mode bytes) → input.before ≡ Some bytes
+    → (bytes : List ℕ) → Asked words (λ mode. Takes (reading_of mode) bytes) → input.before ≡ Some bytes
     → (Rose input.faults_before input.faults_after → ⊥) → (Rose output.before.faults output.after.faults → ⊥) → IsTraceStatus words status
 complete words input output Ok fits bytes asked told read_fine written_fine = tt
 complete words input output BadWords fits bytes asked told read_fine written_fine = fits.allowed.0 (asked.0, asked.1)
 complete words input output BadTrace fits bytes asked told read_fine written_fine =
     let bad = fits.allowed in
-    no_bad_trace asked.0 bad.0 input fits.out bytes (one_name words asked.0 bad.0 asked.1 bad.1) asked.2 told bad.2.1
+    not_turned_down (reading_of bad.0) input fits.out bytes (subst (λ (reading : Reading). Takes reading bytes) (one_reading words asked.0 bad.0 asked.1 bad.1) asked.2) told bad.2
 complete words input output Unfinished fits bytes asked told read_fine written_fine =
     let cut = fits.allowed in
     (cut.0, cut.1, (cut.2.steps, cut.2.limit))
@@ -85,16 +94,18 @@ complete words input output ReadFault fits bytes asked told read_fine written_fi
 complete words input output WriteFault fits bytes asked told read_fine written_fine = written_fine fits.failed
 complete words input output NoMemory fits bytes asked told read_fine written_fine = tt
 
--- a mode of which the steps are bounded reads a trace
-limited_reads : (mode : Mode) (steps : ℕ) → bound_of mode ≡ Some steps → ReadsTrace mode
+-- a mode of which the steps are bounded reads something
+limited_reads : (mode : Mode) (steps : ℕ) → bound_of mode ≡ Some steps → ReadsInput mode
 limited_reads (Replay n) steps limited = tt
 limited_reads (Noted n) steps limited = tt
+limited_reads (Dump n) steps limited = tt
+limited_reads (Resume n) steps limited = tt
 limited_reads (Run workers) steps limited = tt
 limited_reads (Churn load) steps limited = absurd cc
 limited_reads (Queue count) steps limited = absurd cc
 limited_reads Check steps limited = tt
 
-reads_none : (words : List (List ℕ)) → Asked words ReadsNothing → Asked words ReadsTrace → ⊥
+reads_none : (words : List (List ℕ)) → Asked words ReadsNothing → Asked words ReadsInput → ⊥
 reads_none words none reads = asks_alike words reads.0 none.0 reads.1 none.1 reads.2 none.2
 
 pub made : (words : List (List ℕ)) (input : Input) (output : Output) (status : Status) → StatusFits words input output status → Asked words ReadsNothing → (Rose output.before.faults output.after.faults → ⊥)

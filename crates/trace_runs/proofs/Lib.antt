@@ -14,3 +14,5 @@ pub mod Churned
 pub mod Queued
 pub mod Texts
 pub mod Righted
+pub mod Dumping
+pub mod FromRead

@@ -4,19 +4,18 @@ use Rattle.std.specs.Io.KnownBytes.{Consumes}
 use Rattle.shen_base.specs.Count.{Rose}
 use Rattle.trace_grammar.specs.Grammar.{most_bytes}
 use Rattle.trace_grammar.specs.declared.why.Why.{Why}
-use Rattle.trace_refusals.specs.Refused.{Refused}
 use Rattle.trace_reading.specs.declared.fault.TraceFault.{TraceFault}
 use Rattle.trace_reading.specs.declared.fault.TraceFault.TheVariants as fault
 use Rattle.trace_writing.specs.Message.{line_text}
 use Rattle.trace_writing.specs.declared.message.Line.TheVariants as line
 use Rattle.trace_runs.specs.declared.mode.Mode.{Mode}
-use Rattle.trace_runs.specs.declared.mode.Mode.TheVariants.{Replay, Noted, Run, Churn, Queue, Check}
 use Rattle.trace_runs.specs.declared.status.Status.{Status}
 use Rattle.trace_runs.specs.declared.status.Status.TheVariants.{BadTrace, ReadFault, NoMemory}
 use Rattle.trace_runs.specs.Words.{Asks}
-use Rattle.trace_runs.specs.Answered.{Input, Output, HasRead, ReadsTrace, Refuses, StatusFits}
+use Rattle.trace_runs.specs.Readings.{Reading, reading_of, ReadsInput, Refuses}
+use Rattle.trace_runs.specs.Answered.{Input, Output, HasRead, StatusFits}
 use Rattle.trace_runs.specs.CallEnds.{EndsWith}
-use Rattle.trace_runs.specs.Faults.{fault_line, fault_status, ReadsOnlyTrace}
+use Rattle.trace_runs.specs.Faults.{fault_line, fault_status}
 use Rattle.trace_runs.proofs.CallEnds.{said}
 
 -- the bytes were more than a trace may have
@@ -24,42 +23,24 @@ abbrev pub CameTooMany : Input → Type 0
 CameTooMany input = (bytes : List ℕ) × Consumes input.before input.after bytes × (length bytes ≡ most_bytes + 1)
 
 -- what a fault says of what was read
-abbrev pub IsTold : Mode → Input → TraceFault → Type 0
-IsTold mode input (fault.BadLine n why) = HasRead input (λ bytes. Refuses mode bytes n why)
-IsTold mode input (fault.TooLong m) = CameTooMany input
-IsTold mode input fault.ReadFault = Rose input.faults_before input.faults_after
-IsTold mode input fault.NoMemory = Unit {0}
+abbrev pub IsTold : Reading → Input → TraceFault → Type 0
+IsTold reading input (fault.BadLine n why) = HasRead input (λ bytes. Refuses reading bytes n why)
+IsTold reading input (fault.TooLong m) = CameTooMany input
+IsTold reading input fault.ReadFault = Rose input.faults_before input.faults_after
+IsTold reading input fault.NoMemory = Unit {0}
 
-pub told_by : (mode : Mode) (input : Input) (f : TraceFault) → ((n : ℕ) (why : Why) → f ≡ fault.BadLine n why → HasRead input (λ bytes. Refuses mode bytes n why)) → ((n : ℕ) → f ≡ fault.TooLong n → CameTooMany input)
-    → (f ≡ fault.ReadFault → Rose input.faults_before input.faults_after) → IsTold mode input f
-told_by mode input (fault.BadLine n why) bad long failed = bad n why refl
-told_by mode input (fault.TooLong n) bad long failed = long n refl
-told_by mode input fault.ReadFault bad long failed = failed refl
-told_by mode input fault.NoMemory bad long failed = tt
+pub told_by : (reading : Reading) (input : Input) (f : TraceFault) → ((n : ℕ) (why : Why) → f ≡ fault.BadLine n why → HasRead input (λ bytes. Refuses reading bytes n why)) → ((n : ℕ) → f ≡ fault.TooLong n → CameTooMany input)
+    → (f ≡ fault.ReadFault → Rose input.faults_before input.faults_after) → IsTold reading input f
+told_by reading input (fault.BadLine n why) bad long failed = bad n why refl
+told_by reading input (fault.TooLong n) bad long failed = long n refl
+told_by reading input fault.ReadFault bad long failed = failed refl
+told_by reading input fault.NoMemory bad long failed = tt
 
-pub fault_said : (words : List (List ℕ)) (input : Input) (output : Output) (mode : Mode) (f : TraceFault) (result : Status) → Asks words mode → ReadsTrace mode → IsTold mode input f
+pub fault_said : (words : List (List ℕ)) (input : Input) (output : Output) (mode : Mode) (f : TraceFault) (result : Status) → Asks words mode → ReadsInput mode → IsTold (reading_of mode) input f
     → EndsWith (line_text (fault_line f)) (fault_status f) result output.before output.after → StatusFits words input output result
 fault_said words input output mode (fault.BadLine n why) result asked reads told ends =
     said words input output (line_text (line.BadLine n why)) BadTrace result (mode, asked, (reads, inl (record { number = n; why = why; refused = told; text = refl }))) ends
 fault_said words input output mode (fault.TooLong n) result asked reads told ends =
-    said words input output (line_text line.TooLong) BadTrace result (mode, asked, (reads, inr (record { bytes = told.0; taken = told.1; many = told.2; text = refl }))) ends
+    said words input output (line_text line.TooLong) BadTrace result (mode, asked, (reads, inr (inl (record { bytes = told.0; taken = told.1; many = told.2; text = refl })))) ends
 fault_said words input output mode fault.ReadFault result asked reads told ends = said words input output (line_text line.ReadFault) ReadFault result ((mode, asked, reads), told, refl) ends
 fault_said words input output mode fault.NoMemory result asked reads told ends = said words input output (line_text line.NoMemory) NoMemory result ((mode, asked), refl) ends
-
--- ---- of a trace alone
-
-pub alone_reads : (mode : Mode) → ReadsOnlyTrace mode → ReadsTrace mode
-alone_reads (Replay steps) reads = tt
-alone_reads (Noted steps) reads = tt
-alone_reads (Run workers) reads = tt
-alone_reads (Churn load) reads = reads
-alone_reads (Queue count) reads = reads
-alone_reads Check reads = tt
-
-pub alone_refuses : (mode : Mode) (bytes : List ℕ) (n : ℕ) (why : Why) → ReadsOnlyTrace mode → Refused bytes n why → Refuses mode bytes n why
-alone_refuses (Replay steps) bytes n why reads refused = refused
-alone_refuses (Noted steps) bytes n why reads refused = refused
-alone_refuses (Run workers) bytes n why reads refused = refused
-alone_refuses (Churn load) bytes n why reads refused = reads
-alone_refuses (Queue count) bytes n why reads refused = reads
-alone_refuses Check bytes n why reads refused = absurd reads

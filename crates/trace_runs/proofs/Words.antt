@@ -1,6 +1,6 @@
 -- The words of the command line.
-use Rattle.std.proofs.Common.{◌≡◌, ℕ, zero, suc, ◌&&◌, ◌<◌, ◌≤◌, Bool, true, false, eqb, List, [], ◌∷◌, ◌++◌, length, get_or, take, drop, map, inl, inr, refl, sym, ap, subst, ◌∙◌, arith}
-use Rattle.std.specs.Prelude.{codes, Option, Some, None, MatchBool, MatchOption}
+use Rattle.std.proofs.Common.{◌≡◌, ℕ, zero, suc, ◌+◌, ◌&&◌, ◌<◌, ◌≤◌, Bool, true, false, eqb, List, [], ◌∷◌, ◌++◌, length, get_or, take, drop, map, inl, inr, refl, sym, ap, subst, ◌∙◌, arith}
+use Rattle.std.specs.Prelude.{codes, ◌==◌, if◌then◌else◌, Option, Some, None, MatchBool, MatchOption}
 use Rattle.std.specs.Fmt.{decimal}
 use Rattle.std.specs.Cmp.Lexicographic.{pointwise}
 use Rattle.std.proofs.lemmas.Bool.{eqb-true, false≢true}
@@ -8,9 +8,9 @@ use Rattle.std.proofs.lemmas.Fmt.{decimal_digit}
 use Rattle.std.proofs.lemmas.List.{length-append}
 use Rattle.trace_grammar.specs.Spelling.{IsUpTo}
 use Rattle.trace_runs.specs.declared.mode.Mode.{Mode}
-use Rattle.trace_runs.specs.declared.mode.Mode.TheVariants.{Replay, Noted, Run, Churn, Queue, Check}
-use Rattle.trace_runs.specs.Words.{most_seed, most_rounds, most_numbers, most_steps, usual_steps, most_machines, IsNumbered, IsReplay, IsNotedReplay, IsChurn, IsQueue, Asks}
-use Rattle.trace_runs.specs.Answered.{ReadsTrace, ReadsNothing}
+use Rattle.trace_runs.specs.declared.mode.Mode.TheVariants.{Replay, Noted, Dump, Resume, Run, Churn, Queue, Check}
+use Rattle.trace_runs.specs.Words.{most_seed, most_rounds, most_numbers, most_steps, usual_steps, most_machines, IsNumbered, IsReplay, IsReplayThen, IsRunBy, IsChurn, IsQueue, IsCheck, IsResume, Asks, Ask}
+use Rattle.trace_runs.specs.Readings.{Reading, ReadNothing, ReadTrace, ReadPair, ReadDump, reading_of, HasInput, ReadsInput, ReadsNothing}
 use Rattle.std.proofs.lemmas.Bool.Decides.{nat_tests}
 
 same_from_test : (xs ys : List ℕ) → pointwise eqb xs ys ≡ true → xs ≡ ys
@@ -141,6 +141,9 @@ begins_longer word (first ∷ front) more begins = begins
 replay_begins : (words : List (List ℕ)) (steps : ℕ) → IsReplay words steps → BeginWith (codes "replay") words
 replay_begins words steps asked = numbered_begins (codes "replay") (codes "--steps") usual_steps most_steps words steps asked
 
+replay_then_begins : (words : List (List ℕ)) (last_word : List ℕ) (steps : ℕ) → IsReplayThen last_word words steps → BeginWith (codes "replay") words
+replay_then_begins words last_word steps asked = subst (BeginWith (codes "replay")) (sym asked.1) (begins_longer (codes "replay") asked.0 (last_word ∷ []) (replay_begins asked.0 steps asked.2))
+
 pub churn_begins : (words : List (List ℕ)) (seed count : ℕ) → IsChurn words seed count → BeginWith (codes "churn") words
 churn_begins words seed count asked = begins_as words (decimal seed ∷ decimal count ∷ []) (codes "churn") asked.0
 
@@ -151,6 +154,8 @@ queue_begins words count asked = begins_as words (decimal count ∷ []) (codes "
 abbrev pub name_of : Mode → List ℕ
 name_of (Replay steps) = codes "replay"
 name_of (Noted steps) = codes "replay"
+name_of (Dump steps) = codes "replay"
+name_of (Resume steps) = codes "resume"
 name_of (Run workers) = codes "run"
 name_of (Churn load) = codes "churn"
 name_of (Queue count) = codes "queue"
@@ -159,7 +164,9 @@ name_of Check = codes "check"
 -- who asks for a mode begins with its command
 begins_with_name : (words : List (List ℕ)) (mode : Mode) → Asks words mode → BeginWith (name_of mode) words
 begins_with_name words (Replay steps) asked = replay_begins words steps asked
-begins_with_name words (Noted steps) asked = subst (BeginWith (codes "replay")) (sym asked.1) (begins_longer (codes "replay") asked.0 (codes "--history" ∷ []) (replay_begins asked.0 steps asked.2))
+begins_with_name words (Noted steps) asked = replay_then_begins words (codes "--history") steps asked
+begins_with_name words (Dump steps) asked = replay_then_begins words (codes "--dump") steps asked
+begins_with_name words (Resume steps) asked = numbered_begins (codes "resume") (codes "--steps") usual_steps most_steps words steps asked
 begins_with_name words (Run workers) asked = numbered_begins (codes "run") (codes "--workers") most_machines most_machines words workers asked
 begins_with_name words (Churn load) asked = churn_begins words load.seed load.count asked
 begins_with_name words (Queue count) asked = queue_begins words count asked
@@ -174,30 +181,30 @@ one_first a b (word ∷ words) begins other = sym begins ∙ other
 pub one_name : (words : List (List ℕ)) (a b : Mode) → Asks words a → Asks words b → name_of a ≡ name_of b
 one_name words a b asked also = one_first (name_of a) (name_of b) words (begins_with_name words a asked) (begins_with_name words b also)
 
--- `check` is no `churn`
-third_letter : codes "check" ≡ codes "churn" → ⊥
-third_letter same = absurd (omega (arith, ap (λ (word : List ℕ). get_or word 2 0) same))
+-- the sum of two letters, by which a command is told
+abbrev letters_of : List ℕ → ℕ
+letters_of word = get_or word 0 0 + get_or word 2 0
 
--- modes of one command read alike
-trace_or_nothing : (a b : Mode) → name_of a ≡ name_of b → ReadsTrace a → ReadsNothing b → ⊥
-trace_or_nothing (Churn load) b same reads none = reads
-trace_or_nothing (Queue count) b same reads none = reads
-trace_or_nothing (Replay steps) (Churn load) same reads none = absurd (omega (arith, ap length same))
-trace_or_nothing (Noted steps) (Churn load) same reads none = absurd (omega (arith, ap length same))
-trace_or_nothing (Run workers) (Churn load) same reads none = absurd (omega (arith, ap length same))
-trace_or_nothing (Replay steps) (Queue count) same reads none = absurd (omega (arith, ap length same))
-trace_or_nothing (Noted steps) (Queue count) same reads none = absurd (omega (arith, ap length same))
-trace_or_nothing (Run workers) (Queue count) same reads none = absurd (omega (arith, ap length same))
-trace_or_nothing Check (Churn load) same reads none = third_letter same
-trace_or_nothing Check (Queue count) same reads none = absurd (omega (arith, ap (λ word. get_or word 0 0) same))
-trace_or_nothing a (Replay steps) same reads none = none
-trace_or_nothing a (Noted steps) same reads none = none
-trace_or_nothing a (Run workers) same reads none = none
-trace_or_nothing a Check same reads none = none
+abbrev reading_at : ℕ → Reading
+reading_at n = if n == letters_of (codes "churn") then ReadNothing else (if n == letters_of (codes "queue") then ReadNothing else (if n == letters_of (codes "check") then ReadPair else (if n == letters_of (codes "resume") then ReadDump else ReadTrace)))
 
--- so words ask for what reads a trace, or for what reads nothing
-pub asks_alike : (words : List (List ℕ)) (a b : Mode) → Asks words a → Asks words b → ReadsTrace a → ReadsNothing b → ⊥
-asks_alike words a b asked also reads none = trace_or_nothing a b (one_name words a b asked also) reads none
+reading_named : (mode : Mode) → reading_of mode ≡ reading_at (letters_of (name_of mode))
+reading_named (Replay steps) = refl
+reading_named (Noted steps) = refl
+reading_named (Dump steps) = refl
+reading_named (Resume steps) = refl
+reading_named (Run workers) = refl
+reading_named (Churn load) = refl
+reading_named (Queue count) = refl
+reading_named Check = refl
+
+-- modes that words ask for read alike
+pub one_reading : (words : List (List ℕ)) (a b : Mode) → Asks words a → Asks words b → reading_of a ≡ reading_of b
+one_reading words a b asked also = reading_named a ∙ ap (λ (word : List ℕ). reading_at (letters_of word)) (one_name words a b asked also) ∙ sym (reading_named b)
+
+-- so words ask for what reads something, or for what reads nothing
+pub asks_alike : (words : List (List ℕ)) (a b : Mode) → Asks words a → Asks words b → ReadsInput a → ReadsNothing b → ⊥
+asks_alike words a b asked also reads none = subst HasInput (one_reading words a b asked also ∙ none) reads
 
 -- a list that is not empty begins with its first word
 pub first_word : {X : Type 0} (f : X → List ℕ) (words : List X) (w : X) (text : List ℕ) (r : Bool) → 1 ≤ length words → w ≡ get_or words 0 w → r ≡ pointwise eqb (f w) text
@@ -248,11 +255,33 @@ last_of f (x ∷ y ∷ words) w (a ∷ front) text (suc n) long is same =
     let both = last_of f (y ∷ words) w front text n (omega arith) is rest in
     (both.0, ap (λ (t : List ℕ). t ∷ map f (take n (y ∷ words))) first ∙ ap (λ (ws : List (List ℕ)). a ∷ ws) both.1)
 
--- what is asked for where the last word is `--history`: a replay by the words before it
-pub noted_by_front : {X : Type 0} (f : X → List ℕ) (words front : List X) (w : X) (n : ℕ) (r : Option ℕ) → length words ≡ suc n → w ≡ get_or words n w → front ≡ take n words
-    → true ≡ pointwise eqb (f w) (codes "--history") → MatchOption r (((steps : ℕ) × IsReplay (map f front) steps) → ⊥) (IsReplay (map f front)) → MatchOption r (((steps : ℕ) × IsNotedReplay (map f words) steps) → ⊥) (IsNotedReplay (map f words))
-noted_by_front f words front w n (Some steps) long is are e asked =
-    (map f front, last_added f words w (codes "--history") n long is (same_from_test (f w) (codes "--history") (sym e)) ∙ ap (λ ws. map f ws ++ codes "--history" ∷ []) (sym are), asked)
-noted_by_front f words front w n None long is are e none = λ asked.
-    let parts = last_of f words w asked.1.0 (codes "--history") n long is asked.1.1 in
+-- what is asked for where this is the last word: a replay by the words before it
+pub then_by_front : {X : Type 0} (f : X → List ℕ) (words front : List X) (w : X) (text : List ℕ) (n : ℕ) (r : Option ℕ) → length words ≡ suc n → w ≡ get_or words n w → front ≡ take n words
+    → true ≡ pointwise eqb (f w) text → MatchOption r (((steps : ℕ) × IsReplay (map f front) steps) → ⊥) (IsReplay (map f front)) → MatchOption r (((steps : ℕ) × IsReplayThen text (map f words) steps) → ⊥) (IsReplayThen text (map f words))
+then_by_front f words front w text n (Some steps) long is are e asked =
+    (map f front, last_added f words w text n long is (same_from_test (f w) text (sym e)) ∙ ap (λ ws. map f ws ++ text ∷ []) (sym are), asked)
+then_by_front f words front w text n None long is are e none = λ asked.
+    let parts = last_of f words w asked.1.0 text n long is asked.1.1 in
     none (asked.0, subst (λ (ws : List (List ℕ)). IsReplay ws asked.0) (sym parts.1 ∙ ap (λ ws. map f ws) (sym are)) asked.1.2)
+
+-- nothing is asked for by that last word where the last one differs
+pub then_other : {X : Type 0} (f : X → List ℕ) (words : List X) (w : X) (text : List ℕ) (n : ℕ) (r : Bool) → length words ≡ suc n → w ≡ get_or words n w → r ≡ pointwise eqb (f w) text → r ≡ false
+    → (steps : ℕ) → IsReplayThen text (map f words) steps → ⊥
+then_other f words w text n r long is e differs steps asked =
+    let parts = last_of f words w asked.0 text n long is asked.1 in
+    false≢true (sym differs ∙ e ∙ ap (λ (t : List ℕ). pointwise eqb t text) parts.0 ∙ test_itself text)
+
+-- words that ask for none of the modes ask for nothing
+pub none_asked : (words : List (List ℕ)) → ((n : ℕ) × IsReplay words n → ⊥) → ((n : ℕ) × IsReplayThen (codes "--history") words n → ⊥) → ((n : ℕ) × IsReplayThen (codes "--dump") words n → ⊥) → ((n : ℕ) × IsResume words n → ⊥)
+    → ((n : ℕ) × IsRunBy words n → ⊥) → ((seed : ℕ) × ((count : ℕ) × IsChurn words seed count) → ⊥) → ((count : ℕ) × IsQueue words count → ⊥) → (IsCheck words → ⊥) → Ask words → ⊥
+none_asked words replay noted dump resume run churn queue check asked = by_mode asked.0 asked.1
+  where
+    by_mode : (mode : Mode) → Asks words mode → ⊥
+    by_mode (Replay steps) is = replay (steps, is)
+    by_mode (Noted steps) is = noted (steps, is)
+    by_mode (Dump steps) is = dump (steps, is)
+    by_mode (Resume steps) is = resume (steps, is)
+    by_mode (Run workers) is = run (workers, is)
+    by_mode (Churn load) is = churn (load.seed, (load.count, is))
+    by_mode (Queue count) is = queue (count, is)
+    by_mode Check is = check is

@@ -1,26 +1,21 @@
--- What each status of the program means: what was asked for, what came in, and what may be written. A mode has one line in each
--- function of modes here, and a record for what it answers.
+-- What each status of the program means: what was asked for, what came in, and what may be written. A mode has one line in `IsAnswerOf`, a
+-- record for what it answers, and one line in `reading_of` that says what it reads; and one in `bound_of` where its steps are bounded.
 use Rattle.std.specs.Prelude.{ℕ, ◌≡◌, ◌+◌, ◌⊎◌, List, length, Option, Some, None}
 use Rattle.std.specs.Io.KnownBytes.{Appends, Consumes}
 use Rattle.shen_base.specs.Count.{Rose, CalledAtMost}
 use Rattle.text_writer.specs.Sending.{Outlet, WritesFront}
-use Rattle.shen_graph.specs.declared.command.Command.{Command}
-use Rattle.shen_graph.specs.History.{Entry}
-use Rattle.heap_words.specs.declared.config.Config.{Config}
-use Rattle.heap_words.specs.declared.schedule.Item.{Item}
-use Rattle.trace_grammar.specs.Grammar.{most_bytes, Came, Reads}
+use Rattle.trace_grammar.specs.Grammar.{most_bytes, Came}
 use Rattle.trace_grammar.specs.declared.why.Why.{Why}
-use Rattle.trace_refusals.specs.Refused.{Refused}
-use Rattle.trace_pairs.specs.Pairs.{IsPair}
-use Rattle.trace_pairs.specs.Refusals.{IsPairRefused}
 use Rattle.trace_writing.specs.Message.{line_text}
 use Rattle.trace_writing.specs.declared.message.Line.TheVariants as line
 use Rattle.trace_runs.specs.declared.mode.Mode.{Mode}
-use Rattle.trace_runs.specs.declared.mode.Mode.TheVariants.{Replay, Noted, Run, Churn, Queue, Check}
+use Rattle.trace_runs.specs.declared.mode.Mode.TheVariants.{Replay, Noted, Dump, Resume, Run, Churn, Queue, Check}
 use Rattle.trace_runs.specs.declared.status.Status.{Status}
 use Rattle.trace_runs.specs.declared.status.Status.TheVariants.{Ok, BadWords, BadTrace, Unfinished, ReadFault, WriteFault, NoMemory}
 use Rattle.trace_runs.specs.Words.{Asks, Asked, Ask}
-use Rattle.trace_runs.specs.Replayed.{IsReplayed, IsReplayedNoted, IsRun, IsUnfinished}
+use Rattle.trace_runs.specs.Readings.{Reading, reading_of, HasInput, ReadsInput, Refuses, IsTooLarge, IsCutAfter}
+use Rattle.trace_runs.specs.Replayed.{IsReplayed, IsReplayedNoted, IsReplayedToDump, IsRun}
+use Rattle.trace_runs.specs.FromDumps.{IsAnswerFromDump}
 use Rattle.trace_runs.specs.Churned.{IsChurned}
 use Rattle.trace_runs.specs.Checked.{IsChecked}
 use Rattle.trace_runs.specs.Queued.{IsQueued}
@@ -49,49 +44,28 @@ pub record HasRead (input : Input) (P : List ℕ → Type 0) : Type 0 where
 abbrev pub IsAnswerOf : Mode → Input → List ℕ → Type 0
 IsAnswerOf (Replay steps) input out = HasRead input (λ bytes. IsReplayed bytes steps out)
 IsAnswerOf (Noted steps) input out = HasRead input (λ bytes. IsReplayedNoted bytes steps out)
+IsAnswerOf (Dump steps) input out = HasRead input (λ bytes. IsReplayedToDump bytes steps out)
+IsAnswerOf (Resume steps) input out = HasRead input (λ bytes. IsAnswerFromDump bytes steps out)
 IsAnswerOf (Run workers) input out = HasRead input (λ bytes. IsRun bytes out)
 IsAnswerOf (Churn load) input out = IsChurned load.seed load.count out
 IsAnswerOf (Queue count) input out = IsQueued count out
 IsAnswerOf Check input out = HasRead input (λ bytes. IsChecked bytes out)
 
--- it reads a trace, alone or with what is claimed for it; one that reads nothing is always answered, or there is no memory
-abbrev pub ReadsTrace : Mode → Type 0
-ReadsTrace (Churn load) = ⊥
-ReadsTrace (Queue count) = ⊥
-ReadsTrace _ = Unit {0}
-
-abbrev pub ReadsNothing : Mode → Type 0
-ReadsNothing (Churn load) = Unit {0}
-ReadsNothing (Queue count) = Unit {0}
-ReadsNothing _ = ⊥
-
--- the bytes are what it reads
-abbrev pub Takes : Mode → List ℕ → Type 0
-Takes (Churn load) bytes = ⊥
-Takes (Queue count) bytes = ⊥
-Takes Check bytes = (config : Config) × (scripts : List (List Command)) × (items : List Item) × (body : List ℕ) × (entries : List Entry) × IsPair bytes config scripts items body entries
-Takes _ bytes = (config : Config) × (scripts : List (List Command)) × (items : List Item) × Reads bytes config scripts items
-
--- they are not, and this line is the first that is at fault, for this cause
-abbrev pub Refuses : Mode → List ℕ → ℕ → Why → Type 0
-Refuses (Churn load) bytes line why = ⊥
-Refuses (Queue count) bytes line why = ⊥
-Refuses Check bytes line why = IsPairRefused bytes line why
-Refuses _ bytes line why = Refused bytes line why
-
 -- the steps that it may make, if these are bounded
 abbrev pub bound_of : Mode → Option ℕ
 bound_of (Replay steps) = Some steps
 bound_of (Noted steps) = Some steps
+bound_of (Dump steps) = Some steps
+bound_of (Resume steps) = Some steps
 bound_of _ = None
 
 -- ---- the texts
 
 -- what came is refused, and the line that is written says where and why
-pub record IsRefused (mode : Mode) (input : Input) (out : List ℕ) : Type 0 where
+pub record IsRefused (reading : Reading) (input : Input) (out : List ℕ) : Type 0 where
   pub number : ℕ
   pub why : Why
-  pub refused : HasRead input (λ bytes. Refuses mode bytes number why)
+  pub refused : HasRead input (λ bytes. Refuses reading bytes number why)
   pub text : out ≡ line_text (line.BadLine number why)
 
 -- more bytes came than a trace may have
@@ -101,20 +75,29 @@ pub record IsTooLong (input : Input) (out : List ℕ) : Type 0 where
   pub many : length bytes ≡ most_bytes + 1
   pub text : out ≡ line_text line.TooLong
 
--- what came is a trace, and so many of its steps as the mode may make leave a machine that is not idle
+-- what came is a dump whose objects do not fit its heap
+pub record IsTooSmallHeap (reading : Reading) (input : Input) (out : List ℕ) : Type 0 where
+  pub read : HasRead input (λ bytes. IsTooLarge reading bytes)
+  pub text : out ≡ line_text line.HeapTooSmall
+
+-- what came is read, and so many steps as the mode may make leave a machine that is not idle
 pub record IsCutOff (mode : Mode) (input : Input) (out : List ℕ) : Type 0 where
   pub steps : ℕ
   pub limit : bound_of mode ≡ Some steps
-  pub cut : HasRead input (λ bytes. IsUnfinished bytes steps)
+  pub cut : HasRead input (λ bytes. IsCutAfter (reading_of mode) bytes steps)
   pub text : out ≡ line_text (line.Unfinished steps)
+
+-- what is said of bytes that cannot be run
+abbrev pub IsTurnedDown : Reading → Input → List ℕ → Type 0
+IsTurnedDown reading input out = HasInput reading × (IsRefused reading input out ⊎ (IsTooLong input out ⊎ IsTooSmallHeap reading input out))
 
 -- The texts that go with each status but that of a write fault.
 abbrev pub Allows : List (List ℕ) → Input → Status → List ℕ → Type 0
 Allows words input Ok out = Asked words (λ mode. IsAnswerOf mode input out)
 Allows words input BadWords out = (Ask words → ⊥) × (out ≡ line_text line.BadWords)
-Allows words input BadTrace out = Asked words (λ mode. ReadsTrace mode × (IsRefused mode input out ⊎ IsTooLong input out))
+Allows words input BadTrace out = Asked words (λ mode. IsTurnedDown (reading_of mode) input out)
 Allows words input Unfinished out = Asked words (λ mode. IsCutOff mode input out)
-Allows words input ReadFault out = Asked words ReadsTrace × Rose input.faults_before input.faults_after × (out ≡ line_text line.ReadFault)
+Allows words input ReadFault out = Asked words ReadsInput × Rose input.faults_before input.faults_after × (out ≡ line_text line.ReadFault)
 Allows words input WriteFault out = ⊥
 Allows words input NoMemory out = Ask words × (out ≡ line_text line.NoMemory)
 
@@ -150,7 +133,7 @@ pub record HasAnswered (words : List (List ℕ)) (input : Input) (output : Outpu
   pub answer : IsAnswerOf mode input out
   pub written : Appends output.before.written output.after.written out
 
--- The statuses that are left where the words ask for what reads a trace, a trace comes, and nothing fails.
+-- The statuses that are left where the words ask for what reads something, that comes, and nothing fails.
 abbrev pub IsTraceStatus : List (List ℕ) → Status → Type 0
 IsTraceStatus words Ok = Unit {0}
 IsTraceStatus words Unfinished = Asked words (λ mode. (steps : ℕ) × (bound_of mode ≡ Some steps))

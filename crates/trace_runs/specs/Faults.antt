@@ -1,10 +1,11 @@
 -- What is said where nothing was read.
 use Rattle.trace_runs.specs.declared.mode.Mode.{Mode}
-use Rattle.trace_runs.specs.declared.mode.Mode.TheVariants.{Churn, Queue, Check}
+use Rattle.std.specs.Prelude.{◌≡◌}
 use Rattle.trace_reading.specs.declared.fault.TraceFault.{TraceFault}
 use Rattle.trace_reading.specs.declared.fault.TraceFault.TheVariants as fault
 use Rattle.trace_writing.specs.declared.message.Line.{Line}
 use Rattle.trace_writing.specs.declared.message.Line.TheVariants as line
+use Rattle.trace_runs.specs.Readings.{reading_of, ReadTrace}
 use Rattle.trace_runs.specs.declared.status.Status.{Status}
 use Rattle.trace_runs.specs.declared.status.Status.TheVariants.{BadTrace, ReadFault, NoMemory}
 
@@ -23,7 +24,4 @@ fault_status fault.NoMemory = NoMemory
 
 -- a mode that reads a trace alone
 abbrev pub ReadsOnlyTrace : Mode → Type 0
-ReadsOnlyTrace (Churn load) = ⊥
-ReadsOnlyTrace (Queue count) = ⊥
-ReadsOnlyTrace Check = ⊥
-ReadsOnlyTrace _ = Unit {0}
+ReadsOnlyTrace mode = reading_of mode ≡ ReadTrace

@@ -1,5 +1,7 @@
 pub mod Words
 pub mod Replayed
+pub mod FromDumps
+pub mod Readings
 pub mod Churned
 pub mod Checked
 pub mod Queued

@@ -3,7 +3,8 @@ use Rattle.std.specs.Prelude.{ℕ, ◌≡◌, ◌++◌, List, length}
 use Rattle.heap_words.specs.declared.config.Config.{Config}
 use Rattle.heap_words.specs.declared.schedule.Item.{Item}
 use Rattle.steps_base.specs.Steps.{Stage, Event}
-use Rattle.shen_graph.specs.History.{Entry, Follows}
+use Rattle.shen_graph.specs.Graph.{opening as graph_opening}
+use Rattle.shen_graph.specs.History.{Entry, after, Follows}
 use Rattle.shen_graph.specs.Crowd.{IsLegalHistory}
 use Rattle.shen_graph.specs.declared.order.Order.{Order}
 use Rattle.heap_machines.specs.Pause.{pause_image}
@@ -15,6 +16,9 @@ use Rattle.shen_core.specs.Progress.{AreIdle}
 use Rattle.trace_grammar.specs.Grammar.{Reads}
 use Rattle.trace_writing.specs.Answer.{IsAnswerText}
 use Rattle.trace_writing.specs.History.{history_text}
+use Rattle.dump_writing.specs.Dumped.{Dumped, IsDumpOf}
+use Rattle.dump_writing.specs.DumpText.{dump_text}
+use Rattle.dump_making.specs.ObjectsMade.{objects_made_by_each}
 
 -- the events of a trace, in a heap whose pauses go on to the next phase of the cycle, or make room: those of its
 -- schedule and of the rounds after it, from the opening on, cut after so many
@@ -56,6 +60,19 @@ pub record IsReplayedNoted (bytes : List ℕ) (limit : ℕ) (out : List ℕ) : T
   pub answer : List ℕ
   pub text : IsAnswerText config.mutators (history_of config scripts items limit) answer
   pub out_is : out ≡ answer ++ history_text (history_of config scripts items limit)
+
+-- The bytes are a trace, its events come to an end, and the text is the dump of the graph after their history. For each thread it has the
+-- number of its allocations that were answered a name.
+pub record IsReplayedToDump (bytes : List ℕ) (limit : ℕ) (out : List ℕ) : Type 0 where
+  pub config : Config
+  pub scripts : Scripts
+  pub items : List Item
+  pub reads : Reads bytes config scripts items
+  pub whole : IsWhole config scripts (events_of config scripts items limit)
+  pub dump : Dumped
+  pub is : IsDumpOf config (after (graph_opening config.mutators) (history_of config scripts items limit)) dump
+  pub counts : dump.counts ≡ objects_made_by_each (history_of config scripts items limit) config.mutators
+  pub text : out ≡ dump_text dump
 
 -- The bytes are a trace, some events of its machines come to an end, and the text is the answer of their history. The events are
 -- those of the threads in an order of all; the trace's own schedule has no part in it.

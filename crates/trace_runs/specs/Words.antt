@@ -3,7 +3,7 @@ use Rattle.std.specs.Prelude.{ℕ, ◌≡◌, ◌≤◌, ◌⊎◌, List, [], �
 use Rattle.std.specs.Fmt.{decimal}
 use Rattle.trace_grammar.specs.Spelling.{IsUpTo}
 use Rattle.trace_runs.specs.declared.mode.Mode.{Mode}
-use Rattle.trace_runs.specs.declared.mode.Mode.TheVariants.{Replay, Noted, Run, Churn, Queue, Check}
+use Rattle.trace_runs.specs.declared.mode.Mode.TheVariants.{Replay, Noted, Dump, Resume, Run, Churn, Queue, Check}
 
 -- the words are a command alone, which goes with its usual number, or the command, an option and a number
 abbrev pub IsNumbered : (command option : List ℕ) → (usual most : ℕ) → List (List ℕ) → ℕ → Type 0
@@ -37,9 +37,13 @@ most_numbers = 390
 abbrev pub IsReplay : List (List ℕ) → (steps : ℕ) → Type 0
 IsReplay words steps = IsNumbered (codes "replay") (codes "--steps") usual_steps most_steps words steps
 
--- the same, and then `--history`
-abbrev pub IsNotedReplay : List (List ℕ) → (steps : ℕ) → Type 0
-IsNotedReplay words steps = (front : List (List ℕ)) × (words ≡ front ++ codes "--history" ∷ []) × IsReplay front steps
+-- the same, and then a last word
+abbrev pub IsReplayThen : (last_word : List ℕ) → List (List ℕ) → (steps : ℕ) → Type 0
+IsReplayThen last_word words steps = (front : List (List ℕ)) × (words ≡ front ++ last_word ∷ []) × IsReplay front steps
+
+-- `resume`, or `resume --steps N`
+abbrev pub IsResume : List (List ℕ) → (steps : ℕ) → Type 0
+IsResume words steps = IsNumbered (codes "resume") (codes "--steps") usual_steps most_steps words steps
 
 -- `run`, or `run --workers K`
 abbrev pub IsRunBy : List (List ℕ) → (workers : ℕ) → Type 0
@@ -60,7 +64,9 @@ IsCheck words = words ≡ codes "check" ∷ []
 -- The words ask for a mode.
 abbrev pub Asks : List (List ℕ) → Mode → Type 0
 Asks words (Replay steps) = IsReplay words steps
-Asks words (Noted steps) = IsNotedReplay words steps
+Asks words (Noted steps) = IsReplayThen (codes "--history") words steps
+Asks words (Dump steps) = IsReplayThen (codes "--dump") words steps
+Asks words (Resume steps) = IsResume words steps
 Asks words (Run workers) = IsRunBy words workers
 Asks words (Churn load) = IsChurn words load.seed load.count
 Asks words (Queue count) = IsQueue words count

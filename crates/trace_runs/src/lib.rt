@@ -1,9 +1,10 @@
-//! What the words of the command line ask for: a replay, a run in threads, a churn or a queue, which are run on a heap, or a check of
-//! a history.
+//! What the words of the command line ask for: a replay, a run that goes on from a dump, a run in threads, a churn or a queue, which are run
+//! on a heap, or a check of a history.
 #![tactic(auto)]
 
 mod checks;
 mod churns;
+mod dumps;
 mod laws;
 mod lines;
 mod load;
@@ -17,6 +18,7 @@ mod threads;
 
 pub use checks::check;
 pub use churns::churn;
+pub use dumps::{replay_to_dump, resume};
 pub use laws::noted_replays_are_right;
 pub use lines::say;
 pub use mode::{Mode, Workload, mode_of};

@@ -2,7 +2,7 @@
 ghost use Rattle.std.specs.Prelude.{◌≡◌, ◌≤◌, ℕ, MatchBool, MatchOption, map};
 ghost use Rattle.std.specs.Fmt.{decimal};
 ghost use Rattle.std.specs.String.{string_bytes};
-ghost use Rattle.trace_runs.specs.Words.{IsNumbered, IsReplay, IsNotedReplay, IsRunBy, IsChurn, IsQueue, IsCheck, most_seed, Asks, Ask};
+ghost use Rattle.trace_runs.specs.Words.{IsNumbered, IsReplay, IsReplayThen, IsRunBy, IsChurn, IsQueue, IsCheck, IsResume, most_seed, Asks, Ask};
 
 use trace_grammar::number_in;
 
@@ -31,6 +31,10 @@ pub enum Mode {
     Replay { steps: u64 },
     /// The same, and its history behind the answer.
     Noted { steps: u64 },
+    /// The same, and a dump of the heap at the end in place of the answer.
+    Dump { steps: u64 },
+    /// A run that goes on from a dump, by the schedule behind it, in at most so many steps, 1 to 4000000000.
+    Resume { steps: u64 },
     /// The scripts of a trace, in at most so many threads, 1 to 12.
     Run { workers: u64 },
     /// A churn.
@@ -57,8 +61,14 @@ pub fn mode_of(words: &[String]) -> Option<Mode>
     if let Some(steps) = steps_of(words) {
         return Some(Mode::Replay { steps });
     }
-    if let Some(steps) = noted_steps_of(words) {
+    if let Some(steps) = steps_before("--history", words) {
         return Some(Mode::Noted { steps });
+    }
+    if let Some(steps) = steps_before("--dump", words) {
+        return Some(Mode::Dump { steps });
+    }
+    if let Some(steps) = resume_steps_of(words) {
+        return Some(Mode::Resume { steps });
     }
     if let Some(workers) = workers_of(words) {
         return Some(Mode::Run { workers });
@@ -82,14 +92,21 @@ fn steps_of(words: &[String]) -> Option<u64>
     number_of("replay", "--steps", USUAL_STEPS, MOST_STEPS, words)
 }
 
-// The steps of a replay that is to show its history: the words of a replay, and then `--history`.
-fn noted_steps_of(words: &[String]) -> Option<u64>
-    ensures { MatchOption result (((n : ℕ) × IsNotedReplay (map string_bytes words.now) n) → ⊥) (IsNotedReplay (map string_bytes words.now)) }
+// The steps of a replay behind whose words this one stands.
+fn steps_before(last_word: &str, words: &[String]) -> Option<u64>
+    ensures { MatchOption result (((n : ℕ) × IsReplayThen last_word.now (map string_bytes words.now) n) → ⊥) (IsReplayThen last_word.now (map string_bytes words.now)) }
 {
     match words {
-        [front @ .., last] if last.as_str() == "--history" => steps_of(front),
+        [front @ .., last] if last.as_str() == last_word => steps_of(front),
         _ => None,
     }
+}
+
+// The steps of `resume`, or `resume --steps N`.
+fn resume_steps_of(words: &[String]) -> Option<u64>
+    ensures { MatchOption result (((n : ℕ) × IsResume (map string_bytes words.now) n) → ⊥) (IsResume (map string_bytes words.now)) }
+{
+    number_of("resume", "--steps", USUAL_STEPS, MOST_STEPS, words)
 }
 
 // The bundles of `run`, or `run --workers K`.

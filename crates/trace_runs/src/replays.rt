@@ -34,7 +34,7 @@ use trace_grammar::Trace;
 use trace_writing::{Answer, Line};
 
 /// Why a trace that was read is not answered.
-enum Refusal {
+pub(crate) enum Refusal {
     /// A machine still had work after the steps that were allowed.
     Unfinished,
     /// Memory was refused.
@@ -83,7 +83,11 @@ fn history_for(alloc: Global, trace: &Trace) -> Result<History, NoMemory>
 }
 
 /// Runs a trace as `run` does, and gives its history besides.
-fn run_noted(alloc: Global, trace: Trace, steps: u64) -> Result<(Work, Plain, History), Refusal>
+pub(crate) fn run_noted(
+    alloc: Global,
+    trace: Trace,
+    steps: u64,
+) -> Result<(Work, Plain, History), Refusal>
     requires { (bytes : List ℕ) × Reads bytes trace.config trace.scripts trace.schedule }
     ensures finished { IfOk result (λ x. HasFinished trace.config trace.scripts trace.schedule steps x.0 x.1) }
     ensures history { IfOk result (λ x. x.2.list ≡ history_of trace.config trace.scripts trace.schedule steps) }
@@ -105,7 +109,11 @@ fn run_noted(alloc: Global, trace: Trace, steps: u64) -> Result<(Work, Plain, Hi
 }
 
 /// The graph that a heap stands for, as it is to be written.
-fn graph_of(alloc: Global, config: Config, plain: &mut Plain) -> Result<GraphText, Refusal>
+pub(crate) fn graph_of(
+    alloc: Global,
+    config: Config,
+    plain: &mut Plain,
+) -> Result<GraphText, Refusal>
     requires config { config_of plain.old ≡ config }
     requires rest { AllRest plain.old }
     ensures shows { IfOk result (λ text. (run : Run config) → memory.Shows plain.old (ending pause_image config run) → ShowsGraph text config.mutators (graph_after pause_image config run)) }

@@ -3,7 +3,7 @@ use Rattle.std.specs.String.{string_bytes}
 use Rattle.trace_writing.specs.Message.{line_text}
 use Rattle.trace_writing.specs.declared.message.Line.TheVariants as line
 use Rattle.text_writer.specs.Sending.{outlet}
-use Rattle.trace_runs.specs.declared.mode.Mode.TheVariants.{Replay, Noted, Run, Churn, Queue}
+use Rattle.trace_runs.specs.declared.mode.Mode.TheVariants.{Replay, Noted, Dump, Resume, Run, Churn, Queue}
 use Rattle.trace_runs.specs.declared.status.Status.TheVariants.{BadWords}
 use Rattle.trace_runs.specs.Words.{Asks}
 use Rattle.trace_runs.specs.Answered.{Input, Output, StatusFits}
@@ -76,6 +76,72 @@ returns-in-Noted-clause-complete g c =
     } in
     let fits : StatusFits words input output c.replay_noted.result = c.replay_noted.ensures words (subst (Asks words) c.in-Noted.is c.in-Some.ensures) in
     complete words input output c.replay_noted.result fits
+
+pub returns-in-Dump-clause-headline : goal.returns-in-Dump-clause-headline
+returns-in-Dump-clause-headline g c =
+    let words : List (List ℕ) = map string_bytes c.args.words.now in
+    let input : Input = record { before = g.S.Source.left c.args.source.now; after = g.S.Source.left c.replay_to_dump.new.source; faults_before = g.S.Source.faults c.args.source.now; faults_after = g.S.Source.faults c.replay_to_dump.new.source } in
+    let output : Output = record {
+      before = outlet (g.K.Sink.written c.args.sink.now) (g.K.Sink.faults c.args.sink.now) (g.K.Sink.calls c.args.sink.now);
+      after = outlet (g.K.Sink.written c.replay_to_dump.new.sink) (g.K.Sink.faults c.replay_to_dump.new.sink) (g.K.Sink.calls c.replay_to_dump.new.sink);
+    } in
+    let fits : StatusFits words input output c.replay_to_dump.result = c.replay_to_dump.ensures words (subst (Asks words) c.in-Dump.is c.in-Some.ensures) in
+    answered words input output c.replay_to_dump.result fits
+
+pub returns-in-Dump-clause-answered : goal.returns-in-Dump-clause-answered
+returns-in-Dump-clause-answered g c =
+    let words : List (List ℕ) = map string_bytes c.args.words.now in
+    let input : Input = record { before = g.S.Source.left c.args.source.now; after = g.S.Source.left c.replay_to_dump.new.source; faults_before = g.S.Source.faults c.args.source.now; faults_after = g.S.Source.faults c.replay_to_dump.new.source } in
+    let output : Output = record {
+      before = outlet (g.K.Sink.written c.args.sink.now) (g.K.Sink.faults c.args.sink.now) (g.K.Sink.calls c.args.sink.now);
+      after = outlet (g.K.Sink.written c.replay_to_dump.new.sink) (g.K.Sink.faults c.replay_to_dump.new.sink) (g.K.Sink.calls c.replay_to_dump.new.sink);
+    } in
+    let fits : StatusFits words input output c.replay_to_dump.result = c.replay_to_dump.ensures words (subst (Asks words) c.in-Dump.is c.in-Some.ensures) in
+    fits
+
+pub returns-in-Dump-clause-complete : goal.returns-in-Dump-clause-complete
+returns-in-Dump-clause-complete g c =
+    let words : List (List ℕ) = map string_bytes c.args.words.now in
+    let input : Input = record { before = g.S.Source.left c.args.source.now; after = g.S.Source.left c.replay_to_dump.new.source; faults_before = g.S.Source.faults c.args.source.now; faults_after = g.S.Source.faults c.replay_to_dump.new.source } in
+    let output : Output = record {
+      before = outlet (g.K.Sink.written c.args.sink.now) (g.K.Sink.faults c.args.sink.now) (g.K.Sink.calls c.args.sink.now);
+      after = outlet (g.K.Sink.written c.replay_to_dump.new.sink) (g.K.Sink.faults c.replay_to_dump.new.sink) (g.K.Sink.calls c.replay_to_dump.new.sink);
+    } in
+    let fits : StatusFits words input output c.replay_to_dump.result = c.replay_to_dump.ensures words (subst (Asks words) c.in-Dump.is c.in-Some.ensures) in
+    complete words input output c.replay_to_dump.result fits
+
+pub returns-in-Resume-clause-headline : goal.returns-in-Resume-clause-headline
+returns-in-Resume-clause-headline g c =
+    let words : List (List ℕ) = map string_bytes c.args.words.now in
+    let input : Input = record { before = g.S.Source.left c.args.source.now; after = g.S.Source.left c.resume.new.source; faults_before = g.S.Source.faults c.args.source.now; faults_after = g.S.Source.faults c.resume.new.source } in
+    let output : Output = record {
+      before = outlet (g.K.Sink.written c.args.sink.now) (g.K.Sink.faults c.args.sink.now) (g.K.Sink.calls c.args.sink.now);
+      after = outlet (g.K.Sink.written c.resume.new.sink) (g.K.Sink.faults c.resume.new.sink) (g.K.Sink.calls c.resume.new.sink);
+    } in
+    let fits : StatusFits words input output c.resume.result = c.resume.ensures words (subst (Asks words) c.in-Resume.is c.in-Some.ensures) in
+    answered words input output c.resume.result fits
+
+pub returns-in-Resume-clause-answered : goal.returns-in-Resume-clause-answered
+returns-in-Resume-clause-answered g c =
+    let words : List (List ℕ) = map string_bytes c.args.words.now in
+    let input : Input = record { before = g.S.Source.left c.args.source.now; after = g.S.Source.left c.resume.new.source; faults_before = g.S.Source.faults c.args.source.now; faults_after = g.S.Source.faults c.resume.new.source } in
+    let output : Output = record {
+      before = outlet (g.K.Sink.written c.args.sink.now) (g.K.Sink.faults c.args.sink.now) (g.K.Sink.calls c.args.sink.now);
+      after = outlet (g.K.Sink.written c.resume.new.sink) (g.K.Sink.faults c.resume.new.sink) (g.K.Sink.calls c.resume.new.sink);
+    } in
+    let fits : StatusFits words input output c.resume.result = c.resume.ensures words (subst (Asks words) c.in-Resume.is c.in-Some.ensures) in
+    fits
+
+pub returns-in-Resume-clause-complete : goal.returns-in-Resume-clause-complete
+returns-in-Resume-clause-complete g c =
+    let words : List (List ℕ) = map string_bytes c.args.words.now in
+    let input : Input = record { before = g.S.Source.left c.args.source.now; after = g.S.Source.left c.resume.new.source; faults_before = g.S.Source.faults c.args.source.now; faults_after = g.S.Source.faults c.resume.new.source } in
+    let output : Output = record {
+      before = outlet (g.K.Sink.written c.args.sink.now) (g.K.Sink.faults c.args.sink.now) (g.K.Sink.calls c.args.sink.now);
+      after = outlet (g.K.Sink.written c.resume.new.sink) (g.K.Sink.faults c.resume.new.sink) (g.K.Sink.calls c.resume.new.sink);
+    } in
+    let fits : StatusFits words input output c.resume.result = c.resume.ensures words (subst (Asks words) c.in-Resume.is c.in-Some.ensures) in
+    complete words input output c.resume.result fits
 
 pub returns-in-Run-clause-headline : goal.returns-in-Run-clause-headline
 returns-in-Run-clause-headline g c =

@@ -1,6 +1,7 @@
 use Rattle.text_writer.specs.Sending.{outlet}
 use Rattle.trace_runs.specs.declared.mode.Mode.TheVariants.{Check}
 use Rattle.trace_runs.specs.Answered.{Input, Output}
+use Rattle.trace_runs.specs.Readings.{ReadPair}
 use Rattle.trace_runs.proofs.Refusing.{told_by, fault_said}
 use Rattle.trace_runs.proofs.checks.pair_taken.Goals as goal
 
@@ -12,7 +13,7 @@ returns-in-Err-clause-refused g c = λ words asked.
       after = outlet (g.K.Sink.written c.refuse.new.sink) (g.K.Sink.faults c.refuse.new.sink) (g.K.Sink.calls c.refuse.new.sink);
     } in
     fault_said words input output Check c.in-Err.fault c.refuse.result asked tt
-    (told_by Check input c.in-Err.fault
+    (told_by ReadPair input c.in-Err.fault
     (λ n why e. let bad = c.in-Err.ensures.bad_line n why (cc) in record { bytes = bad.0; came = bad.1; is = bad.2 })
     (λ n e. (c.in-Err.ensures.too_long n (cc)).1)
     (λ e. c.in-Err.ensures.read_fault (cc)))

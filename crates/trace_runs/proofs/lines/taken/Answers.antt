@@ -1,6 +1,8 @@
+use Rattle.std.proofs.Common.{sym, subst}
 use Rattle.text_writer.specs.Sending.{outlet}
 use Rattle.trace_runs.specs.Answered.{Input, Output}
-use Rattle.trace_runs.proofs.Refusing.{told_by, fault_said, alone_reads, alone_refuses}
+use Rattle.trace_runs.specs.Readings.{Reading, ReadTrace, HasInput}
+use Rattle.trace_runs.proofs.Refusing.{IsTold, told_by, fault_said}
 use Rattle.trace_runs.proofs.lines.taken.Goals as goal
 
 pub returns-in-Err-clause-refused : goal.returns-in-Err-clause-refused
@@ -10,10 +12,10 @@ returns-in-Err-clause-refused g c = λ words asked.
       before = outlet (g.K.Sink.written c.args.sink.now) (g.K.Sink.faults c.args.sink.now) (g.K.Sink.calls c.args.sink.now);
       after = outlet (g.K.Sink.written c.refuse.new.sink) (g.K.Sink.faults c.refuse.new.sink) (g.K.Sink.calls c.refuse.new.sink);
     } in
-    let mode = asked.0 in
-    fault_said words input output mode c.in-Err.fault c.refuse.result asked.1 (alone_reads mode asked.2)
-    (told_by mode input c.in-Err.fault
-    (λ n why e. let bad = c.in-Err.ensures.bad_line n why (cc) in record { bytes = bad.0; came = bad.1; is = alone_refuses mode bad.0 n why asked.2 bad.2 })
+    fault_said words input output asked.0 c.in-Err.fault c.refuse.result asked.1 (subst HasInput (sym asked.2) tt)
+    (subst (λ (reading : Reading). IsTold reading input c.in-Err.fault) (sym asked.2)
+    (told_by ReadTrace input c.in-Err.fault
+    (λ n why e. let bad = c.in-Err.ensures.bad_line n why (cc) in record { bytes = bad.0; came = bad.1; is = bad.2 })
     (λ n e. (c.in-Err.ensures.too_long n (cc)).1)
-    (λ e. c.in-Err.ensures.read_fault (cc)))
+    (λ e. c.in-Err.ensures.read_fault (cc))))
     c.refuse.ensures

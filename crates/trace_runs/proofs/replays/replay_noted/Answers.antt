@@ -45,4 +45,4 @@ returns-in-Ok-noted_answer_to g c = λ words asked.
     (subst (λ s. EndsWith (spelled_answer c.in-Ok-noted_answer_to.answer ++ history_text c.in-Ok-noted_answer_to.history.list) Ok c.give_noted.result (outlet (g.K.Sink.written s) (g.K.Sink.faults s) (g.K.Sink.calls s)) output.after) c.in-Ok.ensures.unused c.give_noted.ensures)
 
 pub returns-in-Err : goal.returns-in-Err
-returns-in-Err g c = λ words asked. c.in-Err.ensures.refused words (Noted c.args.steps, asked, tt)
+returns-in-Err g c = λ words asked. c.in-Err.ensures.refused words (Noted c.args.steps, asked, refl)

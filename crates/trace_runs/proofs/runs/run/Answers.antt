@@ -32,4 +32,4 @@ returns-in-Ok-answer_to g c = λ words asked.
     (subst (λ s. EndsWith (spelled_answer c.in-Ok-answer_to.answer) Ok c.give.result (outlet (g.K.Sink.written s) (g.K.Sink.faults s) (g.K.Sink.calls s)) output.after) c.in-Ok.ensures.unused c.give.ensures)
 
 pub returns-in-Err : goal.returns-in-Err
-returns-in-Err g c = λ words asked. c.in-Err.ensures.refused words (Run c.args.workers, asked, tt)
+returns-in-Err g c = λ words asked. c.in-Err.ensures.refused words (Run c.args.workers, asked, refl)

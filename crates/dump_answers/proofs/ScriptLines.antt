@@ -1,0 +1,80 @@
+-- What lines of commands and of a schedule give a heap: a script of commands in range for each thread, and items that name its machines.
+use Rattle.std.proofs.Common.{◌≡◌, ℕ, ◌+◌, ◌<◌, ◌≤◌, Bool, true, false, cond, eqb, List, [], ◌∷◌, ◌++◌, length, get_or, map, All, sym, ap, subst, arith}
+use Rattle.std.specs.Prelude.{filter}
+use Rattle.std.specs.List.{flat_map, AllByRecursion}
+use Rattle.std.specs.Fmt.{decimal}
+use Rattle.std.proofs.lemmas.List.{length-append}
+use Rattle.std.proofs.lemmas.List.Elements.{All-from_recursion, All-from_get_or}
+use Rattle.std.proofs.lemmas.List.FromFn.{get_or-map-range_with_len, length-map-range_with_len}
+use Rattle.shen_graph.specs.declared.command.Command.{Command}
+use Rattle.shen_graph.specs.Valid.{IsValid}
+use Rattle.heap_words.specs.declared.config.Config.{Config}
+use Rattle.heap_words.specs.declared.schedule.Item.{Item}
+use Rattle.heap_words.specs.declared.schedule.Item.TheVariants.{Steps, Until, Replies}
+use Rattle.shen_core.specs.Progress.{IsInSeats}
+use Rattle.trace_grammar.specs.Spelling.{TraceLine, IsLine, line, space, newline, command_word, numbers, numbers_of, IsItem, IsScheduleLine}
+use Rattle.trace_grammar.specs.Grammar.{scripts_of, items_of, commands_in}
+
+-- the commands of lines in range are valid
+valid_lines : (threads : ℕ) (lines : List TraceLine) (t : ℕ) → AllByRecursion (IsLine threads) lines → AllByRecursion IsValid (commands_in lines t)
+valid_lines threads [] t all = tt
+valid_lines threads (l ∷ lines) t all = by_thread (eqb l.thread t) (valid_lines threads lines t all.1)
+  where
+    by_thread : (own : Bool) → AllByRecursion IsValid (commands_in lines t) → AllByRecursion IsValid (map (λ x. x.command) (cond own (l ∷ filter (λ x. eqb x.thread t) lines) (filter (λ x. eqb x.thread t) lines)))
+    by_thread true others = (all.0.valid, others)
+    by_thread false others = others
+
+pub count_scripts : (threads : ℕ) (lines : List TraceLine) → length (scripts_of threads lines) ≡ threads
+count_scripts threads lines = length-map-range_with_len (commands_in lines) 1 threads
+
+script_at : (threads : ℕ) (lines : List TraceLine) (t : ℕ) → t < threads → get_or (scripts_of threads lines) t [] ≡ commands_in lines (t + 1)
+script_at threads lines t below =
+    let none : List Command = [] in
+    get_or-map-range_with_len (commands_in lines) 1 threads t (t + 1) none below (omega arith)
+
+pub valid_script : (threads : ℕ) (lines : List TraceLine) (t : ℕ) → AllByRecursion (IsLine threads) lines → t < threads → All IsValid (get_or (scripts_of threads lines) t [])
+valid_script threads lines t in_range below =
+    subst (All IsValid) (sym (script_at threads lines t below)) (All-from_recursion IsValid _ (valid_lines threads lines (t + 1) in_range))
+
+pub valid_scripts : (threads : ℕ) (lines : List TraceLine) → AllByRecursion (IsLine threads) lines → All (All IsValid) (scripts_of threads lines)
+valid_scripts threads lines in_range =
+    All-from_get_or (All IsValid) (scripts_of threads lines) [] (λ t within. let count = count_scripts threads lines in valid_script threads lines t in_range (omega (arith, within, count)))
+
+-- a script has no more commands than its lines have bytes
+some_bytes : (l : TraceLine) → 1 ≤ length (line l)
+some_bytes l = omega (arith, length-append (decimal l.thread) (space ∷ (command_word l.command ++ (numbers (numbers_of l.command) ++ newline ∷ []))))
+
+few_lines : (lines : List TraceLine) → length lines ≤ length (flat_map line lines)
+few_lines [] = omega arith
+few_lines (l ∷ lines) = omega (arith, few_lines lines, some_bytes l, length-append (line l) (flat_map line lines))
+
+few_of_thread : (lines : List TraceLine) (t : ℕ) → length (commands_in lines t) ≤ length lines
+few_of_thread [] t = omega arith
+few_of_thread (l ∷ lines) t = by_thread (eqb l.thread t) (few_of_thread lines t)
+  where
+    by_thread : (own : Bool) → length (commands_in lines t) ≤ length lines → length (map (λ x. x.command) (cond own (l ∷ filter (λ x. eqb x.thread t) lines) (filter (λ x. eqb x.thread t) lines))) ≤ length (l ∷ lines)
+    by_thread true others = omega arith
+    by_thread false others = omega arith
+
+pub short_script : (threads : ℕ) (lines : List TraceLine) (t : ℕ) → t < threads → length (get_or (scripts_of threads lines) t []) ≤ length (flat_map line lines)
+short_script threads lines t below =
+    let script = ap (λ (cs : List Command). length cs) (script_at threads lines t below) in
+    omega (arith, script, few_of_thread lines (t + 1), few_lines lines)
+
+-- ---- items
+
+in_seats : (c : Config) (i : Item) → IsItem c i → IsInSeats c i
+in_seats c (Steps number count) good = good.0
+in_seats c (Until number place) good = good
+in_seats c (Replies number count) good = good.0
+
+items_append : (c : Config) (xs ys : List Item) → AllByRecursion (IsItem c) xs → AllByRecursion (IsInSeats c) ys → AllByRecursion (IsInSeats c) (xs ++ ys)
+items_append c [] ys all others = others
+items_append c (x ∷ xs) ys all others = (in_seats c x all.0, items_append c xs ys all.1 others)
+
+turns_in_seats : (c : Config) (turns : List (List Item)) → AllByRecursion (IsScheduleLine c) turns → AllByRecursion (IsInSeats c) (items_of turns)
+turns_in_seats c [] all = tt
+turns_in_seats c (items ∷ turns) all = items_append c items (items_of turns) all.0.in_range (turns_in_seats c turns all.1)
+
+pub items_in_seats : (c : Config) (turns : List (List Item)) → AllByRecursion (IsScheduleLine c) turns → All (IsInSeats c) (items_of turns)
+items_in_seats c turns in_range = All-from_recursion (IsInSeats c) (items_of turns) (turns_in_seats c turns in_range)
