@@ -7,15 +7,15 @@ use Rattle.std.specs.Option.{is_some}
 use Rattle.std.proofs.lemmas.List.{take_more, append_assoc, append-nil, map-append, reverse-append, length-append, length-map, length-set}
 use Rattle.heap_words.specs.declared.config.Config.{Config}
 use Rattle.heap_seats.specs.declared.seat.Seat.{Seat}
-use Rattle.heap_seats.specs.Opening.{AreFreshSeats}
+use Rattle.heap_seats.specs.FreshSeats.{AreFreshSeats}
 use Rattle.covremuj.specs.declared.handle.Handle.{Handle}
-use Rattle.covremuj.specs.Opening.{held_in, any_held}
+use Rattle.covremuj.specs.OpenedHandles.{seats_held, any_held}
 
 -- ---- handles
 
-pub set_same : (hs : List Handle) (at : ℕ) (d new : Handle) → new.held ≡ (get_or hs at d).held → held_in (slice_set hs at new) ≡ held_in hs
+pub set_same : (hs : List Handle) (at : ℕ) (d new : Handle) → new.held ≡ (get_or hs at d).held → seats_held (slice_set hs at new) ≡ seats_held hs
 set_same [] at d new is = refl
-set_same (x ∷ xs) zero d new is = ap (λ (o : Option Seat). o ∷ held_in xs) is
+set_same (x ∷ xs) zero d new is = ap (λ (o : Option Seat). o ∷ seats_held xs) is
 set_same (x ∷ xs) (suc at) d new is = ap (λ (os : List (Option Seat)). x.held ∷ os) (set_same xs at d new is)
 
 some_held : (o : Option Seat) (others : List (Option Seat)) → is_some o ≡ true → any_held (o ∷ others) ≡ true
@@ -26,10 +26,10 @@ more_held : (o : Option Seat) (others : List (Option Seat)) → any_held others 
 more_held None others is = is
 more_held (Some s) others is = refl
 
-pub open_there : (hs : List Handle) (at : ℕ) (d : Handle) → at < length hs → is_some (get_or hs at d).held ≡ true → any_held (held_in hs) ≡ true
+pub open_there : (hs : List Handle) (at : ℕ) (d : Handle) → at < length hs → is_some (get_or hs at d).held ≡ true → any_held (seats_held hs) ≡ true
 open_there [] at d below is = absurd (omega (arith, below))
-open_there (x ∷ xs) zero d below is = some_held x.held (held_in xs) is
-open_there (x ∷ xs) (suc at) d below is = more_held x.held (held_in xs) (open_there xs at d (omega (arith, below)) is)
+open_there (x ∷ xs) zero d below is = some_held x.held (seats_held xs) is
+open_there (x ∷ xs) (suc at) d below is = more_held x.held (seats_held xs) (open_there xs at d (omega (arith, below)) is)
 
 none_held : (o : Option Seat) (others : List (Option Seat)) → any_held (o ∷ others) ≡ false → (is_some o ≡ false) × (any_held others ≡ false)
 none_held None others is = (refl, is)
@@ -40,17 +40,17 @@ put_first None others empty none = none
 put_first (Some s) others empty none = absurd cc
 
 -- one more handle is looked at
-closed_there : (hs : List Handle) (at : ℕ) (d : Handle) → at < length hs → is_some (get_or hs at d).held ≡ false → any_held (take at (held_in hs)) ≡ false → any_held (take (suc at) (held_in hs)) ≡ false
+closed_there : (hs : List Handle) (at : ℕ) (d : Handle) → at < length hs → is_some (get_or hs at d).held ≡ false → any_held (take at (seats_held hs)) ≡ false → any_held (take (suc at) (seats_held hs)) ≡ false
 closed_there [] at d below is none = absurd (omega (arith, below))
 closed_there (x ∷ xs) zero d below is none = put_first x.held [] is refl
 closed_there (x ∷ xs) (suc at) d below is none =
-    let parts = none_held x.held (take at (held_in xs)) none in
-    put_first x.held (take (suc at) (held_in xs)) parts.0 (closed_there xs at d (omega (arith, below)) is parts.1)
+    let parts = none_held x.held (take at (seats_held xs)) none in
+    put_first x.held (take (suc at) (seats_held xs)) parts.0 (closed_there xs at d (omega (arith, below)) is parts.1)
 
-pub closed_more : (hs : List Handle) (at : ℕ) (d : Handle) → at < length hs → is_some (get_or hs at d).held ≡ false → any_held (take at (held_in hs)) ≡ false → any_held (take (at + 1) (held_in hs)) ≡ false
-closed_more hs at d below is none = let next : at + 1 ≡ suc at = omega arith in ap (λ n. any_held (take n (held_in hs))) next ∙ closed_there hs at d below is none
+pub closed_more : (hs : List Handle) (at : ℕ) (d : Handle) → at < length hs → is_some (get_or hs at d).held ≡ false → any_held (take at (seats_held hs)) ≡ false → any_held (take (at + 1) (seats_held hs)) ≡ false
+closed_more hs at d below is none = let next : at + 1 ≡ suc at = omega arith in ap (λ n. any_held (take n (seats_held hs))) next ∙ closed_there hs at d below is none
 
-filled_there : (hs : List Handle) (at : ℕ) (new : Handle) → at < length hs → take (suc at) (held_in (slice_set hs at new)) ≡ take at (held_in hs) ++ new.held ∷ []
+filled_there : (hs : List Handle) (at : ℕ) (new : Handle) → at < length hs → take (suc at) (seats_held (slice_set hs at new)) ≡ take at (seats_held hs) ++ new.held ∷ []
 filled_there [] at new below = absurd (omega (arith, below))
 filled_there (x ∷ xs) zero new below = refl
 filled_there (x ∷ xs) (suc at) new below = ap (λ (os : List (Option Seat)). x.held ∷ os) (filled_there xs at new (omega (arith, below)))
@@ -65,13 +65,13 @@ last_first boxes b = ap reverse (map-append (λ (x : Box Seat). x.value) boxes (
 
 -- one seat more is in its handle
 pub filled_more : (hs : List Handle) (at : ℕ) (new : Handle) (before after : List (Box Seat)) (b : Box Seat) (all : List (Option Seat)) → at < length hs → before ≡ after ++ b ∷ [] → new.held ≡ Some b.value
-    → take at (held_in hs) ++ map Some (reverse (seats_of before)) ≡ all → take (at + 1) (held_in (slice_set hs at new)) ++ map Some (reverse (seats_of after)) ≡ all
+    → take at (seats_held hs) ++ map Some (reverse (seats_of before)) ≡ all → take (at + 1) (seats_held (slice_set hs at new)) ++ map Some (reverse (seats_of after)) ≡ all
 filled_more hs at new before after b all below split holds so_far =
     let next : at + 1 ≡ suc at = omega arith in
-    ap (λ n. take n (held_in (slice_set hs at new)) ++ map Some (reverse (seats_of after))) next
-    ∙ ap (λ (os : List (Option Seat)). os ++ map Some (reverse (seats_of after))) (filled_there hs at new below ∙ ap (λ (o : Option Seat). take at (held_in hs) ++ o ∷ []) holds)
-    ∙ append_assoc (take at (held_in hs)) (Some b.value ∷ []) (map Some (reverse (seats_of after)))
-    ∙ ap (λ (xs : List Seat). take at (held_in hs) ++ map Some xs) (sym (ap (λ (bs : List (Box Seat)). reverse (seats_of bs)) split ∙ last_first after b))
+    ap (λ n. take n (seats_held (slice_set hs at new)) ++ map Some (reverse (seats_of after))) next
+    ∙ ap (λ (os : List (Option Seat)). os ++ map Some (reverse (seats_of after))) (filled_there hs at new below ∙ ap (λ (o : Option Seat). take at (seats_held hs) ++ o ∷ []) holds)
+    ∙ append_assoc (take at (seats_held hs)) (Some b.value ∷ []) (map Some (reverse (seats_of after)))
+    ∙ ap (λ (xs : List Seat). take at (seats_held hs) ++ map Some xs) (sym (ap (λ (bs : List (Box Seat)). reverse (seats_of bs)) split ∙ last_first after b))
     ∙ so_far
 
 -- one seat more is in its box
@@ -88,9 +88,9 @@ none_behind [] none = refl
 none_behind (None ∷ os) none = none_behind os none
 none_behind (Some s ∷ os) none = absurd cc
 
-pub emptied_more : (hs : List Handle) (at : ℕ) (new : Handle) → at < length hs → new.held ≡ None → any_held (take at (held_in hs)) ≡ false → any_held (take (at + 1) (held_in (slice_set hs at new))) ≡ false
+pub emptied_more : (hs : List Handle) (at : ℕ) (new : Handle) → at < length hs → new.held ≡ None → any_held (take at (seats_held hs)) ≡ false → any_held (take (at + 1) (seats_held (slice_set hs at new))) ≡ false
 emptied_more hs at new below holds none =
     let next : at + 1 ≡ suc at = omega arith in
-    ap (λ n. any_held (take n (held_in (slice_set hs at new)))) next
-    ∙ ap any_held (filled_there hs at new below ∙ ap (λ (o : Option Seat). take at (held_in hs) ++ o ∷ []) holds)
-    ∙ none_behind (take at (held_in hs)) none
+    ap (λ n. any_held (take n (seats_held (slice_set hs at new)))) next
+    ∙ ap any_held (filled_there hs at new below ∙ ap (λ (o : Option Seat). take at (seats_held hs) ++ o ∷ []) holds)
+    ∙ none_behind (take at (seats_held hs)) none

@@ -1,3 +1,3 @@
-mod Words
+mod HandleWords
 mod Orders
 mod HeldLists

@@ -8,10 +8,10 @@ use Rattle.shen_graph.specs.declared.order.Order.TheVariants.{Begin, End}
 use Rattle.shen_graph.specs.Valid.{is_valid}
 use Rattle.heap_seats.specs.declared.progress.Refused.{Refused}
 use Rattle.heap_seats.specs.declared.seat.Seat.{Seat}
-use Rattle.heap_seats.specs.Seats.{made_by, is_mutator, state_in}
+use Rattle.heap_seats.specs.Seats.{objects_made_by, is_mutator, state_in}
 use Rattle.heap_seats.specs.Ordering.{refused_in, refused_command, HasOrder}
-use Rattle.heap_seats.proofs.Refusals.{refused_first}
-use Rattle.covremuj.specs.Numbers.{number_of_order, number_of_refused}
+use Rattle.heap_seats.proofs.OrderRefusals.{refused_first}
+use Rattle.covremuj.specs.StatusNumbers.{number_of_order, number_of_refused}
 use Rattle.covremuj.specs.Border.{TakesOrder, no_command, BeginsBy, EndsBy}
 
 -- what a seat answers to an order
@@ -25,9 +25,9 @@ begins_refused s command why role is = subst (λ (b : Bool). BeginsBy b s (Some 
     by_command : (o : Option Command) → BeginsBy true s (Some s) o (number_of_refused why)
     by_command None = (refl, ap no_command is)
     by_command (Some k) =
-        subst (λ (o : Option Refused). TakesOrder s (Some s) (Begin k) o (number_of_refused why)) (refused_first (is_valid k) (made_by s) (state_in s) why is) (refl, refl)
+        subst (λ (o : Option Refused). TakesOrder s (Some s) (Begin k) o (number_of_refused why)) (refused_first (is_valid k) (objects_made_by s) (state_in s) why is) (refl, refl)
 
-pub begins_command : (s new : Seat) (command : Command) (r : Result (Unit {0}) Refused) (answer : ℕ) → is_mutator s ≡ true → result_err r ≡ refused_command (is_valid command) (made_by s) (state_in s) → OnErr r (new ≡ s) → OnOk r (HasOrder s new (Begin command))
+pub begins_command : (s new : Seat) (command : Command) (r : Result (Unit {0}) Refused) (answer : ℕ) → is_mutator s ≡ true → result_err r ≡ refused_command (is_valid command) (objects_made_by s) (state_in s) → OnErr r (new ≡ s) → OnOk r (HasOrder s new (Begin command))
     → answer ≡ number_of_order (result_err r) → BeginsBy (is_mutator s) s (Some new) (Some command) answer
 begins_command s new command r answer role refused same ordered is =
     subst (λ (b : Bool). BeginsBy b s (Some new) (Some command) answer) (sym role)

@@ -7,7 +7,7 @@ use Rattle.heap_seats.specs.declared.progress.Progress.TheVariants as progress
 use Rattle.heap_seats.specs.declared.progress.State.{State}
 use Rattle.heap_seats.specs.declared.progress.State.TheVariants.{Free, AtWork, Ended}
 use Rattle.heap_seats.specs.declared.seat.Seat.{Seat}
-use Rattle.heap_seats.specs.Seats.{config_of, number_of, made_by, is_mutator, state_in}
+use Rattle.heap_seats.specs.Seats.{config_of, number_of, objects_made_by, is_mutator, state_in}
 use Rattle.covremuj.specs.declared.border.Value.{Value}
 use Rattle.covremuj.specs.declared.border.Told.{Told}
 
@@ -34,6 +34,6 @@ told_of s = record {
   number = number_of s + 1;
   kind = kind_of s;
   state = state_number (state_in s);
-  made = made_by s;
-  left = if is_mutator s then 4294967295 - made_by s else 0;
+  made = objects_made_by s;
+  left = if is_mutator s then 4294967295 - objects_made_by s else 0;
 }

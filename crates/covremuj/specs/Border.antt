@@ -7,23 +7,23 @@ use Rattle.shen_graph.specs.Valid.{is_valid}
 use Rattle.heap_seats.specs.declared.progress.Progress.{Progress}
 use Rattle.heap_seats.specs.declared.progress.Refused.{Refused}
 use Rattle.heap_seats.specs.declared.seat.Seat.{Seat}
-use Rattle.heap_seats.specs.Seats.{made_by, is_mutator, state_in}
+use Rattle.heap_seats.specs.Seats.{objects_made_by, is_mutator, state_in}
 use Rattle.heap_seats.specs.Ordering.{refused_in, refused_command, HasOrder}
-use Rattle.heap_seats.specs.Going.{HasGone}
+use Rattle.heap_seats.specs.Going.{HasGoneOn}
 use Rattle.covremuj.specs.declared.border.Value.{Value}
-use Rattle.covremuj.specs.Numbers.{number_of_progress, number_of_refused}
+use Rattle.covremuj.specs.StatusNumbers.{number_of_progress, number_of_refused}
 use Rattle.covremuj.specs.Answers.{value_after}
 
 -- nothing has changed, and this was answered
-abbrev pub IsRefused : Seat → Option Seat → (why answer : ℕ) → Type 0
-IsRefused s held why answer = (held ≡ Some s) × (answer ≡ why)
+abbrev pub IsRefusedCall : Seat → Option Seat → (why answer : ℕ) → Type 0
+IsRefusedCall s held why answer = (held ≡ Some s) × (answer ≡ why)
 
 -- ---- orders
 
 -- the order was taken, which is answered by 0, or it was not, by its cause
 abbrev pub TakesOrder : Seat → Option Seat → Order → Option Refused → ℕ → Type 0
 TakesOrder s held order None answer = (new : Seat) × (held ≡ Some new) × HasOrder s new order × (answer ≡ 0)
-TakesOrder s held order (Some why) answer = IsRefused s held (number_of_refused why) answer
+TakesOrder s held order (Some why) answer = IsRefusedCall s held (number_of_refused why) answer
 
 -- where there is no such command, the state of the seat is answered first
 abbrev pub no_command : Option Refused → ℕ
@@ -31,54 +31,54 @@ no_command None = 36
 no_command (Some why) = number_of_refused why
 
 abbrev pub BeginsBy : Bool → Seat → Option Seat → Option Command → ℕ → Type 0
-BeginsBy false s held command answer = IsRefused s held 33 answer
-BeginsBy true s held None answer = IsRefused s held (no_command (refused_in (state_in s))) answer
-BeginsBy true s held (Some command) answer = TakesOrder s held (Begin command) (refused_command (is_valid command) (made_by s) (state_in s)) answer
+BeginsBy false s held command answer = IsRefusedCall s held 33 answer
+BeginsBy true s held None answer = IsRefusedCall s held (no_command (refused_in (state_in s))) answer
+BeginsBy true s held (Some command) answer = TakesOrder s held (Begin command) (refused_command (is_valid command) (objects_made_by s) (state_in s)) answer
 
 -- a command is ordered of a mutator
-abbrev pub Begins : Option Seat → Option Seat → Option Command → ℕ → Type 0
-Begins None held command answer = (held ≡ None) × (answer ≡ 32)
-Begins (Some s) held command answer = BeginsBy (is_mutator s) s held command answer
+abbrev pub HandleBegins : Option Seat → Option Seat → Option Command → ℕ → Type 0
+HandleBegins None held command answer = (held ≡ None) × (answer ≡ 32)
+HandleBegins (Some s) held command answer = BeginsBy (is_mutator s) s held command answer
 
 abbrev pub EndsBy : Bool → Seat → Option Seat → ℕ → Type 0
-EndsBy false s held answer = IsRefused s held 33 answer
+EndsBy false s held answer = IsRefusedCall s held 33 answer
 EndsBy true s held answer = TakesOrder s held End (refused_in (state_in s)) answer
 
 -- its end is ordered
-abbrev pub Ends : Option Seat → Option Seat → ℕ → Type 0
-Ends None held answer = (held ≡ None) × (answer ≡ 32)
-Ends (Some s) held answer = EndsBy (is_mutator s) s held answer
+abbrev pub HandleEnds : Option Seat → Option Seat → ℕ → Type 0
+HandleEnds None held answer = (held ≡ None) × (answer ≡ 32)
+HandleEnds (Some s) held answer = EndsBy (is_mutator s) s held answer
 
 -- ---- steps
 
 -- a seat has gone on, and this was answered
-pub record Goes (s : Seat) (held : Option Seat) (steps answer : ℕ) (before after : Value) : Type 0 where
+pub record SeatGoes (s : Seat) (held : Option Seat) (steps answer : ℕ) (before after : Value) : Type 0 where
   pub new : Seat
   pub said : Progress
   pub holds : held ≡ Some new
-  pub gone : HasGone s new steps said
+  pub gone : HasGoneOn s new steps said
   pub answers : answer ≡ number_of_progress said
   pub value : after ≡ value_after said before
 
 abbrev pub GoesBy : Bool → Seat → Option Seat → (steps answer : ℕ) → (before after : Value) → Type 0
 GoesBy false s held steps answer before after = (held ≡ Some s) × (answer ≡ 33) × (after ≡ before)
-GoesBy true s held steps answer before after = Goes s held steps answer before after
+GoesBy true s held steps answer before after = SeatGoes s held steps answer before after
 
 -- a mutator makes so many steps at most
-abbrev pub GoesOn : Option Seat → Option Seat → (steps answer : ℕ) → (before after : Value) → Type 0
-GoesOn None held steps answer before after = (held ≡ None) × (answer ≡ 32) × (after ≡ before)
-GoesOn (Some s) held steps answer before after = GoesBy (is_mutator s) s held steps answer before after
+abbrev pub HandleGoesOn : Option Seat → Option Seat → (steps answer : ℕ) → (before after : Value) → Type 0
+HandleGoesOn None held steps answer before after = (held ≡ None) × (answer ≡ 32) × (after ≡ before)
+HandleGoesOn (Some s) held steps answer before after = GoesBy (is_mutator s) s held steps answer before after
 
 -- a helper or the control has worked, and this was answered
 pub record Works (s : Seat) (held : Option Seat) (steps answer : ℕ) : Type 0 where
   pub new : Seat
   pub said : Progress
   pub holds : held ≡ Some new
-  pub gone : HasGone s new steps said
+  pub gone : HasGoneOn s new steps said
   pub answers : answer ≡ number_of_progress said
 
 abbrev pub WorksBy : Bool → Seat → Option Seat → (steps answer : ℕ) → Type 0
-WorksBy true s held steps answer = IsRefused s held 33 answer
+WorksBy true s held steps answer = IsRefusedCall s held 33 answer
 WorksBy false s held steps answer = Works s held steps answer
 
 -- a helper or the control makes so many steps at most

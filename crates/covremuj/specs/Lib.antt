@@ -1,5 +1,5 @@
-pub mod Held
-pub mod Numbers
+pub mod HeldSeats
+pub mod StatusNumbers
 pub mod Answers
 pub mod Border
-pub mod Opening
+pub mod OpenedHandles

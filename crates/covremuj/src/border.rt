@@ -1,7 +1,7 @@
 // What C passes and is told, beside the handles, and the numbers that answer.
 ghost use Rattle.std.specs.Prelude.{◌≡◌};
 ghost use Rattle.std.specs.Result.{result_err};
-ghost use Rattle.covremuj.specs.Numbers as numbers;
+ghost use Rattle.covremuj.specs.StatusNumbers as numbers;
 ghost use Rattle.covremuj.specs.Answers as answers;
 
 use heap_seats::{Progress, Refused, Seat, State};

@@ -1,5 +1,5 @@
 ghost use Rattle.std.specs.Prelude.{◌≡◌, ◌≢◌, false, None, MatchOption, length};
-ghost use Rattle.covremuj.specs.Opening.{held_in, any_held};
+ghost use Rattle.covremuj.specs.OpenedHandles.{seats_held, any_held};
 
 use crate::border::{BUSY, DONE, NOT_ALL, NOT_OPEN};
 use crate::handle::Handle;
@@ -22,8 +22,8 @@ pub extern "C" fn cvm_close(alloc: Global, handle: &mut Handle) -> u32
 /// Gives all seats of a heap up at once, as `cvm_open` gave them, and with them the heap, whose control has ended.
 #[unsafe(no_mangle)]
 pub extern "C" fn cvm_close_all(alloc: Global, handles: &mut [Handle]) -> u32
-    ensures unchanged { result ≢ 0 → held_in handles.new ≡ held_in handles.old }
-    ensures empty { result ≡ 0 → any_held (held_in handles.new) ≡ false }
+    ensures unchanged { result ≢ 0 → seats_held handles.new ≡ seats_held handles.old }
+    ensures empty { result ≡ 0 → any_held (seats_held handles.new) ≡ false }
 {
     let why = refuses(alloc, handles);
     if why != DONE {
@@ -35,7 +35,7 @@ pub extern "C" fn cvm_close_all(alloc: Global, handles: &mut [Handle]) -> u32
 
 // Why not all seats of a heap are there, or it is not over.
 fn refuses(alloc: Global, handles: &mut [Handle]) -> u32
-    ensures { held_in handles.new ≡ held_in handles.old }
+    ensures { seats_held handles.new ≡ seats_held handles.old }
 {
     if any_empty(alloc, handles) {
         return NOT_OPEN;
@@ -48,7 +48,7 @@ fn refuses(alloc: Global, handles: &mut [Handle]) -> u32
 
 // Whether one of the handles is empty.
 fn any_empty(alloc: Global, handles: &mut [Handle]) -> bool
-    ensures { held_in handles.new ≡ held_in handles.old }
+    ensures { seats_held handles.new ≡ seats_held handles.old }
 {
     for at in 0..handles.len() {
         if !handles[at].is_open(alloc) {
@@ -60,7 +60,7 @@ fn any_empty(alloc: Global, handles: &mut [Handle]) -> bool
 
 // Whether they hold all seats of one heap, in the order of their numbers.
 fn are_all(alloc: Global, handles: &mut [Handle]) -> bool
-    ensures { held_in handles.new ≡ held_in handles.old }
+    ensures { seats_held handles.new ≡ seats_held handles.old }
 {
     if handles.is_empty() {
         return false;
@@ -82,7 +82,7 @@ fn share_of(alloc: Global, handle: &mut Handle) -> Option<Share>
 }
 
 fn all_of(alloc: Global, handles: &mut [Handle], share: &Share) -> bool
-    ensures { held_in handles.new ≡ held_in handles.old }
+    ensures { seats_held handles.new ≡ seats_held handles.old }
 {
     let seats = handles.len();
     for at in 0..handles.len() {
@@ -107,7 +107,7 @@ fn is_seat(alloc: Global, handle: &mut Handle, share: &Share, at: usize, seats: 
 
 // Whether the last of them, the control, has ended.
 fn is_over(alloc: Global, handles: &mut [Handle]) -> bool
-    ensures { held_in handles.new ≡ held_in handles.old }
+    ensures { seats_held handles.new ≡ seats_held handles.old }
 {
     let seats = handles.len();
     if seats == 0 {
@@ -129,7 +129,7 @@ fn has_ended(alloc: Global, handle: &mut Handle) -> bool
 
 // Gives each seat up.
 fn empty_all(alloc: Global, handles: &mut [Handle])
-    ensures { any_held (held_in handles.new) ≡ false }
+    ensures { any_held (seats_held handles.new) ≡ false }
 {
     for at in 0..handles.len() {
         drop(handles[at].take(alloc));

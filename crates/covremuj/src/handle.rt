@@ -1,7 +1,7 @@
 ghost use Rattle.std.specs.Prelude.{◌≡◌, Option, Some, None, MatchOption};
 ghost use Rattle.std.specs.Option.{is_some};
 ghost use Rattle.heap_seats.specs.declared.seat.Seat.{Seat as Seats};
-ghost use Rattle.covremuj.specs.Held.{held_owns};
+ghost use Rattle.covremuj.specs.HeldSeats.{held_owns};
 
 use crate::loose::Loose;
 use heap_seats::Seat;

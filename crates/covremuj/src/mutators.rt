@@ -1,6 +1,6 @@
 ghost use Rattle.std.specs.Prelude.{◌≡◌, true, Some};
-ghost use Rattle.covremuj.specs.Numbers.{command_numbered};
-ghost use Rattle.covremuj.specs.Border.{Begins, BeginsBy, Ends, EndsBy, GoesOn, GoesBy};
+ghost use Rattle.covremuj.specs.StatusNumbers.{command_numbered};
+ghost use Rattle.covremuj.specs.Border.{HandleBegins, BeginsBy, HandleEnds, EndsBy, HandleGoesOn, GoesBy};
 ghost use Rattle.heap_seats.specs.Seats.{is_mutator};
 
 use crate::border::{
@@ -24,7 +24,7 @@ pub extern "C" fn cvm_begin(
     d: u32,
     value: u64,
 ) -> u32
-    ensures { Begins handle.old.held handle.new.held (command_numbered op a b c d value) result }
+    ensures { HandleBegins handle.old.held handle.new.held (command_numbered op a b c d value) result }
 {
     let Some(mut seat) = handle.take(alloc) else {
         return NOT_OPEN;
@@ -50,7 +50,7 @@ fn begin(seat: &mut Seat, command: Option<Command>) -> u32
 /// Makes so many steps of a mutator at most, until one ends its call, or one waits.
 #[unsafe(no_mangle)]
 pub extern "C" fn cvm_go(alloc: Global, handle: &mut Handle, steps: u32, value: &mut Value) -> u32
-    ensures { GoesOn handle.old.held handle.new.held steps result value.old value.new }
+    ensures { HandleGoesOn handle.old.held handle.new.held steps result value.old value.new }
 {
     let Some(mut seat) = handle.take(alloc) else {
         return NOT_OPEN;
@@ -74,7 +74,7 @@ fn go(seat: &mut Seat, steps: u32, value: &mut Value) -> u32
 /// Orders the end of a mutator. Its next step is its last one.
 #[unsafe(no_mangle)]
 pub extern "C" fn cvm_end(alloc: Global, handle: &mut Handle) -> u32
-    ensures { Ends handle.old.held handle.new.held result }
+    ensures { HandleEnds handle.old.held handle.new.held result }
 {
     let Some(mut seat) = handle.take(alloc) else {
         return NOT_OPEN;

@@ -1,7 +1,7 @@
 ghost use Rattle.std.specs.Prelude.{◌≡◌, ◌≢◌, ◌+◌, None, Some, MatchOption, IfOk, length, map};
 ghost use Rattle.heap_words.specs.Ranges.{seat_count};
-ghost use Rattle.heap_seats.specs.Opening.{AreFreshSeats};
-ghost use Rattle.covremuj.specs.Opening.{held_in, any_held, HoldFreshSeats, HasSizes, fault_in, handles_refused, opening_refused};
+ghost use Rattle.heap_seats.specs.FreshSeats.{AreFreshSeats};
+ghost use Rattle.covremuj.specs.OpenedHandles.{seats_held, any_held, HoldFreshSeats, HasSizes, fault_in, handles_refused, opening_refused};
 ghost use Rattle.heap_words.specs.declared.config.Config.{Config as Configs};
 ghost use mathlib.Core.List.{reverse};
 
@@ -14,9 +14,9 @@ use std::alloc::Global;
 /// A heap with all its seats, whose handles are the mutators', the helpers' and the control's, in this order.
 #[unsafe(no_mangle)]
 pub extern "C" fn cvm_open(alloc: Global, sizes: &Configuration, handles: &mut [Handle]) -> u32
-    ensures refused { MatchOption (opening_refused (fault_in sizes.now) (seat_count sizes.now.mutators sizes.now.helpers) (held_in handles.old)) (result ≢ 55 → result ≡ 0) (λ why. result ≡ why) }
-    ensures unchanged { result ≢ 0 → held_in handles.new ≡ held_in handles.old }
-    ensures opened { result ≡ 0 → ((config : Configs) × HasSizes sizes.now config × HoldFreshSeats config (held_in handles.new)) }
+    ensures refused { MatchOption (opening_refused (fault_in sizes.now) (seat_count sizes.now.mutators sizes.now.helpers) (seats_held handles.old)) (result ≢ 55 → result ≡ 0) (λ why. result ≡ why) }
+    ensures unchanged { result ≢ 0 → seats_held handles.new ≡ seats_held handles.old }
+    ensures opened { result ≡ 0 → ((config : Configs) × HasSizes sizes.now config × HoldFreshSeats config (seats_held handles.new)) }
 {
     match Config::wide(
         sizes.regions,
@@ -32,9 +32,9 @@ pub extern "C" fn cvm_open(alloc: Global, sizes: &Configuration, handles: &mut [
 
 // Opens a heap of this configuration into the handles.
 fn open_into(alloc: Global, config: Config, handles: &mut [Handle]) -> u32
-    ensures refused { MatchOption (handles_refused (seat_count config.mutators config.helpers) (held_in handles.old)) (result ≢ 55 → result ≡ 0) (λ why. result ≡ why) }
-    ensures unchanged { result ≢ 0 → held_in handles.new ≡ held_in handles.old }
-    ensures opened { result ≡ 0 → HoldFreshSeats config (held_in handles.new) }
+    ensures refused { MatchOption (handles_refused (seat_count config.mutators config.helpers) (seats_held handles.old)) (result ≢ 55 → result ≡ 0) (λ why. result ≡ why) }
+    ensures unchanged { result ≢ 0 → seats_held handles.new ≡ seats_held handles.old }
+    ensures opened { result ≡ 0 → HoldFreshSeats config (seats_held handles.new) }
 {
     if handles.len() != config.seats() {
         return BAD_SEATS;
@@ -51,8 +51,8 @@ fn open_into(alloc: Global, config: Config, handles: &mut [Handle]) -> u32
 
 // Whether one of the handles is open.
 fn any_open(alloc: Global, handles: &mut [Handle]) -> bool
-    ensures open { result ≡ any_held (held_in handles.old) }
-    ensures unchanged { held_in handles.new ≡ held_in handles.old }
+    ensures open { result ≡ any_held (seats_held handles.old) }
+    ensures unchanged { seats_held handles.new ≡ seats_held handles.old }
 {
     for at in 0..handles.len() {
         if handles[at].is_open(alloc) {
@@ -84,7 +84,7 @@ fn boxed_seats(alloc: Global, config: Config) -> Result<Vec<Box<Seat>>, NoMemory
 // Puts each seat into its handle: the last one of the list into the first.
 fn fill_all(handles: &mut [Handle], mut seats: Vec<Box<Seat>>)
     requires { length handles.old ≡ length seats.items }
-    ensures { held_in handles.new ≡ map Some (reverse (map (λ b. b.value) seats.items)) }
+    ensures { seats_held handles.new ≡ map Some (reverse (map (λ b. b.value) seats.items)) }
 {
     for at in 0..handles.len() {
         let Some(seat) = seats.pop() else {

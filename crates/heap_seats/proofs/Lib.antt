@@ -2,5 +2,5 @@ pub mod Known
 pub mod Stepped
 pub mod Histories
 pub mod Loops
-pub mod Refusals
+pub mod OrderRefusals
 pub mod Opened

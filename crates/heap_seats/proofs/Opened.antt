@@ -24,7 +24,7 @@ use Rattle.table_heap.specs.State.{view_of, machine_at, order_at, steps_at, orde
 use Rattle.table_heap.proofs.Running.{at_number}
 use Rattle.heap_seats.specs.declared.seat.Seat.{Seat}
 use Rattle.heap_seats.specs.Known.{HaveRun}
-use Rattle.heap_seats.specs.Opening.{IsFreshSeat}
+use Rattle.heap_seats.specs.FreshSeats.{IsFreshSeat}
 use Rattle.heap_seats.proofs.Known.{has_seen}
 
 abbrev pub seats_in : Config → ℕ

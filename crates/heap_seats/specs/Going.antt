@@ -17,7 +17,7 @@ use Rattle.heap_seats.specs.declared.progress.State.TheVariants.{Free, AtWork, E
 use Rattle.heap_seats.specs.declared.progress.Progress.{Progress}
 use Rattle.heap_seats.specs.declared.progress.Progress.TheVariants as progress
 use Rattle.heap_seats.specs.declared.seat.Seat.{Seat}
-use Rattle.heap_seats.specs.Seats.{config_of, number_of, actor_in, machine_in, order_in, steps_in, calls_of, doing_in, state_in, IsSameSeat}
+use Rattle.heap_seats.specs.Seats.{config_of, number_of, actor_in, machine_of_seat, order_in, steps_in, calls_of, doing_in, state_in, IsSameSeat}
 
 -- Calls of a thread are its part of the history of some events from the opening, and that history is legal.
 pub record ArePartOfHistory (c : Config) (thread : ℕ) (calls : List Entry) : Type 0 where
@@ -26,9 +26,9 @@ pub record ArePartOfHistory (c : Config) (thread : ℕ) (calls : List Entry) : T
   pub part : of_thread (past pause_image c events) thread ≡ calls
 
 -- nothing has changed
-pub record IsStill (old new : Seat) : Type 0 where
+pub record IsAsItWas (old new : Seat) : Type 0 where
   pub actor : actor_in new ≡ actor_in old
-  pub machine : machine_in new ≡ machine_in old
+  pub machine : machine_of_seat new ≡ machine_of_seat old
   pub order : order_in new ≡ order_in old
   pub steps : steps_in new ≡ steps_in old
 
@@ -40,7 +40,7 @@ given_by _ machine = None
 -- It has made one step, which said so. Where that ended its call, the call with its reply is the last of its calls, and else they are
 -- as they were.
 pub record HasStepped (old new : Seat) (said : Stepped) : Type 0 where
-  pub calls : calls_of new ≡ calls_of old ++ entries_of (number_of old) (doing_in old) (given_by said (machine_in new))
+  pub calls : calls_of new ≡ calls_of old ++ entries_of (number_of old) (doing_in old) (given_by said (machine_of_seat new))
   pub doing : doing_in new ≡ doing_in old
   pub order : order_in new ≡ Nothing
   pub steps : steps_in new ≡ steps_in old + 1
@@ -64,11 +64,11 @@ FitsState other machine state = progress_at state ≡ other
 
 -- It has made at most so many steps, and exactly so many where there is more to do. Where a reply was told, the call with that reply is
 -- the last of its calls, and else they are as they were; and whenever no call is in progress, its calls stand in a legal history.
-pub record HasGone (old new : Seat) (steps : ℕ) (said : Progress) : Type 0 where
+pub record HasGoneOn (old new : Seat) (steps : ℕ) (said : Progress) : Type 0 where
   pub same : IsSameSeat old new
   pub calls : calls_of new ≡ calls_of old ++ entries_of (number_of old) (doing_in old) (reply_told said)
   pub doing : doing_in new ≡ doing_in old
   pub most : steps_in new ≤ steps_in old + steps
   pub all : said ≡ progress.More → steps_in new ≡ steps_in old + steps
-  pub told : FitsState said (machine_in new) (state_in new)
-  pub legal : is_resting (machine_in new) ≡ true → ∥ ArePartOfHistory (config_of new) (number_of new + 1) (calls_of new) ∥₁
+  pub told : FitsState said (machine_of_seat new) (state_in new)
+  pub legal : is_resting (machine_of_seat new) ≡ true → ∥ ArePartOfHistory (config_of new) (number_of new + 1) (calls_of new) ∥₁

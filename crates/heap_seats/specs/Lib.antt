@@ -2,4 +2,4 @@ pub mod Seats
 pub mod Known
 pub mod Ordering
 pub mod Going
-pub mod Opening
+pub mod FreshSeats

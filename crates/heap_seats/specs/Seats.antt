@@ -30,8 +30,8 @@ abbrev pub actor_in : Seat → Actor
 actor_in s = unwrap_or (machine_of (view_of s.bundle) s.number) nobody
 
 -- and as memory has it, with the order that it was given, and how many steps it has made
-abbrev pub machine_in : Seat → Machine
-machine_in s = machine_at s.bundle s.number
+abbrev pub machine_of_seat : Seat → Machine
+machine_of_seat s = machine_at s.bundle s.number
 
 abbrev pub order_in : Seat → Order
 order_in s = order_at s.bundle s.number
@@ -48,8 +48,8 @@ abbrev pub doing_in : Seat → Command
 doing_in s = command_by (order_in s) (actor_in s).command
 
 -- how many objects it has made
-abbrev pub made_by : Seat → ℕ
-made_by s = made_of_machine (machine_in s)
+abbrev pub objects_made_by : Seat → ℕ
+objects_made_by s = made_of_machine (machine_of_seat s)
 
 -- whether it is a mutator
 abbrev pub is_mutator : Seat → Bool
@@ -60,7 +60,7 @@ abbrev pub state_by : (turn may : Bool) → State
 state_by turn may = if turn then AtWork else (if may then Free else Ended)
 
 abbrev pub state_in : Seat → State
-state_in s = state_by (has_turn s.bundle s.number) (may_begin (machine_in s))
+state_in s = state_by (has_turn s.bundle s.number) (may_begin (machine_of_seat s))
 
 -- it is the seat of the same machine of the same heap
 pub record IsSameSeat (old new : Seat) : Type 0 where

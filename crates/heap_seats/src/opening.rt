@@ -1,5 +1,5 @@
 ghost use Rattle.std.specs.Prelude.{IfOk};
-ghost use Rattle.heap_seats.specs.Opening.{AreFreshSeats};
+ghost use Rattle.heap_seats.specs.FreshSeats.{AreFreshSeats};
 
 use crate::seat::Seat;
 use heap_words::{Config, NoMemory};

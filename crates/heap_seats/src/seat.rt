@@ -29,15 +29,15 @@ impl Seat {
     ghost use Rattle.shared_table.specs.Views.{whole, dealt_to};
     ghost use Rattle.table_heap.specs.Core.{heap_opening};
     ghost use Rattle.table_heap.specs.State.{IsFresh, config_of as heap_config};
-    ghost use Rattle.heap_seats.specs.Opening.{IsFreshSeat};
+    ghost use Rattle.heap_seats.specs.FreshSeats.{IsFreshSeat};
     ghost use Rattle.std.specs.Result.{result_err};
     ghost use Rattle.shen_graph.specs.Valid.{is_valid};
     ghost use Rattle.shen_graph.specs.declared.order.Order.TheVariants as orders;
     ghost use Rattle.step_core.specs.Machines.{reply_in};
     ghost use Rattle.table_heap.specs.State.{has_turn};
-    ghost use Rattle.heap_seats.specs.Seats.{config_of, number_of, machine_in, made_by, is_mutator, state_in, IsSameSeat};
+    ghost use Rattle.heap_seats.specs.Seats.{config_of, number_of, machine_of_seat, objects_made_by, is_mutator, state_in, IsSameSeat};
     ghost use Rattle.heap_seats.specs.Ordering.{refused_in, refused_command, HasOrder};
-    ghost use Rattle.heap_seats.specs.Going.{IsStill, HasStepped, progress_at, HasGone};
+    ghost use Rattle.heap_seats.specs.Going.{IsAsItWas, HasStepped, progress_at, HasGoneOn};
 
     // The seat of a machine before the first event, with a share of its heap.
     pub(crate) fn open(
@@ -86,7 +86,7 @@ impl Seat {
 
     /// How many objects it has made.
     pub fn made(&self) -> u32
-        ensures { result ≡ made_by self.now }
+        ensures { result ≡ objects_made_by self.now }
     {
         self.bundle.made(self.number)
     }
@@ -107,7 +107,7 @@ impl Seat {
 
     /// Orders a command, which the next step begins. Of a mutator between two calls. Otherwise nothing changes.
     pub fn begin(&mut self, command: Command) -> Result<(), Refused>
-        ensures refused { result_err result ≡ refused_command (is_valid command) (made_by self.old) (state_in self.old) }
+        ensures refused { result_err result ≡ refused_command (is_valid command) (objects_made_by self.old) (state_in self.old) }
         ensures unchanged { OnErr result (self.new ≡ self.old) }
         ensures ordered { OnOk result (HasOrder self.old self.new (orders.Begin command)) }
     {
@@ -128,7 +128,7 @@ impl Seat {
     fn order_begin(&mut self, command: Command)
         requires free { state_in self.old ≡ State.Free }
         requires valid { is_valid command ≡ true }
-        requires made { made_by self.old < 4294967295 }
+        requires made { objects_made_by self.old < 4294967295 }
         ensures { HasOrder self.old self.new (orders.Begin command) }
     {
         self.bundle.begin(self.number, command);
@@ -169,7 +169,7 @@ impl Seat {
     /// Makes so many steps at most, until one ends the call, one waits, or there is nothing to do. Each is one access of the
     /// heap's table, and one event. It waits for nothing, and takes no memory.
     pub fn go(&mut self, steps: u32) -> Progress
-        ensures { HasGone self.old self.new steps result }
+        ensures { HasGoneOn self.old self.new steps result }
     {
         for _made in 0..steps {
             match self.step() {
@@ -186,9 +186,9 @@ impl Seat {
     fn step(&mut self) -> Stepped
         ensures same { IsSameSeat self.old self.new }
         ensures idle { (result ≡ Stepped.Idle) ↔ (has_turn self.old.bundle self.old.number ≡ false) }
-        ensures still { result ≡ Stepped.Idle → IsStill self.old self.new }
+        ensures still { result ≡ Stepped.Idle → IsAsItWas self.old self.new }
         ensures stepped { result ≢ Stepped.Idle → HasStepped self.old self.new result }
-        ensures replied { result ≡ Stepped.Done → reply_in (machine_in self.new) ≢ None }
+        ensures replied { result ≡ Stepped.Done → reply_in (machine_of_seat self.new) ≢ None }
     {
         self.bundle.step(&self.heap, self.number)
     }

@@ -1,6 +1,6 @@
 use Rattle.std.proofs.Common.{◌≡◌}
-use Rattle.covremuj.specs.Opening.{held_in}
+use Rattle.covremuj.specs.OpenedHandles.{seats_held}
 use Rattle.covremuj.proofs.closing.all_of.Given as goal
 
 abbrev pub invariant-loop-at : goal.invariant-loop-at
-invariant-loop-at l = held_in l.handles ≡ held_in l.initial.handles
+invariant-loop-at l = seats_held l.handles ≡ seats_held l.initial.handles

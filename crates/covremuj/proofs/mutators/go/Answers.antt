@@ -1,12 +1,12 @@
 use Rattle.std.proofs.Common.{Some, refl, sym, ◌∙◌, subst}
-use Rattle.covremuj.specs.Border.{Goes, GoesBy}
+use Rattle.covremuj.specs.Border.{SeatGoes, GoesBy}
 use Rattle.covremuj.proofs.mutators.go.Goals as goal
 
 pub returns : goal.returns
 returns c =
     let s = c.args.seat.now in
     let new = c.go-progress.new.self in
-    let went : Goes s (Some new) c.args.steps c.of_progress.result c.args.value.now c.value_after.result = record {
+    let went : SeatGoes s (Some new) c.args.steps c.of_progress.result c.args.value.now c.value_after.result = record {
       new = new;
       said = c.go-progress.result;
       holds = refl;

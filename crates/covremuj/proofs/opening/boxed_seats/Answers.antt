@@ -1,7 +1,7 @@
 use Rattle.std.proofs.Common.{List, [], ◌++◌, sym, ap, ◌∙◌, subst}
 use mathlib.Core.List.{reverse}
 use Rattle.std.proofs.lemmas.List.{append-nil}
-use Rattle.heap_seats.specs.Opening.{AreFreshSeats}
+use Rattle.heap_seats.specs.FreshSeats.{AreFreshSeats}
 use Rattle.covremuj.proofs.HeldLists.{seats_of, boxed_more}
 use Rattle.covremuj.proofs.opening.boxed_seats.Goals as goal
 

@@ -1,6 +1,6 @@
 use Rattle.std.proofs.Common.{◌≡◌, ◌++◌, map, vec_len}
 use mathlib.Core.List.{reverse}
-use Rattle.heap_seats.specs.Opening.{AreFreshSeats}
+use Rattle.heap_seats.specs.FreshSeats.{AreFreshSeats}
 use Rattle.covremuj.proofs.opening.boxed_seats.Given as goal
 
 -- those that are left come before those in boxes, the last one first

@@ -25,7 +25,7 @@ use denote.Triple.Table.{entered}
 use denote.Triple.Walked.{says, Stays, stay_dropped, walk_of, ends_at, Goes-dropped, walk_Meets}
 use Rattle.std.proofs.alloc.Calls.{handle_tells}
 use Rattle.std.specs.contracts.alloc.Global as heap
-use Rattle.covremuj.proofs.Words.{seat_box, triple, triple_typed, handle_in}
+use Rattle.covremuj.proofs.HandleWords.{seat_box, triple, triple_typed, handle_in}
 use Rattle.covremuj.specs.contracts.handle.Handle.hollow as F
 use Rattle.covremuj.specs.contracts.handle.Handle.hollow.Key.{name as #self}
 use Rattle.covremuj.proofs.handle.Handle.hollow.Statement as stated

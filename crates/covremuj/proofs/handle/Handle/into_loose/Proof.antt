@@ -28,8 +28,8 @@ use Rattle.std.proofs.option.Made.{Some-of, none_of}
 use Rattle.std.proofs.ResultValues.{and_tt}
 use Rattle.heap_seats.specs.contracts.seat.Seat as seat
 use Rattle.std.specs.contracts.alloc.Global as heap
-use Rattle.covremuj.specs.Held.{held_owns}
-use Rattle.covremuj.proofs.Words.{Handled, Loose, triple, triple_typed, ptr_typed, pair, pair_typed, held_is, none_is, handle_out, loose_in}
+use Rattle.covremuj.specs.HeldSeats.{held_owns}
+use Rattle.covremuj.proofs.HandleWords.{Handled, Loose, triple, triple_typed, ptr_typed, pair, pair_typed, held_is, none_is, handle_out, loose_in}
 use Rattle.covremuj.specs.contracts.handle.Handle.into_loose as F
 use Rattle.covremuj.specs.contracts.handle.Handle.into_loose.Key.{name as #self}
 use Rattle.covremuj.proofs.handle.Handle.into_loose.Statement as stated

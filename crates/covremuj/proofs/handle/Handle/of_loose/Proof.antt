@@ -25,7 +25,7 @@ use denote.Triple.Table.{entered}
 use denote.Triple.Walked.{says, Stays, stay_dropped, walk_of, ends_at, Goes-dropped, walk_Meets}
 use Rattle.std.proofs.BoxSteps.Form.{D, B, word, box_typed}
 use Rattle.std.proofs.BoxSteps.Steps.{box_out}
-use Rattle.covremuj.proofs.Words.{seat_box, Loosed, triple, triple_typed, handle_in}
+use Rattle.covremuj.proofs.HandleWords.{seat_box, Loosed, triple, triple_typed, handle_in}
 use Rattle.covremuj.specs.contracts.handle.Handle.of_loose as F
 use Rattle.covremuj.specs.contracts.handle.Handle.of_loose.Key.{name as #self}
 use Rattle.covremuj.proofs.handle.Handle.of_loose.Statement as stated

@@ -4,14 +4,14 @@ use Rattle.heap_words.specs.declared.config.Config.{Config}
 use Rattle.heap_words.specs.declared.config.BadConfig.{BadConfig}
 use Rattle.heap_words.specs.Faults.{wide_fault_of}
 use Rattle.heap_seats.specs.declared.seat.Seat.{Seat}
-use Rattle.heap_seats.specs.Opening.{AreFreshSeats}
+use Rattle.heap_seats.specs.FreshSeats.{AreFreshSeats}
 use Rattle.covremuj.specs.declared.border.Configuration.{Configuration}
 use Rattle.covremuj.specs.declared.handle.Handle.{Handle}
-use Rattle.covremuj.specs.Numbers.{number_of_fault}
+use Rattle.covremuj.specs.StatusNumbers.{number_of_fault}
 
 -- what handles hold
-abbrev pub held_in : List Handle → List (Option Seat)
-held_in handles = map (λ h. h.held) handles
+abbrev pub seats_held : List Handle → List (Option Seat)
+seats_held handles = map (λ h. h.held) handles
 
 -- whether one of them is open
 abbrev pub any_held : List (Option Seat) → Bool

@@ -28,7 +28,7 @@ use Rattle.heap_seats.specs.contracts.seat.Seat as seat
 use Rattle.heap_seats.proofs.seat.Seat.TheLaws as seat_laws
 use Rattle.std.specs.Option.{is_some}
 use Rattle.std.specs.Box.Ownership.{box_owns}
-use Rattle.covremuj.specs.Held.{held_owns}
+use Rattle.covremuj.specs.HeldSeats.{held_owns}
 use Rattle.covremuj.specs.contracts.loose.Loose as loose
 use Rattle.covremuj.specs.contracts.handle.Handle as handle
 

@@ -6,14 +6,14 @@ use Rattle.shen_graph.specs.declared.order.Order.TheVariants.{Nothing}
 use Rattle.step_core.specs.Opening.{opening_machine}
 use Rattle.table_heap.specs.declared.heap.Heap.{Heap}
 use Rattle.heap_seats.specs.declared.seat.Seat.{Seat}
-use Rattle.heap_seats.specs.Seats.{config_of, number_of, heap_shared, machine_in, order_in, steps_in, calls_of}
+use Rattle.heap_seats.specs.Seats.{config_of, number_of, heap_shared, machine_of_seat, order_in, steps_in, calls_of}
 
 -- a seat before the first event: its machine is that of its number, with no order, no step and no call behind it
 pub record IsFreshSeat (c : Config) (h : Heap) (place : ℕ) (s : Seat) : Type 0 where
   pub config : config_of s ≡ c
   pub heap : heap_shared s ≡ h
   pub number : number_of s ≡ place
-  pub machine : machine_in s ≡ opening_machine c place
+  pub machine : machine_of_seat s ≡ opening_machine c place
   pub order : order_in s ≡ Nothing
   pub steps : steps_in s ≡ 0
   pub calls : calls_of s ≡ []
