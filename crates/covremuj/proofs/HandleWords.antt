@@ -1,6 +1,6 @@
--- What a handle and a loose box of a seat are to the machine: one word of their fields.
+-- What a handle and the parts of a seat's box are to the machine: one word of their fields.
 --     seat_box           a box of a seat from the global allocator, as std's lemmas on boxes see it
---     Loosed, Handled    a loose box of a seat, and a handle, as parameters
+--     Parted, Handled    the parts of a seat's box, and a handle, as parameters
 --     triple             a handle's word: its pointer, whether it is open, its allocator
 --     handle_out         a handle by value is what it holds and its allocator.        handle_in     the way back
 use Rattle.std.proofs.Common.{◌≡◌, List, [], ◌∷◌, ◌++◌, Option, Some, None, refl, subst}
@@ -29,14 +29,14 @@ use Rattle.heap_seats.proofs.seat.Seat.TheLaws as seat_laws
 use Rattle.std.specs.Option.{is_some}
 use Rattle.std.specs.Box.Ownership.{box_owns}
 use Rattle.covremuj.specs.HeldSeats.{held_owns}
-use Rattle.covremuj.specs.contracts.loose.Loose as loose
+use Rattle.covremuj.specs.contracts.parts.Parts as parts
 use Rattle.covremuj.specs.contracts.handle.Handle as handle
 
 abbrev pub seat_box : Bx
 seat_box = record { row = seat.the_row; laws = seat_laws.the_row_laws; al = record { row = heap.the_row; laws = heap_laws.the_row_laws; g = ghosts; d = dict; drops = impl [] tnil dnil } }
 
-abbrev pub Loosed : Slot 0
-Loosed = plain (λ _. loose.the_row seat.the_row heap.the_row ghosts)
+abbrev pub Parted : Slot 0
+Parted = plain (λ _. parts.the_row seat.the_row heap.the_row ghosts)
 
 abbrev pub Handled : Slot 0
 Handled = plain (λ _. handle.the_row)
@@ -52,12 +52,12 @@ pub triple_typed : (p : Ptr) (t : Bool) (h : Val) → Fits seat_box.al h → T (
 triple_typed (block_ptr b o) t h fits = (and_tt (has_ty (α seat_box.al) h) fits.0, (tt, (tt, (fits.1, tt))))
 triple_typed null_ptr t h fits = (and_tt (has_ty (α seat_box.al) h) fits.0, (record { fits = lit< tt }, (tt, (fits.1, tt))))
 
--- a loose box of a seat
+-- the parts of a seat's box
 abbrev pub pair : Val → Val → Val
 pair p h = vstruct (vcons p (vcons h vnil))
 
-abbrev pub Loose : RattleType
-Loose = loose.the_row seat.the_row heap.the_row ghosts
+abbrev pub SeatParts : RattleType
+SeatParts = parts.the_row seat.the_row heap.the_row ghosts
 
 pub pair_typed : (p : Ptr) (h : Val) → Fits seat_box.al h → T (has_ty ty_ptr (ptr_val p) && (has_ty (α seat_box.al) h && true)) × WT (pair (ptr_val p) h)
 pair_typed (block_ptr b o) h fits = (and_tt (has_ty (α seat_box.al) h) fits.0, (tt, (fits.1, tt)))
@@ -95,9 +95,9 @@ module _ {M : Type 1} {𝓤 : Ura M} {𝓛 : Logic 𝓤} {K : Type 0} {Γ : List
       feq_i t (List Val) (v ∷ []) (v ∷ []) refl $ fjoin t $
       fpack t (Valss (RawPtr ∷ bool ∷ heap.the_row ∷ [])) (within (shape handle.the_type) (to handle.the_type d) (v ∷ [])) (ptr_val d.at ∷ [], (vbool d.is_open ∷ [], (h ∷ [], tt))) $ fjoin t $ s)
 
-  -- a loose box
-  pub loose_in : K → (d : Loose.Denot) (h : Val)
-      → Step K 𝓛 (‵ (Loose.own_val d (pair (ptr_val d.at) h ∷ [])) ∷ Γ) G (‵ (box_owns (ghosts.dealloc_token d.alloc) seat.the_row d.at d.value) ∷ ‵ (heap.the_row.own_val d.alloc (h ∷ [])) ∷ Γ) G
-  loose_in t d h = step (λ s. let v : Val = pair (ptr_val d.at) h in
-      nothing t $ move t (2 ∷ 0 ∷ []) $ fjoin t $ feq_i t (List Val) (ptr_val d.at ∷ []) (ptr_val d.at ∷ []) refl $ fjoin t $ feq_i t (List Val) (v ∷ []) (v ∷ []) refl $ fjoin t $
-      fpack t (Valss (RawPtr ∷ heap.the_row ∷ [])) (within (shape (loose.the_type seat.the_row heap.the_row ghosts)) (to (loose.the_type seat.the_row heap.the_row ghosts) d) (v ∷ [])) (ptr_val d.at ∷ [], (h ∷ [], tt)) $ fjoin t $ s)
+  -- the parts of a box
+  pub parts_in : K → (d : SeatParts.Denot) (h : Val)
+      → Step K 𝓛 (‵ (SeatParts.own_val d (pair (ptr_val d.address) h ∷ [])) ∷ Γ) G (‵ (box_owns (ghosts.dealloc_token d.allocator) seat.the_row d.address d.inside) ∷ ‵ (heap.the_row.own_val d.allocator (h ∷ [])) ∷ Γ) G
+  parts_in t d h = step (λ s. let v : Val = pair (ptr_val d.address) h in
+      nothing t $ move t (2 ∷ 0 ∷ []) $ fjoin t $ feq_i t (List Val) (ptr_val d.address ∷ []) (ptr_val d.address ∷ []) refl $ fjoin t $ feq_i t (List Val) (v ∷ []) (v ∷ []) refl $ fjoin t $
+      fpack t (Valss (RawPtr ∷ heap.the_row ∷ [])) (within (shape (parts.the_type seat.the_row heap.the_row ghosts)) (to (parts.the_type seat.the_row heap.the_row ghosts) d) (v ∷ [])) (ptr_val d.address ∷ [], (h ∷ [], tt)) $ fjoin t $ s)

@@ -3,7 +3,7 @@ ghost use Rattle.std.specs.Option.{is_some};
 ghost use Rattle.heap_seats.specs.declared.seat.Seat.{Seat as Seats};
 ghost use Rattle.covremuj.specs.HeldSeats.{held_owns};
 
-use crate::loose::Loose;
+use crate::parts::Parts;
 use heap_seats::Seat;
 use std::alloc::Global;
 use std::marker::Model;
@@ -37,26 +37,26 @@ impl Handle {
     }
 
     // An open one.
-    fn of_loose(seat: Loose<Seat, Global>) -> Handle
-        ensures { result.held ≡ Some seat.value }
+    fn of_parts(parts: Parts<Seat, Global>) -> Handle
+        ensures { result.held ≡ Some parts.inside }
     {
-        let Loose { at, alloc } = seat;
+        let Parts { address, allocator } = parts;
         Handle {
-            at: at as *mut u8,
+            at: address as *mut u8,
             is_open: true,
-            alloc,
+            alloc: allocator,
         }
     }
 
     // What it holds.
-    fn into_loose(self) -> Option<Loose<Seat, Global>>
-        ensures { MatchOption result (self.held ≡ None) (λ loose. self.held ≡ Some loose.value) }
+    fn into_parts(self) -> Option<Parts<Seat, Global>>
+        ensures { MatchOption result (self.held ≡ None) (λ parts. self.held ≡ Some parts.inside) }
     {
         let Handle { at, is_open, alloc } = self;
         if is_open {
-            Some(Loose {
-                at: at as *mut Seat,
-                alloc,
+            Some(Parts {
+                address: at as *mut Seat,
+                allocator: alloc,
             })
         } else {
             None
@@ -67,7 +67,7 @@ impl Handle {
     pub fn fill(&mut self, seat: Box<Seat>)
         ensures { self.new.held ≡ Some seat.value }
     {
-        *self = Handle::of_loose(Loose::of(seat));
+        *self = Handle::of_parts(Parts::of_box(seat));
     }
 
     /// Takes its seat out, if it holds one. It is empty then.
@@ -76,8 +76,8 @@ impl Handle {
         ensures empty { self.new.held ≡ None }
     {
         let handle = std::mem::replace(self, Handle::hollow(alloc));
-        match handle.into_loose() {
-            Some(loose) => Some(loose.into_box()),
+        match handle.into_parts() {
+            Some(parts) => Some(parts.together()),
             None => None,
         }
     }

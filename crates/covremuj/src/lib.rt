@@ -5,9 +5,9 @@
 mod border;
 mod closing;
 mod handle;
-mod loose;
 mod mutators;
 mod opening;
+mod parts;
 mod workers;
 
 pub use border::{Configuration, Told, Value};

@@ -1,4 +1,4 @@
--- `into_loose` moves two fields where the handle is open, with what they own, and keeps nothing where it is empty.
+-- `into_parts` moves two fields where the handle is open, with what they own, and keeps nothing where it is empty.
 use Rattle.std.proofs.Common.{List, [], ◌∷◌, ◌++◌, Option, None, Some, refl, sym, subst, lit<}
 use seplogic.Ra.Ura.{Ura}
 use mir.Val.{Val, vbool, vcons, vnil}
@@ -29,11 +29,11 @@ use Rattle.std.proofs.ResultValues.{and_tt}
 use Rattle.heap_seats.specs.contracts.seat.Seat as seat
 use Rattle.std.specs.contracts.alloc.Global as heap
 use Rattle.covremuj.specs.HeldSeats.{held_owns}
-use Rattle.covremuj.proofs.HandleWords.{Handled, Loose, triple, triple_typed, ptr_typed, pair, pair_typed, held_is, none_is, handle_out, loose_in}
-use Rattle.covremuj.specs.contracts.handle.Handle.into_loose as F
-use Rattle.covremuj.specs.contracts.handle.Handle.into_loose.Key.{name as #self}
-use Rattle.covremuj.proofs.handle.Handle.into_loose.Statement as stated
-use Rattle.covremuj.proofs.handle.Handle.into_loose.Code as code
+use Rattle.covremuj.proofs.HandleWords.{Handled, SeatParts, triple, triple_typed, ptr_typed, pair, pair_typed, held_is, none_is, handle_out, parts_in}
+use Rattle.covremuj.specs.contracts.handle.Handle.into_parts as F
+use Rattle.covremuj.specs.contracts.handle.Handle.into_parts.Key.{name as #self}
+use Rattle.covremuj.proofs.handle.Handle.into_parts.Statement as stated
+use Rattle.covremuj.proofs.handle.Handle.into_parts.Code as code
 
 abbrev stayed : Stays (F.ended).signature.params (F.ended).kept
 stayed = (stay_dropped Handled yes, tt)
@@ -58,27 +58,27 @@ module _ {M : Type 1} {𝓤 : Ura M} (𝓛 : Logic 𝓤) (at_mem : Memory → SP
       first ! $ branches ! (get ! refl)
       (λ open_.
       let held = held_is d.held d.is_open d.told open_ in
-      let made : Loose.Denot = record { at = d.at; alloc = d.alloc; value = held.0 } in
+      let made : SeatParts.Denot = record { address = d.at; allocator = d.alloc; inside = held.0 } in
       let v : Val = pair (ptr_val d.at) h in
       let typed = pair_typed d.at h fits in
       sets ! (of_opd ! (get ! refl)) refl (ptr_typed d.at) $ sets ! (agg ! (and_then ! (get ! refl) (and_then ! (get ! refl) (no_more !)))) refl typed $
       sets_last ! (agg ! (and_then ! (lit ! tt) (and_then ! (get ! refl) (no_more !)))) refl (and_tt _ typed.0, (record { fits = lit< tt }, (typed.1, tt))) $
       exec ! 𝓣.C 𝓣.Λ Ev (after 5 code.function.body) (at_ret Ev Post) $ sets ! (of_opd ! (get ! refl)) refl (and_tt _ typed.0, (record { fits = lit< tt }, (typed.1, tt))) $
-      rewrite ! 0 (λ (o : Option seat.the_row.Denot). ‵ (held_owns d.at d.alloc o)) held.1 refl $ loose_in ! made h $ use1 𝓛 (‵ (Out.own_val (Some made) (live 1 (vcons v vnil) ∷ []))) (Some-of 𝓛 Loose made v) $
+      rewrite ! 0 (λ (o : Option seat.the_row.Denot). ‵ (held_owns d.at d.alloc o)) held.1 refl $ parts_in ! made h $ use1 𝓛 (‵ (Out.own_val (Some made) (live 1 (vcons v vnil) ∷ []))) (Some-of 𝓛 SeatParts made v) $
       returns ! (look_at ! 0 refl) $ free_all ! refl $
       suffices ! _ (ends_at 𝓛 F.ended stayed (F.clauses 𝓛 at_mem run) z (live 1 (vcons v vnil)) (Some made) (tt, tt) (tt, tt)) $ says ! held.1 $
       nothing ! $ nothing ! $ fjoin ! $ join ! $ nothing ! $ join ! $ done !)
       (λ empty_.
       sets_last ! (agg ! (and_then ! (lit ! tt) (no_more !))) refl (tt, (record { fits = lit< tt }, tt)) $
       exec ! 𝓣.C 𝓣.Λ Ev (after 5 code.function.body) (at_ret Ev Post) $ sets ! (of_opd ! (get ! refl)) refl (tt, (record { fits = lit< tt }, tt)) $
-      drop ! $ drop ! $ use0 𝓛 (‵ (Out.own_val None (live 0 vnil ∷ []))) (none_of 𝓛 Loose) $
+      drop ! $ drop ! $ use0 𝓛 (‵ (Out.own_val None (live 0 vnil ∷ []))) (none_of 𝓛 SeatParts) $
       returns ! (look_at ! 0 refl) $ free_all ! refl $
       suffices ! _ (ends_at 𝓛 F.ended stayed (F.clauses 𝓛 at_mem run) z (live 0 vnil) None (tt, tt) (tt, tt)) $ says ! (none_is d.held d.is_open d.told empty_) $
       nothing ! $ nothing ! $ fjoin ! $ join ! $ nothing ! $ join ! $ done !)))))
 
-pub into_loose_spec : {M : Type 1} → stated.statement M
+pub into_parts_spec : {M : Type 1} → stated.statement M
 unfolding tables_of
-into_loose_spec 𝓤 𝓛 𝓜 𝓡 wired =
+into_parts_spec 𝓤 𝓛 𝓜 𝓡 wired =
     let 𝓣 : Tables 𝓤 𝓛.H = tables_of 𝓤 𝓛.H 𝓜 (tables 𝓤 𝓛.H 𝓜 𝓡 𝓡.env) in
     entered 𝓤 𝓛.H (triple_of 𝓛 F.signature (F.spec 𝓛 𝓜.mem 𝓡.returns)) 𝓣.C 𝓣.Λ #self code.function (code.unfolded 𝓤 𝓛.H 𝓜 𝓡 wired)
     (walk_Meets 𝓛 F.ended stayed (Goes-dropped 𝓛 0 Handled yes (λ κs x f. refl), tt) (F.clauses 𝓛 𝓜.mem 𝓡.returns) (WpFn 𝓤 𝓛.H 𝓣.C 𝓣.Λ code.function) (WpFn-mono 𝓤 𝓛.H 𝓛.laws 𝓣 code.function)

@@ -1,4 +1,4 @@
--- `of_loose` moves two fields, and what they own goes with them.
+-- `of_parts` moves two fields, and what they own goes with them.
 use Rattle.std.proofs.Common.{List, [], ◌∷◌, ◌++◌, Some, refl, sym, subst}
 use mathlib.Core.Bool.{true}
 use seplogic.Ra.Ura.{Ura}
@@ -25,14 +25,14 @@ use denote.Triple.Table.{entered}
 use denote.Triple.Walked.{says, Stays, stay_dropped, walk_of, ends_at, Goes-dropped, walk_Meets}
 use Rattle.std.proofs.BoxSteps.Form.{D, B, word, box_typed}
 use Rattle.std.proofs.BoxSteps.Steps.{box_out}
-use Rattle.covremuj.proofs.HandleWords.{seat_box, Loosed, triple, triple_typed, handle_in}
-use Rattle.covremuj.specs.contracts.handle.Handle.of_loose as F
-use Rattle.covremuj.specs.contracts.handle.Handle.of_loose.Key.{name as #self}
-use Rattle.covremuj.proofs.handle.Handle.of_loose.Statement as stated
-use Rattle.covremuj.proofs.handle.Handle.of_loose.Code as code
+use Rattle.covremuj.proofs.HandleWords.{seat_box, Parted, triple, triple_typed, handle_in}
+use Rattle.covremuj.specs.contracts.handle.Handle.of_parts as F
+use Rattle.covremuj.specs.contracts.handle.Handle.of_parts.Key.{name as #self}
+use Rattle.covremuj.proofs.handle.Handle.of_parts.Statement as stated
+use Rattle.covremuj.proofs.handle.Handle.of_parts.Code as code
 
 abbrev stayed : Stays (F.ended).signature.params (F.ended).kept
-stayed = (stay_dropped Loosed yes, tt)
+stayed = (stay_dropped Parted yes, tt)
 
 module _ {M : Type 1} {𝓤 : Ura M} (𝓛 : Logic 𝓤) (at_mem : Memory → SProp 𝓤) (run : Routine → Fun 𝓤) (𝓣 : Tables 𝓤 𝓛.H) where
   open 𝓛 use {H}
@@ -41,7 +41,7 @@ module _ {M : Type 1} {𝓤 : Ura M} (𝓛 : Logic 𝓤) (at_mem : Memory → SP
       → ent 𝓤 ((walk_of 𝓛 F.ended stayed (F.clauses 𝓛 at_mem run)).pre z) (WpFn 𝓤 H 𝓣.C 𝓣.Λ code.function (z.0.4.0 ++ []) ((walk_of 𝓛 F.ended stayed (F.clauses 𝓛 at_mem run)).post z))
   walk z =
       let Post = (walk_of 𝓛 F.ended stayed (F.clauses 𝓛 at_mem run)).post z in
-      let v : D seat_box = record { ptr = z.0.3.0.at; alloc = z.0.3.0.alloc; value = z.0.3.0.value } in
+      let v : D seat_box = record { ptr = z.0.3.0.address; alloc = z.0.3.0.allocator; value = z.0.3.0.inside } in
       let To = type_at (F.signature).result tt in
       qed 𝓛 ((‵ ftrue ⊛ ‵ (fsep ((B seat_box).own_val v z.0.4.0) ftrue)) ∷ raw (emp 𝓤) ∷ []) ∵ split ! $ drop ! $ fsplit ! $
       box_out seat_box ! v z.0.4.0 (λ b o h e ws fits. fjoin ! $
@@ -56,10 +56,10 @@ module _ {M : Type 1} {𝓤 : Ura M} (𝓛 : Logic 𝓤) (at_mem : Memory → SP
       suffices ! _ (ends_at 𝓛 F.ended stayed (F.clauses 𝓛 at_mem run) z (triple (vptr b o) (vbool true) h) made (tt, tt) (tt, tt)) $ says ! refl $
       nothing ! $ nothing ! $ fjoin ! $ join ! $ nothing ! $ join ! $ done !))))
 
-pub of_loose_spec : {M : Type 1} → stated.statement M
+pub of_parts_spec : {M : Type 1} → stated.statement M
 unfolding tables_of
-of_loose_spec 𝓤 𝓛 𝓜 𝓡 wired =
+of_parts_spec 𝓤 𝓛 𝓜 𝓡 wired =
     let 𝓣 : Tables 𝓤 𝓛.H = tables_of 𝓤 𝓛.H 𝓜 (tables 𝓤 𝓛.H 𝓜 𝓡 𝓡.env) in
     entered 𝓤 𝓛.H (triple_of 𝓛 F.signature (F.spec 𝓛 𝓜.mem 𝓡.returns)) 𝓣.C 𝓣.Λ #self code.function (code.unfolded 𝓤 𝓛.H 𝓜 𝓡 wired)
-    (walk_Meets 𝓛 F.ended stayed (Goes-dropped 𝓛 0 Loosed yes (λ κs x f. refl), tt) (F.clauses 𝓛 𝓜.mem 𝓡.returns) (WpFn 𝓤 𝓛.H 𝓣.C 𝓣.Λ code.function) (WpFn-mono 𝓤 𝓛.H 𝓛.laws 𝓣 code.function)
+    (walk_Meets 𝓛 F.ended stayed (Goes-dropped 𝓛 0 Parted yes (λ κs x f. refl), tt) (F.clauses 𝓛 𝓜.mem 𝓡.returns) (WpFn 𝓤 𝓛.H 𝓣.C 𝓣.Λ code.function) (WpFn-mono 𝓤 𝓛.H 𝓛.laws 𝓣 code.function)
     (walk 𝓛 𝓜.mem 𝓡.returns 𝓣))
