@@ -32,7 +32,7 @@ import page  # pylint: disable=wrong-import-position
 import run  # pylint: disable=wrong-import-position
 
 # (what has a line `answer` is no trace alone: it is for the word check)
-EXAMPLES = {path.stem: path.read_text() for path in sorted((TOP / "examples").glob("*.trace")) if "answer" not in path.read_text().splitlines()}
+EXAMPLES = {path.stem: path.read_text() for path in sorted((TOP / "examples").glob("*.trace")) if path.read_text().startswith("shen ") and "answer" not in path.read_text().splitlines()}
 OPENED = ["copy_race", "eight", "finished", "let_go", "wait"]
 SIZES = [(1600, False), (360, True)]
 TRACES = 6

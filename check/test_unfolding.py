@@ -162,7 +162,7 @@ def main():
     count, seed = map(int, [*sys.argv[1:], TRACES, 0][:2] if len(sys.argv) < 2 else [*sys.argv[1:], 0][:2])
     traces = [(f"trace({it}) of settling.py", trace(it)) for it in range(seed, seed + count)]
     # (what has a line `answer` is no trace alone: it is for the word check)
-    examples = [(it.name, it.read_text()) for it in sorted((TOP / "examples").glob("*.trace"))]
+    examples = [(it.name, it.read_text()) for it in sorted((TOP / "examples").glob("*.trace")) if it.read_text().startswith("shen ")]
     traces += [(name, of) for name, of in examples if "answer" not in of.splitlines()]
     failed, lines, folded = False, 0, 0
     for name, of in traces:
