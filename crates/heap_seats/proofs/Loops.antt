@@ -48,15 +48,6 @@ calls_after first now new made said told on step given =
     ∙ ap (λ (k : Command). calls_of first ++ entries_of (number_of first) k (given_by said (machine_of_seat new))) on.doing
     ∙ ap (λ (o : Option Reply). calls_of first ++ entries_of (number_of first) (doing_in first) o) given
 
--- one step more, which gave no reply
-pub goes_more : (first now new : Seat) (made : ℕ) (said : Stepped) → GoesOn first now made → IsSameSeat now new → HasStepped now new said → said ≡ stepped.More → GoesOn first new (made + 1)
-goes_more first now new made said on same step is = record {
-  same = same_on first now new on.same same;
-  calls = calls_after first now new made said None on step (ap (λ (x : Stepped). given_by x (machine_of_seat new)) is) ∙ append-nil (calls_of first);
-  doing = step.doing ∙ on.doing;
-  steps = omega (arith, step.steps, on.steps);
-}
-
 -- a reply ends it
 pub gone_replied : (first now new : Seat) (made steps : ℕ) (said : Stepped) (reply : Reply) → GoesOn first now made → IsSameSeat now new → HasStepped now new said → said ≡ stepped.Done → reply_in (machine_of_seat new) ≡ Some reply → made < steps
     → HasGoneOn first new steps (progress.Replied reply)

@@ -21,11 +21,6 @@ free_is Ended is = absurd cc
 pub refused_range : (valid : Bool) (made : ℕ) (state : State) → state ≡ Free → valid ≡ false → Some refused.OutOfRange ≡ refused_command valid made state
 refused_range valid made state free is = sym (ap (refused_command valid made) free ∙ ap (λ (v : Bool). refused_command v made Free) is)
 
-pub refused_spent : (valid : Bool) (made : ℕ) (state : State) → state ≡ Free → valid ≡ true → made ≡ 4294967295 → Some refused.Spent ≡ refused_command valid made state
-refused_spent valid made state free is spent =
-    let test : (made == 4294967295) ≡ true = grind (arith, nat_tests, spent) in
-    sym (ap (refused_command valid made) free ∙ ap (λ (v : Bool). refused_command v made Free) is ∙ ap (λ (t : Bool). if t then Some refused.Spent else None) test)
-
 pub refused_none : (valid : Bool) (made : ℕ) (state : State) → state ≡ Free → valid ≡ true → made ≢ 4294967295 → None ≡ refused_command valid made state
 refused_none valid made state free is few =
     let test : (made == 4294967295) ≡ false = grind (arith, nat_tests, few) in

@@ -455,9 +455,3 @@ module _ (c : Config) (words : List ℕ) (machines : List Machine) (number : ℕ
     where
       waiting_prop : (t : ℕ) → IsProp (IsWaiting t)
       waiting_prop t = hlevel Bool-set
-
--- a machine that settles a reply is a mutator in a call
-pub settling_role : (memory : Word → ℕ) (machine : Machine) (r : Reply) → reply_settled memory machine ≡ Some r → (is_mutating machine ≡ true) × (is_resting machine ≡ false)
-settling_role memory (mutating m) r is = (refl, told_busy memory m r is)
-settling_role memory (helping h) r is = absurd cc
-settling_role memory (controlling k) r is = absurd cc
