@@ -1,14 +1,14 @@
 -- Words that hold a graph hold it where objects were copied, or references renamed: each object that is led to comes from one that was.
-use Rattle.std.proofs.Common.{◌≡◌, ◌≢◌, ℕ, ◌+◌, ◌<◌, ◌≤◌, ◌⊎◌, true, false, length, inl, inr, slice_get, get_or, Option, Some, None, ⊎_elim, sym, ap, ◌∙◌, subst, arith}
+use Rattle.std.proofs.Common.{◌≡◌, ◌≢◌, ℕ, ◌+◌, ◌<◌, ◌≤◌, ◌⊎◌, if◌then◌else◌, true, false, length, inl, inr, slice_get, get_or, Option, Some, None, ⊎_elim, sym, ap, ◌∙◌, subst, arith}
 use Rattle.std.proofs.lemmas.Bool.{cond-false, cases_Bool, cases_lt}
 use Rattle.std.proofs.lemmas.Option.{slice_get_within, slice_get-get_or}
 use Rattle.heap_words.specs.declared.config.Config.{Config}
-use Rattle.heap_words.specs.Words.{Word, Free, Top, Current, Root, Wait, Answer, Heap}
+use Rattle.heap_words.specs.Words.{Word, Cset, Free, Top, Current, Root, Wait, Answer, Heap, Share}
 use Rattle.heap_words.specs.Encoding.{plain_header, is_forwarded, forwardee_in, refs_in, nums_in, shape_word, request_count_in, request_shape_in}
 use Rattle.shen_graph.specs.declared.name.Name.{Name}
 use Rattle.shen_graph.specs.Graph.{Graph, Object, Reference}
 use Rattle.heap_graph.specs.Walk.{has}
-use Rattle.heap_world.specs.World.{thing, Plot, name_at, Points, IsPlotted, IsFilled, IsThing, IsFreeWord, AreCurrent}
+use Rattle.heap_world.specs.World.{thing, Plot, name_at, Points, IsPlotted, IsFilled, IsThing, IsFreeWord, ShareIsOpen, AreBuffers}
 use Rattle.heap_world.proofs.Pointing.{named_piece, named_if_not_0, piece_inside}
 use Rattle.full_words.specs.Held.{IsLedTo, from_root, from_field, IsAmong, IsCopy, HoldsGraph}
 use Rattle.full_words.specs.Plot.{NamedAreThings}
@@ -20,6 +20,10 @@ use Rattle.full_words.proofs.Reached.{refs_read}
 use Rattle.full_words.proofs.Roots as roots
 use Rattle.full_words.proofs.Roots.{has_either, root_in, answer_in, root_among, answer_among, answer_names}
 use Rattle.image_graph.specs.Holds.{HasMoved, HoldsBy}
+
+-- the current copy goes by the header
+pub now_same : (m n : Word → ℕ) (a : ℕ) → m (Heap a) ≡ n (Heap a) → now_in m a ≡ now_in n a
+now_same m n a same = ap (λ header. if is_forwarded header then forwardee_in header else a) same
 
 -- A word is as it was, or names the current copy of what it named; null, and an answer that is no address, stay.
 pub record IsRenamed (m : Word → ℕ) (v w : ℕ) : Type 0 where
@@ -245,16 +249,18 @@ module _ (c : Config) (m n : Word → ℕ) (block plot : Plot) (owner : ℕ → 
 
   -- so the words hold the graph, where the regions are as they should be
   pub carried_holds : ((a refs nums : ℕ) (name : Name) → plot a ≡ Some (thing name refs nums) → is_forwarded (after a) ≡ true → HasMoved c n plot a refs nums name)
-      → IsFilled c (λ r. n (Top r)) plot → NamedAreThings plot → IsFreeWord c (n Free) (λ r. n (Top r)) owner → AreCurrent c (λ s. n (Current s)) owner
+      → IsFilled c (λ r. n (Top r)) plot → NamedAreThings plot → IsFreeWord c (n Free) (λ r. n (Top r)) owner → ShareIsOpen c (n Share) (n Free) (n Cset) owner
+      → AreBuffers c (λ r. n (Top r)) (λ s. n (Current s)) plot
       → HoldsBy c n plot owner p g
-  carried_holds moved filled pieces free_word currents = record {
+  carried_holds moved filled pieces free_word shared_one buffers = record {
     objects = objects_again;
     rooted = rooted_again;
     moved = moved;
     filled = filled;
     pieces = pieces;
     free_word = free_word;
-    currents = currents;
+    shared_one = shared_one;
+    buffers = buffers;
     asking = asking_again;
     next = record {
       asked = λ t below some. ap request_count_in (is.waits t) ∙ holds.next.asked t below (λ none. some (is.waits t ∙ none));
