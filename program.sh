@@ -4,6 +4,7 @@
 #   unasked      what the program writes without words and without input, by which a whole one is known
 #   refusal      the line by which the program refuses words
 #   refusals     2 if it writes such lines to the standard error
+#   told         the first words of other lines that it writes there, with | between
 #   page         the page that has the words
 #   reads_input  a function: whether these words make the program read its input
 #   may_be_words a function: whether the program may take these words, by which others are refused before anything is built
@@ -171,7 +172,7 @@ unproved() {
         run=ended*)
             cat "$room/answer" 2>/dev/null || status=6
             # What the program has written to the standard error stands among the lines of rt.
-            [ "${refusals:-1}" = 1 ] || grep -E '^(bad (words|line)|too long|read fault|out of memory)' "$room/said" >&2
+            [ "${refusals:-1}" = 1 ] || grep -E "^(bad (words|line)|too long|read fault|out of memory${told:+|$told})" "$room/said" >&2
             end_with "$status"
             ;;
         run=no-answer*)

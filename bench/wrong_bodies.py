@@ -341,7 +341,7 @@ def say_stale(stands_on, sums):
     behind = owed()
     if stale:
         print(f"these have to be tried again: bench/wrong_bodies.py {' '.join(stale)}")
-        print(f"{len([it for it in stale if it in behind])} of these {len(stale)} are named in bench/behind.txt, as tried on an older text alone")
+        print(f"{len([it for it in stale if it in behind])} of these {len(stale)} are named in bench/behind.txt, as tried on an older text alone or not yet")
     else:
         print(f"the edits of bench/edits, of {len(sums)} crates, and {len(protocol_names())} wrong protocols were tried on the contracts as they stand")
     settled = [it for it in behind if it not in stale]
@@ -351,7 +351,7 @@ def say_stale(stands_on, sums):
 
 
 def owed():
-    """What bench/behind.txt says was tried on an older text alone. Nothing else may be stale, and nothing that is not."""
+    """What bench/behind.txt says was tried on an older text alone, or not yet. Nothing else may be stale, and nothing that is not."""
     path = os.path.join(TOP, "bench", "behind.txt")
     if not os.path.exists(path):
         return []

@@ -29,7 +29,7 @@ STEPS = 40000
 LOSES = ["HX", "CX", "XC", "OX", "TG"]
 COUNTER = ["XL", "XC", "SL", "XS", "OL", "OX", "XW", "HR"]
 WAITS = ["WS", "WK", "WO", "WP", "WL", "WC"]
-OTHERS = ["E1", "E2", "E3", "PH", "CS", "RL", "SH", "FL", "FS", "FX", "HL", "CL", "CP", "HI", "GB", "NM", "RS", "LV", "NL", "NS", "BC", "BE", "BN", "TC", "TT", "TF", "TU", "TS", "IW", "AK", "ML"]
+OTHERS = ["E1", "E2", "E3", "PH", "CS", "RL", "SH", "FL", "FS", "FX", "HL", "CL", "CP", "HI", "GB", "NM", "RS", "LV", "NL", "NS", "BC", "BE", "BN", "TC", "TR", "TT", "TX", "TF", "TV", "TQ", "TZ", "TS", "IW", "AK", "ML"]
 # What the control and helpers do in each phase, and the code by which the control gets there.
 UNITS = {"MC": ["KX", "MG", "MB", "MO"], "EC": ["KX", "ES", "HX", "XC", "XS", "CP"], "UC": ["KX", "UL", "UB", "UX"]}
 

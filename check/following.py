@@ -8,7 +8,8 @@ ASKED = ["nothing", "a cycle", "room", "a cycle, room"]
 # The bit of the word of the copiers that says that a copier found no room.
 OUT_OF_ROOM = 1 << 63
 OF_REGIONS = ("top", "mark start", "limit")
-KINDS = ("phase", "collection set", "copiers", "claimed work", ASK, "free regions", "grey", "black", "buffer count", "buffer entry", "header", *OF_REGIONS)
+KINDS = ("phase", "collection set", "copiers", "claimed work", ASK, "free regions", "grey", "black", "buffer count", "buffer entry", "buffer",
+         "shared region", "header", *OF_REGIONS)
 
 
 def value(told):
@@ -29,6 +30,8 @@ def name_of(of):
         return f"{kind} of region {of['region']}"
     if kind == "header":
         return f"header of {of['object']}"
+    if kind == "buffer":
+        return f"buffer of {of['machine']}"
     return " ".join([kind, *(str(of[it]) for it in ("thread", "index") if it in of)])
 
 
@@ -41,8 +44,8 @@ class Heap:
     """What the listed events have made of the words."""
 
     def __init__(self, case):
-        self.regions, words = map(int, case.heap.split()[1:3])
-        self.mark_words = (self.regions * words + 63) // 64
+        self.regions, self.region_words = map(int, case.heap.split()[1:3])
+        self.mark_words = (self.regions * self.region_words + 63) // 64
         self.words = {"free regions": {str(it) for it in range(1, self.regions)}, "top of region 0": 19}
 
     def word(self, name):
@@ -55,8 +58,9 @@ class Heap:
         place, verb, name = event["at"], event["operation"], name_of(event["of"])
         if place == "P3":
             self.words = {name: word for name, word in self.words.items() if not name.startswith("header")}
-        # A header that is stored is that of a new object, or of a copy that nobody has seen yet; a pause loads those of all copies.
-        if not name or (name.startswith("header") and (verb == "store" or place == "PL")):
+        # A header that is stored is that of a new object, or of a copy that nobody has seen yet; a pause, and who updates, loads those of
+        # current copies.
+        if not name or (name.startswith("header") and (verb == "store" or place in ("PL", "UG"))):
             return True
         found = value(event["found"])
         # A pause stores headers by their addresses, so they are not known behind it.
@@ -81,6 +85,16 @@ class Heap:
         count = self.word(f"buffer count {thread}")
         return " ".join(self.word(f"buffer entry {thread} {it}") for it in range(count)) or "none"
 
+    def room(self, machine):
+        """The free words of a machine's buffer: region, the words before them, and the words before their end."""
+        word = self.word(f"buffer of {machine}")
+        if not word:
+            return "none"
+        next_, end = word % 2**32, word >> 32
+        region = (end - 1) // self.region_words - 1
+        base = self.region_words * (region + 1)
+        return f"{region}+{next_ - base} to {end - base}"
+
     def copiers(self):
         """How many copiers are counted, and whether one has found no room."""
         word = self.word("copiers")
@@ -99,6 +113,10 @@ class Heap:
             return f"header {number}: {self.word(f'header of {number}')}"
         if kind == "asked":
             return f"asked {ASKED[self.word(ASK)]}"
+        if kind == "room":
+            return f"room {number}: {self.room(number)}"
+        if kind == "shared":
+            return f"shared {self.word('shared region') - 1 if self.word('shared region') else 'none'}"
         if kind == "free":
             return f"free {regions(self.word('free regions'))}"
         if kind == "set":

@@ -37,7 +37,7 @@ OPENED = ["copy_race", "eight", "finished", "let_go", "wait"]
 SIZES = [(1600, False), (360, True)]
 TRACES = 6
 OPERATIONS = ["load", "store", "swap", "add to", "subtract from", "clear in", "set in", "exchange"]
-HEAD = '{"kind":"head","version":1,"regions":4,"region_words":64,"reserve":0,"threads":1,"helpers":0,"scripts":[],"schedule":[]}\n'
+HEAD = '{"kind":"head","version":2,"regions":4,"region_words":64,"reserve":0,"threads":1,"helpers":0,"scripts":[],"schedule":[]}\n'
 EVENT = (
     '{"kind":"event","event":%s,"machine":%s,"role":"thread","index":1,"at":"E1","operation":"store",'
     '"of":{"kind":"state","machine":1},"value":{"word":1,"in":true},"found":{"word":0,"in":false},"begins":"gc"}\n'
@@ -60,7 +60,7 @@ REFUSED = [
     ([], "heap 1\n", 3, "bad line 1: header wanted"),
     ([], "shen 1\nheap 4 64 0\nthreads 1 0\n1 <script>alert(1)</script>\n", 3, "bad line 4: command wanted"),
     ([], "{}\n", 3, "shenpicture: line 1: no object of a listing"),
-    ([], HEAD.replace('"version":1', '"version":2'), 3, "shenpicture: line 1: the first line of a listing has the kind head and version 1"),
+    ([], HEAD.replace('"version":2', '"version":1'), 3, "shenpicture: line 1: the first line of a listing has the kind head and version 2"),
     ([], HEAD + "{", 3, "shenpicture: line 2: no object of a listing"),
     ([], HEAD + "[" * 100000, 3, "shenpicture: line 2: no object of a listing"),
     ([], HEAD + EVENT % (2, 1), 3, "shenpicture: line 2: event 2 comes behind event 0: the listing has to have all events"),
@@ -117,7 +117,7 @@ def wrong_heap(name, text, lines, number):
         return
     told = next(json.loads(each) for each in objects(text, "--heap-at", str(number), "--from", str(number), "--to", str(number)) if '"kind":"heap"' in each)
     # What a picture draws of a region from other words.
-    told["regions"] = [{key: each[key] for key in each if key not in ("live", "garbage", "machine", "room")} for each in told["regions"]]
+    told["regions"] = [{key: each[key] for key in each if key not in ("live", "garbage", "shared", "machines", "others")} for each in told["regions"]]
     told["copiers"], told["asked"] = told["copiers"]["word"], told["asked"]["word"]
     for key, value in heap.Heap(it.layout, it.table).state().items():
         if value != told[key]:

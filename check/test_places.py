@@ -25,17 +25,27 @@ COPIED = [*EVACUATING, "get 1 0 0"]
 NO_ROOM = [*EVACUATING, "new 2 16 16", "new 2 16 7"]
 WORDS = 4
 RUNS = {
-    ("`new`", "the thread has no current region yet"): ([], "new 1 1 2"),
-    ("`new`", "its current region has room"): (["new 1 0 0"], "new 2 2 1"),
-    ("`new`", "its current region has too little room"): (["new 1 16 16"], "new 2 16 16"),
-    ("`new`", "a pause makes the object; the thread has no current region"): ([], "new 1 16 16", "8 64 7"),
-    ("`new`", "a pause makes the object; its current region has too little room"): (["new 1 16 16"] * 3, "new 1 16 16", "4 64 0"),
-    ("`new`", "the answer is `full`; the thread has no current region"): (
+    ("`new`", "no region is shared yet"): ([], "new 1 1 2"),
+    ("`new`", "the thread's buffer has room"): (["new 1 0 0"], "new 2 2 1"),
+    ("`new`", "the thread has no buffer, or one without free words; the shared region has room"): (
+        ["new 1 16 16", "new 1 16 10"],
+        "new 2 2 1",
+        "8 128 0",
+    ),
+    ("`new`", "its buffer has some free words, but too few; the shared region has room"): (["new 1 16 16"], "new 2 16 16", "8 128 0"),
+    ("`new`", "its buffer has some free words, but too few, and the shared region has too little room"): (["new 1 16 16"], "new 2 16 16"),
+    ("`new`", "a pause makes the object; no region is shared"): ([], "new 1 16 16", "8 64 7"),
+    ("`new`", "a pause makes the object; its buffer and the shared region have too little room"): (
+        ["new 1 16 16"] * 3,
+        "new 1 16 16",
+        "4 64 0",
+    ),
+    ("`new`", "the answer is `full`; no region is shared"): (
         [f"new {root} 16 16" for root in (1, 2, 3, 4)],
         "new 5 16 16",
         "4 64 0",
     ),
-    ("`new`", "the answer is `full`; its current region has too little room"): (
+    ("`new`", "the answer is `full`; its buffer and the shared region have too little room"): (
         [f"new {root} 16 16" for root in (1, 1, 1, 2, 3, 4)],
         "new 5 16 16",
         "4 64 0",
@@ -43,7 +53,7 @@ RUNS = {
     ("`get`", "the field has an object"): (["set 0 0 0"], "get 1 0 0"),
     ("`get`", "the field is null"): ([], "get 1 0 0"),
     ("`get`", "the field has an object of the collection set, which was copied before"): (COPIED, "get 1 0 0"),
-    ("`get`", "the same, and the thread copies it into its current region"): (EVACUATING, "get 1 0 0"),
+    ("`get`", "the same, and the thread copies it into its buffer"): (EVACUATING, "get 1 0 0"),
     ("`get`", "the same, and there is no room for it"): (NO_ROOM, "get 1 0 0", "4 64 0"),
     ("`get`", "the same, and there was no room for another one"): ([*NO_ROOM, "get 1 0 0"], "get 1 0 0", "4 64 0"),
     ("`set`", ""): ([], "set 0 0 1"),

@@ -6,8 +6,9 @@ usage: believed.py            writes the counts into docs/DEFINITIONS.md, betwee
        believed.py --list     prints the definitions, crate by crate
 
 The first count is of what is behind the names of GRAPH: that some legal history has these scripts and this text. The second is of what
-comes besides, where the history is that of the events of a schedule, or of some events. A definition cites another where its text has
-the name of one of its own file, or of one that the file imports. Types that code declares are counted apart.
+comes besides, where the history is that of the events of a schedule, or of some events: so much is behind the answers of `replay`, `run`
+and `churn`. The third is of what the clause says besides, of the other modes. A definition cites another where its text has the name of
+one of its own file, or of one that the file imports. Types that code declares are counted apart.
 """
 import os
 import re
@@ -27,6 +28,8 @@ GRAPH = [
     ("trace_runs", "Churned", "IsChurned"),
 ]
 EVENTS = [("trace_runs", "Replayed", "IsReplayed"), ("trace_runs", "Replayed", "IsRun")]
+# The whole clause.
+HEADLINE = [("trace_runs", "Answered", "HasAnswered")]
 HEAD = re.compile(r"^ *(?:(?:abbrev|unfoldable|opaque|pub|data|record) )+([^\s:(){}]+)")
 IMPORT = re.compile(r"^(?:pub )?use Rattle\.(\w+)\.specs\.([\w.]+?)(?:\.\{([^}]*)\}| as (\w+))?$", re.M)
 MODULES = {}
@@ -92,16 +95,19 @@ def main():
         print("usage: believed.py [--check | --list]", file=sys.stderr)
         return 2
     graph, graph_types = reached(GRAPH)
-    whole, whole_types = reached(GRAPH + EVENTS)
+    runs, run_types = reached(GRAPH + EVENTS)
+    whole, whole_types = reached(GRAPH + EVENTS + HEADLINE)
     if "--list" in sys.argv:
         for key in sorted(whole):
-            print("graph " if key in graph else "events", *key, whole[key])
+            print("graph " if key in graph else "events" if key in runs else "modes ", *key, whole[key])
         return 0
-    rest = {key: lines for key, lines in whole.items() if key not in graph}
+    rest = {key: lines for key, lines in runs.items() if key not in graph}
+    modes = {key: lines for key, lines in whole.items() if key not in runs}
     counts = (
         f"That some legal history has these scripts and this text: {len(graph)} definitions in {sum(graph.values())} lines, over {len(graph_types)} types and\n"
         f"variants that code declares. That it is the history of the events of a schedule, or of some events: {len(rest)} more in {sum(rest.values())} lines, and\n"
-        f"{len(whole_types - graph_types)} more of code. Counted by `docs/believed.py`, without std's.\n"
+        f"{len(run_types - graph_types)} more of code. What the clause `headline` says besides, of a history behind the answer, of dumps, of a queue and of\n"
+        f"a check: {len(modes)} more in {sum(modes.values())} lines, and {len(whole_types - run_types)} of code. Counted by `docs/believed.py`, without std's.\n"
     )
     with open(PAGE, encoding="utf-8") as file:
         page = file.read()

@@ -25,9 +25,10 @@
  *
  * WHAT IS PROVED. The functions of the part "The proved functions" below are compiled from proved text. What a seat
  * was answered is its thread's part of a legal history: one order of the calls of all threads, in which each is
- * answered as by a graph of objects that are never moved and never freed (docs/LIBRARY.md says by which contracts).
- * The inline functions, the file library/workers.c, and the wrappers for other languages are not proved. Nothing is
- * claimed about time, progress or fairness.
+ * answered as by a graph of objects that are never moved and never freed (docs/LIBRARY.md says by which contracts, and
+ * what none of them says: that it is the same history for all seats). The inline functions, the file
+ * library/workers.c, and the wrappers for other languages are not proved. Nothing is claimed about time, progress or
+ * fairness.
  *
  * WHAT IS BELIEVED AT THE BORDER. The proved functions check all that they can see: an empty seat, a seat of the
  * wrong kind, a call in progress, numbers out of range. They cannot check this:
@@ -135,7 +136,10 @@ typedef enum cvm_activity {
     CVM_IS_OVER = 2 /* ended: it makes no step any more */
 } cvm_activity;
 
-/* What all functions answer. After a status of 32 or more, and after CVM_IDLE and CVM_ENDED, nothing has changed. */
+/*
+ * What all functions answer. After a status of 32 or more, and after CVM_IDLE, nothing has changed, nor where an order
+ * is answered CVM_ENDED. Where steps are asked for, CVM_ENDED may also come behind the machine's last ones.
+ */
 typedef enum cvm_status {
     CVM_DONE = 0,  /* done: opened, ordered, closed, told */
     CVM_MORE = 1,  /* the steps asked for are made, and there are more to make */
@@ -219,8 +223,8 @@ cvm_status cvm_begin(cvm_seat *seat, uint32_t op, uint32_t a, uint32_t b, uint32
 /*
  * Makes at most `steps` steps of a mutator's call, each one access of one word. It stops at the step that ends the
  * call, and answers the reply, CVM_REF to CVM_FULL, with what belongs to it in *value; at the first that waits, with
- * CVM_AGAIN; or after all, with CVM_MORE. Or it makes none: CVM_NOT_OPEN, CVM_WRONG_SEAT, CVM_IDLE, CVM_ENDED. *value
- * is written with a reply only.
+ * CVM_AGAIN; or after all, with CVM_MORE. Where the mutator has ended, by one of these steps or before, it answers
+ * CVM_ENDED. Or it makes none: CVM_NOT_OPEN, CVM_WRONG_SEAT, CVM_IDLE. *value is written with a reply only.
  */
 cvm_status cvm_go(cvm_seat *seat, uint32_t steps, cvm_value *value);
 

@@ -3,7 +3,7 @@
 // check/test_pictures.py compares the two, text by text.
 
 const ROOTS = 16, ENTRIES = 8;
-const GUTTER = 70, RIGHT = 12, CHIP = 18, CHIP_ROW = 24, BAR = 32, ROW = 60, LOW_BAR = 12, LOW_ROW = 22;
+const GUTTER = 70, RIGHT = 12, CHIP = 18, CHIP_ROW = 24, BAR = 32, ROW = 60, LOW_BAR = 12, LOW_ROW = 22, OWNERS = 3;
 
 function escaped(text) {
   const signs = { "&": "&amp;", "<": "&lt;", ">": "&gt;", '"': "&quot;", "'": "&#x27;" };
@@ -12,6 +12,18 @@ function escaped(text) {
 
 function nameOf(word) {
   return `${Math.floor(word / 4294967296)}.${word % 4294967296}`;
+}
+
+function filledBy(header) {
+  return header % 4 === 2 ? Math.floor(header / 4) : 0;
+}
+
+function nextOf(word) {
+  return word % 4294967296;
+}
+
+function endOf(word) {
+  return Math.floor(word / 4294967296);
 }
 
 function forwardee(header) {
@@ -23,8 +35,13 @@ class Heap {
     this.run = run;
     this.layout = run.layout;
     this.phase = this.word("phase");
-    this.rooms = new Set(run.machines.map((_, machine) => this.word("room", machine)));
-    this.rooms.delete(0);
+    this.rooms = new Map();
+    for (const [kind, name] of [["free", "buffer"], ["room", "room"]]) {
+      run.machines.forEach((_, machine) => {
+        const room = this.word(name, machine);
+        if (nextOf(room) < endOf(room)) this.rooms.set(nextOf(room), [kind, endOf(room), machine + 1]);
+      });
+    }
     this.regions = Array.from({ length: run.layout.regions }, (_, number) => this.region(number));
     this.objects = new Map(this.regions.flatMap((region) => region.objects.map((it) => [it.address, it])));
     this.holders = Array.from({ length: run.layout.threads }, (_, thread) => this.holder(thread));
@@ -55,22 +72,28 @@ class Heap {
 
   region(number) {
     const { layout, run } = this;
-    const base = layout.region_words * (number + 1), top = this.word("top", number), objects = [];
-    let room = null, at = base;
+    const base = layout.region_words * (number + 1), top = this.word("top", number), objects = [], others = [];
+    let at = base;
     while (at < base + top) {
+      const [kind, last, machine] = this.rooms.get(at) || ["filler", at + filledBy(this.at(at)), 0];
       const shape = this.at(at + 1), size = 3 + (Math.floor(shape / 256) % 256) + (shape % 256);
-      if (this.rooms.has(at) || at + size > base + top) {
-        room = { offset: at - base, words: base + top - at };
-        break;
-      }
-      objects.push(this.object(number, at, size));
-      at += size;
+      const end = last > at ? last : at + size;
+      if (end > base + top) break;
+      if (last > at) others.push({ kind, machine, offset: at - base, words: end - at });
+      else objects.push(this.object(number, at, size));
+      at = end;
     }
     return {
       region: number, free: run.bit(this.index("free regions"), number) === 1, chosen: run.bit(this.index("collection set"), number) === 1,
-      top, start: this.word("mark start", number), limit: this.word("limit", number), objects, room,
-      owners: run.machines.map((_, machine) => machine + 1).filter((machine) => this.word("current region", machine - 1) === number + 1),
+      top, start: this.word("mark start", number), limit: this.word("limit", number), objects, others,
+      shared: this.word("shared region") === number + 1,
+      owners: run.machines.map((_, machine) => machine + 1).filter((machine) => this.regionOfBuffer(machine - 1) === number),
     };
+  }
+
+  regionOfBuffer(machine) {
+    const word = this.word("buffer", machine);
+    return word ? Math.floor((endOf(word) - 1) / this.layout.region_words) - 1 : null;
   }
 
   object(region, address, size) {
@@ -174,13 +197,15 @@ class Drawing {
     this.parts.push(`<g class="region${it.free ? " free" : ""}${it.chosen ? " chosen" : ""}" data-region="${it.region}">`);
     this.text("label", 4, y + 11, `region ${it.region}`);
     this.text("note", low ? x + 4 : 4, y + (low ? 9 : 23), it.free ? "free" : `${it.top} of ${this.layout.region_words}`);
-    it.owners.forEach((machine, line) => {
+    const lines = it.shared ? [["owner", "shared"]] : [];
+    for (const machine of it.owners) {
       const { kind, name } = this.heap.run.machines[machine - 1];
-      this.text(`owner ${kind}`, 4, y + 35 + 11 * line, name);
-    });
+      lines.push([`owner ${kind}`, name]);
+    }
+    lines.slice(0, OWNERS).forEach(([kind, text], line) => this.text(kind, 4, y + 35 + 11 * line, text));
     this.parts.push(`<rect class="bar" x="${x}" y="${y}" width="${wide}" height="${low ? LOW_BAR : BAR}"/>`);
     for (const each of it.objects) this.object(each, y);
-    if (it.room) this.room(it.room, y);
+    for (const each of it.others) this.other(each, y);
     if (it.chosen) {
       this.parts.push(`<rect class="frame" x="${x - 3}" y="${y - 3}" width="${wide + 6}" height="${BAR + 6}" rx="3"/>`);
       this.text("frame-text", x + wide, y - 6, "collection set");
@@ -229,12 +254,14 @@ class Drawing {
     return it ? it.name + where : where;
   }
 
-  room(it, y) {
+  other(it, y) {
     const x = this.x(it.offset), wide = this.x(it.offset + it.words) - x;
-    this.parts.push('<g class="room"><title>room in hand, no object yet</title>');
+    const whose = it.machine ? this.heap.run.machines[it.machine - 1].name : "";
+    const title = { room: `room of ${whose}, no object yet`, free: `free words of the buffer of ${whose}`, filler: "words that only fill" };
+    this.parts.push(`<g class="other ${it.kind}"><title>${title[it.kind]}, ${it.words} words</title>`);
     this.parts.push(`<rect x="${x + 1}" y="${y + 1}" width="${Math.max(wide - 2, 1)}" height="${BAR - 2}" rx="2"/>`);
-    const size = sizeFor("room", wide);
-    if (size !== null) this.text(`name${size}`, x + Math.floor(wide / 2), y + 20, "room");
+    const size = sizeFor(it.kind, wide);
+    if (size !== null) this.text(`name${size}`, x + Math.floor(wide / 2), y + 20, it.kind);
     this.parts.push("</g>");
   }
 

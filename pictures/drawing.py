@@ -5,6 +5,8 @@ GUTTER, RIGHT = 70, 12
 CHIP, CHIP_ROW = 18, 24
 BAR, ROW = 32, 60
 LOW_BAR, LOW_ROW = 12, 22
+# The lines beside a region that say whose buffers lie there, at most.
+OWNERS = 3
 
 
 def size_for(text, width):
@@ -87,13 +89,15 @@ class Drawing:
         self.parts.append(f'<g class="{kinds}" data-region="{number}">')
         self.text("label", 4, y + 11, f"region {number}")
         self.text("note", x + 4 if low else 4, y + (9 if low else 23), "free" if it["free"] else f"{it['top']} of {self.layout.region_words}")
-        for line, machine in enumerate(it["owners"]):
-            self.text(f"owner {self.machine_class(machine)}", 4, y + 35 + 11 * line, self.layout.machine(machine))
+        lines = [("owner", "shared")] if it["shared"] else []
+        lines += [(f"owner {self.machine_class(machine)}", self.layout.machine(machine)) for machine in it["owners"]]
+        for line, (kind, text) in enumerate(lines[:OWNERS]):
+            self.text(kind, 4, y + 35 + 11 * line, text)
         self.parts.append(f'<rect class="bar" x="{x}" y="{y}" width="{wide}" height="{LOW_BAR if low else BAR}"/>')
         for each in it["objects"]:
             self.object(each, y)
-        if it["room"]:
-            self.room(it["room"], y)
+        for each in it["others"]:
+            self.other(each, y)
         if it["chosen"]:
             self.parts.append(f'<rect class="frame" x="{x - 3}" y="{y - 3}" width="{wide + 6}" height="{BAR + 6}" rx="3"/>')
             self.text("frame-text", x + wide, y - 6, "collection set")
@@ -149,14 +153,16 @@ class Drawing:
         where = f"@{spot[0]}+{spot[1]}" if spot else str(address)
         return it["name"] + where if it else where
 
-    def room(self, it, y):
-        """Draws room in hand."""
+    def other(self, it, y):
+        """Draws what is no object: room that a machine has taken, free words of its buffer, or words that only fill."""
         x, wide = self.x(it["offset"]), self.x(it["offset"] + it["words"]) - self.x(it["offset"])
-        self.parts.append('<g class="room"><title>room in hand, no object yet</title>')
+        whose = self.layout.machine(it["machine"]) if it["machine"] else ""
+        title = {"room": f"room of {whose}, no object yet", "free": f"free words of the buffer of {whose}", "filler": "words that only fill"}
+        self.parts.append(f'<g class="other {it["kind"]}"><title>{title[it["kind"]]}, {it["words"]} words</title>')
         self.parts.append(f'<rect x="{x + 1}" y="{y + 1}" width="{max(wide - 2, 1)}" height="{BAR - 2}" rx="2"/>')
-        size = size_for("room", wide)
+        size = size_for(it["kind"], wide)
         if size is not None:
-            self.text("name" + size, x + wide // 2, y + 20, "room")
+            self.text("name" + size, x + wide // 2, y + 20, it["kind"])
         self.parts.append("</g>")
 
     def target(self, address, shift):

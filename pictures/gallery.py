@@ -18,11 +18,11 @@ HEADING = "\n## Pictures\n"
 WIDE, EVENTS = 760, 38
 # The event that is drawn: that at which the example turns.
 MOMENTS = {
-    "first": 63, "noted": 63, "race": 47, "apart": 47, "retry": 47, "one_bit": 14, "stack": 110, "stack_gap": 101,
-    "queue_race": 202, "queue_again": 8704, "limits": 103, "eight": 186, "cut": 47, "no_room": 4126, "collects": 10948,
-    "one_pause": 3719, "pause": 774, "inside": 17, "wait": 161, "crowded": 5602, "one_dropped": 5614, "reserve": 300,
-    "exchanged": 674, "two_stores": 742, "let_go": 767, "copy_race": 2787, "no_room_to_copy": 1655, "updated": 3957,
-    "recycled": 3867, "finished": 1721, "half_evacuated": 2649, "threads": 6929,
+    "first": 69, "noted": 69, "race": 54, "apart": 54, "retry": 54, "one_bit": 33, "two_buffers": 33, "stack": 116, "stack_gap": 107,
+    "queue_race": 203, "queue_again": 8713, "limits": 109, "eight": 217, "cut": 54, "no_room": 4152, "collects": 11004,
+    "one_pause": 3737, "pause": 778, "inside": 17, "wait": 174, "crowded": 5630, "one_dropped": 5642, "reserve": 307,
+    "exchanged": 679, "two_stores": 747, "let_go": 776, "copy_race": 2800, "no_room_to_copy": 1669, "updated": 3974,
+    "recycled": 3887, "finished": 1734, "half_evacuated": 2664, "threads": 7028,
 }
 
 

@@ -1,5 +1,5 @@
 """The heap in the words of a table: regions with their objects, roots, and what leads where."""
-from words import ENTRIES, ROOTS, bits_of, forwardee, name_of, references_of, size_of
+from words import ENTRIES, ROOTS, bits_of, end_of, filled_by, forwardee, name_of, next_of, references_of, size_of
 
 PHASES = ["idle", "marking", "evacuating", "updating"]
 
@@ -11,7 +11,12 @@ class Heap:
         self.layout, self.table = layout, table
         self.phase = self.word("phase")
         self.set = self.word("collection set")
-        self.rooms = {self.word("room", machine) for machine in range(layout.machines)} - {0}
+        self.rooms = {}
+        for kind, word in (("free", "buffer"), ("room", "room")):
+            for machine in range(layout.machines):
+                room = self.word(word, machine)
+                if next_of(room) < end_of(room):
+                    self.rooms[next_of(room)] = kind, end_of(room), machine + 1
         self.regions = [self.region(number) for number in range(layout.regions)]
         self.objects = {it["address"]: it for region in self.regions for it in region["objects"]}
         self.holders = [self.holder(thread) for thread in range(layout.threads)]
@@ -31,21 +36,31 @@ class Heap:
         return self.word(kind, bit // 64) >> bit % 64 & 1 == 1
 
     def region(self, number):
-        """A region: how far it is used, whose it is, its objects, and the room at its end, if there is some."""
+        """A region: how far it is used, whose buffers lie there, its objects, and what lies there besides."""
         layout, base = self.layout, self.layout.address(number, 0)
-        top, objects, room, at = self.word("top", number), [], None, base
+        top, objects, others, at = self.word("top", number), [], [], base
         while at < base + top:
-            size = size_of(self.at(at + 1))
-            if at in self.rooms or at + size > base + top:
-                room = {"offset": at - base, "words": base + top - at}
+            kind, end, machine = self.rooms.get(at, ("filler", at + filled_by(self.at(at)), 0))
+            is_other = end > at
+            end = end if is_other else at + size_of(self.at(at + 1))
+            if end > base + top:
                 break
-            objects.append(self.object(number, at, size))
-            at += size
+            if is_other:
+                others.append({"kind": kind, "machine": machine, "offset": at - base, "words": end - at})
+            else:
+                objects.append(self.object(number, at, end - at))
+            at = end
         return {
             "region": number, "free": self.word("free regions") >> number & 1 == 1, "chosen": self.set >> number & 1 == 1, "top": top,
-            "start": self.word("mark start", number), "limit": self.word("limit", number), "objects": objects, "room": room,
-            "owners": [machine + 1 for machine in range(layout.machines) if self.word("current region", machine) == number + 1],
+            "start": self.word("mark start", number), "limit": self.word("limit", number), "objects": objects, "others": others,
+            "shared": self.word("shared region") == number + 1,
+            "owners": [machine + 1 for machine in range(layout.machines) if self.region_of_buffer(machine) == number],
         }
+
+    def region_of_buffer(self, machine):
+        """The region in which a machine's buffer lies, or None."""
+        word = self.word("buffer", machine)
+        return (end_of(word) - 1) // self.layout.region_words - 1 if word else None
 
     def object(self, region, address, size):
         """An object."""

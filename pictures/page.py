@@ -18,7 +18,7 @@ HERE = pathlib.Path(__file__).resolve().parent
 # The most words that a page offers to follow, and how many of these it follows at first.
 OFFERED, FOLLOWED = 60, 4
 # The kinds of words that are followed only if somebody asks.
-DULL = {"state", "threads left", "pause", "end", "room", "asked for", "claimed work", "grey", "black", "buffer count", "buffer entry", "root", "current region", "top"}
+DULL = {"state", "threads left", "pause", "end", "room", "asked for", "claimed work", "grey", "black", "buffer count", "buffer entry", "root", "buffer", "top"}
 
 
 def packed(numbers):

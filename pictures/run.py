@@ -3,14 +3,14 @@ import json
 from array import array
 
 import telling
-from words import Layout
+from words import Layout, next_of
 
 WON, LOST, AGAIN, PAUSE = 1, 2, 4, 8
 NOTHING = 0xFFFFFFFF
 OPERATIONS = ["load", "store", "swap", "add", "subtract", "clear", "set", "exchange", "pause"]
 CODES = {name: code for code, name in enumerate(OPERATIONS)}
-# Places at which a machine has room in hand that is no object yet.
-IN_ROOM = {"IW", "CL", "CP", "HI"}
+# Places at which the room stays that a machine has taken and that is no object yet.
+IN_ROOM = {"TZ", "IW", "CL", "CP", "HI"}
 # Where a machine that says `again` waits for others.
 WAITS = {"E4", "WP", "XW", "P2"}
 # Where a helper and the control look for a unit of work, and what they do with it then.
@@ -129,10 +129,16 @@ class Run:
             column.append(value)
 
     def room(self, event):
-        """Where the machine has room in hand after an event that is no object yet; None where that stays."""
-        if event["at"] == "TS":
-            return self.layout.address(event["of"]["region"], event["found"]["word"])
-        return None if event["at"] in IN_ROOM else 0
+        """The room that the machine has taken after an event and that is no object yet, as the word of a buffer; None where that stays."""
+        at, found = event["at"], event["found"]["word"]
+        if at == "TX" and event["won"]:
+            region, value = event["of"]["region"], event["value"]["word"]
+            return (self.layout.address(region, value) << 32) + self.layout.address(region, found)
+        if at == "TS":
+            carved = self.table[self.layout.first["room"] + event["machine"] - 1]
+            return (next_of(event["value"]["word"]) << 32) + next_of(carved or found)
+        stays = at in IN_ROOM or at == "HX" and not event["won"]
+        return None if stays else 0
 
     def open(self):
         """Takes down the words before the first row."""
@@ -357,8 +363,8 @@ def read(lines, first=1, most=MOST, last=None, more=0):
             it = json.loads(line)
             kind = it["kind"]
             if run is None:
-                if kind != "head" or it["version"] != 1:
-                    raise Fault("the first line of a listing has the kind head and version 1")
+                if kind != "head" or it["version"] != 2:
+                    raise Fault("the first line of a listing has the kind head and version 2")
                 run = Run(it, first, most)
                 continue
             if kind == "change":

@@ -70,12 +70,16 @@ class Teller:
         if kind == "header" and "copy" in value:
             copy = value["copy"]
             return f"copy @{copy['region']}+{copy['offset']}" if "region" in copy else f"copy @{word // 4}"
+        if kind == "header" and "fills" in value:
+            return f"{value['fills']} word{'' if value['fills'] == 1 else 's'} that only fill"
         if kind in ("collection set", "free regions"):
             return "{" + " ".join(map(str, value["regions"])) + "}"
         if kind == "copiers":
             return f"{word % NO_ROOM}" + (", no room" if word >= NO_ROOM else "")
-        if kind == "current region":
+        if kind == "shared region":
             return str(word - 1) if word else "none"
+        if kind == "buffer":
+            return f"@{value['region']}+{value['offset']} to @{value['region']}+{value['end']}" if word else "none"
         if kind == "asked for":
             return ASKED[word % 4]
         if kind == "state":
@@ -101,6 +105,8 @@ class Teller:
                 return f"{part} of the new object"
             if "copy" in of:
                 return f"{part} of the copy @{of['region']}+{of['offset']}"
+            if "object" not in of:
+                return f"{part} of words @{of['region']}+{of['offset']}"
             return f"{part} of {self.object(of)}"
         if kind in ("grey", "black"):
             return f"{kind} word {of['index']}"

@@ -5,7 +5,7 @@ ROOTS = 16
 ENTRIES = 8
 HEADER_WORDS = 3
 NO_ROOM = 1 << 63
-SINGLE = ["pause", "threads left", "end", "phase", "collection set", "free regions", "copiers", "claimed work", "asked for"]
+SINGLE = ["pause", "threads left", "end", "phase", "collection set", "free regions", "shared region", "copiers", "claimed work", "asked for"]
 NAMES = {"pause": "pause word", "end": "end word", "asked for": "what is asked for"}
 PARTS = {"header": 0, "shape": 1, "name": 2}
 REFERENCES = {"root", "buffer entry", "field", "answer"}
@@ -27,6 +27,21 @@ def forwardee(header):
     return header // 4 if header % 4 == 3 else 0
 
 
+def filled_by(header):
+    """How many words only fill, by their header, or 0."""
+    return header // 4 if header % 4 == 2 else 0
+
+
+def next_of(word):
+    """The address where the free words of a buffer begin."""
+    return word % (1 << 32)
+
+
+def end_of(word):
+    """The address behind them."""
+    return word >> 32
+
+
 def name_of(word):
     """The name in a name word."""
     return f"{word >> 32}.{word % (1 << 32)}"
@@ -38,8 +53,8 @@ def bits_of(word):
 
 
 class Layout:
-    """Where each word lies in the table of a heap: those of the heap first, then the others, and last, of each machine, the
-    address of room that it has in hand and that is no object yet, or 0."""
+    """Where each word lies in the table of a heap: those of the heap first, then the others, among them, of each machine, the room that it
+    has taken and that is no object yet, as a word like that of a buffer, or 0."""
 
     def __init__(self, head):
         self.regions, self.region_words = head["regions"], head["region_words"]
@@ -51,7 +66,7 @@ class Layout:
         for kind, count in [
             *((kind, 1) for kind in SINGLE),
             ("top", self.regions), ("mark start", self.regions), ("limit", self.regions),
-            ("state", self.machines), ("current region", self.machines), ("room", self.machines),
+            ("state", self.machines), ("buffer", self.machines), ("room", self.machines),
             ("root", self.threads * ROOTS), ("buffer count", self.threads), ("buffer entry", self.threads * ENTRIES),
             ("request", self.threads), ("answer", self.threads),
             ("grey", self.mark_words), ("black", self.mark_words),

@@ -1,68 +1,106 @@
 -- What a machine that takes room inside another one knows of its steps, wherever the taking stands.
-use Rattle.std.proofs.Common.{◌≡◌, ◌↔◌, ℕ, Bool, true, false, refl, sym, ap, ◌∙◌, ⊎_elim, arith}
-use Rattle.std.proofs.lemmas.Bool.{cases_Bool, cond-false, false≢true}
+use Rattle.std.proofs.Common.{◌≡◌, ◌≢◌, ◌↔◌, ℕ, ◌+◌, ◌≤◌, Bool, true, false, Some, refl, sym, ap, ◌∙◌, ⊎_elim, subst, arith}
+use Rattle.std.specs.Prelude.{◌==◌, nat_lt, if◌then◌else◌}
+use Rattle.std.proofs.lemmas.Bool.{cases_Bool, cases_eq, cond-false, eq-eqb, ne_eqb, false≢true, true≢false}
 use Rattle.std.proofs.lemmas.Bool.Decides.{nat_tests}
 use Rattle.heap_words.specs.declared.config.Config.{Config}
 use Rattle.heap_words.specs.declared.place.Place.{Place}
 use Rattle.heap_words.specs.declared.place.Place.TheVariants as place
 use Rattle.heap_words.specs.declared.access.Took.TheVariants.{Again}
-use Rattle.heap_words.specs.Words.{Word, Free, Top, Current, same_word, is_image}
+use Rattle.heap_words.specs.Encoding.{next_in, end_in}
+use Rattle.heap_words.specs.Words.{Word, Free, Top, Current, Heap, Share, same_word, is_image}
 use Rattle.heap_words.proofs.Stores.{same_word_true}
 use Rattle.steps_base.specs.Touch.{touched}
 use Rattle.alloc_buffers.specs.declared.spot.Kind.{Kind}
 use Rattle.alloc_buffers.specs.declared.spot.TakeSpot.{TakeSpot}
-use Rattle.alloc_buffers.specs.declared.spot.TakeSpot.TheVariants.{LoadCurrent, LoadTop, LoadFree, TakeRegion, StoreCurrent, StoreTop, Ended}
-use Rattle.alloc_buffers.specs.Rows.{place_at, touch_at, next_at, says}
+use Rattle.alloc_buffers.specs.declared.spot.TakeSpot.TheVariants.{LoadBuffer, LoadShared, LoadTop, Carve, LoadFree, TakeRegion, ShareRegion, GiveBack, Fill, StoreBuffer, Ended}
+use Rattle.regions.specs.Place.{base_of}
+use Rattle.heap_world.specs.World.{World, spare}
+use Rattle.alloc_buffers.specs.Rows.{place_at, touch_at, next_at, says, free_words, carved_at}
+use Rattle.alloc_buffers.specs.Facts.{CanTake}
 use Rattle.alloc_buffers.specs.Waits.{WaitsAt}
 
 -- the places of a taking
 abbrev pub is_taking_place : Place → Bool
 is_taking_place place.TC = true
+is_taking_place place.TR = true
 is_taking_place place.TT = true
+is_taking_place place.TX = true
 is_taking_place place.TF = true
 is_taking_place place.TG = true
-is_taking_place place.TU = true
+is_taking_place place.TV = true
+is_taking_place place.TQ = true
+is_taking_place place.TZ = true
 is_taking_place place.TS = true
 is_taking_place _ = false
 
 -- it stands at one of them
 its_place : (take : TakeSpot) → is_taking_place (place_at take) ≡ true
-its_place LoadCurrent = refl
-its_place (LoadTop region) = refl
-its_place LoadFree = refl
-its_place (TakeRegion region) = refl
-its_place (StoreCurrent region) = refl
-its_place (StoreTop region top) = refl
-its_place (Ended taken) = refl
+its_place LoadBuffer = refl
+its_place (LoadShared buffer) = refl
+its_place (LoadTop buffer region) = refl
+its_place (Carve buffer region top room) = refl
+its_place (LoadFree buffer shared) = refl
+its_place (TakeRegion buffer shared region) = refl
+its_place (ShareRegion buffer shared region) = refl
+its_place (GiveBack buffer region) = refl
+its_place (Fill buffer address room) = refl
+its_place (StoreBuffer address room) = refl
+its_place (Ended taken end) = refl
 
 -- and at no other place
 pub stands_elsewhere : (take : TakeSpot) (other : Place) → is_taking_place other ≡ false → place_at take ≡ other → ⊥
 stands_elsewhere take other not_its same = false≢true (sym not_its ∙ ap is_taking_place (sym same) ∙ its_place take)
 
--- the words of which a taking makes accesses: the free word, tops, and current regions
+-- the words of which a taking makes accesses: the free word, the shared region, tops, buffers, and words of the heap
 abbrev pub is_room_word : Word → Bool
 is_room_word Free = true
+is_room_word Share = true
 is_room_word (Top region) = true
 is_room_word (Current seat) = true
+is_room_word (Heap address) = true
 is_room_word _ = false
 
 -- they are of the image
 room_in_image : (w : Word) → is_room_word w ≡ true → is_image w ≡ true
 room_in_image Free is = refl
+room_in_image Share is = refl
 room_in_image (Top region) is = refl
 room_in_image (Current seat) is = refl
+room_in_image (Heap address) is = refl
 room_in_image _ is = absurd (cc (is))
+
+-- a word of the heap of which it makes an access is the first one of the free words of the seat's buffer
+pub writes_spare : (c : Config) (w : World) (seat words : ℕ) (take : TakeSpot) → CanTake c w seat words take → (at : ℕ) → (touch_at seat words take).word ≡ Heap at
+    → (more : ℕ) × (w.block at ≡ Some (spare seat more)) × (1 ≤ more)
+writes_spare c w seat words (Fill buffer address room) can at is =
+    let same : next_in buffer ≡ at = cc in
+    (free_words buffer, ap w.block (sym same) ∙ can.facts.left, (let some = can.facts.some in omega (arith, some)))
+writes_spare c w seat words LoadBuffer can at is = cc
+writes_spare c w seat words (LoadShared buffer) can at is = cc
+writes_spare c w seat words (LoadTop buffer region) can at is = cc
+writes_spare c w seat words (Carve buffer region top room) can at is = cc
+writes_spare c w seat words (LoadFree buffer shared) can at is = cc
+writes_spare c w seat words (TakeRegion buffer shared region) can at is = cc
+writes_spare c w seat words (ShareRegion buffer shared region) can at is = cc
+writes_spare c w seat words (GiveBack buffer region) can at is = cc
+writes_spare c w seat words (StoreBuffer address room) can at is = cc
+writes_spare c w seat words (Ended taken end) can at is = cc
 
 module _ (seat words : ℕ) where
   -- its next access is of one of them
   its_word : (take : TakeSpot) → is_room_word (touch_at seat words take).word ≡ true
-  its_word LoadCurrent = refl
-  its_word (LoadTop region) = refl
-  its_word LoadFree = refl
-  its_word (TakeRegion region) = refl
-  its_word (StoreCurrent region) = refl
-  its_word (StoreTop region top) = refl
-  its_word (Ended taken) = refl
+  its_word LoadBuffer = refl
+  its_word (LoadShared buffer) = refl
+  its_word (LoadTop buffer region) = refl
+  its_word (Carve buffer region top room) = refl
+  its_word (LoadFree buffer shared) = refl
+  its_word (TakeRegion buffer shared region) = refl
+  its_word (ShareRegion buffer shared region) = refl
+  its_word (GiveBack buffer region) = refl
+  its_word (Fill buffer address room) = refl
+  its_word (StoreBuffer address room) = refl
+  its_word (Ended taken end) = refl
 
   -- so it is of a word of the image
   pub in_image : (take : TakeSpot) → is_image (touch_at seat words take).word ≡ true
@@ -79,25 +117,63 @@ module _ (seat words : ℕ) where
       (λ (differs : same_word (touch_at seat words take).word other ≡ false). differs)
       (cases_Bool (same_word (touch_at seat words take).word other)))
 
--- a step that only loads never says that another machine was faster
-current_never : (next : TakeSpot) → says LoadCurrent next ≡ Again → ⊥
-current_never (Ended taken) is = cc
-current_never _ is = cc
+-- whether another machine may be faster
+abbrev may_wait : TakeSpot → Bool
+may_wait (Carve buffer region top room) = true
+may_wait (TakeRegion buffer shared region) = true
+may_wait (ShareRegion buffer shared region) = true
+may_wait _ = false
 
-top_never : (region : ℕ) (next : TakeSpot) → says (LoadTop region) next ≡ Again → ⊥
-top_never region (Ended taken) is = cc
-top_never region _ is = cc
+-- a step that cannot come too late never says that another machine was faster
+never : (take next : TakeSpot) → may_wait take ≡ false → says take next ≡ Again → ⊥
+never (Carve buffer region top room) next waits is = absurd (true≢false waits)
+never (TakeRegion buffer shared region) next waits is = absurd (true≢false waits)
+never (ShareRegion buffer shared region) next waits is = absurd (true≢false waits)
+never LoadBuffer (Ended answer to) waits is = cc
+never LoadBuffer _ waits is = cc
+never (LoadShared buffer) (Ended answer to) waits is = cc
+never (LoadShared buffer) _ waits is = cc
+never (LoadTop buffer region) (Ended answer to) waits is = cc
+never (LoadTop buffer region) _ waits is = cc
+never (LoadFree buffer shared) (Ended answer to) waits is = cc
+never (LoadFree buffer shared) _ waits is = cc
+never (GiveBack buffer region) (Ended answer to) waits is = cc
+never (GiveBack buffer region) _ waits is = cc
+never (Fill buffer address room) (Ended answer to) waits is = cc
+never (Fill buffer address room) _ waits is = cc
+never (StoreBuffer address room) (Ended answer to) waits is = cc
+never (StoreBuffer address room) _ waits is = cc
+never (Ended taken end) (Ended answer to) waits is = cc
+never (Ended taken end) _ waits is = cc
 
-free_never : (next : TakeSpot) → says LoadFree next ≡ Again → ⊥
-free_never (Ended taken) is = cc
-free_never _ is = cc
+-- where it has carved it goes on
+carved_never : (buffer region top room address : ℕ) → says (Carve buffer region top room) (carved_at buffer address room) ≡ Again → ⊥
+carved_never buffer region top room address = by_test (nat_lt (next_in buffer) (end_in buffer))
+  where
+    by_test : (b : Bool) → says (Carve buffer region top room) (if b then Fill buffer address room else StoreBuffer address room) ≡ Again → ⊥
+    by_test true is = cc
+    by_test false is = cc
 
 -- a step says so exactly where the taking waits
 pub says_where_it_waits : (c : Config) (words : ℕ) (kind : Kind) (take : TakeSpot) (got : ℕ) → (says take (next_at c words kind take got) ≡ Again) ↔ WaitsAt take got
-says_where_it_waits c words kind (TakeRegion region) got = grind (arith, nat_tests)
-says_where_it_waits c words kind LoadCurrent got = (λ is. absurd (current_never _ is), λ waits. absurd waits)
-says_where_it_waits c words kind (LoadTop region) got = (λ is. absurd (top_never region _ is), λ waits. absurd waits)
-says_where_it_waits c words kind LoadFree got = (λ is. absurd (free_never _ is), λ waits. absurd waits)
-says_where_it_waits c words kind (StoreCurrent region) got = (λ is. cc, λ waits. absurd waits)
-says_where_it_waits c words kind (StoreTop region top) got = (λ is. cc, λ waits. absurd waits)
-says_where_it_waits c words kind (Ended taken) got = (λ is. cc, λ waits. absurd waits)
+says_where_it_waits c words kind (Carve buffer region top room) got = ⊎_elim
+    (λ (same : got ≡ top). (
+      λ is. absurd (carved_never buffer region top room (base_of c region + top)
+          (subst (λ b. says (Carve buffer region top room) (if b then carved_at buffer (base_of c region + top) room else LoadShared buffer) ≡ Again) (eq-eqb got top same) is)),
+      λ waits. absurd (waits same),
+    ))
+    (λ (differs : got ≢ top). (
+      λ is. differs,
+      λ waits. ap (says (Carve buffer region top room)) (cond-false (got == top) (carved_at buffer (base_of c region + top) room) (LoadShared buffer) (ne_eqb got top differs)),
+    ))
+    (cases_eq got top)
+says_where_it_waits c words kind (TakeRegion buffer shared region) got = grind (arith, nat_tests)
+says_where_it_waits c words kind (ShareRegion buffer shared region) got = grind (arith, nat_tests)
+says_where_it_waits c words kind LoadBuffer got = (λ is. absurd (never LoadBuffer (next_at c words kind LoadBuffer got) refl is), λ waits. absurd waits)
+says_where_it_waits c words kind (LoadShared buffer) got = (λ is. absurd (never (LoadShared buffer) (next_at c words kind (LoadShared buffer) got) refl is), λ waits. absurd waits)
+says_where_it_waits c words kind (LoadTop buffer region) got = (λ is. absurd (never (LoadTop buffer region) (next_at c words kind (LoadTop buffer region) got) refl is), λ waits. absurd waits)
+says_where_it_waits c words kind (LoadFree buffer shared) got = (λ is. absurd (never (LoadFree buffer shared) (next_at c words kind (LoadFree buffer shared) got) refl is), λ waits. absurd waits)
+says_where_it_waits c words kind (GiveBack buffer region) got = (λ is. absurd (never (GiveBack buffer region) (next_at c words kind (GiveBack buffer region) got) refl is), λ waits. absurd waits)
+says_where_it_waits c words kind (Fill buffer address room) got = (λ is. absurd (never (Fill buffer address room) (next_at c words kind (Fill buffer address room) got) refl is), λ waits. absurd waits)
+says_where_it_waits c words kind (StoreBuffer address room) got = (λ is. absurd (never (StoreBuffer address room) (next_at c words kind (StoreBuffer address room) got) refl is), λ waits. absurd waits)
+says_where_it_waits c words kind (Ended taken end) got = (λ is. absurd (never (Ended taken end) (next_at c words kind (Ended taken end) got) refl is), λ waits. absurd waits)

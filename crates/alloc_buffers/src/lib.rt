@@ -1,7 +1,8 @@
-//! Room for objects, as the machines of a heap take it: each has a current region, in which it alone takes room, and gets
-//! a fresh one by clearing the lowest bit of the free word (the allocation buffers of Shenandoah, JEP 189, here whole
-//! regions). Each step is one access of one word. The rows in `specs/Rows.antt` say for each spot what it does and what
-//! follows.
+//! Room for objects, as the machines of a heap take it: each has a buffer, words in which it alone takes room, and carves a new one
+//! out of the region that all share, by one exchange of that region's top. Where the shared region has too little room left, a machine
+//! takes a fresh one out of the free word and shares it, by another exchange (the allocation buffers of Shenandoah, JEP 189, as OpenJDK
+//! has them in TLABs and GCLABs). Each step is one access of one word. The rows in `specs/Rows.antt` say for each spot what it does
+//! and what follows.
 #![tactic(auto)]
 
 mod spot;
@@ -15,9 +16,9 @@ ghost use Rattle.alloc_buffers.specs.Room.{FindsNoRoom, IsLackOfRoom};
 pub use spot::{Kind, TakeSpot, Taken};
 pub use take::Take;
 
-/// A law: whatever words a machine that takes room finds one after the other, it ends without room only where its current
-/// region, by the words that it has found, has too little room or is none, and the free word that it finds last has no region
-/// that may be taken.
+/// A law: whatever words a machine that takes room finds one after the other, it ends without room only where its buffer and the
+/// shared region, by the words that it has found, have too little room or are none, and the free word that it finds last has no
+/// region that may be taken.
 pub fn no_room_has_its_cause()
     ensures { (c : Config) (words : ℕ) (kind : Purpose) (found : List ℕ) (free : ℕ) → FindsNoRoom c words kind found free → IsLackOfRoom c words kind found free }
 {}

@@ -6,10 +6,13 @@ ghost use Rattle.steps_base.specs.Touch.{placed};
 ghost use Rattle.alloc_buffers.specs.Rows as rows;
 ghost use Rattle.alloc_buffers.specs.Seen.{IsFit};
 
-use heap_words::{Access, Config, Place, Took};
+use heap_words::{Access, Config, Place, Took, buffer, end_of, filler, next_of};
 use regions::{all_but, base, is_in, lowest, size};
 use std::fmt;
 use std::fmt::{Debug, Formatter, Write};
+
+/// The words of a buffer, where the shared region has so many left.
+const BUFFER_WORDS: u64 = 64;
 
 /// What the room is for.
 #[derive(Clone, Copy, Debug)]
@@ -25,43 +28,92 @@ pub enum Kind {
 pub enum Taken {
     /// The room begins at this address, in words. That nobody else has it is a theorem of the machines together.
     At(u64),
-    /// The current region, if there is one, has too little room, and no free region may be taken.
+    /// The buffer and the shared region, if there are any, have too little room, and no free region may be taken.
     NoRoom,
 }
 
 /// Where a machine stands that takes room.
 #[derive(Clone, Copy)]
 pub enum TakeSpot {
-    /// It loads the current region of its seat.
-    LoadCurrent,
-    /// It loads the top of its current region.
+    /// It loads the buffer of its seat.
+    LoadBuffer,
+    /// The buffer has too little room: it loads the shared region.
+    LoadShared {
+        /// The word of the buffer.
+        buffer: u64,
+    },
+    /// It loads the top of the shared region.
     LoadTop {
+        /// The word of the old buffer.
+        buffer: u64,
         /// The region, counted from 0.
         region: usize,
+    },
+    /// It carves a buffer out of the shared region.
+    Carve {
+        /// The word of the old buffer.
+        buffer: u64,
+        /// The region, counted from 0.
+        region: usize,
+        /// Its top, in words used.
+        top: u64,
+        /// The words of the new buffer.
+        room: u64,
     },
     /// It loads the free word.
-    LoadFree,
+    LoadFree {
+        /// The word of the buffer.
+        buffer: u64,
+        /// The word of the shared region.
+        shared: u64,
+    },
     /// It clears the region's bit in the free word.
     TakeRegion {
+        /// The word of the buffer.
+        buffer: u64,
+        /// The word of the shared region.
+        shared: u64,
         /// The region, counted from 0.
         region: usize,
     },
-    /// It makes the region its current one.
-    StoreCurrent {
+    /// It makes the region the shared one.
+    ShareRegion {
+        /// The word of the buffer.
+        buffer: u64,
+        /// The word of the region that was shared.
+        shared: u64,
         /// The region, counted from 0.
         region: usize,
     },
-    /// It raises the top of its current region by the words that it takes.
-    StoreTop {
+    /// Another machine has shared a region first: it sets the region's bit in the free word again.
+    GiveBack {
+        /// The word of the buffer.
+        buffer: u64,
         /// The region, counted from 0.
         region: usize,
-        /// The top, in words used.
-        top: u64,
+    },
+    /// It has carved a buffer, and stores a filler over what is left of the old one.
+    Fill {
+        /// The word of the old buffer.
+        buffer: u64,
+        /// Where the new buffer begins.
+        address: u64,
+        /// The words of the new buffer.
+        room: u64,
+    },
+    /// It stores its buffer, without the words that it takes.
+    StoreBuffer {
+        /// Where the free words begin.
+        address: u64,
+        /// How many they are.
+        room: u64,
     },
     /// It has its answer.
     Ended {
         /// The answer.
         taken: Taken,
+        /// Where the buffer ends, out of which the room is taken; 0 where there was no room.
+        end: u64,
     },
 }
 
@@ -71,12 +123,16 @@ impl TakeSpot {
         ensures { result ≡ rows.place_at self }
     {
         match self {
-            TakeSpot::LoadCurrent => Place::TC,
+            TakeSpot::LoadBuffer => Place::TC,
+            TakeSpot::LoadShared { .. } => Place::TR,
             TakeSpot::LoadTop { .. } => Place::TT,
-            TakeSpot::LoadFree => Place::TF,
+            TakeSpot::Carve { .. } => Place::TX,
+            TakeSpot::LoadFree { .. } => Place::TF,
             TakeSpot::TakeRegion { .. } => Place::TG,
-            TakeSpot::StoreCurrent { .. } => Place::TU,
-            TakeSpot::StoreTop { .. } | TakeSpot::Ended { .. } => Place::TS,
+            TakeSpot::ShareRegion { .. } => Place::TV,
+            TakeSpot::GiveBack { .. } => Place::TQ,
+            TakeSpot::Fill { .. } => Place::TZ,
+            TakeSpot::StoreBuffer { .. } | TakeSpot::Ended { .. } => Place::TS,
         }
     }
 
@@ -96,30 +152,57 @@ impl TakeSpot {
         ensures inside { table_index result < table_words config }
     {
         match self {
-            TakeSpot::LoadCurrent => Access::Load {
+            TakeSpot::LoadBuffer => Access::Load {
                 at: config.cur_at(seat),
             },
-            TakeSpot::LoadTop { region } => Access::Load {
+            TakeSpot::LoadShared { .. } => Access::Load {
+                at: config.share_at(),
+            },
+            TakeSpot::LoadTop { region, .. } => Access::Load {
                 at: config.top_at(region),
             },
-            TakeSpot::LoadFree => Access::Load {
+            TakeSpot::Carve {
+                region,
+                top,
+                room,
+                ..
+            } => {
+                // keeps IsPlotted, IsFilled and AreRooms
+                // keeps KeepsSnapshot.floors, KeepsSnapshot.young, IsUpdating.limits and IsUpdating.young
+                Access::Exchange {
+                    at: config.top_at(region),
+                    expect: top,
+                    value: top + room,
+                }
+            }
+            TakeSpot::LoadFree { .. } => Access::Load {
                 at: config.free_at(),
             },
             // keeps IsFreeWord and AreSetAside
-            TakeSpot::TakeRegion { region } => Access::And {
+            TakeSpot::TakeRegion { region, .. } => Access::And {
                 at: config.free_at(),
                 value: all_but(region),
             },
-            // keeps AreCurrent
-            TakeSpot::StoreCurrent { region } => Access::Store {
-                at: config.cur_at(seat),
+            // keeps ShareIsOpen
+            TakeSpot::ShareRegion { shared, region, .. } => Access::Exchange {
+                at: config.share_at(),
+                expect: shared,
                 value: region as u64 + 1,
             },
-            // keeps IsPlotted, IsFilled and AreRooms
-            // keeps KeepsSnapshot.floors, KeepsSnapshot.young, IsUpdating.limits and IsUpdating.young
-            TakeSpot::StoreTop { region, top } => Access::Store {
-                at: config.top_at(region),
-                value: top + words,
+            // keeps IsFreeWord, ShareIsOpen and AreSetAside
+            TakeSpot::GiveBack { region, .. } => Access::Or {
+                at: config.free_at(),
+                value: 1 << region,
+            },
+            // keeps AreUnwritten.fillers and AreBuffers
+            TakeSpot::Fill { buffer, .. } => Access::Store {
+                at: config.heap_at(next_of(buffer)),
+                value: filler(end_of(buffer) - next_of(buffer)),
+            },
+            // keeps AreBuffers and AreRooms
+            TakeSpot::StoreBuffer { address, room } => Access::Store {
+                at: config.cur_at(seat),
+                value: buffer(address + words, address + room),
             },
             TakeSpot::Ended { .. } => unreachable!(),
         }
@@ -134,35 +217,55 @@ impl TakeSpot {
         ensures row { result ≡ rows.next_at config words kind self got }
     {
         match self {
-            TakeSpot::LoadCurrent => {
-                if got == 0 {
-                    TakeSpot::LoadFree
+            TakeSpot::LoadBuffer => after_buffer(words, got),
+            TakeSpot::LoadShared { buffer } => after_shared(buffer, got),
+            TakeSpot::LoadTop { buffer, region } => after_top(config, words, buffer, region, got),
+            TakeSpot::Carve {
+                buffer,
+                region,
+                top,
+                room,
+            } => {
+                if got != top {
+                    TakeSpot::LoadShared { buffer }
                 } else {
-                    TakeSpot::LoadTop {
-                        region: (got - 1) as usize,
-                    }
+                    carved(buffer, base(config, region) + top, room)
                 }
             }
-            TakeSpot::LoadTop { region } => {
-                if got <= config.region_words() as u64 - words {
-                    TakeSpot::StoreTop { region, top: got }
-                } else {
-                    TakeSpot::LoadFree
-                }
-            }
-            TakeSpot::LoadFree => after_free(config, kind, got),
-            TakeSpot::TakeRegion { region } => {
+            TakeSpot::LoadFree { buffer, shared } => after_free(config, kind, buffer, shared, got),
+            TakeSpot::TakeRegion {
+                buffer,
+                shared,
+                region,
+            } => {
                 if is_in(got, region) {
-                    TakeSpot::StoreCurrent { region }
+                    TakeSpot::ShareRegion {
+                        buffer,
+                        shared,
+                        region,
+                    }
                 } else {
-                    TakeSpot::LoadFree
+                    TakeSpot::LoadFree { buffer, shared }
                 }
             }
-            TakeSpot::StoreCurrent { region } => TakeSpot::StoreTop { region, top: 0 },
-            TakeSpot::StoreTop { region, top } => TakeSpot::Ended {
-                taken: Taken::At(base(config, region) + top),
+            TakeSpot::ShareRegion {
+                buffer,
+                shared,
+                region,
+            } => {
+                if got == shared {
+                    TakeSpot::LoadTop { buffer, region }
+                } else {
+                    TakeSpot::GiveBack { buffer, region }
+                }
+            }
+            TakeSpot::GiveBack { buffer, .. } => TakeSpot::LoadShared { buffer },
+            TakeSpot::Fill { address, room, .. } => TakeSpot::StoreBuffer { address, room },
+            TakeSpot::StoreBuffer { address, room } => TakeSpot::Ended {
+                taken: Taken::At(address),
+                end: address + room,
             },
-            TakeSpot::Ended { taken } => TakeSpot::Ended { taken },
+            TakeSpot::Ended { taken, end } => TakeSpot::Ended { taken, end },
         }
     }
 
@@ -171,7 +274,9 @@ impl TakeSpot {
         ensures { result ≡ rows.says self next }
     {
         match (self, next) {
-            (TakeSpot::TakeRegion { .. }, TakeSpot::LoadFree) => Took::Again,
+            (TakeSpot::Carve { .. }, TakeSpot::LoadShared { .. }) => Took::Again,
+            (TakeSpot::TakeRegion { .. }, TakeSpot::LoadFree { .. }) => Took::Again,
+            (TakeSpot::ShareRegion { .. }, TakeSpot::GiveBack { .. }) => Took::Again,
             (_, TakeSpot::Ended { .. }) => Took::Done,
             _ => Took::More,
         }
@@ -185,9 +290,81 @@ impl Debug for TakeSpot {
     }
 }
 
+// What follows the load of the buffer.
+fn after_buffer(words: u64, got: u64) -> TakeSpot
+    requires most { words ≤ 35 }
+    ensures { result ≡ rows.after_buffer words got }
+{
+    let next = next_of(got);
+    let end = end_of(got);
+    if next + words <= end {
+        TakeSpot::StoreBuffer {
+            address: next,
+            room: end - next,
+        }
+    } else {
+        TakeSpot::LoadShared { buffer: got }
+    }
+}
+
+// What follows the load of the shared region.
+fn after_shared(buffer: u64, got: u64) -> TakeSpot
+    ensures { result ≡ rows.after_shared buffer got }
+{
+    if got == 0 {
+        TakeSpot::LoadFree { buffer, shared: 0 }
+    } else {
+        TakeSpot::LoadTop {
+            buffer,
+            region: (got - 1) as usize,
+        }
+    }
+}
+
+// What follows the load of its top.
+fn after_top(config: Config, words: u64, buffer: u64, region: usize, top: u64) -> TakeSpot
+    requires most { words ≤ 35 }
+    requires region { region < config.regions }
+    ensures { result ≡ rows.after_top config words buffer region top }
+{
+    let region_words = config.region_words() as u64;
+    if top > region_words - words {
+        return TakeSpot::LoadFree {
+            buffer,
+            shared: region as u64 + 1,
+        };
+    }
+    let room = if top <= region_words - BUFFER_WORDS {
+        BUFFER_WORDS
+    } else {
+        region_words - top
+    };
+    TakeSpot::Carve {
+        buffer,
+        region,
+        top,
+        room,
+    }
+}
+
+// What follows once a buffer is carved that begins at an address.
+fn carved(buffer: u64, address: u64, room: u64) -> TakeSpot
+    ensures { result ≡ rows.carved_at buffer address room }
+{
+    if next_of(buffer) < end_of(buffer) {
+        TakeSpot::Fill {
+            buffer,
+            address,
+            room,
+        }
+    } else {
+        TakeSpot::StoreBuffer { address, room }
+    }
+}
+
 // What follows the load of the free word.
-fn after_free(config: Config, kind: Kind, free: u64) -> TakeSpot
-    ensures { result ≡ rows.next_at config 0 kind TakeSpot.LoadFree free }
+fn after_free(config: Config, kind: Kind, buffer: u64, shared: u64, free: u64) -> TakeSpot
+    ensures { result ≡ rows.after_free config kind buffer shared free }
 {
     let kept_back = match kind {
         Kind::Fresh => config.reserve(),
@@ -196,10 +373,15 @@ fn after_free(config: Config, kind: Kind, free: u64) -> TakeSpot
     if size(free) as usize <= kept_back {
         return TakeSpot::Ended {
             taken: Taken::NoRoom,
+            end: 0,
         };
     }
     match lowest(free) {
-        Some(region) => TakeSpot::TakeRegion { region },
+        Some(region) => TakeSpot::TakeRegion {
+            buffer,
+            shared,
+            region,
+        },
         None => unreachable!(),
     }
 }

@@ -20,12 +20,12 @@ pub struct Take {
 }
 
 impl Take {
-    ghost use Rattle.std.specs.Prelude.{false, ◌↔◌};
+    ghost use Rattle.std.specs.Prelude.{false, ◌↔◌, Some};
     ghost use Rattle.heap_words.specs.Access.{table_index};
     ghost use Rattle.heap_words.specs.Words.{table_words};
     ghost use Rattle.steps_base.specs.Touch.{placed};
     ghost use Rattle.alloc_buffers.specs.Rows.{place_at, touch_at, next_at, is_ended, says};
-    ghost use Rattle.alloc_buffers.specs.Seen.{wanted, spot_of, IsFit};
+    ghost use Rattle.alloc_buffers.specs.Seen.{wanted, spot_of, taken_in, end_of_taken, looks_at_free, IsFit};
     ghost use Rattle.alloc_buffers.specs.Waits.{WaitsAt, TakingEndsAt};
     ghost use Rattle.alloc_buffers.specs.Room.{MayTakeNone};
 
@@ -35,14 +35,14 @@ impl Take {
         requires least { 3 ≤ words }
         requires most { words ≤ 35 }
         ensures wanted { wanted result ≡ record { config = config; seat = seat; words = words; kind = kind } }
-        ensures spot { spot_of result ≡ TakeSpot.LoadCurrent }
+        ensures spot { spot_of result ≡ TakeSpot.LoadBuffer }
     {
         Take {
             config,
             seat,
             words,
             kind,
-            spot: TakeSpot::LoadCurrent,
+            spot: TakeSpot::LoadBuffer,
         }
     }
 
@@ -78,7 +78,7 @@ impl Take {
 
         // There is no room exactly where the free word that was read has no region that may be taken: for a new object at most those of
         // the reserve, and for a copy none.
-        ensures no_room { (spot_of self.new ≡ TakeSpot.Ended Taken.NoRoom) ↔ ((spot_of self.old ≡ TakeSpot.LoadFree) × MayTakeNone (wanted self.old).config (wanted self.old).kind got) }
+        ensures no_room { (taken_in (spot_of self.new) ≡ Some Taken.NoRoom) ↔ ((looks_at_free (spot_of self.old) ≡ true) × MayTakeNone (wanted self.old).config (wanted self.old).kind got) }
     {
         let before = self.spot;
         self.spot = before.after(self.config, self.seat, self.words, self.kind, got);
@@ -88,10 +88,21 @@ impl Take {
     /// The answer, once it has one: where its room begins, an address in words, or that there was no room.
     pub fn answer(&self) -> Taken
         requires { is_ended (spot_of self.now) ≡ true }
-        ensures { spot_of self.now ≡ TakeSpot.Ended result }
+        ensures { taken_in (spot_of self.now) ≡ Some result }
     {
         match self.spot {
-            TakeSpot::Ended { taken } => taken,
+            TakeSpot::Ended { taken, .. } => taken,
+            _ => unreachable!(),
+        }
+    }
+
+    /// Where the buffer ends, out of which the room is taken, an address in words; 0 where there was no room.
+    pub fn end(&self) -> u64
+        requires { is_ended (spot_of self.now) ≡ true }
+        ensures { end_of_taken (spot_of self.now) ≡ Some result }
+    {
+        match self.spot {
+            TakeSpot::Ended { end, .. } => end,
             _ => unreachable!(),
         }
     }

@@ -5,9 +5,12 @@ use Rattle.std.proofs.lemmas.Bool.{cond-true, cond-false, eq-eqb, ne_eqb}
 use Rattle.std.proofs.Math.Path.{fun_ext}
 use Rattle.std.proofs.Math.Logic.{∥∥₁_elim, ∥∥₁_map}
 use Rattle.std.proofs.Math.Nat.{ℕ_set}
+use Rattle.std.proofs.Math.Bridge.{le_prop}
 use Rattle.heap_words.specs.declared.config.Config.{Config}
 use Rattle.heap_words.specs.Words.{Word, Phase, Cset}
+use Rattle.buffer_words.specs.Buffers.{AreInside}
 use Rattle.full_words.specs.Full.{full}
+use Rattle.buffer_pauses.proofs.Inside.{buffers_inside}
 use Rattle.image_graph.specs.Holds.{HoldsSome}
 use Rattle.cycle_words.specs.Marking.Init.{init_marked}
 use Rattle.mark_core.specs.Result.{MarksSome}
@@ -20,6 +23,13 @@ use Rattle.cycle_words.specs.Updating.Changes.{init_updated, final_updated}
 -- they hold some graph
 pub can_hold : (c : Config) (m : Word → ℕ) → CanPauseSome c m → HoldsSome c m
 can_hold c m can = ∥∥₁_map can (λ some. (some.0, (some.1, some.2, some.3, some.4.holds)))
+
+-- and buffers lie in regions of the heap
+inside_prop : (c : Config) (m : Word → ℕ) → IsProp (AreInside c m)
+inside_prop c m = hlevel le_prop
+
+pub can_inside : (c : Config) (m : Word → ℕ) → CanPauseSome c m → AreInside c m
+can_inside c m can = ∥∥₁_elim can (inside_prop c m) (λ some. buffers_inside c m some.1 some.4.holds.objects.plotted some.4.holds.buffers)
 
 -- in phase 0 no region is collected
 pub can_calm : (c : Config) (m : Word → ℕ) → CanPauseSome c m → m Phase ≡ 0 → m Cset ≡ 0
@@ -63,7 +73,7 @@ others-past c m other = fun_ext (λ word. sym (cond-false (m Phase == 1) (evac_n
 module _ (c : Config) (m : Word → ℕ) where
   -- what is due from phase 2 on, and from phase 1 on
   abbrev late : Word → ℕ
-  late word = if m Phase == 2 then init_updated m word else final_updated c m word
+  late word = if m Phase == 2 then init_updated c m word else final_updated c m word
 
   abbrev busy : Word → ℕ
   busy word = if m Phase == 1 then evac_next c m word else late word
@@ -80,10 +90,10 @@ module _ (c : Config) (m : Word → ℕ) where
   goes_on : m Phase ≢ 0 → m Phase ≢ 1 → late ≡ next_in_cycle c m
   goes_on some other = fun_ext (λ word. sym (cond-false (m Phase == 1) (evac_next c m word) (late word) (ne_eqb _ _ other))) ∙ runs some
 
-  pub init_update-next : m Phase ≡ 2 → init_updated m ≡ next_in_cycle c m
+  pub init_update-next : m Phase ≡ 2 → init_updated c m ≡ next_in_cycle c m
   init_update-next phase =
-      fun_ext (λ word. sym (cond-true (m Phase == 2) (init_updated m word) (final_updated c m word) (eq-eqb _ _ phase))) ∙ goes_on (omega (arith, phase)) (omega (arith, phase))
+      fun_ext (λ word. sym (cond-true (m Phase == 2) (init_updated c m word) (final_updated c m word) (eq-eqb _ _ phase))) ∙ goes_on (omega (arith, phase)) (omega (arith, phase))
 
   pub final_update-next : m Phase ≢ 0 → m Phase ≢ 1 → m Phase ≢ 2 → final_updated c m ≡ next_in_cycle c m
   final_update-next some other last =
-      fun_ext (λ word. sym (cond-false (m Phase == 2) (init_updated m word) (final_updated c m word) (ne_eqb _ _ last))) ∙ goes_on some other
+      fun_ext (λ word. sym (cond-false (m Phase == 2) (init_updated c m word) (final_updated c m word) (ne_eqb _ _ last))) ∙ goes_on some other

@@ -85,7 +85,7 @@ accesses_inside c LookLeft value ready = placed_inside c (control_touch c LookLe
 accesses_inside c StoreEnd value ready = placed_inside c (control_touch c StoreEnd) tt
 accesses_inside c LookAsked value ready = placed_inside c (control_touch c LookAsked) tt
 accesses_inside c LookFree value ready = placed_inside c (control_touch c LookFree) tt
-accesses_inside c (Working at) value ready = inside.accesses_inside c (control_seat c) at (and_parts _ _ ready).0
+accesses_inside c (Working at) value ready = inside.accesses_inside c (control_seat c) at (omega arith) (and_parts _ _ ready).0
 accesses_inside c (Stopping at) value ready = placed_inside c (stop_touch at) (is_word_true c (stop_touch at).word (and_parts _ _ (and_parts _ _ ready).0).0)
 accesses_inside c (LoadWord index) value ready = (let below = ltb-true _ _ ready in omega (arith, below))
 accesses_inside c (StoreWord index) value ready = (let below = ltb-true _ _ ready in omega (arith, below))

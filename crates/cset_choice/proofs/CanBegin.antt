@@ -10,7 +10,7 @@ use Rattle.image_graph.specs.declared.image.Image.{Image}
 use Rattle.image_graph.specs.State.{config_of, words_of, memory_of}
 use Rattle.cycle_words.specs.Marking.Final.{final_marked}
 use Rattle.mark_core.specs.Result.{MarksSome}
-use Rattle.mark_core.proofs.MarkingEnded.{no_more_seats}
+use Rattle.image_graph.proofs.BufferTurns.{no_more_seats}
 use Rattle.cycle_words.specs.Evacuation.Begun.{CanBegin}
 use Rattle.cycle_words.proofs.Evacuation.CanBegin.{evacuation_can_begin}
 

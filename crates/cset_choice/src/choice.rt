@@ -40,7 +40,7 @@ fn live_of_all(image: &Image) -> [u64; 64]
     live
 }
 
-// Whether a region with so many live words is a candidate: it is in use, nobody's current one, nothing was allocated in it
+// Whether a region with so many live words is a candidate: it is in use, not current, nothing was allocated in it
 // since marking began, and a quarter of a region in it is garbage.
 fn is_candidate(image: &Image, region: usize, live: u64) -> bool
     requires region { region < (config_of image.now).regions }
@@ -51,7 +51,7 @@ fn is_candidate(image: &Image, region: usize, live: u64) -> bool
     if is_in(image.word(config.free_at()), region) || image.is_current(region) {
         return false;
     }
-    let top = image.edge(region);
+    let top = image.top(region);
     if top != image.word(config.tams_at(region)) {
         return false;
     }
@@ -133,7 +133,7 @@ fn is_taken(config: Config, live: &[u64], candidates: u64, limit: u64, region: u
 }
 
 /// The collection set: of the candidates, in the order of their live words and then of their numbers, as many from the first
-/// one on as can be copied to the free regions together. Candidates are in use, nobody's current region, without a new
+/// one on as can be copied to the free regions together. Candidates are in use, not current, without a new
 /// object, and have garbage of a quarter of a region. What can be reached in its regions is marked, where the image holds a
 /// graph and marking has ended. No word changes. Takes time linear in the words of the heap, and
 /// quadratic in the number of regions.

@@ -27,7 +27,7 @@ fn has_room(image: &Image, region: usize, words: u64) -> bool
     if is_in(image.word(config.cset_at()), region) {
         return false;
     }
-    words <= config.region_words() as u64 - image.edge(region)
+    words <= config.region_words() as u64 - image.top(region)
 }
 
 // The lowest region outside the collection set that has room for so many words, or nothing where each has less.
@@ -71,7 +71,7 @@ fn copy_to(image: &mut Image, address: u64, region: usize) -> u64
 {
     let config = image.config();
     let words = words_of(image.word(config.heap_at(address + 1)));
-    let top = image.edge(region);
+    let top = image.top(region);
     let free = image.word(config.free_at());
     let copy = base(config, region) + top;
     copy_words(image, address, copy, words);

@@ -10,7 +10,10 @@ use Rattle.shen_graph.specs.Graph.{Graph}
 use Rattle.heap_world.specs.Asking.{Asking}
 use Rattle.heap_world.specs.Represents.{Represents}
 use Rattle.heap_world.specs.Change.{IsPaused}
+use Rattle.buffer_words.specs.Buffers.{IsInside}
+use Rattle.buffer_words.specs.LetGo.{let_go}
 use Rattle.full_words.specs.Full.{served, full}
+use Rattle.image_graph.specs.Buffers.{HasNoMoreSeats}
 use Rattle.cycle_words.specs.Evacuation.Copied.{CanCopyOut, copied_out}
 use Rattle.cycle_words.specs.Finishing.Updated.{CanUpdateAll}
 use Rattle.cycle_words.specs.Finishing.Copies.{CanCopyFrom, all_copied, is_room_for_all}
@@ -20,34 +23,30 @@ use Rattle.cycle_pauses.proofs.Finishing.CanFinish.{representing_can_finish}
 use Rattle.cycle_pauses.specs.Ended.{CanEnd}
 use Rattle.cycle_pauses.specs.Laws.{EndedIsPaused, SetIsFreedFirst}
 
--- What a pause owes says nothing of the words before it but that they stand for the graph.
-pub paused_from : (c : Config) (before other after : Word → ℕ) (g : Graph) (asking : ℕ → Asking) → IsPaused c before after g asking → IsPaused c other after g asking
-paused_from c before other after g asking p = record { asked_then = p.asked_then; stands = p.stands; answers = p.answers; crowded = p.crowded }
-
 pub ended_is_paused : EndedIsPaused
-ended_is_paused c m g asking r = ⊎_elim
+ended_is_paused c m g asking r seats = ⊎_elim
     (λ (whole : is_whole c m ≡ true).
     subst (λ w. IsPaused c m w g asking) (sym (fun_ext (λ word. cond-true (is_whole c m) (finished c m word) (full c (finished c m) word) whole)))
-    (whole_is_pause c m g asking r whole).paused)
+    (whole_is_pause c m g asking r seats whole).paused)
     (λ (short : is_whole c m ≡ false).
     subst (λ w. IsPaused c m w g asking) (sym (fun_ext (λ word. cond-false (is_whole c m) (finished c m word) (full c (finished c m) word) short)))
-    (short_is_pause c m g asking r short).paused)
+    (short_is_pause c m g asking r seats short).paused)
     (cases_Bool (is_whole c m))
 
 -- where finishing it is enough, the collection set is freed first
 pub set_is_freed_first : SetIsFreedFirst
 set_is_freed_first c m g asking r whole =
-    let room = (and_parts (is_room_for_all c m) (nobody_waits c (finished c m)) whole).0 in
+    let room = (and_parts (is_room_for_all c (let_go c m)) (nobody_waits c (finished c m)) whole).0 in
     record {
       freed = set_is_free c m g asking r room;
       served_then = fun_ext (λ word.
           cond-true (is_whole c m) (finished c m word) (full c (finished c m) word) whole
-          ∙ cond-true (is_room_for_all c m) (served c (cycle_finished c m) c.mutators word) (all_copied c m word) room);
+          ∙ cond-true (is_room_for_all c (let_go c m)) (served c (cycle_finished c (let_go c m)) c.mutators word) (all_copied c (let_go c m) word) room);
     }
 
 -- words that represent a graph are such that a cycle can be ended
-pub can_end : (c : Config) (m : Word → ℕ) (g : Graph) (asking : ℕ → Asking) → Represents c m g asking → CanEnd c m
-can_end c m g asking r = record { finishes = representing_can_finish c m g asking r; holds = λ short. ∣ (g, (short_is_pause c m g asking r short).holds) ∣₁ }
+pub can_end : (c : Config) (m : Word → ℕ) (g : Graph) (asking : ℕ → Asking) → Represents c m g asking → HasNoMoreSeats c m → CanEnd c m
+can_end c m g asking r seats = record { finishes = representing_can_finish c m g asking r seats; holds = λ short. ∣ (g, (short_is_pause c m g asking r seats short).holds) ∣₁ }
 
 -- That a cycle can be ended is one fact.
 can_copy_out_prop : (c : Config) (m : Word → ℕ) (a : ℕ) → IsProp (CanCopyOut c m a)
@@ -58,8 +57,12 @@ unfolding CanCopyFrom
 can_copy_from_prop c zero m a = hlevel
 can_copy_from_prop c (suc n) m a = hlevel (can_copy_out_prop c m a, can_copy_from_prop c n (copied_out c m a) (a + 1), can_copy_from_prop c n m (a + 1))
 
+inside_prop : (c : Config) (word : ℕ) → IsProp (IsInside c word)
+inside_prop c word = hlevel (le_prop, ℕ_set)
+
 can_update_prop : (c : Config) (m : Word → ℕ) → IsProp (CanUpdateAll c m)
 can_update_prop c m = hlevel (le_prop, ℕ_set)
 
 pub can_end_prop : (c : Config) (m : Word → ℕ) → IsProp (CanEnd c m)
-can_end_prop c m = hlevel (can_copy_from_prop c (c.regions * c.region_words) m c.region_words, can_update_prop c (all_copied c m))
+can_end_prop c m =
+    hlevel (inside_prop c, can_copy_from_prop c (c.regions * c.region_words) (let_go c m) c.region_words, can_update_prop c (all_copied c (let_go c m)))

@@ -4,25 +4,22 @@ use Rattle.std.proofs.Math.Logic.{∥∥₁_elim}
 use Rattle.std.proofs.Math.Nat.{ℕ_set}
 use Rattle.std.proofs.lemmas.Bool.{cases_Bool, cases_eq, cond-true, cond-false, eq-eqb, ne_eqb, true≢false}
 use Rattle.heap_words.specs.declared.config.Config.{Config}
-use Rattle.heap_words.specs.Words.{Word, Pause, Left, End, State, Phase, Evac, Ask, Root, Wait, Answer, Top, Heap, is_image}
-use Rattle.shen_graph.specs.Graph.{Graph}
-use Rattle.full_words.specs.Held.{IsAmong}
-use Rattle.full_words.specs.Full.{now_in, root_words, kept_in, made_in, served_in, room_for, served, full}
-use Rattle.full_words.specs.Promised.{with_promised}
-use Rattle.full_words.proofs.Reached.{can_pack}
-use Rattle.full_words.proofs.Origin.{kept_inside, lie_apart}
-use Rattle.full_words.proofs.Walked.{walk_keeps}
+use Rattle.heap_words.specs.Ranges.{seat_count}
+use Rattle.heap_words.specs.Words.{Word, Pause, Left, End, State, Phase, Evac, Ask, Root, Wait, Answer, Heap, is_image}
+use Rattle.buffer_words.specs.LetGo.{let_go}
+use Rattle.buffer_words.proofs.Elsewhere.{let_go_same}
+use Rattle.full_words.specs.Full.{made_in, served_in, room_for, served, full}
 use Rattle.full_words.proofs.Served.{served_first, turn_idle, turn_waits}
-use Rattle.image_graph.specs.Holds.{Holds}
-use Rattle.cycle_pauses.proofs.Full.Images.{full_before}
-use Rattle.cycle_pauses.proofs.Full.Outside.{IsZeroOutside, served_outside, full_outside}
+use Rattle.cycle_pauses.proofs.Full.Images.{of_image, full_before, full_zero}
+use Rattle.cycle_pauses.proofs.Full.Outside.{IsZeroOutside, served_outside}
+use Rattle.cycle_pauses.proofs.Full.LettingGoFirst.{let_go_outside}
 use Rattle.cycle_words.specs.Evacuation.Copied.{MayChange, copied_out}
 use Rattle.cycle_pauses.proofs.Evacuation.Outside.{of_two, copied_outside, copied_same}
 use Rattle.cycle_words.proofs.Evacuation.CopiedOut.{copies_out}
 use Rattle.cycle_pauses.proofs.Updating.Outside.{final_outside}
 use Rattle.cycle_words.specs.Finishing.Updated.{updated_word, is_kept_field, all_updated}
 use Rattle.cycle_words.specs.Finishing.Copies.{is_left, has_copy_room, copied_from, CanCopyFrom, all_copied, is_room_for_all}
-use Rattle.cycle_words.specs.Finishing.Finish.{set_freed, cycle_finished, finished, is_whole, CanFinish}
+use Rattle.cycle_words.specs.Finishing.Finish.{set_freed, cycle_finished, finished_from, finished, is_whole, CanFinish}
 use Rattle.cycle_words.proofs.Finishing.Copies.{room_found, copied_none, copied_next, copied_stuck, copied_skips}
 use Rattle.cycle_words.proofs.Finishing.Fields.{low_spared}
 use Rattle.cycle_pauses.specs.Ended.{ended, CanEnd}
@@ -45,7 +42,7 @@ copied_from_same c (suc n) m a word fixed = ⊎_elim
     at_word (copied_from c m a (suc n)) (copied_from c m (a + 1) n) word (copied_skips c m a n other) ∙ copied_from_same c n m (a + 1) word fixed)
     (cases_Bool (is_left c m a))
 
-all_copied_same : (c : Config) (m : Word → ℕ) (word : Word) → (MayChange word → ⊥) → all_copied c m word ≡ m word
+pub all_copied_same : (c : Config) (m : Word → ℕ) (word : Word) → (MayChange word → ⊥) → all_copied c m word ≡ m word
 all_copied_same c m word fixed =
     of_two (m Phase == 2) (copied_from c m c.region_words (c.regions * c.region_words) word) (m word) (m word)
     (copied_from_same c (c.regions * c.region_words) m c.region_words word fixed) refl
@@ -65,19 +62,22 @@ served_same c m word made (suc n) = ⊎_elim
 
 -- So words before the image stay where a cycle is finished, ..
 finished_same : (c : Config) (m : Word → ℕ) (word : Word) → ((n : Word → ℕ) → set_freed c (all_updated c n) word ≡ n word) → (MayChange word → ⊥)
-    → ((w : Word → ℕ) (t r : ℕ) → made_in c w t r word ≡ w word) → finished c m word ≡ m word
+    → ((w : Word → ℕ) (t r : ℕ) → made_in c w t r word ≡ w word) → finished_from c m word ≡ m word
 finished_same c m word updates fixed made =
     let copies = all_copied_same c m word fixed in
     of_two (is_room_for_all c m) (served c (cycle_finished c m) c.mutators word) (all_copied c m word) (m word)
     (served_same c (cycle_finished c m) word made c.mutators ∙ updates (all_copied c m) ∙ copies) copies
 
-finished_before : (c : Config) (m : Word → ℕ) (word : Word) → is_image word ≡ false → finished c m word ≡ m word
+finished_from_before : (c : Config) (m : Word → ℕ) (word : Word) → is_image word ≡ false → finished_from c m word ≡ m word
 unfolding made_in
-finished_before c m Pause other = finished_same c m Pause (λ n. refl) (λ never. never) (λ w t r. refl)
-finished_before c m Left other = finished_same c m Left (λ n. refl) (λ never. never) (λ w t r. refl)
-finished_before c m End other = finished_same c m End (λ n. refl) (λ never. never) (λ w t r. refl)
-finished_before c m (State s) other = finished_same c m (State s) (λ n. refl) (λ never. never) (λ w t r. refl)
-finished_before c m _ other = absurd (true≢false other)
+finished_from_before c m Pause other = finished_same c m Pause (λ n. refl) (λ never. never) (λ w t r. refl)
+finished_from_before c m Left other = finished_same c m Left (λ n. refl) (λ never. never) (λ w t r. refl)
+finished_from_before c m End other = finished_same c m End (λ n. refl) (λ never. never) (λ w t r. refl)
+finished_from_before c m (State s) other = finished_same c m (State s) (λ n. refl) (λ never. never) (λ w t r. refl)
+finished_from_before c m _ other = absurd (true≢false other)
+
+finished_before : (c : Config) (m : Word → ℕ) (word : Word) → is_image word ≡ false → finished c m word ≡ m word
+finished_before c m word other = finished_from_before c (let_go c m) word other ∙ let_go_same word (of_image word other) c m (seat_count c.mutators c.helpers)
 
 -- .. and where it is ended in its pause.
 pub ended_before : (c : Config) (m : Word → ℕ) (word : Word) → is_image word ≡ false → ended c m word ≡ m word
@@ -130,21 +130,12 @@ set_freed_outside c m nothing word other = final_outside c m nothing word other
 -- .. once the cycle is finished, ..
 finished_outside : (c : Config) (m : Word → ℕ) → CanFinish c m → IsZeroOutside c m → IsZeroOutside c (finished c m)
 finished_outside c m can nothing word other =
-    let copies = all_copied_outside c m can.copies nothing in
-    of_two (is_room_for_all c m) (served c (cycle_finished c m) c.mutators word) (all_copied c m word) 0
-    (served_outside c (cycle_finished c m) c.mutators (omega arith)
-    (set_freed_outside c (all_updated c (all_copied c m)) (all_updated_outside c (all_copied c m) copies)) word other)
+    let w : Word → ℕ = let_go c m in
+    let copies = all_copied_outside c (let_go c m) can.copies (let_go_outside c m nothing can.buffers) in
+    of_two (is_room_for_all c w) (served c (cycle_finished c w) c.mutators word) (all_copied c w word) 0
+    (served_outside c (cycle_finished c w) c.mutators (omega arith)
+    (set_freed_outside c (all_updated c (all_copied c w)) (all_updated_outside c (all_copied c w) copies)) word other)
     (copies word other)
-
--- .. after a full collection, ..
-pub full_zero : (c : Config) (m : Word → ℕ) (g : Graph) → Holds c m g → IsZeroOutside c m → IsZeroOutside c (full c m)
-full_zero c m g holds nothing =
-    let block = holds.0 in
-    let p = holds.2 in
-    let objects = holds.3.objects in
-    let can = can_pack c (λ r. m (Top r)) (λ a. m (Heap a)) block (now_in m) (IsAmong (root_words c m)) (with_promised g p) objects (kept_in c m) (walk_keeps c m block (with_promised g p) objects) in
-    full_outside c m (lie_apart c (λ r. m (Top r)) (λ a. m (Heap a)) block (with_promised g p).object (now_in m) (kept_in c m) can)
-    (λ a some. (kept_inside c (λ r. m (Top r)) (λ a. m (Heap a)) block (with_promised g p).object (now_in m) (kept_in c m) can a some).1) nothing
 
 -- .. and once the cycle is ended in its pause.
 pub ended_outside : (c : Config) (m : Word → ℕ) → CanEnd c m → IsZeroOutside c m → IsZeroOutside c (ended c m)

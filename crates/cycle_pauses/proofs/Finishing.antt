@@ -1,4 +1,3 @@
-pub mod Sizes
 pub mod Copying
 pub mod CopyingKeeps
 pub mod Updating

@@ -4,6 +4,7 @@ pub mod Promises
 pub mod Mapped
 pub mod Before
 pub mod Current
+pub mod Sizes
 pub mod Holding
 pub mod After
 pub mod Made
@@ -12,5 +13,6 @@ pub mod Answered
 pub mod Reached
 pub mod Crowds
 pub mod Outside
+pub mod LettingGoFirst
 pub mod Images
 pub mod Pauses

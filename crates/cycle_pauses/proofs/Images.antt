@@ -2,35 +2,48 @@
 use Rattle.std.proofs.Common.{◌≡◌, ℕ, false, List, ◌++◌, length, replicate, refl, ap, ◌∙◌}
 use Rattle.heap_words.specs.declared.config.Config.{Config}
 use Rattle.heap_words.specs.Words.{Word, Pause, Left, End, State, Phase, IsWord, is_image, image_start, table_words, view}
+use Rattle.heap_words.specs.Ranges.{seat_count}
 use Rattle.heap_world.specs.Change.{image_words, image_view}
 use Rattle.std.specs.Prelude.{◌==◌, if◌then◌else◌}
 use Rattle.std.proofs.lemmas.Bool.{true≢false}
+use Rattle.buffer_words.specs.Settled.{buffers_settled}
+use Rattle.buffer_words.proofs.Elsewhere.{settled_same}
 use Rattle.full_words.specs.Full.{full}
-use Rattle.cycle_pauses.proofs.Full.Images.{full_before, image_of_length, word_by_name, table_by_name}
-use Rattle.cycle_words.specs.Marking.Init.{init_marked}
+use Rattle.cycle_pauses.proofs.Full.Images.{of_image, full_before, image_of_length, word_by_name, table_by_name}
+use Rattle.cycle_words.specs.Marking.Init.{marking_begun, init_marked}
 use Rattle.cycle_pauses.specs.Evacuation.Collect.{evac_next}
-use Rattle.cycle_words.specs.Updating.Changes.{init_updated, final_updated}
+use Rattle.cycle_words.specs.Updating.Changes.{updating_begun, init_updated, final_updated}
 use Rattle.cycle_pauses.specs.Ended.{ended}
 use Rattle.cycle_pauses.specs.Collect.{is_room_needed, next_in_cycle, past_marking, room_made, collected, collect_image}
 use Rattle.cycle_pauses.specs.Laws.{TableIsCollected}
 use Rattle.cycle_pauses.proofs.Evacuation.Outside.{of_two, next_before}
 use Rattle.cycle_pauses.proofs.Finished.{ended_before}
 
--- the beginning of marking leaves the words before the image
-init_before : (c : Config) (m : Word → ℕ) (word : Word) → is_image word ≡ false → init_marked c m word ≡ m word
-init_before c m Pause other = refl
-init_before c m Left other = refl
-init_before c m End other = refl
-init_before c m (State s) other = refl
-init_before c m _ other = absurd (true≢false other)
+-- settling leaves the words before the image
+settled_before : (c : Config) (m : Word → ℕ) (word : Word) → is_image word ≡ false → buffers_settled c m word ≡ m word
+settled_before c m word other = settled_same word (of_image word other) c m (seat_count c.mutators c.helpers)
 
--- so does the beginning of updating, and its end
-init_updated_before : (m : Word → ℕ) (word : Word) → is_image word ≡ false → init_updated m word ≡ m word
-init_updated_before m Pause other = refl
-init_updated_before m Left other = refl
-init_updated_before m End other = refl
-init_updated_before m (State s) other = refl
-init_updated_before m _ other = absurd (true≢false other)
+-- so does the beginning of marking, ..
+begun_before : (c : Config) (m : Word → ℕ) (word : Word) → is_image word ≡ false → marking_begun c m word ≡ m word
+begun_before c m Pause other = refl
+begun_before c m Left other = refl
+begun_before c m End other = refl
+begun_before c m (State s) other = refl
+begun_before c m _ other = absurd (true≢false other)
+
+init_before : (c : Config) (m : Word → ℕ) (word : Word) → is_image word ≡ false → init_marked c m word ≡ m word
+init_before c m word other = begun_before c (buffers_settled c m) word other ∙ settled_before c m word other
+
+-- .. that of updating, and its end
+updating_before : (c : Config) (m : Word → ℕ) (word : Word) → is_image word ≡ false → updating_begun c m word ≡ m word
+updating_before c m Pause other = refl
+updating_before c m Left other = refl
+updating_before c m End other = refl
+updating_before c m (State s) other = refl
+updating_before c m _ other = absurd (true≢false other)
+
+init_updated_before : (c : Config) (m : Word → ℕ) (word : Word) → is_image word ≡ false → init_updated c m word ≡ m word
+init_updated_before c m word other = updating_before c (buffers_settled c m) word other ∙ settled_before c m word other
 
 final_updated_before : (c : Config) (m : Word → ℕ) (word : Word) → is_image word ≡ false → final_updated c m word ≡ m word
 final_updated_before c m Pause other = refl
@@ -41,9 +54,9 @@ final_updated_before c m _ other = absurd (true≢false other)
 
 cycle_before : (c : Config) (m : Word → ℕ) (word : Word) → is_image word ≡ false → next_in_cycle c m word ≡ m word
 cycle_before c m word other =
-    of_two (m Phase == 0) (init_marked c m word) (if m Phase == 1 then evac_next c m word else (if m Phase == 2 then init_updated m word else final_updated c m word)) (m word) (init_before c m word other)
-    (of_two (m Phase == 1) (evac_next c m word) (if m Phase == 2 then init_updated m word else final_updated c m word) (m word) (next_before c m word other)
-    (of_two (m Phase == 2) (init_updated m word) (final_updated c m word) (m word) (init_updated_before m word other) (final_updated_before c m word other)))
+    of_two (m Phase == 0) (init_marked c m word) (if m Phase == 1 then evac_next c m word else (if m Phase == 2 then init_updated c m word else final_updated c m word)) (m word) (init_before c m word other)
+    (of_two (m Phase == 1) (evac_next c m word) (if m Phase == 2 then init_updated c m word else final_updated c m word) (m word) (next_before c m word other)
+    (of_two (m Phase == 2) (init_updated c m word) (final_updated c m word) (m word) (init_updated_before c m word other) (final_updated_before c m word other)))
 
 past_marking_before : (c : Config) (m : Word → ℕ) (word : Word) → is_image word ≡ false → past_marking c m word ≡ m word
 past_marking_before c m word other = of_two (m Phase == 1) (evac_next c m word) (m word) (m word) (next_before c m word other) refl

@@ -23,13 +23,14 @@ use Rattle.full_words.specs.Promised.{Promises}
 use Rattle.cycle_pauses.proofs.Full.ByCopies.{by_copies}
 use Rattle.cycle_pauses.proofs.Full.Outside.{IsZeroOutside}
 use Rattle.cycle_pauses.proofs.Full.Images.{holds_outside}
-use Rattle.cycle_pauses.proofs.Full.Pauses.{paused}
+use Rattle.cycle_pauses.proofs.Full.Pauses.{paused_from, paused}
+use Rattle.buffer_pauses.proofs.Inside.{buffers_inside}
 use Rattle.cycle_pauses.proofs.Full.Promises.{promises_of}
 use Rattle.cycle_pauses.proofs.Full.Before.{live}
 use Rattle.cycle_pauses.proofs.Full.Holding.{holds_by}
 use Rattle.cycle_words.specs.Marking.Init.{init_marked}
 use Rattle.cycle_words.specs.Marking.Final.{final_marked}
-use Rattle.cycle_words.specs.Marking.Laws.{HasNoMoreSeats}
+use Rattle.image_graph.specs.Buffers.{HasNoMoreSeats}
 use Rattle.cycle_pauses.proofs.Marking.FromSnapshot.{is_marking}
 use Rattle.cycle_pauses.proofs.Marking.Outside.{init_outside, final_outside}
 use Rattle.cycle_pauses.proofs.Marking.WhileMarking.{beginning_represents}
@@ -38,7 +39,7 @@ use Rattle.cycle_words.specs.Evacuation.Begun.{CanBegin}
 use Rattle.cycle_words.proofs.Evacuation.Clearing.{can_clear_in_turn}
 use Rattle.cycle_words.proofs.Evacuation.CanBegin.{evacuation_can_begin}
 use Rattle.cycle_pauses.specs.Evacuation.Collect.{evac_next}
-use Rattle.cycle_pauses.proofs.Evacuation.Outside.{begun_outside}
+use Rattle.cycle_pauses.proofs.Evacuation.Outside.{of_two, next_current, begun_outside}
 use Rattle.cycle_pauses.proofs.Evacuation.Begun.{idle_pause, evacuation_represents}
 use Rattle.cycle_words.specs.Updating.Changes.{init_updated, final_updated}
 use Rattle.cycle_pauses.proofs.Updating.Beginning.{updating_begins}
@@ -49,7 +50,7 @@ use Rattle.cycle_pauses.specs.Collect.{is_room_needed, next_in_cycle, past_marki
 use Rattle.cycle_pauses.specs.Laws.{RepresentingCanCollect, EndedCanBegin, RunningCanEnd, ImageIsCollected, CollectIsPause}
 use Rattle.cycle_pauses.proofs.Images.{collected_by_name, collected_length}
 use Rattle.cycle_pauses.proofs.Finished.{ended_outside}
-use Rattle.cycle_pauses.proofs.EndedPaused.{paused_from, ended_is_paused, can_end, can_end_prop}
+use Rattle.cycle_pauses.proofs.EndedPaused.{ended_is_paused, can_end, can_end_prop}
 
 -- there is no collection set in phases 0 and 1
 calm_in : (c : Config) (m : Word → ℕ) (g : Graph) (asking : ℕ → Asking) (r : Represents c m g asking) → m Phase < 2 → m Cset ≡ 0
@@ -62,7 +63,7 @@ pick b x y is = fun_ext (λ word. cond-true b (x word) (y word) is)
 skip : (b : Bool) (x y : Word → ℕ) → b ≡ false → (λ word. if b then x word else y word) ≡ y
 skip b x y is = fun_ext (λ word. cond-false b (x word) (y word) is)
 
--- no seat but those of the heap has a current region in an image
+-- no seat but those of the heap has a buffer in an image
 no_more_seats : (c : Config) (words : List ℕ) → HasNoMoreSeats c (view c words)
 no_more_seats c words seat past = view_none c words (Current seat) (le-ltb seat (seat_count c.mutators c.helpers) past)
 
@@ -74,6 +75,10 @@ past_marking_represents c m g asking r seats = ⊎_elim
     (λ (off : (m Phase == 1) ≡ false). subst (λ w. Represents c w g asking) (sym (skip (m Phase == 1) (evac_next c m) m off)) r)
     (cases_Bool (m Phase == 1))
 
+-- and no other seats have buffers then
+past_marking_seats : (c : Config) (m : Word → ℕ) → HasNoMoreSeats c m → HasNoMoreSeats c (past_marking c m)
+past_marking_seats c m seats seat past = of_two (m Phase == 1) (evac_next c m (Current seat)) (m (Current seat)) 0 (next_current c m seat ∙ seats seat past) (seats seat past)
+
 can_collect : (c : Config) (m : Word → ℕ) (g : Graph) (asking : ℕ → Asking) (r : Represents c m g asking) → HasNoMoreSeats c m
     → CanPause c m (live c m g asking (by_copies c m g asking r)) r.ghost.owner (promises_of c g asking) g
 can_collect c m g asking r seats = record {
@@ -81,7 +86,7 @@ can_collect c m g asking r seats = record {
   phase_is = r.shared.phased.phase_is;
   uncollected = λ none. calm_in c m g asking r (omega (arith, none));
   marking = λ on. is_marking c m g asking r (calm_in c m g asking r (omega (arith, on))) on;
-  ends = λ needed runs. can_end c (past_marking c m) g asking (past_marking_represents c m g asking r seats);
+  ends = λ needed runs. can_end c (past_marking c m) g asking (past_marking_represents c m g asking r seats) (past_marking_seats c m seats);
 }
 
 pub representing_can_collect : RepresentingCanCollect
@@ -127,7 +132,7 @@ pub data Which (c : Config) (m : Word → ℕ) : Type 0 where
   to_end : is_room_needed m ≡ true → (m Phase ≢ 0) → collected c m ≡ ended c (past_marking c m) → Which c m
   to_mark : IsCalm m → m Phase ≡ 0 → collected c m ≡ init_marked c m → Which c m
   to_evacuate : IsCalm m → m Phase ≡ 1 → collected c m ≡ evac_next c m → Which c m
-  to_update : IsCalm m → m Phase ≡ 2 → collected c m ≡ init_updated m → Which c m
+  to_update : IsCalm m → m Phase ≡ 2 → collected c m ≡ init_updated c m → Which c m
   to_free : IsCalm m → (m Phase ≢ 0) → (m Phase ≢ 1) → (m Phase ≢ 2) → collected c m ≡ final_updated c m → Which c m
 
 differ : (n k : ℕ) → (n == k) ≡ false → n ≢ k
@@ -135,7 +140,7 @@ differ n k other same = true≢false (sym (eq-eqb n k same) ∙ other)
 
 module _ (c : Config) (m : Word → ℕ) where
   abbrev late : Word → ℕ
-  late word = if m Phase == 2 then init_updated m word else final_updated c m word
+  late word = if m Phase == 2 then init_updated c m word else final_updated c m word
 
   abbrev later : Word → ℕ
   later word = if m Phase == 1 then evac_next c m word else late word
@@ -150,9 +155,9 @@ module _ (c : Config) (m : Word → ℕ) where
       (λ (not_1 : (m Phase == 1) ≡ false).
       let after_1 = after_0 ∙ skip (m Phase == 1) (evac_next c m) late not_1 in
       ⊎_elim
-      (λ (two : (m Phase == 2) ≡ true). Which.to_update calm (eqb-true (m Phase) 2 two) (after_1 ∙ pick (m Phase == 2) (init_updated m) (final_updated c m) two))
+      (λ (two : (m Phase == 2) ≡ true). Which.to_update calm (eqb-true (m Phase) 2 two) (after_1 ∙ pick (m Phase == 2) (init_updated c m) (final_updated c m) two))
       (λ (not_2 : (m Phase == 2) ≡ false).
-      Which.to_free calm (differ (m Phase) 0 not_0) (differ (m Phase) 1 not_1) (differ (m Phase) 2 not_2) (after_1 ∙ skip (m Phase == 2) (init_updated m) (final_updated c m) not_2))
+      Which.to_free calm (differ (m Phase) 0 not_0) (differ (m Phase) 1 not_1) (differ (m Phase) 2 not_2) (after_1 ∙ skip (m Phase == 2) (init_updated c m) (final_updated c m) not_2))
       (cases_Bool (m Phase == 2)))
       (cases_Bool (m Phase == 1)))
       (cases_Bool (m Phase == 0))
@@ -198,7 +203,7 @@ collected_outside c image g block owner p can = by_which (which c (image_view c 
     by_which (Which.to_end needed runs is) = subst (IsZeroOutside c) (sym is) (ended_outside c (past_marking c (image_view c image)) (can.ends needed runs) past_outside)
     by_which (Which.to_mark calm begins is) = subst (IsZeroOutside c) (sym is) (init_outside c (image_view c image) block owner p g can.holds none (can.uncollected begins))
     by_which (Which.to_evacuate calm on is) = subst (IsZeroOutside c) (sym is) (evacuated on)
-    by_which (Which.to_update calm on is) = subst (IsZeroOutside c) (sym is) (update.init_outside c (image_view c image) none)
+    by_which (Which.to_update calm on is) = subst (IsZeroOutside c) (sym is) (update.init_outside c (image_view c image) (buffers_inside c (image_view c image) block can.holds.objects.plotted can.holds.buffers) none)
     by_which (Which.to_free calm not_0 not_1 not_2 is) = subst (IsZeroOutside c) (sym is) (update.final_outside c (image_view c image) none)
 
 pub image_is_collected : ImageIsCollected
@@ -226,12 +231,13 @@ module _ (c : Config) (image : List ℕ) (g : Graph) (asking : ℕ → Asking) (
   which_paused (Which.in_full idle is) = subst (λ words. IsPaused c m words g asking) (sym is) (paused c m g asking (by_copies c m g asking r))
   which_paused (Which.to_end needed runs is) =
       let past = past_marking_represents c m g asking r (no_more_seats c (replicate (image_start c) 0 ++ image)) in
-      subst (λ words. IsPaused c m words g asking) (sym is) (paused_from c (past_marking c m) m (ended c (past_marking c m)) g asking (ended_is_paused c (past_marking c m) g asking past))
+      subst (λ words. IsPaused c m words g asking) (sym is) (paused_from c (past_marking c m) m (ended c (past_marking c m)) g asking
+      (ended_is_paused c (past_marking c m) g asking past (past_marking_seats c m (no_more_seats c (replicate (image_start c) 0 ++ image)))))
   which_paused (Which.to_mark calm begins is) = step_paused calm (init_marked c m) is (beginning_represents c m g asking r begins (nobody calm))
   which_paused (Which.to_evacuate calm on is) =
       step_paused calm (evac_next c m) is (evacuation_represents c m g asking r on (no_more_seats c (replicate (image_start c) 0 ++ image)))
   which_paused (Which.to_update calm on is) =
-      step_paused calm (init_updated m) is (updating_begins c m g asking r on (calm.room on) (due (omega (arith, on)) calm.unasked))
+      step_paused calm (init_updated c m) is (updating_begins c m g asking r on (calm.room on) (due (omega (arith, on)) calm.unasked))
   which_paused (Which.to_free calm not_0 not_1 not_2 is) =
       let few = r.shared.phased.phase_is in
       let on : m Phase ≡ 3 = omega (arith, few, not_0, not_1, not_2) in

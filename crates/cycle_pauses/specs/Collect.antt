@@ -28,7 +28,7 @@ is_room_needed memory = (bit_at (memory Ask) 1 == 1) || ((memory Phase == 2) && 
 abbrev pub next_in_cycle : Config → (Word → ℕ) → Word → ℕ
 next_in_cycle c memory word =
     if memory Phase == 0 then init_marked c memory word
-    else (if memory Phase == 1 then evac_next c memory word else (if memory Phase == 2 then init_updated memory word else final_updated c memory word))
+    else (if memory Phase == 1 then evac_next c memory word else (if memory Phase == 2 then init_updated c memory word else final_updated c memory word))
 
 -- The words past marking, from which a cycle is ended in its pause: where objects are marked, marking ends and evacuation begins.
 abbrev pub past_marking : Config → (Word → ℕ) → Word → ℕ

@@ -7,8 +7,9 @@ use Rattle.shen_graph.specs.Graph.{Graph}
 use Rattle.heap_world.specs.Asking.{Asking}
 use Rattle.heap_world.specs.Represents.{Represents}
 use Rattle.heap_world.specs.Change.{image_words, image_view, IsPaused, IsPause}
+use Rattle.buffer_words.specs.LetGo.{let_go}
 use Rattle.full_words.specs.Full.{served}
-use Rattle.cycle_words.specs.Marking.Laws.{HasNoMoreSeats}
+use Rattle.image_graph.specs.Buffers.{HasNoMoreSeats}
 use Rattle.cycle_words.specs.Marking.Final.{final_marked}
 use Rattle.cycle_words.specs.Evacuation.Begun.{CanBegin}
 use Rattle.cycle_pauses.specs.Updating.Freed.{IsFreed}
@@ -18,12 +19,13 @@ use Rattle.cycle_pauses.specs.Collect.{is_room_needed, past_marking, collected, 
 
 -- A cycle that is ended in its pause is what a pause owes: the words stand for the same graph, and each mutator that asks is answered.
 abbrev pub EndedIsPaused : Type 0
-EndedIsPaused = (c : Config) (memory : Word → ℕ) (g : Graph) (asking : ℕ → Asking) → Represents c memory g asking → IsPaused c memory (ended c memory) g asking
+EndedIsPaused = (c : Config) (memory : Word → ℕ) (g : Graph) (asking : ℕ → Asking) → Represents c memory g asking → HasNoMoreSeats c memory
+    → IsPaused c memory (ended c memory) g asking
 
--- Each region that was in the collection set is freed, and who waits is served from the words that this leaves.
+-- Once buffers were let go, each region that was in the collection set is freed, and who waits is served from the words that this leaves.
 pub record IsFreedFirst (c : Config) (memory : Word → ℕ) : Type 0 where
-  pub freed : (r : ℕ) → r < c.regions → IsIn (memory Cset) r → IsFreed (cycle_finished c memory) r
-  pub served_then : ended c memory ≡ served c (cycle_finished c memory) c.mutators
+  pub freed : (r : ℕ) → r < c.regions → IsIn (memory Cset) r → IsFreed (cycle_finished c (let_go c memory)) r
+  pub served_then : ended c memory ≡ served c (cycle_finished c (let_go c memory)) c.mutators
 
 -- So it is where finishing the cycle is enough.
 abbrev pub SetIsFreedFirst : Type 0

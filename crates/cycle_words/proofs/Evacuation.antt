@@ -13,7 +13,6 @@ pub mod NamingPlaces
 pub mod Copies
 pub mod Clearing
 pub mod CanBegin
-pub mod Carried
 pub mod CopyHolds
 pub mod RenamedInPlace
 pub mod ClearedHolds

@@ -1,7 +1,9 @@
 pub mod Starts
+pub mod Strides
 pub mod Fields
 pub mod Copies
 pub mod Whole
+pub mod Collecting
 pub mod Causes
 pub mod UpdatedHolds
 pub mod KeptFields

@@ -1,15 +1,17 @@
 -- That words which hold a graph hold it after a call, in some way.
 use Rattle.std.specs.Prelude.{ℕ, ◌≡◌, ◌≢◌, ◌+◌, ◌<◌, ◌≤◌, Option, Some, true, false}
 use Rattle.heap_words.specs.declared.config.Config.{Config}
-use Rattle.heap_words.specs.Words.{Word, Phase, Cset, Top, Tams, Current, Heap}
+use Rattle.heap_words.specs.Words.{Word, Phase, Cset, Top, Tams, Heap}
 use Rattle.heap_words.specs.Encoding.{is_forwarded, refs_in}
 use Rattle.shen_graph.specs.Graph.{Graph}
 use Rattle.regions.specs.Sets.{IsIn}
-use Rattle.heap_world.specs.World.{Block, Plot, IsCollected}
+use Rattle.heap_world.specs.World.{Block, Plot, AreYoungRooms, HasNoRoom, IsCollected}
 use Rattle.full_words.specs.Held.{IsAmong}
 use Rattle.full_words.specs.Full.{root_words}
 use Rattle.full_words.specs.Promised.{Promises}
-use Rattle.image_graph.specs.Holds.{HoldsBy, AreSized}
+use Rattle.image_graph.specs.State.{EndsIn}
+use Rattle.image_graph.specs.Holds.{HoldsBy, AreSized, HasObject}
+use Rattle.image_graph.specs.Buffers.{settled_block}
 use Rattle.cycle_words.specs.Marking.Marks.{is_black, IsKept}
 use Rattle.cycle_words.specs.Marking.Final.{freed_block, freed_owner}
 use Rattle.cycle_words.specs.Marking.WhileMarking.{CanBeReached}
@@ -28,22 +30,23 @@ pub record HoldsStill (c : Config) (before after : Word → ℕ) (block : Plot) 
   pub holds : HoldsBy c after pieces owner p g
   pub sized : AreSized before block → AreSized after pieces
 
--- What is marked in the collection set are pieces.
-abbrev pub AreMarkedPieces : Config → (Word → ℕ) → Plot → Type 0
-AreMarkedPieces c memory block = (a : ℕ) → is_collected c memory a ≡ true → is_black c memory a ≡ true → (b : Block) × (block a ≡ Some b)
+-- What is marked in the collection set are objects.
+abbrev pub AreMarkedObjects : Config → (Word → ℕ) → Plot → Type 0
+AreMarkedObjects c memory block = (a : ℕ) → is_collected c memory a ≡ true → is_black c memory a ≡ true → HasObject block a
 
 -- Nothing that can be reached lies in the collection set.
 abbrev pub NothingInside : Config → (Word → ℕ) → Type 0
 NothingInside c memory = (a : ℕ) → CanBeReached c memory a → IsCollected c (memory Cset) a → ⊥
 
--- While a region is in the collection set: what is marked there are pieces; each object that can be reached is kept; nothing was allocated
--- in the set since marking began, and it is nobody's; and once objects are not evacuated any more nothing that can be reached lies there.
+-- While a region is in the collection set: what is marked there are objects; each object that can be reached is kept; nothing was allocated
+-- in the set since marking began, no buffer lies there, and what is allocated from now on is new; and once objects are not evacuated any more nothing that can be reached lies there.
 pub record WhileCollecting (c : Config) (memory : Word → ℕ) (block : Plot) : Type 0 where
-  pub marked : AreMarkedPieces c memory block
+  pub marked : AreMarkedObjects c memory block
   pub reachable : memory Cset ≢ 0 → (a : ℕ) → CanBeReached c memory a → IsKept c memory a
   pub no_new : (r : ℕ) → IsIn (memory Cset) r → memory (Top r) ≡ memory (Tams r)
   pub floors : memory Cset ≢ 0 → (r : ℕ) → r < c.regions → memory (Tams r) ≤ memory (Top r)
-  pub unseated : (seat r : ℕ) → memory (Current seat) ≡ r + 1 → IsIn (memory Cset) r → ⊥
+  pub young : memory Cset ≢ 0 → AreYoungRooms c (λ r. memory (Tams r)) block
+  pub unseated : (seat r : ℕ) → EndsIn c memory seat r → IsIn (memory Cset) r → ⊥
   pub outside : memory Phase ≢ 2 → NothingInside c memory
 
 -- So words hold the graph, with the same collection set, and finishing the cycle keeps it, if it did.
@@ -56,40 +59,39 @@ pub record HoldsCopied (c : Config) (before after : Word → ℕ) (block : Plot)
 -- moved, and finishing the cycle keeps it then, ..
 abbrev pub CopyingHolds : Config → (before after : Word → ℕ) → ℕ → Type 0
 CopyingHolds c before after a = (block : Plot) (owner : ℕ → Option ℕ) (p : Promises) (g : Graph) → HoldsBy c before block owner p g → AreSized before block
-    → (b : Block) → block a ≡ Some b → is_forwarded (before (Heap a)) ≡ false → HoldsCopied c before after block owner p g
+    → HasObject block a → is_forwarded (before (Heap a)) ≡ false → HoldsCopied c before after block owner p g
 
 -- .. once evacuation has begun, from words without a collection set, ..
 abbrev pub BeginningHolds : Config → (before after : Word → ℕ) → Type 0
 BeginningHolds c before after = (block : Plot) (owner : ℕ → Option ℕ) (p : Promises) (g : Graph) → HoldsBy c before block owner p g → before Cset ≡ 0
     → HoldsStill c before after block owner p g
 
--- .. once all references were updated, in the same way, ..
+-- .. once all references were updated, in the same way, where nobody has a buffer, ..
 pub record HoldsUpdated (c : Config) (after : Word → ℕ) (block : Plot) (owner : ℕ → Option ℕ) (p : Promises) (g : Graph) : Type 0 where
   pub holds : HoldsBy c after block owner p g
   pub sized : AreSized after block
 
 abbrev pub UpdatingHolds : Config → (before after : Word → ℕ) → Type 0
 UpdatingHolds c before after = (block : Plot) (owner : ℕ → Option ℕ) (p : Promises) (g : Graph) → HoldsBy c before block owner p g → AreSized before block
-    → HoldsUpdated c after block owner p g
+    → HasNoRoom block → HoldsUpdated c after block owner p g
 
--- .. where the updating of references begins, in the same way, and finishing the cycle keeps it then, if nothing that can be reached lies
+-- .. where the updating of references begins, in the same way but for buffers, which were settled, and finishing the cycle keeps it then, if nothing that can be reached lies
 -- in the set, ..
 pub record HoldsLimited (c : Config) (before after : Word → ℕ) (block : Plot) (owner : ℕ → Option ℕ) (p : Promises) (g : Graph) : Type 0 where
-  pub holds : HoldsBy c after block owner p g
-  pub sized : AreSized before block → AreSized after block
-  pub collecting : WhileCollecting c before block → NothingInside c before → WhileCollecting c after block
+  pub holds : HoldsBy c after (settled_block c before block) owner p g
+  pub sized : AreSized before block → AreSized after (settled_block c before block)
+  pub collecting : WhileCollecting c before block → NothingInside c before → WhileCollecting c after (settled_block c before block)
 
 abbrev pub LimitsHold : Config → (before after : Word → ℕ) → Type 0
 LimitsHold c before after = (block : Plot) (owner : ℕ → Option ℕ) (p : Promises) (g : Graph) → HoldsBy c before block owner p g
     → HoldsLimited c before after block owner p g
 
--- Nothing names an address of the collection set: no root and no answer, and no field of what can be reached; and no seat has a region of
--- the set as its current one.
+-- Nothing names an address of the collection set: no root and no answer, and no field of what can be reached; and no buffer lies there.
 pub record NothingNames (c : Config) (memory : Word → ℕ) : Type 0 where
   pub roots : (word : ℕ) → IsAmong (root_words c memory) word → word ≢ 0 → IsCollected c (memory Cset) word → ⊥
   pub fields : (a i : ℕ) → CanBeReached c memory a → i < refs_in (memory (Heap (a + 1))) → memory (Heap (a + 3 + i)) ≢ 0
       → IsCollected c (memory Cset) (memory (Heap (a + 3 + i))) → ⊥
-  pub unseated : (seat r : ℕ) → memory (Current seat) ≡ r + 1 → IsIn (memory Cset) r → ⊥
+  pub unseated : (seat r : ℕ) → EndsIn c memory seat r → IsIn (memory Cset) r → ⊥
 
 -- .. once the set was freed, where nothing names it, by the pieces that lie outside, ..
 pub record HoldsOutside (c : Config) (before after : Word → ℕ) (block : Plot) (owner : ℕ → Option ℕ) (p : Promises) (g : Graph) : Type 0 where

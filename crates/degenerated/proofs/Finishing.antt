@@ -11,7 +11,7 @@ use Rattle.cycle_words.specs.Updating.Changes.{is_chosen, final_updated}
 use Rattle.cycle_words.specs.Finishing.Updated.{all_updated}
 use Rattle.cycle_words.specs.Finishing.Copies.{is_room_for_all, all_copied}
 use Rattle.cycle_words.proofs.Finishing.Whole.{nobody_is, nobody_from, waits_if_left, left_if_waits}
-use Rattle.cycle_words.specs.Finishing.Finish.{set_freed, cycle_finished, finished, nobody_waits, is_whole}
+use Rattle.cycle_words.specs.Finishing.Finish.{set_freed, cycle_finished, finished_from, nobody_waits}
 
 -- the end of the cycle
 ended_at : (c : Config) (m : Word → ℕ) (w : Word) → write (write (final_updated c m) Evac 0) Ask 0 w ≡ set_freed c m w
@@ -23,13 +23,13 @@ pub ended : (c : Config) (m : Word → ℕ) → write (write (final_updated c m)
 ended c m = fun_ext (ended_at c m)
 
 module _ (c : Config) (m : Word → ℕ) where
-  pub stops_short : is_room_for_all c m ≡ false → all_copied c m ≡ finished c m
+  pub stops_short : is_room_for_all c m ≡ false → all_copied c m ≡ finished_from c m
   stops_short none = fun_ext (λ w. sym (cond-false (is_room_for_all c m) (served c (cycle_finished c m) c.mutators w) (all_copied c m w) none))
 
-  pub is_short : is_room_for_all c m ≡ false → is_whole c m ≡ false
-  is_short none = and_left (is_room_for_all c m) (nobody_waits c (finished c m)) none
+  pub is_short : is_room_for_all c m ≡ false → (is_room_for_all c m && nobody_waits c (finished_from c m)) ≡ false
+  is_short none = and_left (is_room_for_all c m) (nobody_waits c (finished_from c m)) none
 
-  pub goes_through : is_room_for_all c m ≡ true → served c (cycle_finished c m) c.mutators ≡ finished c m
+  pub goes_through : is_room_for_all c m ≡ true → served c (cycle_finished c m) c.mutators ≡ finished_from c m
   goes_through room = fun_ext (λ w. sym (cond-true (is_room_for_all c m) (served c (cycle_finished c m) c.mutators w) (all_copied c m w) room))
 
 -- who waits once all had their turn
@@ -47,8 +47,8 @@ module _ (c : Config) (m : Word → ℕ) where
   not_all_served t left = false_from_ne_true (nobody_waits c after) (λ all. waits_if_left c m t left (nobody_is c after all t left.below))
 
 -- what a whole cycle tells
-pub whole_is : (c : Config) (m : Word → ℕ) → is_room_for_all c m ≡ true → is_whole c m ≡ nobody_waits c (served c (cycle_finished c m) c.mutators)
-whole_is c m room = ap (λ b. b && nobody_waits c (finished c m)) room ∙ ap (nobody_waits c) (sym (goes_through c m room))
+pub whole_is : (c : Config) (m : Word → ℕ) → is_room_for_all c m ≡ true → (is_room_for_all c m && nobody_waits c (finished_from c m)) ≡ nobody_waits c (served c (cycle_finished c m) c.mutators)
+whole_is c m room = ap (λ b. b && nobody_waits c (finished_from c m)) room ∙ ap (nobody_waits c) (sym (goes_through c m room))
 
 -- no region uses more words than it has then
 pub within_still : (c : Config) (m : Word → ℕ) → AreWithin c m → AreWithin c (set_freed c (all_updated c m))

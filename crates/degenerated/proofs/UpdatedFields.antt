@@ -1,7 +1,7 @@
 -- Fields that are updated one after the other: what was updated before does not matter to the others.
-use Rattle.std.proofs.Common.{◌≡◌, ◌≢◌, ℕ, ◌+◌, ◌-◌, ◌%◌, ◌<◌, ◌≤◌, ◌==◌, ◌&&◌, ◌||◌, nat_le, nat_lt, cond, Bool, true, false, refl, sym, ap, ◌∙◌, subst, ⊎_elim, arith}
+use Rattle.std.proofs.Common.{◌≡◌, ◌≢◌, ℕ, ◌+◌, ◌-◌, ◌/◌, ◌%◌, ◌<◌, ◌≤◌, ◌==◌, ◌&&◌, ◌||◌, nat_le, nat_lt, cond, Bool, true, false, not, refl, sym, ap, ◌∙◌, subst, ⊎_elim, arith}
 use Rattle.std.specs.Int.{bit_at}
-use Rattle.std.proofs.lemmas.Bool.{cases_Bool, cases_eq, cond-false, true≢false, and_left, and_right, and_parts, eq-eqb, ne_eqb, eqb-true, leb-true, ltb-true, le-leb, lt-ltb, false_from_ne_true}
+use Rattle.std.proofs.lemmas.Bool.{cases_Bool, cases_eq, cond-true, cond-false, true≢false, and_left, and_right, and_parts, eq-eqb, ne_eqb, eqb-true, leb-true, ltb-true, le-leb, lt-ltb, false_from_ne_true}
 use Rattle.std.proofs.lemmas.Nat.{mod_below}
 use Rattle.std.proofs.lemmas.Bool.Decides.{nat_tests}
 use Rattle.std.proofs.Math.Path.{fun_ext}
@@ -10,11 +10,10 @@ use Rattle.heap_words.specs.Words.{Word, Cset, Top, Heap, IsWord, write}
 use Rattle.heap_words.specs.Encoding.{refs_in, object_words, is_forwarded, forwardee_in}
 use Rattle.regions.specs.Place.{base_of, region_with}
 use Rattle.regions.specs.Sets.{IsIn, IsOutside}
+use Rattle.regions.specs.Walk.{is_filler, stride_at}
 use Rattle.regions.proofs.PlaceLemmas.{regions_tile}
 use Rattle.full_words.specs.Full.{now_in}
-use Rattle.image_graph.specs.Make.{AreInHeap}
 use Rattle.image_graph.proofs.Room.{room_in_heap}
-use Rattle.cycle_words.specs.Evacuation.Live.{words_at}
 use Rattle.cycle_words.specs.Evacuation.Begun.{is_collected}
 use Rattle.cycle_words.specs.Finishing.Updated.{updated_word, start_of, object_of, is_kept, is_reference, is_outside, is_kept_field, CanUpdateAll}
 use Rattle.degenerated.specs.Steps.{fields_updated, is_at, is_below, is_of, is_of_first}
@@ -157,6 +156,27 @@ module _ (c : Config) (m : Word → ℕ) where
       at (Heap x) = by_field (p x) (is_kept_field c m x) (updated_word c m (m (Heap x))) (m (Heap x)) (none x)
       at _ = refl
 
+-- The header of what begins at an address can be read, and its shape word if it is an object.
+abbrev pub CanRead : Config → (Word → ℕ) → ℕ → Type 0
+CanRead c m a = IsWord c (Heap a) × (is_filler (m (Heap a)) ≡ false → IsWord c (Heap (a + 1)))
+
+-- an object is as long as its shape word says
+object_stride : (c : Config) (m : Word → ℕ) (a : ℕ) → is_filler (m (Heap a)) ≡ false → stride_at (λ b. m (Heap b)) a ≡ object_words (m (Heap (a + 1)))
+object_stride c m a object_here = cond-false (is_filler (m (Heap a))) (m (Heap a) / 4) (object_words (m (Heap (a + 1)))) object_here
+
+-- so it is where references can be updated
+can_read : (c : Config) (m : Word → ℕ) (r s : ℕ) → r < c.regions → IsOutside (m Cset) r → s < m (Top r) → start_of (λ a. m (Heap a)) (base_of c r) s ≡ s → CanUpdateAll c m
+    → CanRead c m (base_of c r + s)
+can_read c m r s below outside some begun can =
+    let most = can.within r below in
+    let first = room_in_heap c r s 1 below (omega (arith, some, most)) in (
+      (omega (arith, first.from), omega (arith, first.to)),
+      λ object_here.
+          let long = object_stride c m (base_of c r + s) object_here in
+          let all = room_in_heap c r s 2 below (let size = can.objects r s below outside some begun in omega (arith, size, long, most)) in
+          (omega (arith, all.from), omega (arith, all.to)),
+    )
+
 -- References can be updated, and some were.
 module _ (c : Config) (m : Word → ℕ) (can : CanUpdateAll c m) (p : ℕ → Bool) where
   abbrev n : Word → ℕ
@@ -176,7 +196,7 @@ module _ (c : Config) (m : Word → ℕ) (can : CanUpdateAll c m) (p : ℕ → B
       (λ (no : is_collected c m v ≡ false). cond-false (is_collected c m v) (now_in n v) v no ∙ sym (cond-false (is_collected c m v) (now_in m v) v no))
       (cases_Bool (is_collected c m v))
 
-  -- .. and shapes outside of it
+  -- .. and headers and shapes outside of it
   module _ (r : ℕ) (below : r < c.regions) (outside : IsOutside (m Cset) r) where
     abbrev base : ℕ
     base = base_of c r
@@ -187,17 +207,37 @@ module _ (c : Config) (m : Word → ℕ) (can : CanUpdateAll c m) (p : ℕ → B
     top_within : m (Top r) ≤ c.region_words
     top_within = can.within r below
 
-    pub same_shape : (s : ℕ) → start_of heap base s ≡ s → s < m (Top r) → n (Heap (base + s + 1)) ≡ m (Heap (base + s + 1))
-    same_shape s is some =
+    -- the first words of what begins there are no references
+    no_first : (fills : Bool) (a x refs : ℕ) → x < a + 3 → (not fills && nat_le (a + 3) x && nat_lt x (a + 3 + refs)) ≡ false
+    no_first fills a x refs low = and_left (not fills && nat_le (a + 3) x) (nat_lt x (a + 3 + refs)) (and_right (not fills) (nat_le (a + 3) x) (grind (arith, nat_tests)))
+
+    pub same_header : (s : ℕ) → start_of heap base s ≡ s → s < m (Top r) → n (Heap (base + s)) ≡ m (Heap (base + s))
+    same_header s is some =
+        let object : object_of c m (base + s) ≡ base + s = object_in c m r s (omega (arith, some, top_within)) ∙ ap (λ k. base + k) is in
+        stays (base + s) (no_reference c m (base + s) (base + s) (sym object) (no_first (is_filler (m (Heap (base + s)))) (base + s) (base + s) (refs_in (m (Heap (base + s + 1)))) (omega arith)))
+
+    pub same_shape : (s : ℕ) → start_of heap base s ≡ s → s < m (Top r) → is_filler (m (Heap (base + s))) ≡ false → n (Heap (base + s + 1)) ≡ m (Heap (base + s + 1))
+    same_shape s is some object_here =
+        let long : stride_at heap (base + s) ≡ object_words (m (Heap (base + s + 1))) = object_stride c m (base + s) object_here in
         let size = can.objects r s below outside some is in
         let at : base + (s + 1) ≡ base + s + 1 = omega arith in
-        let begun : start_of heap base (s + 1) ≡ s = starts_within heap base s 1 is (omega arith) in
+        let begun : start_of heap base (s + 1) ≡ s = starts_within heap base s 1 is (omega (arith, long)) in
         let object : object_of c m (base + s + 1) ≡ base + s =
-        ap (object_of c m) (sym at) ∙ object_in c m r (s + 1) (omega (arith, size, top_within)) ∙ ap (λ k. base + k) begun in
-        stays (base + s + 1) (no_reference c m (base + s + 1) (base + s) (sym object) (header_first (base + s) (refs_in (m (Heap (base + s + 1))))))
-      where
-        header_first : (a refs : ℕ) → (nat_le (a + 3) (a + 1) && nat_lt (a + 1) (a + 3 + refs)) ≡ false
-        header_first a refs = grind (arith, nat_tests)
+        ap (object_of c m) (sym at) ∙ object_in c m r (s + 1) (omega (arith, size, long, top_within)) ∙ ap (λ k. base + k) begun in
+        stays (base + s + 1) (no_reference c m (base + s + 1) (base + s) (sym object) (no_first (is_filler (m (Heap (base + s)))) (base + s) (base + s + 1) (refs_in (m (Heap (base + s + 1)))) (omega arith)))
+
+    -- so each is as long as before
+    pub same_stride : (s : ℕ) → start_of heap base s ≡ s → s < m (Top r) → stride_at (λ a. n (Heap a)) (base + s) ≡ stride_at heap (base + s)
+    same_stride s is some = ⊎_elim
+        (λ (fills : is_filler (m (Heap (base + s))) ≡ true).
+        let header = same_header s is some in
+        cond-true (is_filler (n (Heap (base + s)))) (n (Heap (base + s)) / 4) (object_words (n (Heap (base + s + 1)))) (ap is_filler header ∙ fills)
+        ∙ ap (λ h. h / 4) header
+        ∙ sym (cond-true (is_filler (m (Heap (base + s)))) (m (Heap (base + s)) / 4) (object_words (m (Heap (base + s + 1)))) fills))
+        (λ (object_here : is_filler (m (Heap (base + s))) ≡ false).
+        object_stride c n (base + s) (ap is_filler (same_header s is some) ∙ object_here) ∙ ap object_words (same_shape s is some object_here)
+        ∙ sym (object_stride c m (base + s) object_here))
+        (cases_Bool (is_filler (m (Heap (base + s)))))
 
     -- an object where its words are looked up
     module _ (i : ℕ) (some : i < m (Top r)) where
@@ -210,31 +250,32 @@ module _ (c : Config) (m : Word → ℕ) (can : CanUpdateAll c m) (p : ℕ → B
       s_below : s < m (Top r)
       s_below = omega (arith, from heap base (i - 1), some)
 
-      pub last_in_heap : AreInHeap c (base + s) (words_at m (base + s))
-      last_in_heap = room_in_heap c r s (words_at m (base + s)) below (omega (arith, can.objects r s below outside s_below s_begins, top_within))
+      pub last_in_heap : CanRead c n (base + s)
+      last_in_heap = subst (λ k. IsWord c (Heap (base + s)) × (is_filler k ≡ false → IsWord c (Heap (base + s + 1)))) (sym (same_header s s_begins s_below))
+          (can_read c m r s below outside s_below s_begins can)
 
-      same_size : words_at n (base + s) ≡ words heap base s
-      same_size = ap object_words (same_shape s s_begins s_below)
+      same_size : stride_at (λ a. n (Heap a)) (base + s) ≡ words heap base s
+      same_size = same_stride s s_begins s_below
 
       -- it ends there, or it goes on
       module _ (object first : ℕ) (at : object ≡ base + s) (from_base : first ≡ base) where
-        size_is : object + words_at n object ≡ base + s + words heap base s
-        size_is = ap (λ a. a + words_at n a) at ∙ ap (λ k. base + s + k) same_size
+        size_is : object + stride_at (λ a. n (Heap a)) object ≡ base + s + words heap base s
+        size_is = ap (λ a. a + stride_at (λ b. n (Heap b)) a) at ∙ ap (λ k. base + s + k) same_size
 
-        pub here : (object + words_at n object == first + i) ≡ true → first + i ≡ base + start_of heap base i
+        pub here : (object + stride_at (λ a. n (Heap a)) object == first + i) ≡ true → first + i ≡ base + start_of heap base i
         here is =
-            let ends : object + words_at n object ≡ first + i = eqb-true (object + words_at n object) (first + i) is in
+            let ends : object + stride_at (λ a. n (Heap a)) object ≡ first + i = eqb-true (object + stride_at (λ a. n (Heap a)) object) (first + i) is in
             let begun : start_of heap base i ≡ i = next_ends heap base i (omega (arith, ends, size_is, from_base)) in
             omega (arith, begun, from_base)
 
-        pub still : (object + words_at n object == first + i) ≡ false → object ≡ base + start_of heap base i
+        pub still : (object + stride_at (λ a. n (Heap a)) object == first + i) ≡ false → object ≡ base + start_of heap base i
         still is =
             let begun : start_of heap base i ≡ s = next_goes_on heap base i
-            (λ ends. true≢false (sym (eq-eqb (object + words_at n object) (first + i) (omega (arith, ends, size_is, from_base))) ∙ is)) in
+            (λ ends. true≢false (sym (eq-eqb (object + stride_at (λ a. n (Heap a)) object) (first + i) (omega (arith, ends, size_is, from_base))) ∙ is)) in
             omega (arith, begun, at)
 
     pub same_start : (k : ℕ) → k < m (Top r) → start_of (λ a. n (Heap a)) base k ≡ start_of heap base k
-    same_start = same_starts heap (λ a. n (Heap a)) base (m (Top r)) same_shape
+    same_start = same_starts heap (λ a. n (Heap a)) base (m (Top r)) same_stride
 
   -- so references can be updated still
   pub can_still : CanUpdateAll c n
@@ -244,8 +285,8 @@ module _ (c : Config) (m : Word → ℕ) (can : CanUpdateAll c m) (p : ℕ → B
     objects = λ r k below outside some begins.
         let begun : start_of (λ a. m (Heap a)) (base_of c r) k ≡ k = sym (same_start r below outside k some) ∙ begins in
         let size = can.objects r k below outside some begun in
-        let shape : words_at n (base_of c r + k) ≡ words_at m (base_of c r + k) = ap object_words (same_shape r below outside k begun some) in
-        omega (arith, size, shape);
+        let long = same_stride r below outside k begun some in
+        omega (arith, size, long);
   }
 
   -- and each of them is the same
@@ -260,8 +301,19 @@ module _ (c : Config) (m : Word → ℕ) (can : CanUpdateAll c m) (p : ℕ → B
       let r = region_with c x in
       let k = x - base_of c r in
       let s = start_of (λ a. m (Heap a)) (base_of c r) k in
-      let shape = same_shape r lies.of_region lies.outside s (begins (λ a. m (Heap a)) (base_of c r) k) (omega (arith, from (λ a. m (Heap a)) (base_of c r) k, lies.below)) in
-      ap (λ h. nat_le (object_of c m x + 3) x && nat_lt x (object_of c m x + 3 + refs_in h)) shape
+      let some : s < m (Top r) = omega (arith, from (λ a. m (Heap a)) (base_of c r) k, lies.below) in
+      let begun = begins (λ a. m (Heap a)) (base_of c r) k in
+      let header = same_header r lies.of_region lies.outside s begun some in
+      ap (λ h. not (is_filler h) && nat_le (object_of c m x + 3) x && nat_lt x (object_of c m x + 3 + refs_in (n (Heap (object_of c m x + 1))))) header
+      ∙ ⊎_elim
+      (λ (fills : is_filler (m (Heap (object_of c m x))) ≡ true). none_there x fills (n (Heap (object_of c m x + 1))) ∙ sym (none_there x fills (m (Heap (object_of c m x + 1)))))
+      (λ (object_here : is_filler (m (Heap (object_of c m x))) ≡ false).
+      ap (λ h. not (is_filler (m (Heap (object_of c m x)))) && nat_le (object_of c m x + 3) x && nat_lt x (object_of c m x + 3 + refs_in h)) (same_shape r lies.of_region lies.outside s begun some object_here))
+      (cases_Bool (is_filler (m (Heap (object_of c m x)))))
+    where
+      none_there : (y : ℕ) → is_filler (m (Heap (object_of c m y))) ≡ true → (shape : ℕ)
+          → (not (is_filler (m (Heap (object_of c m y)))) && nat_le (object_of c m y + 3) y && nat_lt y (object_of c m y + 3 + refs_in shape)) ≡ false
+      none_there y fills shape = ap (λ b. not b && nat_le (object_of c m y + 3) y && nat_lt y (object_of c m y + 3 + refs_in shape)) fills
 
   pub same_field : (x : ℕ) → is_kept_field c n x ≡ is_kept_field c m x
   same_field x = ⊎_elim
@@ -294,8 +346,8 @@ module _ (c : Config) (m : Word → ℕ) (can : CanUpdateAll c m) (p : ℕ → B
     pub then_updated : fields_updated c q n ≡ fields_updated c s m
     then_updated = fun_ext then_at
 
--- the object that has an address outside the set lies in the heap
-pub object_inside : (c : Config) (m : Word → ℕ) → CanUpdateAll c m → (x : ℕ) → is_outside c m x ≡ true → AreInHeap c (object_of c m x) (words_at m (object_of c m x))
+-- the first words of the object that has an address outside the set can be read
+pub object_inside : (c : Config) (m : Word → ℕ) → CanUpdateAll c m → (x : ℕ) → is_outside c m x ≡ true → CanRead c m (object_of c m x)
 object_inside c m can x is =
     let lies = lies_outside c m x is in
     let r = region_with c x in
@@ -303,7 +355,7 @@ object_inside c m can x is =
     let heap : ℕ → ℕ = λ a. m (Heap a) in
     let s = start_of heap (base_of c r) k in
     let some : s < m (Top r) = omega (arith, from heap (base_of c r) k, lies.below) in
-    room_in_heap c r s (words_at m (base_of c r + s)) lies.of_region (omega (arith, can.objects r s lies.of_region lies.outside some (begins heap (base_of c r) k), can.within r lies.of_region))
+    can_read c m r s lies.of_region lies.outside some (begins heap (base_of c r) k) can
 
 pub address_inside : (c : Config) (m : Word → ℕ) (x : ℕ) → is_outside c m x ≡ true → IsWord c (Heap x)
 address_inside c m x is = (let lies = lies_outside c m x is in in_heap_by_region c x lies.above lies.of_region)

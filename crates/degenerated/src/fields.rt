@@ -1,19 +1,19 @@
 //! Updates the references of kept objects outside the collection set.
 
-ghost use Rattle.std.specs.Prelude.{◌≡◌, ◌+◌, ◌^◌, ◌<◌, ◌==◌, true};
+ghost use Rattle.std.specs.Prelude.{◌≡◌, ◌+◌, ◌^◌, ◌<◌, ◌==◌, true, false};
 ghost use Rattle.heap_words.specs.Words.{Cset, Heap, IsWord};
 ghost use Rattle.regions.specs.Sets.{IsOutside};
+ghost use Rattle.regions.specs.Walk.{is_filler, stride_at};
 ghost use Rattle.image_graph.specs.State.{config_of, memory_of};
-ghost use Rattle.cycle_words.specs.Evacuation.Live.{words_at};
 ghost use Rattle.cycle_words.specs.Finishing.Updated as updates;
 ghost use Rattle.cycle_words.specs.Finishing.Updated.{CanUpdateAll, updated_word, object_of, is_outside};
 ghost use Rattle.degenerated.specs.Steps.{fields_updated, is_at, is_of, is_of_first};
 
 use cset_choice::is_collected;
-use heap_words::{refs_of, words_of};
+use heap_words::{filler_words, refs_of};
 use image_graph::Image;
 use mark_core::is_black;
-use regions::{base, is_in, region_of};
+use regions::{base, is_in, next_object, region_of};
 
 /// What a word becomes: the address of an object of the collection set that has moved becomes that of its copy.
 pub(crate) fn updated(image: &Image, word: u64) -> u64
@@ -40,22 +40,43 @@ fn is_kept(image: &Image, object: u64) -> bool
     image.word(config.tams_at(region)) <= object - base(config, region)
 }
 
-// Whether an address is that of a reference of an object.
+// The header of an object, or of words that only fill, and the shape word if it is an object's; 0 where it is not, for the
+// words that only fill may end before it.
+fn header_and_shape(image: &Image, object: u64) -> (u64, u64)
+    requires header { IsWord (config_of image.now) (Heap object) }
+    requires shape { is_filler (memory_of image.now (Heap object)) ≡ false → IsWord (config_of image.now) (Heap (object + 1)) }
+    ensures header { result.0 ≡ memory_of image.now (Heap object) }
+    ensures shape { is_filler (memory_of image.now (Heap object)) ≡ false → result.1 ≡ memory_of image.now (Heap (object + 1)) }
+{
+    let config = image.config();
+    let header = image.word(config.heap_at(object));
+    if filler_words(header).is_some() {
+        return (header, 0);
+    }
+    (header, image.word(config.heap_at(object + 1)))
+}
+
+// Whether an address is that of a reference of an object. Words that only fill have none.
 fn is_reference(image: &Image, object: u64, address: u64) -> bool
-    requires { IsWord (config_of image.now) (Heap (object + 1)) }
+    requires header { IsWord (config_of image.now) (Heap object) }
+    requires shape { is_filler (memory_of image.now (Heap object)) ≡ false → IsWord (config_of image.now) (Heap (object + 1)) }
     ensures { result ≡ updates.is_reference (memory_of image.now) object address }
 {
-    let shape = image.word(image.config().heap_at(object + 1));
+    let (header, shape) = header_and_shape(image, object);
+    if filler_words(header).is_some() {
+        return false;
+    }
     object + 3 <= address && address < object + 3 + refs_of(shape)
 }
 
-// Whether an object ends at an address.
+// Whether an object, or words that only fill, end at an address.
 fn ends_at(image: &Image, object: u64, address: u64) -> bool
-    requires { IsWord (config_of image.now) (Heap (object + 1)) }
-    ensures { result ≡ (object + words_at (memory_of image.now) object == address) }
+    requires header { IsWord (config_of image.now) (Heap object) }
+    requires shape { is_filler (memory_of image.now (Heap object)) ≡ false → IsWord (config_of image.now) (Heap (object + 1)) }
+    ensures { result ≡ (object + stride_at (λ a. memory_of image.now (Heap a)) object == address) }
 {
-    let shape = image.word(image.config().heap_at(object + 1));
-    object + words_of(shape) == address
+    let (header, shape) = header_and_shape(image, object);
+    next_object(object, header, shape) == address
 }
 
 // Updates the word at an address that an object has, if it is a reference of it and the object is kept.
@@ -78,7 +99,7 @@ fn update_word(image: &mut Image, object: u64, address: u64)
 }
 
 // Updates the references of the kept objects of a region outside the collection set. Each object begins where the one before
-// it ends.
+// it ends, or words that only fill.
 fn update_region(image: &mut Image, region: usize)
     requires can { CanUpdateAll (config_of image.old) (memory_of image.old) }
     requires region { region < (config_of image.old).regions }
@@ -87,7 +108,7 @@ fn update_region(image: &mut Image, region: usize)
     ensures words { memory_of image.new ≡ fields_updated (config_of image.old) (is_of (config_of image.old) region) (memory_of image.old) }
 {
     let first = base(image.config(), region);
-    let top = image.edge(region);
+    let top = image.top(region);
     let mut object = first;
     for offset in 0..top {
         if ends_at(image, object, first + offset) {

@@ -60,8 +60,8 @@ fn update_answers(image: &mut Image)
 
 /// Updates all references: each reference of a kept object outside the collection set, and each root and answer, that names
 /// an object of the set that has moved names its copy then. No other word changes. Outside the set each object lies below the
-/// top of its region. Where the image holds a graph, and each piece of its regions says how many words it has, it holds the
-/// same graph afterwards. Takes no memory, and time linear in the words of the heap.
+/// top of its region. Where the image holds a graph, each piece of its regions says how many words it has, and nobody has a
+/// buffer, it holds the same graph afterwards. Takes no memory, and time linear in the words of the heap.
 pub fn update_all(image: &mut Image)
     requires { CanUpdateAll (config_of image.old) (memory_of image.old) }
     ensures config { config_of image.new ≡ config_of image.old }

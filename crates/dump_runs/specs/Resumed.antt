@@ -2,7 +2,7 @@
 use Rattle.std.specs.Prelude.{ℕ, ◌≡◌, ◌+◌, ◌<◌, List, length, map, All}
 use Rattle.heap_words.specs.declared.config.Config.{Config}
 use Rattle.heap_words.specs.declared.schedule.Item.{Item}
-use Rattle.heap_words.specs.Words.{view}
+use Rattle.heap_words.specs.Words.{view, table_words}
 use Rattle.steps_base.specs.Steps.{Stage, Event, go}
 use Rattle.shen_graph.specs.declared.command.Command.{Command}
 use Rattle.shen_graph.specs.declared.name.Name.{Name}
@@ -54,10 +54,11 @@ pub record IsLeftBusy (c : Config) (start : Stage Actor) (scripts : Scripts) (it
   pub busy : AreIdle c scripts (led_to c start (schedule_events pause_image c scripts items limit start)) → ⊥
   pub count : length (schedule_events pause_image c scripts items limit start) ≡ limit
 
--- The heap in which a dump's objects were placed, and machines whose threads have made as many objects as it says: exactly the events of
--- the schedule, and of the rounds after it, come to an end there, and the text is the answer of their history, from the dump's graph.
+-- The words of a whole heap in which a dump's objects were placed, and machines whose threads have made as many objects as it says: exactly
+-- the events of the schedule, and of the rounds after it, come to an end there, and the text is the answer of their history, from the dump's graph.
 pub record IsResumed (c : Config) (counts : List ℕ) (t : Text) (scripts : Scripts) (items : List Item) (limit : ℕ) (out : List ℕ) : Type 0 where
   pub words : List ℕ
+  pub size : length words ≡ table_words c
   pub placed : IsPlaced c t (view c words)
   pub whole : IsWholeFrom c (stage_from c words counts) (graph_in (dumped c counts t)) scripts (schedule_events pause_image c scripts items limit (stage_from c words counts))
   pub text : IsAnswerFrom (graph_in (dumped c counts t)) c.mutators (history_from c (stage_from c words counts) (schedule_events pause_image c scripts items limit (stage_from c words counts))) out
@@ -65,5 +66,6 @@ pub record IsResumed (c : Config) (counts : List ℕ) (t : Text) (scripts : Scri
 -- so many events from there leave a machine that is not idle
 pub record IsCutFrom (c : Config) (counts : List ℕ) (t : Text) (scripts : Scripts) (items : List Item) (limit : ℕ) : Type 0 where
   pub words : List ℕ
+  pub size : length words ≡ table_words c
   pub placed : IsPlaced c t (view c words)
   pub cut : IsLeftBusy c (stage_from c words counts) scripts items limit

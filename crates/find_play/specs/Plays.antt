@@ -1,5 +1,5 @@
 -- What the threads of a test do along a history.
-use Rattle.std.specs.Prelude.{ℕ, ◌≡◌, ◌+◌, Bool, true, false, List, [], ◌∷◌, ◌++◌, replicate, Option, Some, None, slice_get, slice_index_or, slice_set}
+use Rattle.std.specs.Prelude.{ℕ, ◌≡◌, ◌≢◌, ◌+◌, Bool, true, false, List, [], ◌∷◌, ◌++◌, replicate, take, Option, Some, None, slice_get, slice_index_or, slice_set}
 use Rattle.shen_graph.specs.declared.command.Reply.{Reply}
 use Rattle.shen_graph.specs.History.{Entry}
 use Rattle.find_grammar.specs.declared.statement.Statement.{Statement}
@@ -63,3 +63,16 @@ pub record IsPlay (programs : Programs) (returns notes : ℕ) (history : List En
   pub begun : Scene
   pub begins : Begun programs (opening returns notes) 8 begun
   pub plays : Plays programs begun history end
+
+-- the entry is not the command that its thread is to give
+abbrev pub IsNotItsCommand : Scene → Entry → Type 0
+IsNotItsCommand scene e = (number : ℕ) → e.thread ≡ number + 1 → slice_index_or scene.acts number Done ≢ Command e.command
+
+-- Up to one entry the history is one of these programs, and that entry is refused.
+pub record IsNoPlay (programs : Programs) (returns notes : ℕ) (history : List Entry) : Type 0 where
+  pub at : ℕ
+  pub entry : Entry
+  pub here : slice_get history at ≡ Some entry
+  pub scene : Scene
+  pub before : IsPlay programs returns notes (take at history) scene
+  pub refused : IsNotItsCommand scene entry

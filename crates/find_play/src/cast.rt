@@ -1,7 +1,7 @@
 //! The threads of a test, and what they do.
-ghost use Rattle.std.specs.Prelude.{◌≡◌, ◌<◌, [], None, true, length, replicate, slice_index_or, slice_set, IfOk, IfSome};
+ghost use Rattle.std.specs.Prelude.{◌≡◌, ◌<◌, [], None, Ok, true, false, length, replicate, slice_index_or, slice_set, IfOk, IfSome};
 ghost use Rattle.shen_graph.specs.Noting.{seen};
-ghost use Rattle.find_play.specs.Plays.{KeepsOn, StepsOn, Begun, IsPlay, opening, start};
+ghost use Rattle.find_play.specs.Plays.{KeepsOn, StepsOn, Begun, IsPlay, IsNotItsCommand, IsNoPlay, opening, start};
 ghost use Rattle.find_play.specs.Scenes.{scene, IsNextEntry};
 
 use find_grammar::{Next, Program, Statement, Test, Thread};
@@ -138,6 +138,8 @@ impl Cast {
     /// nothing is done.
     pub fn answer(&mut self, programs: &[Program], entry: Entry) -> bool
         ensures answers { result ≡ true → IsNextEntry programs.now (seen entry) (scene self.old) (scene self.new) }
+        ensures refused { result ≡ false → IsNotItsCommand (scene self.old) (seen entry) }
+        ensures kept { result ≡ false → self.new ≡ self.old }
     {
         if entry.thread == 0 {
             return false;
@@ -153,9 +155,10 @@ impl Cast {
     }
 }
 
-/// The threads of a test behind a history; None where it is none of theirs.
+/// The threads of a test behind a history. None where an entry of it is not the command that its thread is to give there.
 pub fn played(alloc: Global, test: &Test, history: &History) -> Result<Option<Cast>, NoMemory>
-    ensures { IfOk result (λ o. IfSome o (λ cast. IsPlay test.now.programs.items test.now.bounds.returns (length test.now.notes) history.now.list (scene cast))) }
+    ensures some { IfOk result (λ o. IfSome o (λ cast. IsPlay test.now.programs.items test.now.bounds.returns (length test.now.notes) history.now.list (scene cast))) }
+    ensures none { result ≡ Ok None → IsNoPlay test.now.programs.items test.now.bounds.returns (length test.now.notes) history.now.list }
 {
     let mut cast = Cast::open(alloc, test)?;
     for at in 0..history.len() {

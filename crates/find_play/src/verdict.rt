@@ -1,6 +1,6 @@
 //! How a run of a test ended.
-ghost use Rattle.std.specs.Prelude.{◌≡◌, ◌<◌, true, false, length, position, All, IfOk, IfSome};
-ghost use Rattle.find_play.specs.Verdict.{is_command, is_stuck, verdict_by, IsVerdictOn};
+ghost use Rattle.std.specs.Prelude.{◌≡◌, ◌<◌, true, false, None, Ok, length, position, All, IfOk, IfSome};
+ghost use Rattle.find_play.specs.Verdict.{is_command, is_stuck, verdict_by, HasCommand, IsVerdictOn, HasNoVerdict};
 
 use crate::cast::{Cast, played};
 use crate::claims::broken;
@@ -22,7 +22,8 @@ pub enum Verdict {
 
 // Whether no thread is at a command.
 fn are_over(cast: &Cast) -> bool
-    ensures { result ≡ true → All (λ a. is_command a ≡ false) cast.now.acts }
+    ensures over { result ≡ true → All (λ a. is_command a ≡ false) cast.now.acts }
+    ensures goes_on { result ≡ false → HasCommand cast.now.acts }
 {
     for number in 0..8 {
         if let Next::Command(_) = cast.act(number) {
@@ -58,14 +59,16 @@ fn verdict_by(stuck: Option<usize>, broken: Option<u64>) -> Verdict
 }
 
 /// The verdict on a run of a test, by its history and the graph that it leaves. None where its history is not one that the test's
-/// threads make from their beginning to their end.
+/// threads make from their beginning to their end: an entry is not the command that its thread is to give there, or a thread is at a
+/// command behind the last.
 pub fn verdict_on(
     alloc: Global,
     test: &Test,
     history: &History,
     graph: &GraphText,
 ) -> Result<Option<Verdict>, NoMemory>
-    ensures { IfOk result (λ o. IfSome o (λ verdict. IsVerdictOn test.now.programs.items test.now.bounds.returns (length test.now.notes) test.now.places.items test.now.claims.items history.now.list graph.now.rows verdict)) }
+    ensures some { IfOk result (λ o. IfSome o (λ verdict. IsVerdictOn test.now.programs.items test.now.bounds.returns (length test.now.notes) test.now.places.items test.now.claims.items history.now.list graph.now.rows verdict)) }
+    ensures none { result ≡ Ok None → HasNoVerdict test.now.programs.items test.now.bounds.returns (length test.now.notes) history.now.list }
 {
     let Some(cast) = played(alloc, test, history)? else {
         return Ok(None);

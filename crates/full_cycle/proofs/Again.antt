@@ -10,10 +10,10 @@ use Rattle.shen_graph.specs.declared.name.Name.{Name}
 use Rattle.shen_graph.specs.Graph.{Graph, Object, blank, fresh, same_reference}
 use Rattle.shen_graph.specs.Reach.{IsReachable}
 use Rattle.shen_graph.specs.Reach as reach
-use Rattle.heap_world.specs.World.{Plot}
+use Rattle.heap_world.specs.World.{spare, is_loose, Plot}
 use Rattle.full_words.specs.Held.{IsAmong}
 use Rattle.full_words.specs.Plot.{packed_block}
-use Rattle.full_words.specs.Full.{now_in, root_words, kept_in, packed_in, full}
+use Rattle.full_words.specs.Full.{now_in, root_words, kept_in, packed_in, full_from}
 use Rattle.full_words.specs.Promised.{Promises, with_promised}
 use Rattle.full_words.specs.Image.{ImageStands}
 use Rattle.full_words.specs.Serving.{asked_name, served_block, served_promises}
@@ -22,7 +22,7 @@ use Rattle.full_words.proofs.Reached.{reached_is_held}
 use Rattle.full_words.proofs.Promised.{same_reference-true, old_object}
 use Rattle.full_words.proofs.ImagesStand.{standing_holds}
 use Rattle.full_words.proofs.Serving.{full_stands}
-use Rattle.full_words.proofs.Still.{full_current, full_wait, packed_wait}
+use Rattle.full_words.proofs.Still.{full_current, full_share, full_wait, packed_wait}
 use Rattle.full_words.proofs.Turned.{SamePromise, IsPromisedAsAsked, promise_after}
 use Rattle.image_graph.specs.Holds.{HoldsBy, HoldsSome}
 
@@ -69,17 +69,17 @@ module _ (c : Config) (m : Word → ℕ) (block : Plot) (owner : ℕ → Option 
       same_Some name (asked_name after t) (sym named ∙ new.ref) ∙ ap (λ k. record { thread = t + 1; count = k }) count)
       (promise_after c after p t c.mutators)
 
-  holds_again : HoldsBy c (full c m) (served_block c after (packed_block c (kept_in c m) block) c.mutators) (λ r. None) (served_promises c after p c.mutators) g
+  holds_again : HoldsBy c (full_from c m) (served_block c after (packed_block c (kept_in c m) block) c.mutators) (λ r. None) (served_promises c after p c.mutators) g
   holds_again =
       let plot : Plot = served_block c after (packed_block c (kept_in c m) block) c.mutators in
       let q : Promises = served_promises c after p c.mutators in
-      let stands : ImageStands c (full c m) plot g q = full_stands c m block g p holds.objects holds.rooted holds.asking in
+      let stands : ImageStands c (full_from c m) plot g q = full_stands c m block g p holds.objects holds.rooted holds.asking in
       let next : (t : ℕ) (name : Name) → q.ref t ≡ Some name → name ≡ fresh g t = λ t name named.
       let at = stands.rooted.no_more_promised t name named in
       subst (λ k. name ≡ fresh g k) (sym at.2) (next_more at.0 name at.1 (ap q.ref (sym at.2) ∙ named))
       in
       record {
-        objects = standing_holds c (full c m) plot g q stands;
+        objects = standing_holds c (full_from c m) plot g q stands;
         rooted = stands.rooted;
         moved = λ a refs nums name is forwarded.
             let object = stands.objects.each a refs nums name is in
@@ -87,9 +87,10 @@ module _ (c : Config) (m : Word → ℕ) (block : Plot) (owner : ℕ → Option 
         filled = stands.filled;
         pieces = named_things plot stands.things;
         free_word = stands.free_word;
-        currents = record {
-          within = λ seat r is. absurd (omega (arith, is, full_current c m seat));
-          own = λ seat r is. absurd (omega (arith, is, full_current c m seat));
+        shared_one = λ r is. absurd (omega (arith, is, full_share c m));
+        buffers = record {
+          each = λ seat some. absurd (some (full_current c m seat));
+          spares = λ a seat words is. (let piece = stands.things a (spare seat words) is in absurd (true≢false (ap is_loose piece.3)));
         };
         asking = λ t from below some. absurd (some (full_wait c m t));
         next = record {
@@ -106,7 +107,7 @@ module _ (c : Config) (m : Word → ℕ) (block : Plot) (owner : ℕ → Option 
         };
       }
 
-pub holds_full : (c : Config) (m : Word → ℕ) → HoldsSome c m → HoldsSome c (full c m)
+pub holds_full : (c : Config) (m : Word → ℕ) → HoldsSome c m → HoldsSome c (full_from c m)
 holds_full c m holds = ∥∥₁_map holds (λ h. (
   h.0,
   (

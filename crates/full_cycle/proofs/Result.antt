@@ -1,30 +1,36 @@
 -- What a full collection does to the graph, and to who waits.
-use Rattle.std.proofs.Common.{◌≡◌, ◌≢◌, ℕ, ◌<◌, ◌↔◌, ⊎_elim, sym, ap, ◌∙◌, subst, arith}
+use Rattle.std.proofs.Common.{◌≡◌, ◌≢◌, ℕ, ◌<◌, ◌↔◌, Option, Some, None, ⊎_elim, refl, sym, ap, ◌∙◌, subst, arith}
+use Rattle.std.specs.Prelude.{option_and_then}
+use Rattle.std.proofs.Math.Path.{fun_ext}
 use Rattle.heap_words.specs.declared.config.Config.{Config}
 use Rattle.heap_words.specs.Words.{Word, Top, Wait, Answer, Heap}
+use Rattle.heap_words.specs.Ranges.{seat_count}
+use Rattle.buffer_words.specs.LetGo.{let_go}
+use Rattle.buffer_words.proofs.Elsewhere.{let_go_same}
+use Rattle.shen_graph.specs.Graph.{Graph}
+use Rattle.heap_world.specs.World.{thing, Plot}
 use Rattle.packing.specs.Rooms.{NoneHasRoom, IsLowestRoom}
 use Rattle.full_words.specs.Held.{IsAmong}
-use Rattle.full_words.specs.Full.{now_in, root_words, kept_in, asked_in, packed_in, full}
-use Rattle.full_words.specs.Plot.{packed_block}
-use Rattle.full_words.specs.Promised.{with_promised}
+use Rattle.full_words.specs.Full.{now_in, root_words, kept_in, asked_in, packed_in, full_from, full}
+use Rattle.full_words.specs.Plot.{heap_end, origin, packed_block}
+use Rattle.full_words.specs.Promised.{Promises, with_promised}
 use Rattle.full_words.specs.Image.{ImageStands}
 use Rattle.full_words.specs.Serving.{served_block, served_promises}
 use Rattle.full_words.specs.Served.{tops_at_turn}
+use Rattle.full_words.proofs.Origin.{origin_is}
 use Rattle.full_words.proofs.Reached.{held_are_reachable}
 use Rattle.full_words.proofs.Walked.{walk_keeps}
 use Rattle.full_words.proofs.Served.{requests_are_answered}
 use Rattle.full_words.proofs.Serving.{full_stands}
 use Rattle.full_words.proofs.Still.{packed_wait}
+use Rattle.image_graph.specs.Holds.{HoldsBy}
+use Rattle.image_graph.specs.Buffers.{HoldsLetGo, LettingGoHolds}
 use Rattle.image_graph.specs.Left.{IsLeft}
-use Rattle.full_cycle.specs.Result.{KeepsTheGraph, KeepsTheReachable, RefusesTheLeft}
+use Rattle.full_cycle.specs.Result.{KeptAreReachable, KeepsTheGraph, KeepsTheReachable, RefusesTheLeft}
 
-pub keeps_graph : (c : Config) (m after : Word → ℕ) → after ≡ full c m → KeepsTheGraph c m after
-keeps_graph c m after is block owner p g holds =
-    subst (λ (k : Word → ℕ). ImageStands c k (served_block c (packed_in c m) (packed_block c (kept_in c m) block) c.mutators) g (served_promises c (packed_in c m) p c.mutators)) (sym is)
-    (full_stands c m block g p holds.objects holds.rooted holds.asking)
-
-pub keeps_reachable : (c : Config) (m : Word → ℕ) → KeepsTheReachable c m
-keeps_reachable c m block owner p g holds =
+-- what is kept of words that hold a graph is reached, and what is reached is kept
+reachable_kept : (c : Config) (m : Word → ℕ) (block : Plot) (owner : ℕ → Option ℕ) (p : Promises) (g : Graph) → HoldsBy c m block owner p g → KeptAreReachable c m block (with_promised g p)
+reachable_kept c m block owner p g holds =
     let are = walk_keeps c m block (with_promised g p) holds.objects in
     let reached = held_are_reachable c (λ r. m (Top r)) (λ a. m (Heap a)) block (now_in m) (IsAmong (root_words c m)) (with_promised g p) holds.objects in
     record {
@@ -34,7 +40,47 @@ keeps_reachable c m block owner p g holds =
           (at.0, at.1, at.2, (let size = are.words at.0 at.3 in omega (arith, size)), at.4);
     }
 
-refuses : (c : Config) (m : Word → ℕ) (t : ℕ) → t < c.mutators → m (Wait t) ≢ 0 → (full c m (Answer t) ≡ 1) ↔ IsLeft c (packed_in c m) t
+module _ (c : Config) (m : Word → ℕ) (lets : LettingGoHolds c m (let_go c m)) where
+  -- once buffers were let go
+  abbrev gone : Word → ℕ
+  gone = let_go c m
+
+  pub keeps_reachable : KeepsTheReachable c m
+  keeps_reachable block owner p g holds =
+      let left = lets block owner p g holds in
+      let are = reachable_kept c gone left.pieces owner p g left.holds in
+      record {
+        only = λ a some.
+            let at = are.only a some in
+            (at.0, at.1, at.2, left.came a (thing at.0 at.1 at.2) refl at.3, at.4);
+        all = λ name is.
+            let at = are.all name is in
+            (at.0, at.1, at.2, at.3, left.came at.0 (thing name at.1 at.2) refl at.4);
+      }
+
+  -- what is packed are objects, which are where they were
+  module _ (block : Plot) (owner : ℕ → Option ℕ) (p : Promises) (g : Graph) (holds : HoldsBy c m block owner p g) where
+    abbrev left : HoldsLetGo c m gone block owner p g
+    left = lets block owner p g holds
+
+    same_origin : (o : Option ℕ) → ((a : ℕ) → o ≡ Some a → 0 < kept_in c gone a) → option_and_then left.pieces o ≡ option_and_then block o
+    same_origin None kept = refl
+    same_origin (Some a) kept =
+        let at = (reachable_kept c gone left.pieces owner p g left.holds).only a (kept a refl) in
+        at.3 ∙ sym (left.came a (thing at.0 at.1 at.2) refl at.3)
+
+    same_packed : packed_block c (kept_in c gone) left.pieces ≡ packed_block c (kept_in c gone) block
+    same_packed = fun_ext (λ place. same_origin (origin c.region_words (kept_in c gone) place (heap_end c))
+        (λ a is. (origin_is c.region_words (kept_in c gone) place (heap_end c) a is).0))
+
+  pub keeps_graph : (after : Word → ℕ) → after ≡ full c m → KeepsTheGraph c m after
+  keeps_graph after is block owner p g holds =
+      let left = lets block owner p g holds in
+      subst (λ (k : Word → ℕ). ImageStands c k (served_block c (packed_in c gone) (packed_block c (kept_in c gone) block) c.mutators) g (served_promises c (packed_in c gone) p c.mutators)) (sym is)
+      (subst (λ (k : Plot). ImageStands c (full c m) (served_block c (packed_in c gone) k c.mutators) g (served_promises c (packed_in c gone) p c.mutators)) (same_packed block owner p g holds)
+      (full_stands c gone left.pieces g p left.holds.objects left.holds.rooted left.holds.asking))
+
+refuses : (c : Config) (m : Word → ℕ) (t : ℕ) → t < c.mutators → m (Wait t) ≢ 0 → (full_from c m (Answer t) ≡ 1) ↔ IsLeft c (packed_in c m) t
 refuses c m t inside waits =
     let after : Word → ℕ = packed_in c m in
     let waiting : after (Wait t) ≢ 0 = λ none. waits (sym (packed_wait c m t) ∙ none) in
@@ -50,6 +96,7 @@ refuses c m t inside waits =
 
 pub refuses_left : (c : Config) (m after : Word → ℕ) → after ≡ full c m → RefusesTheLeft c m after
 refuses_left c m after is t inside waits =
-    let one = refuses c m t inside waits in
+    let wait : let_go c m (Wait t) ≡ m (Wait t) = let_go_same (Wait t) (λ is. is) c m (seat_count c.mutators c.helpers) in
+    let one = refuses c (let_go c m) t inside (λ none. waits (sym wait ∙ none)) in
     let same : after (Answer t) ≡ full c m (Answer t) = ap (λ k. k (Answer t)) is in
     (λ e. one.0 (sym same ∙ e), λ left. same ∙ one.1 left)

@@ -1,11 +1,11 @@
 -- The heap of a table as a slice, and by the names of words.
-use Rattle.std.proofs.Common.{◌≡◌, ◌≢◌, ℕ, ◌+◌, ◌-◌, ◌/◌, ◌<◌, ◌≤◌, ◌⊎◌, ◌==◌, Bool, true, false, nat_le, nat_lt, cond, zero, suc, List, length, get_or, inl, inr, ⊎_elim, sym, ap, ◌∙◌, subst, arith, length-drop}
+use Rattle.std.proofs.Common.{◌≡◌, ◌≢◌, ℕ, ◌+◌, ◌-◌, ◌/◌, ◌<◌, ◌≤◌, ◌⊎◌, ◌==◌, Bool, true, false, nat_le, nat_lt, cond, zero, suc, List, length, drop, get_or, inl, inr, ⊎_elim, sym, ap, ◌∙◌, subst, arith}
 use Rattle.std.proofs.lemmas.Bool.{cond-true, cond-false, cases_Bool, cases_lt, cases_eq, and_left, lt-leb, eq-eqb, ne_eqb}
 use Rattle.std.proofs.lemmas.Bool.Decides.{nat_tests}
-use Rattle.std.proofs.lemmas.List.{get_or-drop, get_or_past}
+use Rattle.std.proofs.lemmas.List.{get_or-take, get_or-drop, get_or_past}
 use Rattle.std.proofs.Math.Path.{fun_ext}
 use Rattle.heap_words.specs.declared.config.Config.{Config}
-use Rattle.heap_words.specs.Words.{Word, Pause, Left, End, State, Phase, Cset, Free, Evac, Claim, Ask, Top, Tams, Limit, Current, Root, Count, Buffer, Wait, Answer, Grey, Black, Heap, IsWord, is_word, word_at, table_words, heap_size, heap_start, heap_in, view}
+use Rattle.heap_words.specs.Words.{Word, Pause, Left, End, State, Phase, Cset, Free, Evac, Claim, Ask, Top, Tams, Limit, Current, Root, Count, Buffer, Wait, Answer, Grey, Black, Heap, Share, IsWord, is_word, word_at, table_words, heap_size, heap_start, heap_in, view}
 use Rattle.heap_words.specs.Encoding.{refs_in, object_words, is_forwarded, forwardee_in}
 use Rattle.heap_words.proofs.Bounds.{heap_size_le}
 use Rattle.heap_words.proofs.Stores.{is_word_true, view_word, view_none}
@@ -22,7 +22,8 @@ use Rattle.packing.proofs.Flags.{kept_marked, kept_unmarked, kept_below}
 use Rattle.full_words.specs.Plot.{heap_end, packed_top}
 use Rattle.full_words.specs.Full.{now_in, held_in, kept_in}
 use Rattle.image_graph.specs.Pack.{IsPacked}
-use Rattle.image_graph.proofs.Packed.{heap_behind}
+use Rattle.image_graph.proofs.Packed.{heap_part}
+use Rattle.image_graph.proofs.Read.{heap_length}
 use Rattle.full_cycle.specs.Collect.{CanCollect, LeadsToHeld}
 use Rattle.full_cycle.specs.Steps.{moved_in, IsRenewedAs}
 
@@ -30,21 +31,19 @@ use Rattle.full_cycle.specs.Steps.{moved_in, IsRenewedAs}
 pub heap_word : (c : Config) (words : List ℕ) → length words ≡ table_words c → (a : ℕ) → c.region_words ≤ a → word_of c.region_words (heap_in c words) a ≡ view c words (Heap a)
 heap_word c words whole a above =
     let at : heap_start c + (a - c.region_words) ≡ word_at c (Heap a) = omega (arith, above) in
-    ap (λ xs. get_or xs (a - c.region_words) 0) (heap_behind c words whole)
+    ⊎_elim
+    (λ (below : a < heap_end c).
+    ap (λ xs. get_or xs (a - c.region_words) 0) (heap_part c words)
+    ∙ get_or-take (heap_size c) (drop (heap_start c) words) (a - c.region_words) 0 (omega (arith, below, above))
     ∙ get_or-drop (heap_start c) words (a - c.region_words) 0
-    ∙ ap (λ k. get_or words k 0) at
-    ∙ ⊎_elim
-    (λ (below : a < heap_end c). sym (view_word c words (Heap a) (above, below)))
+    ∙ ap (λ k. get_or words k 0) at ∙ sym (view_word c words (Heap a) (above, below)))
     (λ (past : heap_end c ≤ a).
-    get_or_past words (word_at c (Heap a)) 0 (omega (arith, whole, past, above)) ∙ sym (view_none c words (Heap a) (grind (arith, nat_tests))))
+    get_or_past (heap_in c words) (a - c.region_words) 0 (omega (arith, heap_length c words whole, past, above)) ∙ sym (view_none c words (Heap a) (grind (arith, nat_tests))))
     (cases_lt a (heap_end c))
 
 -- below the heap there is no word
 pub no_heap_word : (c : Config) (words : List ℕ) (a : ℕ) → a < c.region_words → view c words (Heap a) ≡ 0
 no_heap_word c words a below = view_none c words (Heap a) (and_left (nat_le c.region_words a) (nat_lt a (heap_end c)) (lt-leb c.region_words a below))
-
-pub heap_length : (c : Config) (words : List ℕ) → length words ≡ table_words c → length (heap_in c words) ≡ heap_size c
-heap_length c words whole = omega (arith, ap length (heap_behind c words whole), length-drop (heap_start c) words, whole)
 
 module _ (c : Config) (words : List ℕ) (marks : List Bool) (found : List ℕ) (whole : length words ≡ table_words c) (flags : length marks ≡ heap_size c)
     (marked : IsMarked c.region_words marks found) (held : found ≡ held_in c (view c words)) (can : CanCollect c (view c words)) where
@@ -224,6 +223,7 @@ module _ (c : Config) (words : List ℕ) (marks : List Bool) (found : List ℕ) 
     moved_at : (v : Word) → view c after v ≡ moved_in c (now_in m) kept m v
     moved_at (Heap a) = heap_moved a
     moved_at (Top r) = top_moved r
+    moved_at Share = view_word c after Share tt ∙ packed.behind (word_at c Share) (omega arith) ∙ sym (view_word c words Share tt)
     moved_at Pause = other_word Pause (λ is. (omega (arith, is), inl (omega (arith, is))))
     moved_at Left = other_word Left (λ is. (omega (arith, is), inl (omega (arith, is))))
     moved_at End = other_word End (λ is. (omega (arith, is), inl (omega (arith, is))))

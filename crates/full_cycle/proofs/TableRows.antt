@@ -2,7 +2,7 @@
 use Rattle.std.proofs.Common.{◌≡◌, ℕ, ◌<◌, ◌≤◌, List, refl, ap, ◌∙◌, arith}
 use Rattle.std.proofs.Math.Path.{fun_ext}
 use Rattle.heap_words.specs.declared.config.Config.{Config}
-use Rattle.heap_words.specs.Words.{Word, Pause, Left, End, State, Phase, Cset, Free, Evac, Claim, Ask, Top, Tams, Limit, Current, Root, Count, Buffer, Wait, Answer, Grey, Black, Heap, IsWord, word_at, view, heap_start}
+use Rattle.heap_words.specs.Words.{Word, Pause, Left, End, State, Phase, Cset, Free, Evac, Claim, Ask, Top, Tams, Limit, Current, Root, Count, Buffer, Wait, Answer, Grey, Black, Heap, Share, IsWord, word_at, view, write, heap_start}
 use Rattle.full_cycle.specs.Steps.{renewed_by, roots_renewed, calm, IsChanged}
 use Rattle.full_cycle.proofs.Rows.{hit, miss}
 
@@ -42,7 +42,8 @@ module _ (c : Config) (w0 w1 w2 w3 w4 w5 : List ℕ)
   miss5 : (w : Word) → (IsWord c w → word_at c (Grey 0) ≤ word_at c w → word_at c w < heap_start c → ⊥) → view c w5 w ≡ view c w4 w
   miss5 w outside = miss c (word_at c (Grey 0)) (heap_start c) (λ word. 0) w4 w5 s5 w outside
 
-  calm_at : (w : Word) → view c w5 w ≡ calm (view c w0) w
+  calm_at : (w : Word) → write (view c w5) Share 0 w ≡ calm (view c w0) w
+  calm_at Share = refl
   calm_at Pause = miss5 Pause (λ is low high. omega (arith, is, low, high)) ∙ miss4 Pause (λ is low high. omega (arith, is, low, high)) ∙ miss3 Pause (λ is low high. omega (arith, is, low, high)) ∙ miss2 Pause (λ is low high. omega (arith, is, low, high)) ∙ miss1 Pause (λ is low high. omega (arith, is, low, high))
   calm_at Left = miss5 Left (λ is low high. omega (arith, is, low, high)) ∙ miss4 Left (λ is low high. omega (arith, is, low, high)) ∙ miss3 Left (λ is low high. omega (arith, is, low, high)) ∙ miss2 Left (λ is low high. omega (arith, is, low, high)) ∙ miss1 Left (λ is low high. omega (arith, is, low, high))
   calm_at End = miss5 End (λ is low high. omega (arith, is, low, high)) ∙ miss4 End (λ is low high. omega (arith, is, low, high)) ∙ miss3 End (λ is low high. omega (arith, is, low, high)) ∙ miss2 End (λ is low high. omega (arith, is, low, high)) ∙ miss1 End (λ is low high. omega (arith, is, low, high))
@@ -66,8 +67,8 @@ module _ (c : Config) (w0 w1 w2 w3 w4 w5 : List ℕ)
   calm_at (Black n) = hit5 (Black n) (λ is. (omega (arith, is), omega (arith, is)))
   calm_at (Heap a) = miss5 (Heap a) (λ is low high. omega (arith, is, low, high)) ∙ miss4 (Heap a) (λ is low high. omega (arith, is, low, high)) ∙ miss3 (Heap a) (λ is low high. omega (arith, is, low, high)) ∙ miss2 (Heap a) (λ is low high. omega (arith, is, low, high)) ∙ miss1 (Heap a) (λ is low high. omega (arith, is, low, high))
 
-  -- once five ranges are cleared nothing is left of a collection in progress
-  pub calmed : view c w5 ≡ calm (view c w0)
+  -- once five ranges are cleared, and no region is shared, nothing is left of a collection in progress
+  pub calmed : write (view c w5) Share 0 ≡ calm (view c w0)
   calmed = fun_ext calm_at
 
 module _ (c : Config) (places w0 w1 w2 : List ℕ)
@@ -86,6 +87,7 @@ module _ (c : Config) (places w0 w1 w2 : List ℕ)
   answer_miss w outside = miss c (word_at c (Answer 0)) (word_at c (Grey 0)) (renewed_by c.region_words places) w1 w2 s2 w outside
 
   renewed_at : (w : Word) → view c w2 w ≡ roots_renewed c places (view c w0) w
+  renewed_at Share = answer_miss Share (λ is low high. omega (arith, is, low, high)) ∙ root_miss Share (λ is low high. omega (arith, is, low, high))
   renewed_at Pause = answer_miss Pause (λ is low high. omega (arith, is, low, high)) ∙ root_miss Pause (λ is low high. omega (arith, is, low, high))
   renewed_at Left = answer_miss Left (λ is low high. omega (arith, is, low, high)) ∙ root_miss Left (λ is low high. omega (arith, is, low, high))
   renewed_at End = answer_miss End (λ is low high. omega (arith, is, low, high)) ∙ root_miss End (λ is low high. omega (arith, is, low, high))

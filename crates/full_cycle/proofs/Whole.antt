@@ -3,7 +3,7 @@ use Rattle.std.proofs.Common.{◌≡◌, ◌≢◌, ℕ, ◌<◌, ◌≤◌, ◌
 use Rattle.std.proofs.lemmas.Bool.{cond-true, cond-false, cases_Bool, cases_lt, cases_eq, ne_eqb, le-leb, lt-leb}
 use Rattle.std.proofs.Math.Path.{fun_ext}
 use Rattle.heap_words.specs.declared.config.Config.{Config}
-use Rattle.heap_words.specs.Words.{Word, Pause, Left, End, State, Phase, Cset, Free, Evac, Claim, Ask, Top, Tams, Limit, Current, Root, Count, Buffer, Wait, Answer, Grey, Black, Heap, is_word, write}
+use Rattle.heap_words.specs.Words.{Word, Pause, Left, End, State, Phase, Cset, Free, Evac, Claim, Ask, Top, Tams, Limit, Current, Root, Count, Buffer, Wait, Answer, Grey, Black, Heap, Share, is_word, write}
 use Rattle.heap_words.proofs.Stores.{is_word_true, view_none}
 use Rattle.packing.specs.Places.{new_place}
 use Rattle.packing.proofs.Tops.{top_within}
@@ -111,6 +111,7 @@ module _ (old one two : Image) (can : CanCollect (config_of old) (memory_of old)
       let null : m (Answer t) ≡ 0 = view_none g (words_of old) (Answer t) no in
       ap (renewed_by g.region_words (places_of two)) null ∙ sym (ap (renewed_answer g.region_words now kept) null))
       (cases_Bool (is_word g (Answer t)))
+  freed_at Share = refl
   freed_at Pause = refl
   freed_at Left = refl
   freed_at End = refl

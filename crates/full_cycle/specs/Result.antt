@@ -6,6 +6,7 @@ use Rattle.shen_graph.specs.declared.name.Name.{Name}
 use Rattle.shen_graph.specs.Graph.{Graph}
 use Rattle.shen_graph.specs.Reach.{IsReachable}
 use Rattle.heap_world.specs.World.{Plot, thing}
+use Rattle.buffer_words.specs.LetGo.{let_go}
 use Rattle.full_words.specs.Plot.{packed_block}
 use Rattle.full_words.specs.Full.{kept_in, packed_in}
 use Rattle.full_words.specs.Promised.{Promises, with_promised}
@@ -18,7 +19,8 @@ use Rattle.image_graph.specs.Left.{IsLeft}
 -- threads are further promises.
 abbrev pub KeepsTheGraph : Config → (before after : Word → ℕ) → Type 0
 KeepsTheGraph c before after = (block : Plot) (owner : ℕ → Option ℕ) (p : Promises) (g : Graph) → HoldsBy c before block owner p g
-    → ImageStands c after (served_block c (packed_in c before) (packed_block c (kept_in c before) block) c.mutators) g (served_promises c (packed_in c before) p c.mutators)
+    → ImageStands c after (served_block c (packed_in c (let_go c before)) (packed_block c (kept_in c (let_go c before)) block) c.mutators) g
+    (served_promises c (packed_in c (let_go c before)) p c.mutators)
 
 -- what is kept is the current copy of an object that the graph reaches, and each object that it reaches has a copy that is kept
 pub record KeptAreReachable (c : Config) (memory : Word → ℕ) (block : Plot) (g : Graph) : Type 0 where
@@ -27,8 +29,8 @@ pub record KeptAreReachable (c : Config) (memory : Word → ℕ) (block : Plot) 
 
 -- so it is of each graph that the words hold; what answers promise counts as reached
 abbrev pub KeepsTheReachable : Config → (Word → ℕ) → Type 0
-KeepsTheReachable c memory = (block : Plot) (owner : ℕ → Option ℕ) (p : Promises) (g : Graph) → HoldsBy c memory block owner p g → KeptAreReachable c memory block (with_promised g p)
+KeepsTheReachable c memory = (block : Plot) (owner : ℕ → Option ℕ) (p : Promises) (g : Graph) → HoldsBy c memory block owner p g → KeptAreReachable c (let_go c memory) block (with_promised g p)
 
 -- a thread that waits is answered that the heap is full exactly where at its turn each region has less room than it asks for
 abbrev pub RefusesTheLeft : Config → (before after : Word → ℕ) → Type 0
-RefusesTheLeft c before after = (t : ℕ) → t < c.mutators → before (Wait t) ≢ 0 → (after (Answer t) ≡ 1) ↔ IsLeft c (packed_in c before) t
+RefusesTheLeft c before after = (t : ℕ) → t < c.mutators → before (Wait t) ≢ 0 → (after (Answer t) ≡ 1) ↔ IsLeft c (packed_in c (let_go c before)) t

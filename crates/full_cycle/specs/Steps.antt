@@ -1,7 +1,7 @@
 -- What each step of a full collection makes of the words of an image.
 use Rattle.std.specs.Prelude.{ℕ, ◌≡◌, ◌==◌, ◌&&◌, nat_le, nat_lt, if◌then◌else◌, List, slice_index}
 use Rattle.heap_words.specs.declared.config.Config.{Config}
-use Rattle.heap_words.specs.Words.{Word, Phase, Cset, Evac, Claim, Ask, Top, Tams, Limit, Current, Root, Count, Wait, Answer, Grey, Black, Heap}
+use Rattle.heap_words.specs.Words.{Word, Phase, Cset, Evac, Claim, Ask, Top, Tams, Limit, Current, Root, Count, Wait, Answer, Grey, Black, Heap, Share}
 use Rattle.packing.specs.Slide.{renewed, slid}
 use Rattle.packing.specs.Table.{from_table, IsInTable}
 use Rattle.full_words.specs.Plot.{heap_end, packed_top}
@@ -37,6 +37,7 @@ calm memory Ask = 0
 calm memory (Tams r) = 0
 calm memory (Limit r) = 0
 calm memory (Current seat) = 0
+calm memory Share = 0
 calm memory (Count t) = 0
 calm memory (Grey n) = 0
 calm memory (Black n) = 0

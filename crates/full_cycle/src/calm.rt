@@ -21,7 +21,7 @@ fn clear_words(image: &mut Image, from: usize, to: usize)
 }
 
 /// Puts 0 into the words of a collection in progress: the phase, the collection set, what is claimed and asked for, the
-/// tops that collections noted, current regions, counts of buffers, and mark words.
+/// tops that collections noted, the shared region, buffers, counts of SATB buffers, and mark words.
 pub(crate) fn clear_collection(image: &mut Image)
     ensures config { config_of image.new ≡ config_of image.old }
     ensures words { memory_of image.new ≡ calm (memory_of image.old) }
@@ -32,6 +32,7 @@ pub(crate) fn clear_collection(image: &mut Image)
     clear_words(image, config.tams_at(0), config.root_at(0, 0));
     clear_words(image, config.count_at(0), config.buffer_at(0, 0));
     clear_words(image, config.grey_at(0), config.heap_start());
+    image.set_word(config.share_at(), 0);
 }
 
 // The set of a region, if its top is 0, and else no set.
@@ -50,7 +51,7 @@ pub(crate) fn free_empty(image: &mut Image)
     let config = image.config();
     let mut free = 0u64;
     for region in 0..config.regions() {
-        free += set_if_empty(region, image.edge(region));
+        free += set_if_empty(region, image.top(region));
     }
     image.set_word(config.free_at(), free);
 }

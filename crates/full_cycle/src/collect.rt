@@ -1,7 +1,7 @@
 //! A full collection, step by step.
 
 ghost use Rattle.std.specs.Prelude.{◌≡◌};
-ghost use Rattle.full_words.specs.Full.{full};
+ghost use Rattle.full_words.specs.Full.{full_from, full};
 ghost use Rattle.image_graph.specs.State.{config_of, memory_of};
 ghost use Rattle.image_graph.specs.Holds.{HoldsSome};
 ghost use Rattle.full_cycle.specs.Result.{KeepsTheGraph, KeepsTheReachable, RefusesTheLeft};
@@ -13,7 +13,22 @@ use crate::renew::renew_roots;
 use crate::walk::find_held;
 use image_graph::Image;
 
-/// Collects the whole heap. Kept are the objects that roots and answers lead to, packed in the order of the addresses of
+// Collects the whole heap, where nobody has a buffer.
+fn collect(image: &mut Image)
+    requires { HoldsSome (config_of image.old) (memory_of image.old) }
+    ensures config { config_of image.new ≡ config_of image.old }
+    ensures words { memory_of image.new ≡ full_from (config_of image.old) (memory_of image.old) }
+{
+    find_held(image);
+    pack_held(image);
+    renew_roots(image);
+    clear_collection(image);
+    free_empty(image);
+    image.give_turns();
+    refuse(image);
+}
+
+/// Collects the whole heap. Buffers are let go. Kept are the objects that roots and answers lead to, packed in the order of the addresses of
 /// their current copies; roots, answers, references, tops and the free word follow, and nothing of a collection in
 /// progress is left. Then each waiting request is served where there is room for it, and else answered that the heap is
 /// full. The image holds a graph. Takes no memory, and time linear in the words of the heap.
@@ -28,11 +43,6 @@ pub fn full(image: &mut Image)
     ensures kept { KeepsTheReachable (config_of image.old) (memory_of image.old) }
     ensures refused { RefusesTheLeft (config_of image.old) (memory_of image.old) (memory_of image.new) }
 {
-    find_held(image);
-    pack_held(image);
-    renew_roots(image);
-    clear_collection(image);
-    free_empty(image);
-    image.give_turns();
-    refuse(image);
+    image.let_go();
+    collect(image);
 }

@@ -11,7 +11,7 @@ use Rattle.shen_graph.specs.Reach.{IsReach, size}
 use Rattle.heap_world.specs.World.{Plot}
 use Rattle.full_words.specs.Held.{IsAmong, HoldsGraph}
 use Rattle.full_words.specs.Plot.{heap_end}
-use Rattle.full_words.specs.Full.{now_in, root_words, kept_in, packed, asked_in, full}
+use Rattle.full_words.specs.Full.{now_in, root_words, kept_in, packed, asked_in, full_from}
 use Rattle.full_words.specs.Promised.{Promises, with_promised, AreFresh, promised_words}
 use Rattle.full_words.specs.Served.{tops_at_turn, given_in}
 use Rattle.full_words.specs.Laws.{KeepsGraph}
@@ -28,7 +28,7 @@ same_asked c m now kept t = (refl, refl)
 pub full_is_crowded : (c : Config) (m : Word → ℕ) (block : Plot) (g : Graph) (p : Promises) (names : List Name)
     → HoldsGraph c (λ r. m (Top r)) (λ a. m (Heap a)) block (now_in m) (IsAmong (root_words c m)) (with_promised g p)
     → AreFresh c.mutators g p → IsReach g names
-    → (t : ℕ) → t < c.mutators → m (Wait t) ≢ 0 → asked_in m t ≤ c.region_words → full c m (Answer t) ≡ 1
+    → (t : ℕ) → t < c.mutators → m (Wait t) ≢ 0 → asked_in m t ≤ c.region_words → full_from c m (Answer t) ≡ 1
     → c.regions * (c.region_words - asked_in m t + 1)
     ≤ sum_by (λ n. size (named g (Some n))) names + sum_below (promised_words p) (c.mutators + 1) + sum_below (given_in c (packed c (now_in m) (kept_in c m) m)) t
 full_is_crowded c m block g p names holds fresh reach t inside waits short is =

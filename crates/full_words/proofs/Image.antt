@@ -10,7 +10,7 @@ use Rattle.shen_graph.specs.declared.name.Name.{Name}
 use Rattle.shen_graph.specs.Graph.{Graph, Object}
 use Rattle.heap_world.proofs.Copies.{none_evacuated}
 use Rattle.heap_world.proofs.Unmarked.{none_marked}
-use Rattle.heap_world.specs.World.{Plot, thing, AreObjects, IsGiven, Shared}
+use Rattle.heap_world.specs.World.{Plot, thing, spare, AreObjects, IsGiven, Shared}
 use Rattle.full_words.specs.Held.{from_root, IsAmong}
 use Rattle.full_words.specs.Plot.{AreThings, heap_end, packed_block, packed_top}
 use Rattle.full_words.specs.Pack.{CanPack}
@@ -65,15 +65,17 @@ module _ (c : Config) (memory : Word → ℕ) (block : Plot) (g : Graph) (now ke
     contents = record { objects = objects_again; given = given };
     owned = record {
       free_word = free_again c (packed_top c kept);
-      currents = record { within = λ seat r is. absurd (omega (arith, is)); own = λ seat r is. absurd (omega (arith, is)) };
-      rooms = rooms_none c _ _ new_block (no_room new_block are_things);
+      shared_one = λ r is. absurd (omega (arith, is));
+      rooms = rooms_none c new_block (no_room new_block are_things);
+      buffers = record { each = λ seat some. absurd (some refl); spares = λ a seat words is. absurd (no_room new_block are_things a seat (spare seat words) is refl) };
+      outside = λ seat some. absurd (some refl);
     };
     phased = record { phase_is = omega arith; cset_is = λ other. refl; evac_is = λ other. refl };
     unwritten = record {
       blanks = λ a seat words is. absurd (no_promised new_block are_things a seat words is);
       headers = λ a words is. absurd (no_dead new_block are_things a words is);
       lengths = λ a words is. absurd (no_dead new_block are_things a words is);
-      fillers = no_filler new_block are_things;
+      fillers = λ a words is. absurd (no_filler new_block are_things a words is);
     };
     marked = none_marked c _ _ _ _ _ _ _ _ _ _ _ refl;
     evacuated = none_evacuated c _ _ _ _ _ _ _ _ _ _ _ (λ on. omega (arith, on)) (no_moved new_block are_things) (no_spent new_block are_things) (λ seat inside. refl);

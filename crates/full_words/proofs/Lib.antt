@@ -4,6 +4,7 @@ pub mod Origin
 pub mod Packed
 pub mod Things
 pub mod FreeWord
+pub mod Buffers
 pub mod Image
 pub mod Found
 pub mod Walked

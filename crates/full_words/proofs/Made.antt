@@ -14,7 +14,7 @@ use Rattle.regions.specs.Sets.{all_but}
 use Rattle.shen_graph.specs.declared.name.Name.{Name}
 use Rattle.shen_graph.specs.Graph.{Graph, Object, Reference, blank, same_name, same_reference}
 use Rattle.shen_graph.proofs.PlainLemmas.{same_name-true, same_name-itself}
-use Rattle.heap_world.specs.World.{Block, thing, promised, words_of, room_of, Plot, name_at, Points, IsPlotted, IsThing, AreObjects, IsFreeWord}
+use Rattle.heap_world.specs.World.{Block, thing, hand, promised, carved, words_of, Plot, name_at, Points, IsPlotted, IsThing, AreObjects, IsFreeWord}
 use Rattle.heap_world.proofs.Updates.{updated, updated_else, updated_there}
 use Rattle.heap_world.proofs.Keeping.{points_stay}
 use Rattle.heap_world.proofs.Pointing.{named_piece}
@@ -260,10 +260,14 @@ module _ (c : Config) (m : Word → ℕ) (block : Plot) (g : Graph) (p : Promise
         (λ (made : (a ≡ address) × (piece ≡ promised seat words)). absurd (let same = made.1 in cc))
         (λ (old : (a ≢ address) × (block a ≡ Some (promised seat words))). stands.pieces.unpromised a seat words old.1)
         (cases a (promised seat words) is);
-    roomless = λ a seat x is room. ⊎_elim
-        (λ (made : (a ≡ address) × (piece ≡ x)). none-some seat (ap room_of made.1 ∙ room))
-        (λ (old : (a ≢ address) × (block a ≡ Some x)). stands.pieces.roomless a seat x old.1 room)
-        (cases a x is);
+    unheld = λ a seat words is. ⊎_elim
+        (λ (made : (a ≡ address) × (piece ≡ hand seat words)). absurd (let same = made.1 in cc))
+        (λ (old : (a ≢ address) × (block a ≡ Some (hand seat words))). stands.pieces.unheld a seat words old.1)
+        (cases a (hand seat words) is);
+    uncarved = λ a seat words is. ⊎_elim
+        (λ (made : (a ≡ address) × (piece ≡ carved seat words)). absurd (let same = made.1 in cc))
+        (λ (old : (a ≢ address) × (block a ≡ Some (carved seat words))). stands.pieces.uncarved a seat words old.1)
+        (cases a (carved seat words) is);
     some = λ a other is. ⊎_elim
         (λ (made : (a ≡ address) × (piece ≡ other)). let long = ap words_of made.1 in omega (arith, long))
         (λ (old : (a ≢ address) × (block a ≡ Some other)). stands.pieces.some a other old.1)

@@ -1,8 +1,8 @@
 -- Where each piece is an object, whatever stands for a name is one.
-use Rattle.std.proofs.Common.{◌≡◌, ℕ, ◌≤◌, Some, sym, ap, ◌∙◌, arith}
+use Rattle.std.proofs.Common.{◌≡◌, ℕ, ◌≤◌, Some, refl, sym, ap, ◌∙◌, arith}
 use Rattle.std.proofs.lemmas.Option.{none-some, same_Some}
 use Rattle.shen_graph.specs.declared.name.Name.{Name}
-use Rattle.heap_world.specs.World.{Block, thing, moved, spent, promised, dead, filler, words_of, room_of, Plot, name_at, HasNoRoom}
+use Rattle.heap_world.specs.World.{Block, thing, moved, spent, hand, promised, dead, filler, carved, words_of, room_of, Plot, name_at, HasNoRoom}
 use Rattle.heap_world.proofs.Pointing.{named_piece}
 use Rattle.full_words.specs.Plot.{AreThings, NamedAreThings}
 
@@ -39,4 +39,10 @@ module _ (block : Plot) (things : AreThings block) where
   some_words a piece is = let size = ap words_of (things a piece is).3 in omega (arith, size)
 
   pub named_things : NamedAreThings block
-  named_things = record { named = thing_at; unpromised = no_promised; roomless = no_room; some = some_words }
+  named_things = record {
+    named = thing_at;
+    unpromised = no_promised;
+    unheld = λ a seat words is. no_room a seat (hand seat words) is refl;
+    uncarved = λ a seat words is. no_room a seat (carved seat words) is refl;
+    some = some_words;
+  }

@@ -13,7 +13,7 @@ use Rattle.shen_graph.specs.Graph.{Graph}
 use Rattle.heap_world.specs.World.{Plot, name_at}
 use Rattle.full_words.specs.Held.{IsAmong, HoldsGraph}
 use Rattle.full_words.specs.Plot.{packed_block}
-use Rattle.full_words.specs.Full.{now_in, root_words, kept_in, packed, served_in, room_for, served, refused, full}
+use Rattle.full_words.specs.Full.{now_in, root_words, kept_in, packed, served_in, room_for, served, refused, full_from}
 use Rattle.full_words.specs.Promised.{Promises, with_promised}
 use Rattle.full_words.specs.Image.{AnswerStands, RootsStand, ImageStands}
 use Rattle.full_words.specs.Serving.{asked_shape, made_block, made_promise, turn_room, served_block, served_promises, AreAsking}
@@ -137,7 +137,7 @@ packed_asks c m now kept g p asking t later inside some =
 pub full_stands : (c : Config) (m : Word → ℕ) (block : Plot) (g : Graph) (p : Promises)
     → HoldsGraph c (λ r. m (Top r)) (λ a. m (Heap a)) block (now_in m) (IsAmong (root_words c m)) (with_promised g p)
     → RootsStand c m block g p → AreAsking c m g p 0
-    → ImageStands c (full c m) (served_block c (packed c (now_in m) (kept_in c m) m) (packed_block c (kept_in c m) block) c.mutators) g
+    → ImageStands c (full_from c m) (served_block c (packed c (now_in m) (kept_in c m) m) (packed_block c (kept_in c m) block) c.mutators) g
     (served_promises c (packed c (now_in m) (kept_in c m) m) p c.mutators)
 full_stands c m block g p holds rooted asking =
     let after : Word → ℕ = packed c (now_in m) (kept_in c m) m in

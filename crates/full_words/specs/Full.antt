@@ -3,13 +3,14 @@
 use Rattle.std.specs.Prelude.{ℕ, ◌+◌, ◌*◌, ◌^◌, ◌==◌, ◌&&◌, nat_le, nat_lt, if◌then◌else◌, bit_and, List, [], ◌∷◌, ◌++◌, map, Option, Some, None, zero, suc}
 use Rattle.std.specs.List.{range_with_len}
 use Rattle.heap_words.specs.declared.config.Config.{Config}
-use Rattle.heap_words.specs.Words.{Word, Pause, Left, End, State, Phase, Cset, Free, Evac, Claim, Ask, Top, Tams, Limit, Current, Root, Count, Buffer, Wait, Answer, Grey, Black, Heap}
+use Rattle.heap_words.specs.Words.{Word, Pause, Left, End, State, Phase, Cset, Free, Evac, Claim, Ask, Top, Tams, Limit, Current, Root, Count, Buffer, Wait, Answer, Grey, Black, Heap, Share}
 use Rattle.heap_words.specs.Encoding.{plain_header, is_forwarded, forwardee_in, refs_in, object_words, name_code, request_count_in, request_shape_in}
 use Rattle.regions.specs.Place.{base_of}
 use Rattle.regions.specs.Sets.{all_but}
 use Rattle.packing.specs.Places.{new_place}
 use Rattle.packing.specs.Rooms.{lowest_room}
 use Rattle.packing.specs.Slide.{renewed, slid}
+use Rattle.buffer_words.specs.LetGo.{let_go}
 use Rattle.heap_graph.specs.Walk.{has}
 use Rattle.full_words.specs.Held.{found_in}
 use Rattle.full_words.specs.Plot.{heap_end, packed_top}
@@ -78,6 +79,7 @@ packed c now kept memory Ask = 0
 packed c now kept memory (Tams r) = 0
 packed c now kept memory (Limit r) = 0
 packed c now kept memory (Current seat) = 0
+packed c now kept memory Share = 0
 packed c now kept memory (Count t) = 0
 packed c now kept memory (Grey n) = 0
 packed c now kept memory (Black n) = 0
@@ -136,6 +138,10 @@ refused memory (Answer t) = if memory (Wait t) == 0 then memory (Answer t) else 
 refused memory (Wait t) = 0
 refused memory word = memory word
 
--- the words after a full collection
+-- the words after a full collection, from words in which no seat has a buffer
+abbrev pub full_from : Config → (Word → ℕ) → Word → ℕ
+full_from c memory = refused (served c (packed_in c memory) c.mutators)
+
+-- The words after a full collection: buffers are let go first.
 abbrev pub full : Config → (Word → ℕ) → Word → ℕ
-full c memory = refused (served c (packed_in c memory) c.mutators)
+full c memory = full_from c (let_go c memory)

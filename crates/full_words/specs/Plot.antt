@@ -4,18 +4,19 @@ use Rattle.heap_words.specs.declared.config.Config.{Config}
 use Rattle.packing.specs.Places.{new_place}
 use Rattle.packing.specs.Tops.{top_before}
 use Rattle.shen_graph.specs.declared.name.Name.{Name}
-use Rattle.heap_world.specs.World.{Block, Plot, thing, promised, words_of, name_at, HasNoRoom}
+use Rattle.heap_world.specs.World.{Block, Plot, thing, promised, hand, carved, words_of, name_at}
 
 -- each piece is an object: nobody has room in hand, and old copies and what a pause has made for a mutator count as objects
 abbrev pub AreThings : Plot → Type 0
 AreThings block = (a : ℕ) (piece : Block) → block a ≡ Some piece → (name : Name) × (refs : ℕ) × (nums : ℕ) × (piece ≡ thing name refs nums)
 
--- What stands for a name is an object, nothing is promised, and no piece is room: old copies and what a pause has made for a mutator count as
--- objects. Other pieces may be of any kind: dead objects, and words that only fill.
+-- What stands for a name is an object, and nothing is promised, in hand or carved: old copies and what a pause has made for a mutator count
+-- as objects. Other pieces may be of any kind: dead objects, words that only fill, and the free words of buffers.
 pub record NamedAreThings (block : Plot) : Type 0 where
   pub named : (a : ℕ) (name : Name) → name_at (block a) ≡ Some name → (refs : ℕ) × (nums : ℕ) × (block a ≡ Some (thing name refs nums))
   pub unpromised : (a seat words : ℕ) → block a ≡ Some (promised seat words) → ⊥
-  pub roomless : HasNoRoom block
+  pub unheld : (a seat words : ℕ) → block a ≡ Some (hand seat words) → ⊥
+  pub uncarved : (a seat words : ℕ) → block a ≡ Some (carved seat words) → ⊥
   pub some : (a : ℕ) (piece : Block) → block a ≡ Some piece → 1 ≤ words_of piece
 
 -- the address behind the last one of the heap

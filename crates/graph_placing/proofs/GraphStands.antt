@@ -3,11 +3,11 @@ use Rattle.std.proofs.Common.{◌≡◌, ℕ, ◌+◌, ◌<◌, false, List, len
 use Rattle.std.specs.Prelude.{Contains}
 use Rattle.std.proofs.lemmas.Option.{none-some, slice_get_within, get_or_from_slice_get}
 use Rattle.heap_words.specs.declared.config.Config.{Config}
-use Rattle.heap_words.specs.Words.{Word, Phase, Cset, Free, Evac, Claim, Top, Tams, Current, Root, Count, Buffer, Wait, Answer, Grey, Black, Heap}
+use Rattle.heap_words.specs.Words.{Word, Phase, Cset, Free, Evac, Claim, Top, Tams, Current, Root, Count, Buffer, Wait, Answer, Grey, Black, Heap, Share}
 use Rattle.shen_graph.specs.declared.name.Name.{Name}
 use Rattle.shen_graph.specs.Graph.{Graph, Object, Reference, hub}
 use Rattle.shen_graph.specs.GraphText.{Text, row_of, names_of, root_of}
-use Rattle.heap_world.specs.World.{World, Plot, Block, thing, moved, spent, hand, promised, dead, filler, no_ghost, name_at, room_of, HasNoRoom, Points, IsThing, AreObjects, IsFreeWord, IsUsable, IsEvacuating, Shared}
+use Rattle.heap_world.specs.World.{World, Plot, Block, thing, moved, spent, hand, spare, carved, promised, dead, filler, no_ghost, name_at, room_of, HasNoRoom, Points, IsThing, AreObjects, IsFreeWord, IsUsable, IsEvacuating, Shared}
 use Rattle.heap_world.specs.Asking.{nothing}
 use Rattle.heap_world.specs.Represents.{Represents}
 use Rattle.heap_world.proofs.Keeping.{usable_now}
@@ -155,18 +155,20 @@ module _ (c : Config) (t : Text) (whole : IsPlaceable c t) (fits : Fits c t) (me
       contents = record { objects = objects; given = is.given };
       owned = record {
         free_word = subst (λ (free : ℕ). IsFreeWord c free (λ r. memory (Top r)) (λ r. None)) (sym placed.free) (free_again c (λ r. memory (Top r)));
-        currents = record {
-          within = λ seat r at. absurd (omega (arith, placed.others (Current seat) refl, at));
-          own = λ seat r at. absurd (omega (arith, placed.others (Current seat) refl, at));
+        shared_one = λ r at. absurd (omega (arith, placed.others Share refl, at));
+        rooms = rooms_none c block no_room;
+        buffers = record {
+          each = λ seat some. absurd (some (placed.others (Current seat) refl));
+          spares = λ a seat words there. absurd (no_room a seat (spare seat words) there refl);
         };
-        rooms = rooms_none c _ _ block no_room;
+        outside = λ seat some. absurd (some (placed.others (Current seat) refl));
       };
       phased = record { phase_is = omega (arith, phase); cset_is = λ other. set; evac_is = λ other. copiers };
       unwritten = record {
         blanks = λ a seat words there. absurd (no_promised a seat words there);
         headers = λ a words there. absurd (no_dead a words there);
         lengths = λ a words there. absurd (no_dead a words there);
-        fillers = no_filler;
+        fillers = λ a words there. absurd (no_filler a words there);
       };
       marked = none_marked c (memory Phase) (λ m. memory (Grey m)) (λ m. memory (Black m)) (λ m. memory (Count m)) (λ m k. memory (Buffer m k)) (λ r. memory (Top r)) (λ r. memory (Tams r)) heap block (λ seat. None) (λ seat. None) phase;
       evacuated = evacuated;
@@ -188,6 +190,7 @@ module _ (c : Config) (t : Text) (whole : IsPlaceable c t) (fits : Fits c t) (me
       usable = λ m i below small.
           subst (λ (s : ℕ). IsUsable c s (memory Evac) block (memory (Root m i))) (sym set) (usable_now c (memory Evac) block no_moved (memory (Root m i)) (g.root (m + 1) i) (roots m i below small));
       none = λ a seat words there. no_room a seat (hand seat words) there refl;
+      uncarved = λ a seat words there. no_room a seat (carved seat words) there refl;
       asked = λ m below. (placed.others (Wait m) refl, placed.others (Answer m) refl, λ a words there. no_promised a m words there);
       heard = λ m refs nums below asks_it. absurd (cc);
       promised_to = λ a seat words there. absurd (no_promised a seat words there);

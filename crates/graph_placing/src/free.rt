@@ -23,7 +23,7 @@ pub(crate) fn free_empty(image: &mut Image)
     let config = image.config();
     let mut free = 0u64;
     for region in 0..config.regions() {
-        free += set_if_empty(region, image.edge(region));
+        free += set_if_empty(region, image.top(region));
     }
     image.set_word(config.free_at(), free);
 }

@@ -6,7 +6,7 @@ use Rattle.std.proofs.lemmas.Option.{same_Some, slice_get_within}
 use Rattle.std.proofs.lemmas.Bool.{cases_Bool, cond-true, cond-false, and_parts, and_from, leb-true, ltb-true}
 use Rattle.std.proofs.lemmas.Bool.Decides.{nat_tests}
 use Rattle.heap_words.specs.declared.config.Config.{Config}
-use Rattle.heap_words.specs.Words.{Top, Root, Heap, view, roots_start, heap_start, table_words, heap_in, roots_in}
+use Rattle.heap_words.specs.Words.{Top, Root, Heap, view, roots_start, heap_start, table_words, heap_size, heap_in, roots_in}
 use Rattle.heap_words.proofs.Stores.{view_word}
 use Rattle.shen_graph.specs.declared.name.Name.{Name}
 use Rattle.shen_graph.specs.Graph.{Graph, Object}
@@ -56,7 +56,7 @@ module _ (c : Config) (words : List ℕ) (block : Plot) (at : ℕ → Option Nam
 
   -- the length of the heap
   length-heap : length heap ≡ c.regions * c.region_words
-  length-heap = let e : length heap ≡ table_words c - heap_start c = length-part words (heap_start c) (table_words c) (omega (arith, long)) in omega (arith, e)
+  length-heap = let e : length heap ≡ heap_start c + heap_size c - heap_start c = length-part words (heap_start c) (heap_start c + heap_size c) (omega (arith, long)) in omega (arith, e)
 
   -- the words of a piece lie in the heap
   piece_inside : (a : ℕ) (b : Block) → block a ≡ Some b → (first ≤ a) × (a + words_of b ≤ first + length heap)
@@ -68,7 +68,7 @@ module _ (c : Config) (words : List ℕ) (block : Plot) (at : ℕ → Option Nam
   -- a word of the heap by its name
   heap_word : (a : ℕ) → first ≤ a → a < first + length heap → slice_index heap (a - first) ≡ view c words (Heap a)
   heap_word a low high =
-      get_or-part words (heap_start c) (table_words c) (a - first) (omega (arith, low, high, length-heap))
+      get_or-part words (heap_start c) (heap_start c + heap_size c) (a - first) (omega (arith, low, high, length-heap))
       ∙ ap (λ k. get_or words k 0) (let e : heap_start c + (a - first) ≡ heap_start c + a - first = omega (arith, low) in e)
       ∙ sym (view_word c words (Heap a) (low, let e : (c.regions + 1) * c.region_words ≡ c.regions * c.region_words + c.region_words = omega arith in omega (arith, e, high, length-heap)))
 

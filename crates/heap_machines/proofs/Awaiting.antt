@@ -67,7 +67,7 @@ use Rattle.heap_machines.specs.Awaits.{Awaits}
 
 -- Each part stands elsewhere.
 take_away : (at : TakeSpot) → same_place (takes.place_at at) E4 ≡ false
-take_away take.LoadCurrent = refl
+take_away take.LoadBuffer = refl
 take_away _ = refl
 
 room_away : (at : RoomSpot) → same_place (rooms.place_at at) E4 ≡ false
@@ -81,7 +81,7 @@ copy_away _ = refl
 resolve_away : (at : ResolveSpot) → same_place (resolves.place_at at) E4 ≡ false
 resolve_away (resolve.Entering at) = room_away at
 resolve_away (resolve.Taking words at) = take_away at
-resolve_away (resolve.Copying copy at) = copy_away at
+resolve_away (resolve.Copying copy end at) = copy_away at
 resolve_away (resolve.Stopping at) = room_away at
 resolve_away _ = refl
 

@@ -94,8 +94,8 @@ in_shape : (phase : ℕ) (command : Command) (object second third shape : ℕ) �
 in_shape phase command object second third shape = either (has_part command shape) (with_part phase command object second third shape) (Leave reply.Bad) (in_part phase command object second third shape) refl
 
 in_take : (take : TakeSpot) → InCall (after_take take)
-in_take (take_spot.Ended (At address)) = refl
-in_take (take_spot.Ended NoRoom) = refl
+in_take (take_spot.Ended (At address) end) = refl
+in_take (take_spot.Ended NoRoom end) = refl
 in_take _ = refl
 
 in_load : (phase : ℕ) (command : Command) (at : LoadSpot) (got : ℕ) → InCall (load_next phase command at got)

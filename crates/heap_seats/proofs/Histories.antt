@@ -22,6 +22,7 @@ calls_of_run c number a has rest =
     record {
       events = has.reached.events;
       legal = (run_sound pause_image heap_pauses c run).legal;
+      crowded = (run_sound pause_image heap_pauses c run).crowded;
       part = entries_at_rest c run number a here rest;
     }
 

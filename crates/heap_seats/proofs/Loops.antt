@@ -2,6 +2,7 @@
 use Rattle.std.proofs.Common.{◌≡◌, ◌<◌, ◌≤◌, ℕ, ◌+◌, Bool, true, false, List, Option, Some, None, refl, sym, ap, ◌∙◌, subst, arith}
 use Rattle.std.specs.Prelude.{◌++◌, unwrap_or}
 use Rattle.std.proofs.lemmas.List.{append-nil}
+use Rattle.heap_words.specs.declared.config.Config.{Config}
 use Rattle.shen_graph.specs.declared.command.Command.{Command}
 use Rattle.shen_graph.specs.declared.command.Reply.{Reply}
 use Rattle.shen_graph.specs.History.{Entry}
@@ -18,7 +19,7 @@ use Rattle.heap_seats.specs.declared.progress.Progress.{Progress}
 use Rattle.heap_seats.specs.declared.progress.Progress.TheVariants as progress
 use Rattle.heap_seats.specs.declared.seat.Seat.{Seat}
 use Rattle.heap_seats.specs.Seats.{config_of, number_of, actor_in, machine_of_seat, order_in, steps_in, calls_of, doing_in, state_in, state_by, IsSameSeat}
-use Rattle.heap_seats.specs.Going.{ArePartOfHistory, IsAsItWas, HasStepped, given_by, progress_at, reply_told, FitsState, HasGoneOn}
+use Rattle.heap_seats.specs.Going.{ArePartOfHistory, IsAsItWas, HasWaited, HasStepped, given_by, progress_at, reply_told, FitsState, HasGoneOn}
 use Rattle.heap_seats.proofs.Histories.{calls_are_part}
 
 pub record GoesOn (first now : Seat) (made : ℕ) : Type 0 where
@@ -57,6 +58,8 @@ gone_replied first now new made steps said reply on same step is replied below =
   doing = step.doing ∙ on.doing;
   most = omega (arith, step.steps, on.steps, below);
   all = λ more. absurd cc;
+  some = λ again. absurd cc;
+  waited = λ again. absurd cc;
   told = replied;
   legal = seat_legal new;
 }
@@ -69,6 +72,8 @@ gone_again first now new made steps said on same step is below = record {
   doing = step.doing ∙ on.doing;
   most = omega (arith, step.steps, on.steps, below);
   all = λ more. absurd cc;
+  some = λ again. omega (arith, step.steps, on.steps);
+  waited = λ again. subst (λ (k : Config). HasWaited k (machine_of_seat new)) (sym same.config) (step.waited is);
   told = tt;
   legal = seat_legal new;
 }
@@ -83,6 +88,12 @@ none_told Free = refl
 none_told AtWork = refl
 none_told Ended = refl
 
+-- and none waits
+never_again : (state : State) → progress_at state ≡ progress.Again → ⊥
+never_again Free again = cc
+never_again AtWork again = cc
+never_again Ended again = cc
+
 -- it stops where it stands
 stops : (first now : Seat) (made steps : ℕ) (said : Progress) → GoesOn first now made → said ≡ progress_at (state_in now) → made ≤ steps → (said ≡ progress.More → made ≡ steps) → HasGoneOn first now steps said
 stops first now made steps said on is most all = record {
@@ -91,6 +102,8 @@ stops first now made steps said on is most all = record {
   doing = on.doing;
   most = omega (arith, on.steps, most);
   all = λ more. let count : made ≡ steps = all more in omega (arith, on.steps, count);
+  some = λ again. absurd (never_again (state_in now) (sym is ∙ again));
+  waited = λ again. absurd (never_again (state_in now) (sym is ∙ again));
   told = subst (λ (p : Progress). FitsState p (machine_of_seat now) (state_in now)) (sym is) (fits_state (machine_of_seat now) (state_in now));
   legal = seat_legal now;
 }

@@ -1,7 +1,9 @@
 -- What a step of its bundle is to a seat.
 use Rattle.std.proofs.Common.{◌≡◌, ℕ, zero, suc, ◌+◌, true, [], ◌∷◌, Some, refl, sym, ap, ◌∙◌}
-use Rattle.std.specs.Prelude.{slice_set, slice_get, unwrap_or, ◌++◌}
+use Rattle.std.specs.Prelude.{slice_set, slice_get, unwrap_or, ◌++◌, Option, None}
 use Rattle.heap_words.specs.declared.config.Config.{Config}
+use Rattle.heap_words.specs.declared.access.Took.{Took}
+use Rattle.heap_words.specs.declared.access.Took.TheVariants as took
 use Rattle.shen_graph.specs.declared.command.Command.{Command}
 use Rattle.shen_graph.specs.declared.command.Reply.{Reply}
 use Rattle.shen_graph.specs.declared.order.Order.{Order}
@@ -31,7 +33,7 @@ use Rattle.table_heap.proofs.Core.{kind_takes, kind_took, run_of}
 use Rattle.table_heap.proofs.MachineUnder.{put_there}
 use Rattle.table_heap.proofs.Running.{at_number}
 use Rattle.table_heap.proofs.Said.{done_by}
-use Rattle.heap_seats.specs.Going.{given_by}
+use Rattle.heap_seats.specs.Going.{given_by, HasWaited}
 
 -- a mutator that some events lead to has its number as its seat
 seat_found : (c : Config) (number : ℕ) (a : Actor) (order : Order) (got : ℕ) → Finds (heap_kind c) (heap_opening c) number a order got → (m : Mutating) → a.machine ≡ mutating m → m.seat ≡ number
@@ -66,6 +68,13 @@ set_count : (v : View (Counted Actor)) (number count : ℕ) (a : Actor) → mach
 set_count [] number count a here = absurd cc
 set_count (x ∷ xs) zero count a here = refl
 set_count (x ∷ xs) (suc number) count a here = set_count xs number count a here
+
+-- a step that says Again waits
+waits_by : (o : Option Took) → stepped_by o ≡ stepped.Again → o ≡ Some took.Again
+waits_by None is = absurd cc
+waits_by (Some took.More) is = absurd cc
+waits_by (Some took.Again) is = refl
+waits_by (Some took.Done) is = absurd cc
 
 module _ (old new : Bundle) (number : ℕ) (said : Stepped) (step : IsBundleStep old new number said) where
   -- the machine before and after
@@ -103,6 +112,15 @@ module _ (old new : Bundle) (number : ℕ) (said : Stepped) (step : IsBundleStep
 
   said_is : said ≡ stepped_by (answer_of old.config was.machine step.got)
   said_is = step.said_is ∙ ap (λ machine. says old.config machine step.got) machine_was
+
+  pub waited_then : said ≡ stepped.Again → HasWaited old.config (machine_at new number)
+  waited_then is = record {
+    before = was.machine;
+    order = order;
+    got = step.got;
+    waits = waits_by (answer_of old.config was.machine step.got) (sym said_is ∙ is);
+    comes = machine_then;
+  }
 
   takes : takes_of was.machine order ≡ true
   takes = sym (kind_takes old.config was order) ∙ step.took.finds.takes

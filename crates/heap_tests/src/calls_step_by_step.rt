@@ -141,8 +141,9 @@ fn collected(alloc: Global, plain: &Plain) -> Result<Plain, Fail>
     goes_on(alloc, image, plain.made(0))
 }
 
-// Behind the hub, of 19 words in region 0, a thread makes two objects of three words in region 1, and keeps the second. After a full
-// collection it stands in region 0, and the heap goes on from there: the thread's next object is its third.
+// Behind the hub, of 19 words in region 0, a thread makes two objects of three words in region 1, and keeps the second. All words of that
+// region are its buffer. After a full collection, which lets the buffer go, the second object stands in region 0, and the heap goes on
+// from there: the thread's next object is its third, in a new buffer of all words of region 1.
 #[test]
 fn a_collected_heap_goes_on(rt: HostRuntime) -> Result<(), Fail> {
     let config = Config::new(4, 64, 1, 0, 0)?;
@@ -154,6 +155,6 @@ fn a_collected_heap_goes_on(rt: HostRuntime) -> Result<(), Fail> {
     let left = [later.word(config.top_at(0)), later.word(config.top_at(1))];
     make(&rt, &mut later, 3);
     let made = [later.word(config.top_at(0)), later.word(config.top_at(1))];
-    assert_eq!(rt; [used, left, made], [[19, 6], [22, 0], [22, 3]]);
+    assert_eq!(rt; [used, left, made], [[19, 64], [22, 0], [22, 64]]);
     Ok(())
 }

@@ -12,7 +12,7 @@ use image_graph::Image;
 use mark_core::{final_mark, init_mark};
 use std::process::Abort;
 use std::test::Fail;
-use update_refs::{final_update, init_update};
+use update_refs::final_update;
 
 // A word by its name, and what it holds.
 type Row = (WordName, u64);
@@ -232,32 +232,19 @@ fn marks_what_lives_and_evacuates_what_costs_least(rt: HostRuntime) -> Result<()
     Ok(())
 }
 
-// Of four regions the second is evacuated and the last is free. Where updating begins its limit is 0, and where updating ends it is
-// free, and nothing of it is in use.
-const EVACUATED: [Row; 11] = [
+// Of four regions the second is evacuated and the last is free. Where updating ends the second is free, and nothing of it is in use.
+const UPDATING: [Row; 11] = [
     (WordName::Top { region: 0 }, 20),
     (WordName::Top { region: 1 }, 30),
     (WordName::Top { region: 2 }, 40),
     (WordName::Tams { region: 1 }, 30),
-    (WordName::Limit { region: 3 }, 5),
+    (WordName::Limit { region: 0 }, 20),
+    (WordName::Limit { region: 2 }, 40),
     (WordName::Free, 8),
     (WordName::Cset, 2),
-    (WordName::Evac, 7),
     (WordName::Claim, 4),
-    (WordName::Phase, 2),
-    (WordName::Heap { address: 128 }, 1),
-];
-
-const UPDATING: [Row; 9] = [
     (WordName::Phase, 3),
-    (WordName::Cset, 2),
-    (WordName::Evac, 0),
-    (WordName::Claim, 0),
-    (WordName::Limit { region: 0 }, 20),
-    (WordName::Limit { region: 1 }, 0),
-    (WordName::Limit { region: 2 }, 40),
-    (WordName::Limit { region: 3 }, 0),
-    (WordName::Top { region: 1 }, 30),
+    (WordName::Heap { address: 128 }, 1),
 ];
 
 const UPDATED: [Row; 10] = [
@@ -274,12 +261,9 @@ const UPDATED: [Row; 10] = [
 ];
 
 #[test]
-fn updates_outside_the_set_and_frees_the_set(rt: HostRuntime) -> Result<(), Fail> {
+fn frees_the_set(rt: HostRuntime) -> Result<(), Fail> {
     let mut image = Image::open(rt.alloc(), Config::new(4, 64, 1, 0, 0)?)?;
-    put(&rt, &mut image, &EVACUATED);
-    init_update(&mut image);
-    compare(&rt, &image, &UPDATING);
-    put(&rt, &mut image, &[(WordName::Claim, 4)]);
+    put(&rt, &mut image, &UPDATING);
     final_update(&mut image);
     compare(&rt, &image, &UPDATED);
     Ok(())

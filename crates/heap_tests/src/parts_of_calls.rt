@@ -1,5 +1,5 @@
 // Each part of a call that is a machine of its own, once. In the smallest heap, of 4 regions of 64 words, the free regions are
-// word 6, the counter of copiers is word 7, the claim word is word 8 and the tops are the words from 10 on. The count of what a
+// word 6, the counter of copiers is word 7, the claim word is word 8, and the words of buffers are those from 22 on. The count of what a
 // thread has recorded is word 40, and the recorded addresses are the words from 41 on. The heap begins at word 59, with address 64.
 use alloc_buffers::{Kind, Take, Taken};
 use heap_words::{Access, Config, Place, Took, Unit};
@@ -7,16 +7,19 @@ use load_barrier::{EvacUnit, Resolve};
 use satb_barrier::Remember;
 use std::test::Fail;
 
-// Room of 19 words above 19 words of region 0, which is the current region of the thread.
+// Room of 19 words out of the buffer of the thread, whose free words are those from address 83 up to 128. Its word is 2^32 * 128 + 83, and
+// 19 more once they are taken.
 #[test]
-fn takes_room_at_the_top(rt: HostRuntime) -> Result<(), Fail> {
+fn takes_room_in_its_buffer(rt: HostRuntime) -> Result<(), Fail> {
     let config = Config::new(4, 64, 1, 0, 0)?;
     let mut take = Take::new(config, 0, 19, Kind::Fresh);
-    let says = [take.took(1), take.took(19)];
-    let stands = (says, take.place(), take.plan());
-    let stores = Access::Store { at: 10, value: 38 };
-    assert!(rt; stands == ([Took::More, Took::More], Place::TS, stores));
-    let ends = (take.took(19), take.answer());
+    let stands = (take.took(549755813971), take.place(), take.plan());
+    let stores = Access::Store {
+        at: 22,
+        value: 549755813990,
+    };
+    assert!(rt; stands == (Took::More, Place::TS, stores));
+    let ends = (take.took(549755813971), take.answer());
     assert!(rt; ends == (Took::Done, Taken::At(83)));
     Ok(())
 }

@@ -51,7 +51,7 @@ const ROWS: &[Row] = &[
         helpers: 0,
         commands: &[MAKE, STORE, LOAD],
         replies: &[MADE, Reply::Ok, MADE],
-        steps: 74,
+        steps: 80,
     },
     // Each command takes six steps, and the end of the mutator one: thirteen. The control makes one step in each round too, and
     // looks in every third whether a mutator is left, so it sees in the thirteenth that there is none, and ends in the next.

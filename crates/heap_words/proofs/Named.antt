@@ -3,7 +3,7 @@ use Rattle.std.proofs.Common.{ltb, ◌≡◌, ℕ, ◌+◌, ◌-◌, ◌<◌, �
 use Rattle.std.proofs.lemmas.Bool.{cases_Bool, ltb-true, ltb-false, cond-true, cond-false}
 use Rattle.std.proofs.lemmas.Grind.{same_number_lists}
 use Rattle.heap_words.specs.declared.config.Config.{Config}
-use Rattle.heap_words.specs.Words.{Word, Pause, Left, End, Phase, Cset, Free, Evac, Claim, Ask, IsWord, word_at, table_words}
+use Rattle.heap_words.specs.Words.{Word, Pause, Left, End, Phase, Cset, Free, Evac, Claim, Ask, Share, IsWord, word_at, table_words}
 use Rattle.heap_words.specs.Rows.{Row, rows, word_in, name_of, AreNamed, AreReadWhole}
 use Rattle.heap_words.proofs.Rows.{word_inside, words_differ}
 use Rattle.heap_words.proofs.Stores.{view_word}
@@ -85,7 +85,7 @@ rows_stand c = (
                                         λ k h. (h, omega arith),
                                         (
                                           λ k h. (h, omega arith),
-                                          (λ k h. ((omega arith, omega arith), omega arith), tt),
+                                          (λ k h. ((omega arith, omega arith), omega arith), (alone c _ Share tt (omega arith), tt)),
                                         ),
                                       ),
                                     ),

@@ -2,7 +2,7 @@
 use Rattle.std.proofs.Common.{leb, ◌≡◌, ℕ, ◌+◌, ◌-◌, ◌*◌, ◌/◌, ◌%◌, ◌<◌, ◌≤◌, ⊎_elim, List, [], ◌∷◌, get_or, refl, sym, ap, ◌∙◌, arith, zero, suc}
 use Rattle.std.proofs.lemmas.Bool.{cases_order, le-leb, lt-leb}
 use Rattle.heap_words.specs.declared.config.Config.{Config}
-use Rattle.heap_words.specs.Words.{Word, Pause, Left, End, State, Phase, Cset, Free, Evac, Claim, Ask, Top, Tams, Limit, Current, Root, Count, Buffer, Wait, Answer, Grey, Black, Heap, IsWord, word_at, table_words, heap_size, bit_words, image_start, is_image}
+use Rattle.heap_words.specs.Words.{Word, Pause, Left, End, State, Phase, Cset, Free, Evac, Claim, Ask, Top, Tams, Limit, Current, Root, Count, Buffer, Wait, Answer, Grey, Black, Heap, Share, IsWord, word_at, table_words, heap_size, bit_words, image_start, is_image}
 
 -- where a row begins, by the sizes of all rows
 abbrev pub row_start : List ℕ → ℕ → ℕ
@@ -43,7 +43,7 @@ abbrev pub sizes : Config → List ℕ
 sizes c =
     1 ∷ 1 ∷ 1 ∷ (c.mutators + c.helpers) ∷ 1 ∷ 1 ∷ 1 ∷ 1 ∷ 1 ∷ 1 ∷ c.regions ∷ c.regions ∷ c.regions
     ∷ (c.mutators + c.helpers + 1) ∷ (16 * c.mutators) ∷ c.mutators ∷ (8 * c.mutators) ∷ c.mutators ∷ c.mutators
-    ∷ bit_words c ∷ bit_words c ∷ heap_size c ∷ []
+    ∷ bit_words c ∷ bit_words c ∷ heap_size c ∷ 1 ∷ []
 
 -- the row of a word
 abbrev pub row : Word → ℕ
@@ -69,6 +69,7 @@ row (Answer t) = 18
 row (Grey k) = 19
 row (Black k) = 20
 row (Heap a) = 21
+row Share = 22
 
 -- its place in the row
 abbrev pub offset : Config → Word → ℕ
@@ -92,7 +93,7 @@ abbrev pub words_at : Config → ℕ → List Word
 words_at c x =
     Pause ∷ Left ∷ End ∷ State x ∷ Phase ∷ Cset ∷ Free ∷ Evac ∷ Claim ∷ Ask ∷ Top x ∷ Tams x ∷ Limit x
     ∷ Current x ∷ Root (x / 16) (x % 16) ∷ Count x ∷ Buffer (x / 8) (x % 8) ∷ Wait x ∷ Answer x
-    ∷ Grey x ∷ Black x ∷ Heap (x + c.region_words) ∷ []
+    ∷ Grey x ∷ Black x ∷ Heap (x + c.region_words) ∷ Share ∷ []
 
 pub word_at-row : (c : Config) (w : Word) → IsWord c w → word_at c w ≡ row_start (sizes c) (row w) + offset c w
 word_at-row c Pause h = refl
@@ -117,6 +118,7 @@ word_at-row c (Answer t) h = omega arith
 word_at-row c (Grey k) h = omega arith
 word_at-row c (Black k) h = omega arith
 word_at-row c (Heap a) h = omega arith
+word_at-row c Share h = omega arith
 
 pub table_words-rows : (c : Config) → table_words c ≡ row_total (sizes c)
 table_words-rows c = omega arith
@@ -145,6 +147,7 @@ in_row c (Answer t) h = h
 in_row c (Grey k) h = h
 in_row c (Black k) h = h
 in_row c (Heap a) h = omega arith
+in_row c Share h = omega arith
 
 -- the row and the place in it name the word
 pub named : (c : Config) (w : Word) → IsWord c w → get_or (words_at c (offset c w)) (row w) Pause ≡ w
@@ -170,6 +173,7 @@ named c (Answer t) h = refl
 named c (Grey k) h = refl
 named c (Black k) h = refl
 named c (Heap a) h = let r : a - c.region_words + c.region_words ≡ a = omega arith in cc
+named c Share h = refl
 
 -- each word stands in the table
 pub word_inside : (c : Config) (w : Word) → IsWord c w → word_at c w < table_words c

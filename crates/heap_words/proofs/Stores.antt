@@ -3,7 +3,7 @@ use Rattle.std.proofs.Common.{◌≡◌, ℕ, ◌+◌, ◌*◌, ◌<◌, true, f
 use Rattle.std.proofs.lemmas.Bool.{cases_Bool, eqb-true, eq-eqb, ltb-true, lt-ltb, leb-true, le-leb, and_parts, and_from, cond-true, cond-false, false≢true}
 use Rattle.std.proofs.Math.Path.{fun_ext}
 use Rattle.heap_words.specs.declared.config.Config.{Config}
-use Rattle.heap_words.specs.Words.{Word, Pause, Left, End, State, Phase, Cset, Free, Evac, Claim, Ask, Top, Tams, Limit, Current, Root, Count, Buffer, Wait, Answer, Grey, Black, Heap, same_word, IsWord, is_word, word_at, table_words, view, write, AreApart, IsStoreOfOne}
+use Rattle.heap_words.specs.Words.{Word, Pause, Left, End, State, Phase, Cset, Free, Evac, Claim, Ask, Top, Tams, Limit, Current, Root, Count, Buffer, Wait, Answer, Grey, Black, Heap, Share, same_word, IsWord, is_word, word_at, table_words, view, write, AreApart, IsStoreOfOne}
 use Rattle.heap_words.proofs.Rows.{word_inside, words_differ, is_image-word_at}
 
 pub same_word_refl : (w : Word) → same_word w w ≡ true
@@ -29,6 +29,7 @@ same_word_refl (Answer t) = eq-eqb t t refl
 same_word_refl (Grey k) = eq-eqb k k refl
 same_word_refl (Black k) = eq-eqb k k refl
 same_word_refl (Heap a) = eq-eqb a a refl
+same_word_refl Share = refl
 
 -- a test of two pairs of numbers
 pub both_equal : (a b x y : ℕ) → (eqb a b && eqb x y) ≡ true → (a ≡ b) × (x ≡ y)
@@ -57,6 +58,7 @@ same_word_true (Answer t) (Answer u) e = ap Answer (eqb-true t u e)
 same_word_true (Grey k) (Grey l) e = ap Grey (eqb-true k l e)
 same_word_true (Black k) (Black l) e = ap Black (eqb-true k l e)
 same_word_true (Heap a) (Heap b) e = ap Heap (eqb-true a b e)
+same_word_true Share Share e = refl
 same_word_true _ _ e = absurd (false≢true e)
 
 -- the test of a name says that there is such a word

@@ -1,5 +1,5 @@
 -- How the numbers of an object are written into its words.
-use Rattle.std.specs.Prelude.{◌≡◌, ℕ, ◌+◌, ◌*◌, ◌/◌, ◌%◌, ◌^◌, ◌<◌, ◌≤◌, ◌==◌, if◌then◌else◌, Bool, true, false}
+use Rattle.std.specs.Prelude.{◌≡◌, ℕ, ◌+◌, ◌*◌, ◌/◌, ◌%◌, ◌^◌, ◌<◌, ◌≤◌, ◌==◌, if◌then◌else◌, Bool, true, false, Option, Some, None}
 
 -- the header of an object whose copy is at an address
 abbrev pub header_word : ℕ → ℕ
@@ -16,6 +16,26 @@ is_forwarded header = header % 4 == 3
 -- the address of the copy
 abbrev pub forwardee_in : ℕ → ℕ
 forwardee_in header = header / 4
+
+-- the header of so many words that only fill
+abbrev pub filler_header : ℕ → ℕ
+filler_header words = 4 * words + 2
+
+-- how many words only fill, where a header is one of such words
+abbrev pub filler_words_in : ℕ → Option ℕ
+filler_words_in header = if header % 4 == 2 then Some (header / 4) else None
+
+-- the word of a buffer whose free words are those from one address up to another
+abbrev pub buffer_word : ℕ → ℕ → ℕ
+buffer_word next limit = 2 ^ 32 * limit + next
+
+-- where the free words of a buffer begin
+abbrev pub next_in : ℕ → ℕ
+next_in word = word % 2 ^ 32
+
+-- and the address behind the last of them
+abbrev pub end_in : ℕ → ℕ
+end_in word = word / 2 ^ 32
 
 -- the shape word of so many references and numbers
 abbrev pub shape_word : ℕ → ℕ → ℕ
@@ -69,6 +89,18 @@ pub record HeadersUndo : Type 0 where
   pub forwardee : (address : ℕ) → forwardee_in (header_word address) ≡ address
   pub plain : is_forwarded plain_header ≡ false
   pub whole : (header : ℕ) → is_forwarded header ≡ true → header_word (forwardee_in header) ≡ header
+
+-- a header of words that only fill reads as their number; those of objects, moved or not, as none
+pub record FillersUndo : Type 0 where
+  pub words : (words : ℕ) → filler_words_in (filler_header words) ≡ Some words
+  pub forwarded : (address : ℕ) → filler_words_in (header_word address) ≡ None
+  pub plain : filler_words_in plain_header ≡ None
+
+-- the word of a buffer reads as the addresses that it was made of
+pub record BuffersUndo : Type 0 where
+  pub next : (next limit : ℕ) → next < 2 ^ 32 → next_in (buffer_word next limit) ≡ next
+  pub limit : (next limit : ℕ) → next < 2 ^ 32 → end_in (buffer_word next limit) ≡ limit
+  pub whole : (word : ℕ) → buffer_word (next_in word) (end_in word) ≡ word
 
 -- a shape word reads as the fields that it was made of
 pub record ShapesUndo : Type 0 where

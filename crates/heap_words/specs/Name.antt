@@ -2,7 +2,7 @@
 use Rattle.std.specs.Prelude.{ℕ, Bool, ◌==◌, List, [], ◌∷◌}
 use Rattle.std.specs.Cmp.Lexicographic.{pointwise}
 use Rattle.std.specs.Ordering.{on}
-use Rattle.heap_words.specs.Words.{Word, Pause, Left, End, State, Phase, Cset, Free, Evac, Claim, Ask, Top, Tams, Limit, Current, Root, Count, Buffer, Wait, Answer, Grey, Black, Heap}
+use Rattle.heap_words.specs.Words.{Word, Pause, Left, End, State, Phase, Cset, Free, Evac, Claim, Ask, Top, Tams, Limit, Current, Root, Count, Buffer, Wait, Answer, Grey, Black, Heap, Share}
 use Rattle.heap_words.specs.declared.name.WordName.{WordName}
 use Rattle.heap_words.specs.declared.name.WordName.TheVariants as code
 
@@ -30,6 +30,7 @@ word_of (code.Answer mutator) = Answer mutator
 word_of (code.Grey word) = Grey word
 word_of (code.Black word) = Black word
 word_of (code.Heap address) = Heap address
+word_of code.Share = Share
 
 -- a name as its kind and its numbers
 abbrev pub name_numbers : WordName → List ℕ
@@ -55,6 +56,7 @@ name_numbers (code.Answer mutator) = 18 ∷ mutator ∷ 0 ∷ []
 name_numbers (code.Grey word) = 19 ∷ word ∷ 0 ∷ []
 name_numbers (code.Black word) = 20 ∷ word ∷ 0 ∷ []
 name_numbers (code.Heap address) = 21 ∷ address ∷ 0 ∷ []
+name_numbers code.Share = 22 ∷ 0 ∷ 0 ∷ []
 
 -- whether two names are one
 abbrev pub same_name : WordName → WordName → Bool

@@ -1,7 +1,7 @@
 -- The codes of the places, by which two places are told apart.
 use Rattle.std.specs.Prelude.{ℕ, Bool, ◌==◌, ◌&&◌, List, [], ◌∷◌, slice_index}
 use Rattle.heap_words.specs.declared.place.Place.{Place}
-use Rattle.heap_words.specs.declared.place.Place.TheVariants.{E1, E2, E3, E4, PH, CS, LV, ML, H0, RL, SH, FL, FS, FX, CX, NL, NS, NM, RS, AK, BC, BL, GO, BZ, BE, BN, TC, TT, TF, TG, TU, TS, IW, WS, WK, WO, WP, WL, WC, HL, XL, XC, SL, CL, CP, HI, HX, GB, XS, OL, OX, XW, HR, MC, EC, UC, KX, MG, MB, MO, MS, MF, ET, ES, EB, UL, UT, US, UB, UF, UH, UX, I0, IE, I1, I2, P1, P2, PL, PS, P3}
+use Rattle.heap_words.specs.declared.place.Place.TheVariants.{E1, E2, E3, E4, PH, CS, LV, ML, H0, RL, SH, FL, FS, FX, CX, NL, NS, NM, RS, AK, BC, BL, GO, BZ, BE, BN, TC, TR, TT, TX, TF, TG, TV, TQ, TZ, TS, IW, WS, WK, WO, WP, WL, WC, HL, XL, XC, SL, CL, CP, HI, HX, GB, XS, OL, OX, XW, HR, MC, EC, UC, KX, MG, MB, MO, MS, MF, ET, EF, ES, EB, UL, UT, UG, US, UB, UF, UH, UX, I0, IE, I1, I2, P1, P2, PL, PS, P3}
 
 -- the two letters or digits of a place's code, in ASCII
 abbrev pub code_of : Place → List ℕ
@@ -32,10 +32,14 @@ code_of BZ = 66 ∷ 90 ∷ []
 code_of BE = 66 ∷ 69 ∷ []
 code_of BN = 66 ∷ 78 ∷ []
 code_of TC = 84 ∷ 67 ∷ []
+code_of TR = 84 ∷ 82 ∷ []
 code_of TT = 84 ∷ 84 ∷ []
+code_of TX = 84 ∷ 88 ∷ []
 code_of TF = 84 ∷ 70 ∷ []
 code_of TG = 84 ∷ 71 ∷ []
-code_of TU = 84 ∷ 85 ∷ []
+code_of TV = 84 ∷ 86 ∷ []
+code_of TQ = 84 ∷ 81 ∷ []
+code_of TZ = 84 ∷ 90 ∷ []
 code_of TS = 84 ∷ 83 ∷ []
 code_of IW = 73 ∷ 87 ∷ []
 code_of WS = 87 ∷ 83 ∷ []
@@ -68,10 +72,12 @@ code_of MO = 77 ∷ 79 ∷ []
 code_of MS = 77 ∷ 83 ∷ []
 code_of MF = 77 ∷ 70 ∷ []
 code_of ET = 69 ∷ 84 ∷ []
+code_of EF = 69 ∷ 70 ∷ []
 code_of ES = 69 ∷ 83 ∷ []
 code_of EB = 69 ∷ 66 ∷ []
 code_of UL = 85 ∷ 76 ∷ []
 code_of UT = 85 ∷ 84 ∷ []
+code_of UG = 85 ∷ 71 ∷ []
 code_of US = 85 ∷ 83 ∷ []
 code_of UB = 85 ∷ 66 ∷ []
 code_of UF = 85 ∷ 70 ∷ []

@@ -27,6 +27,7 @@ pub data Word : Type 0 where
   Grey : (number : ℕ) → Word
   Black : (number : ℕ) → Word
   Heap : (address : ℕ) → Word
+  Share : Word
 
 -- whether two names are one
 abbrev pub same_word : Word → Word → Bool
@@ -52,6 +53,7 @@ same_word (Answer t) (Answer u) = t == u
 same_word (Grey k) (Grey l) = k == l
 same_word (Black k) (Black l) = k == l
 same_word (Heap a) (Heap b) = a == b
+same_word Share Share = true
 same_word _ _ = false
 
 -- the words of the heap
@@ -80,11 +82,11 @@ heap_start config = marks_start config + 2 * bit_words config
 
 -- the words of the table
 abbrev pub table_words : Config → ℕ
-table_words config = heap_start config + heap_size config
+table_words config = heap_start config + heap_size config + 1
 
 -- the words of the heap in a table, from the first address on
 abbrev pub heap_in : Config → List ℕ → List ℕ
-heap_in config words = slice_range words (heap_start config) (table_words config)
+heap_in config words = slice_range words (heap_start config) (heap_start config + heap_size config)
 
 -- the words of the roots in a table, 16 for each mutator
 abbrev pub roots_in : Config → List ℕ → List ℕ
@@ -114,6 +116,7 @@ word_at config (Answer mutator) = roots_start config + 26 * config.mutators + mu
 word_at config (Grey number) = marks_start config + number
 word_at config (Black number) = marks_start config + bit_words config + number
 word_at config (Heap address) = heap_start config + address - config.region_words
+word_at config Share = heap_start config + heap_size config
 
 -- the numbers of a name are in range: there is such a word
 abbrev pub IsWord : Config → Word → Type 0

@@ -1,5 +1,5 @@
 ghost use Rattle.std.specs.Prelude.{◌≡◌, ◌^◌, ◌<◌, ◌≤◌};
-ghost use Rattle.heap_words.specs.Encoding.{is_forwarded, forwardee_in, header_word, shape_word, refs_in, nums_in, object_words, name_code, thread_in, count_in, request_code, request_count_in, request_shape_in, HeadersUndo, ShapesUndo, NamesUndo, RequestsUndo};
+ghost use Rattle.heap_words.specs.Encoding.{is_forwarded, forwardee_in, header_word, filler_header, filler_words_in, buffer_word, next_in, end_in, shape_word, refs_in, nums_in, object_words, name_code, thread_in, count_in, request_code, request_count_in, request_shape_in, HeadersUndo, FillersUndo, BuffersUndo, ShapesUndo, NamesUndo, RequestsUndo};
 
 /// Whether a header word is that of an object that has moved: its address has been put over it
 /// (the forwarding pointer of Shenandoah's second edition, JEP 379).
@@ -22,6 +22,48 @@ pub fn header_to(address: u64) -> u64
     ensures { result ≡ header_word address }
 {
     4 * address + 3
+}
+
+/// The header of `words` words that only fill.
+pub fn filler(words: u64) -> u64
+    requires { words < 2 ^ 62 }
+    ensures { result ≡ filler_header words }
+{
+    4 * words + 2
+}
+
+/// How many words only fill, if the header is one of such words.
+pub fn filler_words(header: u64) -> Option<u64>
+    ensures { result ≡ filler_words_in header }
+{
+    if header % 4 == 2 {
+        Some(header / 4)
+    } else {
+        None
+    }
+}
+
+/// The word of a buffer whose free words are those from `next` up to `end`.
+pub fn buffer(next: u64, end: u64) -> u64
+    requires next { next < 2 ^ 32 }
+    requires end { end < 2 ^ 32 }
+    ensures { result ≡ buffer_word next end }
+{
+    4294967296 * end + next
+}
+
+/// Where the free words of a buffer begin.
+pub fn next_of(word: u64) -> u64
+    ensures { result ≡ next_in word }
+{
+    word % 4294967296
+}
+
+/// The address behind the last free word of a buffer.
+pub fn end_of(word: u64) -> u64
+    ensures { result ≡ end_in word }
+{
+    word / 4294967296
 }
 
 /// The shape word of an object of `refs` references and `nums` numbers.
@@ -100,6 +142,8 @@ pub fn request_shape(request: u64) -> u64
 /// A law: each reader gives back what its encoder was given.
 pub fn readers_undo()
     ensures headers { HeadersUndo }
+    ensures fillers { FillersUndo }
+    ensures buffers { BuffersUndo }
     ensures shapes { ShapesUndo }
     ensures names { NamesUndo }
     ensures requests { RequestsUndo }

@@ -13,8 +13,9 @@ mod words;
 pub use access::{Access, Took, Unit};
 pub use config::{BadConfig, Config};
 pub use encoding::{
-    count_of, forwarded, forwardee, header_to, name_word, nums_of, readers_undo, refs_of,
-    request_count, request_shape, request_word, shape_of, thread_of, words_of,
+    buffer, count_of, end_of, filler, filler_words, forwarded, forwardee, header_to, name_word,
+    next_of, nums_of, readers_undo, refs_of, request_count, request_shape, request_word, shape_of,
+    thread_of, words_of,
 };
 pub use name::{WordName, words_named};
 pub use place::Place;

@@ -38,7 +38,7 @@ pub enum WordName {
     Tams { region: usize },
     /// The top of a region when updating began.
     Limit { region: usize },
-    /// The region that a seat allocates from.
+    /// The buffer of a seat.
     Current { seat: usize },
     /// A root of a mutator.
     Root { mutator: usize, index: usize },
@@ -56,13 +56,15 @@ pub enum WordName {
     Black { word: usize },
     /// The heap's word of an address.
     Heap { address: u64 },
+    /// The region that all seats carve buffers out of.
+    Share,
 }
 
 // The kinds of names, in their order.
-const KINDS: [&str; 22] = [
+const KINDS: [&str; 23] = [
     "Pause", "Left", "End", "State", "Phase", "Cset", "Free", "Evac", "Claim", "Ask", "Top",
     "Tams", "Limit", "Current", "Root", "Count", "Buffer", "Wait", "Answer", "Grey", "Black",
-    "Heap",
+    "Heap", "Share",
 ];
 
 impl WordName {
@@ -93,6 +95,7 @@ impl WordName {
             WordName::Grey { word } => [19, word as u64, 0],
             WordName::Black { word } => [20, word as u64, 0],
             WordName::Heap { address } => [21, address, 0],
+            WordName::Share => [22, 0, 0],
         }
     }
 }
@@ -116,7 +119,7 @@ impl Debug for WordName {
     fn fmt<W: Write>(&self, f: &mut Formatter<W>) -> fmt::Result {
         let [kind, first, second] = self.numbers();
         let kinds = &KINDS;
-        (kinds[kind as usize % 22], first, second).fmt(f)
+        (kinds[kind as usize % 23], first, second).fmt(f)
     }
 }
 
@@ -152,11 +155,13 @@ impl Config {
             WordName::Black {
                 word: at - self.marks_start() - self.bit_words(),
             }
-        } else {
+        } else if at < self.heap_start() + self.heap_size() {
             let address = at - self.heap_start() + self.region_words;
             WordName::Heap {
                 address: address as u64,
             }
+        } else {
+            WordName::Share
         }
     }
 

@@ -60,17 +60,25 @@ pub enum Place {
     BE,
     /// Store barrier: stores the count of the SATB buffer, one more.
     BN,
-    /// Taking room: loads the current region of the seat.
+    /// Taking room: loads the seat's buffer.
     TC,
-    /// Taking room: loads the top of the current region.
+    /// Taking room: loads the shared region.
+    TR,
+    /// Taking room: loads the top of the shared region.
     TT,
+    /// Taking room: carves a buffer out of the shared region by raising its top.
+    TX,
     /// Taking room: loads the free word.
     TF,
     /// Taking room: clears the bit of a free region.
     TG,
-    /// Taking room: stores the current region of the seat.
-    TU,
-    /// Taking room: stores the top of the region, raised by the words of the object.
+    /// Taking room: makes the region the shared one.
+    TV,
+    /// Taking room: gives the region back, since another was faster.
+    TQ,
+    /// Taking room: stores a filler over the free words of the old buffer.
+    TZ,
+    /// Taking room: stores the seat's buffer, without the words of the object.
     TS,
     /// Stores a word of the fresh object.
     IW,
@@ -134,6 +142,8 @@ pub enum Place {
     MF,
     /// Evacuating: loads the top of the region.
     ET,
+    /// Evacuating: loads the header where the walk stands, an object's or a filler's.
+    EF,
     /// Evacuating: loads the shape of the next object.
     ES,
     /// Evacuating: loads the black word of the object.
@@ -142,6 +152,8 @@ pub enum Place {
     UL,
     /// Updating references: loads the top at mark start of the region.
     UT,
+    /// Updating references: loads the header where the walk stands, an object's or a filler's.
+    UG,
     /// Updating references: loads the shape of the next object.
     US,
     /// Updating references: loads the black word of the object.
@@ -173,7 +185,7 @@ pub enum Place {
 }
 
 /// Each place with its code, in the order of the places.
-const CODES: [(Place, [u8; 2]); 81] = [
+const CODES: [(Place, [u8; 2]); 87] = [
     (Place::E1, *b"E1"),
     (Place::E2, *b"E2"),
     (Place::E3, *b"E3"),
@@ -201,10 +213,14 @@ const CODES: [(Place, [u8; 2]); 81] = [
     (Place::BE, *b"BE"),
     (Place::BN, *b"BN"),
     (Place::TC, *b"TC"),
+    (Place::TR, *b"TR"),
     (Place::TT, *b"TT"),
+    (Place::TX, *b"TX"),
     (Place::TF, *b"TF"),
     (Place::TG, *b"TG"),
-    (Place::TU, *b"TU"),
+    (Place::TV, *b"TV"),
+    (Place::TQ, *b"TQ"),
+    (Place::TZ, *b"TZ"),
     (Place::TS, *b"TS"),
     (Place::IW, *b"IW"),
     (Place::WS, *b"WS"),
@@ -237,10 +253,12 @@ const CODES: [(Place, [u8; 2]); 81] = [
     (Place::MS, *b"MS"),
     (Place::MF, *b"MF"),
     (Place::ET, *b"ET"),
+    (Place::EF, *b"EF"),
     (Place::ES, *b"ES"),
     (Place::EB, *b"EB"),
     (Place::UL, *b"UL"),
     (Place::UT, *b"UT"),
+    (Place::UG, *b"UG"),
     (Place::US, *b"US"),
     (Place::UB, *b"UB"),
     (Place::UF, *b"UF"),

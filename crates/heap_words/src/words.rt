@@ -1,5 +1,5 @@
 ghost use Rattle.std.specs.Prelude.{◌≡◌, ◌≤◌, length};
-ghost use Rattle.heap_words.specs.Words.{Pause, Left, End, State, Phase, Cset, Free, Evac, Claim, Ask, Top, Tams, Limit, Current, Root, Count, Buffer, Wait, Answer, Grey, Black, Heap, IsWord, word_at, table_words, heap_size, bit_words, image_start, roots_start, marks_start, heap_start, heap_in, roots_in, AreApart, IsStoreOfOne};
+ghost use Rattle.heap_words.specs.Words.{Pause, Left, End, State, Phase, Cset, Free, Evac, Claim, Ask, Top, Tams, Limit, Current, Root, Count, Buffer, Wait, Answer, Grey, Black, Heap, Share, IsWord, word_at, table_words, heap_size, bit_words, image_start, roots_start, marks_start, heap_start, heap_in, roots_in, AreApart, IsStoreOfOne};
 
 use super::config::Config;
 
@@ -43,7 +43,7 @@ impl Config {
         self.roots_start() + 27 * self.mutators
     }
 
-    /// Where the words of the heap begin in the table; they end it.
+    /// Where the words of the heap begin in the table. Behind them stands the word of the shared region alone.
     pub fn heap_start(&self) -> usize
         ensures value { result ≡ heap_start self.now }
         ensures bound { result ≤ 67109304 }
@@ -149,7 +149,7 @@ impl Config {
         self.image_start() + 6 + 2 * self.regions + region
     }
 
-    /// The word of the region that this seat allocates from: 0 for none, else one more than its number.
+    /// The word of this seat's buffer, whose free words the seat alone takes: 0 for none, else as `buffer` writes it.
     pub fn cur_at(&self, seat: usize) -> usize
         requires { IsWord self.now (Current seat) }
         ensures { result ≡ word_at self.now (Current seat) }
@@ -221,11 +221,18 @@ impl Config {
         self.heap_start() + (address as usize - self.region_words)
     }
 
+    /// The word of the region that all seats carve buffers out of: 0 for none, else one more than its number. It ends the table.
+    pub fn share_at(&self) -> usize
+        ensures { result ≡ word_at self.now Share }
+    {
+        self.heap_start() + self.heap_size()
+    }
+
     /// The words of the table.
     pub fn table_words(&self) -> usize
         ensures { result ≡ table_words self.now }
     {
-        self.heap_start() + self.heap_size()
+        self.heap_start() + self.heap_size() + 1
     }
 }
 
@@ -234,7 +241,7 @@ pub fn heap_in(config: Config, words: &[u64]) -> &[u64]
     requires { length words.now ≡ table_words config }
     ensures { result.now ≡ heap_in config words.now }
 {
-    &words[config.heap_start()..config.table_words()]
+    &words[config.heap_start()..config.heap_start() + config.heap_size()]
 }
 
 /// The words of the roots in a table of this configuration, 16 for each mutator.

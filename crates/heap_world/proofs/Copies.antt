@@ -9,7 +9,7 @@ use Rattle.regions.specs.Sets.{IsIn}
 use Rattle.regions.specs.Place.{region_with}
 use Rattle.heap_words.specs.Counter.{is_out_of_room, IsQuiet}
 use Rattle.shen_graph.specs.declared.name.Name.{Name}
-use Rattle.heap_world.specs.World.{World, Block, thing, moved, spent, words_of, Plot, Body, body_at, body_words, IsCollected, IsCounted, IsEvacuating, copiers}
+use Rattle.heap_world.specs.World.{World, Block, thing, moved, spent, words_of, filling, Plot, Body, body_at, body_words, IsCollected, IsCounted, IsEvacuating, copiers}
 use Rattle.heap_world.specs.Rely.{KeepsCopies, RelyCopies}
 use Rattle.heap_world.proofs.Pointing.{copy_cases}
 
@@ -37,7 +37,7 @@ pub record CopiesStay (c : Config) (u w : World) : Type 0 where
   pub things : (a refs nums : ℕ) (name : Name) → u.block a ≡ Some (thing name refs nums) → w.block a ≡ Some (thing name refs nums)
   pub moveds : (a refs nums to : ℕ) (name : Name) → u.block a ≡ Some (moved name refs nums to) → w.block a ≡ Some (moved name refs nums to)
   pub spents : (a words to : ℕ) → u.block a ≡ Some (spent words to) → w.block a ≡ Some (spent words to)
-  pub pieces : (a : ℕ) (x : Block) → IsCollected c (u.memory Cset) a → u.block a ≡ Some x → (y : Block) × (w.block a ≡ Some y) × (words_of y ≡ words_of x)
+  pub pieces : (a : ℕ) (x : Block) → IsCollected c (u.memory Cset) a → u.block a ≡ Some x → (y : Block) × (w.block a ≡ Some y) × (words_of y ≡ words_of x) × (filling y ≡ filling x)
   pub no_new : (a refs nums : ℕ) (name : Name) → IsCollected c (u.memory Cset) a → w.block a ≡ Some (thing name refs nums) → u.block a ≡ Some (thing name refs nums)
   pub tops : (r : ℕ) → IsIn (u.memory Cset) r → w.memory (Top r) ≡ u.memory (Top r)
 
@@ -63,7 +63,7 @@ same_plot c u w block cset evac tops = record {
   things = λ a refs nums name is. ap (λ b. b a) block ∙ is;
   moveds = λ a refs nums to name is. ap (λ b. b a) block ∙ is;
   spents = λ a words to is. ap (λ b. b a) block ∙ is;
-  pieces = λ a x inside is. (x, ap (λ b. b a) block ∙ is, refl);
+  pieces = λ a x inside is. (x, ap (λ b. b a) block ∙ is, refl, refl);
   no_new = λ a refs nums name inside is. sym (ap (λ b. b a) block) ∙ is;
   tops = tops;
 }

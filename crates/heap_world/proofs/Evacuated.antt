@@ -45,16 +45,16 @@ module _ (c : Config) (phase cset evac claim free : ℕ) (top tams heap black : 
     units = e.units;
   }
 
-  -- A region is taken out of the free ones by a seat: it was free, and so not set aside.
-  pub evacuated_taken : (free_then : ℕ) (owner_then : ℕ → Option ℕ) → ((r : ℕ) → r < c.regions → IsIn free_then r → IsIn free r) → ((r seat : ℕ) → owner_then r ≡ Some seat → (owner r ≡ Some seat) ⊎ IsIn free r)
+  -- The free word and who has regions change, but no region of the set is free or anyone's.
+  pub evacuated_owned : (free_then : ℕ) (owner_then : ℕ → Option ℕ) → ((r : ℕ) → IsIn free_then r → IsIn cset r → ⊥) → ((r seat : ℕ) → owner_then r ≡ Some seat → IsIn cset r → ⊥)
       → IsEvacuating c phase cset evac claim free_then top tams heap black block owner_then copying working
-  evacuated_taken free_then owner_then fewer owned = record {
+  evacuated_owned free_then owner_then in_use nobodys = record {
     moved = e.moved;
     counted = e.counted;
     aside = record {
       in_heap = e.aside.in_heap;
-      in_use = λ r is_free is. e.aside.in_use r (fewer r (e.aside.in_heap r is) is_free) is;
-      nobodys = λ r seat own is. ⊎_elim (λ was. e.aside.nobodys r seat was is) (λ was_free. e.aside.in_use r was_free is) (owned r seat own);
+      in_use = in_use;
+      nobodys = nobodys;
       no_new = e.aside.no_new;
       no_promises = e.aside.no_promises;
       no_rooms = e.aside.no_rooms;

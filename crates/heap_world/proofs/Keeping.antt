@@ -51,6 +51,7 @@ rely_same c seat u = record {
   no_promises = λ a words is. is;
   promise_words = λ a words k is below. refl;
   current = refl;
+  opens = λ r is. is;
   owners = λ r is. is;
   tops = λ r is. refl;
   root_words = λ i. refl;

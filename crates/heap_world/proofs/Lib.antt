@@ -15,6 +15,10 @@ pub mod Units
 pub mod Unmoved
 pub mod Unmarked
 pub mod Loose
+pub mod Retiled
+pub mod Recut
+pub mod RecutWorlds
+pub mod RegionWorlds
 pub mod NewPiece
 pub mod FreeRegions
 pub mod Roomless

@@ -1,6 +1,6 @@
 -- A piece that is no object yet, room in hand or a promised object, becomes one: it keeps its words, and the graph has the object
 -- under a fresh name.
-use Rattle.std.proofs.Common.{◌≡◌, ◌≢◌, ℕ, zero, suc, ◌+◌, ◌<◌, ◌≤◌, ◌⊎◌, Bool, true, false, replicate, Option, Some, None, ⊎_elim, refl, sym, ap, ◌∙◌, subst, arith}
+use Rattle.std.proofs.Common.{◌≡◌, ◌≢◌, ℕ, zero, suc, ◌+◌, ◌-◌, ◌<◌, ◌≤◌, ◌⊎◌, inl, inr, Bool, true, false, replicate, Option, Some, None, ⊎_elim, refl, sym, ap, ◌∙◌, subst, arith}
 use Rattle.std.specs.Prelude.{◌==◌, if◌then◌else◌, slice_get}
 use Rattle.std.proofs.lemmas.Bool.{cases_eq, cases_Bool, cond-true, cond-false, eq-eqb}
 use Rattle.std.proofs.lemmas.Bool.Decides.{nat_tests}
@@ -11,7 +11,7 @@ use Rattle.regions.specs.Place.{base_of}
 use Rattle.shen_graph.specs.declared.name.Name.{Name}
 use Rattle.shen_graph.specs.Graph.{Object, same_name, blank}
 use Rattle.shen_graph.proofs.PlainLemmas.{same_name-true, same_name-itself}
-use Rattle.heap_words.specs.Encoding.{fresh_word}
+use Rattle.heap_words.specs.Encoding.{fresh_word, next_in, end_in}
 use Rattle.heap_world.specs.World.{Block, thing, spent, hand, promised, dead, filler, spare, carved, words_of, room_of, Plot, name_at, Points, IsInUse, IsPlotted, IsFilled, IsThing, IsGiven, AreObjects, IsParsable, AreOwned, AreUnwritten, Snapshot, Scan, IsMarkable, IsYoung, IsCollected, KeepsSnapshot, IsEvacuating, IsCurrent, IsUpdating}
 use Rattle.heap_world.proofs.Updates.{updated, updated_there, updated_else}
 use Rattle.heap_world.proofs.Pointing.{named_piece, room_unnamed}
@@ -142,7 +142,7 @@ module _ (c : Config) (top : ℕ → ℕ) (block : Plot) (address refs nums : �
 
   -- pieces that nobody writes to are as before
   pub unwritten_again : (heap : ℕ → ℕ) → AreUnwritten heap block → AreUnwritten heap new_block
-  unwritten_again heap = unwritten_stays heap heap block new_block (λ a other more is. ((old_promise a other more is).1, λ k below. refl)) (λ a more is. ((old_unnamed a (dead more) refl is).1, refl, refl)) (λ a more is. (old_unnamed a (filler more) refl is).1)
+  unwritten_again heap = unwritten_stays heap heap block new_block (λ a other more is. ((old_promise a other more is).1, λ k below. refl)) (λ a more is. ((old_unnamed a (dead more) refl is).1, refl, refl)) (λ a more is. ((old_unnamed a (filler more) refl is).1, refl))
 
   -- a piece elsewhere stands where it stood
   elsewhere : (a : ℕ) (b : Block) → block a ≡ Some b → a ≢ address → new_block a ≡ Some b
@@ -228,16 +228,36 @@ module _ (c : Config) (top : ℕ → ℕ) (block : Plot) (address refs nums : �
           (piece_cases block address new_thing a (thing n refs_a nums_a) is_a);
     }
 
-  -- regions are owned as before
-  pub owned_again : (free : ℕ) (current : ℕ → ℕ) (owner : ℕ → Option ℕ) → AreOwned c top free current block owner → AreOwned c top free current new_block owner
-  owned_again free current owner owned = record {
+  -- Regions are owned as before, where the piece was not of a buffer.
+  pub owned_again : (share free cset : ℕ) (current : ℕ → ℕ) (owner : ℕ → Option ℕ) → ((other words : ℕ) → piece ≡ spare other words → ⊥) → ((other words : ℕ) → piece ≡ carved other words → ⊥)
+      → AreOwned c top share free cset current block owner → AreOwned c top share free cset current new_block owner
+  owned_again share free cset current owner unspare uncarved owned = record {
     free_word = owned.free_word;
-    currents = owned.currents;
+    shared_one = owned.shared_one;
     rooms = record {
+      seated = λ a seat x is is_room. owned.rooms.seated a seat x (old_unnamed a x (room_unnamed x seat is_room) is).1 is_room;
       hands = λ a other words is. owned.rooms.hands a other words (old_unnamed a (hand other words) refl is).1;
       spares = λ a other words is. owned.rooms.spares a other words (old_unnamed a (spare other words) refl is).1;
       carveds = λ a other words is. owned.rooms.carveds a other words (old_unnamed a (carved other words) refl is).1;
     };
+    buffers = record {
+      each = λ seat some.
+          let was = owned.buffers.each seat some in
+          record {
+            region = was.region;
+            within = was.within;
+            from_base = was.from_base;
+            some = was.some;
+            ordered = was.ordered;
+            to_top = was.to_top;
+            free = λ more. ⊎_elim
+                (λ there. inl (stays (next_in (current seat)) (spare seat (end_in (current seat) - next_in (current seat))) there (λ same. unspare seat (end_in (current seat) - next_in (current seat)) same)))
+                (λ has. inr (has.0, has.1, stays has.0 (carved seat has.1) has.2 (λ same. uncarved seat has.1 same)))
+                (was.free more);
+          };
+      spares = λ a seat words is. owned.buffers.spares a seat words (old_unnamed a (spare seat words) refl is).1;
+    };
+    outside = owned.outside;
   }
 
 -- the counts with one more for a thread

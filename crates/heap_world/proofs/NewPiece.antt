@@ -1,15 +1,16 @@
--- A new piece at the top of a region: the words between the old top and the new one, in a seat's hand.
-use Rattle.std.proofs.Common.{◌≡◌, ◌≢◌, ℕ, ◌+◌, ◌<◌, ◌≤◌, Bool, Option, Some, ⊎_elim, refl, sym, ap, ◌∙◌, subst, arith}
+-- A new piece at the top of a region: the words between the old top and the new one, which a seat has carved for a buffer.
+use Rattle.std.proofs.Common.{◌≡◌, ◌≢◌, ℕ, ◌+◌, ◌-◌, ◌<◌, ◌≤◌, ◌⊎◌, inl, inr, Bool, Option, Some, ⊎_elim, refl, sym, ap, ◌∙◌, subst, arith}
 use Rattle.std.proofs.lemmas.Bool.{cases_eq, true≢false}
-use Rattle.std.proofs.lemmas.Option.{none-some, same_Some}
+use Rattle.std.proofs.lemmas.Option.{same_Some}
 use Rattle.heap_words.specs.declared.config.Config.{Config}
 use Rattle.heap_words.specs.Ranges.{seat_count}
+use Rattle.heap_words.specs.Encoding.{next_in, end_in}
 use Rattle.regions.specs.Place.{base_of, region_with, IsOf}
 use Rattle.regions.specs.Sets.{IsIn}
 use Rattle.regions.proofs.PlaceLemmas.{regions_tile}
 use Rattle.shen_graph.specs.declared.name.Name.{Name}
 use Rattle.shen_graph.specs.Graph.{Object}
-use Rattle.heap_world.specs.World.{Block, spent, hand, promised, dead, filler, spare, carved, Plot, name_at, room_of, is_loose, IsCollected, IsFreeWord, AreCurrent, IsRoom, AreRooms, IsParsable, HasContents, AreOwned, AreUnwritten, Snapshot, Scan, IsMarkable, IsYoung, AreYoungRooms, KeepsSnapshot, IsEvacuating, IsUpdating}
+use Rattle.heap_world.specs.World.{Block, spent, hand, promised, dead, filler, spare, carved, Plot, name_at, room_of, is_loose, IsCollected, IsFreeWord, AreRooms, AreBuffers, IsParsable, HasContents, AreOwned, AreUnwritten, Snapshot, Scan, IsMarkable, IsYoung, AreYoungRooms, KeepsSnapshot, IsEvacuating, IsUpdating}
 use Rattle.heap_world.proofs.Updates.{updated, updated_there, updated_else}
 use Rattle.heap_world.proofs.Unwritten.{unwritten_stays}
 use Rattle.heap_world.proofs.Loose.{SameButLoose, markable_loose, contents_loose, marked_loose, evacuated_loose, updated_loose}
@@ -18,15 +19,15 @@ use Rattle.heap_world.proofs.Joined.{CanJoin}
 use Rattle.heap_world.proofs.Pieces.{some_words, piece_cases}
 
 -- A region has room for so many words above its top. The heap is parsable, and room is as it should be.
-pub record CanGrow (c : Config) (top current : ℕ → ℕ) (block : Plot) (region at words : ℕ) : Type 0 where
+pub record CanGrow (c : Config) (top : ℕ → ℕ) (block : Plot) (region at words : ℕ) : Type 0 where
   pub parsable : IsParsable c top block
-  pub rooms : AreRooms c top current block
+  pub rooms : AreRooms c block
   pub within : region < c.regions
   pub top_is : top region ≡ at
   pub room : at + words ≤ c.region_words
   pub some : 3 ≤ words
 
-module _ (c : Config) (top current : ℕ → ℕ) (block : Plot) (region at words seat : ℕ) (grows : CanGrow c top current block region at words) where
+module _ (c : Config) (top : ℕ → ℕ) (block : Plot) (region at words seat : ℕ) (grows : CanGrow c top block region at words) where
   -- where the new piece lies
   abbrev address : ℕ
   address = base_of c region + at
@@ -37,13 +38,13 @@ module _ (c : Config) (top current : ℕ → ℕ) (block : Plot) (region at word
 
   -- the plot with it
   abbrev new_block : Plot
-  new_block = updated block address (Some (hand seat words))
+  new_block = updated block address (Some (carved seat words))
 
-  -- the words in hand join there
-  joins : CanJoin c top block region at (hand seat words)
+  -- the carved words join there
+  joins : CanJoin c top block region at (carved seat words)
   joins = record {
     plotted = grows.parsable.plotted;
-    long = some_words c top current block grows.parsable grows.rooms;
+    long = some_words c top block grows.parsable grows.rooms;
     within = grows.within;
     top_is = grows.top_is;
     room = grows.room;
@@ -52,20 +53,20 @@ module _ (c : Config) (top current : ℕ → ℕ) (block : Plot) (region at word
 
   -- what stood somewhere stands there
   pub stays : (a : ℕ) (b : Block) → block a ≡ Some b → new_block a ≡ Some b
-  stays = joined.stays c top block region at (hand seat words) joins
+  stays = joined.stays c top block region at (carved seat words) joins
 
   -- what a word stands for it still stands for
   pub names_stay : (a : ℕ) (name : Name) → name_at (block a) ≡ Some name → name_at (new_block a) ≡ Some name
-  names_stay = joined.names_stay c top block region at (hand seat words) joins
+  names_stay = joined.names_stay c top block region at (carved seat words) joins
 
   -- all pieces but loose ones are the same
   pub same_but_loose : SameButLoose block new_block
   same_but_loose = record {
     stays = λ a x fixed is. stays a x is;
     came = λ a x fixed is. ⊎_elim
-        (λ (new : (a ≡ address) × (hand seat words ≡ x)). absurd (true≢false (ap is_loose new.1 ∙ fixed)))
+        (λ (new : (a ≡ address) × (carved seat words ≡ x)). absurd (true≢false (ap is_loose new.1 ∙ fixed)))
         (λ (old : (a ≢ address) × (block a ≡ Some x)). old.1)
-        (piece_cases block address (hand seat words) a x is);
+        (piece_cases block address (carved seat words) a x is);
   }
 
   -- a promised object is an old one
@@ -75,29 +76,26 @@ module _ (c : Config) (top current : ℕ → ℕ) (block : Plot) (region at word
   -- room of another seat is old
   pub old_room : (a other : ℕ) (x : Block) → other ≢ seat → new_block a ≡ Some x → room_of x ≡ Some other → block a ≡ Some x
   old_room a other x differs is room = ⊎_elim
-      (λ (new : (a ≡ address) × (hand seat words ≡ x)). absurd (differs (sym (same_Some seat other (ap room_of new.1 ∙ room)))))
+      (λ (new : (a ≡ address) × (carved seat words ≡ x)). absurd (differs (sym (same_Some seat other (ap room_of new.1 ∙ room)))))
       (λ (old : (a ≢ address) × (block a ≡ Some x)). old.1)
-      (piece_cases block address (hand seat words) a x is)
+      (piece_cases block address (carved seat words) a x is)
 
-  -- room in the seat's own hand is the new piece, where it had none
-  pub own_hand : ((a more : ℕ) → block a ≡ Some (hand seat more) → ⊥) → (a more : ℕ) → new_block a ≡ Some (hand seat more) → (a ≡ address) × (more ≡ words)
-  own_hand none a more is = ⊎_elim
-      (λ (new : (a ≡ address) × (hand seat words ≡ hand seat more)). let same = new.1 in let sizes : more ≡ words = cc in (new.0, sizes))
-      (λ (old : (a ≢ address) × (block a ≡ Some (hand seat more))). absurd (none a more old.1))
-      (piece_cases block address (hand seat words) a (hand seat more) is)
+  -- room of the seat is the new piece, or was there
+  pub own_room : (a : ℕ) (x : Block) → new_block a ≡ Some x → ((a ≡ address) × (carved seat words ≡ x)) ⊎ (block a ≡ Some x)
+  own_room a x is = ⊎_elim (λ new. inl new) (λ (old : (a ≢ address) × (block a ≡ Some x)). inr old.1) (piece_cases block address (carved seat words) a x is)
 
   -- a piece of another kind is old
-  old_other : (a : ℕ) (x : Block) → (hand seat words ≡ x → ⊥) → new_block a ≡ Some x → block a ≡ Some x
+  old_other : (a : ℕ) (x : Block) → (carved seat words ≡ x → ⊥) → new_block a ≡ Some x → block a ≡ Some x
   old_other a x differs is = ⊎_elim
-      (λ (new : (a ≡ address) × (hand seat words ≡ x)). absurd (differs new.1))
+      (λ (new : (a ≡ address) × (carved seat words ≡ x)). absurd (differs new.1))
       (λ (old : (a ≢ address) × (block a ≡ Some x)). old.1)
-      (piece_cases block address (hand seat words) a x is)
+      (piece_cases block address (carved seat words) a x is)
 
   -- the heap is parsable
   pub parsable_more : IsParsable c new_top new_block
   parsable_more = record {
-    plotted = joined.plotted_more c top block region at (hand seat words) joins;
-    filled = joined.filled_more c top block region at (hand seat words) joins grows.parsable.filled;
+    plotted = joined.plotted_more c top block region at (carved seat words) joins;
+    filled = joined.filled_more c top block region at (carved seat words) joins grows.parsable.filled;
     promises = λ a other more is. grows.parsable.promises a other more (old_promise a other more is);
     deads = λ a more is. grows.parsable.deads a more (same_but_loose.came a (dead more) refl is);
     spents = λ a more to is. grows.parsable.spents a more to (same_but_loose.came a (spent more to) refl is);
@@ -107,7 +105,7 @@ module _ (c : Config) (top current : ℕ → ℕ) (block : Plot) (region at word
   -- pieces that nobody writes to are as before
   pub unwritten_more : (heap : ℕ → ℕ) → AreUnwritten heap block → AreUnwritten heap new_block
   unwritten_more heap = unwritten_stays heap heap block new_block (λ a other more is. (old_promise a other more is, λ k below. refl)) (λ a more is. (same_but_loose.came a (dead more) refl is, refl, refl))
-      (λ a more is. old_other a (filler more) (λ differ. cc) is)
+      (λ a more is. (old_other a (filler more) (λ differ. cc) is, refl))
 
   -- what can be marked still can
   pub markable_more : (a : ℕ) → IsMarkable block a → IsMarkable new_block a
@@ -131,9 +129,9 @@ module _ (c : Config) (top current : ℕ → ℕ) (block : Plot) (region at word
   -- room is young, where it was
   young_more : (start : ℕ → ℕ) → ((r : ℕ) → r < c.regions → start r ≤ top r) → AreYoungRooms c start block → AreYoungRooms c start new_block
   young_more start floors young a other x is room = ⊎_elim
-      (λ (new : (a ≡ address) × (hand seat words ≡ x)). subst (IsYoung c start) (sym new.0) (young_there start floors))
+      (λ (new : (a ≡ address) × (carved seat words ≡ x)). subst (IsYoung c start) (sym new.0) (young_there start floors))
       (λ (old : (a ≢ address) × (block a ≡ Some x)). young a other x old.1 room)
-      (piece_cases block address (hand seat words) a x is)
+      (piece_cases block address (carved seat words) a x is)
 
   -- tops lie at or above what they were at or above
   floors_more : (start : ℕ → ℕ) → ((r : ℕ) → r < c.regions → start r ≤ top r) → (r : ℕ) → r < c.regions → start r ≤ new_top r
@@ -155,9 +153,9 @@ module _ (c : Config) (top current : ℕ → ℕ) (block : Plot) (region at word
       evacuated_loose c block new_block same_but_loose phase cset evac claim free top new_top tams heap black owner copying working e
       (λ on. young_more tams (e.kept.floors on) (e.kept.young on))
       (λ a other x is room collected. ⊎_elim
-      (λ (new : (a ≡ address) × (hand seat words ≡ x)). outside (subst (λ r. IsIn cset r) of_region (subst (IsCollected c cset) new.0 collected)))
+      (λ (new : (a ≡ address) × (carved seat words ≡ x)). outside (subst (λ r. IsIn cset r) of_region (subst (IsCollected c cset) new.0 collected)))
       (λ (old : (a ≢ address) × (block a ≡ Some x)). e.aside.no_rooms a other x old.1 room collected)
-      (piece_cases block address (hand seat words) a x is))
+      (piece_cases block address (carved seat words) a x is))
       (λ on. floors_more tams (e.kept.floors on))
       (λ r is. updated_else top region (at + words) r (λ now. outside (subst (λ r. IsIn cset r) (sym now) is)))
 
@@ -170,55 +168,56 @@ module _ (c : Config) (top current : ℕ → ℕ) (block : Plot) (region at word
   pub contents_more : (heap : ℕ → ℕ) (object : Name → Option Object) (count : ℕ → ℕ) → HasContents c heap block object count → HasContents c heap new_block object count
   contents_more = contents_loose c block new_block same_but_loose
 
-  -- a region with a new top is a seat's, and so not free
-  free_more : (free : ℕ) (owner : ℕ → Option ℕ) → owner region ≡ Some seat → IsFreeWord c free top owner → IsFreeWord c free new_top owner
-  free_more free owner own free_word = record {
+  -- a region with a new top is not free
+  free_more : (free : ℕ) (owner : ℕ → Option ℕ) → (IsIn free region → ⊥) → IsFreeWord c free top owner → IsFreeWord c free new_top owner
+  free_more free owner in_use free_word = record {
     no_more = free_word.no_more;
-    empty = λ r inside bit.
-        updated_else top region (at + words) r (λ same. none-some seat (sym (free_word.nobodys r inside bit) ∙ ap owner (sym same) ∙ own)) ∙ free_word.empty r inside bit;
+    empty = λ r inside bit. updated_else top region (at + words) r (λ same. in_use (subst (IsIn free) (sym same) bit)) ∙ free_word.empty r inside bit;
     nobodys = free_word.nobodys;
   }
 
-  -- room in hand is as it should be
-  hands_more : (owner : ℕ → Option ℕ) → seat < seat_count c.mutators c.helpers → current seat ≡ region + 1 → AreCurrent c current owner → ((a more : ℕ) → block a ≡ Some (hand seat more) → ⊥)
-      → (a other more : ℕ) → new_block a ≡ Some (hand other more) → IsRoom c new_top current a other more
-  hands_more owner seated is_current currents none a other more is = ⊎_elim
-      (λ (new : (a ≡ address) × (hand seat words ≡ hand other more)).
-      let same = new.1 in
-      let seats : seat ≡ other = cc in
-      let sizes : words ≡ more = cc in
-      subst (λ s. IsRoom c new_top current a s more) seats
-      (subst (λ w. IsRoom c new_top current a seat w) sizes
-      (record { seated = seated; some = grows.some; region = region; is_current = is_current; from_base = (let one = new.0 in omega (arith, one)); at_top = (let now = updated_there top region (at + words) in let one = new.0 in omega (arith, now, one)) })))
-      (λ (old : (a ≢ address) × (block a ≡ Some (hand other more))).
-      let is_room = grows.rooms.hands a other more old.1 in
-      let differs : region ≢ is_room.region = λ same.
-      let own : Some seat ≡ Some other = sym (currents.own seat region is_current) ∙ ap owner same ∙ currents.own other is_room.region is_room.is_current in
-      none a more (subst (λ s. block a ≡ Some (hand s more)) (sym (same_Some seat other own)) old.1)
-      in
-      record {
-        seated = is_room.seated;
-        some = is_room.some;
-        region = is_room.region;
-        is_current = is_room.is_current;
-        from_base = is_room.from_base;
-        at_top = is_room.at_top ∙ ap (λ t. base_of c is_room.region + t) (sym (updated_else top region (at + words) is_room.region differs));
-      })
-      (piece_cases block address (hand seat words) a (hand other more) is)
-
-  -- so is all room
-  rooms_more : (owner : ℕ → Option ℕ) → seat < seat_count c.mutators c.helpers → current seat ≡ region + 1 → AreCurrent c current owner → ((a more : ℕ) → block a ≡ Some (hand seat more) → ⊥) → AreRooms c new_top current new_block
-  rooms_more owner seated is_current currents none = record {
-    hands = hands_more owner seated is_current currents none;
+  -- room is as it should be
+  rooms_more : seat < seat_count c.mutators c.helpers → AreRooms c new_block
+  rooms_more seated = record {
+    seated = λ a other x is is_room. ⊎_elim
+        (λ (new : (a ≡ address) × (carved seat words ≡ x)). subst (λ s. s < seat_count c.mutators c.helpers) (same_Some seat other (ap room_of new.1 ∙ is_room)) seated)
+        (λ old. grows.rooms.seated a other x old is_room)
+        (own_room a x is);
+    hands = λ a other more is. grows.rooms.hands a other more (old_other a (hand other more) (λ differ. cc) is);
     spares = λ a other more is. grows.rooms.spares a other more (old_other a (spare other more) (λ differ. cc) is);
-    carveds = λ a other more is. grows.rooms.carveds a other more (old_other a (carved other more) (λ differ. cc) is);
+    carveds = λ a other more is. ⊎_elim
+        (λ (new : (a ≡ address) × (carved seat words ≡ carved other more)). let same = new.1 in let sizes : words ≡ more = cc in (let some = grows.some in omega (arith, some, sizes)))
+        (λ old. grows.rooms.carveds a other more old)
+        (own_room a (carved other more) is);
+  }
+
+  -- buffers stay
+  buffers_more : (current : ℕ → ℕ) → AreBuffers c top current block → AreBuffers c new_top current new_block
+  buffers_more current buffers = record {
+    each = λ other some.
+        let was = buffers.each other some in
+        record {
+          region = was.region;
+          within = was.within;
+          from_base = was.from_base;
+          some = was.some;
+          ordered = was.ordered;
+          to_top = (let high = was.to_top in let rise = tops_rise was.region in omega (arith, high, rise));
+          free = λ more. ⊎_elim
+              (λ there. inl (stays (next_in (current other)) (spare other (end_in (current other) - next_in (current other))) there))
+              (λ has. inr (has.0, has.1, stays has.0 (carved other has.1) has.2))
+              (was.free more);
+        };
+    spares = λ a other more is. buffers.spares a other more (old_other a (spare other more) (λ differ. cc) is);
   }
 
   -- and regions are owned
-  pub owned_more : (free : ℕ) (owner : ℕ → Option ℕ) → seat < seat_count c.mutators c.helpers → current seat ≡ region + 1 → ((a more : ℕ) → block a ≡ Some (hand seat more) → ⊥)
-      → AreOwned c top free current block owner → AreOwned c new_top free current new_block owner
-  owned_more free owner seated is_current none owned = record {
-    free_word = free_more free owner (owned.currents.own seat region is_current) owned.free_word;
-    currents = owned.currents;
-    rooms = rooms_more owner seated is_current owned.currents none;
+  pub owned_more : (share free cset : ℕ) (current : ℕ → ℕ) (owner : ℕ → Option ℕ) → seat < seat_count c.mutators c.helpers → (IsIn free region → ⊥)
+      → AreOwned c top share free cset current block owner → AreOwned c new_top share free cset current new_block owner
+  owned_more share free cset current owner seated in_use owned = record {
+    free_word = free_more free owner in_use owned.free_word;
+    shared_one = owned.shared_one;
+    rooms = rooms_more seated;
+    buffers = buffers_more current owned.buffers;
+    outside = owned.outside;
   }

@@ -11,7 +11,7 @@ use Rattle.steps_base.proofs.Places.{slice_get-set_same, slice_get-set_other}
 use Rattle.shen_graph.specs.declared.name.Name.{Name}
 use Rattle.shen_graph.specs.Graph.{Reference, Object, Graph, same_name}
 use Rattle.shen_graph.proofs.PlainLemmas.{same_name-true, same_name-itself}
-use Rattle.heap_world.specs.World.{World, Block, thing, moved, spent, promised, dead, words_of, room_of, Plot, Body, body_at, body_words, IsCollected, Points, TargetIn, IsPlotted, IsThing, AreObjects, IsMarkable, IsCurrent, NeedsNoMarking, IsCovered, NotedIn, Shared}
+use Rattle.heap_world.specs.World.{World, Block, thing, moved, spent, promised, dead, filler, words_of, room_of, Plot, Body, body_at, body_words, IsCollected, Points, TargetIn, IsPlotted, IsThing, AreObjects, IsMarkable, IsCurrent, NeedsNoMarking, IsCovered, NotedIn, Shared}
 use Rattle.heap_world.specs.Rely.{Rely}
 use Rattle.heap_world.proofs.Updates.{updated, updated_same, updated_else}
 use Rattle.heap_world.proofs.Unwritten.{unwritten_stays}
@@ -206,7 +206,7 @@ module _ (c : Config) (u : World) (a refs nums at value : ℕ) (name : Name) (o 
           head_stays from_start to_end b (dead words) is_dead (λ differ. cc) (omega (arith, long)),
           else_stays from_start to_end b 1 (dead words) is_dead (λ differ. cc) (omega (arith, long)),
         ))
-        (λ b words is_filler. is_filler)
+        (λ b words is_filler. (is_filler, head_stays from_start to_end b (filler words) is_filler (λ differ. cc) (shared.parsable.fillers b words is_filler)))
         shared.unwritten;
     marked = marked_stored c (u.memory Phase) (λ n. u.memory (Grey n)) (λ n. u.memory (Black n)) (λ t. u.memory (Count t)) (λ t k. u.memory (Buffer t k)) (λ r. u.memory (Top r)) (λ r. u.memory (Tams r))
         (λ b. u.memory (Heap b)) u.block u.ghost.snapshot u.ghost.recording u.ghost.scanning shared.marked (updated (λ b. u.memory (Heap b)) at value) (field_stays from_start to_end covered);
@@ -250,6 +250,7 @@ module _ (c : Config) (u : World) (a refs nums at value : ℕ) (name : Name) (o 
         let both : Some (promised seat words) ≡ Some (thing name refs nums) = sym is ∙ ap u.block same_piece ∙ target.piece in
         cc);
     current = refl;
+    opens = λ r is. is;
     owners = λ r is. is;
     tops = λ r is. refl;
     root_words = λ i. refl;
@@ -263,5 +264,5 @@ module _ (c : Config) (u : World) (a refs nums at value : ℕ) (name : Name) (o 
         (shape_stays from_start to_end (λ same. omega (arith, same, behind)));
     copies = rely_copies c u (stored u at value (changed u.graph name o root)) seat (same_plot c u (stored u at value (changed u.graph name o root)) refl refl refl (λ r is. refl)) refl refl
         (λ b k x seated copies inside is least below. copy_words_stay from_start to_end b k x seat seated copies inside is below);
-    fields = fields_stored c u (stored u at value (changed u.graph name o root)) (λ r. refl) (λ r. refl) refl (λ b words is. is) (λ on. current_field from_start to_end current);
+    fields = fields_stored c u (stored u at value (changed u.graph name o root)) (λ r. refl) (λ r. refl) refl (λ b words is. is) (λ b words is. is) (λ on. current_field from_start to_end current);
   }

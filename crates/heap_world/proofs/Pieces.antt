@@ -18,16 +18,16 @@ behind c r s before =
     omega (arith, more)
 
 -- a piece has a word at least
-pub some_words : (c : Config) (top current : ℕ → ℕ) (block : Plot) → IsParsable c top block → AreRooms c top current block → (a : ℕ) (b : Block) → block a ≡ Some b → 1 ≤ words_of b
-some_words c top current block parsable rooms a (thing name refs nums) is = omega arith
-some_words c top current block parsable rooms a (moved name refs nums to) is = omega arith
-some_words c top current block parsable rooms a (spent words to) is = let long = parsable.spents a words to is in omega (arith, long)
-some_words c top current block parsable rooms a (hand seat words) is = let room = rooms.hands a seat words is in omega (arith, room.some)
-some_words c top current block parsable rooms a (promised seat words) is = let long = parsable.promises a seat words is in omega (arith, long)
-some_words c top current block parsable rooms a (dead words) is = (let long = parsable.deads a words is in omega (arith, long))
-some_words c top current block parsable rooms a (filler words) is = parsable.fillers a words is
-some_words c top current block parsable rooms a (spare seat words) is = absurd (rooms.spares a seat words is)
-some_words c top current block parsable rooms a (carved seat words) is = absurd (rooms.carveds a seat words is)
+pub some_words : (c : Config) (top : ℕ → ℕ) (block : Plot) → IsParsable c top block → AreRooms c block → (a : ℕ) (b : Block) → block a ≡ Some b → 1 ≤ words_of b
+some_words c top block parsable rooms a (thing name refs nums) is = omega arith
+some_words c top block parsable rooms a (moved name refs nums to) is = omega arith
+some_words c top block parsable rooms a (spent words to) is = let long = parsable.spents a words to is in omega (arith, long)
+some_words c top block parsable rooms a (hand seat words) is = let some = rooms.hands a seat words is in omega (arith, some)
+some_words c top block parsable rooms a (promised seat words) is = let long = parsable.promises a seat words is in omega (arith, long)
+some_words c top block parsable rooms a (dead words) is = let long = parsable.deads a words is in omega (arith, long)
+some_words c top block parsable rooms a (filler words) is = parsable.fillers a words is
+some_words c top block parsable rooms a (spare seat words) is = rooms.spares a seat words is
+some_words c top block parsable rooms a (carved seat words) is = let some = rooms.carveds a seat words is in omega (arith, some)
 
 -- A piece ends before a region, or lies in its part in use, or begins behind it.
 abbrev Beside : Config → (ℕ → ℕ) → ℕ → ℕ → Block → Type 0

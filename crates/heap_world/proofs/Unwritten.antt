@@ -11,6 +11,7 @@ blank_stays heap after a words same blank = record {
   long = blank.long;
   few_refs = blank.few_refs;
   few_nums = blank.few_nums;
+  header = (let there : a + 0 ≡ a = omega arith in ap after (sym there) ∙ same 0 (let long = blank.long in omega (arith, long)) ∙ ap heap there ∙ blank.header);
   shape = same 1 (let long = blank.long in omega (arith, long)) ∙ blank.shape;
   nulls = λ i below.
       let there : a + (3 + i) ≡ a + 3 + i = omega arith in
@@ -21,11 +22,11 @@ blank_stays heap after a words same blank = record {
 pub unwritten_stays : (heap after : ℕ → ℕ) (u w : Plot)
     → ((a seat words : ℕ) → w a ≡ Some (promised seat words) → (u a ≡ Some (promised seat words)) × ((k : ℕ) → k < words → after (a + k) ≡ heap (a + k)))
     → ((a words : ℕ) → w a ≡ Some (dead words) → (u a ≡ Some (dead words)) × (after a ≡ heap a) × (after (a + 1) ≡ heap (a + 1)))
-    → ((a words : ℕ) → w a ≡ Some (filler words) → u a ≡ Some (filler words))
+    → ((a words : ℕ) → w a ≡ Some (filler words) → (u a ≡ Some (filler words)) × (after a ≡ heap a))
     → AreUnwritten heap u → AreUnwritten after w
 unwritten_stays heap after u w promises deads fillers unwritten = record {
   blanks = λ a seat words is. let was = promises a seat words is in blank_stays heap after a words was.1 (unwritten.blanks a seat words was.0);
   headers = λ a words is. let was = deads a words is in was.1 ∙ unwritten.headers a words was.0;
   lengths = λ a words is. let was = deads a words is in ap object_words was.2 ∙ unwritten.lengths a words was.0;
-  fillers = λ a words is. unwritten.fillers a words (fillers a words is);
+  fillers = λ a words is. let was = fillers a words is in was.1 ∙ unwritten.fillers a words was.0;
 }

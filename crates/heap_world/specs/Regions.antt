@@ -1,15 +1,14 @@
--- How the regions of a heap are shared out among its seats.
-use Rattle.std.specs.Prelude.{ℕ, ◌≡◌, ◌≢◌, ◌+◌, ◌<◌, ◌≤◌, Some}
+-- How the room of a heap is shared out among its seats.
+use Rattle.std.specs.Prelude.{ℕ, ◌≡◌, ◌≢◌, ◌⊎◌, ◌+◌, ◌<◌, ◌≤◌, Some}
 use Rattle.heap_words.specs.declared.config.Config.{Config}
-use Rattle.heap_words.specs.Words.{Free, Current}
+use Rattle.heap_words.specs.Words.{Free, Cset}
 use Rattle.regions.specs.Place.{IsOf}
 use Rattle.regions.specs.Sets.{IsIn}
-use Rattle.heap_world.specs.World.{World, Block, hand, words_of}
+use Rattle.heap_world.specs.World.{World, Block, room_of, words_of, IsCollected}
 
--- No two seats have one region, and a free region is nobody's. In a region there is room in hand once at most, and it
--- lies behind all other pieces.
+-- Room of two seats is apart, also where both lie in one region; and no room lies in a free region, or in the collection set.
 pub record AreSharedOut (c : Config) (w : World) : Type 0 where
-  pub one_seat : (r seat other : ℕ) → w.memory (Current seat) ≡ r + 1 → w.memory (Current other) ≡ r + 1 → seat ≡ other
-  pub free_is_nobodys : (r seat : ℕ) → r < c.regions → IsIn (w.memory Free) r → w.memory (Current seat) ≢ r + 1
-  pub one_room : (r a b seat other words more : ℕ) → IsOf c r a → IsOf c r b → w.block a ≡ Some (hand seat words) → w.block b ≡ Some (hand other more) → a ≡ b
-  pub room_is_last : (r a b seat words : ℕ) (x : Block) → IsOf c r a → IsOf c r b → w.block a ≡ Some (hand seat words) → w.block b ≡ Some x → a ≢ b → b + words_of x ≤ a
+  pub apart : (a b seat other : ℕ) (x y : Block) → w.block a ≡ Some x → w.block b ≡ Some y → room_of x ≡ Some seat → room_of y ≡ Some other → seat ≢ other
+      → (a + words_of x ≤ b) ⊎ (b + words_of y ≤ a)
+  pub none_in_free : (r a seat : ℕ) (x : Block) → r < c.regions → IsOf c r a → IsIn (w.memory Free) r → w.block a ≡ Some x → room_of x ≡ Some seat → ⊥
+  pub none_in_set : (a seat : ℕ) (x : Block) → w.block a ≡ Some x → room_of x ≡ Some seat → IsCollected c (w.memory Cset) a → ⊥

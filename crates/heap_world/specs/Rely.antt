@@ -8,7 +8,7 @@ use Rattle.regions.specs.Sets.{IsIn}
 use Rattle.heap_words.specs.Counter.{is_out_of_room, IsQuiet}
 use Rattle.regions.specs.Marks.{HasMark}
 use Rattle.shen_graph.specs.declared.name.Name.{Name}
-use Rattle.heap_world.specs.World.{World, Block, TargetIn, thing, moved, spent, promised, dead, words_of, room_of, name_at, Body, body_at, body_words, IsCollected, IsMarkable, IsCurrent, NotedIn}
+use Rattle.heap_world.specs.World.{World, Block, IsOpenIn, TargetIn, thing, moved, spent, promised, dead, filler, words_of, filling, room_of, name_at, Body, body_at, body_words, IsCollected, IsMarkable, IsCurrent, NotedIn}
 
 -- What holds of marking whoever steps, outside pauses: the phase and the snapshot stay, but while objects are evacuated what can be marked
 -- stays so, with its shape, and what is noted stays noted.
@@ -27,7 +27,7 @@ pub record KeepsCopies (c : Config) (u w : World) : Type 0 where
   pub bodies : (a : ℕ) (b : Body) → body_at (u.block a) ≡ Some b → body_at (w.block a) ≡ Some b
   pub moveds : (a refs nums to : ℕ) (name : Name) → u.block a ≡ Some (moved name refs nums to) → w.block a ≡ Some (moved name refs nums to)
   pub spents : (a words to : ℕ) → u.block a ≡ Some (spent words to) → w.block a ≡ Some (spent words to)
-  pub pieces : (a : ℕ) (x : Block) → IsCollected c (u.memory Cset) a → u.block a ≡ Some x → (y : Block) × (w.block a ≡ Some y) × (words_of y ≡ words_of x)
+  pub pieces : (a : ℕ) (x : Block) → IsCollected c (u.memory Cset) a → u.block a ≡ Some x → (y : Block) × (w.block a ≡ Some y) × (words_of y ≡ words_of x) × (filling y ≡ filling x)
   pub no_new : (a refs nums : ℕ) (name : Name) → IsCollected c (u.memory Cset) a → w.block a ≡ Some (thing name refs nums) → u.block a ≡ Some (thing name refs nums)
   pub tops : (r : ℕ) → IsIn (u.memory Cset) r → w.memory (Top r) ≡ u.memory (Top r)
   pub out : is_out_of_room (u.memory Evac) ≡ true → is_out_of_room (w.memory Evac) ≡ true
@@ -75,12 +75,13 @@ pub record KeepsFields (c : Config) (u w : World) : Type 0 where
   pub tams : (r : ℕ) → w.memory (Tams r) ≡ u.memory (Tams r)
   pub limits : (r : ℕ) → w.memory (Limit r) ≡ u.memory (Limit r)
   pub deads : (a words : ℕ) → u.block a ≡ Some (dead words) → w.block a ≡ Some (dead words)
+  pub fillers : (a words : ℕ) → u.block a ≡ Some (filler words) → w.block a ≡ Some (filler words)
   pub claims : c.regions ≤ u.memory Claim → c.regions ≤ w.memory Claim
   pub fields : u.memory Phase ≡ 3 → (a refs nums k : ℕ) (name : Name) → u.block a ≡ Some (thing name refs nums) → k < refs
       → (w.memory (Heap (a + 3 + k)) ≡ u.memory (Heap (a + 3 + k))) ⊎ IsCurrent w.block (w.memory (Heap (a + 3 + k)))
 
 -- What the machine of a seat relies on while another machine leads from u to w: objects stay where they are; what is the
--- seat's own stays as it is, as its room does; phase and collection set stay, which only a pause changes, and so does that a mutator waits.
+-- seat's own stays as it is, its room and its buffer; a region that may be carved may be carved still; phase and collection set stay, which only a pause changes, and so does that a mutator waits.
 pub record Rely (c : Config) (seat : ℕ) (u w : World) : Type 0 where
   pub names : (a : ℕ) (name : Name) → name_at (u.block a) ≡ Some name → name_at (w.block a) ≡ Some name
   pub targets : (a refs nums : ℕ) (name : Name) → TargetIn c u a refs nums name → TargetIn c w a refs nums name
@@ -91,6 +92,7 @@ pub record Rely (c : Config) (seat : ℕ) (u w : World) : Type 0 where
   pub no_promises : (a words : ℕ) → w.block a ≡ Some (promised seat words) → u.block a ≡ Some (promised seat words)
   pub promise_words : (a words k : ℕ) → u.block a ≡ Some (promised seat words) → k < words → w.memory (Heap (a + k)) ≡ u.memory (Heap (a + k))
   pub current : w.memory (Current seat) ≡ u.memory (Current seat)
+  pub opens : (r : ℕ) → IsOpenIn c u r → IsOpenIn c w r
   pub owners : (r : ℕ) → u.ghost.owner r ≡ Some seat → w.ghost.owner r ≡ Some seat
   pub tops : (r : ℕ) → u.ghost.owner r ≡ Some seat → w.memory (Top r) ≡ u.memory (Top r)
   pub root_words : (i : ℕ) → w.memory (Root seat i) ≡ u.memory (Root seat i)

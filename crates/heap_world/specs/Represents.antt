@@ -1,11 +1,11 @@
--- A memory that stands for a graph while no machine has room in hand.
+-- A memory that stands for a graph while no machine has room in hand, or carved words.
 use Rattle.std.specs.Prelude.{ℕ, ◌≡◌, ◌+◌, ◌<◌, false, Some, None}
 use Rattle.std.specs.Int.{bit_at}
 use Rattle.heap_words.specs.declared.config.Config.{Config}
 use Rattle.heap_words.specs.Ranges.{seat_count}
 use Rattle.heap_words.specs.Words.{Word, Cset, Evac, Ask, Root}
 use Rattle.shen_graph.specs.Graph.{Graph}
-use Rattle.heap_world.specs.World.{hand, Plot, Ghost, Points, AreUsable, Shared}
+use Rattle.heap_world.specs.World.{hand, carved, Plot, Ghost, Points, AreUsable, Shared}
 use Rattle.heap_world.specs.Asking.{Asking, asks, IsAsked, PromisedToMutators}
 use Rattle.heap_world.specs.Roots.{HasNoMore}
 
@@ -19,7 +19,7 @@ pub record NobodyCopies (c : Config) (ghost : Ghost) : Type 0 where
   pub copies_none : (seat : ℕ) → seat < seat_count c.mutators c.helpers → ghost.copying seat ≡ false
   pub works_none : (seat : ℕ) → seat < seat_count c.mutators c.helpers → ghost.working seat ≡ None
 
--- There is a way to divide the regions into objects of the graph and objects promised to mutators, with no room in hand, and
+-- There is a way to divide the regions into objects of the graph and objects promised to mutators, with no room but that of buffers, and
 -- nobody marks or copies; each mutator's roots stand for its thread's roots, and it has asked for what is said; the word of what is asked has
 -- the bit that a mutator waits, where one does; and the graph has no other roots. What is asked of the root words besides is a variable, of
 -- the division.
@@ -30,6 +30,7 @@ pub record RepresentsWith (AsksOfRoots : Plot → Type 0) (c : Config) (memory :
   pub roots : (t i : ℕ) → t < c.mutators → i < 16 → Points block (memory (Root t i)) (g.root (t + 1) i)
   pub usable : AsksOfRoots block
   pub none : (a seat words : ℕ) → block a ≡ Some (hand seat words) → ⊥
+  pub uncarved : (a seat words : ℕ) → block a ≡ Some (carved seat words) → ⊥
   pub asked : (t : ℕ) → t < c.mutators → IsAsked memory block g.count t (asking t)
   pub heard : (t refs nums : ℕ) → t < c.mutators → asking t ≡ asks refs nums → bit_at (memory Ask) 1 ≡ 1
   pub promised_to : PromisedToMutators c block

@@ -1,9 +1,9 @@
 -- What it means that the words of a heap stand for a graph.
-use Rattle.std.specs.Prelude.{ℕ, ◌≡◌, ◌≢◌, ◌⊎◌, ◌+◌, ◌<◌, ◌≤◌, ◌^◌, Bool, true, false, if◌then◌else◌, Option, Some, None, zero, suc}
+use Rattle.std.specs.Prelude.{ℕ, ◌≡◌, ◌≢◌, ◌⊎◌, ◌+◌, ◌-◌, ◌<◌, ◌≤◌, ◌^◌, Bool, true, false, if◌then◌else◌, Option, Some, None, zero, suc}
 use Rattle.std.specs.Int.{bit_at}
 use Rattle.heap_words.specs.declared.config.Config.{Config}
-use Rattle.heap_words.specs.Words.{Word, Phase, Cset, Free, Evac, Claim, Top, Tams, Limit, Current, Count, Buffer, Grey, Black, Heap}
-use Rattle.heap_words.specs.Encoding.{plain_header, header_word, shape_word, name_code, object_words}
+use Rattle.heap_words.specs.Words.{Word, Phase, Cset, Free, Evac, Claim, Top, Tams, Limit, Current, Count, Buffer, Grey, Black, Heap, Share}
+use Rattle.heap_words.specs.Encoding.{plain_header, header_word, filler_header, next_in, end_in, shape_word, name_code, object_words}
 use Rattle.heap_words.specs.Ranges.{seat_count}
 use Rattle.regions.specs.Place.{base_of, region_with}
 use Rattle.regions.specs.Sets.{IsIn}
@@ -17,8 +17,8 @@ use Rattle.heap_world.specs.Objects.{Refers, IsObject}
 -- old copy of one, whose current copy is at an address; an old copy, of so many words, of an object that a pause had made for a mutator
 -- when its current copy was made at an address; so many words that a machine has in hand; an object of so many words that a pause has
 -- made for the mutator of a seat, which waits for it and has not taken it into the graph yet; a dead object, which nothing leads to, of so
--- many words; so many words that only fill, and never were an object; so many free words of a seat's buffer; or so many words that a seat
--- has carved for a buffer. No step makes a piece of the last three kinds yet (`AreRooms`, `AreUnwritten`).
+-- many words; so many words that only fill, and never were an object; so many free words of a seat's buffer; or
+-- so many words that a seat has carved out of a region for a new buffer.
 pub data Block : Type 0 where
   thing : (name : Name) (refs nums : ℕ) → Block
   moved : (name : Name) (refs nums to : ℕ) → Block
@@ -40,6 +40,11 @@ words_of (dead words) = words
 words_of (filler words) = words
 words_of (spare seat words) = words
 words_of (carved seat words) = words
+
+-- how many words only fill, where a piece is such words
+abbrev pub filling : Block → Option ℕ
+filling (filler words) = Some words
+filling _ = None
 
 -- the seat whose room a piece is: words in its hand, free words of its buffer, or words that it has carved
 abbrev pub room_of : Block → Option ℕ
@@ -82,7 +87,8 @@ pub record Scan : Type 0 where
   pub object : ℕ
   pub field : ℕ
 
--- Ghost state, which no word shows: by region, the seat that has it to itself; the snapshot; and by seat, the address that it
+-- Ghost state, which no word shows: by region, the seat that has it to itself, from when it takes it out of the free word until it shares it
+-- or gives it back; the snapshot; and by seat, the address that it
 -- is about to record, the scan in which it is, whether it copies, and the unit of work that it has claimed.
 pub record Ghost : Type 0 where
   pub owner : ℕ → Option ℕ
@@ -228,25 +234,48 @@ pub record IsFreeWord (c : Config) (free : ℕ) (top : ℕ → ℕ) (owner : ℕ
   pub empty : (r : ℕ) → r < c.regions → IsIn free r → top r ≡ 0
   pub nobodys : (r : ℕ) → r < c.regions → IsIn free r → owner r ≡ None
 
--- the current region of a seat is its own, so that no two seats have one
-pub record AreCurrent (c : Config) (current : ℕ → ℕ) (owner : ℕ → Option ℕ) : Type 0 where
-  pub within : (seat r : ℕ) → current seat ≡ r + 1 → r < c.regions
-  pub own : (seat r : ℕ) → current seat ≡ r + 1 → owner r ≡ Some seat
+-- room is a seat's; what is in hand or carved is room for an object at least, and free words of a buffer are a word at least
+pub record AreRooms (c : Config) (block : Plot) : Type 0 where
+  pub seated : (a seat : ℕ) (x : Block) → block a ≡ Some x → room_of x ≡ Some seat → seat < seat_count c.mutators c.helpers
+  pub hands : (a seat words : ℕ) → block a ≡ Some (hand seat words) → 3 ≤ words
+  pub spares : (a seat words : ℕ) → block a ≡ Some (spare seat words) → 1 ≤ words
+  pub carveds : (a seat words : ℕ) → block a ≡ Some (carved seat words) → 3 ≤ words
 
--- room in hand is a seat's, in its current region, and ends at the top
-pub record IsRoom (c : Config) (top current : ℕ → ℕ) (address seat words : ℕ) : Type 0 where
-  pub seated : seat < seat_count c.mutators c.helpers
-  pub some : 3 ≤ words
+-- a seat has words that it has carved and that are not its buffer yet
+abbrev pub HasCarved : Plot → ℕ → Type 0
+HasCarved block seat = (a : ℕ) × (words : ℕ) × (block a ≡ Some (carved seat words))
+
+-- The word of a seat's buffer, which is not 0: its free words lie in the part in use of one region, and are a piece of the plot; or the seat
+-- has carved words for another buffer, and only fills what is left of this one.
+pub record IsBuffer (c : Config) (top : ℕ → ℕ) (block : Plot) (seat word : ℕ) : Type 0 where
   pub region : ℕ
-  pub is_current : current seat ≡ region + 1
-  pub from_base : base_of c region ≤ address
-  pub at_top : address + words ≡ base_of c region + top region
+  pub within : region < c.regions
+  pub from_base : base_of c region ≤ next_in word
+  pub some : base_of c region < end_in word
+  pub ordered : next_in word ≤ end_in word
+  pub to_top : end_in word ≤ base_of c region + top region
+  pub free : next_in word < end_in word → (block (next_in word) ≡ Some (spare seat (end_in word - next_in word))) ⊎ HasCarved block seat
 
--- all room is in hand, and it is so: no seat has free words in a buffer, and none has carved words
-pub record AreRooms (c : Config) (top current : ℕ → ℕ) (block : Plot) : Type 0 where
-  pub hands : (a seat words : ℕ) → block a ≡ Some (hand seat words) → IsRoom c top current a seat words
-  pub spares : (a seat words : ℕ) → block a ≡ Some (spare seat words) → ⊥
-  pub carveds : (a seat words : ℕ) → block a ≡ Some (carved seat words) → ⊥
+-- each seat has no buffer or one, and the free words of buffers are those that their words tell
+pub record AreBuffers (c : Config) (top current : ℕ → ℕ) (block : Plot) : Type 0 where
+  pub each : (seat : ℕ) → current seat ≢ 0 → IsBuffer c top block seat (current seat)
+  pub spares : (a seat words : ℕ) → block a ≡ Some (spare seat words) → (next_in (current seat) ≡ a) × (end_in (current seat) ≡ a + words)
+
+-- A region may be carved: it is one of the heap, not free, no seat's own, and not in the collection set. It stays so until a pause, also
+-- when another region is shared.
+pub record IsOpen (c : Config) (free cset : ℕ) (owner : ℕ → Option ℕ) (r : ℕ) : Type 0 where
+  pub within : r < c.regions
+  pub in_use : IsIn free r → ⊥
+  pub nobodys : owner r ≡ None
+  pub outside : IsIn cset r → ⊥
+
+-- the region that is shared, if one is, may be carved
+abbrev pub ShareIsOpen : Config → (share free cset : ℕ) → (ℕ → Option ℕ) → Type 0
+ShareIsOpen c share free cset owner = (r : ℕ) → share ≡ r + 1 → IsOpen c free cset owner r
+
+-- No buffer lies in the collection set, not even one without free words: it lies where its last word does.
+abbrev pub AreBuffersOutside : Config → (cset : ℕ) → (current : ℕ → ℕ) → Type 0
+AreBuffersOutside c cset current = (seat : ℕ) → current seat ≢ 0 → IsCollected c cset (end_in (current seat) - 1) → ⊥
 
 -- no piece is room
 abbrev pub HasNoRoom : Plot → Type 0
@@ -282,11 +311,14 @@ pub record HasContents (c : Config) (heap : ℕ → ℕ) (block : Plot) (object 
   pub objects : AreObjects heap block object
   pub given : (name : Name) (o : Object) → object name ≡ Some o → IsGiven c count name
 
--- Ownership: a region is free, or is one seat's, or was used up, and room in hand lies in the seat's own.
-pub record AreOwned (c : Config) (top : ℕ → ℕ) (free : ℕ) (current : ℕ → ℕ) (block : Plot) (owner : ℕ → Option ℕ) : Type 0 where
+-- Ownership: a region is free, or one seat's that is about to share it, or may be carved; room is a seat's, and its free words are those of
+-- its buffer, which lies outside the collection set.
+pub record AreOwned (c : Config) (top : ℕ → ℕ) (share free cset : ℕ) (current : ℕ → ℕ) (block : Plot) (owner : ℕ → Option ℕ) : Type 0 where
   pub free_word : IsFreeWord c free top owner
-  pub currents : AreCurrent c current owner
-  pub rooms : AreRooms c top current block
+  pub shared_one : ShareIsOpen c share free cset owner
+  pub rooms : AreRooms c block
+  pub buffers : AreBuffers c top current block
+  pub outside : AreBuffersOutside c cset current
 
 -- The phase is 0 to 3. Only in phases 2 and 3, while objects are evacuated and references to them updated, is a region in the collection
 -- set, and only in phase 2 is a copier counted.
@@ -302,16 +334,17 @@ pub record IsBlank (heap : ℕ → ℕ) (a words : ℕ) : Type 0 where
   pub long : words ≡ 3 + refs + nums
   pub few_refs : refs ≤ 16
   pub few_nums : nums ≤ 16
+  pub header : heap a ≡ plain_header
   pub shape : heap (a + 1) ≡ shape_word refs nums
   pub nulls : (i : ℕ) → i < refs → heap (a + 3 + i) ≡ 0
 
 -- Pieces that nobody writes to: an object that was promised is a new one, and a dead object begins with the header of an object that has not
--- moved, and a shape word that says how many words it has. No words only fill.
+-- moved, and a shape word that says how many words it has. Words that only fill begin with a header that says how many they are.
 pub record AreUnwritten (heap : ℕ → ℕ) (block : Plot) : Type 0 where
   pub blanks : (a seat words : ℕ) → block a ≡ Some (promised seat words) → IsBlank heap a words
   pub headers : (a words : ℕ) → block a ≡ Some (dead words) → heap a ≡ plain_header
   pub lengths : (a words : ℕ) → block a ≡ Some (dead words) → object_words (heap (a + 1)) ≡ words
-  pub fillers : (a words : ℕ) → block a ≡ Some (filler words) → ⊥
+  pub fillers : (a words : ℕ) → block a ≡ Some (filler words) → heap a ≡ filler_header words
 
 -- Marking from a snapshot at the beginning: what is marked is an object: one of the graph, or one that is promised.
 pub data IsMarkable (block : Plot) (a : ℕ) : Type 0 where
@@ -511,10 +544,10 @@ pub record IsUpdating (c : Config) (cset claim : ℕ) (top limit heap : ℕ → 
 -- The facts that all machines share, in groups, each over the words that it speaks of: a step that changes none of these words
 -- hands the group on as it is.
 pub record SharedFacts (c : Config) (top heap : ℕ → ℕ) (block : Plot) (ghost : Ghost) (object : Name → Option Object) (count : ℕ → ℕ) (phase cset evac free : ℕ) (current : ℕ → ℕ)
-    (grey black entries : ℕ → ℕ) (buffer : ℕ → ℕ → ℕ) (tams : ℕ → ℕ) (claim : ℕ) (limit : ℕ → ℕ) : Type 0 where
+    (grey black entries : ℕ → ℕ) (buffer : ℕ → ℕ → ℕ) (tams : ℕ → ℕ) (claim : ℕ) (limit : ℕ → ℕ) (share : ℕ) : Type 0 where
   pub parsable : IsParsable c top block
   pub contents : HasContents c heap block object count
-  pub owned : AreOwned c top free current block ghost.owner
+  pub owned : AreOwned c top share free cset current block ghost.owner
   pub phased : IsPhased phase cset evac
   pub unwritten : AreUnwritten heap block
   pub marked : KeepsSnapshot c phase grey black entries buffer top tams heap block ghost.snapshot ghost.recording ghost.scanning
@@ -524,7 +557,11 @@ pub record SharedFacts (c : Config) (top heap : ℕ → ℕ) (block : Plot) (gho
 abbrev pub Shared : Config → World → Type 0
 Shared c w = SharedFacts c (λ r. w.memory (Top r)) (λ a. w.memory (Heap a)) w.block w.ghost w.graph.object w.graph.count (w.memory Phase) (w.memory Cset) (w.memory Evac)
     (w.memory Free) (λ s. w.memory (Current s)) (λ n. w.memory (Grey n)) (λ n. w.memory (Black n)) (λ t. w.memory (Count t)) (λ t k. w.memory (Buffer t k)) (λ r. w.memory (Tams r))
-    (w.memory Claim) (λ r. w.memory (Limit r))
+    (w.memory Claim) (λ r. w.memory (Limit r)) (w.memory Share)
+
+-- a region of a world may be carved
+abbrev pub IsOpenIn : Config → World → ℕ → Type 0
+IsOpenIn c w = IsOpen c (w.memory Free) (w.memory Cset) w.ghost.owner
 
 -- the object's current copy is at an address of a world, and may be used
 abbrev pub TargetIn : Config → World → (address refs nums : ℕ) → Name → Type 0

@@ -1,5 +1,5 @@
 -- A helper can make its next access wherever it goes on.
-use Rattle.std.proofs.Common.{◌≡◌, ℕ, ◌+◌, ◌<◌, Bool, true, false, refl, sym, subst}
+use Rattle.std.proofs.Common.{◌≡◌, ℕ, ◌+◌, ◌<◌, Bool, true, false, refl, sym, subst, arith}
 use Rattle.std.specs.Prelude.{◌==◌, if◌then◌else◌}
 use Rattle.std.proofs.lemmas.Bool.{and_parts, and_from, ltb-true}
 use Rattle.heap_words.specs.declared.config.Config.{Config}
@@ -73,7 +73,7 @@ spot_inside c seat (Entering enter.Look) below fits = placed_inside c (touch_at 
 spot_inside c seat (Entering enter.Lower) below fits = placed_inside c (touch_at c seat (Entering enter.Lower)) below
 spot_inside c seat (Entering enter.Await) below fits = placed_inside c (touch_at c seat (Entering enter.Await)) tt
 spot_inside c seat (Entering enter.Inside) below fits = placed_inside c (touch_at c seat (Entering enter.Inside)) tt
-spot_inside c seat (Working at) below fits = inside.accesses_inside c seat at (and_parts _ _ fits).0
+spot_inside c seat (Working at) below fits = inside.accesses_inside c seat at (omega (arith, below)) (and_parts _ _ fits).0
 spot_inside c seat Leave below fits = placed_inside c (touch_at c seat Leave) below
 spot_inside c seat spot below fits = placed_inside c (touch_at c seat spot) tt
 

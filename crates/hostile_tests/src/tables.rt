@@ -6,7 +6,7 @@ ghost use Rattle.schedule_walk.specs.Agendas.{IsWalkOf};
 
 use crate::scene::{Case, Scene};
 use crate::shared::Shared;
-use heap_words::{Item, Place, name_word};
+use heap_words::{Item, Place, name_word, next_of};
 use shen_core::Stepped;
 use shen_graph::{Command, Name, Reply};
 use std::alloc::Global;
@@ -136,24 +136,25 @@ const RACE: Case = Case {
     ],
 };
 
-// Where the first thread is stopped, and the object's header and the top of that thread's region behind the schedule. Up to its
-// exchange the second thread is faster, copies the object to address 256, in region 3, and the first takes back its room above the 35
-// words of region 2; from then on the first has copied it to 227, behind these words. A header names an address by four times it and 3.
+// Where the first thread is stopped, and, behind the schedule, the object's header and the first free word of that thread's buffer, which
+// is region 2. Up to its exchange the second thread is faster, copies the object to address 256, in region 3, and the first takes back its
+// room above the 35 words of its buffer; from then on the first has copied it to 227, behind these words. A header names an address by
+// four times it and 3.
 const STOPS_OF_RACE: [(Place, u64, u64); 14] = [
-    (Place::HL, 1027, 35),
-    (Place::XL, 1027, 35),
-    (Place::XC, 1027, 35),
-    (Place::SL, 1027, 35),
-    (Place::TC, 1027, 35),
-    (Place::TS, 1027, 35),
-    (Place::CL, 1027, 35),
-    (Place::CP, 1027, 35),
-    (Place::HI, 1027, 35),
-    (Place::HX, 1027, 35),
-    (Place::XS, 911, 39),
-    (Place::NM, 911, 39),
-    (Place::RS, 911, 39),
-    (Place::LV, 911, 39),
+    (Place::HL, 1027, 227),
+    (Place::XL, 1027, 227),
+    (Place::XC, 1027, 227),
+    (Place::SL, 1027, 227),
+    (Place::TC, 1027, 227),
+    (Place::TS, 1027, 227),
+    (Place::CL, 1027, 227),
+    (Place::CP, 1027, 227),
+    (Place::HI, 1027, 227),
+    (Place::HX, 1027, 227),
+    (Place::XS, 911, 231),
+    (Place::NM, 911, 231),
+    (Place::RS, 911, 231),
+    (Place::LV, 911, 231),
 ];
 
 // There is no room for the first thread's copy, and the second thread, which copies, has the last free region.
@@ -276,11 +277,11 @@ fn heap_word(scene: &Scene, address: usize) -> Option<u64> {
     scene.word(scene.config().heap_start().checked_add(offset)?)
 }
 
-// The top of a region, if there is one.
-fn top_of(scene: &Scene, region: usize) -> Option<u64> {
+// The first free word of a seat's buffer, if there is such a seat.
+fn next_of_seat(scene: &Scene, seat: usize) -> Option<u64> {
     let config = scene.config();
-    if region < config.regions() {
-        scene.word(config.top_at(region))
+    if seat < config.seats() {
+        scene.word(config.cur_at(seat)).map(next_of)
     } else {
         None
     }
@@ -318,11 +319,11 @@ fn ends(rt: &impl Abort, alloc: Global, case: &Case, scene: &mut Scene) -> Resul
 
 #[test]
 fn a_thread_that_copies_is_stopped_anywhere(rt: HostRuntime) -> Result<(), Fail> {
-    for (place, header, top) in STOPS_OF_RACE {
+    for (place, header, next) in STOPS_OF_RACE {
         let mut scene = stopped(&rt, rt.alloc(), &RACE, place)?;
         scene.goes_to(5)?;
-        let seen = (heap_word(&scene, 128), top_of(&scene, 2));
-        assert!(rt; seen == (Some(header), Some(top)), "{place:?}");
+        let seen = (heap_word(&scene, 128), next_of_seat(&scene, 0));
+        assert!(rt; seen == (Some(header), Some(next)), "{place:?}");
         ends(&rt, rt.alloc(), &RACE, &mut scene)?;
     }
     Ok(())

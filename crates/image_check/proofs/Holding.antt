@@ -17,7 +17,7 @@ use Rattle.shen_graph.specs.Graph.{Graph, Object, Reference, same_name}
 use Rattle.shen_graph.proofs.PlainLemmas.{same_name-true, same_name-itself}
 use Rattle.heap_graph.specs.Walk.{has}
 use Rattle.heap_world.specs.Roots.{is_root_of}
-use Rattle.heap_world.specs.World.{Block, thing, words_of, Plot, name_at, Points, IsThing, IsGiven, IsPlotted, IsFilled, AreObjects}
+use Rattle.heap_world.specs.World.{Block, thing, spare, words_of, Plot, name_at, Points, IsThing, IsGiven, IsPlotted, IsFilled, AreObjects}
 use Rattle.full_words.specs.Promised.{Promises}
 use Rattle.full_words.specs.Image.{RootsStand, ImageStands}
 use Rattle.full_words.specs.Serving.{asked_name, IsAsking}
@@ -383,7 +383,7 @@ module _ (c : Config) (m : Word → ℕ) (objects : List ℕ) (laid : IsLaidOut 
       }
 
   -- the words hold the graph
-  holds_by : ((s r : ℕ) → m (Current s) ≡ r + 1 → ⊥) → HoldsBy c m block (λ r. None) no_promise graph
+  holds_by : ((s : ℕ) → m (Current s) ≡ 0) → HoldsBy c m block (λ r. None) no_promise graph
   holds_by nobody = record {
     objects = standing_holds c m block graph no_promise stands;
     rooted = rooted;
@@ -393,7 +393,8 @@ module _ (c : Config) (m : Word → ℕ) (objects : List ℕ) (laid : IsLaidOut 
     filled = filled;
     pieces = named_things block stands.things;
     free_word = stands.free_word;
-    currents = record { within = λ s r is. absurd (nobody s r is); own = λ s r is. absurd (nobody s r is) };
+    shared_one = laid.shared_one;
+    buffers = record { each = λ s some. absurd (some (nobody s)); spares = λ a s words is. let differ = (piece_at a (spare s words) is).1 in absurd cc };
     asking = λ t from inside waits. is_asking t inside waits;
     next = record {
       asked = next_asked;
@@ -410,8 +411,8 @@ module _ (c : Config) (m : Word → ℕ) (objects : List ℕ) (laid : IsLaidOut 
   pub laid_holds : ((s : ℕ) → seat_count c.mutators c.helpers ≤ s → m (Current s) ≡ 0) → HoldsSome c m
   laid_holds beyond = ∣ (graph, (block, (λ r. None), no_promise, holds_by nobody)) ∣₁
     where
-      nobody : (s r : ℕ) → m (Current s) ≡ r + 1 → ⊥
-      nobody s r is = ⊎_elim
-          (λ (seat : s < seat_count c.mutators c.helpers). omega (arith, is, laid.currents s seat))
-          (λ (past : seat_count c.mutators c.helpers ≤ s). omega (arith, is, beyond s past))
+      nobody : (s : ℕ) → m (Current s) ≡ 0
+      nobody s = ⊎_elim
+          (λ (seat : s < seat_count c.mutators c.helpers). laid.unbuffered s seat)
+          (λ (past : seat_count c.mutators c.helpers ≤ s). beyond s past)
           (cases_lt s (seat_count c.mutators c.helpers))

@@ -1,12 +1,13 @@
 -- When the words of an image are laid out as objects that begin at given addresses, with roots and requests.
-use Rattle.std.specs.Prelude.{ℕ, true, ◌≡◌, ◌≢◌, ◌+◌, ◌*◌, ◌<◌, ◌≤◌, ◌^◌, List, length, slice_index}
+use Rattle.std.specs.Prelude.{ℕ, true, ◌≡◌, ◌≢◌, ◌+◌, ◌*◌, ◌<◌, ◌≤◌, ◌^◌, None, List, length, slice_index}
 use Rattle.heap_words.specs.declared.config.Config.{Config}
 use Rattle.heap_words.specs.Ranges.{seat_count}
-use Rattle.heap_words.specs.Words.{Word, Free, Top, Current, Root, Wait, Answer, Heap}
+use Rattle.heap_words.specs.Words.{Word, Cset, Free, Top, Current, Root, Wait, Answer, Heap, Share}
 use Rattle.heap_words.specs.Encoding.{plain_header, refs_in, nums_in, object_words, shape_word, thread_in, count_in, request_count_in, request_shape_in}
 use Rattle.regions.specs.Place.{base_of, region_with}
 use Rattle.regions.specs.Sets.{IsIn}
 use Rattle.heap_graph.specs.Walk.{has}
+use Rattle.heap_world.specs.World.{ShareIsOpen}
 
 -- how many words the object at an address has
 abbrev pub laid_words : (Word → ℕ) → ℕ → ℕ
@@ -68,11 +69,12 @@ pub record IsMutatorRight (m : Word → ℕ) (objects : List ℕ) (t : ℕ) : Ty
   pub answer : m (Answer t) ≤ 1
   pub asked : m (Wait t) ≢ 0 → IsAskedRight m t
 
--- All of it is so. No seat has a current region.
+-- All of it is so. No seat has a buffer, and the region that is shared, if one is, may be carved.
 pub record IsLaidOut (c : Config) (m : Word → ℕ) (objects : List ℕ) : Type 0 where
   pub regions : (r : ℕ) → r < c.regions → IsRegionRight c m objects r
   pub free : m Free < 2 ^ c.regions
-  pub currents : (s : ℕ) → s < seat_count c.mutators c.helpers → m (Current s) ≡ 0
+  pub unbuffered : (s : ℕ) → s < seat_count c.mutators c.helpers → m (Current s) ≡ 0
+  pub shared_one : ShareIsOpen c (m Share) (m Free) (m Cset) (λ r. None)
   pub order : AreInOrder m objects
   pub lies : (k : ℕ) → k < length objects → LiesRight c m objects (slice_index objects k)
   pub reads : (k : ℕ) → k < length objects → ReadsRight c m objects (slice_index objects k)

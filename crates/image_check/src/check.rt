@@ -5,14 +5,16 @@ ghost use Rattle.image_graph.specs.State.{config_of, memory_of};
 ghost use Rattle.image_graph.specs.Holds.{HoldsSome};
 
 use crate::objects::{are_in_order, lie_right, read_right};
-use crate::rest::{are_mutators_right, are_regions_right, is_free_word_right, is_nobodys};
+use crate::rest::{
+    are_mutators_right, are_regions_right, has_no_buffers, is_free_word_right, is_share_right,
+};
 use image_graph::Image;
 
 /// Whether the words of an image are laid out as a graph: `objects` are the addresses of all its objects, in their order,
 /// in which their names go up, too. Objects fill each region from its base to its top, have plain headers and fields that
 /// are null or name objects; roots are null or name objects; who waits asks for an object that can be and has the next
-/// name of its thread; nothing was made for anybody, and no seat has a region. The image then holds a graph. It may hold
-/// one where this is false.
+/// name of its thread; nothing was made for anybody, no seat has a buffer, and a region that is shared is in use and not
+/// collected. The image then holds a graph. It may hold one where this is false.
 pub fn stands(image: &Image, objects: &[u64]) -> bool
     ensures { IsTrue result → HoldsSome (config_of image.now) (memory_of image.now) }
 {
@@ -22,7 +24,10 @@ pub fn stands(image: &Image, objects: &[u64]) -> bool
     if !is_free_word_right(image) {
         return false;
     }
-    if !is_nobodys(image) {
+    if !has_no_buffers(image) {
+        return false;
+    }
+    if !is_share_right(image) {
         return false;
     }
     if !lie_right(image, objects) {

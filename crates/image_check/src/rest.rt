@@ -1,8 +1,9 @@
 //! Checks of regions, seats and mutators.
 
-ghost use Rattle.std.specs.Prelude.{ℕ, ◌≡◌, ◌<◌, ◌^◌, IsTrue};
+ghost use Rattle.std.specs.Prelude.{ℕ, ◌≡◌, ◌<◌, ◌^◌, None, IsTrue};
 ghost use Rattle.heap_words.specs.Ranges.{seat_count};
-ghost use Rattle.heap_words.specs.Words.{Free, Current, Root};
+ghost use Rattle.heap_words.specs.Words.{Cset, Free, Current, Root, Share};
+ghost use Rattle.heap_world.specs.World.{ShareIsOpen};
 ghost use Rattle.image_graph.specs.State.{config_of, memory_of};
 ghost use Rattle.image_check.specs.Laid.{IsReference, IsRegionRight, IsMutatorRight};
 
@@ -48,8 +49,8 @@ pub(crate) fn is_free_word_right(image: &Image) -> bool
     config.regions() >= 64 || free < 1 << config.regions()
 }
 
-/// Whether no seat has a current region.
-pub(crate) fn is_nobodys(image: &Image) -> bool
+/// Whether no seat has a buffer.
+pub(crate) fn has_no_buffers(image: &Image) -> bool
     ensures { IsTrue result → (s : ℕ) → s < seat_count (config_of image.now).mutators (config_of image.now).helpers → memory_of image.now (Current s) ≡ 0 }
 {
     let config = image.config();
@@ -59,6 +60,22 @@ pub(crate) fn is_nobodys(image: &Image) -> bool
         }
     }
     true
+}
+
+/// Whether no region is shared, or one that is in use, and not in the collection set.
+pub(crate) fn is_share_right(image: &Image) -> bool
+    ensures { IsTrue result → ShareIsOpen (config_of image.now) (memory_of image.now Share) (memory_of image.now Free) (memory_of image.now Cset) (λ r. None) }
+{
+    let config = image.config();
+    let share = image.word(config.share_at());
+    if share == 0 {
+        return true;
+    }
+    if share > config.regions() as u64 {
+        return false;
+    }
+    let region = share as usize - 1;
+    !is_in(image.word(config.free_at()), region) && !is_in(image.word(config.cset_at()), region)
 }
 
 // Whether the roots of a mutator are null or name objects.

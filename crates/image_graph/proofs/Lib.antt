@@ -6,5 +6,8 @@ pub mod Packed
 pub mod Shown
 pub mod SameWords
 pub mod Read
+pub mod BufferTurns
 pub mod ObjectMade
 pub mod ServedHolds
+pub mod Carried
+pub mod Loosening

@@ -1,24 +1,26 @@
 -- An object is made for a thread that waits: words that held a graph hold it with the object as a further piece, which is promised.
 use Rattle.std.proofs.Common.{◌≡◌, ◌≢◌, ℕ, ◌+◌, ◌<◌, ◌≤◌, ◌⊎◌, ◌==◌, cond, true, inl, inr, slice_get, get_or, Option, Some, None, ⊎_elim, refl, sym, ap, ◌∙◌, subst, arith}
-use Rattle.std.proofs.lemmas.Bool.{cond-true, cond-false, cases_eq, cases_lt, eq-eqb, ne_eqb, true≢false}
+use Rattle.std.proofs.lemmas.Bool.{cond-true, cond-false, cases_eq, eq-eqb, ne_eqb, true≢false}
 use Rattle.std.proofs.lemmas.Option.{none-some, same_Some, slice_get-get_or}
 use Rattle.heap_words.specs.declared.config.Config.{Config}
-use Rattle.heap_words.specs.Words.{Word, Cset, Free, Top, Current, Root, Wait, Answer, Heap}
+use Rattle.heap_words.specs.Words.{Word, Cset, Free, Top, Current, Root, Wait, Answer, Heap, Share}
 use Rattle.heap_words.specs.Encoding.{plain_header, is_forwarded, forwardee_in, refs_in, nums_in, object_words, name_code, request_count_in}
 use Rattle.regions.specs.Place.{base_of, region_with}
 use Rattle.regions.specs.Sets.{IsIn, IsOutside}
+use Rattle.regions.specs.Walk.{is_filler}
 use Rattle.shen_graph.specs.declared.name.Name.{Name}
 use Rattle.shen_graph.specs.Graph.{Graph, Object, Reference, named, fresh}
 use Rattle.shen_graph.specs.Reach.{IsReachable}
 use Rattle.shen_graph.specs.Reach as reach
 use Rattle.heap_graph.specs.Walk.{has}
-use Rattle.heap_world.specs.World.{Block, thing, words_of, Plot, name_at, IsPlotted, IsFilled, IsFreeWord}
+use Rattle.heap_world.specs.World.{Block, thing, filler, room_of, words_of, Plot, name_at, IsPlotted, IsFilled, IsFreeWord, ShareIsOpen, AreBuffers}
 use Rattle.heap_world.proofs.Pointing.{named_if_not_0}
 use Rattle.heap_world.proofs.Joined as joined
 use Rattle.full_words.specs.Held.{IsLedTo, from_root, from_field, IsAmong, IsCopy, HoldsGraph}
 use Rattle.full_words.specs.Full.{now_in, roots_below, answers_below, root_words, made_in}
 use Rattle.full_words.specs.Promised.{Promises, with_promised, AreFresh}
 use Rattle.full_words.specs.Serving.{asked_shape, asked_name, asked_piece, made_block, made_promise, IsAsking, AreAsking}
+use Rattle.full_words.proofs.Buffers.{buffers_stay, share_stays}
 use Rattle.full_words.proofs.Promised.{old_object}
 use Rattle.full_words.proofs.Reached as reached
 use Rattle.full_words.proofs.Reached.{refs_read, reached_is_held}
@@ -92,10 +94,13 @@ module _ (c : Config) (m : Word → ℕ) (block : Plot) (owner : ℕ → Option 
   old_word = made.old_word c m block g p can t r inside asks within room
 
   -- the header of a piece stays, so that its current copy is where it was
-  header_stays : (a refs nums : ℕ) (name : Name) → block a ≡ Some (thing name refs nums) → after a ≡ heap a
-  header_stays a refs nums name is =
+  first_word : (a : ℕ) (b : Block) → block a ≡ Some b → after a ≡ heap a
+  first_word a b is =
       let first : a + 0 ≡ a = omega arith in
-      sym (ap after first) ∙ old_word a 0 (thing name refs nums) is (omega arith) ∙ ap heap first
+      sym (ap after first) ∙ old_word a 0 b is (holds.pieces.some a b is) ∙ ap heap first
+
+  header_stays : (a refs nums : ℕ) (name : Name) → block a ≡ Some (thing name refs nums) → after a ≡ heap a
+  header_stays a refs nums name is = first_word a (thing name refs nums) is
 
   now_stays : (a refs nums : ℕ) (name : Name) → block a ≡ Some (thing name refs nums) → now_in n a ≡ now_in m a
   now_stays a refs nums name is = ap (λ header. cond (is_forwarded header) (forwardee_in header) a) (header_stays a refs nums name is)
@@ -127,10 +132,6 @@ module _ (c : Config) (m : Word → ℕ) (block : Plot) (owner : ℕ → Option 
   same_cset : n Cset ≡ m Cset
   unfolding made_in
   same_cset = refl
-
-  same_current : (s : ℕ) → n (Current s) ≡ m (Current s)
-  unfolding made_in
-  same_current s = refl
 
   own_words : (n (Wait t) ≡ 0) × (n (Answer t) ≡ address)
   unfolding made_in
@@ -316,6 +317,35 @@ module _ (c : Config) (m : Word → ℕ) (block : Plot) (owner : ℕ → Option 
         (promise_was u name is);
   }
 
+  -- no top falls
+  rises : (q : ℕ) → m (Top q) ≤ n (Top q)
+  unfolding made_in
+  rises q = ⊎_elim
+      (λ (same : r ≡ q).
+      let now : n (Top q) ≡ m (Top r) + object_words (asked_shape m t) = cond-true (r == q) (m (Top r) + object_words (asked_shape m t)) (m (Top q)) (eq-eqb r q same) in
+      let was : m (Top q) ≡ m (Top r) = ap (λ k. m (Top k)) (sym same) in
+      omega (arith, now, was))
+      (λ (other : r ≢ q). (let now : n (Top q) ≡ m (Top q) = cond-false (r == q) (m (Top r) + object_words (asked_shape m t)) (m (Top q)) (ne_eqb r q other) in omega (arith, now)))
+      (cases_eq r q)
+
+  -- the free words of buffers are as their words tell
+  buffers_again : AreBuffers c (λ q. n (Top q)) (λ s. n (Current s)) plot
+  unfolding made_in
+  buffers_again = buffers_stay c (λ q. m (Top q)) (λ q. n (Top q)) (λ s. m (Current s)) block plot
+      (record {
+        stays = λ a seat b of is. stays a b is;
+        came = λ a seat b of is. ⊎_elim
+            (λ (new : (a ≡ address) × (piece ≡ b)). absurd (none-some seat (ap room_of new.1 ∙ of)))
+            (λ (old : (a ≢ address) × (block a ≡ Some b)). old.1)
+            (cases a b is);
+      })
+      holds.buffers (λ seat some. rises (holds.buffers.each seat some).region)
+
+  -- and the shared region may be carved
+  share_again : ShareIsOpen c (n Share) (n Free) (n Cset) owner
+  unfolding made_in
+  share_again = share_stays c (m Share) (m Free) (m Cset) r owner within holds.shared_one
+
   pub made_holds : HoldsBy c n plot owner more g
   made_holds = record {
     objects = objects_again;
@@ -324,10 +354,8 @@ module _ (c : Config) (m : Word → ℕ) (block : Plot) (owner : ℕ → Option 
     filled = filled_again;
     pieces = made.pieces_again c m block g p can t r inside asks within room;
     free_word = free_again;
-    currents = record {
-      within = λ seat q is. holds.currents.within seat q (sym (same_current seat) ∙ is);
-      own = λ seat q is. holds.currents.own seat q (sym (same_current seat) ∙ is);
-    };
+    shared_one = share_again;
+    buffers = buffers_again;
     asking = asking_again;
     next = record {
       asked = λ u below some. ap request_count_in (other_words u (another_waits u some)).0 ∙ holds.next.asked u below (waits_before u some);
@@ -341,10 +369,19 @@ module _ (c : Config) (m : Word → ℕ) (block : Plot) (owner : ℕ → Option 
   }
 
   pub made_sized : AreSized m block → AreSized n plot
-  made_sized sized a b is = ⊎_elim
-      (λ (new : (a ≡ address) × (piece ≡ b)). ap (λ k. object_words (after (k + 1))) new.0 ∙ ap object_words new_shape ∙ ap words_of new.1)
-      (λ (old : (a ≢ address) × (block a ≡ Some b)). ⊎_elim
-      (λ (long : 1 < words_of b). ap object_words (old_word a 1 b old.1 long) ∙ sized a b old.1)
-      (λ (short : words_of b ≤ 1). absurd (let size = sized a b old.1 in omega (arith, size, short)))
-      (cases_lt 1 (words_of b)))
-      (cases a b is)
+  made_sized sized = record {
+    objects = λ a b is fixed. ⊎_elim
+        (λ (new : (a ≡ address) × (piece ≡ b)). ap (λ k. object_words (after (k + 1))) new.0 ∙ ap object_words new_shape ∙ ap words_of new.1)
+        (λ (old : (a ≢ address) × (block a ≡ Some b)).
+        let size = sized.objects a b old.1 fixed in
+        ap object_words (old_word a 1 b old.1 (omega (arith, size))) ∙ size)
+        (cases a b is);
+    headers = λ a b is fixed. ⊎_elim
+        (λ (new : (a ≡ address) × (piece ≡ b)). ap (λ k. is_filler (after k)) new.0 ∙ ap is_filler new_header)
+        (λ (old : (a ≢ address) × (block a ≡ Some b)). ap is_filler (first_word a b old.1) ∙ sized.headers a b old.1 fixed)
+        (cases a b is);
+    fillers = λ a words is. ⊎_elim
+        (λ (new : (a ≡ address) × (piece ≡ filler words)). absurd (let differ = new.1 in cc))
+        (λ (old : (a ≢ address) × (block a ≡ Some (filler words))). first_word a (filler words) old.1 ∙ sized.fillers a words old.1)
+        (cases a (filler words) is);
+  }

@@ -1,9 +1,9 @@
 -- A table after its heap was packed and its tops were written.
-use Rattle.std.proofs.Common.{◌≡◌, ℕ, ◌+◌, ◌<◌, ◌≤◌, ◌⊎◌, ◌++◌, Bool, zero, suc, List, [], ◌∷◌, length, take, drop, get_or, slice_index, inl, inr, refl, sym, ap, ◌∙◌, subst, arith, length-append, length-drop}
+use Rattle.std.proofs.Common.{◌≡◌, ℕ, ◌+◌, ◌-◌, ◌<◌, ◌≤◌, ◌⊎◌, ◌++◌, Bool, zero, suc, List, [], ◌∷◌, length, take, drop, get_or, slice_index, inl, inr, refl, sym, ap, ◌∙◌, subst, arith, length-append, length-drop}
 use Rattle.std.specs.List.{between}
 use Rattle.std.proofs.lemmas.List.{get_or-take, get_or-drop, get_or_append_left, length-take-le}
 use Rattle.std.proofs.lemmas.List.Edits.{get_or-between}
-use Rattle.std.proofs.lemmas.Slice.{between_to_end, take-put_mid_below, drop-put_mid, between-put_mid}
+use Rattle.std.proofs.lemmas.Slice.{take-put_mid_below, drop-put_mid, between-put_mid}
 use borrow.Rule.Slice.PartMut.{put_mid, post_of}
 use Rattle.heap_words.specs.declared.config.Config.{Config}
 use Rattle.heap_words.specs.Words.{Top, word_at, table_words, heap_size, heap_start, heap_in}
@@ -19,12 +19,19 @@ drop_front [] ys (suc n) is = absurd (omega (arith, is))
 drop_front (x ∷ xs) ys zero is = absurd (omega (arith, is))
 drop_front (x ∷ xs) ys (suc n) is = drop_front xs ys n (omega (arith, is))
 
--- the heap of a table of the right length
-pub heap_behind : (c : Config) (words : List ℕ) → length words ≡ table_words c → heap_in c words ≡ drop (heap_start c) words
-heap_behind c words whole = between_to_end words (heap_start c) (table_words c) (omega (arith, whole))
+-- a front, where something stands behind it
+take_front : (xs ys : List ℕ) (n : ℕ) → length xs ≡ n → take n (xs ++ ys) ≡ xs
+take_front [] ys zero is = refl
+take_front [] ys (suc n) is = absurd (omega (arith, is))
+take_front (x ∷ xs) ys zero is = absurd (omega (arith, is))
+take_front (x ∷ xs) ys (suc n) is = ap (λ k. x ∷ k) (take_front xs ys n (omega (arith, is)))
 
-module _ (c : Config) (marks : List Bool) (before low heap tops after_heap places : List ℕ) (whole : length before ≡ table_words c)
-    (low_is : low ≡ take (heap_start c) before) (heap_is : heap ≡ drop (heap_start c) before)
+-- the heap of a table: so many words behind its start
+pub heap_part : (c : Config) (words : List ℕ) → heap_in c words ≡ take (heap_size c) (drop (heap_start c) words)
+heap_part c words = let long : heap_start c + heap_size c - heap_start c ≡ heap_size c = omega arith in ap (λ k. take k (drop (heap_start c) words)) long
+
+module _ (c : Config) (marks : List Bool) (before low heap behind tops after_heap places : List ℕ) (whole : length before ≡ table_words c)
+    (low_is : low ≡ take (heap_start c) before) (heap_is : heap ≡ take (heap_size c) (drop (heap_start c) before)) (behind_is : behind ≡ drop (heap_size c) (drop (heap_start c) before))
     (few : length tops ≡ c.regions) (all : length after_heap ≡ length heap) where
   abbrev top : ℕ
   top = word_at c (Top 0)
@@ -33,16 +40,21 @@ module _ (c : Config) (marks : List Bool) (before low heap tops after_heap place
   front = put_mid top c.regions low tops
 
   abbrev after : List ℕ
-  after = front ++ after_heap
+  after = front ++ (after_heap ++ behind)
 
   low_long : length low ≡ heap_start c
   low_long = ap length low_is ∙ length-take-le (heap_start c) before (omega (arith, whole))
 
   heap_before : heap ≡ heap_in c before
-  heap_before = heap_is ∙ sym (heap_behind c before whole)
+  heap_before = heap_is ∙ sym (heap_part c before)
 
   heap_long : length heap ≡ heap_size c
-  heap_long = omega (arith, ap length heap_is, length-drop (heap_start c) before, whole)
+  heap_long =
+      let rest : heap_size c ≤ length (drop (heap_start c) before) = omega (arith, length-drop (heap_start c) before, whole) in
+      ap length heap_is ∙ length-take-le (heap_size c) (drop (heap_start c) before) rest
+
+  behind_long : length behind ≡ 1
+  behind_long = omega (arith, ap length behind_is, length-drop (heap_size c) (drop (heap_start c) before), length-drop (heap_start c) before, whole)
 
   front_long : length front ≡ heap_start c
   front_long =
@@ -58,16 +70,18 @@ module _ (c : Config) (marks : List Bool) (before low heap tops after_heap place
       )
 
   pub after_long : length after ≡ table_words c
-  after_long = omega (arith, length-append front after_heap, front_long, all, heap_long)
+  after_long = omega (arith, length-append front (after_heap ++ behind), length-append after_heap behind, front_long, all, heap_long, behind_long)
 
   heap_after : heap_in c after ≡ after_heap
-  heap_after = heap_behind c after after_long ∙ drop_front front after_heap (heap_start c) front_long
+  heap_after =
+      heap_part c after ∙ ap (take (heap_size c)) (drop_front front (after_heap ++ behind) (heap_start c) front_long)
+      ∙ take_front after_heap behind (heap_size c) (omega (arith, all, heap_long))
 
   low_word : (k : ℕ) → k < heap_start c → get_or low k 0 ≡ get_or before k 0
   low_word k below = ap (λ xs. get_or xs k 0) low_is ∙ get_or-take (heap_start c) before k 0 below
 
   front_word : (k : ℕ) → k < heap_start c → get_or after k 0 ≡ get_or front k 0
-  front_word k below = get_or_append_left front after_heap 0 k (omega (arith, below, front_long))
+  front_word k below = get_or_append_left front (after_heap ++ behind) 0 k (omega (arith, below, front_long))
 
   top_word : (r : ℕ) → r < c.regions → get_or after (word_at c (Top r)) 0 ≡ get_or tops r 0
   top_word r inside =
@@ -96,6 +110,19 @@ module _ (c : Config) (marks : List Bool) (before low heap tops after_heap place
       ∙ ap (λ i. get_or low i 0) here
       ∙ low_word k below
 
+  -- what stands behind the heap
+  behind_word : (k : ℕ) → heap_start c + heap_size c ≤ k → get_or after k 0 ≡ get_or before k 0
+  behind_word k past =
+      let start : heap_start c + (heap_size c + (k - heap_start c - heap_size c)) ≡ k = omega (arith, past) in
+      ap (λ i. get_or after i 0) (sym start)
+      ∙ sym (get_or-drop (heap_start c) after (heap_size c + (k - heap_start c - heap_size c)) 0)
+      ∙ ap (λ xs. get_or xs (heap_size c + (k - heap_start c - heap_size c)) 0) (drop_front front (after_heap ++ behind) (heap_start c) front_long)
+      ∙ sym (get_or-drop (heap_size c) (after_heap ++ behind) (k - heap_start c - heap_size c) 0)
+      ∙ ap (λ xs. get_or xs (k - heap_start c - heap_size c) 0) (drop_front after_heap behind (heap_size c) (omega (arith, all, heap_long)) ∙ behind_is)
+      ∙ get_or-drop (heap_size c) (drop (heap_start c) before) (k - heap_start c - heap_size c) 0
+      ∙ get_or-drop (heap_start c) before (heap_size c + (k - heap_start c - heap_size c)) 0
+      ∙ ap (λ i. get_or before i 0) start
+
   -- what packing the slices says, of the table
   pub packed_from : (w : ℕ) → w ≡ c.region_words
       → IsSlidTo (w + length heap) w (kept_of w heap marks) (renewed w (now_of w heap) (kept_of w heap marks)) (word_of w heap) (word_of w after_heap)
@@ -114,5 +141,6 @@ module _ (c : Config) (marks : List Bool) (before low heap tops after_heap place
             (subst (λ h. Slid w h (heap_size c) after_heap) heap_before (subst (λ n. Slid w heap n after_heap) heap_long slid)));
         tops = λ r inside. top_word r inside ∙ tops_now r (omega (arith, inside, few));
         others = other_word;
+        behind = behind_word;
         renews = subst (λ v. Renews v (heap_in c before)) w_is (subst (λ h. Renews w h) heap_before renews);
       }

@@ -3,7 +3,7 @@ use Rattle.std.proofs.Common.{◌≡◌, ℕ, zero, suc, ◌+◌, ◌-◌, ◌*�
 use Rattle.std.specs.Prelude.{slice_range}
 use Rattle.std.proofs.Math.Logic.{∥∥₁_map}
 use Rattle.heap_words.specs.declared.config.Config.{Config}
-use Rattle.heap_words.specs.Words.{image_start, table_words, heap_start, roots_start, heap_in, roots_in}
+use Rattle.heap_words.specs.Words.{image_start, heap_size, heap_start, roots_start, heap_in, roots_in}
 use Rattle.shen_graph.specs.GraphText.{Text}
 use Rattle.heap_graph.specs.Shows.{WordsStand}
 use Rattle.image_graph.specs.Left.{StandsForSome, ShowsTheGraph}
@@ -27,7 +27,7 @@ same_range s a b u w low same =
 
 module _ (c : Config) (u w : List ℕ) (same : drop (image_start c) u ≡ drop (image_start c) w) where
   same_heap : heap_in c u ≡ heap_in c w
-  same_heap = same_range (image_start c) (heap_start c) (table_words c) u w (omega arith) same
+  same_heap = same_range (image_start c) (heap_start c) (heap_start c + heap_size c) u w (omega arith) same
 
   same_roots : roots_in c u ≡ roots_in c w
   same_roots = same_range (image_start c) (roots_start c) (roots_start c + 16 * c.mutators) u w (omega arith) same

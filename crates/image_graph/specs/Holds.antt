@@ -1,13 +1,14 @@
 -- When the words of an image hold a graph.
 use Rattle.std.specs.Prelude.{ℕ, ◌≡◌, ◌≢◌, ◌+◌, ◌<◌, Option, Some, false, true}
 use Rattle.heap_words.specs.declared.config.Config.{Config}
-use Rattle.heap_words.specs.Words.{Word, Cset, Free, Top, Current, Wait, Heap}
-use Rattle.heap_words.specs.Encoding.{is_forwarded, object_words, request_count_in}
+use Rattle.heap_words.specs.Words.{Word, Cset, Free, Top, Current, Wait, Heap, Share}
+use Rattle.heap_words.specs.Encoding.{is_forwarded, object_words, filler_header, request_count_in}
 use Rattle.regions.specs.Place.{region_with}
 use Rattle.regions.specs.Sets.{IsIn, IsOutside}
+use Rattle.regions.specs.Walk.{is_filler}
 use Rattle.shen_graph.specs.declared.name.Name.{Name}
 use Rattle.shen_graph.specs.Graph.{Graph, Object, fresh}
-use Rattle.heap_world.specs.World.{Block, Plot, thing, words_of, IsFilled, IsFreeWord, AreCurrent, IsGiven}
+use Rattle.heap_world.specs.World.{Block, Plot, thing, filler, words_of, is_loose, IsFilled, IsFreeWord, ShareIsOpen, AreBuffers, IsGiven}
 use Rattle.full_words.specs.Held.{IsAmong, HoldsGraph}
 use Rattle.full_words.specs.Plot.{NamedAreThings}
 use Rattle.full_words.specs.Full.{now_in, root_words}
@@ -29,7 +30,8 @@ pub record AreNext (c : Config) (memory : Word → ℕ) (g : Graph) (p : Promise
   pub given : (name : Name) (o : Object) → g.object name ≡ Some o → IsGiven c g.count name
 
 -- The words of an image hold a graph, by a division of its regions into pieces, what each region's owner is, and what
--- threads have been promised. Pieces fill each region from its base to its top, and those that stand for a name are objects.
+-- threads have been promised. Pieces fill each region from its base to its top, and those that stand for a name are objects. The region that
+-- is shared may be carved, and the free words of buffers are pieces.
 -- What roots and answers lead to is the graph with the promised objects, by current copies. Nothing is asked of objects
 -- that nothing leads to.
 pub record HoldsBy (c : Config) (memory : Word → ℕ) (block : Plot) (owner : ℕ → Option ℕ) (p : Promises) (g : Graph) : Type 0 where
@@ -39,14 +41,22 @@ pub record HoldsBy (c : Config) (memory : Word → ℕ) (block : Plot) (owner : 
   pub filled : IsFilled c (λ r. memory (Top r)) block
   pub pieces : NamedAreThings block
   pub free_word : IsFreeWord c (memory Free) (λ r. memory (Top r)) owner
-  pub currents : AreCurrent c (λ s. memory (Current s)) owner
+  pub shared_one : ShareIsOpen c (memory Share) (memory Free) (memory Cset) owner
+  pub buffers : AreBuffers c (λ r. memory (Top r)) (λ s. memory (Current s)) block
   pub asking : AreAsking c memory g p 0
   pub next : AreNext c memory g p
   pub unreached : AreFresh c.mutators g p
 
--- Each piece says by its shape word how many words it has, also one that nothing leads to.
-abbrev pub AreSized : (Word → ℕ) → Plot → Type 0
-AreSized memory block = (a : ℕ) (b : Block) → block a ≡ Some b → object_words (memory (Heap (a + 1))) ≡ words_of b
+-- an object stands at an address, of whatever kind: no room, and no words that only fill
+abbrev pub HasObject : Plot → ℕ → Type 0
+HasObject block a = (b : Block) × (block a ≡ Some b) × (is_loose b ≡ false)
+
+-- Each object says by its shape word how many words it has, also one that nothing leads to, and its header is not that of words that only
+-- fill; these say by their header how many they are.
+pub record AreSized (memory : Word → ℕ) (block : Plot) : Type 0 where
+  pub objects : (a : ℕ) (b : Block) → block a ≡ Some b → is_loose b ≡ false → object_words (memory (Heap (a + 1))) ≡ words_of b
+  pub headers : (a : ℕ) (b : Block) → block a ≡ Some b → is_loose b ≡ false → is_filler (memory (Heap a)) ≡ false
+  pub fillers : (a words : ℕ) → block a ≡ Some (filler words) → memory (Heap a) ≡ filler_header words
 
 -- they hold it in some way
 abbrev pub Holds : Config → (Word → ℕ) → Graph → Type 0

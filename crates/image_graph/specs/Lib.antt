@@ -1,5 +1,6 @@
 pub mod State
 pub mod Holds
+pub mod Buffers
 pub mod Left
 pub mod Make
 pub mod Pack

@@ -6,7 +6,7 @@ use Rattle.packing.specs.Tops.{top_before}
 use Rattle.packing.specs.Slide.{IsSlidTo, renewed}
 use Rattle.packing.specs.Table.{word_of, kept_of, now_of, LeadsToKept, IsRenewedBy}
 
--- The heap was slid, the tops are those of the packed objects, and no word is changed that is of neither. By the table of
+-- The heap was slid, the tops are those of the packed objects, and no word is changed that is of neither, before the heap or behind it. By the table of
 -- new places each word that led to a marked object can be renewed.
 pub record IsPacked (c : Config) (marks : List Bool) (before after places : List ℕ) : Type 0 where
   pub slid : IsSlidTo (c.region_words + heap_size c) c.region_words (kept_of c.region_words (heap_in c before) marks)
@@ -15,4 +15,5 @@ pub record IsPacked (c : Config) (marks : List Bool) (before after places : List
   pub tops : (r : ℕ) → r < c.regions
       → slice_index after (word_at c (Top r)) ≡ top_before c.region_words (kept_of c.region_words (heap_in c before) marks) r (c.region_words + heap_size c)
   pub others : (k : ℕ) → k < heap_start c → (k < word_at c (Top 0)) ⊎ (word_at c (Top 0) + c.regions ≤ k) → slice_index after k ≡ slice_index before k
+  pub behind : (k : ℕ) → heap_start c + heap_size c ≤ k → slice_index after k ≡ slice_index before k
   pub renews : (word : ℕ) → LeadsToKept c.region_words (heap_in c before) marks word → IsRenewedBy c.region_words (heap_in c before) marks places word

@@ -1,7 +1,9 @@
 -- What callers know of an image.
-use Rattle.std.specs.Prelude.{ℕ, ◌≡◌, ◌+◌, ◌<◌, Bool, List}
+use Rattle.std.specs.Prelude.{ℕ, ◌≡◌, ◌≢◌, ◌⊎◌, ◌+◌, ◌-◌, ◌<◌, Bool, List}
 use Rattle.heap_words.specs.declared.config.Config.{Config}
-use Rattle.heap_words.specs.Words.{Word, Current, view}
+use Rattle.heap_words.specs.Words.{Word, Current, Share, view}
+use Rattle.heap_words.specs.Encoding.{end_in}
+use Rattle.regions.specs.Place.{IsOf}
 use Rattle.heap_words.specs.Ranges.{seat_count}
 use Rattle.heap_graph.specs.Walk.{IsMarked}
 use Rattle.image_graph.specs.declared.image.Image.{Image}
@@ -23,9 +25,13 @@ pub record IsUnchanged (old new : Image) : Type 0 where
   pub config : config_of new ≡ config_of old
   pub words : words_of new ≡ words_of old
 
--- a seat has the region as its current one
+-- a seat has a buffer, whose last word is one of a region
+abbrev pub EndsIn : Config → (Word → ℕ) → (seat region : ℕ) → Type 0
+EndsIn c memory seat region = (memory (Current seat) ≢ 0) × IsOf c region (end_in (memory (Current seat)) - 1)
+
+-- a region is current: it is the one that is shared, or some seat's buffer ends in it
 abbrev pub IsSomeSeats : Config → (Word → ℕ) → ℕ → Type 0
-IsSomeSeats c memory region = (seat : ℕ) × (seat < seat_count c.mutators c.helpers) × (memory (Current seat) ≡ region + 1)
+IsSomeSeats c memory region = (memory Share ≡ region + 1) ⊎ ((seat : ℕ) × (seat < seat_count c.mutators c.helpers) × EndsIn c memory seat region)
 
 -- a flag for each word of the heap: whether an object begins there that was found
 abbrev pub marks_of : Image → List Bool

@@ -2,7 +2,8 @@ ghost use Rattle.std.specs.Prelude.{◌≡◌, ◌≤◌, length, vec_capacity};
 ghost use Rattle.heap_words.specs.Words.{table_words, heap_size};
 
 use heap_graph::write_graph;
-use heap_words::{Config, NoMemory, forwarded, forwardee, heap_in, roots_in};
+use heap_words::{Config, NoMemory, end_of, forwarded, forwardee, heap_in, roots_in};
+use regions::base;
 use shen_graph::GraphText;
 use std::alloc::Global;
 
@@ -24,8 +25,9 @@ pub struct Image {
 impl Image {
     ghost use Rattle.std.specs.Prelude.{ℕ, ◌<◌, true, false, slice_set, slice_index, Option, IfOk};
     ghost use Rattle.heap_words.specs.Words.{Word, Top, Heap, IsWord, word_at, write};
+    ghost use Rattle.heap_words.specs.Ranges.{seat_count};
     ghost use Rattle.full_words.specs.Full.{now_in};
-    ghost use Rattle.image_graph.specs.State.{config_of, words_of, memory_of, marks_of, found_of, places_of, IsUnchanged, IsSomeSeats};
+    ghost use Rattle.image_graph.specs.State.{config_of, words_of, memory_of, marks_of, found_of, places_of, IsUnchanged, EndsIn, IsSomeSeats};
     ghost use Rattle.image_graph.specs.Left.{StandsForSome, ShowsTheGraph};
 
     /// An image of this configuration whose words are all 0. The error is that memory was refused.
@@ -106,22 +108,37 @@ impl Image {
         }
     }
 
-    /// Up to where, in words from its base, a region was in use when a pause began: its top.
-    pub fn edge(&self, region: usize) -> u64
+    /// The top of a region: how many words from its base on are in use.
+    pub fn top(&self, region: usize) -> u64
         requires { region < (config_of self.now).regions }
         ensures { result ≡ memory_of self.now (Top region) }
     {
         self.word(self.config.top_at(region))
     }
 
-    /// Whether some seat allocates from the region.
+    // Whether a seat has a buffer that ends in the region.
+    fn ends_in(&self, seat: usize, region: usize) -> bool
+        requires seat { seat < seat_count (config_of self.now).mutators (config_of self.now).helpers }
+        requires region { region < (config_of self.now).regions }
+        ensures yes { result ≡ true → EndsIn (config_of self.now) (memory_of self.now) seat region }
+        ensures no { result ≡ false → EndsIn (config_of self.now) (memory_of self.now) seat region → ⊥ }
+    {
+        let end = end_of(self.word(self.config.cur_at(seat)));
+        let base = base(self.config, region);
+        base < end && end <= base + self.config.region_words() as u64
+    }
+
+    /// Whether the region is shared, or some seat's buffer ends in it: what is allocated may come to lie there.
     pub fn is_current(&self, region: usize) -> bool
         requires { region < (config_of self.now).regions }
         ensures yes { result ≡ true → IsSomeSeats (config_of self.now) (memory_of self.now) region }
         ensures no { result ≡ false → IsSomeSeats (config_of self.now) (memory_of self.now) region → ⊥ }
     {
+        if self.word(self.config.share_at()) == region as u64 + 1 {
+            return true;
+        }
         for seat in 0..self.config.seats() {
-            if self.word(self.config.cur_at(seat)) == region as u64 + 1 {
+            if self.ends_in(seat, region) {
                 return true;
             }
         }

@@ -1,6 +1,7 @@
 //! All words of a heap in a pause: the image that a pause works on while no machine of the heap makes a step.
 #![tactic(auto)]
 
+mod buffers;
 mod found;
 mod image;
 mod pack;

@@ -20,7 +20,8 @@ fn pack_words(config: Config, marks: &[bool], words: &mut [u64], places: &mut [u
     ensures { IsPacked config marks.now words.old words.new places.new }
 {
     let top = config.top_at(0);
-    let (low, heap) = words.split_at_mut(config.heap_start());
+    let (low, behind) = words.split_at_mut(config.heap_start());
+    let (heap, _) = behind.split_at_mut(config.heap_size());
     let tops = &mut low[top..top + config.regions()];
     compact_marked(config.region_words() as u64, marks, heap, places, tops);
 }

@@ -1,7 +1,8 @@
 //! Which copy of an object an address is of. While a collection set is there, an object may have several.
 
+use crate::pieces::{piece_at, used};
 use crate::table::Table;
-use crate::view::{base, heap_word, region_of, size_at, top};
+use crate::view::{base, heap_word, region_of};
 use heap_words::{forwarded, forwardee};
 use regions::is_in;
 
@@ -17,17 +18,16 @@ fn is_region_in(set: u64, region: usize) -> bool {
 
 // Whether an old copy in a region leads to the address.
 fn leads_to(table: &Table, region: usize, address: u64) -> bool {
-    let mut at = base(table, region);
-    let end = at.saturating_add(top(table, region));
+    let (mut at, end) = used(table, region);
     for _ in 0..1024 {
-        if at >= end {
+        let Some(piece) = piece_at(table, at, end) else {
             return false;
-        }
+        };
         let header = heap_word(table, at);
-        if forwarded(header) && forwardee(header) == address {
+        if piece.is_object() && forwarded(header) && forwardee(header) == address {
             return true;
         }
-        at = at.saturating_add(size_at(table, at));
+        at = piece.next;
     }
     false
 }

@@ -8,8 +8,8 @@ use crate::view::{
     Part, Reading, base, heap_word, name_at, part_of, reading_of, reading_of_part, region_of,
 };
 use heap_words::{
-    Access, Config, WordName, count_of, forwarded, forwardee, nums_of, refs_of, request_count,
-    request_shape, thread_of,
+    Access, Config, WordName, count_of, end_of, filler_words, forwarded, forwardee, next_of,
+    nums_of, refs_of, request_count, request_shape, thread_of,
 };
 use shen_graph::Name;
 
@@ -139,13 +139,25 @@ fn json_marks(row: &mut Row, table: &Table, first: u64, marks: u64) {
     row.put(b"]");
 }
 
-// Puts members for a header: of an old copy where the current one lies.
+// Puts members for a header: of an old copy where the current one lies, and of words that only fill how many they are.
 fn json_header(row: &mut Row, table: &Table, header: u64) {
     if forwarded(header) {
         json_key(row, b"copy");
         row.put(b"{");
         json_place_of(row, table, forwardee(header));
         row.put(b"}");
+    } else if let Some(words) = filler_words(header) {
+        json_number(row, b"fills", words);
+    }
+}
+
+// Puts members for the word of a buffer: the region, and where its free words begin and end there.
+fn json_buffer(row: &mut Row, table: &Table, word: u64) {
+    if let Some(region) = region_of(table, end_of(word).saturating_sub(1)) {
+        let first = base(table, region);
+        json_number(row, b"region", region as u64);
+        json_number(row, b"offset", next_of(word).saturating_sub(first));
+        json_number(row, b"end", end_of(word).saturating_sub(first));
     }
 }
 
@@ -179,8 +191,10 @@ fn json_read(row: &mut Row, table: &Table, kind: Reading, word: u64) {
         Reading::Answer if word == 1 => json_flag(row, b"full", true),
         Reading::Answer => json_object_at(row, table, word),
         Reading::Regions => json_regions(row, table.config(), b"regions", word),
-        Reading::Current if word == 0 => {}
-        Reading::Current => json_number(row, b"region", word.saturating_sub(1)),
+        Reading::Buffer if word == 0 => {}
+        Reading::Buffer => json_buffer(row, table, word),
+        Reading::Shared if word == 0 => {}
+        Reading::Shared => json_number(row, b"region", word.saturating_sub(1)),
         Reading::Ask => {
             json_flag(row, b"cycle", word % 2 == 1);
             json_flag(row, b"room", word % 4 >= 2);
@@ -273,7 +287,8 @@ fn json_word(row: &mut Row, table: &Table, name: WordName) {
         WordName::Top { region } => json_numbered(row, b"top", b"region", region),
         WordName::Tams { region } => json_numbered(row, b"mark start", b"region", region),
         WordName::Limit { region } => json_numbered(row, b"limit", b"region", region),
-        WordName::Current { seat } => json_of_seat(row, b"current region", seat),
+        WordName::Current { seat } => json_of_seat(row, b"buffer", seat),
+        WordName::Share => json_kind(row, b"shared region"),
         _ => json_further(row, table, name),
     }
 }
@@ -325,6 +340,12 @@ fn json_at(row: &mut Row, table: &Table, at: usize, within: Within) -> Reading {
             json_flag(row, b"copy", true);
             json_place_of(row, table, room);
             kind
+        }
+        (WordName::Heap { address }, Within::Filler(filler)) if address == filler => {
+            json_kind(row, b"header");
+            json_flag(row, b"filler", true);
+            json_place_of(row, table, address);
+            Reading::Header
         }
         (name, _) => {
             json_word(row, table, name);

@@ -9,6 +9,7 @@ mod fold;
 mod json;
 mod line;
 mod pauses;
+mod pieces;
 mod row;
 mod stall;
 mod table;
@@ -24,11 +25,12 @@ pub use json::{
 };
 pub use line::NUMBER;
 pub use pauses::{Cause, Pauses, Told, put_pause};
+pub use pieces::{Kind, Piece, piece_at, region_of_buffer, shared_region, used};
 pub use row::Row;
 pub use stall::Stall;
-pub use table::Table;
+pub use table::{Room, Table};
 pub use terms::{
     Within, look_within, put_access, put_item, put_machine, put_name, put_place, put_reference,
     put_regions, put_reply, put_value,
 };
-pub use view::{Reading, base, heap_word, name_at, size_at, top};
+pub use view::{Reading, base, heap_word, name_at, top};

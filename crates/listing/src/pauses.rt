@@ -1,10 +1,11 @@
 //! Pauses: why each was made, and what it has done to the words.
 
 use crate::event::Event;
+use crate::pieces::{piece_at, used};
 use crate::row::Row;
 use crate::table::Table;
 use crate::terms::put_regions;
-use crate::view::{base, heap_word, name_at, size_at, top};
+use crate::view::{heap_word, name_at};
 use heap_words::{Config, NoMemory, Place, forwarded};
 use regions::mark_words;
 use std::alloc::Global;
@@ -213,35 +214,44 @@ fn has_marks(table: &Table) -> bool {
     false
 }
 
-// The first object of a region at an address or behind it, from an object on.
-fn object_from(table: &Table, object: u64, address: u64) -> u64 {
-    let mut at = object;
+// The first piece of a region at an address or behind it, from a piece on; where the region ends before that, its end.
+fn piece_from(table: &Table, from: u64, end: u64, address: u64) -> u64 {
+    let mut at = from;
     for _ in 0..1024 {
         if at >= address {
             return at;
         }
-        at = at.saturating_add(size_at(table, at));
+        at = match piece_at(table, at, end) {
+            Some(piece) => piece.next,
+            None => return end,
+        };
     }
     at
+}
+
+// Whether an object of the name of the one at an address stands there.
+fn is_there(table: &Table, at: u64, end: u64, after: &Table) -> bool {
+    match piece_at(table, at, end) {
+        Some(piece) => piece.is_object() && name_at(table, at) == name_at(after, at),
+        None => false,
+    }
 }
 
 // How many current copies lie in a region where no object of their name lay before.
 fn moved_into(before: &Table, after: &Table, region: usize) -> u64 {
     let mut count: u64 = 0;
-    let mut at = base(after, region);
-    let end = at.saturating_add(top(after, region));
-    let old_end = at.saturating_add(top(before, region));
-    let mut old = at;
+    let (mut at, end) = used(after, region);
+    let (mut old, old_end) = used(before, region);
     for _ in 0..1024 {
-        if at >= end {
+        let Some(piece) = piece_at(after, at, end) else {
             return count;
-        }
-        old = object_from(before, old, at);
-        let stays = old == at && old < old_end && name_at(before, old) == name_at(after, at);
-        if !stays && !forwarded(heap_word(after, at)) {
+        };
+        old = piece_from(before, old, old_end, at);
+        let stays = old == at && is_there(before, old, old_end, after);
+        if piece.is_object() && !stays && !forwarded(heap_word(after, at)) {
             count = count.saturating_add(1);
         }
-        at = at.saturating_add(size_at(after, at));
+        at = piece.next;
     }
     count
 }

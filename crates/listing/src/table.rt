@@ -3,11 +3,35 @@ ghost use Rattle.std.specs.Prelude.{◌≡◌, ◌<◌, ◌≤◌, IfOk, length,
 use heap_words::{Access, Config, NoMemory};
 use std::alloc::Global;
 
-/// The words of a heap as they stand after some event, beside the heap itself.
+// How many machines there are at most.
+const MACHINES: usize = 12;
+
+/// Words of a region that a machine has taken and that are no object yet: from one address up to another, 0 and 0 where it has none.
+#[derive(Clone, Copy)]
+pub struct Room {
+    /// The first address.
+    pub from: u64,
+    /// The address behind the last one.
+    pub to: u64,
+    /// Whether they are carved, and not in hand yet.
+    pub is_carved: bool,
+}
+
+impl Room {
+    /// No words.
+    pub const NONE: Room = Room {
+        from: 0,
+        to: 0,
+        is_carved: false,
+    };
+}
+
+/// The words of a heap as they stand after some event, beside the heap itself, and the room of each machine.
 #[derive(Drop)]
 pub struct Table {
     config: Config,
     words: Vec<u64>,
+    rooms: [Room; 12],
 }
 
 // Puts the words of a table in the place of these.
@@ -30,7 +54,11 @@ impl Table {
                 return Err(NoMemory);
             };
         }
-        Ok(Table { config, words })
+        Ok(Table {
+            config,
+            words,
+            rooms: [Room::NONE; 12],
+        })
     }
 
     /// The heap.
@@ -69,11 +97,25 @@ impl Table {
         self.put(access.at(), access.made(found));
     }
 
+    /// The room of a machine.
+    pub fn room(&self, seat: usize) -> Room {
+        self.rooms[seat % MACHINES]
+    }
+
+    /// Takes down what room a machine has from now on.
+    pub fn put_room(&mut self, seat: usize, room: Room)
+        ensures words { words_of self.new ≡ words_of self.old }
+        ensures config { config_of self.new ≡ config_of self.old }
+    {
+        self.rooms[seat % MACHINES] = room;
+    }
+
     /// Becomes like another table of the same heap.
     pub fn copy(&mut self, other: &Table)
         ensures config { config_of self.new ≡ config_of self.old }
     {
         copy_words(&mut self.words, other);
+        self.rooms = other.rooms;
     }
 
     /// How many words of the image differ from those of another table of the same heap.

@@ -1,14 +1,13 @@
 //! Words of the heap, values and commands as the listing spells them.
 
 use crate::copies::is_moving;
+use crate::pieces::{Kind, piece_with};
 use crate::row::Row;
 use crate::table::Table;
-use crate::view::{
-    Part, Reading, base, name_at, object_with, part_of, reading_of, reading_of_part, region_of,
-};
+use crate::view::{Part, Reading, base, name_at, part_of, reading_of, reading_of_part, region_of};
 use heap_words::{
-    Access, Config, Item, WordName, count_of, forwarded, forwardee, nums_of, refs_of,
-    request_count, request_shape, thread_of,
+    Access, Config, Item, WordName, count_of, end_of, filler_words, forwarded, forwardee, next_of,
+    nums_of, refs_of, request_count, request_shape, thread_of,
 };
 use shen_graph::{Name, Reply};
 
@@ -34,8 +33,13 @@ pub fn put_name(row: &mut Row, name: Name) {
 
 /// Puts where an address lies: its region, and the words of the region before it.
 pub fn put_place(row: &mut Row, table: &Table, address: u64) {
+    put_place_in(row, table, address, region_of(table, address));
+}
+
+// Puts the same of an address of a region, or right behind it.
+fn put_place_in(row: &mut Row, table: &Table, address: u64, region: Option<usize>) {
     row.put(b"@");
-    match region_of(table, address) {
+    match region {
         Some(region) => {
             row.put_number(region as u64);
             row.put(b"+");
@@ -100,14 +104,29 @@ fn put_marks(row: &mut Row, table: &Table, first: u64, marks: u64) {
     row.put(b"}");
 }
 
-// Puts a header: of an old copy where the object's current one lies.
+// Puts a header: of an old copy where the object's current one lies, and of words that only fill how many they are.
 fn put_header(row: &mut Row, table: &Table, header: u64) {
     if forwarded(header) {
         row.put(b"copy ");
         put_place(row, table, forwardee(header));
+    } else if let Some(words) = filler_words(header) {
+        row.put_count(words, b"word");
+        row.put(b" that only fill");
     } else {
         row.put_number(header);
     }
+}
+
+// Puts where the free words of a buffer begin and end.
+fn put_buffer(row: &mut Row, table: &Table, word: u64) {
+    if word == 0 {
+        row.put(b"none");
+        return;
+    }
+    let region = region_of(table, end_of(word).saturating_sub(1));
+    put_place_in(row, table, next_of(word), region);
+    row.put(b" to ");
+    put_place_in(row, table, end_of(word), region);
 }
 
 // The bit of the copiers' word that says that one has found no room.
@@ -168,8 +187,9 @@ pub fn put_value(row: &mut Row, table: &Table, kind: Reading, word: u64) {
         Reading::Reference => put_reference(row, table, word),
         Reading::Answer => put_answer(row, table, word),
         Reading::Regions => put_regions(row, table.config(), word),
-        Reading::Current if word == 0 => row.put(b"none"),
-        Reading::Current => row.put_number(word.saturating_sub(1)),
+        Reading::Buffer => put_buffer(row, table, word),
+        Reading::Shared if word == 0 => row.put(b"none"),
+        Reading::Shared => row.put_number(word.saturating_sub(1)),
         Reading::Ask => put_ask(row, word),
         Reading::State if word == 0 => row.put(b"out"),
         Reading::State => row.put(b"in"),
@@ -224,7 +244,8 @@ fn put_word(row: &mut Row, config: Config, name: WordName) {
         WordName::Top { region } => put_numbered(row, b"top of region", region),
         WordName::Tams { region } => put_numbered(row, b"mark start of region", region),
         WordName::Limit { region } => put_numbered(row, b"limit of region", region),
-        WordName::Current { seat } => put_of_seat(row, config, b"current region", seat),
+        WordName::Current { seat } => put_of_seat(row, config, b"buffer", seat),
+        WordName::Share => row.put(b"shared region"),
         WordName::Root { mutator, index } => {
             put_numbered(row, b"root", index);
             put_of_thread(row, b"", mutator);
@@ -271,6 +292,8 @@ pub enum Within {
     Room(u64),
     /// In the room at this address, which is to become a copy of an object.
     Copy(u64),
+    /// In the words at this address that only fill, or shall.
+    Filler(u64),
     /// In no object, or that is not told.
     Elsewhere,
 }
@@ -303,7 +326,12 @@ fn put_word_at(row: &mut Row, table: &Table, at: usize, within: Within) -> Readi
             put_place(row, table, room);
             reading_of_part(part)
         }
-        (WordName::Heap { address }, Within::Elsewhere) => {
+        (WordName::Heap { address }, Within::Filler(filler)) if address == filler => {
+            row.put(b"header of words ");
+            put_place(row, table, address);
+            Reading::Header
+        }
+        (WordName::Heap { address }, _) => {
             row.put(b"word ");
             put_place(row, table, address);
             Reading::Number
@@ -326,12 +354,13 @@ fn address_at(config: Config, at: usize) -> Option<u64> {
     }
 }
 
-/// Where the word at an index of the table lies: in an object if it is one of the heap.
+/// Where the word at an index of the table lies: in an object, or in words that only fill, if it is one of the heap.
 pub fn look_within(table: &Table, at: usize) -> Within {
     match address_at(table.config(), at) {
-        Some(address) => match object_with(table, address) {
-            Some(object) => Within::Object(object),
-            None => Within::Elsewhere,
+        Some(address) => match piece_with(table, address) {
+            Some(piece) if piece.is_object() => Within::Object(piece.at),
+            Some(piece) if piece.kind == Kind::Filler => Within::Filler(piece.at),
+            _ => Within::Elsewhere,
         },
         None => Within::Elsewhere,
     }

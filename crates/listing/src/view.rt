@@ -1,7 +1,7 @@
 ghost use Rattle.std.specs.Prelude.{◌≤◌};
 
 use crate::table::Table;
-use heap_words::{Config, WordName, count_of, refs_of, thread_of, words_of};
+use heap_words::{Config, WordName, count_of, refs_of, thread_of};
 use shen_graph::Name;
 
 /// The heap's word of an address, or 0 where no word has it.
@@ -45,11 +45,6 @@ pub fn region_of(table: &Table, address: u64) -> Option<usize> {
     }
 }
 
-/// The words of the object at an address.
-pub fn size_at(table: &Table, address: u64) -> u64 {
-    words_of(heap_word(table, address.saturating_add(1)))
-}
-
 /// The name of the object at an address.
 pub fn name_at(table: &Table, address: u64) -> Name {
     let word = heap_word(table, address.saturating_add(2));
@@ -57,24 +52,6 @@ pub fn name_at(table: &Table, address: u64) -> Name {
         thread: thread_of(word),
         count: count_of(word),
     }
-}
-
-/// The address of the object in which an address lies, by a walk through its region; None where it lies in none.
-pub fn object_with(table: &Table, address: u64) -> Option<u64> {
-    let region = region_of(table, address)?;
-    let mut at = base(table, region);
-    let end = at.saturating_add(top(table, region));
-    for _ in 0..1024 {
-        let next = at.saturating_add(size_at(table, at));
-        if next > end {
-            return None;
-        }
-        if address < next {
-            return Some(at);
-        }
-        at = next;
-    }
-    None
 }
 
 /// A word of an object.
@@ -127,8 +104,10 @@ pub enum Reading {
     Answer,
     /// As a set of regions.
     Regions,
+    /// As the free words of a buffer, or none.
+    Buffer,
     /// As a region, or none.
-    Current,
+    Shared,
     /// As what is asked for.
     Ask,
     /// As a state: in or out.
@@ -170,7 +149,8 @@ pub fn reading_of(config: Config, name: WordName) -> Reading {
         WordName::Cset | WordName::Free => Reading::Regions,
         WordName::Ask => Reading::Ask,
         WordName::Evac => Reading::Copiers,
-        WordName::Current { .. } => Reading::Current,
+        WordName::Current { .. } => Reading::Buffer,
+        WordName::Share => Reading::Shared,
         WordName::Root { .. } | WordName::Buffer { .. } => Reading::Reference,
         WordName::Wait { .. } => Reading::Request,
         WordName::Answer { .. } => Reading::Answer,

@@ -16,7 +16,7 @@ use text_writer::{Block, WriteFault};
 use trace_grammar::Trace;
 
 // The version of the form of the objects.
-const VERSION: u64 = 1;
+const VERSION: u64 = 2;
 
 // Where a list goes on in a new line.
 const INDENT: usize = 6;

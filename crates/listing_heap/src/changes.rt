@@ -1,10 +1,8 @@
 //! What of the heap is shown behind an event: the lines that say something else than before.
 
-use crate::heap::{
-    Rooms, next_object, phase, put_fields, put_heap, put_phase, put_region, put_roots,
-};
+use crate::heap::{phase, put_fields, put_heap, put_phase, put_region, put_roots};
 use heap_words::refs_of;
-use listing::{Row, Table, base, heap_word, top};
+use listing::{Row, Table, heap_word, piece_at, region_of_buffer, shared_region, top, used};
 use regions::mark_words;
 use shen_base::Sink;
 use text_writer::Block;
@@ -56,14 +54,13 @@ impl Change<'_> {
         false
     }
 
-    // Whether another machine has the region as its current one.
-    fn has_owner(&self, region: usize) -> bool {
+    // Whether a machine's buffer is another one, and lies in the region now or did before.
+    fn has_buffer(&self, region: usize) -> bool {
         let config = self.after.config();
-        let current = (region as u64).saturating_add(1);
         for seat in 0..config.seats() {
-            let at = config.cur_at(seat);
-            if self.is_new(at)
-                && (self.before.word(at) == current || self.after.word(at) == current)
+            if self.is_new(config.cur_at(seat))
+                && (region_of_buffer(self.before, seat) == Some(region)
+                    || region_of_buffer(self.after, seat) == Some(region))
             {
                 return true;
             }
@@ -71,27 +68,39 @@ impl Change<'_> {
         false
     }
 
-    // Whether an object of the region is another one, or has moved.
-    fn has_object(&self, rooms: &Rooms, region: usize) -> bool {
-        let mut at = base(self.after, region);
-        let end = at.saturating_add(top(self.after, region));
+    // Whether the region is shared now and was not before, or the other way round.
+    fn has_share(&self, region: usize) -> bool {
+        (shared_region(self.before) == Some(region)) != (shared_region(self.after) == Some(region))
+    }
+
+    // Whether a piece of the region is another one, or an object has moved.
+    fn has_piece(&self, region: usize) -> bool {
+        let (mut at, end) = used(self.after, region);
         for _ in 0..1024 {
-            if self.is_new_at(at)
-                || self.is_new_at(at.saturating_add(1))
-                || self.is_new_at(at.saturating_add(2))
-            {
-                return true;
-            }
-            let Some(next) = next_object(self.after, rooms, at, end) else {
+            let Some(piece) = piece_at(self.after, at, end) else {
                 return false;
             };
-            at = next;
+            let is_same = match piece_at(self.before, at, end) {
+                Some(before) => before.kind == piece.kind && before.next == piece.next,
+                None => false,
+            };
+            if !is_same || piece.is_object() && self.has_object(at) {
+                return true;
+            }
+            at = piece.next;
         }
         false
+    }
+
+    // Whether the object at an address is another one, or has moved.
+    fn has_object(&self, at: u64) -> bool {
+        self.is_new_at(at)
+            || self.is_new_at(at.saturating_add(1))
+            || self.is_new_at(at.saturating_add(2))
     }
 
     // Whether the line of a region says something else.
-    fn has_region(&self, rooms: &Rooms, region: usize) -> bool {
+    fn has_region(&self, region: usize) -> bool {
         let config = self.after.config();
         if region >= config.regions() {
             return false;
@@ -101,8 +110,9 @@ impl Change<'_> {
             || self.is_new(config.limit_at(region))
             || self.is_new(config.tams_at(region))
             || (region < 64 && bit >> (region % 64) & 1 == 1)
-            || self.has_owner(region)
-            || self.has_object(rooms, region)
+            || self.has_share(region)
+            || self.has_buffer(region)
+            || self.has_piece(region)
     }
 
     // Whether a field of the object at an address is another one.
@@ -117,24 +127,16 @@ impl Change<'_> {
     }
 
     // Puts the lines of the fields of a region that say something else.
-    fn put_fields<K: Sink>(
-        &self,
-        row: &mut Row,
-        block: &mut Block,
-        sink: &mut K,
-        rooms: &Rooms,
-        region: usize,
-    ) {
-        let mut at = base(self.after, region);
-        let end = at.saturating_add(top(self.after, region));
+    fn put_fields<K: Sink>(&self, row: &mut Row, block: &mut Block, sink: &mut K, region: usize) {
+        let (mut at, end) = used(self.after, region);
         for _ in 0..1024 {
-            let Some(next) = next_object(self.after, rooms, at, end) else {
+            let Some(piece) = piece_at(self.after, at, end) else {
                 return;
             };
-            if self.has_field(at) {
+            if piece.is_object() && self.has_field(at) {
                 put_fields(row, block, sink, self.after, at);
             }
-            at = next;
+            at = piece.next;
         }
     }
 
@@ -153,41 +155,27 @@ impl Change<'_> {
     }
 
     // Puts the lines of the regions that say something else; all where objects were marked.
-    fn put_regions<K: Sink>(
-        &self,
-        row: &mut Row,
-        block: &mut Block,
-        sink: &mut K,
-        rooms: &Rooms,
-        bars: bool,
-    ) {
+    fn put_regions<K: Sink>(&self, row: &mut Row, block: &mut Block, sink: &mut K, bars: bool) {
         let marks = self.has_marks();
         for region in 0..self.after.config().regions() {
-            if marks && top(self.after, region) > 0 || self.has_region(rooms, region) {
-                put_region(row, block, sink, self.after, region, rooms, bars);
+            if marks && top(self.after, region) > 0 || self.has_region(region) {
+                put_region(row, block, sink, self.after, region, bars);
             }
         }
     }
 
     /// Puts the lines that say something else than before.
-    pub fn put<K: Sink>(
-        &self,
-        row: &mut Row,
-        block: &mut Block,
-        sink: &mut K,
-        rooms: &Rooms,
-        bars: bool,
-    ) {
+    pub fn put<K: Sink>(&self, row: &mut Row, block: &mut Block, sink: &mut K, bars: bool) {
         if self.is_whole() {
-            put_heap(row, block, sink, self.after, rooms, bars);
+            put_heap(row, block, sink, self.after, bars);
             return;
         }
         if self.has_state() {
             put_phase(row, block, sink, self.after);
         }
-        self.put_regions(row, block, sink, rooms, bars);
+        self.put_regions(row, block, sink, bars);
         for region in 0..self.after.config().regions() {
-            self.put_fields(row, block, sink, rooms, region);
+            self.put_fields(row, block, sink, region);
         }
         for mutator in 0..self.after.config().mutators() {
             if self.has_root(mutator) {

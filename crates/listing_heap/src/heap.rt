@@ -2,8 +2,8 @@
 
 use heap_words::{Config, forwarded, forwardee, refs_of};
 use listing::{
-    Reading, Row, Table, base, heap_word, name_at, put_machine, put_name, put_place, put_reference,
-    put_value, size_at, top,
+    Kind, Piece, Reading, Row, Table, heap_word, name_at, piece_at, put_machine, put_name,
+    put_place, put_reference, put_value, region_of_buffer, shared_region, top, used,
 };
 use regions::{is_in, mark_words};
 use shen_base::Sink;
@@ -16,9 +16,6 @@ const BAR: usize = 26;
 
 // How many characters a bar has.
 const BAR_CHARACTERS: u64 = 16;
-
-/// What is known of room that machines have in hand and that is no object yet: of each machine where it begins, or 0.
-pub type Rooms = [u64; 12];
 
 // Puts how full a region is.
 fn put_bar(row: &mut Row, used: u64, words: u64) {
@@ -82,44 +79,64 @@ fn put_object(row: &mut Row, table: &Table, at: u64, words: u64) {
     }
 }
 
-// Puts the objects of a region, each with its words, and old copies as such; the room of a machine, where it has some here, is
-// their end.
-fn put_objects<K: Sink>(
+// Puts room of a machine: what it is, and its words.
+fn put_room(row: &mut Row, table: &Table, what: &[u8], words: u64, seat: usize) {
+    row.put(what);
+    row.put(b"(");
+    row.put_number(words);
+    row.put(b" of ");
+    put_machine(row, table.config(), seat);
+    row.put(b")");
+}
+
+// Puts a piece of a region.
+fn put_piece(row: &mut Row, table: &Table, piece: Piece) {
+    let words = piece.words();
+    match piece.kind {
+        Kind::Object => put_object(row, table, piece.at, words),
+        Kind::Filler => {
+            row.put(b"filler(");
+            row.put_number(words);
+            row.put(b")");
+        }
+        Kind::Free(seat) => put_room(row, table, b"free", words, seat),
+        Kind::Carved(seat) => put_room(row, table, b"carved", words, seat),
+        Kind::Hand(seat) => put_room(row, table, b"room", words, seat),
+    }
+}
+
+// Puts the pieces of a region, each with its words.
+fn put_pieces<K: Sink>(
     row: &mut Row,
     block: &mut Block,
     sink: &mut K,
     table: &Table,
     region: usize,
-    rooms: &Rooms,
     bars: bool,
 ) {
     let (column, last) = object_columns(bars);
-    let mut at = base(table, region);
-    let end = at.saturating_add(top(table, region));
+    let (mut at, end) = used(table, region);
     for _ in 0..1024 {
-        if at >= end {
+        let Some(piece) = piece_at(table, at, end) else {
             return;
-        }
+        };
         if row.width() > last {
             row.send(block, sink);
             row.tab(column);
         }
         row.put(b" ");
-        let Some(next) = next_object(table, rooms, at, end) else {
-            row.put(b"room(");
-            row.put_number(end.saturating_sub(at));
-            row.put(b")");
-            return;
-        };
-        put_object(row, table, at, next.saturating_sub(at));
-        at = next;
+        put_piece(row, table, piece);
+        at = piece.next;
     }
 }
 
-// Puts whose current region a region is.
-fn put_owner(row: &mut Row, table: &Table, config: Config, region: usize) {
+// Puts whether a region is the shared one, and whose buffers lie in it.
+fn put_owners(row: &mut Row, table: &Table, config: Config, region: usize) {
+    if shared_region(table) == Some(region) {
+        row.put(b" shared:");
+    }
     for seat in 0..config.seats() {
-        if table.word(config.cur_at(seat)) == (region as u64).saturating_add(1) {
+        if region_of_buffer(table, seat) == Some(region) {
             row.put(b" ");
             put_machine(row, config, seat);
             row.put(b":");
@@ -127,28 +144,31 @@ fn put_owner(row: &mut Row, table: &Table, config: Config, region: usize) {
     }
 }
 
-/// The words of a region's objects that are black, or were made since marking began, and those of all others; `start` is how far it
-/// was used then.
-pub fn live_and_garbage(table: &Table, rooms: &Rooms, region: usize, start: u64) -> (u64, u64) {
-    let first = base(table, region);
-    let end = first.saturating_add(top(table, region));
+/// The words of a region's objects that are black, or were made since marking began, and those of all others and of words that only
+/// fill; `start` is how far it was used then.
+pub fn live_and_garbage(table: &Table, region: usize, start: u64) -> (u64, u64) {
+    let (first, end) = used(table, region);
     let mut at = first;
     let mut live: u64 = 0;
+    let mut garbage: u64 = 0;
     for _ in 0..1024 {
-        let Some(next) = next_object(table, rooms, at, end) else {
-            return (live, at.saturating_sub(first).saturating_sub(live));
+        let Some(piece) = piece_at(table, at, end) else {
+            return (live, garbage);
         };
-        if at.saturating_sub(first) >= start || is_black(table, at) {
-            live = live.saturating_add(next.saturating_sub(at));
+        let is_young = at.saturating_sub(first) >= start;
+        if piece.is_object() && (is_young || is_black(table, at)) {
+            live = live.saturating_add(piece.words());
+        } else if piece.is_object() || piece.kind == Kind::Filler {
+            garbage = garbage.saturating_add(piece.words());
         }
-        at = next;
+        at = piece.next;
     }
-    (live, 0)
+    (live, garbage)
 }
 
 // Puts what a cycle knows of a region: whether it is in the set, how far it was used when marking began, what of it lives, and
 // how far it was used when updating began.
-fn put_cycle(row: &mut Row, table: &Table, config: Config, region: usize, rooms: &Rooms) {
+fn put_cycle(row: &mut Row, table: &Table, config: Config, region: usize) {
     let phase = phase(table);
     if phase == 0 || region >= config.regions() {
         return;
@@ -160,7 +180,7 @@ fn put_cycle(row: &mut Row, table: &Table, config: Config, region: usize, rooms:
     row.put(b" mark start ");
     row.put_number(start);
     if phase > 1 {
-        let (live, garbage) = live_and_garbage(table, rooms, region, start);
+        let (live, garbage) = live_and_garbage(table, region, start);
         row.put(b", live ");
         row.put_number(live);
         row.put(b", garbage ");
@@ -180,7 +200,6 @@ pub fn put_region<K: Sink>(
     sink: &mut K,
     table: &Table,
     region: usize,
-    rooms: &Rooms,
     bars: bool,
 ) {
     let config = table.config();
@@ -199,9 +218,9 @@ pub fn put_region<K: Sink>(
         }
         let (column, _) = object_columns(bars);
         row.tab(column);
-        put_owner(row, table, config, region);
-        put_cycle(row, table, config, region, rooms);
-        put_objects(row, block, sink, table, region, rooms, bars);
+        put_owners(row, table, config, region);
+        put_cycle(row, table, config, region);
+        put_pieces(row, block, sink, table, region, bars);
     }
     row.send(block, sink);
 }
@@ -263,17 +282,6 @@ pub fn put_phase<K: Sink>(row: &mut Row, block: &mut Block, sink: &mut K, table:
     row.send(block, sink);
 }
 
-/// Where the object behind the one at an address begins, or None where there is none: the region's objects end there, or what lies there
-/// is room.
-pub fn next_object(table: &Table, rooms: &Rooms, at: u64, end: u64) -> Option<u64> {
-    let next = at.saturating_add(size_at(table, at));
-    if at >= end || rooms.contains(&at) || next > end {
-        None
-    } else {
-        Some(next)
-    }
-}
-
 // Whether a field of the object at an address names an object.
 fn has_field(table: &Table, at: u64) -> bool {
     for index in 0..refs_of(heap_word(table, at.saturating_add(1))).min(16) {
@@ -311,26 +319,25 @@ fn put_all_fields<K: Sink>(
     sink: &mut K,
     table: &Table,
     region: usize,
-    rooms: &Rooms,
 ) {
-    let mut at = base(table, region);
-    let end = at.saturating_add(top(table, region));
+    let (mut at, end) = used(table, region);
     for _ in 0..1024 {
-        let Some(next) = next_object(table, rooms, at, end) else {
+        let Some(piece) = piece_at(table, at, end) else {
             return;
         };
-        put_fields(row, block, sink, table, at);
-        at = next;
+        if piece.is_object() {
+            put_fields(row, block, sink, table, at);
+        }
+        at = piece.next;
     }
 }
 
-/// Puts the heap, with bars or without. `rooms` are the addresses at which machines have room in hand that is no object yet.
+/// Puts the heap, with bars or without.
 pub fn put_heap<K: Sink>(
     row: &mut Row,
     block: &mut Block,
     sink: &mut K,
     table: &Table,
-    rooms: &Rooms,
     bars: bool,
 ) {
     let config = table.config();
@@ -338,10 +345,10 @@ pub fn put_heap<K: Sink>(
         put_phase(row, block, sink, table);
     }
     for region in 0..config.regions() {
-        put_region(row, block, sink, table, region, rooms, bars);
+        put_region(row, block, sink, table, region, bars);
     }
     for region in 0..config.regions() {
-        put_all_fields(row, block, sink, table, region, rooms);
+        put_all_fields(row, block, sink, table, region);
     }
     for mutator in 0..config.mutators() {
         put_roots(row, block, sink, table, mutator);

@@ -1,10 +1,11 @@
 //! The heap as an object of JSON.
 
-use crate::heap::{Rooms, is_black, is_grey, live_and_garbage, next_object, phase};
+use crate::heap::{is_black, is_grey, live_and_garbage, phase};
 use heap_words::{forwarded, forwardee};
 use listing::{
-    Reading, Row, Table, base, heap_word, json_field_lists, json_flag, json_key, json_number,
-    json_object_at, json_place_of, json_reference, json_regions, json_text, json_value, top,
+    Kind, Piece, Reading, Row, Table, base, heap_word, json_field_lists, json_flag, json_key,
+    json_number, json_object_at, json_place_of, json_reference, json_regions, json_text,
+    json_value, piece_at, region_of_buffer, shared_region, top, used,
 };
 use regions::is_in;
 use shen_base::Sink;
@@ -25,31 +26,76 @@ fn json_object(row: &mut Row, table: &Table, at: u64, next: u64) {
     }
 }
 
-// Writes the elements for the objects of a region. The address behind them: there the region ends, or room in hand begins.
+// Writes the elements for the objects of a region.
 fn json_objects<K: Sink>(
     row: &mut Row,
     block: &mut Block,
     sink: &mut K,
     table: &Table,
     region: usize,
-    rooms: &Rooms,
-) -> u64 {
-    let mut at = base(table, region);
-    let end = at.saturating_add(top(table, region));
+) {
+    let (mut at, end) = used(table, region);
     for _ in 0..1024 {
-        let Some(next) = next_object(table, rooms, at, end) else {
-            return at;
+        let Some(piece) = piece_at(table, at, end) else {
+            return;
         };
-        json_key_of_element(row);
-        row.put(b"{");
-        json_object(row, table, at, next);
-        row.pass(block, sink);
-        json_field_lists(row, table, at);
-        row.put(b"}");
-        row.pass(block, sink);
-        at = next;
+        if piece.is_object() {
+            json_key_of_element(row);
+            row.put(b"{");
+            json_object(row, table, at, piece.next);
+            row.pass(block, sink);
+            json_field_lists(row, table, at);
+            row.put(b"}");
+            row.pass(block, sink);
+        }
+        at = piece.next;
     }
-    at
+}
+
+// The name of a kind of piece that is no object, and the machine whose it is, if it is one's.
+fn kind_of(kind: Kind) -> (&'static [u8], Option<usize>) {
+    match kind {
+        Kind::Object => (b"object", None),
+        Kind::Filler => (b"filler", None),
+        Kind::Free(seat) => (b"free", Some(seat)),
+        Kind::Carved(seat) => (b"carved", Some(seat)),
+        Kind::Hand(seat) => (b"in hand", Some(seat)),
+    }
+}
+
+// Puts a piece that is no object as an element.
+fn json_piece(row: &mut Row, table: &Table, piece: Piece) {
+    let (kind, seat) = kind_of(piece.kind);
+    json_key_of_element(row);
+    row.put(b"{");
+    json_text(row, b"kind", kind);
+    if let Some(seat) = seat {
+        json_number(row, b"machine", (seat as u64).saturating_add(1));
+    }
+    json_place_of(row, table, piece.at);
+    json_number(row, b"words", piece.words());
+    row.put(b"}");
+}
+
+// Writes the elements for what is no object in a region.
+fn json_pieces<K: Sink>(
+    row: &mut Row,
+    block: &mut Block,
+    sink: &mut K,
+    table: &Table,
+    region: usize,
+) {
+    let (mut at, end) = used(table, region);
+    for _ in 0..1024 {
+        let Some(piece) = piece_at(table, at, end) else {
+            return;
+        };
+        if !piece.is_object() {
+            json_piece(row, table, piece);
+            row.pass(block, sink);
+        }
+        at = piece.next;
+    }
 }
 
 // Puts the comma before an element of a list but the first.
@@ -59,28 +105,18 @@ fn json_key_of_element(row: &mut Row) {
     }
 }
 
-// Puts the member that is the machine whose current region a region is, if it is one's.
-fn json_owner(row: &mut Row, table: &Table, region: usize) {
-    let config = table.config();
-    for seat in 0..config.seats() {
-        if table.word(config.cur_at(seat)) == (region as u64).saturating_add(1) {
-            json_number(row, b"machine", (seat as u64).saturating_add(1));
-            return;
+// Puts the members that say whether a region is the shared one, and which machines have their buffers in it.
+fn json_owners(row: &mut Row, table: &Table, region: usize) {
+    json_flag(row, b"shared", shared_region(table) == Some(region));
+    json_key(row, b"machines");
+    row.put(b"[");
+    for seat in 0..table.config().seats() {
+        if region_of_buffer(table, seat) == Some(region) {
+            json_key_of_element(row);
+            row.put_number((seat as u64).saturating_add(1));
         }
     }
-}
-
-// Puts the member that is the room in hand at the end of a region, if it has some from an address on.
-fn json_room(row: &mut Row, table: &Table, region: usize, at: u64) {
-    let first = base(table, region);
-    let end = first.saturating_add(top(table, region));
-    if at < end {
-        json_key(row, b"room");
-        row.put(b"{");
-        json_number(row, b"offset", at.saturating_sub(first));
-        json_number(row, b"words", end.saturating_sub(at));
-        row.put(b"}");
-    }
+    row.put(b"]");
 }
 
 // Writes a region as an object.
@@ -90,7 +126,6 @@ fn json_region<K: Sink>(
     sink: &mut K,
     table: &Table,
     region: usize,
-    rooms: &Rooms,
 ) {
     let config = table.config();
     json_key_of_element(row);
@@ -107,18 +142,20 @@ fn json_region<K: Sink>(
         json_number(row, b"mark_start", start);
         json_number(row, b"limit", table.word(config.limit_at(region)));
         if phase(table) > 1 {
-            let (live, garbage) = live_and_garbage(table, rooms, region, start);
+            let (live, garbage) = live_and_garbage(table, region, start);
             json_number(row, b"live", live);
             json_number(row, b"garbage", garbage);
         }
     }
-    json_owner(row, table, region);
+    json_owners(row, table, region);
     json_key(row, b"objects");
     row.put(b"[");
-    let end = json_objects(row, block, sink, table, region, rooms);
+    json_objects(row, block, sink, table, region);
     row.put(b"]");
-    json_room(row, table, region, end);
-    row.put(b"}");
+    json_key(row, b"others");
+    row.put(b"[");
+    json_pieces(row, block, sink, table, region);
+    row.put(b"]}");
 }
 
 // Writes the roots of a thread, counted from 0, as a list.
@@ -141,7 +178,6 @@ pub fn json_heap<K: Sink>(
     block: &mut Block,
     sink: &mut K,
     table: &Table,
-    rooms: &Rooms,
     events: u64,
 ) {
     let config = table.config();
@@ -168,7 +204,7 @@ pub fn json_heap<K: Sink>(
     json_key(row, b"regions");
     row.put(b"[");
     for region in 0..config.regions() {
-        json_region(row, block, sink, table, region, rooms);
+        json_region(row, block, sink, table, region);
     }
     row.put(b"]");
     json_key(row, b"roots");

@@ -8,5 +8,5 @@ mod heap_objects;
 
 pub use changes::Change;
 pub use graph::{json_graph, put_graph};
-pub use heap::{Rooms, put_heap};
+pub use heap::put_heap;
 pub use heap_objects::json_heap;

@@ -157,7 +157,7 @@ impl Listing {
         if event.place == Place::P3 {
             self.end_pause(event, sink);
         }
-        self.hands.note_room(&self.words.table, event);
+        Hands::note_room(&mut self.words.table, event);
         self.hands.note_call(event);
         if self.is_change(event, is_seen) {
             self.heap_changes(sink);

@@ -6,13 +6,10 @@ use shen_base::Sink;
 impl Listing {
     // Writes the heap.
     pub(crate) fn heap<K: Sink>(&mut self, sink: &mut K) {
-        let rooms = &self.hands.rooms;
         if self.wanted.json {
-            self.words
-                .put_json(&mut self.pen, rooms, self.tally.made, sink);
+            self.words.put_json(&mut self.pen, self.tally.made, sink);
         } else {
-            self.words
-                .put(&mut self.pen, rooms, self.wanted.is_wide(), sink);
+            self.words.put(&mut self.pen, self.wanted.is_wide(), sink);
         }
     }
 
@@ -23,8 +20,7 @@ impl Listing {
             self.heap(sink);
             return;
         }
-        let rooms = &self.hands.rooms;
         self.words
-            .put_change(&mut self.pen, rooms, self.wanted.is_wide(), sink);
+            .put_change(&mut self.pen, self.wanted.is_wide(), sink);
     }
 }

@@ -3,7 +3,7 @@
 use crate::pen::Pen;
 use heap_words::{Config, NoMemory};
 use listing::Table;
-use listing_heap::{Change, Rooms, json_heap, put_heap};
+use listing_heap::{Change, json_heap, put_heap};
 use shen_base::Sink;
 use shen_core::Plain;
 use std::alloc::Global;
@@ -51,47 +51,28 @@ impl WordsNow {
     }
 
     // Writes the heap as text.
-    pub(crate) fn put<K: Sink>(&mut self, pen: &mut Pen, rooms: &Rooms, bars: bool, sink: &mut K) {
-        put_heap(&mut pen.row, &mut pen.block, sink, &self.table, rooms, bars);
+    pub(crate) fn put<K: Sink>(&mut self, pen: &mut Pen, bars: bool, sink: &mut K) {
+        put_heap(&mut pen.row, &mut pen.block, sink, &self.table, bars);
         self.note_shown();
     }
 
     // Writes the heap after so many events as an object.
-    pub(crate) fn put_json<K: Sink>(
-        &mut self,
-        pen: &mut Pen,
-        rooms: &Rooms,
-        events: u64,
-        sink: &mut K,
-    ) {
-        json_heap(
-            &mut pen.row,
-            &mut pen.block,
-            sink,
-            &self.table,
-            rooms,
-            events,
-        );
+    pub(crate) fn put_json<K: Sink>(&mut self, pen: &mut Pen, events: u64, sink: &mut K) {
+        json_heap(&mut pen.row, &mut pen.block, sink, &self.table, events);
         self.note_shown();
     }
 
     // Writes what of the heap is another line than when it was shown; at first all.
-    pub(crate) fn put_change<K: Sink>(
-        &mut self,
-        pen: &mut Pen,
-        rooms: &Rooms,
-        bars: bool,
-        sink: &mut K,
-    ) {
+    pub(crate) fn put_change<K: Sink>(&mut self, pen: &mut Pen, bars: bool, sink: &mut K) {
         if !self.has_shown {
-            self.put(pen, rooms, bars, sink);
+            self.put(pen, bars, sink);
             return;
         }
         let change = Change {
             before: &self.shown,
             after: &self.table,
         };
-        change.put(&mut pen.row, &mut pen.block, sink, rooms, bars);
+        change.put(&mut pen.row, &mut pen.block, sink, bars);
         self.note_shown();
     }
 }

@@ -57,7 +57,7 @@ pub struct Filter {
     // A machine that was named and that no heap has.
     beyond: Option<Stranger>,
     // The places; all where none is named.
-    places: [bool; 81],
+    places: [bool; 87],
     some_places: bool,
     /// A code that was given and that no place has.
     pub no_place: Option<Needle>,
@@ -127,7 +127,7 @@ impl Filter {
             control: false,
             some_machines: false,
             beyond: None,
-            places: [false; 81],
+            places: [false; 87],
             some_places: false,
             no_place: None,
             object: None,
@@ -188,7 +188,7 @@ impl Filter {
             return None;
         };
         self.some_places = true;
-        self.places[place as usize % 81] = true;
+        self.places[place as usize % 87] = true;
         Some(())
     }
 
@@ -276,7 +276,7 @@ impl Filter {
 
     /// Whether events at a place are listed.
     pub fn has_place(&self, place: Place) -> bool {
-        !self.some_places || self.places[place as usize % 81]
+        !self.some_places || self.places[place as usize % 87]
     }
 
     /// Whether a line is listed by what it names: its words stand from one column on.

@@ -36,8 +36,8 @@ enter_goes room.Stopped = refl
 enter_goes at = refl
 
 take_goes : (words : ℕ) (at : TakeSpot) → is_resolved (after_take words at) ≡ false
-take_goes words (take.Ended (At copy)) = refl
-take_goes words (take.Ended NoRoom) = refl
+take_goes words (take.Ended (At copy) end) = refl
+take_goes words (take.Ended NoRoom end) = refl
 take_goes words at = refl
 
 stop_goes : (at : RoomSpot) → is_resolved (after_stop at) ≡ false

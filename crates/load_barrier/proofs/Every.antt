@@ -25,7 +25,7 @@ module _ (c : Config) (seat address phase : ℕ) where
   kept_of : (s : Resolving) → CanAt s → ResolvingHolds address s
   kept_of s can = record {
     answer = λ to is. (known is).0;
-    whole = λ copy is. known is;
+    whole = λ copy end is. known is;
   }
     where
       known : {spot : ResolveSpot} → s.spot ≡ spot → Knows phase address (λ a. s.memory (Heap a)) (s.memory Evac) spot

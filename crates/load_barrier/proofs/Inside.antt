@@ -4,7 +4,8 @@ use Rattle.std.proofs.Common.{◌≡◌, ℕ, ◌+◌, ◌*◌, ◌<◌, ◌≤�
 use Rattle.std.specs.Prelude.{nat_le}
 use Rattle.std.proofs.lemmas.Bool.{and_parts, ltb-true, leb-true}
 use Rattle.heap_words.specs.declared.config.Config.{Config}
-use Rattle.heap_words.specs.Words.{Heap, Top, IsWord, is_word, is_image}
+use Rattle.heap_words.specs.Ranges.{seat_count}
+use Rattle.heap_words.specs.Words.{Heap, IsWord, is_word, is_image}
 use Rattle.heap_words.proofs.Stores.{is_word_true}
 use Rattle.regions.specs.Place.{region_with}
 use Rattle.regions.proofs.PlaceLemmas.{regions_tile}
@@ -23,10 +24,6 @@ use Rattle.load_barrier.specs.declared.evac_spot.EvacSpot.TheVariants as evac
 use Rattle.load_barrier.specs.UnitRows as evacs
 use Rattle.load_barrier.specs.UnitFit.{is_ready}
 
--- the region of an address of the heap is one of the heap
-region_inside : (c : Config) (address : ℕ) → IsWord c (Heap address) → IsWord c (Top (region_with c address))
-region_inside c address is = regions_tile.in_range c address is
-
 -- of words from an address on that lie in the heap each does
 words_inside : (c : Config) (address words index : ℕ) → has_words c address words ≡ true → index < words → IsWord c (Heap (address + index))
 words_inside c address words index has below =
@@ -37,48 +34,49 @@ words_inside c address words index has below =
 heap_there : (c : Config) (address : ℕ) → is_word c (Heap address) ≡ true → IsWord c (Heap address)
 heap_there c address is = is_word_true c (Heap address) is
 
-copy_inside : (c : Config) (address copy : ℕ) (at : CopySpot) → is_word c (Heap address) ≡ true → copy_ready c address copy at ≡ true → IsWord c (resolves.copy_touch c address copy at).word
-copy_inside c address copy (LoadWord words index) there ready =
+copy_inside : (c : Config) (seat address copy end : ℕ) (at : CopySpot) → seat < seat_count c.mutators c.helpers → is_word c (Heap address) ≡ true → copy_ready c address copy at ≡ true → IsWord c (resolves.copy_touch seat address copy end at).word
+copy_inside c seat address copy end (LoadWord words index) seated there ready =
     let object = and_parts _ _ ready in
     words_inside c address words index (and_parts _ _ object.0).1 (ltb-true _ _ (and_parts _ _ object.1).1)
-copy_inside c address copy (StoreWord words index found) there ready =
+copy_inside c seat address copy end (StoreWord words index found) seated there ready =
     let room = and_parts _ _ (and_parts _ _ ready).1 in
     words_inside c copy words index room.0 (ltb-true _ _ room.1)
-copy_inside c address copy StoreHeader there ready = heap_there c copy ready
-copy_inside c address copy Publish there ready = heap_there c address there
-copy_inside c address copy (GiveBack answer) there ready = region_inside c copy (heap_there c copy (and_parts _ _ ready).0)
+copy_inside c seat address copy end StoreHeader seated there ready = heap_there c copy ready
+copy_inside c seat address copy end Publish seated there ready = heap_there c address there
+copy_inside c seat address copy end (GiveBack answer) seated there ready = seated
 
 -- where the address is one of the heap, each access of its resolving is of a word of the table
-pub resolve_inside : (c : Config) (seat address : ℕ) (at : ResolveSpot) → is_word c (Heap address) ≡ true → resolve.is_ready c seat address at ≡ true → IsWord c (resolves.touch_at c seat address at).word
-resolve_inside c seat address LoadHeader there ready = heap_there c address there
-resolve_inside c seat address (Entering at) there ready = tt
-resolve_inside c seat address LoadShape there ready = heap_there c (address + 1) ready
-resolve_inside c seat address (Taking words at) there ready =
+pub resolve_inside : (c : Config) (seat address : ℕ) (at : ResolveSpot) → seat < seat_count c.mutators c.helpers → is_word c (Heap address) ≡ true → resolve.is_ready c seat address at ≡ true → IsWord c (resolves.touch_at c seat address at).word
+resolve_inside c seat address LoadHeader seated there ready = heap_there c address there
+resolve_inside c seat address (Entering at) seated there ready = tt
+resolve_inside c seat address LoadShape seated there ready = heap_there c (address + 1) ready
+resolve_inside c seat address (Taking words at) seated there ready =
     is_word_true c (takes.touch_at seat words at).word (and_parts _ _ (and_parts _ _ (and_parts _ _ (and_parts _ _ ready).1).1).0).0
-resolve_inside c seat address (Copying copy at) there ready = copy_inside c address copy at there ready
-resolve_inside c seat address (Leaving answer) there ready = tt
-resolve_inside c seat address (Stopping at) there ready = tt
-resolve_inside c seat address LoadAgain there ready = heap_there c address there
-resolve_inside c seat address (Resolved answer) there ready = heap_there c address there
+resolve_inside c seat address (Copying copy end at) seated there ready = copy_inside c seat address copy end at seated there (and_parts _ _ ready).0
+resolve_inside c seat address (Leaving answer) seated there ready = tt
+resolve_inside c seat address (Stopping at) seated there ready = tt
+resolve_inside c seat address LoadAgain seated there ready = heap_there c address there
+resolve_inside c seat address (Resolved answer) seated there ready = heap_there c address there
 
 -- and so is each access of an evacuation
-pub evacuation_inside : (c : Config) (seat : ℕ) (at : EvacSpot) → is_ready c seat at ≡ true → IsWord c (evacs.touch_at c seat at).word
-evacuation_inside c seat evac.LoadClaim ready = tt
-evacuation_inside c seat (evac.ClaimUnit unit) ready = tt
-evacuation_inside c seat (evac.LoadTop region) ready = ltb-true _ _ ready
-evacuation_inside c seat (evac.LoadShape address end) ready = heap_there c (address + 1) (and_parts _ _ ready).1
-evacuation_inside c seat (evac.LoadMark address end next) ready = word_inside c address (heap_there c address (and_parts _ _ (and_parts _ _ ready).0).0)
-evacuation_inside c seat (evac.Resolving address end next at) ready =
+pub evacuation_inside : (c : Config) (seat : ℕ) (at : EvacSpot) → seat < seat_count c.mutators c.helpers → is_ready c seat at ≡ true → IsWord c (evacs.touch_at c seat at).word
+evacuation_inside c seat evac.LoadClaim seated ready = tt
+evacuation_inside c seat (evac.ClaimUnit unit) seated ready = tt
+evacuation_inside c seat (evac.LoadTop region) seated ready = ltb-true _ _ ready
+evacuation_inside c seat (evac.LoadFirst address end) seated ready = heap_there c address ready
+evacuation_inside c seat (evac.LoadShape address end) seated ready = heap_there c (address + 1) (and_parts _ _ ready).1
+evacuation_inside c seat (evac.LoadMark address end next) seated ready = word_inside c address (heap_there c address (and_parts _ _ (and_parts _ _ ready).0).0)
+evacuation_inside c seat (evac.Resolving address end next at) seated ready =
     let parts = and_parts _ _ ready in
-    resolve_inside c seat address at (and_parts _ _ parts.0).0 (and_parts _ _ (and_parts _ _ parts.1).1).0
-evacuation_inside c seat (evac.Ended unit) ready = tt
+    resolve_inside c seat address at seated (and_parts _ _ parts.0).0 (and_parts _ _ (and_parts _ _ parts.1).1).0
+evacuation_inside c seat (evac.Ended unit) seated ready = tt
 
-copy_image : (c : Config) (address copy : ℕ) (at : CopySpot) → is_image (resolves.copy_touch c address copy at).word ≡ true
-copy_image c address copy (LoadWord words index) = refl
-copy_image c address copy (StoreWord words index found) = refl
-copy_image c address copy StoreHeader = refl
-copy_image c address copy Publish = refl
-copy_image c address copy (GiveBack answer) = refl
+copy_image : (seat address copy end : ℕ) (at : CopySpot) → is_image (resolves.copy_touch seat address copy end at).word ≡ true
+copy_image seat address copy end (LoadWord words index) = refl
+copy_image seat address copy end (StoreWord words index found) = refl
+copy_image seat address copy end StoreHeader = refl
+copy_image seat address copy end Publish = refl
+copy_image seat address copy end (GiveBack answer) = refl
 
 -- a resolving accesses words of the image alone
 pub resolve_image : (c : Config) (seat address : ℕ) (at : ResolveSpot) → is_image (resolves.touch_at c seat address at).word ≡ true
@@ -86,7 +84,7 @@ resolve_image c seat address LoadHeader = refl
 resolve_image c seat address (Entering at) = refl
 resolve_image c seat address LoadShape = refl
 resolve_image c seat address (Taking words at) = in_image seat words at
-resolve_image c seat address (Copying copy at) = copy_image c address copy at
+resolve_image c seat address (Copying copy end at) = copy_image seat address copy end at
 resolve_image c seat address (Leaving answer) = refl
 resolve_image c seat address (Stopping at) = refl
 resolve_image c seat address LoadAgain = refl
@@ -97,6 +95,7 @@ pub evacuation_image : (c : Config) (seat : ℕ) (at : EvacSpot) → is_image (e
 evacuation_image c seat evac.LoadClaim = refl
 evacuation_image c seat (evac.ClaimUnit unit) = refl
 evacuation_image c seat (evac.LoadTop region) = refl
+evacuation_image c seat (evac.LoadFirst address end) = refl
 evacuation_image c seat (evac.LoadShape address end) = refl
 evacuation_image c seat (evac.LoadMark address end next) = refl
 evacuation_image c seat (evac.Resolving address end next at) = resolve_image c seat address at

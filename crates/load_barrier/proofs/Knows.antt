@@ -50,7 +50,7 @@ module _ (phase address : ℕ) where
   Knows heap evac (Entering at) = IsAsking at × Mine evac at
   Knows heap evac LoadShape = ⊤
   Knows heap evac (Taking words at) = (words ≡ words_by_shape heap address) × (takes.is_ended at ≡ false)
-  Knows heap evac (Copying copy at) = CopyKnows heap copy at
+  Knows heap evac (Copying copy end at) = CopyKnows heap copy at
   Knows heap evac (Leaving answer) = heap address ≡ header_word answer
   Knows heap evac (Stopping at) = IsGoing at × Mine evac at
   Knows heap evac LoadAgain = IsQuiet evac
@@ -112,38 +112,38 @@ module _ (phase address : ℕ) (spot : ResolveSpot) (before after : Word → ℕ
   settled_stays (inr (inr updating)) = inr (inr updating)
 
 -- what holds of a copying stays
-copy_stays : (phase address copy : ℕ) (at : CopySpot) (before after : Word → ℕ) → LeaveObject phase address (Copying copy at) before after
+copy_stays : (phase address copy end : ℕ) (at : CopySpot) (before after : Word → ℕ) → LeaveObject phase address (Copying copy end at) before after
     → CopyKnows phase address (λ a. before (Heap a)) copy at → CopyKnows phase address (λ a. after (Heap a)) copy at
-copy_stays phase address copy (LoadWord words index) before after left knows =
-    let same = words_stay phase address (Copying copy (LoadWord words index)) before after left refl in (
+copy_stays phase address copy end (LoadWord words index) before after left knows =
+    let same = words_stay phase address (Copying copy end (LoadWord words index)) before after left refl in (
       knows.0 ∙ sym same,
       knows.1,
       knows.2,
-      copied_stay phase address (Copying copy (LoadWord words index)) before after left copy index refl (omega (arith, knows.0, knows.2)) left.room knows.3,
+      copied_stay phase address (Copying copy end (LoadWord words index)) before after left copy index refl (omega (arith, knows.0, knows.2)) left.room knows.3,
     )
-copy_stays phase address copy (StoreWord words index found) before after left knows =
-    let same = words_stay phase address (Copying copy (StoreWord words index found)) before after left refl in (
+copy_stays phase address copy end (StoreWord words index found) before after left knows =
+    let same = words_stay phase address (Copying copy end (StoreWord words index found)) before after left refl in (
       knows.0 ∙ sym same,
       knows.1,
       knows.2,
-      copied_stay phase address (Copying copy (StoreWord words index found)) before after left copy index refl (omega (arith, knows.0, knows.2)) left.room knows.3,
+      copied_stay phase address (Copying copy end (StoreWord words index found)) before after left copy index refl (omega (arith, knows.0, knows.2)) left.room knows.3,
       knows.4 ∙ sym (left.words refl index knows.1 (omega (arith, knows.0, knows.2))),
     )
-copy_stays phase address copy StoreHeader before after left knows =
-    let same = words_stay phase address (Copying copy StoreHeader) before after left refl in
+copy_stays phase address copy end StoreHeader before after left knows =
+    let same = words_stay phase address (Copying copy end StoreHeader) before after left refl in
     subst (λ n. AreCopied (λ a. after (Heap a)) address copy n) (sym same)
-    (copied_stay phase address (Copying copy StoreHeader) before after left copy (words_by_shape (λ a. before (Heap a)) address) refl (omega arith) left.room knows)
-copy_stays phase address copy Publish before after left knows =
-    let same = words_stay phase address (Copying copy Publish) before after left refl in
+    (copied_stay phase address (Copying copy end StoreHeader) before after left copy (words_by_shape (λ a. before (Heap a)) address) refl (omega arith) left.room knows)
+copy_stays phase address copy end Publish before after left knows =
+    let same = words_stay phase address (Copying copy end Publish) before after left refl in
     record {
       header = first (left.room 0 (omega arith)) ∙ knows.header;
       words = subst (λ n. AreCopied (λ a. after (Heap a)) address copy n) (sym same)
-          (copied_stay phase address (Copying copy Publish) before after left copy (words_by_shape (λ a. before (Heap a)) address) refl (omega arith) left.room knows.words);
+          (copied_stay phase address (Copying copy end Publish) before after left copy (words_by_shape (λ a. before (Heap a)) address) refl (omega arith) left.room knows.words);
     }
   where
     first : after (Heap (copy + 0)) ≡ before (Heap (copy + 0)) → after (Heap copy) ≡ before (Heap copy)
     first is = subst (λ a. after (Heap a) ≡ before (Heap a)) (omega arith) is
-copy_stays phase address copy (GiveBack answer) before after left knows = header_stays phase address (Copying copy (GiveBack answer)) before after left answer knows
+copy_stays phase address copy end (GiveBack answer) before after left knows = header_stays phase address (Copying copy end (GiveBack answer)) before after left answer knows
 
 knows_stay : (phase address : ℕ) (spot : ResolveSpot) (before after : Word → ℕ) → LeaveObject phase address spot before after
     → Knows phase address (λ a. before (Heap a)) (before Evac) spot → Knows phase address (λ a. after (Heap a)) (after Evac) spot
@@ -151,7 +151,7 @@ knows_stay phase address LoadHeader before after left knows = tt
 knows_stay phase address (Entering at) before after left knows = (knows.0, mine_stays (before Evac) (after Evac) at left.out knows.1)
 knows_stay phase address LoadShape before after left knows = tt
 knows_stay phase address (Taking words at) before after left knows = (knows.0 ∙ sym (words_stay phase address (Taking words at) before after left refl), knows.1)
-knows_stay phase address (Copying copy at) before after left knows = copy_stays phase address copy at before after left knows
+knows_stay phase address (Copying copy end at) before after left knows = copy_stays phase address copy end at before after left knows
 knows_stay phase address (Leaving answer) before after left knows = header_stays phase address (Leaving answer) before after left answer knows
 knows_stay phase address (Stopping at) before after left knows = (knows.0, mine_stays (before Evac) (after Evac) at left.out knows.1)
 knows_stay phase address LoadAgain before after left knows = left.stopped knows

@@ -5,3 +5,4 @@ pub mod Every
 pub mod Inside
 pub mod Waiting
 pub mod UnitWaiting
+pub mod SmallAddresses

@@ -1,10 +1,10 @@
 -- Each step of a machine that resolves an address leads to what it counts on at the next spot.
 use Rattle.std.proofs.Common.{◌≡◌, ◌≢◌, ◌≤◌, ◌<◌, ◌^◌, ℕ, ◌+◌, inl, inr, Bool, true, false, refl, sym, ap, ◌∙◌, subst, arith}
 use Rattle.std.specs.Prelude.{◌==◌, nat_lt, if◌then◌else◌, ◌⊎◌}
-use Rattle.std.proofs.lemmas.Bool.{cond-true, cond-false}
+use Rattle.std.proofs.lemmas.Bool.{cond-true, cond-false, ne_eqb}
 use Rattle.std.proofs.lemmas.Bool.Decides.{nat_tests}
 use Rattle.heap_words.specs.declared.config.Config.{Config}
-use Rattle.heap_words.specs.Encoding.{plain_header, header_word, is_forwarded, forwardee_in, object_words}
+use Rattle.heap_words.specs.Encoding.{next_in, plain_header, header_word, is_forwarded, forwardee_in, object_words}
 use Rattle.heap_words.specs.Words.{Word, Evac, Heap}
 use Rattle.steps_base.specs.Touch.{touch, touched, loads, formed}
 use Rattle.heap_world.proofs.Keeping.{load_keeps}
@@ -72,9 +72,9 @@ module _ (phase address : ℕ) where
   -- a step of the taking of room
   take_leads : (heap : ℕ → ℕ) (evac words : ℕ) (at : TakeSpot) → IsHeader (heap address) → 1 ≤ count_of evac → words ≡ words_by_shape heap address
       → CanResolve phase address heap evac (after_take words at)
-  take_leads heap evac words (take.Ended (At copy)) header some are =
+  take_leads heap evac words (take.Ended (At copy) end) header some are =
       record { header = header; counted = λ copies. some; knows = (are, omega arith, omega (arith, are), λ k least below. absurd (omega (arith, least, below))) }
-  take_leads heap evac words (take.Ended NoRoom) header some are = record { header = header; counted = λ copies. some; knows = (tt, tt) }
+  take_leads heap evac words (take.Ended NoRoom end) header some are = record { header = header; counted = λ copies. some; knows = (tt, tt) }
   take_leads heap evac words at header some are = record { header = header; counted = λ copies. some; knows = (are, refl) }
 
   -- the exchange of the counter of one that has found no room
@@ -116,7 +116,7 @@ wrote_else : (heap : ℕ → ℕ) (at value a : ℕ) → at ≢ a → wrote heap
 wrote_else heap at value a other = cond-false (at == a) _ _ (grind (arith, nat_tests))
 
 -- A word of the copy is written: the object stays, since its room lies apart from it.
-module _ (address copy : ℕ) (heap : ℕ → ℕ) (index value : ℕ) (inside : index < words_by_shape heap address) (apart : IsApart heap address (Copying copy Publish)) where
+module _ (address copy end : ℕ) (heap : ℕ → ℕ) (index value : ℕ) (inside : index < words_by_shape heap address) (apart : IsApart heap address (Copying copy end Publish)) where
   abbrev filled : ℕ → ℕ
   filled = wrote heap (copy + index) value
 
@@ -136,27 +136,27 @@ module _ (address copy : ℕ) (heap : ℕ → ℕ) (index value : ℕ) (inside :
   copy_else : (k : ℕ) → k ≢ index → filled (copy + k) ≡ heap (copy + k)
   copy_else k other = wrote_else heap (copy + index) value (copy + k) (λ same. other (omega (arith, same)))
 
-module _ (phase address copy : ℕ) where
+module _ (phase address copy end : ℕ) where
   -- a word of the copy is stored
-  word_next : (heap : ℕ → ℕ) (evac words index found : ℕ) → IsApart heap address (Copying copy Publish)
-      → CanResolve phase address heap evac (Copying copy (StoreWord words index found))
-      → CanResolve phase address (wrote heap (copy + index) found) evac (Copying copy (after_word words (index + 1)))
+  word_next : (heap : ℕ → ℕ) (evac words index found : ℕ) → IsApart heap address (Copying copy end Publish)
+      → CanResolve phase address heap evac (Copying copy end (StoreWord words index found))
+      → CanResolve phase address (wrote heap (copy + index) found) evac (Copying copy end (after_word words (index + 1)))
   word_next heap evac words index found apart can = by_index (nat_lt (index + 1) words) refl
     where
       inside : index < words_by_shape heap address
       inside = omega (arith, can.knows.0, can.knows.2)
 
       header : IsHeader (wrote heap (copy + index) found address)
-      header = subst IsHeader (sym (head_stays address copy heap index found inside apart)) can.header
+      header = subst IsHeader (sym (head_stays address copy end heap index found inside apart)) can.header
 
       same : words_by_shape (wrote heap (copy + index) found) address ≡ words_by_shape heap address
-      same = words_stay address copy heap index found inside apart
+      same = words_stay address copy end heap index found inside apart
 
       one_more : AreCopied (wrote heap (copy + index) found) address copy (index + 1)
       one_more k some below = by_place (k == index) refl
         where
           keeps : wrote heap (copy + index) found (address + k) ≡ heap (address + k)
-          keeps = object_stays address copy heap index found inside apart k (omega (arith, below, inside))
+          keeps = object_stays address copy end heap index found inside apart k (omega (arith, below, inside))
 
           by_place : (b : Bool) → (k == index) ≡ b → wrote heap (copy + index) found (copy + k) ≡ wrote heap (copy + index) found (address + k)
           by_place true is =
@@ -164,10 +164,10 @@ module _ (phase address copy : ℕ) where
               wrote_here heap (copy + index) found (copy + k) (omega (arith, here)) ∙ can.knows.4 ∙ ap (λ i. heap (address + i)) (sym here) ∙ sym keeps
           by_place false is =
               let other : k ≢ index = grind (arith, nat_tests) in
-              copy_else address copy heap index found inside apart k other ∙ can.knows.3 k some (omega (arith, below, other)) ∙ sym keeps
+              copy_else address copy end heap index found inside apart k other ∙ can.knows.3 k some (omega (arith, below, other)) ∙ sym keeps
 
       by_index : (b : Bool) → nat_lt (index + 1) words ≡ b
-          → CanResolve phase address (wrote heap (copy + index) found) evac (Copying copy (if b then LoadWord words (index + 1) else StoreHeader))
+          → CanResolve phase address (wrote heap (copy + index) found) evac (Copying copy end (if b then LoadWord words (index + 1) else StoreHeader))
       by_index true is = record {
         header = header;
         counted = λ copies. can.counted refl;
@@ -182,37 +182,37 @@ module _ (phase address copy : ℕ) where
           }
 
   -- the header of the copy is stored
-  header_stored : (heap : ℕ → ℕ) (evac : ℕ) → IsApart heap address (Copying copy Publish) → CanResolve phase address heap evac (Copying copy StoreHeader)
-      → CanResolve phase address (wrote heap copy plain_header) evac (Copying copy Publish)
-  header_stored heap evac apart can = subst (λ a. CanResolve phase address (wrote heap a plain_header) evac (Copying copy Publish)) (omega arith) stored
+  header_stored : (heap : ℕ → ℕ) (evac : ℕ) → IsApart heap address (Copying copy end Publish) → CanResolve phase address heap evac (Copying copy end StoreHeader)
+      → CanResolve phase address (wrote heap copy plain_header) evac (Copying copy end Publish)
+  header_stored heap evac apart can = subst (λ a. CanResolve phase address (wrote heap a plain_header) evac (Copying copy end Publish)) (omega arith) stored
     where
       inside : 0 < words_by_shape heap address
       inside = omega arith
 
       same : words_by_shape (wrote heap (copy + 0) plain_header) address ≡ words_by_shape heap address
-      same = words_stay address copy heap 0 plain_header inside apart
+      same = words_stay address copy end heap 0 plain_header inside apart
 
-      stored : CanResolve phase address (wrote heap (copy + 0) plain_header) evac (Copying copy Publish)
+      stored : CanResolve phase address (wrote heap (copy + 0) plain_header) evac (Copying copy end Publish)
       stored = record {
-        header = subst IsHeader (sym (head_stays address copy heap 0 plain_header inside apart)) can.header;
+        header = subst IsHeader (sym (head_stays address copy end heap 0 plain_header inside apart)) can.header;
         counted = λ copies. can.counted refl;
         knows = record {
           header = wrote_here heap (copy + 0) plain_header copy (omega arith);
           words = λ k some below.
-              copy_else address copy heap 0 plain_header inside apart k (λ zero. absurd (omega (arith, zero, some)))
+              copy_else address copy end heap 0 plain_header inside apart k (λ zero. absurd (omega (arith, zero, some)))
               ∙ can.knows k some (omega (arith, below, same))
-              ∙ sym (object_stays address copy heap 0 plain_header inside apart k (omega (arith, below, same)));
+              ∙ sym (object_stays address copy end heap 0 plain_header inside apart k (omega (arith, below, same)));
         };
       }
 
   -- the exchange on the old header
-  publish_next : (heap : ℕ → ℕ) (evac : ℕ) → CanResolve phase address heap evac (Copying copy Publish)
-      → CanResolve phase address (wrote heap address (if heap address == plain_header then header_word copy else heap address)) evac (after_publish copy (heap address))
+  publish_next : (heap : ℕ → ℕ) (evac : ℕ) → CanResolve phase address heap evac (Copying copy end Publish)
+      → CanResolve phase address (wrote heap address (if heap address == plain_header then header_word copy else heap address)) evac (after_publish copy end (heap address))
   publish_next heap evac can = by_header (heap address == plain_header) refl
     where
       by_header : (b : Bool) → (heap address == plain_header) ≡ b
           → CanResolve phase address (wrote heap address (if b then header_word copy else heap address)) evac
-          (if b then Leaving copy else Copying copy (GiveBack (forwardee_in (heap address))))
+          (if b then Leaving copy else Copying copy end (GiveBack (forwardee_in (heap address))))
       by_header true is =
           let there : wrote heap address (header_word copy) address ≡ header_word copy = wrote_here heap address (header_word copy) address refl in
           record { header = subst IsHeader (sym there) (inr (header_forwarded copy)); counted = λ copies. can.counted refl; knows = there }
@@ -242,25 +242,41 @@ module _ (c : Config) (seat address phase : ℕ) (memory : Word → ℕ) where
   loaded : (word : Word) (next : ResolveSpot) → Can phase address memory next → Can phase address (touched memory (touch word loads)) next
   loaded word next can = subst (λ m. Can phase address m next) (load_keeps memory word) can
 
-  step_take : (words : ℕ) (at : TakeSpot) → Can phase address memory (Taking words at) → Next (Taking words at)
-  step_take words at can =
-      let heap_stays : (a : ℕ) → after (Taking words at) (Heap a) ≡ memory (Heap a) = λ a. others_stay seat words memory at (Heap a) refl in
+  -- A step of a taking of room leaves the object: it writes no word of the heap but the header of a filler, which is none of the object's.
+  object_left : (words : ℕ) (at : TakeSpot) → IsApart (λ a. memory (Heap a)) address (Taking words at) → (k : ℕ) → k < words_by_shape (λ a. memory (Heap a)) address
+      → after (Taking words at) (Heap (address + k)) ≡ memory (Heap (address + k))
+  object_left words (take.Fill buffer place room) apart k below = cond-false (next_in buffer == (address + k)) _ _ (ne_eqb (next_in buffer) (address + k) (λ same. (omega (arith, same, apart, below))))
+  object_left words take.LoadBuffer apart k below = refl
+  object_left words (take.LoadShared buffer) apart k below = refl
+  object_left words (take.LoadTop buffer region) apart k below = refl
+  object_left words (take.Carve buffer region top room) apart k below = refl
+  object_left words (take.LoadFree buffer shared) apart k below = refl
+  object_left words (take.TakeRegion buffer shared region) apart k below = refl
+  object_left words (take.ShareRegion buffer shared region) apart k below = refl
+  object_left words (take.GiveBack buffer region) apart k below = refl
+  object_left words (take.StoreBuffer place room) apart k below = refl
+  object_left words (take.Ended taken end) apart k below = refl
+
+  step_take : (words : ℕ) (at : TakeSpot) → IsApart (λ a. memory (Heap a)) address (Taking words at) → Can phase address memory (Taking words at) → Next (Taking words at)
+  step_take words at apart can =
+      let head : after (Taking words at) (Heap address) ≡ memory (Heap address) = subst (λ a. after (Taking words at) (Heap a) ≡ memory (Heap a)) (omega arith) (object_left words at apart 0 (omega arith)) in
+      let shape : after (Taking words at) (Heap (address + 1)) ≡ memory (Heap (address + 1)) = object_left words at apart 1 (omega arith) in
       let evac_stays : after (Taking words at) Evac ≡ memory Evac = others_stay seat words memory at Evac refl in
       take_leads phase address (λ a. after (Taking words at) (Heap a)) (after (Taking words at) Evac) words (take_next c words at (found_at (Taking words at)))
-      (subst IsHeader (sym (heap_stays address)) can.header)
+      (subst IsHeader (sym head) can.header)
       (subst (λ n. 1 ≤ count_of n) (sym evac_stays) (can.counted refl))
-      (can.knows.0 ∙ ap object_words (sym (heap_stays (address + 1))))
+      (can.knows.0 ∙ ap object_words (sym shape))
 
-  step_copy : (copy : ℕ) (at : CopySpot) → IsApart (λ a. memory (Heap a)) address (Copying copy Publish) → Can phase address memory (Copying copy at) → Next (Copying copy at)
-  step_copy copy (LoadWord words index) apart can = loaded (Heap (address + index)) (Copying copy (StoreWord words index (memory (Heap (address + index))))) (record {
+  step_copy : (copy end : ℕ) (at : CopySpot) → IsApart (λ a. memory (Heap a)) address (Copying copy end Publish) → Can phase address memory (Copying copy end at) → Next (Copying copy end at)
+  step_copy copy end (LoadWord words index) apart can = loaded (Heap (address + index)) (Copying copy end (StoreWord words index (memory (Heap (address + index))))) (record {
     header = can.header;
     counted = λ copies. can.counted refl;
     knows = (can.knows.0, can.knows.1, can.knows.2, can.knows.3, refl);
   })
-  step_copy copy (StoreWord words index found) apart can = word_next phase address copy (λ a. memory (Heap a)) (memory Evac) words index found apart can
-  step_copy copy StoreHeader apart can = header_stored phase address copy (λ a. memory (Heap a)) (memory Evac) apart can
-  step_copy copy Publish apart can = publish_next phase address copy (λ a. memory (Heap a)) (memory Evac) can
-  step_copy copy (GiveBack answer) apart can = record { header = can.header; counted = λ copies. can.counted refl; knows = can.knows }
+  step_copy copy end (StoreWord words index found) apart can = word_next phase address copy end (λ a. memory (Heap a)) (memory Evac) words index found apart can
+  step_copy copy end StoreHeader apart can = header_stored phase address copy end (λ a. memory (Heap a)) (memory Evac) apart can
+  step_copy copy end Publish apart can = publish_next phase address copy end (λ a. memory (Heap a)) (memory Evac) can
+  step_copy copy end (GiveBack answer) apart can = record { header = can.header; counted = λ copies. can.counted refl; knows = can.knows }
 
   pub each_step : (spot : ResolveSpot) → is_resolved spot ≡ false → IsCounter (memory Evac) → IsApart (λ a. memory (Heap a)) address spot
       → Can phase address memory spot → Next spot
@@ -274,9 +290,9 @@ module _ (c : Config) (seat address phase : ℕ) (memory : Word → ℕ) where
   each_step (Entering (Mark found)) going counter apart can = absurd can.knows.0
   each_step (Entering Wait) going counter apart can = absurd can.knows.0
   each_step (Entering Stopped) going counter apart can = absurd can.knows.0
-  each_step LoadShape going counter apart can = loaded (Heap (address + 1)) (Taking (object_words (memory (Heap (address + 1)))) take.LoadCurrent) (record { header = can.header; counted = λ copies. can.counted refl; knows = (refl, refl) })
-  each_step (Taking words at) going counter apart can = step_take words at can
-  each_step (Copying copy at) going counter apart can = step_copy copy at apart can
+  each_step LoadShape going counter apart can = loaded (Heap (address + 1)) (Taking (object_words (memory (Heap (address + 1)))) take.LoadBuffer) (record { header = can.header; counted = λ copies. can.counted refl; knows = (refl, refl) })
+  each_step (Taking words at) going counter apart can = step_take words at apart can
+  each_step (Copying copy end at) going counter apart can = step_copy copy end at apart can
   each_step (Leaving answer) going counter apart can = record {
     header = can.header;
     counted = λ copies. absurd (cc (copies));

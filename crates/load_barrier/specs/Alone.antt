@@ -1,11 +1,12 @@
 -- The resolving of an address by itself: the steps of the machine that resolves it, and between them whatever other machines do.
 use Rattle.std.specs.Prelude.{ℕ, ◌≡◌, ◌+◌, ◌≤◌, ◌<◌, ◌^◌, Bool, true, false, ◌⊎◌, List, [], ◌∷◌, ⊤}
 use Rattle.heap_words.specs.declared.config.Config.{Config}
-use Rattle.heap_words.specs.Encoding.{plain_header, is_forwarded, object_words}
+use Rattle.heap_words.specs.Encoding.{next_in, plain_header, is_forwarded, object_words}
 use Rattle.heap_words.specs.Words.{Word, Evac, Heap}
 use Rattle.steps_base.specs.Touch.{touched}
 use Rattle.heap_words.specs.Counter.{count_of, is_out_of_room, IsQuiet}
 use Rattle.evac_room.specs.Spot.{is_counted}
+use Rattle.alloc_buffers.specs.declared.spot.TakeSpot.TheVariants as take
 use Rattle.load_barrier.specs.declared.copying.CopySpot.TheVariants.{Publish}
 use Rattle.load_barrier.specs.declared.spot.ResolveSpot.{ResolveSpot}
 use Rattle.load_barrier.specs.declared.spot.ResolveSpot.TheVariants.{LoadHeader, LoadShape, Taking, Copying, Leaving, Stopping, Resolved}
@@ -29,7 +30,7 @@ resolving_from memory = record { memory = memory; spot = LoadHeader }
 abbrev pub is_copier : ResolveSpot → Bool
 is_copier LoadShape = true
 is_copier (Taking words at) = true
-is_copier (Copying copy at) = true
+is_copier (Copying copy end at) = true
 is_copier (Leaving answer) = true
 is_copier (Stopping at) = is_counted at
 is_copier _ = false
@@ -51,14 +52,15 @@ pub record IsWholeCopy (heap : ℕ → ℕ) (address copy : ℕ) : Type 0 where
   pub header : heap copy ≡ plain_header
   pub words : AreCopied heap address copy (words_by_shape heap address)
 
--- room for a copy has no word in common with the object
+-- room for a copy has no word in common with the object, nor has a filler that is stored while room is taken
 abbrev pub IsApart : (ℕ → ℕ) → ℕ → ResolveSpot → Type 0
-IsApart heap address (Copying copy at) = (copy + words_by_shape heap address ≤ address) ⊎ (address + words_by_shape heap address ≤ copy)
+IsApart heap address (Copying copy end at) = (copy + words_by_shape heap address ≤ address) ⊎ (address + words_by_shape heap address ≤ copy)
+IsApart heap address (Taking words (take.Fill buffer place room)) = (next_in buffer < address) ⊎ (address + words_by_shape heap address ≤ next_in buffer)
 IsApart heap address _ = ⊤
 
 -- the words of the machine's room stay as they are
 abbrev pub RoomStays : (ℕ → ℕ) → (ℕ → ℕ) → ℕ → ResolveSpot → Type 0
-RoomStays before after address (Copying copy at) = (k : ℕ) → k < words_by_shape before address → after (copy + k) ≡ before (copy + k)
+RoomStays before after address (Copying copy end at) = (k : ℕ) → k < words_by_shape before address → after (copy + k) ≡ before (copy + k)
 RoomStays before after address _ = ⊤
 
 -- What other machines may do while one that resolves an address stands at a spot.
@@ -117,7 +119,7 @@ pub record ResolvingHolds (address : ℕ) (s : Resolving) : Type 0 where
   -- the answer is the object's current copy
   pub answer : (to : ℕ) → s.spot ≡ Resolved to → to ≡ current_copy address (s.memory (Heap address))
   -- a copy that is about to be published is whole
-  pub whole : (copy : ℕ) → s.spot ≡ Copying copy Publish → IsWholeCopy (λ a. s.memory (Heap a)) address copy
+  pub whole : (copy end : ℕ) → s.spot ≡ Copying copy end Publish → IsWholeCopy (λ a. s.memory (Heap a)) address copy
 
 -- The resolving of the address of an object, whatever others do that leave the object.
 abbrev pub AnswersAreCurrent : Type 0

@@ -1,5 +1,5 @@
 -- Whether a machine that resolves an address can make its next access, and by which words it can go on.
-use Rattle.std.specs.Prelude.{ℕ, ◌≡◌, ◌≢◌, ◌+◌, ◌*◌, Bool, true, false, ◌&&◌, nat_lt, nat_le, ⊤, if◌then◌else◌}
+use Rattle.std.specs.Prelude.{ℕ, ◌≡◌, ◌≢◌, ◌+◌, ◌*◌, ◌^◌, Bool, true, false, ◌&&◌, nat_lt, nat_le, ⊤, if◌then◌else◌}
 use Rattle.heap_words.specs.declared.config.Config.{Config}
 use Rattle.heap_words.specs.Words.{Heap, is_word}
 use Rattle.alloc_buffers.specs.declared.spot.TakeSpot.{TakeSpot}
@@ -49,7 +49,7 @@ is_ready c seat address LoadHeader = true
 is_ready c seat address (Entering at) = is_entering at && (raises_clear at && is_busy (is_at_rest at))
 is_ready c seat address LoadShape = is_word c (Heap (address + 1))
 is_ready c seat address (Taking words at) = take_ready c seat address words at
-is_ready c seat address (Copying copy at) = copy_ready c address copy at
+is_ready c seat address (Copying copy end at) = copy_ready c address copy at && nat_lt end (2 ^ 32)
 is_ready c seat address (Leaving answer) = is_word c (Heap answer)
 is_ready c seat address (Stopping at) = is_stopping at && is_busy (is_at_rest at)
 is_ready c seat address LoadAgain = true

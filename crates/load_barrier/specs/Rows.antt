@@ -1,17 +1,16 @@
 -- The rows of the steps by which a machine resolves an address of the collection set: for each spot its place, the access that
 -- it makes and what follows. Whoever finds the object not forwarded asks to copy, copies it into room of its own, and publishes
--- its copy by one exchange on the old header. The loser of that race gives its room back, and goes on with the copy of the
+-- its copy by one exchange on the old header. The loser of that race gives its room back to its buffer, and goes on with the copy of the
 -- winner. Whoever finds no room stops all copying, and waits until nobody copies; then the header decides once more.
-use Rattle.std.specs.Prelude.{ℕ, ◌+◌, ◌-◌, ◌==◌, Bool, true, false, nat_lt, if◌then◌else◌}
+use Rattle.std.specs.Prelude.{ℕ, ◌+◌, ◌==◌, Bool, true, false, nat_lt, if◌then◌else◌}
 use Rattle.heap_words.specs.declared.config.Config.{Config}
 use Rattle.heap_words.specs.declared.place.Place.{Place}
 use Rattle.heap_words.specs.declared.place.Place.TheVariants as place
 use Rattle.heap_words.specs.declared.access.Took.{Took}
 use Rattle.heap_words.specs.declared.access.Took.TheVariants.{More, Again, Done}
-use Rattle.heap_words.specs.Encoding.{plain_header, header_word, is_forwarded, forwardee_in, object_words}
-use Rattle.heap_words.specs.Words.{Evac, Top, Heap}
+use Rattle.heap_words.specs.Encoding.{plain_header, header_word, is_forwarded, forwardee_in, object_words, buffer_word}
+use Rattle.heap_words.specs.Words.{Evac, Current, Heap}
 use Rattle.steps_base.specs.Touch.{Touch, touch, loads, stores, subtracts, exchanges}
-use Rattle.regions.specs.Place.{region_with, base_of}
 use Rattle.alloc_buffers.specs.declared.spot.Kind.TheVariants.{Evacuated}
 use Rattle.alloc_buffers.specs.declared.spot.Taken.TheVariants.{At, NoRoom}
 use Rattle.alloc_buffers.specs.declared.spot.TakeSpot.{TakeSpot}
@@ -39,23 +38,19 @@ place_at LoadHeader = place.HL
 place_at (Entering at) = rooms.place_at at
 place_at LoadShape = place.SL
 place_at (Taking words at) = takes.place_at at
-place_at (Copying copy at) = copy_place at
+place_at (Copying copy end at) = copy_place at
 place_at (Leaving answer) = place.XS
 place_at (Stopping at) = rooms.place_at at
 place_at LoadAgain = place.HR
 place_at (Resolved answer) = place.HR
 
--- how far behind its region's base an address is
-abbrev pub offset_of : Config → ℕ → ℕ
-offset_of c address = address - base_of c (region_with c address)
-
--- the next access of a machine that copies the object at an address into room that begins at another
-abbrev pub copy_touch : Config → ℕ → ℕ → CopySpot → Touch
-copy_touch c address copy (LoadWord words index) = touch (Heap (address + index)) loads
-copy_touch c address copy (StoreWord words index found) = touch (Heap (copy + index)) (stores found)
-copy_touch c address copy StoreHeader = touch (Heap copy) (stores plain_header)
-copy_touch c address copy Publish = touch (Heap address) (exchanges plain_header (header_word copy))
-copy_touch c address copy (GiveBack answer) = touch (Top (region_with c copy)) (stores (offset_of c copy))
+-- the next access of the machine of a seat that copies the object at an address into room that begins at another, of a buffer with an end
+abbrev pub copy_touch : (seat address copy end : ℕ) → CopySpot → Touch
+copy_touch seat address copy end (LoadWord words index) = touch (Heap (address + index)) loads
+copy_touch seat address copy end (StoreWord words index found) = touch (Heap (copy + index)) (stores found)
+copy_touch seat address copy end StoreHeader = touch (Heap copy) (stores plain_header)
+copy_touch seat address copy end Publish = touch (Heap address) (exchanges plain_header (header_word copy))
+copy_touch seat address copy end (GiveBack answer) = touch (Current seat) (stores (buffer_word copy end))
 
 -- the next access of the machine of a seat that resolves the address
 abbrev pub touch_at : Config → ℕ → ℕ → ResolveSpot → Touch
@@ -63,7 +58,7 @@ touch_at c seat address LoadHeader = touch (Heap address) loads
 touch_at c seat address (Entering at) = touch Evac (rooms.form_at at)
 touch_at c seat address LoadShape = touch (Heap (address + 1)) loads
 touch_at c seat address (Taking words at) = takes.touch_at seat words at
-touch_at c seat address (Copying copy at) = copy_touch c address copy at
+touch_at c seat address (Copying copy end at) = copy_touch seat address copy end at
 touch_at c seat address (Leaving answer) = touch Evac (subtracts 1)
 touch_at c seat address (Stopping at) = touch Evac (rooms.form_at at)
 touch_at c seat address LoadAgain = touch (Heap address) loads
@@ -90,8 +85,8 @@ take_next c words at got = takes.next_at c words Evacuated at got
 
 -- where it stands that takes room: with room it copies the words behind the header, and without it stops all copying
 abbrev pub after_take : ℕ → TakeSpot → ResolveSpot
-after_take words (take.Ended (At copy)) = Copying copy (LoadWord words 1)
-after_take words (take.Ended NoRoom) = Stopping room.Ask
+after_take words (take.Ended (At copy) end) = Copying copy end (LoadWord words 1)
+after_take words (take.Ended NoRoom end) = Stopping room.Ask
 after_take words at = Taking words at
 
 -- where it stands once it has copied all words below an index: behind the last word comes the header of the copy
@@ -100,16 +95,16 @@ after_word words index = if nat_lt index words then LoadWord words index else St
 
 -- what follows the exchange on the old header: where it found the header of an object that has not moved, the copy is the
 -- object's; if not, another machine's is, and the room is given back
-abbrev pub after_publish : ℕ → ℕ → ResolveSpot
-after_publish copy got = if got == plain_header then Leaving copy else Copying copy (GiveBack (forwardee_in got))
+abbrev pub after_publish : (copy end : ℕ) → ℕ → ResolveSpot
+after_publish copy end got = if got == plain_header then Leaving copy else Copying copy end (GiveBack (forwardee_in got))
 
 -- what follows a step of a machine that copies
-abbrev pub after_copy : ℕ → CopySpot → ℕ → ResolveSpot
-after_copy copy (LoadWord words index) got = Copying copy (StoreWord words index got)
-after_copy copy (StoreWord words index found) got = Copying copy (after_word words (index + 1))
-after_copy copy StoreHeader got = Copying copy Publish
-after_copy copy Publish got = after_publish copy got
-after_copy copy (GiveBack answer) got = Leaving answer
+abbrev pub after_copy : (copy end : ℕ) → CopySpot → ℕ → ResolveSpot
+after_copy copy end (LoadWord words index) got = Copying copy end (StoreWord words index got)
+after_copy copy end (StoreWord words index found) got = Copying copy end (after_word words (index + 1))
+after_copy copy end StoreHeader got = Copying copy end Publish
+after_copy copy end Publish got = after_publish copy end got
+after_copy copy end (GiveBack answer) got = Leaving answer
 
 -- where it stands that has found no room: once nobody copies it loads the header again
 abbrev pub after_stop : RoomSpot → ResolveSpot
@@ -120,9 +115,9 @@ after_stop at = Stopping at
 abbrev pub next_at : Config → ℕ → ℕ → ResolveSpot → ℕ → ResolveSpot
 next_at c address phase LoadHeader got = after_header address phase got
 next_at c address phase (Entering at) got = after_enter (rooms.next_at at got)
-next_at c address phase LoadShape got = Taking (object_words got) take.LoadCurrent
+next_at c address phase LoadShape got = Taking (object_words got) take.LoadBuffer
 next_at c address phase (Taking words at) got = after_take words (take_next c words at got)
-next_at c address phase (Copying copy at) got = after_copy copy at got
+next_at c address phase (Copying copy end at) got = after_copy copy end at got
 next_at c address phase (Leaving answer) got = Resolved answer
 next_at c address phase (Stopping at) got = after_stop (rooms.next_at at got)
 next_at c address phase LoadAgain got = Resolved (current_copy address got)

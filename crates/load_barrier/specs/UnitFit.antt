@@ -6,16 +6,16 @@ use Rattle.load_barrier.specs.declared.spot.ResolveSpot.{ResolveSpot}
 use Rattle.load_barrier.specs.Rows.{is_resolved}
 use Rattle.load_barrier.specs.Fit as resolve
 use Rattle.load_barrier.specs.declared.evac_spot.EvacSpot.{EvacSpot}
-use Rattle.load_barrier.specs.declared.evac_spot.EvacSpot.TheVariants.{LoadClaim, ClaimUnit, LoadTop, LoadShape, LoadMark, Resolving, Ended}
+use Rattle.load_barrier.specs.declared.evac_spot.EvacSpot.TheVariants.{LoadClaim, ClaimUnit, LoadTop, LoadFirst, LoadShape, LoadMark, Resolving, Ended}
 use Rattle.load_barrier.specs.UnitRows.{copy_phase, next_at}
 
 -- whether the header and the shape of an object at an address lie in the heap
 abbrev pub has_shape : Config → ℕ → Bool
 has_shape c address = is_word c (Heap address) && is_word c (Heap (address + 1))
 
--- whether a walk can go on at an address: it has come to the end, or an object's shape can be loaded there
+-- whether a walk can go on at an address: it has come to the end, or a header can be loaded there
 abbrev pub is_walkable : Config → ℕ → ℕ → Bool
-is_walkable c next end = if nat_lt next end then has_shape c next else true
+is_walkable c next end = if nat_lt next end then is_word c (Heap next) else true
 
 -- whether a resolving of the address can make its next access
 abbrev pub resolve_ready : Config → ℕ → ℕ → ResolveSpot → Bool
@@ -26,6 +26,7 @@ abbrev pub is_ready : Config → ℕ → EvacSpot → Bool
 is_ready c seat LoadClaim = true
 is_ready c seat (ClaimUnit unit) = nat_lt unit c.regions
 is_ready c seat (LoadTop region) = nat_lt region c.regions
+is_ready c seat (LoadFirst address end) = is_word c (Heap address)
 is_ready c seat (LoadShape address end) = has_shape c address
 is_ready c seat (LoadMark address end next) = has_shape c address && is_walkable c next end
 is_ready c seat (Resolving address end next at) = has_shape c address && (is_walkable c next end && resolve_ready c seat address at)

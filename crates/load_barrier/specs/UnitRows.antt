@@ -1,7 +1,7 @@
 -- The rows of the steps by which a machine claims a unit of evacuation, a region, and copies what is marked there: for each spot
--- its place, the access that it makes and what follows. It walks a region of the collection set from object to object, and
--- resolves each that is marked. It ends at the top, or where an object could not be copied, since there was no room.
-use Rattle.std.specs.Prelude.{ℕ, ◌+◌, ◌==◌, Bool, true, false, nat_lt, if◌then◌else◌}
+-- its place, the access that it makes and what follows. It walks a region of the collection set from object to object, over
+-- words that only fill, and resolves each object that is marked. It ends at the top, or where an object could not be copied, since there was no room.
+use Rattle.std.specs.Prelude.{ℕ, ◌+◌, ◌==◌, Option, Some, None, Bool, true, false, nat_lt, if◌then◌else◌}
 use Rattle.std.specs.Int.{bit_at}
 use Rattle.heap_words.specs.declared.config.Config.{Config}
 use Rattle.heap_words.specs.declared.place.Place.{Place}
@@ -9,7 +9,7 @@ use Rattle.heap_words.specs.declared.place.Place.TheVariants as place
 use Rattle.heap_words.specs.declared.access.Took.{Took}
 use Rattle.heap_words.specs.declared.access.Took.TheVariants.{More, Again, Done}
 use Rattle.heap_words.specs.declared.access.Unit.TheVariants.{Worked, NoneLeft}
-use Rattle.heap_words.specs.Encoding.{object_words}
+use Rattle.heap_words.specs.Encoding.{filler_words_in, object_words}
 use Rattle.heap_words.specs.Words.{Claim, Top, Black, Heap}
 use Rattle.steps_base.specs.Touch.{Touch, touch, loads, exchanges}
 use Rattle.regions.specs.Place.{region_with, base_of}
@@ -18,7 +18,7 @@ use Rattle.load_barrier.specs.declared.spot.ResolveSpot.{ResolveSpot}
 use Rattle.load_barrier.specs.declared.spot.ResolveSpot.TheVariants.{LoadHeader, Resolved}
 use Rattle.load_barrier.specs.Rows as resolves
 use Rattle.load_barrier.specs.declared.evac_spot.EvacSpot.{EvacSpot}
-use Rattle.load_barrier.specs.declared.evac_spot.EvacSpot.TheVariants.{LoadClaim, ClaimUnit, LoadTop, LoadShape, LoadMark, Resolving, Ended}
+use Rattle.load_barrier.specs.declared.evac_spot.EvacSpot.TheVariants.{LoadClaim, ClaimUnit, LoadTop, LoadFirst, LoadShape, LoadMark, Resolving, Ended}
 
 -- the phase in which objects are copied
 abbrev pub copy_phase : ℕ
@@ -41,6 +41,7 @@ abbrev pub place_at : EvacSpot → Place
 place_at LoadClaim = place.EC
 place_at (ClaimUnit unit) = place.KX
 place_at (LoadTop region) = place.ET
+place_at (LoadFirst address end) = place.EF
 place_at (LoadShape address end) = place.ES
 place_at (LoadMark address end next) = place.EB
 place_at (Resolving address end next at) = resolves.place_at at
@@ -51,6 +52,7 @@ abbrev pub touch_at : Config → ℕ → EvacSpot → Touch
 touch_at c seat LoadClaim = touch Claim loads
 touch_at c seat (ClaimUnit unit) = touch Claim (exchanges unit (unit + 1))
 touch_at c seat (LoadTop region) = touch (Top region) loads
+touch_at c seat (LoadFirst address end) = touch (Heap address) loads
 touch_at c seat (LoadShape address end) = touch (Heap (address + 1)) loads
 touch_at c seat (LoadMark address end next) = touch (Black (mark_word c address)) loads
 touch_at c seat (Resolving address end next at) = resolves.touch_at c seat address at
@@ -60,9 +62,17 @@ touch_at c seat (Ended unit) = touch Claim loads
 abbrev pub after_claim : ℕ → ℕ → EvacSpot
 after_claim cset unit = if is_in_set cset unit then LoadTop unit else Ended Worked
 
--- where the walk goes on: at the next object below the end, if there is one
+-- where the walk goes on: at the next header below the end, an object's or a filler's, if there is one
 abbrev pub walk_on : ℕ → ℕ → EvacSpot
-walk_on next end = if nat_lt next end then LoadShape next end else Ended Worked
+walk_on next end = if nat_lt next end then LoadFirst next end else Ended Worked
+
+-- what follows the load of a header by the words that only fill there: the walk steps over them, and looks at an object
+abbrev pub after_words : ℕ → ℕ → Option ℕ → EvacSpot
+after_words address end (Some words) = walk_on (address + words) end
+after_words address end None = LoadShape address end
+
+abbrev pub after_first : ℕ → ℕ → ℕ → EvacSpot
+after_first address end got = after_words address end (filler_words_in got)
 
 -- what follows the load of an object's mark: one that is marked is resolved
 abbrev pub after_mark : Config → ℕ → ℕ → ℕ → ℕ → EvacSpot
@@ -78,6 +88,7 @@ abbrev pub next_at : Config → ℕ → EvacSpot → ℕ → EvacSpot
 next_at c cset LoadClaim got = if nat_lt got c.regions then ClaimUnit got else Ended NoneLeft
 next_at c cset (ClaimUnit unit) got = if got == unit then after_claim cset unit else LoadClaim
 next_at c cset (LoadTop region) got = walk_on (base_of c region) (base_of c region + got)
+next_at c cset (LoadFirst address end) got = after_first address end got
 next_at c cset (LoadShape address end) got = LoadMark address end (address + object_words got)
 next_at c cset (LoadMark address end next) got = after_mark c address end next got
 next_at c cset (Resolving address end next at) got = after_resolve c cset address end next (resolves.next_at c address copy_phase at got)

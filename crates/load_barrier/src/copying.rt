@@ -1,4 +1,5 @@
-ghost use Rattle.std.specs.Prelude.{◌≡◌, ◌<◌, true};
+ghost use Rattle.std.specs.Prelude.{◌≡◌, ◌<◌, ◌^◌, true};
+ghost use Rattle.heap_words.specs.Ranges.{seat_count};
 ghost use Rattle.heap_words.specs.Access.{table_index};
 ghost use Rattle.heap_words.specs.Words.{Heap, IsWord, table_words, word_at};
 ghost use Rattle.steps_base.specs.Touch.{placed};
@@ -6,8 +7,7 @@ ghost use Rattle.load_barrier.specs.Rows as rows;
 ghost use Rattle.load_barrier.specs.Fit.{copy_ready};
 
 use crate::spot::ResolveSpot;
-use heap_words::{Access, Config, Place, forwardee, header_to};
-use regions::{base, region_of};
+use heap_words::{Access, Config, Place, buffer, forwardee, header_to};
 use std::fmt;
 use std::fmt::{Debug, Formatter, Write};
 
@@ -37,7 +37,7 @@ pub enum CopySpot {
     StoreHeader,
     /// The copy is whole: it puts the copy's address over the old header, unless another machine has done so.
     Publish,
-    /// Another machine was faster: it gives its room back.
+    /// Another machine was faster: it gives its room back to its buffer.
     GiveBack {
         /// The copy of the other machine.
         answer: u64,
@@ -58,11 +58,14 @@ impl CopySpot {
         }
     }
 
-    /// The next access of a machine that copies the object at the address into room that begins at `copy`.
-    pub fn access(self, config: Config, address: u64, copy: u64) -> Access
+    /// The next access of the machine of a seat that copies the object at the address into room that begins at `copy`, out of a buffer
+    /// that ends at `end`.
+    pub fn access(self, config: Config, seat: usize, address: u64, copy: u64, end: u64) -> Access
+        requires seat { seat < seat_count config.mutators config.helpers }
+        requires end { end < 2 ^ 32 }
         requires address { IsWord config (Heap address) }
         requires ready { copy_ready config address copy self ≡ true }
-        ensures row { result ≡ placed config (rows.copy_touch config address copy self) }
+        ensures row { result ≡ placed config (rows.copy_touch seat address copy end self) }
         ensures inside { table_index result < table_words config }
     {
         match self {
@@ -86,14 +89,18 @@ impl CopySpot {
                 expect: PLAIN_HEADER,
                 value: header_to(copy),
             },
-            CopySpot::GiveBack { .. } => give_back(config, copy),
+            // keeps AreBuffers, AreRooms and AreKept of heap_world
+            CopySpot::GiveBack { .. } => Access::Store {
+                at: config.cur_at(seat),
+                value: buffer(copy, end),
+            },
         }
     }
 
     /// Where the machine stands after it, by the word that the access has found.
-    pub fn after(self, config: Config, address: u64, copy: u64, got: u64) -> ResolveSpot
+    pub fn after(self, config: Config, address: u64, copy: u64, end: u64, got: u64) -> ResolveSpot
         requires ready { copy_ready config address copy self ≡ true }
-        ensures row { result ≡ rows.after_copy copy self got }
+        ensures row { result ≡ rows.after_copy copy end self got }
     {
         let at = match self {
             CopySpot::LoadWord { words, index } => CopySpot::StoreWord {
@@ -113,7 +120,7 @@ impl CopySpot {
             CopySpot::Publish => return ResolveSpot::Leaving { answer: copy },
             CopySpot::GiveBack { answer } => return ResolveSpot::Leaving { answer },
         };
-        ResolveSpot::Copying { copy, at }
+        ResolveSpot::Copying { copy, end, at }
     }
 }
 
@@ -121,19 +128,5 @@ impl CopySpot {
 impl Debug for CopySpot {
     fn fmt<W: Write>(&self, f: &mut Formatter<W>) -> fmt::Result {
         self.place().fmt(f)
-    }
-}
-
-// The access that gives room back, which begins at an address and ends at the top of its region.
-fn give_back(config: Config, copy: u64) -> Access
-    requires { IsWord config (Heap copy) }
-    ensures row { result ≡ placed config (rows.copy_touch config copy copy (CopySpot.GiveBack copy)) }
-    ensures inside { table_index result < table_words config }
-{
-    let region = region_of(config, copy);
-    // keeps IsPlotted, IsFilled, AreRooms and AreKept of heap_world
-    Access::Store {
-        at: config.top_at(region),
-        value: copy - base(config, region),
     }
 }

@@ -10,8 +10,8 @@ ghost use Rattle.load_barrier.specs.UnitEnds.{WaitsAt};
 
 use crate::set::{COPY, lies_in_set};
 use crate::spot::ResolveSpot;
-use heap_words::{Access, Config, Place, Took, Unit};
-use regions::{base, is_in, is_marked_in, mark_word, next_object};
+use heap_words::{Access, Config, Place, Took, Unit, filler_words, words_of};
+use regions::{base, is_in, is_marked_in, mark_word};
 use std::fmt;
 use std::fmt::{Debug, Formatter, Write};
 
@@ -29,6 +29,13 @@ pub enum EvacSpot {
     LoadTop {
         /// The region, counted from 0.
         region: usize,
+    },
+    /// It loads the header where the walk stands, an object's or a filler's.
+    LoadFirst {
+        /// Where the walk stands.
+        address: u64,
+        /// Where the region's objects end.
+        end: u64,
     },
     /// It loads the shape of an object.
     LoadShape {
@@ -73,6 +80,7 @@ impl EvacSpot {
             EvacSpot::LoadClaim | EvacSpot::Ended { .. } => Place::EC,
             EvacSpot::ClaimUnit { .. } => Place::KX,
             EvacSpot::LoadTop { .. } => Place::ET,
+            EvacSpot::LoadFirst { .. } => Place::EF,
             EvacSpot::LoadShape { .. } => Place::ES,
             EvacSpot::LoadMark { .. } => Place::EB,
             EvacSpot::Resolving { at, .. } => at.place(),
@@ -107,6 +115,9 @@ impl EvacSpot {
             EvacSpot::LoadTop { region } => Access::Load {
                 at: config.top_at(region),
             },
+            EvacSpot::LoadFirst { address, .. } => Access::Load {
+                at: config.heap_at(address),
+            },
             EvacSpot::LoadShape { address, .. } => Access::Load {
                 at: config.heap_at(address + 1),
             },
@@ -137,10 +148,11 @@ impl EvacSpot {
                 let from = base(config, region);
                 led(walk_on(from, from + got))
             }
+            EvacSpot::LoadFirst { address, end } => led(after_first(config, address, end, got)),
             EvacSpot::LoadShape { address, end } => led(EvacSpot::LoadMark {
                 address,
                 end,
-                next: next_object(address, got),
+                next: address + words_of(got),
             }),
             EvacSpot::LoadMark { address, end, next } => {
                 led(after_mark(config, address, end, next, got))
@@ -209,14 +221,25 @@ fn after_claim(cset: u64, region: usize) -> EvacSpot
     }
 }
 
-// Where the walk goes on: at the next object below the end, if there is one.
+// Where the walk goes on: at the next header below the end, if there is one.
 fn walk_on(next: u64, end: u64) -> EvacSpot
     ensures { result ≡ rows.walk_on next end }
 {
     if next < end {
-        EvacSpot::LoadShape { address: next, end }
+        EvacSpot::LoadFirst { address: next, end }
     } else {
         WORKED
+    }
+}
+
+// What follows the load of a header: the walk steps over a filler.
+fn after_first(config: Config, address: u64, end: u64, header: u64) -> EvacSpot
+    requires { IsWord config (Heap address) }
+    ensures { result ≡ rows.after_first address end header }
+{
+    match filler_words(header) {
+        Some(words) => walk_on(address + words, end),
+        None => EvacSpot::LoadShape { address, end },
     }
 }
 

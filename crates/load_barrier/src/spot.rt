@@ -40,6 +40,8 @@ pub enum ResolveSpot {
     Copying {
         /// Where the room begins.
         copy: u64,
+        /// Where the buffer ends, out of which the room is taken.
+        end: u64,
         /// Where the copying stands.
         at: CopySpot,
     },
@@ -100,7 +102,7 @@ impl ResolveSpot {
             ResolveSpot::Entering { at } => at.access(config),
             ResolveSpot::LoadShape => load_of_object(config, address, 1),
             ResolveSpot::Taking { words, at } => at.access(config, seat, words),
-            ResolveSpot::Copying { copy, at } => at.access(config, address, copy),
+            ResolveSpot::Copying { copy, end, at } => at.access(config, seat, address, copy, end),
             ResolveSpot::Leaving { .. } => RoomSpot::Lower.access(config),
             ResolveSpot::Stopping { at } => at.access(config),
             ResolveSpot::Resolved { .. } => unreachable!(),
@@ -127,13 +129,15 @@ impl ResolveSpot {
             ResolveSpot::Entering { at } => led_by(at.says(got), after_enter(at.after(got))),
             ResolveSpot::LoadShape => led(ResolveSpot::Taking {
                 words: words_of(got),
-                at: TakeSpot::LoadCurrent,
+                at: TakeSpot::LoadBuffer,
             }),
             ResolveSpot::Taking { words, at } => {
                 let next = at.after(config, seat, words, Kind::Evacuated, got);
                 led_by(at.says(next), after_take(words, next))
             }
-            ResolveSpot::Copying { copy, at } => led(at.after(config, address, copy, got)),
+            ResolveSpot::Copying { copy, end, at } => {
+                led(at.after(config, address, copy, end, got))
+            }
             ResolveSpot::Leaving { answer } => led(ResolveSpot::Resolved { answer }),
             ResolveSpot::Stopping { at } => led_by(at.says(got), after_stop(at.after(got))),
             ResolveSpot::LoadAgain => led(ResolveSpot::Resolved {
@@ -226,12 +230,15 @@ fn after_take(words: u64, at: TakeSpot) -> ResolveSpot
     match at {
         TakeSpot::Ended {
             taken: Taken::At(copy),
+            end,
         } => ResolveSpot::Copying {
             copy,
+            end,
             at: CopySpot::LoadWord { words, index: 1 },
         },
         TakeSpot::Ended {
             taken: Taken::NoRoom,
+            ..
         } => ResolveSpot::Stopping { at: RoomSpot::Ask },
         _ => ResolveSpot::Taking { words, at },
     }

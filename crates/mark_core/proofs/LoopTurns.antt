@@ -4,7 +4,10 @@ use Rattle.std.specs.Int.RustNames.{bit_or}
 use Rattle.std.proofs.lemmas.Bool.Decides.{nat_tests}
 use Rattle.std.proofs.Math.Path.{fun_ext}
 use Rattle.heap_words.specs.declared.config.Config.{Config}
-use Rattle.heap_words.specs.Words.{Word, Top, Tams, Count, Grey, Black, write}
+use Rattle.heap_words.specs.Ranges.{seat_count}
+use Rattle.heap_words.specs.Words.{Word, Tams, Count, Grey, Black, write}
+use Rattle.buffer_words.specs.Edge.{edge}
+use Rattle.buffer_words.proofs.Edges.{edges_same}
 use Rattle.cycle_words.specs.Marking.Marks.{mark_bits}
 use Rattle.mark_core.specs.Steps.{greyed, marked, noted, emptied}
 
@@ -27,14 +30,17 @@ emptied_next_at t m _ = refl
 pub emptied_next : (t : ℕ) (m : Word → ℕ) → write (emptied t m) (Count t) 0 ≡ emptied (t + 1) m
 emptied_next t m = fun_ext (λ w. emptied_next_at t m w)
 
--- tops
+-- edges
 
-noted_next_at : (r : ℕ) (m : Word → ℕ) (w : Word) → write (noted r m) (Tams r) (m (Top r)) w ≡ noted (r + 1) m w
-noted_next_at r m (Tams q) = one_more (λ x. m (Tams x)) (λ x. m (Top x)) r q
-noted_next_at r m _ = refl
+pub edge_noted : (c : Config) (r q : ℕ) (m : Word → ℕ) → edge c (noted c r m) q ≡ edge c m q
+edge_noted c r q m = edges_same c m (noted c r m) q (λ k. refl) (λ seat. refl) (seat_count c.mutators c.helpers)
 
-pub noted_next : (r : ℕ) (m : Word → ℕ) → write (noted r m) (Tams r) (m (Top r)) ≡ noted (r + 1) m
-noted_next r m = fun_ext (λ w. noted_next_at r m w)
+noted_next_at : (c : Config) (r : ℕ) (m : Word → ℕ) (w : Word) → write (noted c r m) (Tams r) (edge c m r) w ≡ noted c (r + 1) m w
+noted_next_at c r m (Tams q) = one_more (λ x. m (Tams x)) (edge c m) r q
+noted_next_at c r m _ = refl
+
+pub noted_next : (c : Config) (r : ℕ) (m : Word → ℕ) → write (noted c r m) (Tams r) (edge c m r) ≡ noted c (r + 1) m
+noted_next c r m = fun_ext (λ w. noted_next_at c r m w)
 
 -- marks
 

@@ -7,7 +7,10 @@ use Rattle.std.proofs.Math.Logic.{∥∥₁_elim}
 use Rattle.std.proofs.Math.Bridge.{le_prop}
 use Rattle.heap_words.specs.declared.config.Config.{Config}
 use Rattle.heap_words.specs.Words.{Word, Phase, Claim, Ask, Top, Tams, Root, Count, Answer, Grey, Black, bit_words, view, write}
+use Rattle.heap_words.specs.Ranges.{seat_count}
 use Rattle.heap_words.proofs.Stores.{view_none}
+use Rattle.buffer_words.specs.Edge.{edge}
+use Rattle.buffer_words.proofs.Edges.{edges_same, edge_zero}
 use Rattle.shen_graph.specs.Graph.{Graph}
 use Rattle.heap_graph.specs.Walk.{has, with_addresses}
 use Rattle.heap_graph.proofs.Marks as found
@@ -19,7 +22,7 @@ use Rattle.full_words.specs.Promised.{Promises}
 use Rattle.full_words.proofs.Roots.{root_among, answer_among}
 use Rattle.image_graph.specs.Holds.{HoldsBy, HoldsSome}
 use Rattle.cycle_words.specs.Marking.Marks.{mark_bits}
-use Rattle.cycle_words.specs.Marking.Init.{init_marked}
+use Rattle.cycle_words.specs.Marking.Init.{marking_begun}
 use Rattle.mark_core.specs.Steps.{greyed, noted, emptied}
 use Rattle.mark_core.specs.Trace.{IsNullOrInside, HasRootsInside}
 use Rattle.mark_core.proofs.Colours.{bits_agree, bits_none}
@@ -101,15 +104,16 @@ module _ (c : Config) (words : List ℕ) (inside : (word : ℕ) → IsAmong (roo
       let at = inside (c.region_words + 64 * n + k) is (λ e. omega (arith, e, long)) in
       omega (arith, at.1, past))))
 
-  begun_at : (w : Word) → write (write (write (emptied c.mutators (noted c.regions (greyed c set (bit_words c) m))) Claim 0) Ask 0) Phase 1 w ≡ init_marked c m w
+  begun_at : (w : Word) → write (write (write (emptied c.mutators (noted c c.regions (greyed c set (bit_words c) m))) Claim 0) Ask 0) Phase 1 w ≡ marking_begun c m w
   begun_at (Grey n) = below_and_past n (bit_words c) (mark_bits c set n) (m (Grey n)) (mark_bits c (has named) n)
       (λ below. grey_below n)
       (λ no past. view_none c words (Grey n) no ∙ grey_past n past)
   begun_at (Black n) = below_and_past n (bit_words c) 0 (m (Black n)) 0 (λ below. refl) (λ no past. view_none c words (Black n) no)
-  begun_at (Tams r) = below_and_past r c.regions (m (Top r)) (m (Tams r)) (m (Top r)) (λ below. refl)
-      (λ no past. view_none c words (Tams r) no ∙ sym (view_none c words (Top r) no))
+  begun_at (Tams r) = below_and_past r c.regions (edge c (greyed c set (bit_words c) m) r) (m (Tams r)) (edge c m r)
+      (λ below. edges_same c m (greyed c set (bit_words c) m) r (λ q. refl) (λ seat. refl) (seat_count c.mutators c.helpers))
+      (λ no past. view_none c words (Tams r) no ∙ sym (edge_zero c m r (view_none c words (Top r) no)))
   begun_at (Count t) = below_and_past t c.mutators 0 (m (Count t)) 0 (λ below. refl) (λ no past. view_none c words (Count t) no)
   begun_at _ = refl
 
-  pub begun : write (write (write (emptied c.mutators (noted c.regions (greyed c set (bit_words c) m))) Claim 0) Ask 0) Phase 1 ≡ init_marked c m
+  pub begun : write (write (write (emptied c.mutators (noted c c.regions (greyed c set (bit_words c) m))) Claim 0) Ask 0) Phase 1 ≡ marking_begun c m
   begun = fun_ext begun_at

@@ -1,20 +1,12 @@
 -- The end of marking makes the words that it says, and keeps the graph.
-use Rattle.std.proofs.Common.{◌≡◌, ℕ, List, ap, ◌∙◌, arith}
-use Rattle.std.proofs.lemmas.Bool.Decides.{nat_tests}
+use Rattle.std.proofs.Common.{◌≡◌, ap, ◌∙◌}
 use Rattle.heap_words.specs.declared.config.Config.{Config}
-use Rattle.heap_words.specs.Words.{Current, view}
-use Rattle.heap_words.proofs.Stores.{view_none}
 use Rattle.cycle_words.specs.Marking.Close.{closed}
 use Rattle.cycle_words.specs.Marking.Final.{is_dead, freed, final_marked}
-use Rattle.cycle_words.specs.Marking.Laws.{HasNoMoreSeats}
 use Rattle.image_graph.specs.declared.image.Image.{Image}
 use Rattle.image_graph.specs.State.{config_of, words_of, memory_of}
 use Rattle.mark_core.specs.Steps.{freed_below}
 use Rattle.mark_core.proofs.Freeing.{freed_all}
-
--- a table has no more seats than the heap
-pub no_more_seats : (c : Config) (words : List ℕ) → HasNoMoreSeats c (view c words)
-no_more_seats c words seat past = view_none c words (Current seat) (grind (arith, nat_tests))
 
 pub final_words : (old one new : Image) → config_of one ≡ config_of old → memory_of one ≡ closed (config_of old) (memory_of old)
     → memory_of new ≡ freed_below (is_dead (config_of one) (memory_of one)) (config_of one).regions (memory_of one)

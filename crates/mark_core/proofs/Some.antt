@@ -6,13 +6,14 @@ use Rattle.heap_words.specs.Words.{Word}
 use Rattle.heap_graph.specs.Walk.{has}
 use Rattle.full_words.specs.Full.{held_in}
 use Rattle.image_graph.specs.Holds.{HoldsSome}
+use Rattle.image_graph.specs.Buffers.{settled_block}
 use Rattle.cycle_words.specs.Marking.Init.{pruned}
 use Rattle.cycle_words.specs.Marking.Final.{freed_block, freed_owner}
 use Rattle.mark_core.specs.Result.{MarksSome, BeginsToMark, MarksThrough, EndsMarking}
 
 module _ (c : Config) (before after : Word → ℕ) where
   pub marks_after : BeginsToMark c before after → HoldsSome c before → MarksSome c after
-  marks_after begins holds = ∥∥₁_map holds (λ h. (let is = begins h.1.0 h.1.1 h.1.2 h.0 h.1.3 in (h.0, pruned (has (held_in c before)) h.1.0, h.1.1, h.1.2, is.left, is.marking)))
+  marks_after begins holds = ∥∥₁_map holds (λ h. (let is = begins h.1.0 h.1.1 h.1.2 h.0 h.1.3 in (h.0, pruned (has (held_in c before)) (settled_block c before h.1.0), h.1.1, h.1.2, is.left, is.marking)))
 
   pub holds_closed : MarksThrough c before after → MarksSome c before → HoldsSome c after
   holds_closed through marks = ∥∥₁_map marks (λ h. (h.0, (h.1, h.2, h.3, (through h.1 h.2 h.3 h.0 h.4 h.5).0)))

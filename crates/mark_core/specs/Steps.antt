@@ -3,6 +3,7 @@ use Rattle.std.specs.Prelude.{ℕ, ◌*◌, ◌%◌, ◌^◌, ◌==◌, ◌&&◌
 use Rattle.std.specs.Int.RustNames.{bit_or}
 use Rattle.heap_words.specs.declared.config.Config.{Config}
 use Rattle.heap_words.specs.Words.{Word, Free, Top, Tams, Limit, Count, Grey, Black}
+use Rattle.buffer_words.specs.Edge.{edge}
 use Rattle.cycle_words.specs.Marking.Marks.{bits_of, mark_bits}
 
 -- in so many words of marks exactly a set is grey, and nothing is black
@@ -17,10 +18,10 @@ marked c set words memory (Grey n) = if nat_lt n words then bit_or (memory (Grey
 marked c set words memory (Black n) = if nat_lt n words then bit_or (memory (Black n)) (mark_bits c set n) else memory (Black n)
 marked c set words memory word = memory word
 
--- the tops of so many regions are noted
-abbrev pub noted : ℕ → (Word → ℕ) → Word → ℕ
-noted regions memory (Tams r) = if nat_lt r regions then memory (Top r) else memory (Tams r)
-noted regions memory word = memory word
+-- the edges of so many regions are noted
+abbrev pub noted : Config → ℕ → (Word → ℕ) → Word → ℕ
+noted c regions memory (Tams r) = if nat_lt r regions then edge c memory r else memory (Tams r)
+noted c regions memory word = memory word
 
 -- the buffers of so many mutators are empty
 abbrev pub emptied : ℕ → (Word → ℕ) → Word → ℕ

@@ -7,7 +7,7 @@ ghost use Rattle.heap_graph.specs.Walk.{with_address, with_addresses};
 ghost use Rattle.full_words.specs.Full.{roots_below, answers_below, root_words};
 ghost use Rattle.image_graph.specs.State.{config_of, memory_of, found_of, AreFound, IsUnchanged};
 ghost use Rattle.image_graph.specs.Holds.{HoldsSome};
-ghost use Rattle.cycle_words.specs.Marking.Init.{init_marked};
+ghost use Rattle.cycle_words.specs.Marking.Init.{marking_begun, init_marked};
 ghost use Rattle.mark_core.specs.Steps.{noted};
 ghost use Rattle.mark_core.specs.Trace.{HasRootsInside};
 ghost use Rattle.mark_core.specs.Result.{BeginsToMark, MarksSome};
@@ -90,21 +90,37 @@ fn find_named(image: &mut Image)
     find_answers(image);
 }
 
-// Notes the tops of all regions.
-fn note_tops(image: &mut Image)
+// Notes the edges of all regions.
+fn note_edges(image: &mut Image)
     ensures config { config_of image.new ≡ config_of image.old }
-    ensures words { memory_of image.new ≡ noted (config_of image.old).regions (memory_of image.old) }
+    ensures words { memory_of image.new ≡ noted (config_of image.old) (config_of image.old).regions (memory_of image.old) }
 {
     let config = image.config();
     for region in 0..config.regions() {
-        let top = image.edge(region);
-        image.set_word(config.tams_at(region), top);
+        let edge = image.edge(region);
+        image.set_word(config.tams_at(region), edge);
     }
 }
 
-/// Begins marking: no mark is left of an earlier one, the objects that roots and answers name are grey, the tops of the
-/// regions are noted, and no unit is claimed and nothing asked for. The image holds a graph, and no region is in the
-/// collection set. The image holds the same graph afterwards. Takes no memory, and time linear in the words of the heap.
+// Begins marking, where buffers are settled.
+fn begin(image: &mut Image)
+    requires { HoldsSome (config_of image.old) (memory_of image.old) }
+    ensures config { config_of image.new ≡ config_of image.old }
+    ensures words { memory_of image.new ≡ marking_begun (config_of image.old) (memory_of image.old) }
+{
+    find_named(image);
+    grey_found(image);
+    note_edges(image);
+    empty_buffers(image);
+    let config = image.config();
+    image.set_word(config.claim_at(), 0);
+    image.set_word(config.ask_at(), 0);
+    image.set_word(config.phase_at(), 1);
+}
+
+/// Begins marking: buffers are settled, no mark is left of an earlier one, the objects that roots and answers name are grey,
+/// the edges of the regions are noted, and no unit is claimed and nothing asked for. The image holds a graph, and no region is
+/// in the collection set. The image holds the same graph afterwards. Takes no memory, and time linear in the words of the heap.
 pub fn init_mark(image: &mut Image)
     requires holds { HoldsSome (config_of image.old) (memory_of image.old) }
     requires calm { memory_of image.old Cset ≡ 0 }
@@ -113,12 +129,6 @@ pub fn init_mark(image: &mut Image)
     ensures begins { BeginsToMark (config_of image.old) (memory_of image.old) (memory_of image.new) }
     ensures marks { MarksSome (config_of image.old) (memory_of image.new) }
 {
-    find_named(image);
-    grey_found(image);
-    note_tops(image);
-    empty_buffers(image);
-    let config = image.config();
-    image.set_word(config.claim_at(), 0);
-    image.set_word(config.ask_at(), 0);
-    image.set_word(config.phase_at(), 1);
+    image.settle();
+    begin(image);
 }

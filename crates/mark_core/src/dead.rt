@@ -23,7 +23,7 @@ fn has_black(image: &Image, region: usize) -> bool
     false
 }
 
-// Whether a region is in use, nobody's current one, without a new object and without a mark.
+// Whether a region is in use, not current, without a new object and without a mark.
 fn is_dead(image: &Image, region: usize) -> bool
     requires { region < (config_of image.now).regions }
     ensures { result ≡ final.is_dead (config_of image.now) (memory_of image.now) region }
@@ -32,7 +32,7 @@ fn is_dead(image: &Image, region: usize) -> bool
     if is_in(image.word(config.free_at()), region) || image.is_current(region) {
         return false;
     }
-    if image.edge(region) != image.word(config.tams_at(region)) {
+    if image.top(region) != image.word(config.tams_at(region)) {
         return false;
     }
     !has_black(image, region)

@@ -10,7 +10,7 @@ use Rattle.regions.specs.Marks.{mark_word, mark_bit, mark_at}
 use Rattle.shen_graph.specs.declared.name.Name.{Name}
 use Rattle.heap_world.specs.World.{World, thing, Snapshot, IsMarkable, IsYoung, IsToScan, IsTracedAt, IsLed, NotedIn, was_at, Shared}
 use Rattle.heap_world.proofs.Pointing.{piece_inside}
-use Rattle.mark_steps.specs.Chains.{IsOpen, IsNamedBy, IsChained, IsSafe, MarkingComes}
+use Rattle.mark_steps.specs.Chains.{IsStillOpen, IsNamedBy, IsChained, IsSafe, MarkingComes}
 
 module _ (c : Config) (w : World) (shared : Shared c w) (on : w.memory Phase ≡ 1) where
   abbrev s : Snapshot
@@ -28,7 +28,7 @@ module _ (c : Config) (w : World) (shared : Shared c w) (on : w.memory Phase ≡
       shared.marked.old a refs nums name is (omega (arith, young, tams))
 
   -- what marking would come to is safe
-  safe_if : (a : ℕ) → (IsOpen c w a → IsChained c w a) → IsSafe c w a
+  safe_if : (a : ℕ) → (IsStillOpen c w a → IsChained c w a) → IsSafe c w a
   safe_if a chain = ⊎_elim
       (λ (white : mark_at c black a ≡ 0). ⊎_elim
       (λ (below : a < base_of c (region_with c a) + w.memory (Tams (region_with c a))). inr (inr (chain (record { unmarked = white; old = λ young. omega (arith, below, young) }))))

@@ -172,6 +172,7 @@ module _ (c : Config) (u : World) (seat : ℕ) (marking : Word → ℕ) (recordi
       no_promises = λ a words is. is;
       promise_words = λ a words k is below. refl;
       current = refl;
+      opens = λ r is. is;
       owners = λ r is. is;
       tops = λ r is. refl;
       root_words = λ i. refl;
@@ -194,11 +195,12 @@ module _ (c : Config) (u : World) (seat : ℕ) (marking : Word → ℕ) (recordi
         tams = λ r. refl;
         limits = λ r. refl;
         deads = λ a words is. is;
+        fillers = λ a words is. is;
         claims = λ all. (let more = step.claims in omega (arith, all, more));
         fields = λ on a refs nums k name is below. inl refl;
       };
     }
 
     -- the step owes no more
-    pub step_after : (t : Touch) (facts : World → Type 0) → with_marking u.memory marking ≡ touched u.memory t → facts world_after → PartStep c u seat t (λ w. facts w × SameWork u w seat)
-    step_after t facts memory own = record { world = world_after; memory = memory; graph = refl; shared = shared_after; own = (own, record { copying = refl; working = refl }); keeps = keeps_after; others = others_after }
+    pub step_after : (t : Touch) (facts : World → Type 0) → with_marking u.memory marking ≡ touched u.memory t → facts world_after → PartStep c u seat t (λ w. facts w × SameWork u w seat × (w.block ≡ u.block))
+    step_after t facts memory own = record { world = world_after; memory = memory; graph = refl; shared = shared_after; own = (own, record { copying = refl; working = refl }, refl); keeps = keeps_after; others = others_after }

@@ -10,7 +10,7 @@ use Rattle.heap_world.specs.World.{World, thing, IsMarkable, IsYoung, NotedIn, S
 use Rattle.mark_steps.specs.Scanning.{scan_at}
 
 -- marking has still to come to an object: it is not black, and stood below its region's top at mark start
-pub record IsOpen (c : Config) (w : World) (a : ℕ) : Type 0 where
+pub record IsStillOpen (c : Config) (w : World) (a : ℕ) : Type 0 where
   pub unmarked : mark_at c (λ n. w.memory (Black n)) a ≡ 0
   pub old : IsYoung c (λ r. w.memory (Tams r)) a → ⊥
 
@@ -28,9 +28,9 @@ pub record IsNamedBy (w : World) (a k value : ℕ) : Type 0 where
 -- recorded; or a field names it that a machine in a scan has still to load or to make grey. Each other one is named by a field of the
 -- one before.
 pub data IsChained (c : Config) (w : World) : ℕ → Type 0 where
-  begins : (a : ℕ) → NotedIn c w a → IsOpen c w a → IsChained c w a
-  in_scan : (seat o at k a : ℕ) → seat < seat_count c.mutators c.helpers → w.ghost.scanning seat ≡ Some (scan_at o at) → at ≤ k → IsNamedBy w o k a → IsOpen c w a → IsChained c w a
-  goes_on : (o k a : ℕ) → IsChained c w o → IsNamedBy w o k a → IsOpen c w a → IsChained c w a
+  begins : (a : ℕ) → NotedIn c w a → IsStillOpen c w a → IsChained c w a
+  in_scan : (seat o at k a : ℕ) → seat < seat_count c.mutators c.helpers → w.ghost.scanning seat ≡ Some (scan_at o at) → at ≤ k → IsNamedBy w o k a → IsStillOpen c w a → IsChained c w a
+  goes_on : (o k a : ℕ) → IsChained c w o → IsNamedBy w o k a → IsStillOpen c w a → IsChained c w a
 
 -- an object is marked, or was allocated since mark start, or marking comes to it
 abbrev pub IsSafe : Config → World → ℕ → Type 0

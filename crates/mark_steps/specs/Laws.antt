@@ -16,10 +16,10 @@ use Rattle.scan_part.specs.Seen as seen
 use Rattle.mark_steps.specs.Recording.{CanRecord}
 use Rattle.mark_steps.specs.Scanning.{CanScan}
 
--- what a step of a mutator that records an address owes: as all of marking it leaves who copies and works as it is
+-- what a step of a mutator that records an address owes: as all of marking it leaves who copies and works as it is, and each piece
 abbrev pub RecordStep : Config → World → ℕ → ℕ → RememberSpot → Type 0
 RecordStep c u mutator v at =
-    PartStep c u mutator (remember.touch_at c mutator v at) (λ w. CanRecord c w mutator v (remember.next_at at (u.memory (remember.touch_at c mutator v at).word)) × SameWork u w mutator)
+    PartStep c u mutator (remember.touch_at c mutator v at) (λ w. CanRecord c w mutator v (remember.next_at at (u.memory (remember.touch_at c mutator v at).word)) × SameWork u w mutator × (w.block ≡ u.block))
 
 -- the world in which a mutator has an address in hand
 abbrev pub with_in_hand : World → ℕ → ℕ → World
@@ -45,7 +45,7 @@ pub record RecordingSteps : Type 0 where
 
 -- what a step of a machine that scans owes
 abbrev pub ScanStep : Config → World → ℕ → ScanSpot → Type 0
-ScanStep c u seat at = PartStep c u seat (scan.touch_at c at) (λ w. CanScan c w seat (scan.next_at c at (u.memory (scan.touch_at c at).word)) × SameWork u w seat)
+ScanStep c u seat at = PartStep c u seat (scan.touch_at c at) (λ w. CanScan c w seat (scan.next_at c at (u.memory (scan.touch_at c at).word)) × SameWork u w seat × (w.block ≡ u.block))
 
 -- A machine that scans makes grey what the fields of black objects name.
 pub record ScanningSteps : Type 0 where

@@ -3,7 +3,6 @@ pub mod Bodies
 pub mod Counts
 pub mod Worded
 pub mod Forwarded
-pub mod GivenBack
 pub mod Stays
 pub mod Headers
 pub mod Common

@@ -83,7 +83,7 @@ copies_elsewhere (copy.GiveBack answer) is = cc
 resolves_elsewhere : (at : ResolveSpot) → resolves.place_at at ≡ LV → ⊥
 resolves_elsewhere (resolve.Entering at) is = asks_elsewhere at is
 resolves_elsewhere (resolve.Taking words at) is = takes_elsewhere at is
-resolves_elsewhere (resolve.Copying copy at) is = copies_elsewhere at is
+resolves_elsewhere (resolve.Copying copy end at) is = copies_elsewhere at is
 resolves_elsewhere (resolve.Stopping at) is = asks_elsewhere at is
 resolves_elsewhere _ is = cc
 

@@ -1,12 +1,21 @@
--- A mutator that makes an object has made fewer than all.
-use Rattle.std.proofs.Common.{◌≡◌, ℕ, ◌<◌, true, subst}
-use Rattle.std.proofs.lemmas.Bool.{and_parts, ltb-true}
+-- A mutator that makes an object has made fewer than all, and its taking of room can go on.
+use Rattle.std.proofs.Common.{◌≡◌, ℕ, ◌<◌, true, refl, subst}
+use Rattle.std.proofs.lemmas.Bool.{and_parts, and_from, ltb-true}
 use Rattle.heap_words.specs.declared.config.Config.{Config}
 use Rattle.mutator.specs.declared.spot.Kept.{Kept}
 use Rattle.mutator.specs.declared.spot.Spot.{Spot}
 use Rattle.mutator.specs.declared.spot.Spot.TheVariants.{Making}
 use Rattle.mutator.specs.declared.makes.MakeSpot.{MakeSpot}
-use Rattle.mutator.specs.Fit.{is_ready}
+use Rattle.mutator.specs.declared.makes.MakeSpot.TheVariants.{Taking, StoreWord, StoreRoot}
+use Rattle.alloc_buffers.specs.declared.spot.TakeSpot.{TakeSpot}
+use Rattle.alloc_buffers.specs.declared.spot.TakeSpot.TheVariants.{Ended}
+use Rattle.alloc_buffers.specs.declared.spot.Taken.TheVariants.{At, NoRoom}
+use Rattle.alloc_buffers.specs.Rows as takes
+use Rattle.shen_graph.specs.declared.order.Order.TheVariants.{Nothing}
+use Rattle.mutator.specs.Rows.{Mutating, words_made, after_take, take_next, next_at}
+use Rattle.steps_base.specs.Fits.{touch_fits}
+use Rattle.std.specs.Prelude.{◌&&◌}
+use Rattle.mutator.specs.Fit.{is_ready, can_make, is_going, IsReady, make_goes}
 
 -- where it can make its next access
 makes_more : (c : Config) (seat made : ℕ) (kept : Kept) (at : MakeSpot) → is_ready c seat made kept (Making at) ≡ true → made < 4294967295
@@ -14,3 +23,22 @@ makes_more c seat made kept at ready = ltb-true _ _ (and_parts _ _ (and_parts _ 
 
 pub can_make_more : (c : Config) (seat made : ℕ) (kept : Kept) (spot : Spot) (at : MakeSpot) → spot ≡ Making at → is_ready c seat made kept spot ≡ true → made < 4294967295
 can_make_more c seat made kept spot at is ready = makes_more c seat made kept at (subst (λ s. is_ready c seat made kept s ≡ true) is ready)
+
+-- where it goes on with a taking of room, the taking can make its next access
+going_ready : (c : Config) (seat made : ℕ) (kept : Kept) (next : TakeSpot) → is_ready c seat made kept (Making (Taking next)) ≡ true → takes.is_ready c seat (words_made kept.command) next ≡ true
+going_ready c seat made kept next ready =
+    let fits = touch_fits c (takes.touch_at seat (words_made kept.command) next) in
+    let numbers = takes.numbers_fit c (words_made kept.command) next in
+    let both = and_parts fits (can_make made kept.command && (is_going next && numbers)) ready in
+    and_from fits numbers both.0 (and_parts (is_going next) numbers (and_parts (can_make made kept.command) (is_going next && numbers) both.1).1).1
+
+take_ready : (c : Config) (seat made : ℕ) (kept : Kept) (next : TakeSpot) → is_ready c seat made kept (after_take next) ≡ true → takes.is_ready c seat (words_made kept.command) next ≡ true
+take_ready c seat made kept (Ended (At address) end) ready = refl
+take_ready c seat made kept (Ended NoRoom end) ready = refl
+take_ready c seat made kept next ready = going_ready c seat made kept next ready
+
+-- so where it is ready after a step of the making, the making can go on
+pub making_goes : (c : Config) (m : Mutating) (at : MakeSpot) (got : ℕ) → IsReady c (next_at c m Nothing got (Making at)) → make_goes c m.seat m.kept.command at got ≡ true
+making_goes c m (Taking take) got ready = take_ready c m.seat m.made m.kept (take_next c m.kept.command take got) ready
+making_goes c m (StoreWord address done) got ready = refl
+making_goes c m (StoreRoot address) got ready = refl

@@ -182,7 +182,7 @@ touch_of c m order = touch_at c m.seat m.made m.kept order m.spot
 
 -- where a call goes on once the collection set was loaded
 abbrev pub first_spot : Command → Spot
-first_spot (New dst refs nums) = Making (make.Taking take_spot.LoadCurrent)
+first_spot (New dst refs nums) = Making (make.Taking take_spot.LoadBuffer)
 first_spot (Drop dst) = StoreRoot 0
 first_spot Gc = AskCycle
 first_spot command = Loading load.First
@@ -278,8 +278,8 @@ name_in code = record { thread = thread_in code; count = count_in code }
 
 -- where it goes on with its room for an object: without room it asks for the object, and waits
 abbrev pub after_take : TakeSpot → Spot
-after_take (take_spot.Ended (At address)) = Making (make.StoreWord address 0)
-after_take (take_spot.Ended NoRoom) = Waiting wait.StoreRequest
+after_take (take_spot.Ended (At address) end) = Making (make.StoreWord address 0)
+after_take (take_spot.Ended NoRoom end) = Waiting wait.StoreRequest
 after_take take = Making (make.Taking take)
 
 -- where a taking of room stands after the access

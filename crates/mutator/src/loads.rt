@@ -98,7 +98,7 @@ pub(crate) fn first_spot(command: Command) -> Spot
     match command {
         Command::New { .. } => Spot::Making {
             at: MakeSpot::Taking {
-                take: TakeSpot::LoadCurrent,
+                take: TakeSpot::LoadBuffer,
             },
         },
         Command::Drop { .. } => Spot::StoreRoot { value: 0 },

@@ -136,9 +136,11 @@ fn after_take(take: TakeSpot) -> Spot
     let at = match take {
         TakeSpot::Ended {
             taken: Taken::At(address),
+            ..
         } => MakeSpot::StoreWord { address, done: 0 },
         TakeSpot::Ended {
             taken: Taken::NoRoom,
+            ..
         } => {
             return Spot::Waiting {
                 at: WaitSpot::StoreRequest,

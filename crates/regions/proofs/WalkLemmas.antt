@@ -6,7 +6,7 @@ use Rattle.std.proofs.lemmas.List.Elements.{Contains-append_right, Contains-get_
 use Rattle.std.proofs.lemmas.List.Kept.{AllPairs-cons}
 use Rattle.std.proofs.lemmas.List.Sums.{sum_by-cons}
 use Rattle.regions.specs.Place.{base_of}
-use Rattle.regions.specs.Walk.{object_words_at, Walks, met_within, met_from, IsParsableStretch, MeetsExactly, WalksMeetEach, WalkGoesOn, WalkStaysInRegion}
+use Rattle.regions.specs.Walk.{stride_at, Walks, met_within, met_from, IsParsableStretch, MeetsExactly, WalksMeetEach, WalkGoesOn, WalkStaysInRegion}
 
 -- an element of a list with a head is the head or a later one
 head_or_later_at : (k a : ℕ) (later : List ℕ) (x : ℕ) → k < length (a ∷ later) → get_or (a ∷ later) k x ≡ x → (a ≡ x) ⊎ Contains later x
@@ -213,7 +213,7 @@ walk_goes_on words from at end addresses before whole walk below =
 -- what a walk meets from a region's base to its top is of that region
 pub walk_stays_in_region : WalkStaysInRegion
 walk_stays_in_region config heap region top addresses within walk a met =
-    let inside = met_inside (object_words_at heap) (base_of config region) (base_of config region + top) addresses walk a met in (
+    let inside = met_inside (stride_at heap) (base_of config region) (base_of config region + top) addresses walk a met in (
       record { from = inside.0; before = omega (arith, inside.1, inside.2) },
       record { from = omega (arith, inside.0, inside.1); before = omega (arith, inside.1, inside.2) },
     )

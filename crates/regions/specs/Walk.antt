@@ -1,14 +1,22 @@
 -- The walk over what stands in a region: from its base on, one thing ends where the next begins.
 -- `words a` is how many words stand as one from the address a on.
-use Rattle.std.specs.Prelude.{ℕ, ◌≡◌, ◌+◌, ◌-◌, ◌<◌, ◌≤◌, zero, suc, nat_lt, if◌then◌else◌, Bool, List, [], ◌∷◌, ◌++◌, Contains, sum_by, IsTrue}
+use Rattle.std.specs.Prelude.{ℕ, ◌≡◌, ◌+◌, ◌-◌, ◌<◌, ◌≤◌, ◌/◌, ◌%◌, ◌==◌, zero, suc, nat_lt, if◌then◌else◌, Bool, List, [], ◌∷◌, ◌++◌, Contains, sum_by, IsTrue}
 use Rattle.std.specs.List.Sorted.{IsStrictlyIncreasing}
 use Rattle.heap_words.specs.declared.config.Config.{Config}
 use Rattle.heap_words.specs.Encoding.{object_words}
 use Rattle.regions.specs.Place.{base_of, IsOf}
 
--- the words of the object at an address, by its shape word
-abbrev pub object_words_at : (ℕ → ℕ) → ℕ → ℕ
-object_words_at heap address = object_words (heap (address + 1))
+-- a header is that of words that only fill
+abbrev pub is_filler : ℕ → Bool
+is_filler header = header % 4 == 2
+
+-- how many words stand as one behind a header: those that only fill, or the words of an object, by its shape word
+abbrev pub stride : (header shape : ℕ) → ℕ
+stride header shape = if is_filler header then header / 4 else object_words shape
+
+-- the words of what stands at an address
+abbrev pub stride_at : (ℕ → ℕ) → ℕ → ℕ
+stride_at heap address = stride (heap address) (heap (address + 1))
 
 -- From one address one comes to the end, and the list has the addresses met, in order. Each step goes on.
 abbrev pub Walks : (ℕ → ℕ) → ℕ → ℕ → List ℕ → Type 0
@@ -78,6 +86,6 @@ WalkGoesOn =
 abbrev pub WalkStaysInRegion : Type 0
 WalkStaysInRegion =
     (config : Config) (heap : ℕ → ℕ) (region top : ℕ) (addresses : List ℕ) → top ≤ config.region_words
-    → Walks (object_words_at heap) (base_of config region) (base_of config region + top) addresses
+    → Walks (stride_at heap) (base_of config region) (base_of config region + top) addresses
     → (a : ℕ) → Contains addresses a
-    → IsOf config region a × IsOf config region (a + object_words_at heap a - 1)
+    → IsOf config region a × IsOf config region (a + stride_at heap a - 1)

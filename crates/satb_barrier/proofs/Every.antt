@@ -3,7 +3,7 @@ use Rattle.std.proofs.Common.{ℕ, List, [], ◌∷◌, ◌++◌, refl, subst}
 use Rattle.heap_words.specs.declared.config.Config.{Config}
 use Rattle.heap_words.specs.Words.{Word, Heap, IsWord}
 use Rattle.satb_barrier.specs.declared.spot.RememberSpot.TheVariants.{LoadCount}
-use Rattle.satb_barrier.specs.Recorded.{IsBuffer}
+use Rattle.satb_barrier.specs.Recorded.{IsSatbBuffer}
 use Rattle.satb_barrier.specs.Alone.{Recording, Move, own, others, after_move, after_moves, IsMove, AreMoves, recording_from, RecordingHolds, KeepsRecorded, RecordingIsKept}
 use Rattle.satb_barrier.specs.Facts.{RememberFacts, CanRemember}
 use Rattle.satb_barrier.proofs.Remembering.{recorded_stays, can_remember_stays, found_is_fit, each_remembers}
@@ -49,7 +49,7 @@ module _ (c : Config) (mutator address : ℕ) (heap : IsWord c (Heap address)) w
   }
 
 -- it begins so
-begins : (c : Config) (mutator address : ℕ) (memory : Word → ℕ) → IsBuffer c memory mutator → CanRemember c memory mutator address LoadCount
+begins : (c : Config) (mutator address : ℕ) (memory : Word → ℕ) → IsSatbBuffer c memory mutator → CanRemember c memory mutator address LoadCount
 begins c mutator address memory buffer = record { buffer = buffer; ready = refl; facts = tt }
 
 pub recording_kept : RecordingIsKept

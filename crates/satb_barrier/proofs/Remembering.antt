@@ -13,7 +13,7 @@ use Rattle.regions.proofs.MarksApart.{bit_below, bits_stay, mark_set}
 use Rattle.satb_barrier.specs.declared.spot.RememberSpot.{RememberSpot}
 use Rattle.satb_barrier.specs.declared.spot.RememberSpot.TheVariants.{LoadCount, LoadEntry, MarkEntry, ClearCount, StoreEntry, StoreCount, Recorded}
 use Rattle.satb_barrier.specs.Rows.{touch_at, next_at, is_recorded, is_ready, IsFit}
-use Rattle.satb_barrier.specs.Recorded.{greys_in, IsRecorded, IsBuffer, LeaveBuffer}
+use Rattle.satb_barrier.specs.Recorded.{greys_in, IsRecorded, IsSatbBuffer, LeaveBuffer}
 use Rattle.satb_barrier.specs.Facts.{AreGrey, RememberFacts, CanRemember}
 
 -- what was recorded before is recorded then
@@ -34,7 +34,7 @@ module _ (c : Config) (mutator : ℕ) (before after : Word → ℕ) (left : Leav
   recorded_stays few x (inl grey) = inl (grey_stays x grey)
   recorded_stays few x (inr (k, below, is)) = inr (k, omega (arith, below, left.count), left.entries k (omega (arith, below, few)) ∙ is)
 
-  pub buffer_stays : IsBuffer c before mutator → IsBuffer c after mutator
+  pub buffer_stays : IsSatbBuffer c before mutator → IsSatbBuffer c after mutator
   buffer_stays buffer = record {
     few = omega (arith, buffer.few, left.count);
     addresses = λ k below.

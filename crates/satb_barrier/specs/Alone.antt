@@ -6,7 +6,7 @@ use Rattle.steps_base.specs.Touch.{touched}
 use Rattle.satb_barrier.specs.declared.spot.RememberSpot.{RememberSpot}
 use Rattle.satb_barrier.specs.declared.spot.RememberSpot.TheVariants.{LoadCount, Recorded}
 use Rattle.satb_barrier.specs.Rows.{touch_at, next_at, is_recorded, is_ready, IsFit}
-use Rattle.satb_barrier.specs.Recorded.{IsRecorded, IsBuffer, LeaveBuffer}
+use Rattle.satb_barrier.specs.Recorded.{IsRecorded, IsSatbBuffer, LeaveBuffer}
 
 -- the words, and where the mutator stands
 pub record Recording : Type 0 where
@@ -54,7 +54,7 @@ module _ (c : Config) (mutator address : ℕ) where
   -- what holds after each list of moves from the words in which it began
   pub record RecordingHolds (s : Recording) : Type 0 where
     -- the mutator's buffer is one
-    pub buffer : IsBuffer c s.memory mutator
+    pub buffer : IsSatbBuffer c s.memory mutator
     -- its next access can be made, and the word that it finds is fit
     pub ready : is_ready c s.spot ≡ true
     pub fits : is_recorded s.spot ≡ false → IsFit c s.spot (word_found s)
@@ -65,10 +65,10 @@ module _ (c : Config) (mutator address : ℕ) where
 pub record RecordingIsKept : Type 0 where
   -- at its end the address is grey or in the buffer
   pub each : (c : Config) (mutator address : ℕ) (memory : Word → ℕ) (moves : List Move)
-      → IsWord c (Heap address) → IsBuffer c memory mutator → AreMoves c mutator address (recording_from memory) moves
+      → IsWord c (Heap address) → IsSatbBuffer c memory mutator → AreMoves c mutator address (recording_from memory) moves
       → RecordingHolds c mutator address (after_moves c mutator address (recording_from memory) moves)
   -- and what was recorded at any time stays so
   pub keeps : (c : Config) (mutator address : ℕ) (memory : Word → ℕ) (moves more : List Move)
-      → IsWord c (Heap address) → IsBuffer c memory mutator → AreMoves c mutator address (recording_from memory) (moves ++ more)
+      → IsWord c (Heap address) → IsSatbBuffer c memory mutator → AreMoves c mutator address (recording_from memory) (moves ++ more)
       → KeepsRecorded c mutator (after_moves c mutator address (recording_from memory) moves)
       (after_moves c mutator address (recording_from memory) (moves ++ more))

@@ -6,7 +6,7 @@ use Rattle.regions.specs.Marks.{HasMark}
 use Rattle.satb_barrier.specs.declared.spot.RememberSpot.{RememberSpot}
 use Rattle.satb_barrier.specs.declared.spot.RememberSpot.TheVariants.{LoadCount, LoadEntry, MarkEntry, ClearCount, StoreEntry, StoreCount, Recorded}
 use Rattle.satb_barrier.specs.Rows.{is_ready}
-use Rattle.satb_barrier.specs.Recorded.{greys_in, IsRecorded, IsBuffer}
+use Rattle.satb_barrier.specs.Recorded.{greys_in, IsRecorded, IsSatbBuffer}
 
 -- so many entries of a buffer are grey, from the first on
 abbrev pub AreGrey : Config → (Word → ℕ) → ℕ → ℕ → Type 0
@@ -26,6 +26,6 @@ RememberFacts c memory mutator address Recorded = IsRecorded c memory mutator ad
 
 -- what a mutator counts on while it records an address
 pub record CanRemember (c : Config) (memory : Word → ℕ) (mutator address : ℕ) (spot : RememberSpot) : Type 0 where
-  pub buffer : IsBuffer c memory mutator
+  pub buffer : IsSatbBuffer c memory mutator
   pub ready : is_ready c spot ≡ true
   pub facts : RememberFacts c memory mutator address spot

@@ -18,7 +18,7 @@ abbrev pub IsRecorded : Config → (Word → ℕ) → ℕ → ℕ → Type 0
 IsRecorded c memory mutator address = HasMark c (greys_in memory) address ⊎ IsBuffered memory mutator address
 
 -- the buffer of a mutator is one: it has at most 8 entries, which are addresses of the heap
-pub record IsBuffer (c : Config) (memory : Word → ℕ) (mutator : ℕ) : Type 0 where
+pub record IsSatbBuffer (c : Config) (memory : Word → ℕ) (mutator : ℕ) : Type 0 where
   pub few : memory (Count mutator) ≤ 8
   pub addresses : (k : ℕ) → k < memory (Count mutator) → IsWord c (Heap (memory (Buffer mutator k)))
 

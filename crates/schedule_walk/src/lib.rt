@@ -5,5 +5,5 @@
 mod seen;
 mod walk;
 
-pub use seen::Seen;
+pub use seen::{Seen, turn_seen};
 pub use walk::Walk;

@@ -26,7 +26,7 @@ pub struct Seen {
 
 /// One turn of a machine, as `Plain::run` gives it: the machine goes on with its call, begins the next command of its script,
 /// or ends; the reply of a call that ends is noted. None where the machine is idle.
-pub(crate) fn turn_seen(plain: &mut Plain, work: &mut Work, number: usize) -> Option<Seen>
+pub fn turn_seen(plain: &mut Plain, work: &mut Work, number: usize) -> Option<Seen>
     requires number { number < seats_of plain.old }
     requires run { CanRun plain.old work.old }
     ensures run { CanRun plain.new work.new }

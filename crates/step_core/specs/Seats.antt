@@ -6,7 +6,7 @@ use Rattle.shen_graph.specs.declared.command.Command.{Command}
 use Rattle.shen_graph.specs.declared.command.Command.TheVariants.{New}
 use Rattle.shen_graph.specs.declared.command.Reply.{Reply}
 use Rattle.shen_graph.specs.declared.command.Reply.TheVariants.{Ref, Full}
-use Rattle.alloc_buffers.specs.Facts.{HasLess}
+use Rattle.alloc_buffers.specs.Facts.{IsSpare, TakeFacts}
 use Rattle.alloc_buffers.specs.declared.spot.TakeSpot.{TakeSpot}
 use Rattle.alloc_buffers.specs.declared.spot.TakeSpot.TheVariants.{LoadFree}
 use Rattle.load_barrier.specs.Alone.{is_copier}
@@ -20,7 +20,7 @@ use Rattle.unit_part.specs.declared.spot.UnitSpot.{UnitSpot}
 use Rattle.unit_part.specs.declared.spot.UnitSpot.TheVariants.{Scanning, Evacuating, Updating, Ended}
 use Rattle.heap_words.specs.declared.access.Unit.TheVariants.{Worked}
 use Rattle.mark_steps.specs.Scanning.{scanning_of}
-use Rattle.move_steps.specs.Resolving.Facts.{IsRoomAt}
+use Rattle.move_steps.specs.Resolving.Facts.{IsResolvingRoom}
 use Rattle.move_steps.specs.Evacuation.Facts.{working_of}
 use Rattle.move_steps.specs.Updating.Facts.{pass_of}
 use Rattle.mutator.specs.declared.spot.Kept.{Kept}
@@ -45,10 +45,10 @@ use Rattle.helper.specs.declared.spot.HelpSpot.{HelpSpot}
 use Rattle.helper.specs.declared.spot.HelpSpot.TheVariants as help
 use Rattle.control_rows.specs.declared.spot.ControlSpot.{ControlSpot}
 use Rattle.control_rows.specs.declared.spot.ControlSpot.TheVariants as control
-use Rattle.heap_world.specs.World.{World, Scan, hand, Body, body_at, body_words, IsCollected, UsableIn, TargetIn}
+use Rattle.heap_world.specs.World.{World, Block, Scan, hand, room_of, Body, body_at, body_words, IsCollected, UsableIn, TargetIn}
 use Rattle.heap_world.specs.Asking.{HasNoPromise}
 use Rattle.step_core.specs.Actor.{Machine, mutating, helping, controlling}
-use Rattle.step_core.specs.Own.{IsInHand}
+use Rattle.step_core.specs.Own.{IsRoomOf}
 
 -- what a mutator is about to record
 abbrev pub recording_of : Spot → Option ℕ
@@ -65,10 +65,10 @@ abbrev pub copies_in : EvacSpot → Bool
 copies_in (evac.Resolving address end next at) = is_copier at
 copies_in _ = false
 
--- the room that it has in hand begins at an address
-abbrev pub IsRoomIn : EvacSpot → ℕ → Type 0
-IsRoomIn (evac.Resolving address end next at) a = IsRoomAt at a
-IsRoomIn _ a = ⊥
+-- what room it has: free words of its buffer; besides, what it has taken for a copy, or is about to take
+abbrev pub IsRoomIn : (seat : ℕ) → EvacSpot → ℕ → Block → Type 0
+IsRoomIn seat (evac.Resolving address end next at) a x = IsResolvingRoom seat at a x
+IsRoomIn seat _ a x = IsSpare seat x
 
 -- The unit on which a machine works: that of a helper, of the control, of any machine. Where it works on none, it is one that has ended.
 abbrev pub help_unit : HelpSpot → UnitSpot
@@ -105,12 +105,12 @@ abbrev pub unit_region : Config → UnitSpot → Option ℕ
 unit_region c (Evacuating cset at) = working_of c at
 unit_region c _ = None
 
--- its room in hand begins at an address
-abbrev pub UnitRoom : UnitSpot → ℕ → Type 0
-UnitRoom (Evacuating cset at) a = IsRoomIn at a
-UnitRoom _ a = ⊥
+-- what room it has
+abbrev pub UnitRoom : (seat : ℕ) → UnitSpot → ℕ → Block → Type 0
+UnitRoom seat (Evacuating cset at) a x = IsRoomIn seat at a x
+UnitRoom seat _ a x = IsSpare seat x
 
--- What a machine is about to record, whether it copies, and what room it has in hand.
+-- What the machine of a seat is about to record, whether it copies, and what room it has.
 abbrev pub records_of : Machine → Option ℕ
 records_of (mutating m) = recording_of m.spot
 records_of _ = None
@@ -119,39 +119,80 @@ abbrev pub copies_of : Machine → Bool
 copies_of (mutating m) = copies_at m.spot
 copies_of machine = unit_copies (unit_in machine)
 
-abbrev pub HasRoom : Machine → (a words : ℕ) → Type 0
-HasRoom (mutating m) a words = IsInHand m.kept m.spot a words
-HasRoom machine a words = UnitRoom (unit_in machine) a
+abbrev pub HasRoom : (seat : ℕ) → Machine → ℕ → Block → Type 0
+HasRoom seat (mutating m) a x = IsRoomOf seat m.kept m.spot a x
+HasRoom seat machine a x = UnitRoom seat (unit_in machine) a x
 
--- for how many words a machine is about to look for a free region, by each part of which taking room is one
+-- where the room begins that a machine has in hand, by each part that has such room: a new object until its root is stored, a copy until it is
+-- the current one or is given back
+abbrev pub resolve_hand : ResolveSpot → Option ℕ
+resolve_hand (resolve.Copying copy end at) = Some copy
+resolve_hand _ = None
+
+abbrev pub evac_hand : EvacSpot → Option ℕ
+evac_hand (evac.Resolving address end next at) = resolve_hand at
+evac_hand _ = None
+
+abbrev pub unit_hand : UnitSpot → Option ℕ
+unit_hand (Evacuating cset at) = evac_hand at
+unit_hand _ = None
+
+abbrev pub make_hand : MakeSpot → Option ℕ
+make_hand (make.Taking take) = None
+make_hand (make.StoreWord address done) = Some address
+make_hand (make.StoreRoot address) = Some address
+
+abbrev pub call_hand : Spot → Option ℕ
+call_hand (Making at) = make_hand at
+call_hand (Resolving address at next) = resolve_hand at
+call_hand _ = None
+
+abbrev pub hand_of : Machine → Option ℕ
+hand_of (mutating m) = call_hand m.spot
+hand_of machine = unit_hand (unit_in machine)
+
+-- A taking of room for so many words, and where it stands.
+pub record Taking : Type 0 where
+  pub words : ℕ
+  pub take : TakeSpot
+
+-- that in which a machine is, by each part of which taking room is one
+abbrev pub resolve_taking : ResolveSpot → Option Taking
+resolve_taking (resolve.Taking words at) = Some (record { words = words; take = at })
+resolve_taking _ = None
+
+abbrev pub evac_taking : EvacSpot → Option Taking
+evac_taking (evac.Resolving address end next at) = resolve_taking at
+evac_taking _ = None
+
+abbrev pub unit_taking : UnitSpot → Option Taking
+unit_taking (Evacuating cset at) = evac_taking at
+unit_taking _ = None
+
+abbrev pub make_taking : ℕ → MakeSpot → Option Taking
+make_taking words (make.Taking take) = Some (record { words = words; take = take })
+make_taking words _ = None
+
+abbrev pub call_taking : Kept → Spot → Option Taking
+call_taking kept (Making at) = make_taking (words_made kept.command) at
+call_taking kept (Resolving address at next) = resolve_taking at
+call_taking kept _ = None
+
+abbrev pub taking_of : Machine → Option Taking
+taking_of (mutating m) = call_taking m.kept m.spot
+taking_of machine = unit_taking (unit_in machine)
+
+-- for how many words a taking is about to look for a free region, and so a machine
 abbrev pub take_looks : ℕ → TakeSpot → Option ℕ
-take_looks words LoadFree = Some words
+take_looks words (LoadFree buffer shared) = Some words
 take_looks words _ = None
 
-abbrev pub resolve_looks : ResolveSpot → Option ℕ
-resolve_looks (resolve.Taking words at) = take_looks words at
-resolve_looks _ = None
-
-abbrev pub evac_looks : EvacSpot → Option ℕ
-evac_looks (evac.Resolving address end next at) = resolve_looks at
-evac_looks _ = None
-
-abbrev pub unit_looks : UnitSpot → Option ℕ
-unit_looks (Evacuating cset at) = evac_looks at
-unit_looks _ = None
-
-abbrev pub make_looks : ℕ → MakeSpot → Option ℕ
-make_looks words (make.Taking take) = take_looks words take
-make_looks words _ = None
-
-abbrev pub call_looks : Kept → Spot → Option ℕ
-call_looks kept (Making at) = make_looks (words_made kept.command) at
-call_looks kept (Resolving address at next) = resolve_looks at
-call_looks kept _ = None
+abbrev pub looks_in : Option Taking → Option ℕ
+looks_in None = None
+looks_in (Some t) = take_looks t.words t.take
 
 abbrev pub looks_for : Machine → Option ℕ
-looks_for (mutating m) = call_looks m.kept m.spot
-looks_for machine = unit_looks (unit_in machine)
+looks_for machine = looks_in (taking_of machine)
 
 -- A word of an object that a machine has loaded and is about to store into its copy: the object's address, the number of the word in the
 -- object, counted from 0, and the word.
@@ -166,7 +207,7 @@ copy_carries object (StoreWord words index found) = Some (record { object = obje
 copy_carries object _ = None
 
 abbrev pub resolve_carries : (object : ℕ) → ResolveSpot → Option Carried
-resolve_carries object (resolve.Copying copy at) = copy_carries object at
+resolve_carries object (resolve.Copying copy end at) = copy_carries object at
 resolve_carries object _ = None
 
 abbrev pub evac_carries : EvacSpot → Option Carried
@@ -194,17 +235,17 @@ pub record StandsThere (c : Config) (w : World) (x : Carried) : Type 0 where
   pub within : x.index < body_words body
   pub same : x.word ≡ w.memory (Heap (x.object + x.index))
 
--- The ghost state has of the seat what its machine does, and room is the seat's exactly where its machine has it in hand. Who is about to look
--- for a free region has a current one with less room than it wants, or none; and a word that is on its way from an object into a copy is
--- the object's word.
+-- The ghost state has of the seat what its machine does. The seat's room is free words of its buffer, what the machine has in hand, and what it
+-- has carved until that is the seat's buffer; what the machine has in hand is the seat's. Who takes room has what its taking counts on; and a
+-- word that is on its way from an object into a copy is the object's word.
 pub record IsInSeat (c : Config) (w : World) (seat : ℕ) (machine : Machine) : Type 0 where
   pub records : w.ghost.recording seat ≡ records_of machine
   pub scans : w.ghost.scanning seat ≡ unit_scan c (unit_in machine)
   pub copies : w.ghost.copying seat ≡ copies_of machine
   pub works : w.ghost.working seat ≡ unit_region c (unit_in machine)
-  pub hands : (a words : ℕ) → w.block a ≡ Some (hand seat words) → HasRoom machine a words
-  pub holds : (a words : ℕ) → HasRoom machine a words → (more : ℕ) × (w.block a ≡ Some (hand seat more))
-  pub lacks : (words : ℕ) → looks_for machine ≡ Some words → HasLess c w.memory seat words
+  pub rooms : (a : ℕ) (x : Block) → w.block a ≡ Some x → room_of x ≡ Some seat → HasRoom seat machine a x
+  pub holds : (a : ℕ) → hand_of machine ≡ Some a → (words : ℕ) × (w.block a ≡ Some (hand seat words))
+  pub takes : (t : Taking) → taking_of machine ≡ Some t → TakeFacts c w seat t.words t.take
   pub carries : (x : Carried) → carries_of machine ≡ Some x → StandsThere c w x
 
 -- the object that a call works on, or is about to show, by an address that was resolved if that was needed

@@ -25,7 +25,7 @@ use Rattle.mutator.specs.declared.waits.WaitSpot.TheVariants as wait
 use Rattle.mutator.specs.Commands.{refs_of, nums_of}
 use Rattle.mutator.specs.Orders.{is_between_calls}
 use Rattle.mutator.specs.Rows.{Mutating, given_at}
-use Rattle.heap_world.specs.World.{Ghost, World, Plot, hand, Shared}
+use Rattle.heap_world.specs.World.{Ghost, World, Block, Plot, room_of, Shared}
 use Rattle.heap_world.specs.Asking.{Asking, nothing, asks, refused, given, IsAsked, PromisedToMutators}
 use Rattle.heap_world.specs.Roots.{HasNoMore}
 use Rattle.step_core.specs.Actor.{mutating, Actor, entries_of}
@@ -99,14 +99,14 @@ pub record HasAsked (w : World) (command : Command) (m : Mutating) : Type 0 wher
   pub at_spot : FitsSpot m.spot asking
   pub heard : is_request asking ≡ true → m.spot ≢ Waiting wait.AskRoom → bit_at (w.memory Ask) 1 ≡ 1
 
--- Words and machines stand for a graph: there is a way to divide the regions into objects of that graph, words in hand and
--- objects that were made for who waits, and ghost state that has of each seat what its machine does, such that each mutator has in
+-- Words and machines stand for a graph: there is a way to divide the regions into objects of that graph, room of seats, words that only fill
+-- and objects that were made for who waits, and ghost state that has of each seat what its machine does, such that each mutator has in
 -- its words what its thread has in the graph and what it has asked for, and may use its roots and the object on which it works.
 pub record StandsFor (c : Config) (s : Stage Actor) (g : Graph) : Type 0 where
   pub block : Plot
   pub ghost : Ghost
   pub shared : Shared c (world_of c s block ghost g)
-  pub in_hand : (a seat words : ℕ) → block a ≡ Some (hand seat words) → seat < seat_count c.mutators c.helpers
+  pub rooms : (a seat : ℕ) (x : Block) → block a ≡ Some x → room_of x ≡ Some seat → seat < seat_count c.mutators c.helpers
   pub promised_to : PromisedToMutators c block
   pub mutators : (number : ℕ) (a : Actor) (m : Mutating) → IsMutator s number a m → HasItsOwn (world_of c s block ghost g) m
   pub asked : (number : ℕ) (a : Actor) (m : Mutating) → IsMutator s number a m → is_clearing m.spot ≡ false → HasAsked (world_of c s block ghost g) a.command m

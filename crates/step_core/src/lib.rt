@@ -69,10 +69,10 @@ pub fn end_is_known()
     ensures { (change : Change) → IsPause change → (c : Config) (s : Stage Actor) (g : Graph) → Begins c s g → view c s.words End ≡ 0 → (events : List (Event Order)) → IsEndWord c has_ended (go (kind change c) s events) }
 {}
 
-/// A law: a machine that is about to look for a free region, for a new object or for a copy, has a current region with less room than it
+/// A law: a machine that is about to look for a free region, for a new object or for a copy, has a buffer with fewer free words than it
 /// wants, or none.
 pub fn looks_for_room_in_need()
-    ensures { (change : Change) → IsPause change → (c : Config) (s : Stage Actor) (g : Graph) → Begins c s g → (events : List (Event Order)) (number : ℕ) (a : Actor) (words : ℕ) → slice_get (go (kind change c) s events).machines number ≡ Some a → looks_for a.machine ≡ Some words → HasLess c (settled c (go (kind change c) s events)) number words }
+    ensures { (change : Change) → IsPause change → (c : Config) (s : Stage Actor) (g : Graph) → Begins c s g → (events : List (Event Order)) (number : ℕ) (a : Actor) (words : ℕ) → slice_get (go (kind change c) s events).machines number ≡ Some a → looks_for a.machine ≡ Some words → HasLess (settled c (go (kind change c) s events)) number words }
 {}
 
 /// A law: of the image the control has, while it loads its words, exactly those that it has loaded as the table has them, and while it

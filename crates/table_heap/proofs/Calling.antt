@@ -96,8 +96,8 @@ module _ (makes : Bool) where
   in_shape phase command object second third shape = either (has_part command shape) (with_part phase command object second third shape) (Leave reply.Bad) (in_part phase command object second third shape) refl
 
   in_take : (take : TakeSpot) → makes ≡ true → InCall (after_take take)
-  in_take (take_spot.Ended (At address)) may = may
-  in_take (take_spot.Ended NoRoom) may = may
+  in_take (take_spot.Ended (At address) end) may = may
+  in_take (take_spot.Ended NoRoom end) may = may
   in_take _ may = may
 
   in_load : (phase : ℕ) (command : Command) (at : LoadSpot) (got : ℕ) → InCall (load_next phase command at got)

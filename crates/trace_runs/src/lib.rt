@@ -23,6 +23,6 @@ pub use laws::noted_replays_are_right;
 pub use lines::say;
 pub use mode::{Mode, Workload, mode_of};
 pub use queues::queue;
-pub use replays::{replay, replay_noted};
+pub use replays::{Refusal, noted_answer_to, replay, replay_noted};
 pub use runs::run;
 pub use status::Status;

@@ -9,7 +9,8 @@ ghost use Rattle.shen_graph.specs.declared.command.Command.{Command};
 ghost use Rattle.shen_graph.specs.Work.{HasScript};
 ghost use Rattle.heap_graph.specs.Shows.{ShowsGraph};
 ghost use Rattle.heap_machines.specs.Pause.{pause_image};
-ghost use Rattle.step_core.specs.Begins.{Run, ending, graph_after};
+ghost use Rattle.shen_graph.specs.History.{after};
+ghost use Rattle.step_core.specs.Begins.{Run, ending, graph_after, first_graph};
 ghost use Rattle.shen_core.specs.State as memory;
 ghost use Rattle.shen_core.specs.State.{config_of};
 ghost use Rattle.shen_core.specs.Progress.{AllRest};
@@ -18,7 +19,7 @@ ghost use Rattle.trace_grammar.specs.Grammar.{Came, Reads};
 ghost use Rattle.trace_writing.specs.Answer.{spelled_answer};
 ghost use Rattle.trace_writing.specs.History.{history_text};
 ghost use Rattle.trace_runs.specs.Words.{Asks};
-ghost use Rattle.trace_runs.specs.Replayed.{IsReplayed, IsReplayedNoted, IsUnfinished, history_of};
+ghost use Rattle.trace_runs.specs.Replayed.{IsReplayed, IsReplayedNoted, IsUnfinished, IsWhole, events_of, history_of};
 ghost use Rattle.trace_runs.specs.Running.{HasFinished};
 ghost use Rattle.trace_runs.specs.Answered.{StatusFits};
 
@@ -34,7 +35,7 @@ use trace_grammar::Trace;
 use trace_writing::{Answer, Line};
 
 /// Why a trace that was read is not answered.
-pub(crate) enum Refusal {
+pub enum Refusal {
     /// A machine still had work after the steps that were allowed.
     Unfinished,
     /// Memory was refused.
@@ -141,8 +142,18 @@ fn answer_to(alloc: Global, trace: Trace, steps: u64) -> Result<Answer, Refusal>
 }
 
 /// The answer to a trace, and its history.
-fn noted_answer_to(alloc: Global, trace: Trace, steps: u64) -> Result<(Answer, History), Refusal>
+///
+/// The history is that of exactly the events of the schedule and of the rounds after it, these come to their end, and the graph is that
+/// to which the history leads.
+pub fn noted_answer_to(
+    alloc: Global,
+    trace: Trace,
+    steps: u64,
+) -> Result<(Answer, History), Refusal>
     requires { (bytes : List ℕ) × Reads bytes trace.config trace.scripts trace.schedule }
+    ensures whole { IfOk result (λ x. IsWhole trace.config trace.scripts (events_of trace.config trace.scripts trace.schedule steps)) }
+    ensures history { IfOk result (λ x. x.1.list ≡ history_of trace.config trace.scripts trace.schedule steps) }
+    ensures graph { IfOk result (λ x. ShowsGraph x.0.graph trace.config.mutators (after (first_graph trace.config) (history_of trace.config trace.scripts trace.schedule steps))) }
     ensures ok { IfOk result (λ x. (bytes : List ℕ) → Reads bytes trace.config trace.scripts trace.schedule → IsReplayedNoted bytes steps (spelled_answer x.0 ++ history_text x.1.list)) }
     ensures scripts { IfOk result (λ x. (mutator : ℕ) → mutator < length x.0.graph.roots → HasScript x.0.replies mutator) }
     ensures unfinished { result ≡ Err Refusal.Unfinished → (bytes : List ℕ) → Reads bytes trace.config trace.scripts trace.schedule → IsUnfinished bytes steps }

@@ -3,6 +3,7 @@ use Rattle.std.proofs.Common.{◌≡◌, ℕ, ◌<◌, Bool, true, false, refl, 
 use Rattle.std.specs.Prelude.{if◌then◌else◌}
 use Rattle.std.proofs.lemmas.Bool.{and_parts, and_from, false≢true}
 use Rattle.heap_words.specs.declared.config.Config.{Config}
+use Rattle.heap_words.specs.Ranges.{seat_count}
 use Rattle.heap_words.specs.Words.{IsWord, is_image, word_at, table_words}
 use Rattle.heap_words.proofs.Rows.{word_inside}
 use Rattle.steps_base.proofs.Touches.{table_index-access_at}
@@ -30,15 +31,15 @@ not_ended true goes = absurd (false≢true goes)
 not_ended false goes = refl
 
 -- each access of a unit is of a word of the table
-pub unit_inside : (c : Config) (seat : ℕ) (at : UnitSpot) → is_ready c seat at ≡ true → IsWord c (touch_at c seat at).word
-unit_inside c seat (Scanning at) ready = scan_inside c at (and_parts _ _ ready).0
-unit_inside c seat (Evacuating cset at) ready = evacuation_inside c seat at (and_parts _ _ ready).0
-unit_inside c seat (Updating cset at) ready = updating_inside c at (and_parts _ _ ready).0
-unit_inside c seat (Ended unit) ready = tt
+pub unit_inside : (c : Config) (seat : ℕ) (at : UnitSpot) → seat < seat_count c.mutators c.helpers → is_ready c seat at ≡ true → IsWord c (touch_at c seat at).word
+unit_inside c seat (Scanning at) seated ready = scan_inside c at (and_parts _ _ ready).0
+unit_inside c seat (Evacuating cset at) seated ready = evacuation_inside c seat at seated (and_parts _ _ ready).0
+unit_inside c seat (Updating cset at) seated ready = updating_inside c at (and_parts _ _ ready).0
+unit_inside c seat (Ended unit) seated ready = tt
 
 pub accesses_inside : AccessesAreInside
-accesses_inside c seat at ready = let t = touch_at c seat at in
-    subst (λ k. k < table_words c) (sym (table_index-access_at (word_at c t.word) t.form)) (word_inside c t.word (unit_inside c seat at ready))
+accesses_inside c seat at seated ready = let t = touch_at c seat at in
+    subst (λ k. k < table_words c) (sym (table_index-access_at (word_at c t.word) t.form)) (word_inside c t.word (unit_inside c seat at seated ready))
 
 -- and of words of the image alone
 pub unit_image : (c : Config) (seat : ℕ) (at : UnitSpot) → is_image (touch_at c seat at).word ≡ true

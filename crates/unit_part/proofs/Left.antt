@@ -1,11 +1,11 @@
 -- Where a unit begins, and where none is left.
 use Rattle.std.proofs.Common.{◌≡◌, ℕ, ◌+◌, ◌↔◌, Bool, true, false, refl}
-use Rattle.std.specs.Prelude.{◌==◌, nat_lt, if◌then◌else◌}
+use Rattle.std.specs.Prelude.{◌==◌, Option, Some, None, nat_lt, if◌then◌else◌}
 use Rattle.std.specs.Int.{bit_at}
 use Rattle.std.proofs.lemmas.Bool.{and_parts, ltb-false, le-ltb}
 use Rattle.heap_words.specs.declared.config.Config.{Config}
 use Rattle.heap_words.specs.declared.access.Unit.TheVariants.{Worked, NoneLeft}
-use Rattle.heap_words.specs.Encoding.{refs_in, is_forwarded, forwardee_in}
+use Rattle.heap_words.specs.Encoding.{filler_words_in, refs_in, is_forwarded, forwardee_in}
 use Rattle.regions.specs.Marks.{mark_word, mark_bit, lowest_address}
 use Rattle.scan_part.specs.declared.spot.ScanSpot.{ScanSpot}
 use Rattle.scan_part.specs.declared.spot.ScanSpot.TheVariants as scan
@@ -88,7 +88,11 @@ module _ (c : Config) where
 
   -- of an evacuation
   not_walk : (next end : ℕ) → IsEvacLeft (evacs.walk_on next end) → ⊥
-  not_walk next end = by_test (λ at. IsEvacLeft at → ⊥) (nat_lt next end) (evac.LoadShape next end) (evac.Ended Worked) (λ on is. cc) (λ off is. cc)
+  not_walk next end = by_test (λ at. IsEvacLeft at → ⊥) (nat_lt next end) (evac.LoadFirst next end) (evac.Ended Worked) (λ on is. cc) (λ off is. cc)
+
+  not_words : (address end : ℕ) (words : Option ℕ) → IsEvacLeft (evacs.after_words address end words) → ⊥
+  not_words address end (Some words) = not_walk (address + words) end
+  not_words address end None = λ is. cc
 
   not_resolved : (cset address end next : ℕ) (at : ResolveSpot) → IsEvacLeft (evacs.after_resolve c cset address end next at) → ⊥
   not_resolved cset address end next (resolve.Resolved answer) =
@@ -102,6 +106,7 @@ module _ (c : Config) where
   evac_left cset evac.LoadClaim got going = where_fails (nat_lt got c.regions) (evac.ClaimUnit got) (evac.Ended NoneLeft) _ (ltb-false got c.regions) (le-ltb _ _) (λ is. cc)
   evac_left cset (evac.ClaimUnit unit) got going = never (by_test (λ at. IsEvacLeft at → ⊥) (got == unit) (evacs.after_claim cset unit) evac.LoadClaim (λ on. not_claimed cset unit) (λ off is. cc))
   evac_left cset (evac.LoadTop region) got going = never (not_walk _ _)
+  evac_left cset (evac.LoadFirst address end) got going = never (not_words address end (filler_words_in got))
   evac_left cset (evac.LoadShape address end) got going = never (λ is. cc)
   evac_left cset (evac.LoadMark address end next) got going =
       never (by_test (λ at. IsEvacLeft at → ⊥) (bit_at got (mark_bit c address) == 1) (evac.Resolving address end next resolve.LoadHeader) (evacs.walk_on next end) (λ on is. cc) (λ off. not_walk next end))
@@ -110,7 +115,11 @@ module _ (c : Config) where
 
   -- of an updating
   not_object : (walk : Walk) (address : ℕ) → IsUpdateLeft (updates.next_object c walk address) → ⊥
-  not_object walk address = by_test (λ at. IsUpdateLeft at → ⊥) (nat_lt address (updates.limit_of c walk)) (update.LoadShape walk address) (update.Ended Worked) (λ on is. cc) (λ off is. cc)
+  not_object walk address = by_test (λ at. IsUpdateLeft at → ⊥) (nat_lt address (updates.limit_of c walk)) (update.LoadFirst walk address) (update.Ended Worked) (λ on is. cc) (λ off is. cc)
+
+  not_filled : (walk : Walk) (address : ℕ) (words : Option ℕ) → IsUpdateLeft (updates.after_words c walk address words) → ⊥
+  not_filled walk address (Some words) = not_object walk (address + words)
+  not_filled walk address None = λ is. cc
 
   not_field : (at : Visit) (field : ℕ) → IsUpdateLeft (updates.next_field c at field) → ⊥
   not_field at field =
@@ -131,6 +140,7 @@ module _ (c : Config) where
       never (by_test (λ at. IsUpdateLeft at → ⊥) (got == unit) (if bit_at cset unit == 1 then update.Ended Worked else update.LoadLimit unit) update.LoadClaim (λ on. not_in_set cset unit) (λ off is. cc))
   update_left cset (update.LoadLimit region) got going = never (by_test (λ at. IsUpdateLeft at → ⊥) (got == 0) (update.Ended Worked) (update.LoadTams region got) (λ on is. cc) (λ off is. cc))
   update_left cset (update.LoadTams region limit) got going = never (λ is. cc)
+  update_left cset (update.LoadFirst walk address) got going = never (not_filled walk address (filler_words_in got))
   update_left cset (update.LoadShape walk address) got going = never (not_shape _)
   update_left cset (update.LoadBlack at) got going =
       never (by_test (λ spot. IsUpdateLeft spot → ⊥) (bit_at got (mark_bit c at.address) == 1) (update.LoadField at 0) (updates.next_object c at.walk (updates.visit_end at)) (λ on is. cc) (λ off. not_object at.walk (updates.visit_end at)))

@@ -2,6 +2,7 @@
 use Rattle.std.specs.Prelude.{ℕ, ◌≡◌, ◌<◌, Bool, true, false, ◌&&◌, ⊤, if◌then◌else◌}
 use Rattle.heap_words.specs.declared.config.Config.{Config}
 use Rattle.heap_words.specs.Access.{table_index}
+use Rattle.heap_words.specs.Ranges.{seat_count}
 use Rattle.heap_words.specs.Words.{table_words}
 use Rattle.steps_base.specs.Touch.{placed}
 use Rattle.scan_part.specs.Rows as scans
@@ -29,9 +30,9 @@ IsFit c seat (Evacuating cset at) got = evac.IsFit c seat cset at got
 IsFit c seat (Updating cset at) got = update.IsFit c cset at got
 IsFit c seat _ got = ⊤
 
--- a machine that can make its access makes it to a word of the table
+-- a machine of a seat that can make its access makes it to a word of the table
 abbrev pub AccessesAreInside : Type 0
-AccessesAreInside = (c : Config) (seat : ℕ) (at : UnitSpot) → is_ready c seat at ≡ true → table_index (placed c (touch_at c seat at)) < table_words c
+AccessesAreInside = (c : Config) (seat : ℕ) (at : UnitSpot) → seat < seat_count c.mutators c.helpers → is_ready c seat at ≡ true → table_index (placed c (touch_at c seat at)) < table_words c
 
 -- and where it goes on with a word that is fit it can make the next one
 abbrev pub StaysReady : Type 0

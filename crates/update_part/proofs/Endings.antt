@@ -1,18 +1,19 @@
 -- By which words a unit of updating ends.
-use Rattle.std.proofs.Common.{◌≡◌, ◌≢◌, ℕ, ◌+◌, ◌≤◌, ◌↔◌, Bool, nat_lt, true, false, refl}
+use Rattle.std.proofs.Common.{◌≡◌, ◌≢◌, ℕ, ◌+◌, ◌≤◌, ◌↔◌, Bool, nat_lt, true, false, Option, Some, None, refl, sym, subst, arith}
 use Rattle.std.specs.Prelude.{◌==◌, if◌then◌else◌}
 use Rattle.std.specs.Int.{bit_at}
-use Rattle.std.proofs.lemmas.Bool.{eqb-true, eqb-false, eq-eqb, ne_eqb, ltb-false, le-ltb}
+use Rattle.std.proofs.lemmas.Option.{none-some, same_Some}
+use Rattle.std.proofs.lemmas.Bool.{eqb-true, eqb-false, eq-eqb, ne_eqb, ltb-true, ltb-false, le-ltb}
 use Rattle.heap_words.specs.declared.config.Config.{Config}
 use Rattle.heap_words.specs.declared.access.Unit.TheVariants.{Worked, NoneLeft}
-use Rattle.heap_words.specs.Encoding.{refs_in, is_forwarded, forwardee_in}
+use Rattle.heap_words.specs.Encoding.{filler_words_in, refs_in, is_forwarded, forwardee_in}
 use Rattle.regions.specs.Marks.{mark_bit}
 use Rattle.update_part.specs.declared.spot.Walk.{Walk}
 use Rattle.update_part.specs.declared.spot.Visit.{Visit}
 use Rattle.update_part.specs.declared.spot.UpdateSpot.{UpdateSpot}
-use Rattle.update_part.specs.declared.spot.UpdateSpot.TheVariants.{LoadClaim, ClaimUnit, LoadLimit, LoadTams, LoadShape, LoadBlack, LoadField, LoadHeader, ExchangeField, Ended}
-use Rattle.update_part.specs.Rows.{has_unit, names_set, limit_of, tams_of, visit_end, next_object, next_field, after_shape, next_at, is_ended}
-use Rattle.update_part.specs.Ends.{IsLast, IsLastField, IsDoneAt}
+use Rattle.update_part.specs.declared.spot.UpdateSpot.TheVariants.{LoadClaim, ClaimUnit, LoadLimit, LoadTams, LoadFirst, LoadShape, LoadBlack, LoadField, LoadHeader, ExchangeField, Ended}
+use Rattle.update_part.specs.Rows.{has_unit, names_set, limit_of, tams_of, visit_end, next_object, after_words, next_field, after_shape, next_at, is_ended}
+use Rattle.update_part.specs.Ends.{HasNoneLeft, IsLast, IsLastField, IsDoneAt}
 
 -- a unit is done there
 abbrev IsWorked : UpdateSpot → Type 0
@@ -39,7 +40,14 @@ ended = ((λ end. tt), (λ any. refl))
 
 object_ends : (c : Config) (walk : Walk) (address : ℕ) → IsWorked (next_object c walk address) ↔ (limit_of c walk ≤ address)
 object_ends c walk address = by_words_alone _ _ _ (ltb-false address (limit_of c walk)) (le-ltb _ _)
-    (where_false (nat_lt address (limit_of c walk)) (LoadShape walk address) (Ended Worked) (Unit {0}) (λ end. cc) ended)
+    (where_false (nat_lt address (limit_of c walk)) (LoadFirst walk address) (Ended Worked) (Unit {0}) (λ end. cc) ended)
+
+first_ends : (c : Config) (walk : Walk) (address : ℕ) (filled : Option ℕ) → IsWorked (after_words c walk address filled) ↔ ((words : ℕ) × (filled ≡ Some words) × (limit_of c walk ≤ address + words))
+first_ends c walk address (Some words) = (
+  (λ end. (words, refl, (object_ends c walk (address + words)).0 end)),
+  (λ last. (object_ends c walk (address + words)).1 (subst (λ n. limit_of c walk ≤ address + n) (sym (same_Some words last.0 last.1)) last.2)),
+)
+first_ends c walk address None = ((λ end. cc), (λ last. absurd (none-some last.0 last.1)))
 
 field_ends : (c : Config) (at : Visit) (field : ℕ) → IsWorked (next_field c at field) ↔ ((refs_in at.shape ≤ field) × IsLast c at)
 field_ends c at field = by_words _ _ _ _ (ltb-false field (refs_in at.shape)) (le-ltb _ _)
@@ -78,6 +86,7 @@ worked_is c cset LoadClaim got going = ((λ end. no_unit (has_unit c got) got en
 worked_is c cset (ClaimUnit unit) got going = claim_ends c cset unit got
 worked_is c cset (LoadLimit region) got going = limit_ends c cset region got
 worked_is c cset (LoadTams region limit) got going = ((λ end. cc), (λ never. absurd never))
+worked_is c cset (LoadFirst walk address) got going = first_ends c walk address (filler_words_in got)
 worked_is c cset (LoadShape walk address) got going = shape_ends c (record { walk = walk; address = address; shape = got })
 worked_is c cset (LoadBlack at) got going = black_ends c cset at got
 worked_is c cset (LoadField at field) got going =
@@ -86,3 +95,69 @@ worked_is c cset (LoadHeader at field found) got going =
     where_false (is_forwarded got) (ExchangeField at field found (forwardee_in got)) (next_field c at (field + 1)) (IsLastField c at field) (λ end. cc) (field_ends c at (field + 1))
 worked_is c cset (ExchangeField at field found copy) got going = field_ends c at (field + 1)
 worked_is c cset (Ended unit) got going = absurd cc
+
+-- no unit is left there
+abbrev SaysNone : UpdateSpot → Type 0
+SaysNone spot = spot ≡ Ended NoneLeft
+
+none_object : (c : Config) (walk : Walk) (address : ℕ) → SaysNone (next_object c walk address) → ⊥
+none_object c walk address = by_test (nat_lt address (limit_of c walk))
+  where
+    by_test : (b : Bool) → SaysNone (if b then LoadFirst walk address else Ended Worked) → ⊥
+    by_test true end = cc
+    by_test false end = cc
+
+none_first : (c : Config) (walk : Walk) (address : ℕ) (filled : Option ℕ) → SaysNone (after_words c walk address filled) → ⊥
+none_first c walk address (Some words) end = none_object c walk (address + words) end
+none_first c walk address None end = cc
+
+none_field : (c : Config) (at : Visit) (field : ℕ) → SaysNone (next_field c at field) → ⊥
+none_field c at field = by_test (nat_lt field (refs_in at.shape))
+  where
+    by_test : (b : Bool) → SaysNone (if b then LoadField at field else next_object c at.walk (visit_end at)) → ⊥
+    by_test true end = cc
+    by_test false end = none_object c at.walk (visit_end at) end
+
+none_shape : (c : Config) (at : Visit) → SaysNone (after_shape c at) → ⊥
+none_shape c at = by_tests (refs_in at.shape == 0) (nat_lt at.address (tams_of c at.walk))
+  where
+    by_tests : (b d : Bool) → SaysNone (if b then next_object c at.walk (visit_end at) else (if d then LoadBlack at else LoadField at 0)) → ⊥
+    by_tests true d end = none_object c at.walk (visit_end at) end
+    by_tests false true end = cc
+    by_tests false false end = cc
+
+none_claim : (unit : ℕ) (b d : Bool) → SaysNone (if b then (if d then Ended Worked else LoadLimit unit) else LoadClaim) → ⊥
+none_claim unit true true end = cc
+none_claim unit true false end = cc
+none_claim unit false d end = cc
+
+none_limit : (region got : ℕ) (b : Bool) → SaysNone (if b then Ended Worked else LoadTams region got) → ⊥
+none_limit region got true end = cc
+none_limit region got false end = cc
+
+none_black : (c : Config) (at : Visit) (b : Bool) → SaysNone (if b then LoadField at 0 else next_object c at.walk (visit_end at)) → ⊥
+none_black c at true end = cc
+none_black c at false end = none_object c at.walk (visit_end at) end
+
+none_else : (c : Config) (at : Visit) (field : ℕ) (spot : UpdateSpot) → (SaysNone spot → ⊥) → (b : Bool) → SaysNone (if b then spot else next_field c at field) → ⊥
+none_else c at field spot never true end = never end
+none_else c at field spot never false end = none_field c at field end
+
+claim_none : (c : Config) (got : ℕ) (b : Bool) → has_unit c got ≡ b → SaysNone (if b then ClaimUnit got else Ended NoneLeft) ↔ (c.regions ≤ got)
+claim_none c got true is = ((λ end. absurd (let differ = end in cc)), (λ most. absurd (let less = ltb-true got c.regions is in omega (arith, less, most))))
+claim_none c got false is = ((λ end. ltb-false got c.regions is), (λ most. refl))
+
+-- no unit is left exactly by these words
+pub none_is : (c : Config) (cset : ℕ) (spot : UpdateSpot) (got : ℕ) → is_ended spot ≡ false → (next_at c cset spot got ≡ Ended NoneLeft) ↔ HasNoneLeft c spot got
+none_is c cset LoadClaim got going = claim_none c got (has_unit c got) refl
+none_is c cset (ClaimUnit unit) got going = ((λ end. none_claim unit (got == unit) (bit_at cset unit == 1) end), (λ never. absurd never))
+none_is c cset (LoadLimit region) got going = ((λ end. none_limit region got (got == 0) end), (λ never. absurd never))
+none_is c cset (LoadTams region limit) got going = ((λ end. cc), (λ never. absurd never))
+none_is c cset (LoadFirst walk address) got going = ((λ end. none_first c walk address (filler_words_in got) end), (λ never. absurd never))
+none_is c cset (LoadShape walk address) got going = ((λ end. none_shape c (record { walk = walk; address = address; shape = got }) end), (λ never. absurd never))
+none_is c cset (LoadBlack at) got going = ((λ end. none_black c at (bit_at got (mark_bit c at.address) == 1) end), (λ never. absurd never))
+none_is c cset (LoadField at field) got going = ((λ end. none_else c at (field + 1) (LoadHeader at field got) (λ is. (let differ = is in cc)) (names_set c cset got) end), (λ never. absurd never))
+none_is c cset (LoadHeader at field found) got going =
+    ((λ end. none_else c at (field + 1) (ExchangeField at field found (forwardee_in got)) (λ is. (let differ = is in cc)) (is_forwarded got) end), (λ never. absurd never))
+none_is c cset (ExchangeField at field found copy) got going = ((λ end. none_field c at (field + 1) end), (λ never. absurd never))
+none_is c cset (Ended unit) got going = absurd cc

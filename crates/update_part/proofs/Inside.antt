@@ -8,7 +8,7 @@ use Rattle.heap_words.proofs.Stores.{is_word_true}
 use Rattle.regions.proofs.MarksApart.{word_inside}
 use Rattle.update_part.specs.declared.spot.Visit.{Visit}
 use Rattle.update_part.specs.declared.spot.UpdateSpot.{UpdateSpot}
-use Rattle.update_part.specs.declared.spot.UpdateSpot.TheVariants.{LoadClaim, ClaimUnit, LoadLimit, LoadTams, LoadShape, LoadBlack, LoadField, LoadHeader, ExchangeField, Ended}
+use Rattle.update_part.specs.declared.spot.UpdateSpot.TheVariants.{LoadClaim, ClaimUnit, LoadLimit, LoadTams, LoadFirst, LoadShape, LoadBlack, LoadField, LoadHeader, ExchangeField, Ended}
 use Rattle.update_part.specs.Rows.{touch_at, walk_fits, visit_fits, has_field, is_ready}
 
 heap_there : (c : Config) (address : ℕ) → is_word c (Heap address) ≡ true → IsWord c (Heap address)
@@ -31,6 +31,7 @@ updating_inside c LoadClaim ready = tt
 updating_inside c (ClaimUnit unit) ready = tt
 updating_inside c (LoadLimit region) ready = ltb-true _ _ ready
 updating_inside c (LoadTams region limit) ready = ltb-true _ _ (and_parts _ _ ready).0
+updating_inside c (LoadFirst walk address) ready = heap_there c address (and_parts (walk_fits c walk) _ ready).1
 updating_inside c (LoadShape walk address) ready = heap_there c (address + 1) (and_parts _ _ (and_parts (walk_fits c walk) _ ready).1).1
 updating_inside c (LoadBlack at) ready = word_inside c at.address (object_inside c at ready)
 updating_inside c (LoadField at field) ready = field_inside c at field ready
@@ -44,6 +45,7 @@ updating_image c LoadClaim = refl
 updating_image c (ClaimUnit unit) = refl
 updating_image c (LoadLimit region) = refl
 updating_image c (LoadTams region limit) = refl
+updating_image c (LoadFirst walk address) = refl
 updating_image c (LoadShape walk address) = refl
 updating_image c (LoadBlack at) = refl
 updating_image c (LoadField at field) = refl

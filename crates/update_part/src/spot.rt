@@ -6,8 +6,10 @@ ghost use Rattle.steps_base.specs.Touch.{placed};
 ghost use Rattle.update_part.specs.Rows as rows;
 ghost use Rattle.update_part.specs.Ends.{WaitsAt};
 
-use heap_words::{Access, Config, Place, Took, Unit, forwarded, forwardee, refs_of};
-use regions::{base, is_in, is_marked_in, mark_word, next_object, region_of};
+use heap_words::{
+    Access, Config, Place, Took, Unit, filler_words, forwarded, forwardee, refs_of, words_of,
+};
+use regions::{base, is_in, is_marked_in, mark_word, region_of};
 use std::fmt;
 use std::fmt::{Debug, Formatter, Write};
 
@@ -54,6 +56,13 @@ pub enum UpdateSpot {
         region: usize,
         /// Its limit.
         limit: u64,
+    },
+    /// It loads the header where the walk stands, an object's or a filler's.
+    LoadFirst {
+        /// The walk over the region.
+        walk: Walk,
+        /// Where it stands.
+        address: u64,
     },
     /// It loads the shape of the next object.
     LoadShape {
@@ -111,6 +120,7 @@ impl UpdateSpot {
             UpdateSpot::ClaimUnit { .. } => Place::KX,
             UpdateSpot::LoadLimit { .. } => Place::UL,
             UpdateSpot::LoadTams { .. } => Place::UT,
+            UpdateSpot::LoadFirst { .. } => Place::UG,
             UpdateSpot::LoadShape { .. } => Place::US,
             UpdateSpot::LoadBlack { .. } => Place::UB,
             UpdateSpot::LoadField { .. } => Place::UF,
@@ -148,6 +158,7 @@ impl UpdateSpot {
             UpdateSpot::LoadTams { region, .. } => Access::Load {
                 at: config.tams_at(region),
             },
+            UpdateSpot::LoadFirst { address, .. } => load_of_heap(config, address),
             UpdateSpot::LoadShape { address, .. } => load_of_heap(config, address + 1),
             UpdateSpot::LoadBlack { at } => Access::Load {
                 at: config.black_at(mark_word(config, at.address)),
@@ -175,6 +186,7 @@ impl UpdateSpot {
             UpdateSpot::LoadLimit { .. } if got == 0 => WORKED,
             UpdateSpot::LoadLimit { region } => UpdateSpot::LoadTams { region, limit: got },
             UpdateSpot::LoadTams { region, limit } => first_object(config, region, limit, got),
+            UpdateSpot::LoadFirst { walk, address } => after_first(config, walk, address, got),
             UpdateSpot::LoadShape { walk, address } => after_shape(
                 config,
                 Visit {
@@ -289,12 +301,12 @@ fn after_claim(config: Config, cset: u64, unit: u64, got: u64) -> UpdateSpot
     }
 }
 
-// The spot at the first object of a region.
+// The spot at the base of a region.
 fn first_object(config: Config, region: usize, limit: u64, tams: u64) -> UpdateSpot
     requires { region < config.regions }
     ensures { result ≡ rows.next_at config 0 (UpdateSpot.LoadTams region limit) tams }
 {
-    UpdateSpot::LoadShape {
+    UpdateSpot::LoadFirst {
         walk: Walk {
             region,
             limit,
@@ -310,12 +322,30 @@ fn object_behind(config: Config, at: Visit) -> UpdateSpot
     requires there { IsWord config (Heap at.address) }
     ensures { result ≡ rows.next_object config at.walk (rows.visit_end at) }
 {
-    let walk = at.walk;
-    let address = next_object(at.address, at.shape);
+    walk_on(config, at.walk, at.address + words_of(at.shape))
+}
+
+// Where the walk goes on once all below an address is dealt with.
+fn walk_on(config: Config, walk: Walk, address: u64) -> UpdateSpot
+    requires walk { rows.walk_fits config walk ≡ true }
+    ensures { result ≡ rows.next_object config walk address }
+{
     if address < base(config, walk.region) + walk.limit {
-        UpdateSpot::LoadShape { walk, address }
+        UpdateSpot::LoadFirst { walk, address }
     } else {
         WORKED
+    }
+}
+
+// What follows the load of a header: the walk steps over a filler.
+fn after_first(config: Config, walk: Walk, address: u64, header: u64) -> UpdateSpot
+    requires walk { rows.walk_fits config walk ≡ true }
+    requires there { IsWord config (Heap address) }
+    ensures { result ≡ rows.after_first config walk address header }
+{
+    match filler_words(header) {
+        Some(words) => walk_on(config, walk, address + words),
+        None => UpdateSpot::LoadShape { walk, address },
     }
 }
 

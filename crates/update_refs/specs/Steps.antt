@@ -1,16 +1,18 @@
 -- What the steps of the pauses of updating make of the words of an image.
 use Rattle.std.specs.Prelude.{ℕ, if◌then◌else◌, nat_lt}
-use Rattle.heap_words.specs.Words.{Word, Phase, Evac, Claim, Top, Limit}
+use Rattle.heap_words.specs.declared.config.Config.{Config}
+use Rattle.heap_words.specs.Words.{Word, Phase, Evac, Claim, Limit}
+use Rattle.buffer_words.specs.Edge.{edge}
 use Rattle.cycle_words.specs.Updating.Changes.{is_chosen}
 
 -- the limit of a region when updating begins
-abbrev pub limit_in : (Word → ℕ) → ℕ → ℕ
-limit_in memory r = if is_chosen memory r then 0 else memory (Top r)
+abbrev pub limit_in : Config → (Word → ℕ) → ℕ → ℕ
+limit_in c memory r = if is_chosen memory r then 0 else edge c memory r
 
 -- the limits of so many regions are noted
-abbrev pub limited : ℕ → (Word → ℕ) → Word → ℕ
-limited regions memory (Limit r) = if nat_lt r regions then limit_in memory r else memory (Limit r)
-limited regions memory word = memory word
+abbrev pub limited : Config → ℕ → (Word → ℕ) → Word → ℕ
+limited c regions memory (Limit r) = if nat_lt r regions then limit_in c memory r else memory (Limit r)
+limited c regions memory word = memory word
 
 -- updating runs: no copier is counted, and no unit is claimed
 abbrev pub update_started : (Word → ℕ) → Word → ℕ

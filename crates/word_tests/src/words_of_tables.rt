@@ -1,7 +1,7 @@
 use heap_words::{
-    Access, BadConfig, Config, Place, WordName, count_of, forwarded, forwardee, header_to,
-    name_word, nums_of, refs_of, request_count, request_shape, request_word, shape_of, thread_of,
-    words_of,
+    Access, BadConfig, Config, Place, WordName, buffer, count_of, end_of, filler, filler_words,
+    forwarded, forwardee, header_to, name_word, next_of, nums_of, refs_of, request_count,
+    request_shape, request_word, shape_of, thread_of, words_of,
 };
 use std::process::Abort;
 use std::test::Fail;
@@ -39,7 +39,7 @@ fn ranges(rt: HostRuntime) {
 }
 
 // The words of four regions of 64 words and one mutator, by where they stand: every row of words by hand.
-const SMALLEST: [(usize, WordName); 28] = [
+const SMALLEST: [(usize, WordName); 29] = [
     (0, WordName::Pause),
     (1, WordName::Left),
     (2, WordName::End),
@@ -92,10 +92,11 @@ const SMALLEST: [(usize, WordName); 28] = [
     (59, WordName::Heap { address: 64 }),
     (60, WordName::Heap { address: 65 }),
     (314, WordName::Heap { address: 319 }),
+    (315, WordName::Share),
 ];
 
 // Five regions of 65 words, two mutators and a helper: the words that stand by more than one number.
-const WITH_A_HELPER: [(usize, WordName); 12] = [
+const WITH_A_HELPER: [(usize, WordName); 13] = [
     (11, WordName::Ask),
     (30, WordName::Current { seat: 3 }),
     (
@@ -120,6 +121,7 @@ const WITH_A_HELPER: [(usize, WordName); 12] = [
     (96, WordName::Black { word: 5 }),
     (97, WordName::Heap { address: 65 }),
     (421, WordName::Heap { address: 389 }),
+    (422, WordName::Share),
 ];
 
 // The words stand in the table of a configuration where the rows say, and it has so many.
@@ -132,8 +134,8 @@ fn stand(rt: &impl Abort, config: Config, rows: &[(usize, WordName)], words: usi
 
 #[test]
 fn places_of_words(rt: HostRuntime) -> Result<(), Fail> {
-    stand(&rt, Config::new(4, 64, 1, 0, 0)?, &SMALLEST, 315);
-    stand(&rt, Config::new(5, 65, 2, 1, 1)?, &WITH_A_HELPER, 422);
+    stand(&rt, Config::new(4, 64, 1, 0, 0)?, &SMALLEST, 316);
+    stand(&rt, Config::new(5, 65, 2, 1, 1)?, &WITH_A_HELPER, 423);
     Ok(())
 }
 
@@ -149,6 +151,10 @@ fn encodings(rt: HostRuntime) {
         (refs_of(69632), 16),
         (nums_of(69632), 0),
         (words_of(69632), 19),
+        (filler(29), 118),
+        (buffer(227, 256), 1099511628003),
+        (next_of(1099511628003), 227),
+        (end_of(1099511628003), 256),
         (words_of(u64::MAX), 513),
         (name_word(1, 2), 4294967298),
         (u64::from(thread_of(4294967298)), 1),
@@ -158,6 +164,10 @@ fn encodings(rt: HostRuntime) {
         (request_shape(12884967681), 65793),
     ];
     agree(&rt, &rows);
+    assert!(rt; filler_words(118) == Some(29));
+    for header in &[1, 1027] {
+        assert!(rt; filler_words(*header).is_none());
+    }
 }
 
 // The first number of each row is the second.
@@ -204,14 +214,15 @@ fn accesses(rt: HostRuntime) {
 }
 
 // All codes, each once.
-const CODES: [[u8; 2]; 81] = [
+const CODES: [[u8; 2]; 87] = [
     *b"E1", *b"E2", *b"E3", *b"E4", *b"PH", *b"CS", *b"LV", *b"ML", *b"H0", *b"RL", *b"SH", *b"FL",
     *b"FS", *b"FX", *b"CX", *b"NL", *b"NS", *b"NM", *b"RS", *b"AK", *b"BC", *b"BL", *b"GO", *b"BZ",
-    *b"BE", *b"BN", *b"TC", *b"TT", *b"TF", *b"TG", *b"TU", *b"TS", *b"IW", *b"WS", *b"WK", *b"WO",
-    *b"WP", *b"WL", *b"WC", *b"HL", *b"XL", *b"XC", *b"SL", *b"CL", *b"CP", *b"HI", *b"HX", *b"GB",
-    *b"XS", *b"OL", *b"OX", *b"XW", *b"HR", *b"MC", *b"EC", *b"UC", *b"KX", *b"MG", *b"MB", *b"MO",
-    *b"MS", *b"MF", *b"ET", *b"ES", *b"EB", *b"UL", *b"UT", *b"US", *b"UB", *b"UF", *b"UH", *b"UX",
-    *b"I0", *b"IE", *b"I1", *b"I2", *b"P1", *b"P2", *b"PL", *b"PS", *b"P3",
+    *b"BE", *b"BN", *b"TC", *b"TR", *b"TT", *b"TX", *b"TF", *b"TG", *b"TV", *b"TQ", *b"TZ", *b"TS",
+    *b"IW", *b"WS", *b"WK", *b"WO", *b"WP", *b"WL", *b"WC", *b"HL", *b"XL", *b"XC", *b"SL", *b"CL",
+    *b"CP", *b"HI", *b"HX", *b"GB", *b"XS", *b"OL", *b"OX", *b"XW", *b"HR", *b"MC", *b"EC", *b"UC",
+    *b"KX", *b"MG", *b"MB", *b"MO", *b"MS", *b"MF", *b"ET", *b"EF", *b"ES", *b"EB", *b"UL", *b"UT",
+    *b"UG", *b"US", *b"UB", *b"UF", *b"UH", *b"UX", *b"I0", *b"IE", *b"I1", *b"I2", *b"P1", *b"P2",
+    *b"PL", *b"PS", *b"P3",
 ];
 
 // The codes are known, and with another case or in another order they are none.

@@ -11,7 +11,7 @@ use Rattle.heap_world.specs.Asking.{Asking, nothing, asks, refused, given}
 use Rattle.heap_world.specs.Represents.{Represents}
 use Rattle.heap_world.specs.Change.{Answers, IsPaused}
 use Rattle.cycle_words.specs.Marking.Final.{final_marked}
-use Rattle.cycle_words.specs.Marking.Laws.{HasNoMoreSeats}
+use Rattle.image_graph.specs.Buffers.{HasNoMoreSeats}
 use Rattle.cycle_pauses.specs.Marking.MarkedOut.{IsMarkedOut}
 use Rattle.cycle_pauses.proofs.Marking.WhileMarking.{marking_stands, end_gives}
 use Rattle.cycle_words.specs.Evacuation.Live.{live_words, is_candidate, IsCandidate}

@@ -1,27 +1,30 @@
 -- What holds of the words in the pause that begins evacuation, between two objects that are copied: roots and answers aside.
 use Rattle.std.proofs.Common.{◌≡◌, ℕ, ◌<◌, ◌≤◌, ◌⊎◌, Option, Some, None, refl, ap}
 use Rattle.heap_words.specs.declared.config.Config.{Config}
-use Rattle.heap_words.specs.Words.{Word, Cset, Free, Top, Tams, Current, Black, Heap}
+use Rattle.heap_words.specs.Words.{Word, Cset, Free, Top, Tams, Current, Black, Heap, Share}
 use Rattle.regions.specs.Sets.{IsIn}
 use Rattle.shen_graph.specs.declared.name.Name.{Name}
 use Rattle.shen_graph.specs.Graph.{Graph}
 use Rattle.regions.specs.Marks.{HasMark}
-use Rattle.heap_world.specs.World.{Block, thing, moved, spent, promised, dead, filler, words_of, room_of, HasNoRoom, Plot, name_at, IsCollected, IsParsable, HasContents, AreOwned, AreUnwritten, HaveMoved, IsMarkable, IsYoung, HasCopy, body_at}
+use Rattle.heap_world.specs.World.{Block, thing, moved, spent, hand, promised, dead, filler, carved, words_of, room_of, Plot, name_at, IsCollected, IsParsable, HasContents, AreOwned, AreUnwritten, HaveMoved, IsMarkable, IsYoung, AreYoungRooms, AreRoomsOutside, HasCopy, body_at}
 
 -- As in any pause of evacuation, but that objects which are promised may still lie in the collection set.
-pub record IsBetween (c : Config) (cset free : ℕ) (top tams heap black current : ℕ → ℕ) (block : Plot) (owner : ℕ → Option ℕ) (g : Graph) : Type 0 where
+pub record IsBetween (c : Config) (share cset free : ℕ) (top tams heap black current : ℕ → ℕ) (block : Plot) (owner : ℕ → Option ℕ) (g : Graph) : Type 0 where
   pub parsable : IsParsable c top block
   pub contents : HasContents c heap block g.object g.count
-  pub owned : AreOwned c top free current block owner
+  pub owned : AreOwned c top share free cset current block owner
   pub unwritten : AreUnwritten heap block
   pub moves : HaveMoved c cset heap block
-  pub no_rooms : HasNoRoom block
+  pub unheld : (a seat words : ℕ) → block a ≡ Some (hand seat words) → ⊥
+  pub uncarved : (a seat words : ℕ) → block a ≡ Some (carved seat words) → ⊥
+  pub no_rooms : AreRoomsOutside c cset block
   pub promised_to : (a seat words : ℕ) → block a ≡ Some (promised seat words) → seat < c.mutators
   pub in_heap : (r : ℕ) → IsIn cset r → r < c.regions
   pub used : (r : ℕ) → IsIn free r → IsIn cset r → ⊥
   pub nobodys : (r seat : ℕ) → owner r ≡ Some seat → IsIn cset r → ⊥
   pub no_new : (r : ℕ) → IsIn cset r → top r ≡ tams r
   pub marked : (a : ℕ) → IsMarkable block a → HasMark c black a ⊎ IsYoung c tams a
+  pub young : AreYoungRooms c tams block
   pub floors : (r : ℕ) → r < c.regions → tams r ≤ top r
   pub unmarked : (a words : ℕ) → block a ≡ Some (dead words) → HasMark c black a → ⊥
   pub deads : (a words : ℕ) → block a ≡ Some (dead words) → IsYoung c tams a → ⊥
@@ -30,7 +33,7 @@ pub record IsBetween (c : Config) (cset free : ℕ) (top tams heap black current
 -- so it is of words
 abbrev pub AreBetween : Config → (Word → ℕ) → Plot → (ℕ → Option ℕ) → Graph → Type 0
 AreBetween c m block owner g =
-    IsBetween c (m Cset) (m Free) (λ r. m (Top r)) (λ r. m (Tams r)) (λ a. m (Heap a)) (λ n. m (Black n)) (λ s. m (Current s)) block owner g
+    IsBetween c (m Share) (m Cset) (m Free) (λ r. m (Top r)) (λ r. m (Tams r)) (λ a. m (Heap a)) (λ n. m (Black n)) (λ s. m (Current s)) block owner g
 
 -- a piece that is copied: an object of the graph, or one that is promised
 abbrev pub IsLive : Block → Type 0

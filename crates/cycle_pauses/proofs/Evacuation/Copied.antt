@@ -38,6 +38,7 @@ blank_copied heap after a to words copied is = record {
   long = is.long;
   few_refs = is.few_refs;
   few_nums = is.few_nums;
+  header = (let long = is.long in let there : to ≡ to + 0 = omega arith in let was : a + 0 ≡ a = omega arith in ap after there ∙ copied 0 (omega (arith, long)) ∙ ap heap was ∙ is.header);
   shape = (let long = is.long in copied 1 (omega (arith, long))) ∙ is.shape;
   nulls = λ i below.
       let long = is.long in

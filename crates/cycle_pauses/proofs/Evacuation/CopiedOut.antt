@@ -5,10 +5,10 @@ use Rattle.std.specs.Prelude.{bit_and}
 use Rattle.std.specs.Int.{bit_at}
 use Rattle.std.proofs.Math.Path.{fun_ext}
 use Rattle.std.proofs.lemmas.Bool.{cases_eq}
-use Rattle.std.proofs.lemmas.Option.{slice_get-get_or, none-some}
+use Rattle.std.proofs.lemmas.Option.{slice_get-get_or, none-some, same_Some}
 use Rattle.std.proofs.lemmas.Nat.{and_le_l}
 use Rattle.heap_words.specs.declared.config.Config.{Config}
-use Rattle.heap_words.specs.Words.{Word, Cset, Free, Top, Tams, Current, Black, Heap}
+use Rattle.heap_words.specs.Words.{Word, Cset, Free, Top, Tams, Current, Black, Heap, Share}
 use Rattle.heap_words.specs.Encoding.{plain_header, header_word, shape_word, object_words}
 use Rattle.regions.specs.Place.{base_of, region_with}
 use Rattle.regions.specs.Sets.{IsIn, all_but}
@@ -16,7 +16,7 @@ use Rattle.regions.proofs.PlaceLemmas.{regions_tile}
 use Rattle.shen_graph.specs.declared.name.Name.{Name}
 use Rattle.shen_graph.specs.Graph.{Reference, Graph}
 use Rattle.regions.specs.Marks.{HasMark}
-use Rattle.heap_world.specs.World.{Block, thing, moved, spent, promised, dead, filler, words_of, room_of, HasNoRoom, Plot, name_at, Points, IsCollected, IsPlotted, IsFilled, IsThing, IsParsable, AreObjects, IsFreeWord, AreCurrent, IsBlank, AreUnwritten, IsMoved, IsSpent, IsMarkable, IsYoung, HasCopy, body_at}
+use Rattle.heap_world.specs.World.{Block, thing, moved, spent, hand, promised, dead, filler, carved, words_of, room_of, Plot, name_at, Points, IsCollected, IsPlotted, IsFilled, IsThing, IsParsable, AreObjects, IsFreeWord, ShareIsOpen, AreBuffers, AreBuffersOutside, AreOwned, IsBlank, AreUnwritten, IsMoved, IsSpent, IsMarkable, IsYoung, HasCopy, body_at}
 use Rattle.heap_world.proofs.Updates.{updated, updated_same, updated_there, updated_else}
 use Rattle.heap_world.proofs.Keeping.{points_stay}
 use Rattle.heap_world.proofs.Pointing.{named_piece}
@@ -24,7 +24,7 @@ use Rattle.heap_world.proofs.Pieces.{some_words, beside, piece_cases, object_rea
 use Rattle.heap_world.proofs.Apart.{far}
 use Rattle.heap_world.proofs.Joined as joined
 use Rattle.heap_world.proofs.Joined.{CanJoin}
-use Rattle.heap_world.proofs.Roomless.{rooms_none}
+use Rattle.full_words.proofs.Buffers.{SameRoom, rooms_stay, buffers_stay, share_stays}
 use Rattle.cycle_words.specs.Evacuation.Live.{words_at}
 use Rattle.cycle_words.specs.Evacuation.Copied.{MayChange, top_address, copied_to, copied_out, IsCopiedOut}
 use Rattle.cycle_words.proofs.Evacuation.CopiedOut.{copied_as}
@@ -72,7 +72,7 @@ module _ (c : Config) (m : Word → ℕ) (block : Plot) (owner : ℕ → Option 
 
   -- a piece has a word at least
   long : (p : ℕ) (z : Block) → block p ≡ Some z → 1 ≤ words_of z
-  long p z is = some_words c top (λ s. m (Current s)) block b.parsable b.owned.rooms p z is
+  long p z is = some_words c top block b.parsable b.owned.rooms p z is
 
   joins : CanJoin c top block r (m (Top r)) x
   joins = record {
@@ -216,12 +216,12 @@ module _ (c : Config) (m : Word → ℕ) (block : Plot) (owner : ℕ → Option 
       rest)
       (plot_cases p (dead words) is)
 
-  filler_was : (p words : ℕ) → plot p ≡ Some (filler words) → block p ≡ Some (filler words)
-  filler_was p words is = ⊎_elim
+  filler_from : (p words : ℕ) → plot p ≡ Some (filler words) → (p ≢ a) × (block p ≡ Some (filler words))
+  filler_from p words is = ⊎_elim
       (λ (gone : (p ≡ a) × (old ≡ filler words)). absurd ((old_is_old x to).4 words gone.1))
       (λ rest. ⊎_elim
       (λ (new : (p ≡ to) × (x ≡ filler words)). absurd ((live_is_live x live).4 words new.1))
-      (λ (stood : (p ≢ a) × (block p ≡ Some (filler words))). stood.1)
+      (λ (stood : (p ≢ a) × (block p ≡ Some (filler words))). stood)
       rest)
       (plot_cases p (filler words) is)
 
@@ -243,7 +243,7 @@ module _ (c : Config) (m : Word → ℕ) (block : Plot) (owner : ℕ → Option 
         (λ (stood : (p ≢ a) × (block p ≡ Some (spent words at))). b.parsable.spents p words at stood.1)
         rest)
         (plot_cases p (spent words at) is);
-    fillers = λ p words is. b.parsable.fillers p words (filler_was p words is);
+    fillers = λ p words is. b.parsable.fillers p words (filler_from p words is).1;
   }
     where
       was_promise : (p seat words : ℕ) → plot p ≡ Some (promised seat words) → (q : ℕ) × (block q ≡ Some (promised seat words))
@@ -270,14 +270,18 @@ module _ (c : Config) (m : Word → ℕ) (block : Plot) (owner : ℕ → Option 
       (λ rest. rest)
       (plot_cases p (promised seat words) is)
 
-  no_room : HasNoRoom plot
-  no_room p seat y is room = ⊎_elim
-      (λ (gone : (p ≡ a) × (old ≡ y)). none-some seat (sym (old_is_old x to).2 ∙ ap room_of gone.1 ∙ room))
-      (λ rest. ⊎_elim
-      (λ (new : (p ≡ to) × (x ≡ y)). none-some seat (sym (live_is_live x live).2 ∙ ap room_of new.1 ∙ room))
-      (λ (stood : (p ≢ a) × (block p ≡ Some y)). b.no_rooms p seat y stood.1 room)
-      rest)
-      (plot_cases p y is)
+  -- room is the same
+  same_room : SameRoom block plot
+  same_room = record {
+    stays = λ p seat y of is. stays p y (λ same. none-some seat (sym (live_is_live x live).2 ∙ ap room_of (same_Some x y (sym here ∙ ap block (sym same) ∙ is)) ∙ of)) is;
+    came = λ p seat y of is. ⊎_elim
+        (λ (gone : (p ≡ a) × (old ≡ y)). absurd (none-some seat (sym (old_is_old x to).2 ∙ ap room_of gone.1 ∙ of)))
+        (λ rest. ⊎_elim
+        (λ (new : (p ≡ to) × (x ≡ y)). absurd (none-some seat (sym (live_is_live x live).2 ∙ ap room_of new.1 ∙ of)))
+        (λ (stood : (p ≢ a) × (block p ≡ Some y)). stood.1)
+        rest)
+        (plot_cases p y is);
+  }
 
   objects_again : AreObjects after plot g.object
   objects_again = record {
@@ -323,11 +327,37 @@ module _ (c : Config) (m : Word → ℕ) (block : Plot) (owner : ℕ → Option 
     nobodys = λ q below is. b.owned.free_word.nobodys q below (free_was q below is).1;
   }
 
-  currents_again : AreCurrent c (λ s. n (Current s)) owner
-  currents_again = record {
-    within = λ seat q is. b.owned.currents.within seat q (sym (word_same (Current seat) (λ never. never)) ∙ is);
-    own = λ seat q is. b.owned.currents.own seat q (sym (word_same (Current seat) (λ never. never)) ∙ is);
-  }
+  -- no top falls
+  rises : (q : ℕ) → m (Top q) ≤ n (Top q)
+  rises q = ⊎_elim
+      (λ (same : q ≡ r). (let grown = out.copied.top in let own : n (Top q) ≡ n (Top r) = ap (λ k. n (Top k)) same in let was : m (Top q) ≡ m (Top r) = ap (λ k. m (Top k)) same in omega (arith, grown, own, was)))
+      (λ (other : q ≢ r). (let same = top_same q other in omega (arith, same)))
+      (cases_eq q r)
+
+  -- so regions and buffers are owned as before
+  abbrev currents : ℕ → ℕ
+  currents s = n (Current s)
+
+  abbrev currents_were : ℕ → ℕ
+  currents_were s = m (Current s)
+
+  currents_same : currents ≡ currents_were
+  currents_same = fun_ext (λ s. word_same (Current s) (λ never. never))
+
+  buffers_again : AreBuffers c (λ q. n (Top q)) currents plot
+  buffers_again = subst (λ k. AreBuffers c (λ q. n (Top q)) k plot) (sym currents_same)
+      (buffers_stay c top (λ q. n (Top q)) currents_were block plot same_room b.owned.buffers (λ seat some. rises (b.owned.buffers.each seat some).region))
+
+  outside_again : AreBuffersOutside c (n Cset) currents
+  outside_again = subst (λ k. AreBuffersOutside c (n Cset) k) (sym currents_same) (subst (λ set. AreBuffersOutside c set currents_were) (sym set_same) b.owned.outside)
+
+  share_again : ShareIsOpen c (n Share) (n Free) (n Cset) owner
+  share_again = subst (λ share. ShareIsOpen c share (n Free) (n Cset) owner) (sym (word_same Share (λ never. never)))
+      (subst (λ free. ShareIsOpen c (m Share) free (n Cset) owner) (sym free_is)
+      (subst (λ set. ShareIsOpen c (m Share) (bit_and (m Free) (all_but r)) set owner) (sym set_same) (share_stays c (m Share) (m Free) (m Cset) r owner out.below b.owned.shared_one)))
+
+  owned_again : AreOwned c (λ q. n (Top q)) (n Share) (n Free) (n Cset) currents plot owner
+  owned_again = record { free_word = free_again; shared_one = share_again; rooms = rooms_stay c block plot same_room b.owned.rooms; buffers = buffers_again; outside = outside_again }
 
   unwritten_again : AreUnwritten after plot
   unwritten_again = record {
@@ -348,7 +378,11 @@ module _ (c : Config) (m : Word → ℕ) (block : Plot) (owner : ℕ → Option 
         let was = dead_from p words is in
         let some = b.parsable.deads p words was.1 in
         ap object_words (kept p 1 (dead words) was.0 was.1 (omega (arith, some))) ∙ b.unwritten.lengths p words was.1;
-    fillers = λ p words is. b.unwritten.fillers p words (filler_was p words is);
+    fillers = λ p words is.
+        let was = filler_from p words is in
+        let some = long p (filler words) was.1 in
+        let first : p + 0 ≡ p = omega arith in
+        sym (ap after first) ∙ kept p 0 (filler words) was.0 was.1 some ∙ ap heap first ∙ b.unwritten.fillers p words was.1;
   }
 
   -- an object that is not the one that is copied is where it was
@@ -520,10 +554,12 @@ module _ (c : Config) (m : Word → ℕ) (block : Plot) (owner : ℕ → Option 
   copied_between = record {
     parsable = parsable_again;
     contents = record { objects = objects_again; given = b.contents.given };
-    owned = record { free_word = free_again; currents = currents_again; rooms = rooms_none c _ _ plot no_room };
+    owned = owned_again;
     unwritten = unwritten_again;
     moves = record { moveds = moved_again; spents = spent_again };
-    no_rooms = no_room;
+    unheld = λ p seat words is. b.unheld p seat words (same_room.came p seat (hand seat words) refl is);
+    uncarved = λ p seat words is. b.uncarved p seat words (same_room.came p seat (carved seat words) refl is);
+    no_rooms = λ p seat y is room member. b.no_rooms p seat y (same_room.came p seat y room is) room (subst (λ set. IsCollected c set p) set_same member);
     promised_to = λ p seat words is. ⊎_elim
         (λ (new : (p ≡ to) × (x ≡ promised seat words)). b.promised_to a seat words (here ∙ ap Some new.1))
         (λ (stood : (p ≢ a) × (block p ≡ Some (promised seat words))). b.promised_to p seat words stood.1)
@@ -533,6 +569,7 @@ module _ (c : Config) (m : Word → ℕ) (block : Plot) (owner : ℕ → Option 
     nobodys = λ q seat own is. b.nobodys q seat own (in_set_was q is);
     no_new = λ q is. let was = in_set_was q is in top_same q (not_grown q was) ∙ b.no_new q was ∙ sym (word_same (Tams q) (λ never. never));
     marked = marked_again;
+    young = λ p seat y is room. subst (λ floor. IsYoung c floor p) (sym tams_same) (b.young p seat y (same_room.came p seat y room is) room);
     floors = λ q below. ⊎_elim
         (λ (same : q ≡ r).
         let floor = b.floors r out.below in

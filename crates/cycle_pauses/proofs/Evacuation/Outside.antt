@@ -5,7 +5,7 @@ use Rattle.std.specs.Prelude.{Contains}
 use Rattle.std.proofs.lemmas.Bool.{cases_Bool, cases_lt, cond-true, cond-false, true≢false}
 use Rattle.std.proofs.lemmas.Nat.{mod_below}
 use Rattle.heap_words.specs.declared.config.Config.{Config}
-use Rattle.heap_words.specs.Words.{Word, Pause, Left, End, State, Phase, Cset, Evac, Claim, Free, Top, Root, Answer, Heap, is_word, is_image, same_word}
+use Rattle.heap_words.specs.Words.{Word, Pause, Left, End, State, Phase, Cset, Evac, Claim, Free, Top, Current, Root, Answer, Heap, is_word, is_image, same_word}
 use Rattle.heap_words.specs.Encoding.{is_forwarded}
 use Rattle.heap_words.proofs.Stores.{same_word_true, is_word_from}
 use Rattle.regions.specs.Place.{region_with, IsOf}
@@ -171,3 +171,7 @@ next_before c m Left other = begun_before c (final_marked c m) (chosen c (final_
 next_before c m End other = begun_before c (final_marked c m) (chosen c (final_marked c m)) End refl (λ n. refl) refl (λ never. never) (λ never. never)
 next_before c m (State s) other = begun_before c (final_marked c m) (chosen c (final_marked c m)) (State s) refl (λ n. refl) refl (λ never. never) (λ never. never)
 next_before c m _ other = absurd (true≢false other)
+
+-- and the words of buffers
+pub next_current : (c : Config) (m : Word → ℕ) (seat : ℕ) → evac_next c m (Current seat) ≡ m (Current seat)
+next_current c m seat = begun_before c (final_marked c m) (chosen c (final_marked c m)) (Current seat) refl (λ n. refl) refl (λ never. never) (λ never. never)

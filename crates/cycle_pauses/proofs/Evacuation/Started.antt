@@ -1,19 +1,26 @@
 -- The words that the pause leaves stand for the same graph: where a region was chosen evacuation runs, and else nothing does.
-use Rattle.std.proofs.Common.{◌≡◌, ℕ, ◌+◌, ◌<◌, ◌≤◌, ◌⊎◌, ◌==◌, nat_le, false, Some, None, inl, inr, ⊎_elim, refl, sym, ap, ◌∙◌, subst, arith}
+use Rattle.std.proofs.Common.{◌≡◌, ◌≢◌, ℕ, ◌+◌, ◌-◌, ◌<◌, ◌≤◌, ◌⊎◌, ◌==◌, nat_le, false, Some, None, inl, inr, ⊎_elim, refl, sym, ap, ◌∙◌, subst, arith}
 use Rattle.std.specs.Int.{bit_at}
-use Rattle.std.proofs.lemmas.Bool.{true≢false, and_from, le-leb, eq-eqb}
+use Rattle.std.proofs.lemmas.Bool.{true≢false, and_from, cases_lt, le-leb, eq-eqb}
+use Rattle.std.proofs.lemmas.Option.{none-some}
 use Rattle.heap_words.specs.declared.config.Config.{Config}
-use Rattle.heap_words.specs.Words.{Word, Cset, Evac, Ask, Free, Top, Tams, Root, Count, Buffer, Answer, Grey, Black, Heap}
-use Rattle.regions.specs.Place.{region_with}
+use Rattle.heap_words.specs.Words.{Word, Cset, Evac, Ask, Free, Top, Tams, Current, Root, Count, Buffer, Answer, Grey, Black, Heap, Share}
+use Rattle.heap_words.specs.Encoding.{end_in}
+use Rattle.heap_words.specs.Ranges.{seat_count}
+use Rattle.regions.specs.Place.{region_with, IsOf}
+use Rattle.regions.proofs.PlaceLemmas.{regions_tile}
 use Rattle.regions.specs.Sets.{IsIn}
 use Rattle.shen_graph.specs.Graph.{Graph, Reference}
-use Rattle.heap_world.specs.World.{Block, thing, moved, hand, promised, dead, Plot, Ghost, no_snapshot, Points, body_of, IsUsable, IsCollected, IsMarkable, HasCopy, IsEvacuating, body_at}
+use Rattle.heap_world.specs.World.{Block, thing, moved, promised, dead, spare, Plot, Ghost, no_snapshot, Points, body_of, AreOwned, IsUsable, IsCollected, IsMarkable, HasCopy, AreRoomsOutside, IsEvacuating, body_at}
 use Rattle.heap_world.specs.Asking.{Asking, nothing, asks, refused, given, IsAsked}
 use Rattle.heap_world.specs.Represents.{Represents}
 use Rattle.heap_world.proofs.Pointing.{named_body, copy_cases, piece_inside}
 use Rattle.heap_world.proofs.Keeping.{usable_now}
 use Rattle.heap_world.proofs.Copies.{counted_none, none_evacuated}
 use Rattle.heap_world.proofs.Unmarked.{none_marked_in}
+use Rattle.heap_world.proofs.Roomless.{only_spares}
+use Rattle.buffer_pauses.proofs.Inside.{buffer_ends, buffer_region_is}
+use Rattle.image_graph.specs.State.{IsSomeSeats}
 use Rattle.cycle_pauses.specs.Marking.MarkedOut.{IsMarkedOut}
 use Rattle.cycle_words.specs.Evacuation.Live.{IsCandidate}
 use Rattle.cycle_words.specs.Evacuation.Begun.{is_collected, with_set, evac_started, evac_spared}
@@ -45,6 +52,53 @@ module _ (c : Config) (memory : Word → ℕ) (block : Plot) (ghost : Ghost) (g 
     working = ghost.working;
   }
 
+  -- A region where a buffer ends is some seat's.
+  ends_somewhere : (seat : ℕ) → memory (Current seat) ≢ 0 → IsSomeSeats c memory (region_with c (end_in (memory (Current seat)) - 1))
+  ends_somewhere seat some =
+      let b = out.owned.buffers.each seat some in
+      let most = out.parsable.plotted.tops b.region b.within in
+      let is = buffer_region_is c (λ q. memory (Top q)) block seat (memory (Current seat)) b most in
+      inr (
+        seat,
+        ⊎_elim (λ (below : seat < seat_count c.mutators c.helpers). below) (λ (past : seat_count c.mutators c.helpers ≤ seat). absurd (some (out.seated seat past))) (cases_lt seat (seat_count c.mutators c.helpers)),
+        (some, subst (λ q. IsOf c q (end_in (memory (Current seat)) - 1)) (sym is) (buffer_ends c (λ q. memory (Top q)) block seat (memory (Current seat)) b most)),
+      )
+
+  -- the free words of a buffer lie where it ends
+  spare_region : (a seat words : ℕ) → block a ≡ Some (spare seat words) → (memory (Current seat) ≢ 0) × (region_with c a ≡ region_with c (end_in (memory (Current seat)) - 1))
+  spare_region a seat words is =
+      let own = out.owned.buffers.spares a seat words is in
+      let long = out.owned.rooms.spares a seat words is in
+      let used = out.parsable.plotted.in_use a (spare seat words) is in
+      let most = out.parsable.plotted.tops used.region used.within in
+      let low = used.from_base in
+      let high = used.to_top in
+      let end = own.1 in (
+        λ none. (let zero_end : end_in (memory (Current seat)) ≡ 0 = ap end_in none in omega (arith, zero_end, end, long)),
+        regions_tile.of_no_other c used.region a (record { from = low; before = omega (arith, high, most, long) })
+            ∙ sym (regions_tile.of_no_other c used.region (end_in (memory (Current seat)) - 1) (record { from = omega (arith, low, end, long); before = omega (arith, high, most, end, long) })),
+      )
+
+  -- So neither lies in a set of candidates, ..
+  rooms_away : (set : ℕ) → ((r : ℕ) → IsIn set r → (r < c.regions) × IsCandidate c memory r) → AreRoomsOutside c set block
+  rooms_away set candidates a seat x is room member =
+      let one = only_spares block out.unmoved.no_hand out.unmoved.no_carved a seat x is room in
+      let at = spare_region a seat one.0 (is ∙ ap Some one.1) in
+      (candidates (region_with c a) member).1.nobodys (subst (IsSomeSeats c memory) (sym at.1) (ends_somewhere seat at.0))
+
+  -- .. nor does the region that is shared.
+  owned_away : (set : ℕ) → ((r : ℕ) → IsIn set r → (r < c.regions) × IsCandidate c memory r)
+      → AreOwned c (λ q. memory (Top q)) (memory Share) (memory Free) set (λ s. memory (Current s)) block ghost.owner
+  owned_away set candidates = record {
+    free_word = out.owned.free_word;
+    shared_one = λ q is.
+        let was = out.owned.shared_one q is in
+        record { within = was.within; in_use = was.in_use; nobodys = was.nobodys; outside = λ member. (candidates q member).1.nobodys (inl is) };
+    rooms = out.owned.rooms;
+    buffers = out.owned.buffers;
+    outside = λ seat some member. (candidates (region_with c (end_in (memory (Current seat)) - 1)) member).1.nobodys (ends_somewhere seat some);
+  }
+
   -- Before the first turn, with a set of candidates.
   pub clearing_begins : (set : ℕ) → ((r : ℕ) → IsIn set r → (r < c.regions) × IsCandidate c memory r)
       → IsClearing c (with_set memory set) (with_set memory set) block ghost.owner g asking
@@ -52,19 +106,22 @@ module _ (c : Config) (memory : Word → ℕ) (block : Plot) (ghost : Ghost) (g 
     between = record {
       parsable = out.parsable;
       contents = out.contents;
-      owned = out.owned;
+      owned = owned_away set candidates;
       unwritten = out.unwritten;
       moves = record {
         moveds = λ a refs nums to name is. absurd (out.unmoved.no_moved a refs nums to name is);
         spents = λ a words to is. absurd (out.unmoved.no_spent a words to is);
       };
-      no_rooms = out.unmoved.no_room;
+      unheld = out.unmoved.no_hand;
+      uncarved = out.unmoved.no_carved;
+      no_rooms = rooms_away set candidates;
       promised_to = out.promised_to;
       in_heap = λ r is. (candidates r is).0;
       used = λ r free is. let in_use = (candidates r is).1.in_use in omega (arith, free, in_use);
-      nobodys = λ r seat own is. (candidates r is).1.nobodys (out.seats r seat own);
+      nobodys = λ r seat own is. none-some seat (sym (out.nobodys r) ∙ own);
       no_new = λ r is. (candidates r is).1.no_new;
       marked = out.marked.objects;
+      young = out.marked.young;
       floors = out.marked.floors;
       unmarked = λ a words is mark.
           let above = piece_inside c (λ r. memory (Top r)) block out.parsable.plotted a (dead words) is in
@@ -145,11 +202,11 @@ module _ (c : Config) (memory : Word → ℕ) (block : Plot) (ghost : Ghost) (g 
             nobodys = s.between.nobodys;
             no_new = s.between.no_new;
             no_promises = no_promises;
-            no_rooms = λ a seat x is room. absurd (s.between.no_rooms a seat x is room);
+            no_rooms = s.between.no_rooms;
           };
           kept = record {
             objects = λ on. s.between.marked;
-            young = λ on a seat x is room. absurd (s.between.no_rooms a seat x is room);
+            young = λ on. s.between.young;
             floors = λ on. s.between.floors;
             unmarked = λ on. s.between.unmarked;
             deads = λ on. s.between.deads;
@@ -161,7 +218,8 @@ module _ (c : Config) (memory : Word → ℕ) (block : Plot) (ghost : Ghost) (g 
       };
       roots = s.roots;
       usable = usable;
-      none = λ a seat words is. s.between.no_rooms a seat (hand seat words) is refl;
+      none = s.between.unheld;
+      uncarved = s.between.uncarved;
       asked = λ t inside. asked_stays e n plot plot g.count t refl refl (λ a words k is below. refl) (λ a words is. is) (λ a words is. is) (asking t) (s.asked t inside);
       heard = λ t refs nums inside is. ap (λ k. bit_at k 1) (s.same Ask (λ never. never) (λ never. never)) ∙ out.heard t refs nums inside is;
       promised_to = s.between.promised_to;
@@ -181,7 +239,7 @@ module _ (c : Config) (memory : Word → ℕ) (block : Plot) (ghost : Ghost) (g 
     shared = record {
       parsable = out.parsable;
       contents = out.contents;
-      owned = out.owned;
+      owned = subst (λ set. AreOwned c (λ q. memory (Top q)) (memory Share) (memory Free) set (λ s. memory (Current s)) block ghost.owner) out.cset_is out.owned;
       phased = record { phase_is = omega arith; cset_is = λ other. refl; evac_is = λ other. out.evac_is };
       unwritten = out.unwritten;
       marked = none_marked_in c 0 (λ q. idle (Grey q)) (λ q. idle (Black q)) (λ t. idle (Count t)) (λ t k. idle (Buffer t k)) (λ q. idle (Top q)) (λ q. idle (Tams q)) (λ a. idle (Heap a)) block
@@ -195,7 +253,8 @@ module _ (c : Config) (memory : Word → ℕ) (block : Plot) (ghost : Ghost) (g 
     };
     roots = out.roots;
     usable = λ t i inside few. usable_now c (memory Evac) block (λ a refs nums to name. out.unmoved.no_moved a refs nums to name) (memory (Root t i)) (g.root (t + 1) i) (out.roots t i inside few);
-    none = λ a seat words is. out.unmoved.no_room a seat (hand seat words) is refl;
+    none = out.unmoved.no_hand;
+    uncarved = out.unmoved.no_carved;
     asked = λ t inside. asked_stays memory idle block block g.count t refl refl (λ a words k is below. refl) (λ a words is. is) (λ a words is. is) (asking t) (out.asked t inside);
     heard = out.heard;
     promised_to = out.promised_to;

@@ -5,19 +5,23 @@ use Rattle.std.proofs.lemmas.Bool.{cases_eq, cases_lt}
 use Rattle.std.proofs.lemmas.Nat.{div-add-mod', mod_below, pow_pos}
 use Rattle.std.proofs.lemmas.Nat.Bits.{bit_at-lt, bit_at_above, bit_at_cat_low, same_from_bits}
 use Rattle.heap_words.specs.declared.config.Config.{Config}
-use Rattle.heap_words.specs.Words.{Word, Cset, Top, Current, Heap}
+use Rattle.heap_words.specs.Words.{Word, Cset, Top, Current}
 use Rattle.shen_graph.specs.Graph.{Graph}
-use Rattle.heap_world.specs.World.{Block, words_of, IsCollected}
+use Rattle.heap_world.specs.World.{Block, words_of}
 use Rattle.heap_world.specs.Asking.{Asking}
 use Rattle.heap_world.specs.Represents.{RepresentsByCopies}
 use Rattle.heap_world.proofs.Pieces.{some_words}
-use Rattle.heap_world.proofs.Roomless.{roomless}
-use Rattle.cycle_words.specs.Evacuation.Live.{words_at}
+use Rattle.buffer_words.specs.LetGo.{let_go, HasNoBuffers}
+use Rattle.buffer_words.proofs.LettingGo.{letting_go_leaves}
+use Rattle.buffer_pauses.proofs.Kept.{letting_go_keeps, none_have_room}
+use Rattle.buffer_pauses.proofs.Inside.{buffers_inside}
+use Rattle.image_graph.specs.Holds.{AreSized}
 use Rattle.cycle_words.specs.Finishing.Updated.{CanUpdateAll}
 use Rattle.cycle_words.specs.Finishing.Copies.{all_copied}
 use Rattle.cycle_words.proofs.Finishing.CanUpdate as updates
 use Rattle.cycle_pauses.specs.Finishing.Laws.{RepresentingCanFinish}
-use Rattle.cycle_pauses.proofs.Finishing.Sizes.{piece_sizes}
+use Rattle.cycle_words.proofs.Finishing.Strides.{strides}
+use Rattle.cycle_pauses.proofs.Full.Sizes.{pieces_sized}
 use Rattle.cycle_pauses.proofs.Finishing.CopyingKeeps.{copying_keeps, left_can_be_copied}
 
 -- a number whose bits are all below another one is small
@@ -37,19 +41,25 @@ few_bits x n each =
     (cases_lt i n)) in
     omega (arith, same, low)
 
-module _ (c : Config) (m : Word → ℕ) (g : Graph) (asking : ℕ → Asking) (r : RepresentsByCopies c m g asking) where
+module _ (c : Config) (m : Word → ℕ) (g : Graph) (asking : ℕ → Asking) (r : RepresentsByCopies c m g asking) (bare : HasNoBuffers c m) where
   some : (a : ℕ) (x : Block) → r.block a ≡ Some x → 1 ≤ words_of x
-  some = some_words c (λ q. m (Top q)) (λ q. m (Current q)) r.block r.shared.parsable r.shared.owned.rooms
+  some = some_words c (λ q. m (Top q)) r.block r.shared.parsable r.shared.owned.rooms
 
-  -- a piece outside of the set has as many words as its shape word says
-  sizes : (a : ℕ) (x : Block) → r.block a ≡ Some x → (IsCollected c (m Cset) a → ⊥) → words_at m a ≡ words_of x
-  sizes = piece_sizes c (m Cset) (λ a. m (Heap a)) r.block g.object r.shared.contents.objects r.shared.unwritten r.shared.evacuated.moved (roomless c _ _ r.block r.shared.owned.rooms r.none)
+  -- a piece has as many words as its header or its shape word says
+  sized : AreSized m r.block
+  sized = pieces_sized c m r.block g.object r.shared.contents.objects r.shared.unwritten r.shared.evacuated.moved
 
   can_update : CanUpdateAll c m
-  can_update = updates.can_update c m r.block r.shared.parsable.plotted r.shared.parsable.filled some sizes (few_bits (m Cset) c.regions r.shared.evacuated.aside.in_heap)
+  can_update = updates.can_update c m r.block r.shared.parsable.plotted r.shared.parsable.filled some
+      (λ a x is away. strides m r.block sized (none_have_room c m g asking r bare) a x is) (few_bits (m Cset) c.regions r.shared.evacuated.aside.in_heap)
 
 pub representing_can_finish : RepresentingCanFinish
-representing_can_finish c m g asking r = record {
-  copies = left_can_be_copied c m g asking r;
-  updates = λ room. can_update c (all_copied c m) g asking (copying_keeps c m g asking r).stands;
-}
+representing_can_finish c m g asking r seats =
+    let gone = (letting_go_keeps c m g asking seats).represents r in
+    let copied = copying_keeps c (let_go c m) g asking gone in
+    record {
+      buffers = buffers_inside c m r.block r.shared.parsable.plotted r.shared.owned.buffers;
+      copies = left_can_be_copied c (let_go c m) g asking gone;
+      updates = λ room. can_update c (all_copied c (let_go c m)) g asking copied.stands
+          (λ seat below. copied.same (Current seat) (λ never. never) ∙ letting_go_leaves c m seat below);
+    }

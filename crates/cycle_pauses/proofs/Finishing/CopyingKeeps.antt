@@ -9,13 +9,12 @@ use Rattle.heap_words.specs.Words.{Word, Phase, Cset, Free, Evac, Claim, Ask, To
 use Rattle.regions.specs.Place.{base_of}
 use Rattle.shen_graph.specs.declared.name.Name.{Name}
 use Rattle.shen_graph.specs.Graph.{Graph}
-use Rattle.heap_world.specs.World.{thing, Plot, Ghost, no_snapshot, body_of, body_at, IsCollected, IsMarkable, HasCopy, IsCounted, IsSweptTo, IsCaredFor, IsEvacuating, hand}
+use Rattle.heap_world.specs.World.{thing, Plot, Ghost, no_snapshot, body_of, body_at, IsCollected, IsMarkable, HasCopy, IsCounted, IsSweptTo, IsCaredFor, IsEvacuating}
 use Rattle.heap_world.specs.Asking.{Asking}
 use Rattle.heap_world.specs.Represents.{Represents, RepresentsByCopies}
 use Rattle.heap_world.proofs.Pointing.{piece_inside}
 use Rattle.heap_world.proofs.Copies.{none_in_0}
 use Rattle.heap_world.proofs.Unmarked.{none_marked_in}
-use Rattle.heap_world.proofs.Roomless.{roomless}
 use Rattle.cycle_words.specs.Evacuation.Copied.{MayChange}
 use Rattle.cycle_pauses.proofs.Full.ByCopies.{by_copies}
 use Rattle.cycle_words.specs.Finishing.Copies.{CanCopyFrom, copied_from, is_room_from, all_copied, is_room_for_all}
@@ -46,13 +45,16 @@ module _ (c : Config) (m : Word → ℕ) (g : Graph) (asking : ℕ → Asking) (
       owned = r.shared.owned;
       unwritten = r.shared.unwritten;
       moves = evacuated.moved;
-      no_rooms = roomless c _ _ r.block r.shared.owned.rooms r.none;
+      unheld = r.none;
+      uncarved = r.uncarved;
+      no_rooms = evacuated.aside.no_rooms;
       promised_to = r.promised_to;
       in_heap = evacuated.aside.in_heap;
       used = evacuated.aside.in_use;
       nobodys = evacuated.aside.nobodys;
       no_new = evacuated.aside.no_new;
       marked = evacuated.kept.objects two;
+      young = evacuated.kept.young two;
       floors = evacuated.kept.floors two;
       unmarked = evacuated.kept.unmarked two;
       deads = evacuated.kept.deads two;
@@ -116,11 +118,11 @@ module _ (c : Config) (m : Word → ℕ) (g : Graph) (asking : ℕ → Asking) (
         nobodys = s.between.nobodys;
         no_new = s.between.no_new;
         no_promises = s.no_promises;
-        no_rooms = λ a seat x is room. absurd (s.between.no_rooms a seat x is room);
+        no_rooms = s.between.no_rooms;
       };
       kept = record {
         objects = λ high. s.between.marked;
-        young = λ high a seat x is room. absurd (s.between.no_rooms a seat x is room);
+        young = λ high. s.between.young;
         floors = λ high. s.between.floors;
         unmarked = λ high. s.between.unmarked;
         deads = λ high. s.between.deads;
@@ -146,7 +148,8 @@ module _ (c : Config) (m : Word → ℕ) (g : Graph) (asking : ℕ → Asking) (
       };
       roots = s.roots;
       usable = tt;
-      none = λ a seat words is. s.between.no_rooms a seat (hand seat words) is refl;
+      none = s.between.unheld;
+      uncarved = s.between.uncarved;
       asked = s.asked;
       heard = λ t refs nums inside is. ap (λ k. bit_at k 1) (s.same Ask (λ never. never)) ∙ r.heard t refs nums inside is;
       promised_to = s.between.promised_to;

@@ -3,14 +3,19 @@ use Rattle.std.proofs.Common.{◌≡◌, ◌≢◌, ℕ, ◌<◌, ◌⊎◌, tru
 use Rattle.std.proofs.Math.Path.{fun_ext}
 use Rattle.std.proofs.lemmas.Bool.{cond-true, cond-false, cases_Bool, and_parts}
 use Rattle.heap_words.specs.declared.config.Config.{Config}
-use Rattle.heap_words.specs.Words.{Word, Pause, Left, End, State, Phase, Cset, Free, Evac, Claim, Ask, Top, Tams, Limit, Current, Root, Count, Buffer, Wait, Answer, Grey, Black, Heap}
+use Rattle.heap_words.specs.Words.{Word, Pause, Left, End, State, Phase, Cset, Free, Evac, Claim, Ask, Top, Tams, Limit, Current, Root, Count, Buffer, Wait, Answer, Grey, Black, Heap, Share}
+use Rattle.heap_words.specs.Ranges.{seat_count}
 use Rattle.regions.specs.Sets.{IsIn}
 use Rattle.shen_graph.specs.Graph.{Graph}
 use Rattle.heap_world.specs.World.{Plot}
 use Rattle.heap_world.specs.Asking.{Asking, nothing, asks, refused, given, IsAsked}
 use Rattle.heap_world.specs.Represents.{Represents}
 use Rattle.heap_world.specs.Change.{Answers, IsPaused}
-use Rattle.full_words.specs.Full.{packed, packed_in, made_in, served_in, room_for, served, full}
+use Rattle.buffer_words.specs.LetGo.{let_go, HasNoBuffers}
+use Rattle.buffer_words.proofs.LettingGo.{none_to_let_go, letting_go_leaves}
+use Rattle.buffer_words.proofs.Elsewhere.{let_go_same}
+use Rattle.buffer_pauses.proofs.Kept.{letting_go_keeps}
+use Rattle.full_words.specs.Full.{packed, packed_in, made_in, served_in, room_for, served, full_from, full}
 use Rattle.full_words.specs.Full as image
 use Rattle.full_words.proofs.Still.{served_still}
 use Rattle.image_graph.specs.Holds.{Holds}
@@ -18,13 +23,15 @@ use Rattle.cycle_pauses.proofs.Full.ByCopies.{by_copies}
 use Rattle.cycle_pauses.proofs.Full.Promises.{promises_of}
 use Rattle.cycle_pauses.proofs.Full.Before.{live}
 use Rattle.cycle_pauses.proofs.Full.Holding.{waits_for, holds_by}
-use Rattle.cycle_pauses.proofs.Full.Pauses.{paused}
+use Rattle.cycle_pauses.proofs.Full.Pauses.{paused_from, paused}
+use Rattle.cycle_pauses.proofs.Finished.{all_copied_same}
+use Rattle.image_graph.specs.Buffers.{HasNoMoreSeats}
 use Rattle.cycle_words.proofs.Marking.Alike.{holds_alike}
 use Rattle.cycle_pauses.proofs.Evacuation.Asked.{asked_stays}
 use Rattle.cycle_pauses.proofs.Updating.Freeing.{set_is_freed}
 use Rattle.cycle_words.specs.Finishing.Updated.{all_updated}
 use Rattle.cycle_words.specs.Finishing.Copies.{all_copied, is_room_for_all}
-use Rattle.cycle_words.specs.Finishing.Finish.{cycle_finished, finished, nobody_waits}
+use Rattle.cycle_words.specs.Finishing.Finish.{cycle_finished, finished_from, finished, nobody_waits, is_whole}
 use Rattle.cycle_words.proofs.Finishing.Whole.{nobody_is}
 use Rattle.cycle_pauses.specs.Finishing.Laws.{IsWholePause, ShortHolds, WholeIsPause, ShortIsPause, SetIsFree}
 use Rattle.cycle_pauses.proofs.Finishing.CopyingKeeps.{copying_keeps}
@@ -43,6 +50,11 @@ cset_still c = served_still c Cset (λ w t r. refl)
 evac_still : (c : Config) (m : Word → ℕ) (n : ℕ) → served c m n Evac ≡ m Evac
 unfolding made_in
 evac_still c = served_still c Evac (λ w t r. refl)
+
+-- What is left to a full collection: the words hold the graph, and what it makes of them is what the pause owes.
+pub record FallsShort (c : Config) (before after : Word → ℕ) (g : Graph) (asking : ℕ → Asking) : Type 0 where
+  pub holds : Holds c after g
+  pub paused : IsPaused c before (full c after) g asking
 
 -- What mutators have been given.
 
@@ -80,17 +92,17 @@ not_refused refs nums y z is_y is_z is = subst (λ w. Answers (given refs nums) 
 asking_waits : (m : Word → ℕ) (block : Plot) (count : ℕ → ℕ) (t refs nums : ℕ) (x : Asking) → IsAsked m block count t x → x ≡ asks refs nums → m (Wait t) ≢ 0
 asking_waits m block count t refs nums x asked is = waits_for m count t refs nums (subst (IsAsked m block count t) is asked).0
 
--- Where all that was left found room.
-module _ (c : Config) (m : Word → ℕ) (g : Graph) (asking : ℕ → Asking) (r : Represents c m g asking) (room : is_room_for_all c m ≡ true) where
+-- Where nobody has a buffer, and all that was left found room.
+module _ (c : Config) (m : Word → ℕ) (g : Graph) (asking : ℕ → Asking) (r : Represents c m g asking) (bare : HasNoBuffers c m) (room : is_room_for_all c m ≡ true) where
   abbrev w : Word → ℕ
   w = served c (cycle_finished c m) c.mutators
 
-  finished_is : finished c m ≡ served c (cycle_finished c m) c.mutators
+  finished_is : finished_from c m ≡ served c (cycle_finished c m) c.mutators
   finished_is = fun_ext (λ word. cond-true (is_room_for_all c m) (served c (cycle_finished c m) c.mutators word) (all_copied c m word) room)
 
   turns : (plot : Plot) × (owner : ℕ → Option ℕ) × (then : ℕ → Asking) × IsIdle c w plot owner g then × ((t : ℕ) → IsServedSo (asking t) (then t))
   turns =
-      let idle = finished_idle c m g asking r room in
+      let idle = finished_idle c m g asking r bare room in
       let served_all = turns_idle c (cycle_finished c m) idle.0 idle.1 g asking idle.2 c.mutators (omega arith) in
       (served_all.0, idle.1, served_all.1, served_all.2, served_all.3)
 
@@ -98,10 +110,10 @@ module _ (c : Config) (m : Word → ℕ) (g : Graph) (asking : ℕ → Asking) (
   then = turns.2
 
   -- each request was served
-  module _ (nobody : nobody_waits c (finished c m) ≡ true) where
+  module _ (nobody : nobody_waits c (finished_from c m) ≡ true) where
     nobody_asks : (t refs nums : ℕ) → t < c.mutators → then t ≡ asks refs nums → ⊥
     nobody_asks t refs nums inside is =
-        asking_waits w turns.0 g.count t refs nums (then t) (turns.3.asked t inside) is (sym (ap (λ (f : Word → ℕ). f (Wait t)) finished_is) ∙ nobody_is c (finished c m) nobody t inside)
+        asking_waits w turns.0 g.count t refs nums (then t) (turns.3.asked t inside) is (sym (ap (λ (f : Word → ℕ). f (Wait t)) finished_is) ∙ nobody_is c (finished_from c m) nobody t inside)
 
     whole_stands : Represents c w g then
     whole_stands =
@@ -125,7 +137,7 @@ module _ (c : Config) (m : Word → ℕ) (g : Graph) (asking : ℕ → Asking) (
           (served_so (asking t) (then t) (turns.4 t) refs nums is);
     }
 
-    pub whole_pause : IsWholePause c m (finished c m) g asking
+    pub whole_pause : IsWholePause c m (finished_from c m) g asking
     whole_pause = subst (λ v. IsWholePause c m v g asking) (sym finished_is) whole_paused
 
   -- Else some wait, as the word would say of what is asked that is cleared with the cycle.
@@ -175,9 +187,20 @@ module _ (c : Config) (m : Word → ℕ) (g : Graph) (asking : ℕ → Asking) (
   packed_same (Wait t) = refl
   packed_same (Grey n) = refl
   packed_same (Black n) = refl
+  packed_same Share = refl
+
+  -- nor is there a buffer to let go
+  still_bare : (seat : ℕ) → seat < seat_count c.mutators c.helpers → w (Current seat) ≡ 0
+  unfolding made_in
+  still_bare seat below =
+      served_still c (Current seat) (λ v t q. refl) (cycle_finished c m) c.mutators
+      ∙ (copying_keeps c m g asking r).same (Current seat) (λ never. never) ∙ bare seat below
 
   full_same : full c asked_word ≡ full c w
-  full_same = ap (λ (v : Word → ℕ). image.refused (served c v c.mutators)) (fun_ext packed_same)
+  full_same =
+      ap (full_from c) (none_to_let_go c asked_word (seat_count c.mutators c.helpers) still_bare)
+      ∙ ap (λ (v : Word → ℕ). image.refused (served c v c.mutators)) (fun_ext packed_same)
+      ∙ sym (ap (full_from c) (none_to_let_go c w (seat_count c.mutators c.helpers) still_bare))
 
   asked_paused : IsPaused c asked_word (full c asked_word) g then
   asked_paused = paused c asked_word g then (by_copies c asked_word g then asked_stands)
@@ -200,11 +223,11 @@ module _ (c : Config) (m : Word → ℕ) (g : Graph) (asking : ℕ → Asking) (
         live c asked_word g then stands,
         stands.ghost.owner,
         promises_of c g then,
-        holds_alike asked_word w (record { heap = λ a. refl; top = λ q. refl; root = λ t i. refl; answer = λ t. refl; wait = λ t. refl; current = λ s. refl; free = refl; cset = refl })
+        holds_alike asked_word w (record { heap = λ a. refl; top = λ q. refl; root = λ t i. refl; answer = λ t. refl; wait = λ t. refl; current = λ s. refl; free = refl; cset = refl; share = refl })
             c (live c asked_word g then stands) stands.ghost.owner (promises_of c g then) g holds,
       )
 
-  pub served_short : ShortHolds c m g asking
+  pub served_short : FallsShort c m (finished_from c m) g asking
   served_short = record {
     holds = subst (λ v. Holds c v g) (sym finished_is) served_holds;
     paused = subst (λ v. IsPaused c m (full c v) g asking) (sym finished_is) (subst (λ v. IsPaused c m v g asking) full_same full_paused);
@@ -212,10 +235,10 @@ module _ (c : Config) (m : Word → ℕ) (g : Graph) (asking : ℕ → Asking) (
 
 -- Where something found no room.
 module _ (c : Config) (m : Word → ℕ) (g : Graph) (asking : ℕ → Asking) (r : Represents c m g asking) (no_room : is_room_for_all c m ≡ false) where
-  finished_early : finished c m ≡ all_copied c m
+  finished_early : finished_from c m ≡ all_copied c m
   finished_early = fun_ext (λ word. cond-false (is_room_for_all c m) (served c (cycle_finished c m) c.mutators word) (all_copied c m word) no_room)
 
-  pub copied_short : ShortHolds c m g asking
+  pub copied_short : FallsShort c m (finished_from c m) g asking
   copied_short =
       let stands = (copying_keeps c m g asking r).stands in
       let paused_then = paused c (all_copied c m) g asking stands in
@@ -226,19 +249,37 @@ module _ (c : Config) (m : Word → ℕ) (g : Graph) (asking : ℕ → Asking) (
             (record { asked_then = paused_then.asked_then; stands = paused_then.stands; answers = paused_then.answers; crowded = paused_then.crowded });
       }
 
+-- So it is once buffers were let go.
+module _ (c : Config) (m : Word → ℕ) (g : Graph) (asking : ℕ → Asking) (r : Represents c m g asking) (seats : HasNoMoreSeats c m) where
+  gone : Represents c (let_go c m) g asking
+  gone = (letting_go_keeps c m g asking seats).represents r
+
+  whole : is_whole c m ≡ true → IsWholePause c m (finished c m) g asking
+  whole is =
+      let both = and_parts (is_room_for_all c (let_go c m)) (nobody_waits c (finished c m)) is in
+      let there = whole_pause c (let_go c m) g asking gone (letting_go_leaves c m) both.0 both.1 in
+      record {
+        paused = record { asked_then = there.paused.asked_then; stands = there.paused.stands; answers = there.paused.answers; crowded = there.paused.crowded };
+        given_all = there.given_all;
+      }
+
+  short_so : FallsShort c (let_go c m) (finished c m) g asking
+  short_so = ⊎_elim
+      (λ (room : is_room_for_all c (let_go c m) ≡ true). served_short c (let_go c m) g asking gone (letting_go_leaves c m) room)
+      (λ (none : is_room_for_all c (let_go c m) ≡ false). copied_short c (let_go c m) g asking gone none)
+      (cases_Bool (is_room_for_all c (let_go c m)))
+
+  short : ShortHolds c m g asking
+  short = record { holds = short_so.holds; paused = paused_from c (let_go c m) m (full c (finished c m)) g asking short_so.paused }
+
 pub whole_is_pause : WholeIsPause
-whole_is_pause c m g asking r whole =
-    let both = and_parts (is_room_for_all c m) (nobody_waits c (finished c m)) whole in
-    whole_pause c m g asking r both.0 both.1
+whole_is_pause c m g asking r seats is = whole c m g asking r seats is
 
 pub short_is_pause : ShortIsPause
-short_is_pause c m g asking r short = ⊎_elim
-    (λ (room : is_room_for_all c m ≡ true). served_short c m g asking r room)
-    (λ (none : is_room_for_all c m ≡ false). copied_short c m g asking r none)
-    (cases_Bool (is_room_for_all c m))
+short_is_pause c m g asking r seats is = short c m g asking r seats
 
 pub set_is_free : SetIsFree
 set_is_free c m g asking r room q inside member =
-    let cset = (copying_keeps c m g asking r).same Cset (λ never. never) in
-    let out = set_is_freed.chosen_ones c (all_updated c (all_copied c m)) q inside (subst (λ set. IsIn set q) (sym cset) member) in
+    let cset : all_copied c (let_go c m) Cset ≡ m Cset = all_copied_same c (let_go c m) Cset (λ never. never) ∙ let_go_same Cset (λ never. never) c m (seat_count c.mutators c.helpers) in
+    let out = set_is_freed.chosen_ones c (all_updated c (all_copied c (let_go c m))) q inside (subst (λ set. IsIn set q) (sym cset) member) in
     record { is_free = out.is_free; top = out.top; tams = out.tams; limit = out.limit }

@@ -6,16 +6,17 @@ use Rattle.std.proofs.Math.Path.{fun_ext}
 use Rattle.std.proofs.lemmas.Bool.{cond-false, cases_lt, ne_eqb}
 use Rattle.std.specs.Prelude.{bit_or}
 use Rattle.heap_words.specs.declared.config.Config.{Config}
-use Rattle.heap_words.specs.Words.{Word, Pause, Left, End, State, Phase, Cset, Free, Evac, Claim, Ask, Top, Tams, Limit, Current, Root, Count, Buffer, Wait, Answer, Grey, Black, Heap}
+use Rattle.heap_words.specs.Words.{Word, Pause, Left, End, State, Phase, Cset, Free, Evac, Claim, Ask, Top, Tams, Limit, Current, Root, Count, Buffer, Wait, Answer, Grey, Black, Heap, Share}
 use Rattle.shen_graph.specs.Graph.{Graph}
-use Rattle.heap_world.specs.World.{Plot, no_ghost, with_owner, IsCollected, IsEvacuating, IsUsable, hand}
+use Rattle.heap_world.specs.World.{Plot, no_ghost, with_owner, HasNoRoom, AreOwned, IsCollected, IsEvacuating, IsUsable}
 use Rattle.heap_world.specs.Asking.{Asking, asks}
 use Rattle.heap_world.specs.Roots.{HasNoMore}
 use Rattle.heap_world.specs.Represents.{Represents}
 use Rattle.heap_world.proofs.Copies.{none_in_0, none_is_in, none_evacuated}
 use Rattle.heap_world.proofs.Keeping.{usable_now}
 use Rattle.heap_world.proofs.Unmarked.{none_marked_in}
-use Rattle.heap_world.proofs.Roomless.{roomless}
+use Rattle.buffer_words.specs.LetGo.{HasNoBuffers}
+use Rattle.buffer_pauses.proofs.Kept.{none_have_room}
 use Rattle.cycle_words.specs.Marking.Marks.{bits_of}
 use Rattle.cycle_pauses.proofs.Evacuation.Asked.{asked_stays}
 use Rattle.cycle_words.specs.Updating.Changes.{is_chosen, final_updated}
@@ -53,7 +54,8 @@ idle_represents c m block owner g asking s no_phase no_cset no_evac heard no_mor
   roots = s.roots;
   usable = λ t i inside few.
       subst (λ set. IsUsable c set (m Evac) block (m (Root t i))) (sym no_cset) (usable_now c (m Evac) block s.unmoved.no_moved (m (Root t i)) (g.root (t + 1) i) (s.roots t i inside few));
-  none = λ a seat words is. s.unmoved.no_room a seat (hand seat words) is refl;
+  none = s.unmoved.no_hand;
+  uncarved = s.unmoved.no_carved;
   asked = s.asked;
   heard = heard;
   promised_to = s.promised_to;
@@ -72,7 +74,8 @@ freed_idle c n g asking r = record {
   unmoved = record {
     no_moved = λ a refs nums to name is. none_in_0 c a (r.shared.evacuated.moved.moveds a refs nums to name is).inside;
     no_spent = λ a words to is. none_in_0 c a (r.shared.evacuated.moved.spents a words to is).inside;
-    no_room = roomless c _ _ r.block r.shared.owned.rooms r.none;
+    no_hand = r.none;
+    no_carved = r.uncarved;
   };
   roots = r.roots;
   asked = λ t inside.
@@ -138,25 +141,27 @@ module _ (c : Config) (m : Word → ℕ) (none : m Cset ≡ 0) where
   settled_is (Wait t) = refl
   settled_is (Grey n) = refl
   settled_is (Black n) = refl
+  settled_is Share = refl
 
   pub settled_idle : (g : Graph) (asking : ℕ → Asking) (r : Represents c m g asking) → IsIdle c (set_freed c (all_updated c m)) r.block r.ghost.owner g asking
   settled_idle g asking r = subst (λ w. IsIdle c w r.block r.ghost.owner g asking) (sym (fun_ext settled_is)) (record {
     parsable = r.shared.parsable;
     contents = r.shared.contents;
-    owned = r.shared.owned;
+    owned = subst (λ set. AreOwned c (λ q. m (Top q)) (m Share) (m Free) set (λ s. m (Current s)) r.block r.ghost.owner) none r.shared.owned;
     unwritten = r.shared.unwritten;
     unmoved = record {
       no_moved = λ a refs nums to name is. none_in_0 c a (subst (λ set. IsCollected c set a) none (r.shared.evacuated.moved.moveds a refs nums to name is).inside);
       no_spent = λ a words to is. none_in_0 c a (subst (λ set. IsCollected c set a) none (r.shared.evacuated.moved.spents a words to is).inside);
-      no_room = roomless c _ _ r.block r.shared.owned.rooms r.none;
+      no_hand = r.none;
+      no_carved = r.uncarved;
     };
     roots = r.roots;
     asked = λ t inside. asked_stays m settled r.block r.block g.count t refl refl (λ a words k is below. refl) (λ a words is. is) (λ a words is. is) (asking t) (r.asked t inside);
     promised_to = r.promised_to;
   })
 
--- Where all that was left found room, the words stand for the graph while no cycle runs.
-module _ (c : Config) (m : Word → ℕ) (g : Graph) (asking : ℕ → Asking) (r : Represents c m g asking) where
+-- Where nobody has a buffer and all that was left found room, the words stand for the graph while no cycle runs.
+module _ (c : Config) (m : Word → ℕ) (g : Graph) (asking : ℕ → Asking) (r : Represents c m g asking) (bare : HasNoBuffers c m) where
   copied_all : IsCopiedAll c m g asking
   copied_all = copying_keeps c m g asking r
 
@@ -166,13 +171,17 @@ module _ (c : Config) (m : Word → ℕ) (g : Graph) (asking : ℕ → Asking) (
   abbrev Idle : Type 0
   Idle = (plot : Plot) × (owner : ℕ → Option ℕ) × IsIdle c (cycle_finished c m) plot owner g asking
 
+  -- so no piece is room
+  no_room : HasNoRoom copied_all.stands.block
+  no_room = none_have_room c (all_copied c m) g asking copied_all.stands (λ seat below. copied_all.same (Current seat) (λ never. never) ∙ bare seat below)
+
   -- while objects are evacuated or references updated
   in_cycle : 2 ≤ m Phase → is_room_for_all c m ≡ true → Idle
   in_cycle on room =
       let phase = copied_all.same Phase (λ never. never) in
       let stands = copied_all.stands in
       let copies = copying_begins c (all_copied c m) g asking stands (omega (arith, on, phase)) in
-      let updated = updated_represents c (all_copied c m) (all_copied c m) stands.block stands.ghost.owner g asking c.region_words copies (copied_all.none_left room) stands.heard stands.no_more in
+      let updated = updated_represents c (all_copied c m) (all_copied c m) stands.block stands.ghost.owner g asking c.region_words copies (copied_all.none_left room) no_room stands.heard stands.no_more in
       let ended = updating_ends c (as_updated c (all_updated c (all_copied c m))) g asking updated refl (omega arith) in
       (ended.block, ended.ghost.owner, freed_idle c (all_updated c (all_copied c m)) g asking ended)
 

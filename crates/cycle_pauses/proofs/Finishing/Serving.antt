@@ -9,7 +9,7 @@ use Rattle.std.proofs.lemmas.Bool.Decides.{nat_tests}
 use Rattle.std.proofs.lemmas.Nat.{and_le_l}
 use Rattle.std.proofs.lemmas.Nat.Bits.{bit_at_clear_same}
 use Rattle.heap_words.specs.declared.config.Config.{Config}
-use Rattle.heap_words.specs.Words.{Word, Free, Top, Current, Root, Wait, Answer, Heap}
+use Rattle.heap_words.specs.Words.{Word, Cset, Free, Top, Current, Root, Wait, Answer, Heap, Share}
 use Rattle.heap_words.specs.Encoding.{object_words, request_shape_in, request_count_in, shape_word, name_code}
 use Rattle.heap_words.specs.Encoding as encoding
 use Rattle.packing.specs.Rooms.{IsLowestRoom}
@@ -18,7 +18,7 @@ use Rattle.regions.specs.Place.{base_of}
 use Rattle.regions.specs.Sets.{all_but}
 use Rattle.shen_graph.specs.declared.name.Name.{Name}
 use Rattle.shen_graph.specs.Graph.{Graph}
-use Rattle.heap_world.specs.World.{Block, thing, moved, spent, promised, dead, filler, words_of, room_of, Plot, name_at, Points, IsPlotted, IsFilled, IsParsable, HasContents, AreOwned, AreUnwritten, AreObjects, IsFreeWord, IsBlank}
+use Rattle.heap_world.specs.World.{Block, thing, moved, spent, hand, promised, dead, filler, carved, words_of, room_of, Plot, name_at, Points, IsPlotted, IsFilled, IsParsable, HasContents, AreOwned, ShareIsOpen, AreBuffers, AreBuffersOutside, AreUnwritten, AreObjects, IsFreeWord, IsBlank}
 use Rattle.heap_world.specs.Asking.{Asking, nothing, asks, refused, given, IsRequest, IsPromise, IsAsked}
 use Rattle.heap_world.proofs.Updates.{updated, updated_same, updated_there, updated_else}
 use Rattle.heap_world.proofs.Keeping.{points_stay}
@@ -26,7 +26,8 @@ use Rattle.heap_world.proofs.Pieces.{some_words, beside, piece_cases, object_rea
 use Rattle.heap_world.proofs.FreeRegions.{free_before}
 use Rattle.heap_world.proofs.Joined as joined
 use Rattle.heap_world.proofs.Joined.{CanJoin}
-use Rattle.heap_world.proofs.Roomless.{rooms_none}
+use Rattle.heap_world.proofs.Unwritten.{blank_stays}
+use Rattle.full_words.proofs.Buffers.{SameRoom, rooms_stay, buffers_stay, share_stays}
 use Rattle.std.proofs.lemmas.Option.{none-some}
 use Rattle.full_words.specs.Full.{made_word, made_in, served_in, room_for, served}
 use Rattle.full_words.proofs.Made.{outside_fresh}
@@ -35,11 +36,11 @@ use Rattle.cycle_pauses.proofs.Full.Holding.{request_reads}
 use Rattle.cycle_pauses.specs.Marking.MarkedOut.{AreUnmoved}
 use Rattle.cycle_pauses.proofs.Evacuation.Asked.{asked_stays}
 
--- The words stand for a graph, with what mutators have asked for, while no cycle runs: nothing has moved, and nobody has room in hand.
+-- The words stand for a graph, with what mutators have asked for, while no cycle runs: nothing has moved, and nobody has room in hand, or carved words.
 pub record IsIdle (c : Config) (m : Word → ℕ) (block : Plot) (owner : ℕ → Option ℕ) (g : Graph) (asking : ℕ → Asking) : Type 0 where
   pub parsable : IsParsable c (λ q. m (Top q)) block
   pub contents : HasContents c (λ a. m (Heap a)) block g.object g.count
-  pub owned : AreOwned c (λ q. m (Top q)) (m Free) (λ s. m (Current s)) block owner
+  pub owned : AreOwned c (λ q. m (Top q)) (m Share) (m Free) (m Cset) (λ s. m (Current s)) block owner
   pub unwritten : AreUnwritten (λ a. m (Heap a)) block
   pub unmoved : AreUnmoved block
   pub roots : (t i : ℕ) → t < c.mutators → i < 16 → Points block (m (Root t i)) (g.root (t + 1) i)
@@ -109,7 +110,7 @@ module _ (c : Config) (m : Word → ℕ) (block : Plot) (owner : ℕ → Option 
   count_is = (request_reads m g.count t refs nums request).counted
 
   long : (p : ℕ) (z : Block) → block p ≡ Some z → 1 ≤ words_of z
-  long p z is = some_words c top (λ q. m (Current q)) block s.parsable s.owned.rooms p z is
+  long p z is = some_words c top block s.parsable s.owned.rooms p z is
 
   joins : CanJoin c top block r (m (Top r)) x
   joins = record {
@@ -167,10 +168,6 @@ module _ (c : Config) (m : Word → ℕ) (block : Plot) (owner : ℕ → Option 
       ap (λ j. made_word to shape (name_code (t + 1) j) (heap (to + k)) (to + k)) count_is
       ∙ fresh_at to t (g.count (t + 1)) refs nums shape (heap (to + k)) k shape_is (omega (arith, below, words_are))
 
-  same_current : (q : ℕ) → n (Current q) ≡ m (Current q)
-  unfolding made_in
-  same_current q = refl
-
   same_root : (u i : ℕ) → n (Root u i) ≡ m (Root u i)
   unfolding made_in
   same_root u i = refl
@@ -214,6 +211,32 @@ module _ (c : Config) (m : Word → ℕ) (block : Plot) (owner : ℕ → Option 
         other_top q other ∙ s.owned.free_word.empty q below (free_before c (m Free) r lowest.below q below is);
     nobodys = λ q below is. s.owned.free_word.nobodys q below (free_before c (m Free) r lowest.below q below is);
   })
+
+  -- room is the same, and no top falls
+  same_room : SameRoom block plot
+  same_room = record {
+    stays = λ p seat y of is. stays p y is;
+    came = λ p seat y of is. ⊎_elim (λ (new : (p ≡ to) × (x ≡ y)). absurd (none-some seat (ap room_of new.1 ∙ of))) (λ (old : (p ≢ to) × (block p ≡ Some y)). old.1) (cases p y is);
+  }
+
+  rises : (q : ℕ) → m (Top q) ≤ n (Top q)
+  rises q = ⊎_elim
+      (λ (same : r ≡ q). (let now : n (Top q) ≡ m (Top r) + words_of x = ap (λ (f : ℕ → ℕ). f q) tops_are ∙ updated_same top r (m (Top r) + words_of x) q same in let was : m (Top q) ≡ m (Top r) = ap (λ k. m (Top k)) (sym same) in omega (arith, now, was)))
+      (λ (other : r ≢ q). (let same = other_top q (λ e. other (sym e)) in omega (arith, same)))
+      (cases_eq r q)
+
+  -- so regions and buffers are owned as before
+  share_again : ShareIsOpen c (n Share) (n Free) (n Cset) owner
+  unfolding made_in
+  share_again = share_stays c (m Share) (m Free) (m Cset) r owner lowest.below s.owned.shared_one
+
+  buffers_again : AreBuffers c (λ q. n (Top q)) (λ q. n (Current q)) plot
+  unfolding made_in
+  buffers_again = buffers_stay c top (λ q. n (Top q)) (λ q. m (Current q)) block plot same_room s.owned.buffers (λ seat some. rises (s.owned.buffers.each seat some).region)
+
+  outside_again : AreBuffersOutside c (n Cset) (λ q. n (Current q))
+  unfolding made_in
+  outside_again = s.owned.outside
 
   abbrev asking_then : ℕ → Asking
   asking_then = updated asking t (given refs nums)
@@ -271,25 +294,14 @@ module _ (c : Config) (m : Word → ℕ) (block : Plot) (owner : ℕ → Option 
           long = sym (ap words_of new.1);
           few_refs = request.few_refs;
           few_nums = request.few_nums;
+          header = (let start : to ≡ to + 0 = omega arith in ap after start ∙ new_word 0 (omega arith));
           shape = new_word 1 (omega arith);
           nulls = λ i below.
               let place : to + (3 + i) ≡ to + 3 + i = omega arith in
               sym (ap after place) ∙ new_word (3 + i) (omega (arith, below)) ∙ null_word (3 + i) (omega arith);
         }))
         (λ (old : (p ≢ to) × (block p ≡ Some (promised seat words))).
-        let blank = s.unwritten.blanks p seat words old.1 in
-        let size = blank.long in
-        record {
-          refs = blank.refs;
-          nums = blank.nums;
-          long = blank.long;
-          few_refs = blank.few_refs;
-          few_nums = blank.few_nums;
-          shape = kept p 1 (promised seat words) old.1 (omega (arith, size)) ∙ blank.shape;
-          nulls = λ i below.
-              let place : p + (3 + i) ≡ p + 3 + i = omega arith in
-              sym (ap after place) ∙ kept p (3 + i) (promised seat words) old.1 (omega (arith, size, below)) ∙ ap heap place ∙ blank.nulls i below;
-        })
+        blank_stays heap after p words (λ k below. kept p k (promised seat words) old.1 below) (s.unwritten.blanks p seat words old.1))
         (cases p (promised seat words) is);
     headers = λ p words is.
         let was = dead_was p words is in
@@ -298,14 +310,18 @@ module _ (c : Config) (m : Word → ℕ) (block : Plot) (owner : ℕ → Option 
     lengths = λ p words is.
         let was = dead_was p words is in
         ap object_words (kept p 1 (dead words) was (let size = s.parsable.deads p words was in omega (arith, size))) ∙ s.unwritten.lengths p words was;
-    fillers = λ p words is. s.unwritten.fillers p words (filler_was p words is);
+    fillers = λ p words is.
+        let was = filler_was p words is in
+        let first_word : p + 0 ≡ p = omega arith in
+        sym (ap after first_word) ∙ kept p 0 (filler words) was (s.parsable.fillers p words was) ∙ ap heap first_word ∙ s.unwritten.fillers p words was;
   }
 
   unmoved_again : AreUnmoved plot
   unmoved_again = record {
     no_moved = λ p rs ns at name is. ⊎_elim (λ (new : (p ≡ to) × (x ≡ moved name rs ns at)). let differ = new.1 in cc) (λ old. s.unmoved.no_moved p rs ns at name old.1) (cases p (moved name rs ns at) is);
     no_spent = λ p words at is. ⊎_elim (λ (new : (p ≡ to) × (x ≡ spent words at)). let differ = new.1 in cc) (λ old. s.unmoved.no_spent p words at old.1) (cases p (spent words at) is);
-    no_room = λ p seat y is room. ⊎_elim (λ (new : (p ≡ to) × (x ≡ y)). none-some seat (ap room_of new.1 ∙ room)) (λ old. s.unmoved.no_room p seat y old.1 room) (cases p y is);
+    no_hand = λ p seat words is. s.unmoved.no_hand p seat words (same_room.came p seat (hand seat words) refl is);
+    no_carved = λ p seat words is. s.unmoved.no_carved p seat words (same_room.came p seat (carved seat words) refl is);
   }
 
   one_made : IsIdle c (made_in c m t r) plot owner g asking_then
@@ -324,11 +340,10 @@ module _ (c : Config) (m : Word → ℕ) (block : Plot) (owner : ℕ → Option 
     contents = record { objects = objects_again; given = s.contents.given };
     owned = record {
       free_word = free_again;
-      currents = record {
-        within = λ seat q is. s.owned.currents.within seat q (sym (same_current seat) ∙ is);
-        own = λ seat q is. s.owned.currents.own seat q (sym (same_current seat) ∙ is);
-      };
-      rooms = rooms_none c _ _ plot unmoved_again.no_room;
+      shared_one = share_again;
+      rooms = rooms_stay c block plot same_room s.owned.rooms;
+      buffers = buffers_again;
+      outside = outside_again;
     };
     unwritten = unwritten_again;
     unmoved = unmoved_again;

@@ -1,16 +1,18 @@
 -- Where no object has its current copy in the collection set any more: once all references were updated, the words stand for the same
 -- graph as they do when a phase of updating is done.
-use Rattle.std.proofs.Common.{◌≡◌, ℕ, ◌+◌, ◌-◌, ◌<◌, ◌≤◌, ◌⊎◌, nat_le, nat_lt, true, false, Option, Some, None, length, get_or, inl, inr, ⊎_elim, refl, sym, ap, ◌∙◌, subst, arith}
+use Rattle.std.specs.Prelude.{not}
+use Rattle.std.proofs.Common.{◌≡◌, ℕ, ◌+◌, ◌-◌, ◌<◌, ◌≤◌, ◌⊎◌, ◌&&◌, Bool, nat_le, nat_lt, true, false, Option, Some, None, length, get_or, inl, inr, ⊎_elim, refl, sym, ap, ◌∙◌, subst, arith}
 use Rattle.std.specs.Int.{bit_at}
-use Rattle.std.proofs.lemmas.Bool.{cases_Bool, cases_eq, and_from, and_left, and_right, and_parts, le-leb, lt-leb, lt-ltb, le-ltb, leb-true, ltb-true}
+use Rattle.std.proofs.lemmas.Bool.{cases_Bool, cases_eq, and_from, and_left, and_right, and_parts, not-true, not_from_false, le-leb, lt-leb, lt-ltb, le-ltb, leb-true, ltb-true}
 use Rattle.std.proofs.lemmas.Option.{slice_get_within, slice_get-get_or}
 use Rattle.heap_words.specs.declared.config.Config.{Config}
-use Rattle.heap_words.specs.Words.{Word, Phase, Cset, Evac, Claim, Ask, Top, Tams, Limit, Current, Root, Count, Buffer, Answer, Grey, Black, Heap}
+use Rattle.heap_words.specs.Words.{Word, Phase, Cset, Evac, Claim, Ask, Top, Tams, Limit, Root, Count, Buffer, Answer, Grey, Black, Heap}
 use Rattle.heap_words.specs.Encoding.{refs_in, object_words}
 use Rattle.regions.specs.Place.{region_with}
+use Rattle.regions.specs.Walk.{is_filler, stride_at}
 use Rattle.shen_graph.specs.declared.name.Name.{Name}
 use Rattle.shen_graph.specs.Graph.{Graph, Object, Reference}
-use Rattle.heap_world.specs.World.{Block, thing, moved, spent, promised, dead, words_of, Plot, no_ghost, with_owner, Points, name_at, body_of, body_at, IsCollected, IsThing, AreObjects, AreUnwritten, HaveMoved, IsMarkable, HasCopy, IsUsable, IsCurrent, hand}
+use Rattle.heap_world.specs.World.{Block, thing, moved, spent, promised, dead, filler, words_of, HasNoRoom, Plot, no_ghost, with_owner, Points, name_at, body_of, body_at, IsCollected, IsThing, AreObjects, AreUnwritten, HaveMoved, IsMarkable, HasCopy, IsUsable, IsCurrent}
 use Rattle.heap_world.specs.Asking.{Asking, nothing, asks, refused, given, IsAsked}
 use Rattle.heap_world.specs.Roots.{HasNoMore}
 use Rattle.heap_world.specs.Represents.{Represents}
@@ -18,12 +20,13 @@ use Rattle.heap_world.proofs.Pointing.{named_body, copy_cases, piece_inside}
 use Rattle.heap_world.proofs.Pieces.{some_words}
 use Rattle.heap_world.proofs.Copies.{counted_none}
 use Rattle.heap_world.proofs.Unmarked.{none_marked_in}
-use Rattle.cycle_words.specs.Evacuation.Live.{words_at}
 use Rattle.cycle_pauses.proofs.Evacuation.Asked.{asked_stays}
 use Rattle.cycle_words.specs.Finishing.Updated.{updated_word, is_reference, all_updated}
 use Rattle.cycle_words.proofs.Finishing.Fields.{collected_none, word_spared, low_spared, word_renewed, other_stays, dead_stays, field_updated, collected_stays}
 use Rattle.full_words.proofs.Reached.{refs_read}
-use Rattle.cycle_pauses.proofs.Finishing.Sizes.{piece_sizes}
+use Rattle.image_graph.specs.Holds.{AreSized}
+use Rattle.cycle_words.proofs.Finishing.Strides.{filler_fills, strides}
+use Rattle.cycle_pauses.proofs.Full.Sizes.{pieces_sized}
 use Rattle.cycle_pauses.proofs.Finishing.Copying.{IsCopying}
 
 -- the words of a phase of updating whose units are all claimed
@@ -35,7 +38,7 @@ as_updated c n (Limit r) = 0
 as_updated c n word = n word
 
 module _ (c : Config) (first m : Word → ℕ) (block : Plot) (owner : ℕ → Option ℕ) (g : Graph) (asking : ℕ → Asking) (passed : ℕ) (s : IsCopying c first m block owner g asking passed)
-    (outside : (a refs nums : ℕ) (name : Name) → block a ≡ Some (thing name refs nums) → IsCollected c (m Cset) a → ⊥) where
+    (outside : (a refs nums : ℕ) (name : Name) → block a ≡ Some (thing name refs nums) → IsCollected c (m Cset) a → ⊥) (no_room : HasNoRoom block) where
   abbrev n : Word → ℕ
   n = all_updated c m
 
@@ -46,16 +49,35 @@ module _ (c : Config) (first m : Word → ℕ) (block : Plot) (owner : ℕ → O
   after a = n (Heap a)
 
   some : (a : ℕ) (x : Block) → block a ≡ Some x → 1 ≤ words_of x
-  some = some_words c (λ q. m (Top q)) (λ q. m (Current q)) block s.between.parsable s.between.owned.rooms
+  some = some_words c (λ q. m (Top q)) block s.between.parsable s.between.owned.rooms
 
-  -- a piece outside of the set has as many words as its shape word says
-  sizes : (a : ℕ) (x : Block) → block a ≡ Some x → (IsCollected c (m Cset) a → ⊥) → words_at m a ≡ words_of x
-  sizes = piece_sizes c (m Cset) heap block g.object s.between.contents.objects s.between.unwritten s.between.moves s.between.no_rooms
+  -- a piece has as many words as its header or its shape word says
+  sized : AreSized m block
+  sized = pieces_sized c m block g.object s.between.contents.objects s.between.unwritten s.between.moves
+
+  sizes : (a : ℕ) (x : Block) → block a ≡ Some x → (IsCollected c (m Cset) a → ⊥) → stride_at heap a ≡ words_of x
+  sizes a x is away = strides m block sized no_room a x is
+
+  -- what updating takes for a reference of what stands at an address
+  abbrev fills : ℕ → Bool
+  fills a = is_filler (heap a)
+
+  abbrev low_end : ℕ → ℕ → Bool
+  low_end a k = nat_le (a + 3) (a + k)
+
+  abbrev high_end : ℕ → ℕ → Bool
+  high_end a k = nat_lt (a + k) (a + 3 + refs_in (heap (a + 1)))
+
+  reference_parts : (a k : ℕ) → is_reference m a (a + k) ≡ true → (fills a ≡ false) × (a + 3 ≤ a + k) × (a + k < a + 3 + refs_in (heap (a + 1)))
+  reference_parts a k is =
+      let parts = and_parts (not (fills a) && low_end a k) (high_end a k) is in
+      let first = and_parts (not (fills a)) (low_end a k) parts.0 in
+      (not-true (fills a) first.0, leb-true (a + 3) (a + k) first.1, ltb-true (a + k) (a + 3 + refs_in (heap (a + 1))) parts.1)
 
   not_reference : (a k refs : ℕ) → refs_in (heap (a + 1)) ≡ refs → (k < 3) ⊎ (3 + refs ≤ k) → is_reference m a (a + k) ≡ false
   not_reference a k refs shape out = ⊎_elim
-      (λ (low : k < 3). and_left (nat_le (a + 3) (a + k)) (nat_lt (a + k) (a + 3 + refs_in (heap (a + 1)))) (lt-leb (a + 3) (a + k) (omega (arith, low))))
-      (λ (high : 3 + refs ≤ k). and_right (nat_le (a + 3) (a + k)) (nat_lt (a + k) (a + 3 + refs_in (heap (a + 1)))) (le-ltb (a + k) (a + 3 + refs_in (heap (a + 1))) (omega (arith, high, shape))))
+      (λ (low : k < 3). and_left (not (fills a) && low_end a k) (high_end a k) (and_right (not (fills a)) (low_end a k) (lt-leb (a + 3) (a + k) (omega (arith, low)))))
+      (λ (high : 3 + refs ≤ k). and_right (not (fills a) && low_end a k) (high_end a k) (le-ltb (a + k) (a + 3 + refs_in (heap (a + 1))) (omega (arith, high, shape))))
       out
 
   -- The words of an object: its references are updated, the others stay.
@@ -77,7 +99,7 @@ module _ (c : Config) (first m : Word → ℕ) (block : Plot) (owner : ℕ → O
     field_is i few =
         let place : a + (3 + i) ≡ a + 3 + i = omega arith in
         let reference : is_reference m a (a + (3 + i)) ≡ true =
-        and_from (nat_le (a + 3) (a + (3 + i))) (nat_lt (a + (3 + i)) (a + 3 + refs_in (heap (a + 1)))) (le-leb (a + 3) (a + (3 + i)) (omega arith))
+        and_from (not (fills a) && low_end a (3 + i)) (high_end a (3 + i)) (and_from (not (fills a)) (low_end a (3 + i)) (not_from_false (fills a) (ap is_filler object.2.header)) (le-leb (a + 3) (a + (3 + i)) (omega arith)))
         (lt-ltb (a + (3 + i)) (a + 3 + refs_in (heap (a + 1))) (omega (arith, few, refs_are))) in
         sym (ap after place)
         ∙ field_updated c m block s.between.parsable.plotted s.between.parsable.filled some sizes a (3 + i) (thing name refs nums) here (omega (arith, few)) away
@@ -92,9 +114,9 @@ module _ (c : Config) (first m : Word → ℕ) (block : Plot) (owner : ℕ → O
       let refs_are : refs_in (heap (a + 1)) ≡ blank.refs = ap refs_in blank.shape ∙ refs_read blank.refs blank.nums blank.few_refs blank.few_nums in
       ⊎_elim
       (λ (reference : is_reference m a (a + k) ≡ true).
-      let parts = and_parts (nat_le (a + 3) (a + k)) (nat_lt (a + k) (a + 3 + refs_in (heap (a + 1)))) reference in
-      let low = leb-true (a + 3) (a + k) parts.0 in
-      let high = ltb-true (a + k) (a + 3 + refs_in (heap (a + 1))) parts.1 in
+      let parts = reference_parts a k reference in
+      let low = parts.1 in
+      let high = parts.2 in
       let place : a + 3 + (k - 3) ≡ a + k = omega (arith, low) in
       let null : heap (a + k) ≡ 0 = sym (ap heap place) ∙ blank.nulls (k - 3) (omega (arith, low, high, refs_are)) in
       field_updated c m block s.between.parsable.plotted s.between.parsable.filled some sizes a k (promised seat words) here below away
@@ -103,6 +125,9 @@ module _ (c : Config) (first m : Word → ℕ) (block : Plot) (owner : ℕ → O
       (λ (other : is_reference m a (a + k) ≡ false).
       other_stays c m block s.between.parsable.plotted s.between.parsable.filled some sizes a k (promised seat words) here below away other)
       (cases_Bool (is_reference m a (a + k)))
+
+  inside_or_not : (p : ℕ) → IsCollected c (m Cset) p ⊎ (IsCollected c (m Cset) p → ⊥)
+  inside_or_not p = cases_eq (bit_at (m Cset) (region_with c p)) 1
 
   -- so do those of dead objects, ..
   dead_word : (a words k : ℕ) → block a ≡ Some (dead words) → k < words → after (a + k) ≡ heap (a + k)
@@ -113,9 +138,21 @@ module _ (c : Config) (first m : Word → ℕ) (block : Plot) (owner : ℕ → O
       dead_stays c m block s.between.parsable.plotted s.between.parsable.filled some sizes a k (dead words) here below away
       (s.between.unmarked a words here) (s.between.deads a words here))
       (inside_or_not a)
-    where
-      inside_or_not : (p : ℕ) → IsCollected c (m Cset) p ⊎ (IsCollected c (m Cset) p → ⊥)
-      inside_or_not p = cases_eq (bit_at (m Cset) (region_with c p)) 1
+
+  -- the header of words that only fill, ..
+  filler_word : (a words : ℕ) → block a ≡ Some (filler words) → after a ≡ heap a
+  filler_word a words here =
+      let first_word : a + 0 ≡ a = omega arith in
+      let some_word = some a (filler words) here in
+      ap after (sym first_word)
+      ∙ ⊎_elim
+      (λ (inside : IsCollected c (m Cset) a).
+      collected_stays c m block s.between.parsable.plotted s.between.parsable.filled some sizes a 0 (filler words) here some_word inside)
+      (λ (away : IsCollected c (m Cset) a → ⊥).
+      other_stays c m block s.between.parsable.plotted s.between.parsable.filled some sizes a 0 (filler words) here some_word away
+      (and_left (not (fills a) && low_end a 0) (high_end a 0) (and_left (not (fills a)) (low_end a 0) (ap (λ k. not (is_filler k)) (s.between.unwritten.fillers a words here) ∙ ap not (filler_fills words)))))
+      (inside_or_not a)
+      ∙ ap heap first_word
 
   -- .. and those of old copies
   old_word : (a k : ℕ) (x : Block) → block a ≡ Some x → IsCollected c (m Cset) a → k < words_of x → after (a + k) ≡ heap (a + k)
@@ -190,6 +227,7 @@ module _ (c : Config) (first m : Word → ℕ) (block : Plot) (owner : ℕ → O
           long = blank.long;
           few_refs = blank.few_refs;
           few_nums = blank.few_nums;
+          header = (let start : a ≡ a + 0 = omega arith in ap after start ∙ promised_word a seat words 0 is (let long = blank.long in omega (arith, long)) ∙ ap heap (sym start) ∙ blank.header);
           shape = promised_word a seat words 1 is (let long = blank.long in omega (arith, long)) ∙ blank.shape;
           nulls = λ i below.
               let place : a + (3 + i) ≡ a + 3 + i = omega arith in
@@ -202,7 +240,7 @@ module _ (c : Config) (first m : Word → ℕ) (block : Plot) (owner : ℕ → O
     lengths = λ a words is.
         let long = s.between.parsable.deads a words is in
         ap object_words (dead_word a words 1 is (omega (arith, long))) ∙ s.between.unwritten.lengths a words is;
-    fillers = s.between.unwritten.fillers;
+    fillers = λ a words is. filler_word a words is ∙ s.between.unwritten.fillers a words is;
   }
 
   moves_again : HaveMoved c (m Cset) after block
@@ -278,11 +316,11 @@ module _ (c : Config) (first m : Word → ℕ) (block : Plot) (owner : ℕ → O
           nobodys = s.between.nobodys;
           no_new = s.between.no_new;
           no_promises = s.no_promises;
-          no_rooms = λ a seat x is room. absurd (s.between.no_rooms a seat x is room);
+          no_rooms = s.between.no_rooms;
         };
         kept = record {
           objects = λ on. s.between.marked;
-          young = λ on a seat x is room. absurd (s.between.no_rooms a seat x is room);
+          young = λ on. s.between.young;
           floors = λ on. s.between.floors;
           unmarked = λ on. s.between.unmarked;
           deads = λ on. s.between.deads;
@@ -293,13 +331,14 @@ module _ (c : Config) (first m : Word → ℕ) (block : Plot) (owner : ℕ → O
       updated = λ on. record {
         outside = outside;
         renewed = λ a refs nums k name is few. inl (field_current a refs nums k name is few);
-        young = λ a seat x is room. absurd (s.between.no_rooms a seat x is room);
+        young = λ a seat x is room. absurd (no_room a seat x is room);
         limits = λ r inside. omega arith;
       };
     };
     roots = λ t i inside few. (updated_points (m (Root t i)) (g.root (t + 1) i) (s.roots t i inside few)).0;
     usable = λ t i inside few. usable (updated_word c m (m (Root t i))) (updated_points (m (Root t i)) (g.root (t + 1) i) (s.roots t i inside few)).1;
-    none = λ a seat words is. s.between.no_rooms a seat (hand seat words) is refl;
+    none = s.between.unheld;
+    uncarved = s.between.uncarved;
     asked = λ t inside.
         asked_stays m (as_updated c n) block block g.count t refl (answer_stays t (asking t) (s.asked t inside)) (λ a words k is below. promised_word a t words k is below)
         (λ a words is. is) (λ a words is. is) (asking t) (s.asked t inside);

@@ -9,7 +9,7 @@ use Rattle.heap_words.specs.Words.{Word, Free, Top, Root, Heap}
 use Rattle.shen_graph.specs.declared.name.Name.{Name}
 use Rattle.shen_graph.specs.Graph.{Graph, Object, Reference, blank, fresh, same_reference}
 use Rattle.shen_graph.proofs.PlainLemmas.{same_name-itself}
-use Rattle.heap_world.specs.World.{Block, thing, moved, spent, promised, dead, filler, no_ghost, words_of, room_of, HasNoRoom, Plot, name_at, Points, IsGiven, IsThing, AreObjects, IsBlank, IsEvacuating, IsUsable, AreUsable, SharedFacts}
+use Rattle.heap_world.specs.World.{Block, thing, moved, spent, promised, dead, filler, spare, no_ghost, words_of, room_of, HasNoRoom, Plot, name_at, Points, IsGiven, IsThing, AreObjects, IsBlank, IsEvacuating, IsUsable, AreUsable, SharedFacts}
 use Rattle.heap_world.proofs.Keeping.{usable_now}
 use Rattle.heap_world.proofs.Copies.{none_evacuated}
 use Rattle.heap_world.proofs.Unmarked.{none_marked}
@@ -196,6 +196,7 @@ module _ (c : Config) (m : Word → ℕ) (block : Plot) (g : Graph) (p : Promise
         long = refl;
         few_refs = is.few_refs;
         few_nums = is.few_nums;
+        header = is.header;
         shape = is.shape;
         nulls = λ i below.
             is.references i null (ap (λ (x : Object). slice_get x.refs i) same ∙ replicate_at more i null (omega (arith, below, long)));
@@ -212,10 +213,10 @@ module _ (c : Config) (m : Word → ℕ) (block : Plot) (g : Graph) (p : Promise
       (blank_of a x.refs x.nums (p.refs x.name.thread) (p.nums x.name.thread) x.name o.0 o.2 (same_Some o.0 (blank (p.refs x.name.thread) (p.nums x.name.thread)) new))
 
   -- what all machines share holds, where nothing is collected and no seat has a region
-  pub shared_facts : (phase cset evac claim : ℕ) (current grey black entries : ℕ → ℕ) (buffer : ℕ → ℕ → ℕ) (tams limit : ℕ → ℕ)
-      → phase ≡ 0 → cset ≡ 0 → evac ≡ 0 → ((seat : ℕ) → current seat ≡ 0)
-      → SharedFacts c (λ q. m (Top q)) heap taken no_ghost g.object g.count phase cset evac (m Free) current grey black entries buffer tams claim limit
-  shared_facts phase cset evac claim current grey black entries buffer tams limit no_phase no_cset no_evac none = record {
+  pub shared_facts : (phase cset evac claim : ℕ) (current grey black entries : ℕ → ℕ) (buffer : ℕ → ℕ → ℕ) (tams limit : ℕ → ℕ) (share : ℕ)
+      → phase ≡ 0 → cset ≡ 0 → evac ≡ 0 → ((seat : ℕ) → current seat ≡ 0) → share ≡ 0
+      → SharedFacts c (λ q. m (Top q)) heap taken no_ghost g.object g.count phase cset evac (m Free) current grey black entries buffer tams claim limit share
+  shared_facts phase cset evac claim current grey black entries buffer tams limit share no_phase no_cset no_evac none no_share = record {
     parsable = record {
       plotted = plotted_alike c (λ q. m (Top q)) block (as_promised p) same_words stands.plotted;
       filled = filled_alike c (λ q. m (Top q)) block (as_promised p) same_words stands.filled;
@@ -227,14 +228,13 @@ module _ (c : Config) (m : Word → ℕ) (block : Plot) (g : Graph) (p : Promise
     contents = record { objects = objects_left; given = is_after.given };
     owned = record {
       free_word = stands.free_word;
-      currents = record {
-        within = λ seat q is. absurd (omega (arith, is, none seat));
-        own = λ seat q is. absurd (omega (arith, is, none seat));
-      };
-      rooms = rooms_none c _ _ taken no_room;
+      shared_one = λ q is. absurd (omega (arith, is, no_share));
+      rooms = rooms_none c taken no_room;
+      buffers = record { each = λ seat some. absurd (some (none seat)); spares = λ a seat words is. absurd (no_room a seat (spare seat words) is refl) };
+      outside = λ seat some. absurd (some (none seat));
     };
     phased = record { phase_is = omega (arith, no_phase); cset_is = λ other. no_cset; evac_is = λ other. no_evac };
-    unwritten = record { blanks = blank_at; headers = λ a words is. absurd (no_deads a words is); lengths = λ a words is. absurd (no_deads a words is); fillers = no_fillers };
+    unwritten = record { blanks = blank_at; headers = λ a words is. absurd (no_deads a words is); lengths = λ a words is. absurd (no_deads a words is); fillers = λ a words is. absurd (no_fillers a words is) };
     marked = none_marked c phase grey black entries buffer (λ q. m (Top q)) tams heap taken no_ghost.recording no_ghost.scanning no_phase;
     evacuated =
         subst (λ set. IsEvacuating c phase set evac claim (m Free) (λ q. m (Top q)) tams heap black taken no_ghost.owner no_ghost.copying no_ghost.working) (sym no_cset)

@@ -3,14 +3,14 @@ use Rattle.std.proofs.Common.{◌≡◌, ◌≢◌, ℕ, ◌+◌, ◌<◌, ◌�
 use Rattle.std.proofs.lemmas.Bool.{cond-true, cond-false, cases_eq, eq-eqb, ne_eqb}
 use Rattle.std.proofs.lemmas.Option.{none-some}
 use Rattle.heap_words.specs.declared.config.Config.{Config}
-use Rattle.heap_words.specs.Words.{Word, Phase, Cset, Evac, Claim, Tams, Limit, Current, Count, Buffer, Wait, Answer, Grey, Black}
+use Rattle.heap_words.specs.Words.{Word, Phase, Cset, Evac, Claim, Tams, Limit, Current, Count, Buffer, Wait, Answer, Grey, Black, Share}
 use Rattle.heap_words.specs.Encoding.{request_shape_in, refs_in, nums_in}
 use Rattle.shen_graph.specs.Graph.{Graph, fresh}
-use Rattle.heap_world.specs.World.{no_ghost, hand}
+use Rattle.heap_world.specs.World.{no_ghost, hand, carved}
 use Rattle.heap_world.specs.Asking.{Asking, nothing, asks, refused, given, IsAsked}
 use Rattle.heap_world.specs.Represents.{Represents, RepresentsByCopies}
 use Rattle.heap_world.specs.Change.{Answers}
-use Rattle.full_words.specs.Full.{packed_in, full}
+use Rattle.full_words.specs.Full.{packed_in, full_from}
 use Rattle.full_words.specs.Promised.{Promises}
 use Rattle.full_words.specs.Serving.{served_promises}
 use Rattle.cycle_pauses.proofs.Full.Promises.{promised_ref, promised_refs, promised_nums, promises_of, ref_of, refs_of, nums_of}
@@ -18,7 +18,7 @@ use Rattle.cycle_pauses.proofs.Full.Holding.{request_reads, waits_for}
 use Rattle.full_words.proofs.Turned.{SamePromise, IsPromisedAsAsked, promise_after}
 use Rattle.cycle_pauses.proofs.Full.After.{gone, no_room, shared_facts, roots_left, roots_usable}
 use Rattle.cycle_pauses.proofs.Full.Made.{promised_if_some, some_if_promised, no_promise, promise}
-use Rattle.full_words.proofs.Still.{full_phase, full_cset, full_evac, full_current, full_wait, packed_wait}
+use Rattle.full_words.proofs.Still.{full_phase, full_cset, full_evac, full_current, full_share, full_wait, packed_wait}
 use Rattle.cycle_pauses.proofs.Full.Paused.{then_of, packed_answer, asked_then, plot, is_after, plot_then, answer_left, answer_found}
 
 -- an asking is answered as it should be
@@ -49,7 +49,7 @@ module _ (c : Config) (m : Word → ℕ) (g : Graph) (asking : ℕ → Asking) (
   q = served_promises c (packed_in c m) p c.mutators
 
   -- who keeps an answer that is no address
-  keeps_answer : (t : ℕ) → t < c.mutators → m (Wait t) ≡ 0 → m (Answer t) ≤ 1 → full c m (Answer t) ≡ m (Answer t)
+  keeps_answer : (t : ℕ) → t < c.mutators → m (Wait t) ≡ 0 → m (Answer t) ≤ 1 → full_from c m (Answer t) ≡ m (Answer t)
   keeps_answer t inside idle none = answer_left c m g asking r t inside idle ∙ packed_answer c m t none
 
   -- what is promised to who did not wait is what was
@@ -60,36 +60,36 @@ module _ (c : Config) (m : Word → ℕ) (g : Graph) (asking : ℕ → Asking) (
       (promise_after c (packed_in c m) p t c.mutators)
 
   -- and to who was given an object, what it asked for
-  new_promise : (t refs nums : ℕ) → t < c.mutators → asking t ≡ asks refs nums → 1 < full c m (Answer t) → IsPromisedAsAsked (packed_in c m) q t
+  new_promise : (t refs nums : ℕ) → t < c.mutators → asking t ≡ asks refs nums → 1 < full_from c m (Answer t) → IsPromisedAsAsked (packed_in c m) q t
   new_promise t refs nums inside is some = ⊎_elim
       (λ (same : SamePromise p q (t + 1)).
       let none : q.ref (t + 1) ≡ None = same.ref ∙ ref_of c g asking t inside ∙ ap (promised_ref g (t + 1)) is in
-      let one = promised_if_some c (full c m) (plot c m g asking r) g q (is_after c m g asking r) t inside some in
+      let one = promised_if_some c (full_from c m) (plot c m g asking r) g q (is_after c m g asking r) t inside some in
       absurd (none-some one.0 (sym none ∙ one.1)))
       (λ (new : IsPromisedAsAsked (packed_in c m) q t). new)
       (promise_after c (packed_in c m) p t c.mutators)
 
   -- an object that was promised is promised still
-  still_given : (t refs nums : ℕ) → t < c.mutators → asking t ≡ given refs nums → m (Wait t) ≡ 0 → 1 < full c m (Answer t)
+  still_given : (t refs nums : ℕ) → t < c.mutators → asking t ≡ given refs nums → m (Wait t) ≡ 0 → 1 < full_from c m (Answer t)
   still_given t refs nums inside is idle =
-      some_if_promised c (full c m) (plot c m g asking r) g q (is_after c m g asking r) t (fresh g (t + 1)) inside
+      some_if_promised c (full_from c m) (plot c m g asking r) g q (is_after c m g asking r) t (fresh g (t + 1)) inside
       ((same_promise t idle).ref ∙ ref_of c g asking t inside ∙ ap (promised_ref g (t + 1)) is)
 
   -- what words, pieces and counts say of a mutator then
   asked_by : (t : ℕ) (x : Asking) → t < c.mutators → asking t ≡ x → IsAsked m r.block g.count t x
-      → IsAsked (full c m) (plot_then c m g asking r) g.count t (then_of x (full c m (Answer t)))
+      → IsAsked (full_from c m) (plot_then c m g asking r) g.count t (then_of x (full_from c m (Answer t)))
   asked_by t nothing inside is asked =
       let answer = keeps_answer t inside asked.0 (omega (arith, asked.1)) ∙ asked.1 in
-      (full_wait c m t, answer, no_promise c (full c m) (plot c m g asking r) g q (is_after c m g asking r) t inside (omega (arith, answer)))
+      (full_wait c m t, answer, no_promise c (full_from c m) (plot c m g asking r) g q (is_after c m g asking r) t inside (omega (arith, answer)))
   asked_by t refused inside is asked =
       let answer = keeps_answer t inside asked.0 (omega (arith, asked.1)) ∙ asked.1 in
-      (full_wait c m t, answer, no_promise c (full c m) (plot c m g asking r) g q (is_after c m g asking r) t inside (omega (arith, answer)))
+      (full_wait c m t, answer, no_promise c (full_from c m) (plot c m g asking r) g q (is_after c m g asking r) t inside (omega (arith, answer)))
   asked_by t (given refs nums) inside is asked =
       let some = still_given t refs nums inside is asked.0 in
       let same = same_promise t asked.0 in (
         full_wait c m t,
         some,
-        promise c (full c m) (plot c m g asking r) g q (is_after c m g asking r) t refs nums inside some
+        promise c (full_from c m) (plot c m g asking r) g q (is_after c m g asking r) t refs nums inside some
             (same.refs ∙ refs_of c g asking t ∙ ap promised_refs is) (same.nums ∙ nums_of c g asking t ∙ ap promised_nums is)
             asked.2.few_refs asked.2.few_nums asked.2.few,
       )
@@ -97,39 +97,41 @@ module _ (c : Config) (m : Word → ℕ) (g : Graph) (asking : ℕ → Asking) (
       let request = asked.0 in
       let reads = request_reads m g.count t refs nums request in
       ⊎_elim
-      (λ (some : 1 < full c m (Answer t)).
+      (λ (some : 1 < full_from c m (Answer t)).
       let new = new_promise t refs nums inside is some in
       let word = packed_wait c m t in
       let more : q.refs (t + 1) ≡ refs = new.refs ∙ ap (λ k. refs_in (request_shape_in k)) word ∙ reads.refs_are in
       let less : q.nums (t + 1) ≡ nums = new.nums ∙ ap (λ k. nums_in (request_shape_in k)) word ∙ reads.nums_are in
-      let there = promise c (full c m) (plot c m g asking r) g q (is_after c m g asking r) t refs nums inside some more less request.few_refs request.few_nums request.few in
-      subst (IsAsked (full c m) (plot_then c m g asking r) g.count t)
-      (sym (cond-false (full c m (Answer t) == 1) refused (given refs nums) (ne_eqb (full c m (Answer t)) 1 (λ e. omega (arith, e, some)))))
+      let there = promise c (full_from c m) (plot c m g asking r) g q (is_after c m g asking r) t refs nums inside some more less request.few_refs request.few_nums request.few in
+      subst (IsAsked (full_from c m) (plot_then c m g asking r) g.count t)
+      (sym (cond-false (full_from c m (Answer t) == 1) refused (given refs nums) (ne_eqb (full_from c m (Answer t)) 1 (λ e. omega (arith, e, some)))))
       (full_wait c m t, some, there))
-      (λ (one : full c m (Answer t) ≡ 1).
-      subst (IsAsked (full c m) (plot_then c m g asking r) g.count t)
-      (sym (cond-true (full c m (Answer t) == 1) refused (given refs nums) (eq-eqb (full c m (Answer t)) 1 one)))
-      (full_wait c m t, one, no_promise c (full c m) (plot c m g asking r) g q (is_after c m g asking r) t inside (omega (arith, one))))
+      (λ (one : full_from c m (Answer t) ≡ 1).
+      subst (IsAsked (full_from c m) (plot_then c m g asking r) g.count t)
+      (sym (cond-true (full_from c m (Answer t) == 1) refused (given refs nums) (eq-eqb (full_from c m (Answer t)) 1 one)))
+      (full_wait c m t, one, no_promise c (full_from c m) (plot c m g asking r) g q (is_after c m g asking r) t inside (omega (arith, one))))
       (answer_found c m g asking r t inside (waits_for m g.count t refs nums request))
 
   -- the words represent the graph again
-  pub represents_again : Represents c (full c m) g (asked_then c m g asking r)
+  pub represents_again : Represents c (full_from c m) g (asked_then c m g asking r)
   represents_again =
       let facts = is_after c m g asking r in
       record {
         block = plot_then c m g asking r;
         ghost = no_ghost;
-        shared = shared_facts c (full c m) (plot c m g asking r) g q facts (full c m Phase) (full c m Cset) (full c m Evac) (full c m Claim) (λ s. full c m (Current s))
-            (λ n. full c m (Grey n)) (λ n. full c m (Black n)) (λ t. full c m (Count t)) (λ t k. full c m (Buffer t k)) (λ q. full c m (Tams q)) (λ q. full c m (Limit q)) (full_phase c m) (full_cset c m) (full_evac c m) (full_current c m);
-        roots = roots_left c (full c m) (plot c m g asking r) g q facts;
-        usable = roots_usable c (full c m) (plot c m g asking r) g q facts (full c m Cset) (full c m Evac) (full_cset c m);
-        none = λ a seat words is. no_room c (full c m) (plot c m g asking r) g q facts a seat (hand seat words) is refl;
+        shared = shared_facts c (full_from c m) (plot c m g asking r) g q facts (full_from c m Phase) (full_from c m Cset) (full_from c m Evac) (full_from c m Claim) (λ s. full_from c m (Current s))
+            (λ n. full_from c m (Grey n)) (λ n. full_from c m (Black n)) (λ t. full_from c m (Count t)) (λ t k. full_from c m (Buffer t k)) (λ q. full_from c m (Tams q)) (λ q. full_from c m (Limit q)) (full_from c m Share)
+            (full_phase c m) (full_cset c m) (full_evac c m) (full_current c m) (full_share c m);
+        roots = roots_left c (full_from c m) (plot c m g asking r) g q facts;
+        usable = roots_usable c (full_from c m) (plot c m g asking r) g q facts (full_from c m Cset) (full_from c m Evac) (full_cset c m);
+        none = λ a seat words is. no_room c (full_from c m) (plot c m g asking r) g q facts a seat (hand seat words) is refl;
+        uncarved = λ a seat words is. no_room c (full_from c m) (plot c m g asking r) g q facts a seat (carved seat words) is refl;
         asked = λ t inside. asked_by t (asking t) inside refl (r.asked t inside);
         promised_to = λ a seat words is.
-            let x = gone c (full c m) (plot c m g asking r) g q facts a seat words is in
+            let x = gone c (full_from c m) (plot c m g asking r) g q facts a seat words is in
             let at = facts.stands.rooted.no_more_promised x.name.thread x.name x.named in
             omega (arith, x.seat_is, at.1, at.2);
-        heard = λ t refs nums inside is. absurd (nobody_asks (asking t) (full c m (Answer t)) refs nums is);
+        heard = λ t refs nums inside is. absurd (nobody_asks (asking t) (full_from c m (Answer t)) refs nums is);
         unmarking = record { records_none = λ t inside. refl; scans_none = λ seat inside. refl };
         uncopying = record { copies_none = λ seat inside. refl; works_none = λ seat inside. refl };
         no_more = r.no_more;

@@ -5,10 +5,11 @@ use Rattle.std.proofs.lemmas.Bool.{cond-true, cond-false, cases_Bool, and_parts,
 use Rattle.std.proofs.lemmas.Option.{none-some, same_Some}
 use Rattle.heap_words.specs.declared.config.Config.{Config}
 use Rattle.heap_words.specs.Words.{Word, Top, Current, Root, Answer, Heap}
+use Rattle.heap_words.specs.Encoding.{next_in, end_in}
 use Rattle.shen_graph.specs.declared.name.Name.{Name}
 use Rattle.shen_graph.specs.Graph.{Graph, Object, blank, fresh, same_reference}
 use Rattle.shen_graph.proofs.PlainLemmas.{same_name-itself}
-use Rattle.heap_world.specs.World.{Block, thing, moved, spent, hand, promised, dead, spare, carved, words_of, room_of, HasNoRoom, Plot, name_at, body_of, IsPlotted, IsFilled, IsThing, IsMarkable}
+use Rattle.heap_world.specs.World.{Block, thing, moved, spent, hand, promised, dead, filler, spare, carved, words_of, room_of, Plot, name_at, body_of, IsPlotted, IsFilled, AreBuffers, IsThing, IsMarkable}
 use Rattle.heap_world.specs.Asking.{Asking, nothing, asks, refused, given, IsPromise, IsAsked}
 use Rattle.heap_world.specs.Roots.{is_root_of}
 use Rattle.heap_world.specs.Represents.{RepresentsByCopies}
@@ -36,13 +37,12 @@ as_object g asking block (spent words to) = as_current g asking (block to) (dead
 as_object g asking block (promised seat words) = thing (fresh g (seat + 1)) (promised_refs (asking seat)) (promised_nums (asking seat))
 as_object g asking block piece = piece
 
--- a piece that is no object, old or new, nor room: it is a dead object, or only fills
+-- a piece that is no object, old or new, nor in hand or carved: it is a dead object, only fills, or is the free words of a buffer
 abbrev pub OnlyFills : Block → Type 0
 OnlyFills (thing name refs nums) = ⊥
 OnlyFills (moved name refs nums to) = ⊥
 OnlyFills (spent words to) = ⊥
 OnlyFills (hand seat words) = ⊥
-OnlyFills (spare seat words) = ⊥
 OnlyFills (carved seat words) = ⊥
 OnlyFills (promised seat words) = ⊥
 OnlyFills _ = Unit {0}
@@ -53,7 +53,6 @@ fills_still g asking block (thing name refs nums) fills = absurd fills
 fills_still g asking block (moved name refs nums to) fills = absurd fills
 fills_still g asking block (spent words to) fills = absurd fills
 fills_still g asking block (hand seat words) fills = absurd fills
-fills_still g asking block (spare seat words) fills = absurd fills
 fills_still g asking block (carved seat words) fills = absurd fills
 fills_still g asking block (promised seat words) fills = absurd fills
 fills_still g asking block _ fills = refl
@@ -62,13 +61,6 @@ pub fills_unnamed : (b : Block) (name : Name) → OnlyFills b → name_at (Some 
 fills_unnamed (thing n refs nums) name fills is = fills
 fills_unnamed (moved n refs nums to) name fills is = fills
 fills_unnamed _ name fills is = none-some name is
-
--- nor is it room
-fills_no_room : (b : Block) (seat : ℕ) → OnlyFills b → room_of b ≡ Some seat → ⊥
-fills_no_room (hand other words) seat fills is = fills
-fills_no_room (spare other words) seat fills is = fills
-fills_no_room (carved other words) seat fills is = fills
-fills_no_room _ seat fills is = none-some seat is
 
 -- what the words at an address are as a piece
 abbrev ObjectAt : (ℕ → ℕ) → Plot → (Name → Option Object) → ℕ → Block → Type 0
@@ -152,8 +144,7 @@ module _ (c : Config) (m : Word → ℕ) (g : Graph) (asking : ℕ → Asking) (
       by_copy (IsMarkable.object name refs nums here) = (name, refs, nums, ap (λ o. as_current g asking o (dead words)) here)
       by_copy (IsMarkable.to_come seat more here) = (fresh g (seat + 1), promised_refs (asking seat), promised_nums (asking seat), ap (λ o. as_current g asking o (dead words)) here)
   pieces_are a (hand seat words) is = absurd (r.none a seat words is)
-  pieces_are a (spare seat words) is = absurd (r.shared.owned.rooms.spares a seat words is)
-  pieces_are a (carved seat words) is = absurd (r.shared.owned.rooms.carveds a seat words is)
+  pieces_are a (carved seat words) is = absurd (r.uncarved a seat words is)
   pieces_are a (promised seat words) is = inl (fresh g (seat + 1), promised_refs (asking seat), promised_nums (asking seat), refl)
   pieces_are a _ is = inr tt
 
@@ -290,11 +281,38 @@ module _ (c : Config) (m : Word → ℕ) (g : Graph) (asking : ℕ → Asking) (
       (λ (fills : (r.block a ≡ Some (promised seat words)) × OnlyFills (promised seat words)). fills.1)
       (live_cases a (promised seat words) is)
 
-  pub live_roomless : HasNoRoom live
-  live_roomless a seat x is room = ⊎_elim
-      (λ (one : (name : Name) × (refs : ℕ) × (nums : ℕ) × (x ≡ thing name refs nums)). none-some seat (ap room_of (sym one.3) ∙ room))
-      (λ (fills : (r.block a ≡ Some x) × OnlyFills x). fills_no_room x seat fills.1 room)
+  -- room was there: the free words of a buffer, and no other
+  pub live_room : (a seat : ℕ) (x : Block) → live a ≡ Some x → room_of x ≡ Some seat → r.block a ≡ Some x
+  live_room a seat x is room = ⊎_elim
+      (λ (one : (name : Name) × (refs : ℕ) × (nums : ℕ) × (x ≡ thing name refs nums)). absurd (none-some seat (ap room_of (sym one.3) ∙ room)))
+      (λ (fills : (r.block a ≡ Some x) × OnlyFills x). fills.0)
       (live_cases a x is)
+
+  pub live_unheld : (a seat words : ℕ) → live a ≡ Some (hand seat words) → ⊥
+  live_unheld a seat words is = r.none a seat words (live_room a seat (hand seat words) is refl)
+
+  pub live_uncarved : (a seat words : ℕ) → live a ≡ Some (carved seat words) → ⊥
+  live_uncarved a seat words is = r.uncarved a seat words (live_room a seat (carved seat words) is refl)
+
+  -- the buffers are those that there were
+  pub live_buffers : AreBuffers c (λ q. m (Top q)) (λ s. m (Current s)) live
+  live_buffers = record {
+    each = λ seat some.
+        let was = r.shared.owned.buffers.each seat some in
+        record {
+          region = was.region;
+          within = was.within;
+          from_base = was.from_base;
+          some = was.some;
+          ordered = was.ordered;
+          to_top = was.to_top;
+          free = λ more. ⊎_elim
+              (λ there. inl (live_at (next_in (m (Current seat))) (spare seat (end_in (m (Current seat)) - next_in (m (Current seat)))) there))
+              (λ has. absurd (r.uncarved has.0 seat has.1 has.2))
+              (was.free more);
+        };
+    spares = λ a seat words is. r.shared.owned.buffers.spares a seat words (live_room a seat (spare seat words) is refl);
+  }
 
   pub live_dead : (a words : ℕ) → live a ≡ Some (dead words) → r.block a ≡ Some (dead words)
   live_dead a words is = ⊎_elim
@@ -302,11 +320,17 @@ module _ (c : Config) (m : Word → ℕ) (g : Graph) (asking : ℕ → Asking) (
       (λ (fills : (r.block a ≡ Some (dead words)) × OnlyFills (dead words)). fills.0)
       (live_cases a (dead words) is)
 
+  pub live_filler : (a words : ℕ) → live a ≡ Some (filler words) → r.block a ≡ Some (filler words)
+  live_filler a words is = ⊎_elim
+      (λ (one : (name : Name) × (refs : ℕ) × (nums : ℕ) × (filler words ≡ thing name refs nums)). absurd (let differ = one.3 in cc))
+      (λ (fills : (r.block a ≡ Some (filler words)) × OnlyFills (filler words)). fills.0)
+      (live_cases a (filler words) is)
+
   -- each piece has some words
   pub live_some : (a : ℕ) (b : Block) → live a ≡ Some b → 1 ≤ words_of b
   live_some a b is =
       let was = mapped_from (as_object g asking r.block) r.block a b is in
-      let long = some_words c (λ q. m (Top q)) (λ s. m (Current s)) r.block r.shared.parsable r.shared.owned.rooms a was.0 was.1 in
+      let long = some_words c (λ q. m (Top q)) r.block r.shared.parsable r.shared.owned.rooms a was.0 was.1 in
       let same = same_words a was.0 was.1 in
       let now = ap words_of was.2 in
       omega (arith, long, same, now)

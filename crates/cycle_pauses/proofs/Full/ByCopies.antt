@@ -14,6 +14,7 @@ by_copies c m g asking r = record {
   roots = r.roots;
   usable = tt;
   none = r.none;
+  uncarved = r.uncarved;
   asked = r.asked;
   heard = r.heard;
   promised_to = r.promised_to;

@@ -13,7 +13,7 @@ use Rattle.shen_graph.specs.Graph.{Graph}
 use Rattle.heap_world.specs.Asking.{Asking, nothing, asks, refused, given, IsRequest, IsAsked}
 use Rattle.heap_world.specs.Change.{words_given, IsCrowded}
 use Rattle.heap_world.specs.Represents.{RepresentsByCopies}
-use Rattle.full_words.specs.Full.{packed_in, asked_in, full}
+use Rattle.full_words.specs.Full.{packed_in, asked_in, full_from}
 use Rattle.full_words.specs.Promised.{Promises, words_if, promised_words}
 use Rattle.full_words.specs.Served.{tops_at_turn, given_in}
 use Rattle.full_words.proofs.Served.{tops_are_served, requests_are_answered}
@@ -107,7 +107,7 @@ module _ (c : Config) (m : Word → ℕ) (g : Graph) (asking : ℕ → Asking) (
 
   -- what a mutator has been given in all
   given_are : (u : ℕ) (x : Asking) → u < c.mutators → asking u ≡ x → IsAsked m r.block g.count u x
-      → promised_words p (u + 1) + given_in c after u ≤ words_given (then_of x (full c m (Answer u)))
+      → promised_words p (u + 1) + given_in c after u ≤ words_given (then_of x (full_from c m (Answer u)))
   given_are u nothing inside is asked = omega (arith, promised_are u nothing inside is, idle_given c after u (packed_wait c m u ∙ asked.0))
   given_are u refused inside is asked = omega (arith, promised_are u refused inside is, idle_given c after u (packed_wait c m u ∙ asked.0))
   given_are u (given refs nums) inside is asked = omega (arith, promised_are u (given refs nums) inside is, idle_given c after u (packed_wait c m u ∙ asked.0))
@@ -119,9 +119,9 @@ module _ (c : Config) (m : Word → ℕ) (g : Graph) (asking : ℕ → Asking) (
       (λ (room : (s : ℕ) × IsLowestRoom c.region_words (tops_at_turn c after u) (asked_in after u) c.regions s).
       let low : 1 * c.region_words ≤ (room.0 + 1) * c.region_words = mul-le-mul_right c.region_words (omega arith) in
       let answer = answered.given room.0 room.1 in
-      let other : full c m (Answer u) ≢ 1 = λ one. omega (arith, one, answer, low, c.in_range.least_words) in
-      let made : words_given (then_of (asks refs nums) (full c m (Answer u))) ≡ 3 + refs + nums =
-      ap words_given (cond-false (full c m (Answer u) == 1) refused (given refs nums) (ne_eqb (full c m (Answer u)) 1 other)) in
+      let other : full_from c m (Answer u) ≢ 1 = λ one. omega (arith, one, answer, low, c.in_range.least_words) in
+      let made : words_given (then_of (asks refs nums) (full_from c m (Answer u))) ≡ 3 + refs + nums =
+      ap words_given (cond-false (full_from c m (Answer u) == 1) refused (given refs nums) (ne_eqb (full_from c m (Answer u)) 1 other)) in
       let most = given_most (room_at_turn c.region_words c.regions (asked_in after) (λ s. after (Top s)) u) (asked_in after u) in
       omega (arith, none, made, most, asked_words u refs nums asked.0))
       (λ (full_up : NoneHasRoom c.region_words (tops_at_turn c after u) (asked_in after u) c.regions). omega (arith, none, left_given c after u full_up))
@@ -135,15 +135,15 @@ module _ (c : Config) (m : Word → ℕ) (g : Graph) (asking : ℕ → Asking) (
     request = request_of (asking t) is (r.asked t inside)
 
     -- the answer says so
-    is_one : full c m (Answer t) ≡ 1
+    is_one : full_from c m (Answer t) ≡ 1
     is_one = ⊎_elim
-        (λ (one : full c m (Answer t) ≡ 1). one)
-        (λ (other : full c m (Answer t) ≢ 1).
+        (λ (one : full_from c m (Answer t) ≡ 1). one)
+        (λ (other : full_from c m (Answer t) ≢ 1).
         let made : given refs nums ≡ refused =
-        sym (cond-false (full c m (Answer t) == 1) refused (given refs nums) (ne_eqb (full c m (Answer t)) 1 other))
-        ∙ ap (λ x. then_of x (full c m (Answer t))) (sym is) ∙ was_refused in
+        sym (cond-false (full_from c m (Answer t) == 1) refused (given refs nums) (ne_eqb (full_from c m (Answer t)) 1 other))
+        ∙ ap (λ x. then_of x (full_from c m (Answer t))) (sym is) ∙ was_refused in
         cc)
-        (cases_eq (full c m (Answer t)) 1)
+        (cases_eq (full_from c m (Answer t)) 1)
 
     -- what another mutator has been given
     abbrev others : ℕ → ℕ

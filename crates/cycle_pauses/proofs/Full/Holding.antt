@@ -1,33 +1,34 @@
 -- Words that represent a graph hold it: the condition of a full collection.
-use Rattle.std.proofs.Common.{◌≡◌, ◌≢◌, ℕ, ◌+◌, ◌<◌, ◌≤◌, ◌==◌, nat_le, true, inl, inr, ⊎_elim, Option, Some, None, refl, sym, ap, ◌∙◌, subst, arith}
+use Rattle.std.proofs.Common.{◌≡◌, ◌≢◌, ℕ, ◌+◌, ◌-◌, ◌<◌, ◌≤◌, ◌==◌, nat_le, true, false, inl, inr, ⊎_elim, Option, Some, None, refl, sym, ap, ◌∙◌, subst, arith}
 use Rattle.std.specs.Int.{bit_at}
 use Rattle.std.proofs.lemmas.Bool.{cond-false, cases_eq, cases_lt, and_parts, and_from, leb-true, le-leb, eqb-true, eq-eqb, true≢false}
 use Rattle.std.proofs.lemmas.Nat.Bits.{bit_at-zero}
 use Rattle.heap_words.specs.declared.config.Config.{Config}
-use Rattle.heap_words.specs.Words.{Word, Phase, Cset, Top, Tams, Wait, Answer, Black, Heap}
-use Rattle.heap_words.specs.Encoding.{is_forwarded, object_words, shape_word, refs_in, nums_in, request_code, request_count_in, request_shape_in}
+use Rattle.heap_words.specs.Words.{Word, Phase, Cset, Top, Tams, Current, Wait, Answer, Black, Heap}
+use Rattle.heap_words.specs.Encoding.{end_in, is_forwarded, shape_word, refs_in, nums_in, request_code, request_count_in, request_shape_in}
 use Rattle.regions.specs.Place.{region_with}
 use Rattle.regions.specs.Sets.{IsIn, IsOutside}
+use Rattle.regions.proofs.PlaceLemmas.{regions_tile}
 use Rattle.regions.specs.Marks.{HasMark, mark_word, mark_bit}
 use Rattle.heap_words.proofs.Shapes.{refs_in-shape_word, nums_in-shape_word}
 use Rattle.shen_graph.specs.declared.name.Name.{Name}
 use Rattle.shen_graph.specs.Graph.{Graph, Object, blank, fresh, same_reference}
-use Rattle.heap_world.specs.World.{Block, thing, moved, spent, hand, promised, dead, filler, spare, carved, words_of, IsCollected, IsMarkable, IsYoung, HasCopy}
-use Rattle.heap_world.proofs.Pointing.{body_piece, piece_inside}
-use Rattle.full_words.proofs.Reached.{words_read}
+use Rattle.heap_world.specs.World.{Block, thing, moved, spent, promised, words_of, is_loose, IsCollected, IsMarkable, IsYoung, HasCopy}
+use Rattle.heap_world.proofs.Pointing.{copy_cases, piece_inside}
 use Rattle.heap_world.specs.Asking.{Asking, nothing, asks, refused, given, IsRequest, IsAsked}
 use Rattle.heap_world.specs.Represents.{RepresentsByCopies}
 use Rattle.full_words.specs.Full.{now_in}
 use Rattle.full_words.specs.Promised.{Promises, AreFresh}
 use Rattle.full_words.specs.Serving.{asked_shape, asked_name, IsAsking}
-use Rattle.image_graph.specs.Holds.{HasMoved, HoldsBy, HoldsSome, AreSized}
+use Rattle.image_graph.specs.Holds.{HasMoved, HoldsBy, HoldsSome, AreSized, HasObject}
 use Rattle.cycle_words.specs.Marking.Marks.{IsKept}
-use Rattle.cycle_words.specs.StillHolds.{AreMarkedPieces, WhileCollecting}
+use Rattle.cycle_words.specs.StillHolds.{AreMarkedObjects, WhileCollecting}
 use Rattle.cycle_pauses.proofs.Full.Promises.{promised_ref, promises_of, ref_of, promised_one}
 use Rattle.cycle_pauses.proofs.Full.Mapped.{mapped_from}
-use Rattle.cycle_pauses.proofs.Full.Before.{as_object, live, live_at, same_words, not_next, live_rooted, live_filled, live_unpromised, live_roomless, live_some}
+use Rattle.cycle_pauses.proofs.Full.Before.{as_object, pieces_are, live, live_at, same_words, not_next, live_rooted, live_filled, live_unpromised, live_room, live_unheld, live_uncarved, live_buffers, live_filler, live_some}
 use Rattle.cycle_pauses.proofs.Full.Current.{led_to, header_of, held_current, Kind, is_current, is_old, kind_at, old_thing, live_holds, reached_at}
 use Rattle.cycle_pauses.proofs.Full.ByCopies.{by_copies}
+use Rattle.cycle_pauses.proofs.Full.Sizes.{pieces_sized}
 use Rattle.cycle_pauses.specs.Full.Laws.{RepresentingIsSized}
 
 -- A request reads as what it was made of.
@@ -150,9 +151,16 @@ module _ (c : Config) (m : Word → ℕ) (g : Graph) (asking : ℕ → Asking) (
     rooted = live_rooted c m g asking r;
     moved = λ a refs nums name is forwarded. moved_by a refs nums name forwarded (kind_at c m g asking r a refs nums name is);
     filled = live_filled c m g asking r;
-    pieces = record { named = old_thing c m g asking r; unpromised = live_unpromised c m g asking r; roomless = live_roomless c m g asking r; some = live_some c m g asking r };
+    pieces = record {
+      named = old_thing c m g asking r;
+      unpromised = live_unpromised c m g asking r;
+      unheld = live_unheld c m g asking r;
+      uncarved = live_uncarved c m g asking r;
+      some = live_some c m g asking r;
+    };
     free_word = r.shared.owned.free_word;
-    currents = r.shared.owned.currents;
+    shared_one = r.shared.owned.shared_one;
+    buffers = live_buffers c m g asking r;
     asking = λ t from inside waits. are_asking t inside waits;
     next = record {
       asked = λ t inside waits. let asked = who_waits t inside waits in (request_reads m g.count t asked.refs asked.nums asked.request).counted;
@@ -166,30 +174,28 @@ module _ (c : Config) (m : Word → ℕ) (g : Graph) (asking : ℕ → Asking) (
   holds_some = ∣ (g, (live c m g asking r, r.ghost.owner, p, holds_by)) ∣₁
 
   -- each piece says how many words it has
-  size_of : (a : ℕ) (b : Block) → r.block a ≡ Some b → object_words (m (Heap (a + 1))) ≡ words_of b
-  size_of a (thing name refs nums) is =
-      let o = r.shared.contents.objects.each a refs nums name is in
-      ap object_words o.2.shape ∙ words_read refs nums o.2.few_refs o.2.few_nums
-  size_of a (moved name refs nums to) is =
-      let was = r.shared.evacuated.moved.moveds a refs nums to name is in
-      ap object_words was.shape ∙ words_read refs nums was.few_refs was.few_nums
-  size_of a (spent words to) is = (r.shared.evacuated.moved.spents a words to is).shape
-  size_of a (hand seat words) is = absurd (r.none a seat words is)
-  size_of a (promised seat words) is =
-      let blank = r.shared.unwritten.blanks a seat words is in
-      ap object_words blank.shape ∙ words_read blank.refs blank.nums blank.few_refs blank.few_nums ∙ sym blank.long
-  size_of a (dead words) is = r.shared.unwritten.lengths a words is
-  size_of a (filler words) is = absurd (r.shared.unwritten.fillers a words is)
-  size_of a (spare seat words) is = absurd (r.shared.owned.rooms.spares a seat words is)
-  size_of a (carved seat words) is = absurd (r.shared.owned.rooms.carveds a seat words is)
+  were_sized : AreSized m r.block
+  were_sized = pieces_sized c m r.block g.object r.shared.contents.objects r.shared.unwritten r.shared.evacuated.moved
+
+  -- what is loose is so in the larger graph
+  not_loose : (b : Block) → is_loose (as_object g asking r.block b) ≡ false → is_loose b ≡ false
+  not_loose (thing name refs nums) fixed = refl
+  not_loose (moved name refs nums to) fixed = refl
+  not_loose (spent words to) fixed = refl
+  not_loose (promised seat words) fixed = refl
+  not_loose _ fixed = fixed
 
   pub are_sized : AreSized m (live c m g asking r)
-  are_sized a b is =
-      let was = mapped_from (as_object g asking r.block) r.block a b is in
-      size_of a was.0 was.1 ∙ sym (same_words c m g asking r a was.0 was.1) ∙ ap words_of was.2
+  are_sized = record {
+    objects = λ a b is fixed.
+        let was = mapped_from (as_object g asking r.block) r.block a b is in
+        were_sized.objects a was.0 was.1 (not_loose was.0 (ap is_loose was.2 ∙ fixed)) ∙ sym (same_words c m g asking r a was.0 was.1) ∙ ap words_of was.2;
+    headers = λ a b is fixed. let was = mapped_from (as_object g asking r.block) r.block a b is in were_sized.headers a was.0 was.1 (not_loose was.0 (ap is_loose was.2 ∙ fixed));
+    fillers = λ a words is. were_sized.fillers a words (live_filler c m g asking r a words is);
+  }
 
-  -- what is marked in the collection set are pieces
-  pub are_marked : AreMarkedPieces c m (live c m g asking r)
+  -- what is marked in the collection set are objects
+  pub are_marked : AreMarkedObjects c m (live c m g asking r)
   are_marked a collected black = ⊎_elim
       (λ (low : m Phase < 2).
       let none : bit_at (m Cset) (region_with c a) ≡ 0 = ap (λ k. bit_at k (region_with c a)) (r.shared.phased.cset_is low) ∙ bit_at-zero (region_with c a) in
@@ -209,9 +215,17 @@ module _ (c : Config) (m : Word → ℕ) (g : Graph) (asking : ℕ → Asking) (
       mark : HasMark c (λ n. m (Black n)) a
       mark = eqb-true (bit_at (m (Black (mark_word c a))) (mark_bit c a)) 1 (and_parts (nat_le c.region_words a) (bit_at (m (Black (mark_word c a))) (mark_bit c a) == 1) black).1
 
-      of_copy : HasCopy r.block a → (b : Block) × (live c m g asking r a ≡ Some b)
-      of_copy (HasCopy.copy body is) = let piece = body_piece (r.block a) body is in (as_object g asking r.block piece.0, live_at c m g asking r a piece.0 piece.1)
-      of_copy (HasCopy.spent_copy words to is) = (as_object g asking r.block (spent words to), live_at c m g asking r a (spent words to) is)
+      -- each of them is an object of the larger graph
+      object_there : (b : Block) → r.block a ≡ Some b → (name : Name) × (refs : ℕ) × (nums : ℕ) × (as_object g asking r.block b ≡ thing name refs nums) → HasObject (live c m g asking r) a
+      object_there b is one = (thing one.0 one.1 one.2, live_at c m g asking r a b is ∙ ap Some one.3, refl)
+
+      of_copy : HasCopy r.block a → HasObject (live c m g asking r) a
+      of_copy (HasCopy.copy body is) = ⊎_elim
+          (λ (now : r.block a ≡ Some (thing body.name body.refs body.nums)). object_there (thing body.name body.refs body.nums) now (body.name, body.refs, body.nums, refl))
+          (λ (old : (to : ℕ) × (r.block a ≡ Some (moved body.name body.refs body.nums to))).
+          object_there (moved body.name body.refs body.nums old.0) old.1 (body.name, body.refs, body.nums, refl))
+          (copy_cases (r.block a) body is)
+      of_copy (HasCopy.spent_copy words to is) = ⊎_elim (object_there (spent words to) is) (λ fills. absurd fills) (pieces_are c m g asking r a (spent words to) is)
 
   -- a region in the set means that one of the phases of evacuation and updating runs
   high_phase : m Cset ≢ 0 → 2 ≤ m Phase
@@ -247,7 +261,8 @@ module _ (c : Config) (m : Word → ℕ) (g : Graph) (asking : ℕ → Asking) (
     reachable = λ some a reached. kept_of some a (held_current c m g asking r a reached);
     no_new = r.shared.evacuated.aside.no_new;
     floors = λ some. r.shared.evacuated.kept.floors (high_phase some);
-    unseated = λ seat q is. r.shared.evacuated.aside.nobodys q seat (r.shared.owned.currents.own seat q is);
+    young = λ some a seat x is room. r.shared.evacuated.kept.young (high_phase some) a seat x (live_room c m g asking r a seat x is room) room;
+    unseated = λ seat q ends member. r.shared.owned.outside seat ends.0 (subst (IsIn (m Cset)) (sym (regions_tile.of_no_other c q (end_in (m (Current seat)) - 1) ends.1)) member);
     outside = λ off a reached. outside_of off a (held_current c m g asking r a reached);
   }
 

@@ -16,7 +16,7 @@ use Rattle.packing.proofs.Rooms.{has_room}
 use Rattle.packing.specs.Slide.{renewed, is_covered, slid_word, slid}
 use Rattle.packing.proofs.Slid.{slid_next, slid_none, covered_here}
 use Rattle.full_words.specs.Plot.{heap_end, packed_top}
-use Rattle.full_words.specs.Full.{packed_in, now_in, kept_in, packed, made_in, served_in, room_for, served, refused, full}
+use Rattle.full_words.specs.Full.{packed_in, now_in, kept_in, packed, made_in, served_in, room_for, served, refused, full_from}
 use Rattle.full_words.proofs.Made.{outside_fresh}
 use Rattle.full_words.proofs.Served.{served_first, turn_idle, turn_waits}
 
@@ -145,6 +145,6 @@ refused_outside c m zero' (Answer t) other = cond-true (m (Wait t) == 0) (m (Ans
 refused_outside c m zero' (Wait t) other = refl
 refused_outside c m zero' word other = zero' word other
 
-pub full_outside : (c : Config) (m : Word → ℕ) → LieApart c.region_words (kept_in c m) → ((a : ℕ) → 0 < kept_in c m a → a + kept_in c m a ≤ heap_end c) → IsZeroOutside c m → IsZeroOutside c (full c m)
+pub full_outside : (c : Config) (m : Word → ℕ) → LieApart c.region_words (kept_in c m) → ((a : ℕ) → 0 < kept_in c m a → a + kept_in c m a ≤ heap_end c) → IsZeroOutside c m → IsZeroOutside c (full_from c m)
 full_outside c m lie inside zero' =
     refused_outside c (served c (packed_in c m) c.mutators) (served_outside c (packed_in c m) c.mutators (omega arith) (packed_outside c m lie inside zero'))

@@ -18,7 +18,7 @@ use Rattle.heap_world.specs.Represents.{RepresentsByCopies}
 use Rattle.full_words.specs.Held.{IsLedTo, IsAmong, AreHeldKept}
 use Rattle.full_words.specs.Pack.{CanPack}
 use Rattle.full_words.specs.Plot.{packed_block}
-use Rattle.full_words.specs.Full.{packed_in, now_in, root_words, kept_in, asked_in, packed, full}
+use Rattle.full_words.specs.Full.{packed_in, now_in, root_words, kept_in, asked_in, packed, full_from}
 use Rattle.full_words.specs.Promised.{Promises, with_promised}
 use Rattle.full_words.specs.Image.{ImageStands}
 use Rattle.full_words.specs.Serving.{asked_name, served_block, served_promises}
@@ -65,10 +65,10 @@ module _ (c : Config) (m : Word → ℕ) (g : Graph) (asking : ℕ → Asking) (
   plot = served_block c after (packed_block c kept (live c m g asking r)) c.mutators
 
   abbrev pub asked_then : ℕ → Asking
-  asked_then t = then_of (asking t) (full c m (Answer t))
+  asked_then t = then_of (asking t) (full_from c m (Answer t))
 
   -- the words after it stand for the graph with what is promised then
-  stands : ImageStands c (full c m) plot g q
+  stands : ImageStands c (full_from c m) plot g q
   stands = (let holds = holds_by c m g asking r in full_stands c m (live c m g asking r) g p holds.objects holds.rooted holds.asking)
 
   -- what a mutator asks for after packing is its next object
@@ -116,7 +116,7 @@ module _ (c : Config) (m : Word → ℕ) (g : Graph) (asking : ℕ → Asking) (
       let o = r.shared.contents.objects.each piece.0 piece.1 piece.2 n piece.3 in
       (o.0, o.1)
 
-  pub is_after : IsAfter c (full c m) plot g q
+  pub is_after : IsAfter c (full_from c m) plot g q
   is_after = record {
     stands = stands;
     next = next_promised;
@@ -133,14 +133,14 @@ module _ (c : Config) (m : Word → ℕ) (g : Graph) (asking : ℕ → Asking) (
   }
 
   abbrev pub plot_then : Plot
-  plot_then = taken c (full c m) plot g q is_after
+  plot_then = taken c (full_from c m) plot g q is_after
 
   -- who did not wait keeps the answer
-  pub answer_left : (t : ℕ) → t < c.mutators → m (Wait t) ≡ 0 → full c m (Answer t) ≡ after (Answer t)
+  pub answer_left : (t : ℕ) → t < c.mutators → m (Wait t) ≡ 0 → full_from c m (Answer t) ≡ after (Answer t)
   answer_left t inside none = (requests_are_answered c after).others t inside (packed_wait c m t ∙ none)
 
   -- and who did has an address or is refused
-  pub answer_found : (t : ℕ) → t < c.mutators → m (Wait t) ≢ 0 → (1 < full c m (Answer t)) ⊎ (full c m (Answer t) ≡ 1)
+  pub answer_found : (t : ℕ) → t < c.mutators → m (Wait t) ≢ 0 → (1 < full_from c m (Answer t)) ⊎ (full_from c m (Answer t) ≡ 1)
   answer_found t inside waits =
       let answered = (requests_are_answered c after).answered t inside (λ none. waits (sym (packed_wait c m t) ∙ none)) in
       ⊎_elim

@@ -1,4 +1,4 @@
--- The beginning of marking: the words represent the same graph, and the snapshot is what can be reached.
+-- The beginning of marking, once buffers are settled: the words represent the same graph, and the snapshot is what can be reached.
 use Rattle.std.proofs.Common.{◌≡◌, ◌≢◌, ℕ, ◌+◌, ◌<◌, ◌≤◌, Bool, true, Some, None, refl, sym, ap, ◌∙◌, subst, arith}
 use Rattle.heap_words.specs.declared.config.Config.{Config}
 use Rattle.heap_words.specs.Words.{Word, Phase, Cset, Free, Evac, Top, Current, Tams, Root, Count, Buffer, Answer, Grey, Black, Heap}
@@ -6,12 +6,14 @@ use Rattle.heap_words.specs.Encoding.{refs_in, object_words}
 use Rattle.shen_graph.specs.declared.name.Name.{Name}
 use Rattle.shen_graph.specs.Graph.{Graph, Object, Reference}
 use Rattle.heap_graph.specs.Walk.{has}
-use Rattle.heap_world.specs.World.{Block, moved, hand, promised, dead, words_of, HasNoRoom, Plot, Snapshot, Ghost, name_at, Points, IsThing, AreObjects, AreUnwritten, IsMarkable, IsYoung, IsLed, KeepsSnapshot, IsEvacuating, IsUsable, AreUsable}
+use Rattle.heap_world.specs.World.{Block, moved, hand, promised, dead, carved, words_of, room_of, Plot, Snapshot, Ghost, name_at, Points, IsThing, AreObjects, AreUnwritten, IsMarkable, IsLed, KeepsSnapshot, IsEvacuating, IsUsable, AreUsable}
 use Rattle.heap_world.specs.Asking.{Asking, asks, given, IsAsked}
 use Rattle.heap_world.specs.Represents.{Represents, RepresentsByCopies}
 use Rattle.heap_world.proofs.Keeping.{usable_now}
 use Rattle.heap_world.proofs.Copies.{none_evacuated}
-use Rattle.heap_world.proofs.Roomless.{roomless, rooms_none}
+use Rattle.buffer_words.specs.Edge.{edge}
+use Rattle.buffer_pauses.specs.Divided.{AreDivided}
+use Rattle.full_words.proofs.Buffers.{SameRoom, rooms_stay, buffers_stay}
 use Rattle.full_words.specs.Held.{IsAmong}
 use Rattle.full_words.specs.Full.{root_words, held_in}
 use Rattle.full_words.specs.Promised.{Promises}
@@ -23,22 +25,27 @@ use Rattle.cycle_pauses.proofs.Full.Promises.{promises_of}
 use Rattle.cycle_pauses.proofs.Full.Before.{live, promised_at}
 use Rattle.cycle_pauses.proofs.Full.Holding.{holds_by}
 use Rattle.cycle_pauses.proofs.Full.Reached.{found_held, held_found}
-use Rattle.cycle_words.specs.Marking.Init.{init_marked, pruned}
+use Rattle.cycle_words.specs.Marking.Init.{marking_begun, pruned}
 use Rattle.cycle_words.specs.Marking.WhileMarking.{CanBeReached}
 use Rattle.cycle_words.proofs.Marking.Plain.{root_reached, field_reached, reach_ind}
 use Rattle.cycle_pauses.proofs.Evacuation.Asked.{asked_stays}
-use Rattle.cycle_pauses.proofs.Marking.FromSnapshot.{no_moved, no_spent, thing_at, piece_below, piece_above, markable_piece, reached_markable}
+use Rattle.cycle_pauses.proofs.Marking.FromSnapshot.{no_moved, no_spent, thing_at, piece_above, markable_piece, reached_markable}
 use Rattle.cycle_words.proofs.Marking.Trimmed.{object_stands}
-use Rattle.cycle_words.proofs.Marking.Pruned.{WasPiece, piece_was, thing_stays, promised_stays, thing_was, room_was, filler_was, promised_was, moved_was, spent_was, pruned_from, pruned_plotted, pruned_filled}
+use Rattle.cycle_words.proofs.Marking.Pruned.{WasPiece, piece_was, room_stays, thing_stays, promised_stays, thing_was, room_was, filler_was, promised_was, moved_was, spent_was, pruned_plotted, pruned_filled}
 use Rattle.cycle_words.proofs.Marking.FirstSnapshot.{first, first_snapshot, is_first, first_marked}
 
-module _ (c : Config) (m : Word → ℕ) (g : Graph) (asking : ℕ → Asking) (r : Represents c m g asking) (rests : m Phase ≡ 0) where
+-- what is no room was none
+no_room_before : (live : Bool) (x y : Block) → WasPiece live x y → room_of y ≡ None → room_of x ≡ None
+no_room_before _ x y (WasPiece.was_left same is_live) none = ap room_of same ∙ none
+no_room_before _ x y (WasPiece.was_object name refs nums was is) none = ap room_of was
+
+module _ (c : Config) (m : Word → ℕ) (g : Graph) (asking : ℕ → Asking) (r : Represents c m g asking) (rests : m Phase ≡ 0) (divided : AreDivided c m r.block) where
   -- the same words by copies
   abbrev copies : RepresentsByCopies c m g asking
   copies = by_copies c m g asking r
 
   abbrev n : Word → ℕ
-  n = init_marked c m
+  n = marking_begun c m
 
   calm : m Cset ≡ 0
   calm = r.shared.phased.cset_is (omega (arith, rests))
@@ -128,17 +135,20 @@ module _ (c : Config) (m : Word → ℕ) (g : Graph) (asking : ℕ → Asking) (
     fillers = λ a words is. r.shared.unwritten.fillers a words (filler_was found r.block a words is);
   }
 
-  -- no piece is room
-  no_room : HasNoRoom plot
-  no_room a seat x is room = roomless c top (λ s. m (Current s)) r.block r.shared.owned.rooms r.none a seat x (room_was found r.block a seat x room is) room
+  -- room is the same, and edges divide the pieces still
+  same_room : SameRoom r.block plot
+  same_room = record { stays = λ a seat x of is. room_stays found r.block a seat x of is; came = λ a seat x of is. room_was found r.block a seat x of is }
+
+  divided_again : AreDivided c m plot
+  divided_again = record {
+    rooms = λ a seat x is room. divided.rooms a seat x (same_room.came a seat x room is) room;
+    others = λ a x is none. let was = piece_was found r.block a x is in divided.others a was.0 was.1 (no_room_before (found a) was.0 x was.2 none);
+    tops = divided.tops;
+  }
 
   -- The snapshot: the objects that can be reached, and what roots and answers name.
   abbrev snapshot : Snapshot
   snapshot = first_snapshot c m plot
-
-  -- nothing of it is young
-  none_young : (a : ℕ) (b : Block) → plot a ≡ Some b → IsYoung c top a → ⊥
-  none_young a b is young = let was = pruned_from found r.block a b is in let at = piece_below c m g asking r calm a was.0 was.1 in omega (arith, young, at.2)
 
   reached_above : (a : ℕ) → CanBeReached c m a → c.region_words ≤ a
   reached_above a held =
@@ -185,8 +195,7 @@ module _ (c : Config) (m : Word → ℕ) (g : Graph) (asking : ℕ → Asking) (
       (λ a refs nums name is. led a (found_held c m g asking copies a (thing_was found r.block a refs nums name is).1))
       root_markable
       (λ a seat words is. promise_first a seat words (promised_was found r.block a seat words is))
-      no_room
-      none_young
+      divided_again
 
   -- what is asked and promised stays
   asked_again : (t : ℕ) → IsAsked m r.block g.count t (asking t) → IsAsked n plot g.count t (asking t)
@@ -220,22 +229,25 @@ module _ (c : Config) (m : Word → ℕ) (g : Graph) (asking : ℕ → Asking) (
       contents = record { objects = objects_again; given = r.shared.contents.given };
       owned = record {
         free_word = r.shared.owned.free_word;
-        currents = r.shared.owned.currents;
-        rooms = rooms_none c _ _ plot no_room;
+        shared_one = r.shared.owned.shared_one;
+        rooms = rooms_stay c r.block plot same_room r.shared.owned.rooms;
+        buffers = buffers_stay c top top (λ s. m (Current s)) r.block plot same_room r.shared.owned.buffers (λ seat some. omega arith);
+        outside = r.shared.owned.outside;
       };
       phased = record { phase_is = omega arith; cset_is = λ other. calm; evac_is = λ other. no_copier };
       unwritten = unwritten_again;
       marked = marked;
       evacuated =
-          subst (λ set. IsEvacuating c 1 set (m Evac) 0 (m Free) top top heap (λ q. 0) plot ghost.owner ghost.copying ghost.working) (sym calm)
-          (subst (λ count. IsEvacuating c 1 0 count 0 (m Free) top top heap (λ q. 0) plot ghost.owner ghost.copying ghost.working) (sym no_copier)
-          (none_evacuated c 1 0 (m Free) top top heap (λ q. 0) plot ghost.owner ghost.copying ghost.working (λ on. omega (arith, on)) still_unmoved
+          subst (λ set. IsEvacuating c 1 set (m Evac) 0 (m Free) top (edge c m) heap (λ q. 0) plot ghost.owner ghost.copying ghost.working) (sym calm)
+          (subst (λ count. IsEvacuating c 1 0 count 0 (m Free) top (edge c m) heap (λ q. 0) plot ghost.owner ghost.copying ghost.working) (sym no_copier)
+          (none_evacuated c 1 0 (m Free) top (edge c m) heap (λ q. 0) plot ghost.owner ghost.copying ghost.working (λ on. omega (arith, on)) still_unmoved
           (λ a words to is. no_spent c m g asking r calm a words to (spent_was found r.block a words to is)) r.uncopying.copies_none));
       updated = λ on. absurd (omega (arith, on));
     };
     roots = roots_again;
     usable = roots_usable;
-    none = λ a seat words is. no_room a seat (hand seat words) is refl;
+    none = λ a seat words is. r.none a seat words (same_room.came a seat (hand seat words) refl is);
+    uncarved = λ a seat words is. r.uncarved a seat words (same_room.came a seat (carved seat words) refl is);
     asked = λ t inside. asked_again t (r.asked t inside);
     heard = λ t refs nums inside is. absurd (nobody t refs nums inside is);
     promised_to = λ a seat words is. r.promised_to a seat words (promised_was found r.block a seat words is);

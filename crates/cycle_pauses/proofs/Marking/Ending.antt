@@ -1,35 +1,31 @@
 -- The end of marking: each object is marked or new, so none lies in a dead region, and the words stand for the same graph.
-use Rattle.std.proofs.Common.{◌≡◌, ℕ, ◌+◌, ◌<◌, ◌≤◌, ◌⊎◌, Bool, true, false, Option, Some, None, inl, inr, ⊎_elim, refl, sym, ap, ◌∙◌, arith}
-use Rattle.std.specs.Prelude.{if◌then◌else◌}
-use Rattle.std.proofs.lemmas.Bool.{cond-true, cond-false, cases_Bool}
-use Rattle.std.proofs.lemmas.Option.{none-some}
+use Rattle.std.proofs.Common.{◌≡◌, ◌≢◌, ℕ, ◌+◌, ◌<◌, ◌≤◌, ◌⊎◌, Bool, true, false, Option, Some, None, inl, inr, ⊎_elim, refl, sym, ap, ◌∙◌, arith}
+use Rattle.std.proofs.lemmas.Bool.{cases_Bool, true≢false}
 use Rattle.heap_words.specs.declared.config.Config.{Config}
-use Rattle.heap_words.specs.Words.{Word, Phase, Cset, Free, Top, Tams, Current, Root, Black, Heap}
+use Rattle.heap_words.specs.Words.{Word, Phase, Cset, Free, Top, Tams, Current, Root, Black, Heap, Share}
+use Rattle.heap_words.specs.Encoding.{end_in}
 use Rattle.regions.specs.Place.{region_with}
+use Rattle.regions.proofs.PlaceLemmas.{regions_tile}
 use Rattle.shen_graph.specs.declared.name.Name.{Name}
 use Rattle.shen_graph.specs.Graph.{Graph}
-use Rattle.heap_world.specs.World.{Block, thing, moved, spent, promised, dead, words_of, Plot, Ghost, no_snapshot, name_at, AreObjects, IsFreeWord, AreCurrent, IsMarkable, IsYoung, HasNoRoom}
+use Rattle.heap_world.specs.World.{Block, thing, moved, spent, hand, promised, dead, spare, carved, words_of, Plot, Ghost, no_snapshot, name_at, AreObjects, IsFreeWord, ShareIsOpen, AreOwned, IsMarkable, IsYoung, AreYoungRooms}
 use Rattle.heap_world.specs.Asking.{Asking, IsAsked}
 use Rattle.heap_world.specs.Represents.{Represents}
 use Rattle.heap_world.proofs.Pieces.{some_words, object_reads}
 use Rattle.heap_world.proofs.Keeping.{points_stay}
-use Rattle.heap_world.proofs.Roomless.{roomless, rooms_none}
+use Rattle.heap_world.proofs.Roomless.{only_spares}
+use Rattle.buffer_pauses.proofs.Inside.{buffer_ends}
+use Rattle.full_words.proofs.Buffers.{SameRoom, rooms_stay, buffers_stay}
 use Rattle.regions.specs.Marks.{HasMark}
-use Rattle.image_graph.specs.State.{IsSomeSeats}
 use Rattle.cycle_words.specs.Marking.Marks.{is_black, IsNew}
 use Rattle.cycle_words.specs.Marking.Close.{closed}
-use Rattle.cycle_words.specs.Marking.Final.{is_current, dead_in, freed_block, freed_owner, final_marked}
-use Rattle.cycle_words.specs.Marking.Laws.{HasNoMoreSeats}
-use Rattle.cycle_words.proofs.Marking.Dead.{current_is, is_current_of, seated, current_alive}
+use Rattle.cycle_words.specs.Marking.Final.{dead_in, freed_block, final_marked}
+use Rattle.image_graph.specs.Buffers.{HasNoMoreSeats}
+use Rattle.cycle_words.proofs.Marking.Dead.{shared_alive, current_alive}
 use Rattle.cycle_pauses.proofs.Evacuation.Asked.{asked_stays}
 use Rattle.cycle_words.proofs.Marking.Vanished as freed
 use Rattle.cycle_pauses.proofs.Marking.FromSnapshot.{mark_is, is_mark, no_moved, no_spent, thing_at, piece_below, markable_piece, markable_kept, markable_alive, closed_markable}
 use Rattle.cycle_pauses.specs.Marking.MarkedOut.{IsMarkedOut}
-
--- nothing, if a test holds or not
-none_if : (b : Bool) (o : Option ℕ) → o ≡ None → (if b then o else None) ≡ None
-none_if true o is = is
-none_if false o is = refl
 
 module _ (c : Config) (m : Word → ℕ) (g : Graph) (asking : ℕ → Asking) (r : Represents c m g asking) (on : m Phase ≡ 1) where
   abbrev n : Word → ℕ
@@ -50,7 +46,7 @@ module _ (c : Config) (m : Word → ℕ) (g : Graph) (asking : ℕ → Asking) (
 
   -- the dead regions are freed of pieces that lie apart
   some : (a : ℕ) (b : Block) → r.block a ≡ Some b → 1 ≤ words_of b
-  some = some_words c (λ q. m (Top q)) (λ s. m (Current s)) r.block r.shared.parsable r.shared.owned.rooms
+  some = some_words c (λ q. m (Top q)) r.block r.shared.parsable r.shared.owned.rooms
 
   -- a piece that is left, and one of a region that is not dead
   left : (a : ℕ) (b : Block) → plot a ≡ Some b → (out (region_with c a) ≡ false) × (r.block a ≡ Some b)
@@ -80,47 +76,59 @@ module _ (c : Config) (m : Word → ℕ) (g : Graph) (asking : ℕ → Asking) (
         r.shared.contents.objects.once a b refs nums more_refs more_nums name (left a (thing name refs nums) is_a).1 (left b (thing name more_refs more_nums) is_b).1;
   }
 
-  -- a region is owned where it is some seat's current one
+  -- no seat has a region to itself
   abbrev owner : ℕ → Option ℕ
-  owner q = if is_current c m q then freed_owner out r.ghost.owner q else None
-
-  owner_out : (q : ℕ) → out q ≡ true → freed_owner out r.ghost.owner q ≡ None
-  owner_out q gone = let none : Option ℕ = None in cond-true (out q) none (r.ghost.owner q) gone
-
-  owner_stays : (q : ℕ) → out q ≡ false → freed_owner out r.ghost.owner q ≡ r.ghost.owner q
-  owner_stays q other = let none : Option ℕ = None in cond-false (out q) none (r.ghost.owner q) other
-
-  owner_none : (q : ℕ) → r.ghost.owner q ≡ None → freed_owner out r.ghost.owner q ≡ None
-  owner_none q none = ⊎_elim
-      (λ (gone : out q ≡ true). owner_out q gone)
-      (λ (other : out q ≡ false). owner_stays q other ∙ none)
-      (cases_Bool (out q))
-
-  none_owns : (q : ℕ) → freed_owner out r.ghost.owner q ≡ None → owner q ≡ None
-  none_owns q none = none_if (is_current c m q) (freed_owner out r.ghost.owner q) none
+  owner q = None
 
   free_again : IsFreeWord c (n Free) (λ q. n (Top q)) owner
-  free_again =
-      freed.free_again c out (closed c m) r.block r.shared.parsable.plotted some r.ghost.owner owner r.shared.owned.free_word (λ q gone. none_owns q (owner_out q gone)) (λ q none. none_owns q (owner_none q none))
+  free_again = freed.free_again c out (closed c m) r.block r.shared.parsable.plotted some r.ghost.owner owner r.shared.owned.free_word (λ q gone. refl) (λ q none. refl)
 
-  -- nobody's current region is dead
+  -- the region that is shared is not dead, ..
+  share_again : ShareIsOpen c (m Share) (n Free) (m Cset) owner
+  share_again q is =
+      let was = r.shared.owned.shared_one q is in
+      record {
+        within = was.within;
+        in_use = λ free. ⊎_elim was.in_use (λ (gone : out q ≡ true). true≢false (sym gone ∙ shared_alive c m q is)) (freed.free_was c out (closed c m) q was.within free);
+        nobodys = refl;
+        outside = was.outside;
+      }
+
+  -- .. nor is one where a buffer ends, and so room stays.
   module _ (no_more : HasNoMoreSeats c m) where
-    owns : (seat q : ℕ) → m (Current seat) ≡ q + 1 → owner q ≡ Some seat
-    owns seat q is =
-        let none : Option ℕ = None in
-        cond-true (is_current c m q) (freed_owner out r.ghost.owner q) none (is_current_of c m q (seated c m no_more seat q is))
-        ∙ owner_stays q (current_alive c m no_more seat q is) ∙ r.shared.owned.currents.own seat q is
+    buffer_alive : (seat : ℕ) (some_buffer : m (Current seat) ≢ 0) → out (r.shared.owned.buffers.each seat some_buffer).region ≡ false
+    buffer_alive seat some_buffer =
+        let b = r.shared.owned.buffers.each seat some_buffer in
+        current_alive c m no_more seat b.region (some_buffer, buffer_ends c (λ q. m (Top q)) r.block seat (m (Current seat)) b (r.shared.parsable.plotted.tops b.region b.within))
 
-    currents_again : AreCurrent c (λ s. m (Current s)) owner
-    currents_again = record { within = r.shared.owned.currents.within; own = owns }
+    room_alive : (a seat words : ℕ) → r.block a ≡ Some (spare seat words) → out (region_with c a) ≡ false
+    room_alive a seat words is =
+        let own = r.shared.owned.buffers.spares a seat words is in
+        let long = r.shared.owned.rooms.spares a seat words is in
+        let used = r.shared.parsable.plotted.in_use a (spare seat words) is in
+        let most = r.shared.parsable.plotted.tops used.region used.within in
+        let low = used.from_base in
+        let high = used.to_top in
+        let end = own.1 in
+        let some_buffer : m (Current seat) ≢ 0 = λ none. (let zero_end : end_in (m (Current seat)) ≡ 0 = ap end_in none in omega (arith, zero_end, end, long)) in
+        ap out (regions_tile.of_no_other c used.region a (record { from = low; before = omega (arith, high, most, long) }))
+        ∙ current_alive c m no_more seat used.region (some_buffer, record { from = omega (arith, low, end, long); before = omega (arith, high, most, end, long) })
 
-  seats_own : (q seat : ℕ) → owner q ≡ Some seat → IsSomeSeats c m q
-  seats_own q seat is = ⊎_elim
-      (λ (some : is_current c m q ≡ true). current_is c m q some)
-      (λ (other : is_current c m q ≡ false).
-      let none : Option ℕ = None in
-      absurd (none-some seat (sym (cond-false (is_current c m q) (freed_owner out r.ghost.owner q) none other) ∙ is)))
-      (cases_Bool (is_current c m q))
+    same_room : SameRoom r.block plot
+    same_room = record {
+      stays = λ a seat x of is. let free = only_spares r.block r.none r.uncarved a seat x is of in stays a (room_alive a seat free.0 (is ∙ ap Some free.1)) ∙ is;
+      came = λ a seat x of is. (left a x is).1;
+    }
+
+    owned_again : AreOwned c (λ q. n (Top q)) (m Share) (n Free) (m Cset) (λ s. m (Current s)) plot owner
+    owned_again = record {
+      free_word = free_again;
+      shared_one = share_again;
+      rooms = rooms_stay c r.block plot same_room r.shared.owned.rooms;
+      buffers = buffers_stay c (λ q. m (Top q)) (λ q. n (Top q)) (λ s. m (Current s)) r.block plot same_room r.shared.owned.buffers
+          (λ seat some_buffer. (let same = top_stays (r.shared.owned.buffers.each seat some_buffer).region (buffer_alive seat some_buffer) in omega (arith, same)));
+      outside = r.shared.owned.outside;
+    }
 
   -- What is marked then is an object, and each object is marked or new.
   tams_stays : (q : ℕ) → out q ≡ false → n (Tams q) ≡ m (Tams q)
@@ -155,9 +163,15 @@ module _ (c : Config) (m : Word → ℕ) (g : Graph) (asking : ℕ → Asking) (
       omega (arith, top, tams, same, floor))
       (cases_Bool (out q))
 
-  -- no piece is room
-  no_room : HasNoRoom plot
-  no_room a seat x is room = roomless c (λ q. m (Top q)) (λ s. m (Current s)) r.block r.shared.owned.rooms r.none a seat x (left a x is).1 room
+  -- room lies where what is allocated is new
+  young_again : AreYoungRooms c (λ q. n (Tams q)) plot
+  young_again a seat x is room =
+      let was = left a x is in
+      let at = piece_below c m g asking r calm a x was.1 in
+      let tams = tams_stays (region_with c a) was.0 in
+      let same = r.shared.marked.tams_are on (region_with c a) at.0 in
+      let above = r.shared.marked.young on a seat x was.1 room in
+      omega (arith, above, tams, same)
 
   -- dead objects lie below the tops at mark start
   deads_again : (a words : ℕ) → plot a ≡ Some (dead words) → IsYoung c (λ q. n (Tams q)) a → ⊥
@@ -190,23 +204,22 @@ module _ (c : Config) (m : Word → ℕ) (g : Graph) (asking : ℕ → Asking) (
     evac_is = r.shared.phased.evac_is (λ evacuates. omega (arith, on, evacuates));
     parsable = freed.parsable_again c out (closed c m) r.block r.shared.parsable.plotted some r.shared.parsable;
     contents = record { objects = objects_again; given = r.shared.contents.given };
-    owned = record {
-      free_word = free_again;
-      currents = currents_again no_more;
-      rooms = rooms_none c _ _ plot no_room;
-    };
-    seats = seats_own;
+    owned = owned_again no_more;
+    nobodys = λ q. refl;
+    seated = no_more;
     unwritten = freed.unwritten_again c out (closed c m) r.block r.shared.parsable.plotted some r.shared.unwritten;
     unmoved = record {
       no_moved = λ a refs nums to name is. no_moved c m g asking r calm a refs nums to name (left a (moved name refs nums to) is).1;
       no_spent = λ a words to is. no_spent c m g asking r calm a words to (left a (spent words to) is).1;
-      no_room = no_room;
+      no_hand = λ a seat words is. r.none a seat words (left a (hand seat words) is).1;
+      no_carved = λ a seat words is. r.uncarved a seat words (left a (carved seat words) is).1;
     };
     marked = record {
       objects = λ a is. black_or_young a (was_markable a is);
       only = λ a high mark. still_markable a (closed_markable c m g asking r calm on a (is_mark c (λ k. n (Black k)) a high mark));
       floors = floors_again;
       deads = deads_again;
+      young = young_again;
     };
     snapshot_is = refl;
     unmarking = record { records_none = r.unmarking.records_none; scans_none = r.unmarking.scans_none };

@@ -3,7 +3,7 @@ use Rattle.std.proofs.Common.{◌≡◌, ℕ, ◌+◌, ◌<◌, ◌≤◌, ◌�
 use Rattle.std.specs.Int.{bit_at}
 use Rattle.std.proofs.lemmas.Bool.{and_parts, and_from, le-leb, leb-true, eqb-true, eq-eqb}
 use Rattle.heap_words.specs.declared.config.Config.{Config}
-use Rattle.heap_words.specs.Words.{Word, Phase, Cset, Top, Current, Buffer, Grey, Black}
+use Rattle.heap_words.specs.Words.{Word, Phase, Cset, Top, Buffer, Grey, Black}
 use Rattle.regions.specs.Place.{base_of, region_with}
 use Rattle.shen_graph.specs.declared.name.Name.{Name}
 use Rattle.shen_graph.specs.Graph.{Graph}
@@ -18,7 +18,7 @@ use Rattle.full_words.specs.Promised.{with_promised}
 use Rattle.image_graph.specs.Holds.{HoldsBy}
 use Rattle.cycle_pauses.proofs.Full.ByCopies.{by_copies}
 use Rattle.cycle_pauses.proofs.Full.Promises.{promises_of}
-use Rattle.cycle_pauses.proofs.Full.Before.{live, live_at, object_at, once_each, live_unpromised, live_roomless, live_dead}
+use Rattle.cycle_pauses.proofs.Full.Before.{live, live_at, object_at, once_each, live_unpromised, live_room, live_dead}
 use Rattle.cycle_pauses.proofs.Full.Current.{Kind, is_current, is_old, kind_at, held_current}
 use Rattle.cycle_pauses.proofs.Full.Holding.{holds_by}
 use Rattle.cycle_words.specs.Marking.Marks.{is_black, IsKept}
@@ -61,7 +61,7 @@ module _ (c : Config) (m : Word → ℕ) (g : Graph) (asking : ℕ → Asking) (
   pub piece_below : (a : ℕ) (b : Block) → r.block a ≡ Some b
       → (region_with c a < c.regions) × (base_of c (region_with c a) ≤ a) × (a < base_of c (region_with c a) + m (Top (region_with c a)))
   piece_below a b is =
-      let some = some_words c (λ q. m (Top q)) (λ s. m (Current s)) r.block r.shared.parsable r.shared.owned.rooms a b is in
+      let some = some_words c (λ q. m (Top q)) r.block r.shared.parsable r.shared.owned.rooms a b is in
       let at = below_top c (λ q. m (Top q)) r.block r.shared.parsable.plotted a b is (omega (arith, some)) in
       (at.0, at.1, omega (arith, at.2, some))
 
@@ -122,7 +122,7 @@ module _ (c : Config) (m : Word → ℕ) (g : Graph) (asking : ℕ → Asking) (
             older = λ _ a refs nums name is. older_of a refs nums name (live_markable a refs nums name is) is;
             promises = λ _ a seat words is. absurd (live_unpromised c m g asking copies a seat words is);
             deads = λ _ a words is. was.deads on a words (live_dead c m g asking copies a words is);
-            young = λ _ a seat x is room. absurd (live_roomless c m g asking copies a seat x is room);
+            young = λ _ a seat x is room. was.young on a seat x (live_room c m g asking copies a seat x is room) room;
             floors = was.floors;
             tams_are = λ _. was.tams_are on;
             greys = λ _. marks_still (λ q. m (Grey q)) (was.greys on);

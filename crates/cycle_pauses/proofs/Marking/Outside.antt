@@ -4,6 +4,7 @@ use Rattle.std.specs.Prelude.{if◌then◌else◌}
 use Rattle.std.specs.Int.RustNames.{bit_or}
 use Rattle.std.proofs.lemmas.Bool.{cases_Bool, ltb-false, true≢false}
 use Rattle.heap_words.specs.declared.config.Config.{Config}
+use Rattle.heap_words.specs.Ranges.{seat_count}
 use Rattle.heap_words.specs.Words.{Word, Phase, Cset, Claim, Ask, Free, Top, Tams, Limit, Count, Grey, Black, is_word, bit_words}
 use Rattle.shen_graph.specs.Graph.{Graph}
 use Rattle.heap_graph.specs.Walk.{has}
@@ -11,10 +12,19 @@ use Rattle.heap_world.specs.World.{Plot}
 use Rattle.full_words.specs.Plot.{heap_end}
 use Rattle.full_words.specs.Full.{root_words}
 use Rattle.full_words.specs.Promised.{Promises}
+use Rattle.buffer_words.specs.Settled.{buffers_settled}
+use Rattle.buffer_words.specs.Edge.{edge}
+use Rattle.buffer_words.proofs.Edges.{edges_lie}
+use Rattle.buffer_words.proofs.Elsewhere.{settled_same}
+use Rattle.buffer_pauses.proofs.Inside.{buffers_inside}
 use Rattle.image_graph.specs.Holds.{HoldsBy}
+use Rattle.image_graph.specs.Buffers.{settled_block}
+use Rattle.image_graph.proofs.Loosening.Laws.{settling_holds}
 use Rattle.cycle_pauses.proofs.Full.Outside.{IsZeroOutside}
+use Rattle.cycle_pauses.proofs.Full.LettingGoFirst.{settled_outside}
+use Rattle.cycle_pauses.proofs.Full.Images.{no_seats}
 use Rattle.cycle_words.specs.Marking.Marks.{bits_of, mark_bits}
-use Rattle.cycle_words.specs.Marking.Init.{init_marked}
+use Rattle.cycle_words.specs.Marking.Init.{marking_begun, init_marked}
 use Rattle.cycle_words.specs.Marking.Close.{traced_in, closed}
 use Rattle.cycle_words.specs.Marking.Final.{freed, dead_in, final_marked}
 use Rattle.cycle_words.specs.Marking.WhileMarking.{IsMarking}
@@ -49,6 +59,10 @@ if_zero false x is = is
 or_zero : (x y : ℕ) → x ≡ 0 → y ≡ 0 → bit_or x y ≡ 0
 or_zero x y left right = ap (λ k. bit_or k y) left ∙ ap (bit_or 0) right
 
+-- an edge is no higher than the top
+pub edge_zero : (c : Config) (m : Word → ℕ) (q : ℕ) → m (Top q) ≡ 0 → edge c m q ≡ 0
+edge_zero c m q none = (let low = (edges_lie c m q).below_top in omega (arith, low, none))
+
 -- regions are freed
 pub freed_outside : (c : Config) (out : ℕ → Bool) (m : Word → ℕ) → IsZeroOutside c m → IsZeroOutside c (freed c out m)
 freed_outside c out m nothing (Top q) other = if_zero (out q) (m (Top q)) (nothing (Top q) other)
@@ -65,15 +79,15 @@ module _ (c : Config) (m : Word → ℕ) (block : Plot) (owner : ℕ → Option 
       let at = object_above c m block owner p g holds calm a object.refs object.nums object.name object.here in
       omega (arith, at.1)
 
-  pub init_outside : m Cset ≡ 0 → IsZeroOutside c (init_marked c m)
-  init_outside calm (Grey q) other = marks_outside c (has (root_words c m)) (root_within calm) q other
-  init_outside calm (Black q) other = refl
-  init_outside calm (Tams q) other = nothing (Top q) other
-  init_outside calm (Count t) other = refl
-  init_outside calm Claim other = refl
-  init_outside calm Ask other = refl
-  init_outside calm Phase other = absurd (true≢false other)
-  init_outside calm word other = nothing word other
+  begun_outside : m Cset ≡ 0 → IsZeroOutside c (marking_begun c m)
+  begun_outside calm (Grey q) other = marks_outside c (has (root_words c m)) (root_within calm) q other
+  begun_outside calm (Black q) other = refl
+  begun_outside calm (Tams q) other = edge_zero c m q (nothing (Top q) other)
+  begun_outside calm (Count t) other = refl
+  begun_outside calm Claim other = refl
+  begun_outside calm Ask other = refl
+  begun_outside calm Phase other = absurd (true≢false other)
+  begun_outside calm word other = nothing word other
 
   traced_within : IsMarking c m block → (a : ℕ) → c.region_words ≤ a → has (traced_in c m) a ≡ true → a < heap_end c
   traced_within marking a high is =
@@ -88,3 +102,9 @@ module _ (c : Config) (m : Word → ℕ) (block : Plot) (owner : ℕ → Option 
 
   pub final_outside : IsMarking c m block → IsZeroOutside c (final_marked c m)
   final_outside marking = freed_outside c (dead_in c m) (closed c m) (closed_outside marking)
+
+-- So it is where buffers are settled first.
+pub init_outside : (c : Config) (m : Word → ℕ) (block : Plot) (owner : ℕ → Option ℕ) (p : Promises) (g : Graph) → HoldsBy c m block owner p g → IsZeroOutside c m → m Cset ≡ 0 → IsZeroOutside c (init_marked c m)
+init_outside c m block owner p g holds nothing calm =
+    begun_outside c (buffers_settled c m) (settled_block c m block) owner p g (settling_holds c m (no_seats c m nothing) block owner p g holds).holds
+    (settled_outside c m nothing (buffers_inside c m block holds.objects.plotted holds.buffers)) (settled_same Cset (λ never. never) c m (seat_count c.mutators c.helpers) ∙ calm)

@@ -1,11 +1,16 @@
 -- Words that represent a graph while objects are marked, and what the pauses of marking leave.
-use Rattle.std.proofs.Common.{◌≡◌, ℕ, arith}
+use Rattle.std.proofs.Common.{◌≡◌, ℕ, ◌∙◌, arith}
 use Rattle.heap_words.specs.declared.config.Config.{Config}
 use Rattle.heap_words.specs.Words.{Word, Phase, Cset}
 use Rattle.shen_graph.specs.Graph.{Graph}
 use Rattle.heap_world.specs.World.{Plot}
 use Rattle.heap_world.specs.Asking.{Asking}
 use Rattle.heap_world.specs.Represents.{Represents}
+use Rattle.heap_words.specs.Ranges.{seat_count}
+use Rattle.buffer_words.specs.Settled.{buffers_settled}
+use Rattle.buffer_words.proofs.Settling.{settling_leaves}
+use Rattle.buffer_words.proofs.Elsewhere.{settled_same}
+use Rattle.buffer_pauses.proofs.Kept.{settling_keeps, edges_divide}
 use Rattle.full_words.specs.Promised.{Promises}
 use Rattle.cycle_pauses.proofs.Full.ByCopies.{by_copies}
 use Rattle.cycle_pauses.proofs.Full.Promises.{promises_of}
@@ -34,7 +39,10 @@ reachable_are_marked c m g asking r on =
     (block, r.ghost.owner, p, closed_holds c m block r.ghost.owner p g holds marking, closed_through c m block r.ghost.owner p g holds marking)
 
 pub beginning_represents : BeginningRepresents
-beginning_represents = begun
+beginning_represents c m g asking r rests nobody =
+    let settled = (settling_keeps c m g asking).represents r in
+    begun c (buffers_settled c m) g asking settled (settled_same Phase (λ never. never) c m (seat_count c.mutators c.helpers) ∙ rests)
+    (edges_divide c (buffers_settled c m) g asking (by_copies c (buffers_settled c m) g asking settled) (settling_leaves c m).last) nobody
 
 pub end_gives : EndGives
 end_gives c m g asking r on no_more = (plot c m g asking r on, ghost c m g asking r on, marked_out c m g asking r on no_more)

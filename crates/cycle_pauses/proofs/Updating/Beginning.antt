@@ -1,10 +1,10 @@
 -- The beginning of updating: the words represent the same graph. Nothing has its current copy in the collection set any more, and each
 -- field is still to be updated.
-use Rattle.std.proofs.Common.{◌≡◌, ℕ, ◌≤◌, true, false, Some, inl, inr, ⊎_elim, refl, arith}
+use Rattle.std.proofs.Common.{◌≡◌, ℕ, ◌≤◌, true, false, Some, inl, inr, ⊎_elim, refl, ap, ◌∙◌, arith}
 use Rattle.std.specs.Int.{bit_at}
 use Rattle.std.proofs.lemmas.Bool.{cond-true, cond-false, cases_Bool, ne_eqb}
 use Rattle.heap_words.specs.declared.config.Config.{Config}
-use Rattle.heap_words.specs.Words.{Word, Phase, Cset, Free, Evac, Claim, Top, Tams, Limit, Root, Count, Buffer, Grey, Black, Heap, Current}
+use Rattle.heap_words.specs.Words.{Word, Phase, Cset, Free, Evac, Claim, Top, Tams, Limit, Root, Count, Buffer, Grey, Black, Heap}
 use Rattle.regions.specs.Place.{region_with}
 use Rattle.regions.specs.Sets.{IsIn}
 use Rattle.heap_words.specs.Counter.{is_out_of_room}
@@ -16,15 +16,22 @@ use Rattle.heap_world.specs.Represents.{Represents}
 use Rattle.heap_world.proofs.Copies.{counted_none}
 use Rattle.heap_world.proofs.Unmarked.{none_marked_in}
 use Rattle.heap_world.proofs.Units.{none_is_left}
-use Rattle.heap_world.proofs.Roomless.{roomless}
-use Rattle.cycle_words.proofs.Marking.Plain.{below_top}
+use Rattle.heap_words.specs.Ranges.{seat_count}
+use Rattle.buffer_words.specs.Settled.{buffers_settled}
+use Rattle.buffer_words.specs.Edge.{edge}
+use Rattle.buffer_words.proofs.Settling.{settling_leaves}
+use Rattle.buffer_words.proofs.Elsewhere.{IsOfBuffers, settled_same}
+use Rattle.buffer_pauses.specs.Divided.{AreDivided}
+use Rattle.buffer_pauses.proofs.Kept.{settling_keeps, edges_divide}
+use Rattle.cycle_pauses.proofs.Full.ByCopies.{by_copies}
 use Rattle.cycle_pauses.proofs.Evacuation.Asked.{asked_stays}
-use Rattle.cycle_words.specs.Updating.Changes.{is_chosen, init_updated}
+use Rattle.cycle_words.specs.Updating.Changes.{is_chosen, updating_begun}
 use Rattle.cycle_pauses.specs.Updating.Laws.{UpdatingBegins}
 
-module _ (c : Config) (m : Word → ℕ) (g : Graph) (asking : ℕ → Asking) (r : Represents c m g asking) (on : m Phase ≡ 2) (room : is_out_of_room (m Evac) ≡ false) (claimed : c.regions ≤ m Claim) where
+module _ (c : Config) (m : Word → ℕ) (g : Graph) (asking : ℕ → Asking) (r : Represents c m g asking) (on : m Phase ≡ 2) (room : is_out_of_room (m Evac) ≡ false) (claimed : c.regions ≤ m Claim)
+    (divided : AreDivided c m r.block) where
   abbrev n : Word → ℕ
-  n = init_updated m
+  n = updating_begun c m
 
   -- the ghost state, without a snapshot
   abbrev bare : Ghost
@@ -34,29 +41,28 @@ module _ (c : Config) (m : Word → ℕ) (g : Graph) (asking : ℕ → Asking) (
   outside : (a refs nums : ℕ) (name : Name) → r.block a ≡ Some (thing name refs nums) → IsCollected c (m Cset) a → ⊥
   outside = none_is_left c (record { memory = m; block = r.block; ghost = r.ghost; graph = g }) r.shared on r.uncopying.works_none claimed room
 
-  -- the limit of a region outside of the set is its top
-  limit_spared : (q : ℕ) → (IsIn (m Cset) q → ⊥) → n (Limit q) ≡ m (Top q)
-  limit_spared q away = cond-false (is_chosen m q) 0 (m (Top q)) (ne_eqb (bit_at (m Cset) q) 1 away)
+  -- the limit of a region outside of the set is its edge
+  limit_spared : (q : ℕ) → (IsIn (m Cset) q → ⊥) → n (Limit q) ≡ edge c m q
+  limit_spared q away = cond-false (is_chosen m q) 0 (edge c m q) (ne_eqb (bit_at (m Cset) q) 1 away)
 
-  -- so objects lie below it
+  -- so objects lie below it, and room lies at or above it
   below_limit : (a refs nums : ℕ) (name : Name) → r.block a ≡ Some (thing name refs nums) → IsYoung c (λ q. n (Limit q)) a → ⊥
   below_limit a refs nums name is young =
-      let at = below_top c (λ q. m (Top q)) r.block r.shared.parsable.plotted a (thing name refs nums) is (omega arith) in
       let limit = limit_spared (region_with c a) (outside a refs nums name is) in
-      omega (arith, young, limit, at.2)
+      divided.others a (thing name refs nums) is refl (omega (arith, young, limit))
 
-  no_higher : (q : ℕ) → n (Limit q) ≤ m (Top q)
+  no_higher : (q : ℕ) → n (Limit q) ≤ edge c m q
   no_higher q = ⊎_elim
-      (λ (chosen : is_chosen m q ≡ true). (let none = cond-true (is_chosen m q) 0 (m (Top q)) chosen in omega (arith, none)))
-      (λ (spared : is_chosen m q ≡ false). (let same = cond-false (is_chosen m q) 0 (m (Top q)) spared in omega (arith, same)))
+      (λ (chosen : is_chosen m q ≡ true). (let none = cond-true (is_chosen m q) 0 (edge c m q) chosen in omega (arith, none)))
+      (λ (spared : is_chosen m q ≡ false). (let same = cond-false (is_chosen m q) 0 (edge c m q) spared in omega (arith, same)))
       (cases_Bool (is_chosen m q))
 
   are_updating : IsUpdating c (m Cset) 0 (λ q. m (Top q)) (λ q. n (Limit q)) (λ a. m (Heap a)) r.block r.ghost.scanning
   are_updating = record {
     outside = outside;
     renewed = λ a refs nums k name is below. inr (IsToUpdate.unclaimed (below_limit a refs nums name is) (omega arith));
-    young = λ a seat x is room. absurd (roomless c (λ q. m (Top q)) (λ s. m (Current s)) r.block r.shared.owned.rooms r.none a seat x is room);
-    limits = λ q inside. no_higher q;
+    young = λ a seat x is room. (let above = divided.rooms a seat x is room in let low = no_higher (region_with c a) in omega (arith, above, low));
+    limits = λ q inside. (let low = no_higher q in let edge_low = divided.tops q in omega (arith, low, edge_low));
   }
 
   -- copies stay copies, and what was kept is
@@ -104,6 +110,7 @@ module _ (c : Config) (m : Word → ℕ) (g : Graph) (asking : ℕ → Asking) (
     roots = r.roots;
     usable = λ t i inside few. usable_still (m (Root t i)) (r.usable t i inside few);
     none = r.none;
+    uncarved = r.uncarved;
     asked = λ t inside. asked_stays m n r.block r.block g.count t refl refl (λ a words k is below. refl) (λ a words is. is) (λ a words is. is) (asking t) (r.asked t inside);
     heard = r.heard;
     promised_to = r.promised_to;
@@ -113,4 +120,9 @@ module _ (c : Config) (m : Word → ℕ) (g : Graph) (asking : ℕ → Asking) (
   }
 
 pub updating_begins : UpdatingBegins
-updating_begins c m g asking r on room claimed = begun c m g asking r on room claimed
+updating_begins c m g asking r on room claimed =
+    let settled = (settling_keeps c m g asking).represents r in
+    let same : (word : Word) → (IsOfBuffers word → ⊥) → buffers_settled c m word ≡ m word = λ word other. settled_same word other c m (seat_count c.mutators c.helpers) in
+    let claims = same Claim (λ never. never) in
+    begun c (buffers_settled c m) g asking settled (same Phase (λ never. never) ∙ on) (ap is_out_of_room (same Evac (λ never. never)) ∙ room) (omega (arith, claimed, claims))
+    (edges_divide c (buffers_settled c m) g asking (by_copies c (buffers_settled c m) g asking settled) (settling_leaves c m).last)

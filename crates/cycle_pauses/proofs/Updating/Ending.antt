@@ -1,20 +1,23 @@
 -- The end of updating: nothing names an old copy any more, so the collection set is freed as it is, and the words represent the same
 -- graph.
-use Rattle.std.proofs.Common.{◌≡◌, ℕ, ◌+◌, ◌<◌, ◌≤◌, Bool, true, false, Option, Some, None, inl, inr, refl, sym, ap, ◌∙◌, subst, arith}
+use Rattle.std.proofs.Common.{◌≡◌, ◌≢◌, ℕ, ◌+◌, ◌-◌, ◌<◌, ◌≤◌, Bool, true, false, Option, Some, None, inl, inr, ⊎_elim, refl, sym, ap, ◌∙◌, subst, arith}
 use Rattle.heap_words.specs.declared.config.Config.{Config}
-use Rattle.heap_words.specs.Words.{Word, Phase, Cset, Free, Evac, Claim, Top, Tams, Current, Root, Count, Buffer, Grey, Black, Heap}
+use Rattle.heap_words.specs.Words.{Word, Phase, Cset, Free, Evac, Claim, Top, Tams, Current, Root, Count, Buffer, Grey, Black, Heap, Share}
+use Rattle.heap_words.specs.Encoding.{end_in}
 use Rattle.regions.specs.Place.{region_with}
+use Rattle.regions.specs.Sets.{IsIn}
 use Rattle.shen_graph.specs.declared.name.Name.{Name}
 use Rattle.shen_graph.specs.Graph.{Graph, Object, Reference}
-use Rattle.heap_world.specs.World.{Block, thing, moved, spent, hand, promised, words_of, HasNoRoom, Plot, Ghost, no_snapshot, Points, name_at, IsCollected, IsThing, AreObjects, IsCurrent, IsEvacuating, IsUsable}
+use Rattle.heap_world.specs.World.{Block, thing, moved, spent, hand, promised, carved, words_of, Plot, Ghost, no_snapshot, Points, name_at, IsCollected, IsThing, AreObjects, AreOwned, IsCurrent, IsEvacuating, IsUsable}
 use Rattle.heap_world.specs.Asking.{Asking}
 use Rattle.heap_world.specs.Represents.{Represents}
 use Rattle.heap_world.proofs.Pieces.{some_words}
-use Rattle.heap_world.proofs.Copies.{none_evacuated}
+use Rattle.heap_world.proofs.Copies.{none_is_in, none_in_0, none_evacuated}
 use Rattle.heap_world.proofs.Keeping.{usable_now}
 use Rattle.heap_world.proofs.Unmarked.{none_marked_in}
 use Rattle.heap_world.proofs.Units.{all_is_current}
-use Rattle.heap_world.proofs.Roomless.{roomless, rooms_none}
+use Rattle.buffer_pauses.proofs.Inside.{buffer_region_is}
+use Rattle.full_words.proofs.Buffers.{SameRoom, rooms_stay, buffers_stay}
 use Rattle.full_words.proofs.Reached.{none_at_0}
 use Rattle.cycle_words.specs.Marking.Final.{freed_block}
 use Rattle.cycle_pauses.proofs.Evacuation.Asked.{asked_stays}
@@ -55,7 +58,7 @@ module _ (c : Config) (m : Word → ℕ) (g : Graph) (asking : ℕ → Asking) (
   no_copier = r.shared.phased.evac_is (λ evacuates. omega (arith, on, evacuates))
 
   some : (a : ℕ) (b : Block) → r.block a ≡ Some b → 1 ≤ words_of b
-  some = some_words c (λ q. m (Top q)) (λ s. m (Current s)) r.block r.shared.parsable r.shared.owned.rooms
+  some = some_words c (λ q. m (Top q)) r.block r.shared.parsable r.shared.owned.rooms
 
   -- a piece that is left lies outside of the set, and those outside are left
   left : (a : ℕ) (b : Block) → plot a ≡ Some b → (out (region_with c a) ≡ false) × (r.block a ≡ Some b)
@@ -81,8 +84,39 @@ module _ (c : Config) (m : Word → ℕ) (g : Graph) (asking : ℕ → Asking) (
       let was = left a (spent words to) is in
       not_in_set m (region_with c a) was.0 (r.shared.evacuated.moved.spents a words to was.1).inside
 
-  no_room : HasNoRoom plot
-  no_room a seat x is room = roomless c (λ q. m (Top q)) (λ s. m (Current s)) r.block r.shared.owned.rooms r.none a seat x (left a x is).1 room
+  -- a region of the set was nobody's
+  set_nobodys : (q : ℕ) → out q ≡ true → r.ghost.owner q ≡ None
+  set_nobodys q gone = no_owner (r.ghost.owner q) (λ seat own. r.shared.evacuated.aside.nobodys q seat own (in_set m q gone))
+
+  -- room lies outside of the set, and so do buffers, and the region that is shared
+  same_room : SameRoom r.block plot
+  same_room = record {
+    stays = λ a seat x of is. stays a (r.shared.evacuated.aside.no_rooms a seat x is of) ∙ is;
+    came = λ a seat x of is. (left a x is).1;
+  }
+
+  top_at_buffer : (seat : ℕ) (some_buffer : m (Current seat) ≢ 0) → m (Top (r.shared.owned.buffers.each seat some_buffer).region) ≤ n (Top (r.shared.owned.buffers.each seat some_buffer).region)
+  top_at_buffer seat some_buffer =
+      let b = r.shared.owned.buffers.each seat some_buffer in
+      let is = buffer_region_is c (λ q. m (Top q)) r.block seat (m (Current seat)) b (r.shared.parsable.plotted.tops b.region b.within) in
+      let same = freed.top_stays c out m b.region (spared_if m b.region (λ member. r.shared.owned.outside seat some_buffer (subst (IsIn (m Cset)) (sym is) member))) in
+      omega (arith, same)
+
+  owned_again : AreOwned c (λ q. n (Top q)) (m Share) (n Free) 0 (λ s. m (Current s)) plot r.ghost.owner
+  owned_again = record {
+    free_word = freed.free_again c out m r.block r.shared.parsable.plotted some r.ghost.owner r.ghost.owner r.shared.owned.free_word set_nobodys (λ q none. none);
+    shared_one = λ q is.
+        let was = r.shared.owned.shared_one q is in
+        record {
+          within = was.within;
+          in_use = λ free. ⊎_elim was.in_use (λ (gone : out q ≡ true). was.outside (in_set m q gone)) (freed.free_was c out m q was.within free);
+          nobodys = was.nobodys;
+          outside = none_is_in q;
+        };
+    rooms = rooms_stay c r.block plot same_room r.shared.owned.rooms;
+    buffers = buffers_stay c (λ q. m (Top q)) (λ q. n (Top q)) (λ s. m (Current s)) r.block plot same_room r.shared.owned.buffers top_at_buffer;
+    outside = λ seat some_buffer. none_in_0 c (end_in (m (Current seat)) - 1);
+  }
 
   -- a current word stands for what it stood for
   points_still : (word : ℕ) (reference : Reference) → IsCurrent r.block word → Points r.block word reference → Points plot word reference
@@ -115,10 +149,6 @@ module _ (c : Config) (m : Word → ℕ) (g : Graph) (asking : ℕ → Asking) (
   roots_again t i inside few =
       points_still (m (Root t i)) (g.root (t + 1) i) (usable_current c (m Cset) (m Evac) r.block (m (Root t i)) (r.usable t i inside few)) (r.roots t i inside few)
 
-  -- a region of the set was nobody's
-  set_nobodys : (q : ℕ) → out q ≡ true → r.ghost.owner q ≡ None
-  set_nobodys q gone = no_owner (r.ghost.owner q) (λ seat own. r.shared.evacuated.aside.nobodys q seat own (in_set m q gone))
-
   evacuated_no_more : IsEvacuating c 0 0 (m Evac) 0 (n Free) (λ q. n (Top q)) (λ q. n (Tams q)) heap (λ q. m (Black q)) plot r.ghost.owner r.ghost.copying r.ghost.working
   evacuated_no_more =
       subst (λ evac. IsEvacuating c 0 0 evac 0 (n Free) (λ q. n (Top q)) (λ q. n (Tams q)) heap (λ q. m (Black q)) plot r.ghost.owner r.ghost.copying r.ghost.working) (sym no_copier)
@@ -132,11 +162,7 @@ module _ (c : Config) (m : Word → ℕ) (g : Graph) (asking : ℕ → Asking) (
     shared = record {
       parsable = freed.parsable_again c out m r.block r.shared.parsable.plotted some r.shared.parsable;
       contents = record { objects = objects_again; given = r.shared.contents.given };
-      owned = record {
-        free_word = freed.free_again c out m r.block r.shared.parsable.plotted some r.ghost.owner r.ghost.owner r.shared.owned.free_word set_nobodys (λ q none. none);
-        currents = r.shared.owned.currents;
-        rooms = rooms_none c _ _ plot no_room;
-      };
+      owned = owned_again;
       phased = record { phase_is = omega arith; cset_is = λ low. refl; evac_is = λ other. no_copier };
       unwritten = freed.unwritten_again c out m r.block r.shared.parsable.plotted some r.shared.unwritten;
       marked = none_marked_in c 0 (λ q. m (Grey q)) (λ q. m (Black q)) (λ t. m (Count t)) (λ t k. m (Buffer t k)) (λ q. n (Top q)) (λ q. n (Tams q)) heap plot r.ghost.recording r.ghost.scanning
@@ -146,7 +172,8 @@ module _ (c : Config) (m : Word → ℕ) (g : Graph) (asking : ℕ → Asking) (
     };
     roots = roots_again;
     usable = λ t i inside few. usable_now c (m Evac) plot no_moved (m (Root t i)) (g.root (t + 1) i) (roots_again t i inside few);
-    none = λ a seat words is. no_room a seat (hand seat words) is refl;
+    none = λ a seat words is. r.none a seat words (left a (hand seat words) is).1;
+    uncarved = λ a seat words is. r.uncarved a seat words (left a (carved seat words) is).1;
     asked = λ t inside.
         asked_stays m n r.block plot g.count t refl refl (λ a words k is below. refl) (λ a words is. promised_stays a t words is) (λ a words is. (left a (promised t words) is).1) (asking t) (r.asked t inside);
     heard = r.heard;

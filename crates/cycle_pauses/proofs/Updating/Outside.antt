@@ -3,17 +3,24 @@ use Rattle.std.proofs.Common.{ℕ, refl}
 use Rattle.std.proofs.lemmas.Bool.{true≢false}
 use Rattle.heap_words.specs.declared.config.Config.{Config}
 use Rattle.heap_words.specs.Words.{Word, Phase, Cset, Evac, Claim, Top, Limit}
+use Rattle.buffer_words.specs.Buffers.{AreInside}
+use Rattle.buffer_words.specs.Settled.{buffers_settled}
+use Rattle.buffer_words.specs.Edge.{edge}
 use Rattle.cycle_pauses.proofs.Full.Outside.{IsZeroOutside}
+use Rattle.cycle_pauses.proofs.Full.LettingGoFirst.{settled_outside}
 use Rattle.cycle_words.specs.Marking.Final.{freed}
-use Rattle.cycle_pauses.proofs.Marking.Outside.{if_zero, freed_outside}
-use Rattle.cycle_words.specs.Updating.Changes.{is_chosen, init_updated, cycle_ended, final_updated}
+use Rattle.cycle_pauses.proofs.Marking.Outside.{if_zero, edge_zero, freed_outside}
+use Rattle.cycle_words.specs.Updating.Changes.{is_chosen, updating_begun, init_updated, cycle_ended, final_updated}
 
-pub init_outside : (c : Config) (m : Word → ℕ) → IsZeroOutside c m → IsZeroOutside c (init_updated m)
-init_outside c m nothing (Limit q) other = if_zero (is_chosen m q) (m (Top q)) (nothing (Top q) other)
-init_outside c m nothing Phase other = absurd (true≢false other)
-init_outside c m nothing Evac other = refl
-init_outside c m nothing Claim other = refl
-init_outside c m nothing word other = nothing word other
+begun_outside : (c : Config) (m : Word → ℕ) → IsZeroOutside c m → IsZeroOutside c (updating_begun c m)
+begun_outside c m nothing (Limit q) other = if_zero (is_chosen m q) (edge c m q) (edge_zero c m q (nothing (Top q) other))
+begun_outside c m nothing Phase other = absurd (true≢false other)
+begun_outside c m nothing Evac other = refl
+begun_outside c m nothing Claim other = refl
+begun_outside c m nothing word other = nothing word other
+
+pub init_outside : (c : Config) (m : Word → ℕ) → AreInside c m → IsZeroOutside c m → IsZeroOutside c (init_updated c m)
+init_outside c m inside nothing = begun_outside c (buffers_settled c m) (settled_outside c m nothing inside)
 
 ended_outside : (c : Config) (m : Word → ℕ) → IsZeroOutside c m → IsZeroOutside c (cycle_ended m)
 ended_outside c m nothing Phase other = refl

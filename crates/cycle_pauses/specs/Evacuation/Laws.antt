@@ -8,7 +8,7 @@ use Rattle.heap_world.specs.World.{Plot, Ghost}
 use Rattle.heap_world.specs.Asking.{Asking}
 use Rattle.heap_world.specs.Represents.{Represents}
 use Rattle.heap_world.specs.Change.{IsPaused}
-use Rattle.cycle_words.specs.Marking.Laws.{HasNoMoreSeats}
+use Rattle.image_graph.specs.Buffers.{HasNoMoreSeats}
 use Rattle.cycle_words.specs.Evacuation.Choice.{chosen}
 use Rattle.cycle_words.specs.Evacuation.Begun.{CanBegin, evac_begun}
 use Rattle.cycle_pauses.specs.Marking.MarkedOut.{IsMarkedOut}

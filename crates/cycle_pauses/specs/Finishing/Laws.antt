@@ -7,8 +7,10 @@ use Rattle.shen_graph.specs.Graph.{Graph}
 use Rattle.heap_world.specs.Asking.{Asking, asks, given}
 use Rattle.heap_world.specs.Represents.{Represents}
 use Rattle.heap_world.specs.Change.{IsPaused}
+use Rattle.buffer_words.specs.LetGo.{let_go}
 use Rattle.full_words.specs.Full.{full}
 use Rattle.image_graph.specs.Holds.{Holds}
+use Rattle.image_graph.specs.Buffers.{HasNoMoreSeats}
 use Rattle.cycle_pauses.specs.Updating.Freed.{IsFreed}
 use Rattle.cycle_words.specs.Finishing.Copies.{is_room_for_all}
 use Rattle.cycle_words.specs.Finishing.Finish.{cycle_finished, finished, is_whole, CanFinish}
@@ -20,7 +22,7 @@ pub record IsWholePause (c : Config) (before after : Word → ℕ) (g : Graph) (
 
 -- Where each object that was left found room, and each request, finishing the cycle is such a pause, in whatever phase.
 abbrev pub WholeIsPause : Type 0
-WholeIsPause = (c : Config) (memory : Word → ℕ) (g : Graph) (asking : ℕ → Asking) → Represents c memory g asking → is_whole c memory ≡ true
+WholeIsPause = (c : Config) (memory : Word → ℕ) (g : Graph) (asking : ℕ → Asking) → Represents c memory g asking → HasNoMoreSeats c memory → is_whole c memory ≡ true
     → IsWholePause c memory (finished c memory) g asking
 
 -- Else a full collection of the words that it leaves does what the pause owes: they hold the same graph still.
@@ -29,14 +31,14 @@ pub record ShortHolds (c : Config) (memory : Word → ℕ) (g : Graph) (asking :
   pub paused : IsPaused c memory (full c (finished c memory)) g asking
 
 abbrev pub ShortIsPause : Type 0
-ShortIsPause = (c : Config) (memory : Word → ℕ) (g : Graph) (asking : ℕ → Asking) → Represents c memory g asking → is_whole c memory ≡ false
+ShortIsPause = (c : Config) (memory : Word → ℕ) (g : Graph) (asking : ℕ → Asking) → Represents c memory g asking → HasNoMoreSeats c memory → is_whole c memory ≡ false
     → ShortHolds c memory g asking
 
--- Before requests are served each region of the collection set is free, where each object that was left found room.
+-- Before requests are served, and once buffers were let go, each region of the collection set is free, where each object that was left found room.
 abbrev pub SetIsFree : Type 0
-SetIsFree = (c : Config) (memory : Word → ℕ) (g : Graph) (asking : ℕ → Asking) → Represents c memory g asking → is_room_for_all c memory ≡ true
-    → (r : ℕ) → r < c.regions → IsIn (memory Cset) r → IsFreed (cycle_finished c memory) r
+SetIsFree = (c : Config) (memory : Word → ℕ) (g : Graph) (asking : ℕ → Asking) → Represents c memory g asking → is_room_for_all c (let_go c memory) ≡ true
+    → (r : ℕ) → r < c.regions → IsIn (memory Cset) r → IsFreed (cycle_finished c (let_go c memory)) r
 
 -- Words that represent a graph are such that a cycle can be finished.
 abbrev pub RepresentingCanFinish : Type 0
-RepresentingCanFinish = (c : Config) (memory : Word → ℕ) (g : Graph) (asking : ℕ → Asking) → Represents c memory g asking → CanFinish c memory
+RepresentingCanFinish = (c : Config) (memory : Word → ℕ) (g : Graph) (asking : ℕ → Asking) → Represents c memory g asking → HasNoMoreSeats c memory → CanFinish c memory

@@ -11,7 +11,7 @@ use Rattle.image_graph.specs.Holds.{HoldsBy}
 use Rattle.cycle_words.specs.Marking.Init.{init_marked}
 use Rattle.cycle_words.specs.Marking.Close.{closed}
 use Rattle.cycle_words.specs.Marking.Final.{final_marked}
-use Rattle.cycle_words.specs.Marking.Laws.{HasNoMoreSeats}
+use Rattle.image_graph.specs.Buffers.{HasNoMoreSeats}
 use Rattle.cycle_words.specs.Marking.WhileMarking.{IsMarking, IsMarkedThrough}
 use Rattle.cycle_pauses.specs.Marking.MarkedOut.{IsMarkedOut}
 

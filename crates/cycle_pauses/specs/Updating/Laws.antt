@@ -14,7 +14,7 @@ use Rattle.cycle_pauses.specs.Updating.Freed.{IsFreed, IsSpared}
 -- references begins, with what mutators have asked for.
 abbrev pub UpdatingBegins : Type 0
 UpdatingBegins = (c : Config) (memory : Word → ℕ) (g : Graph) (asking : ℕ → Asking) → Represents c memory g asking → memory Phase ≡ 2 → is_out_of_room (memory Evac) ≡ false
-    → c.regions ≤ memory Claim → Represents c (init_updated memory) g asking
+    → c.regions ≤ memory Claim → Represents c (init_updated c memory) g asking
 
 -- Once all regions are claimed in phase 3 they stand for it where the updating ends.
 abbrev pub UpdatingEnds : Type 0

@@ -6,7 +6,7 @@ use Rattle.std.proofs.lemmas.List.{set-get_or}
 use Rattle.heap_words.specs.declared.config.Config.{Config}
 use Rattle.heap_words.specs.Access.{table_index}
 use Rattle.heap_words.specs.declared.access.Access.{Access}
-use Rattle.heap_words.specs.Words.{Word, Answer, Heap, is_word, is_image, image_start, view}
+use Rattle.heap_words.specs.Words.{Word, Answer, Top, Heap, is_word, is_image, image_start, view}
 use Rattle.heap_words.proofs.Stores.{is_word_from}
 use Rattle.steps_base.specs.Steps.{Stage, Event, IsEvent, accessed, moved, act_of, act, go}
 use Rattle.steps_base.specs.Touch.{Touch, placed, touched}
@@ -21,7 +21,7 @@ use Rattle.mutator.specs.Rows.{Mutating, touch_at, touch_of}
 use Rattle.helper.specs.Rows.{Helping, help_touch}
 use Rattle.heap_world.specs.World.{World}
 use Rattle.heap_world.specs.Change.{Change, image_words}
-use Rattle.move_steps.proofs.Evacuation.Walks.{three_words}
+use Rattle.heap_world.proofs.Pieces.{some_words}
 use Rattle.unit_part.proofs.Inside.{unit_inside}
 use Rattle.control_rows.specs.declared.spot.ControlSpot.{ControlSpot}
 use Rattle.control_rows.specs.declared.spot.ControlSpot.TheVariants as control
@@ -197,7 +197,7 @@ module _ (change : Change) (c : Config) (g : Graph) (s : Stage Actor) (h : List 
       control_counts control.LookAsked here not = plain_counts control.LookAsked here refl refl refl not
       control_counts control.LookFree here not = plain_counts control.LookFree here refl refl refl not
       control_counts (control.Working at) here not =
-          plain_counts (control.Working at) here refl refl (is_word_from c _ (unit_inside c (control_seat c) at (and_parts _ _ (known (control.Working at) here).ready).0)) not
+          plain_counts (control.Working at) here refl refl (is_word_from c _ (unit_inside c (control_seat c) at (omega arith) (and_parts _ _ (known (control.Working at) here).ready).0)) not
       control_counts (control.Stopping at) here not = plain_counts (control.Stopping at) here refl refl (and_parts _ _ (and_parts _ _ (known (control.Stopping at) here).ready).0).0 not
       control_counts (control.LoadWord index) here not = load_counts index here not
       control_counts (control.StoreWord index) here not = store_counts index here
@@ -260,7 +260,7 @@ module _ (change : Change) (c : Config) (g : Graph) (s : Stage Actor) (h : List 
       headers = λ a y is no_room. ⊎_elim
           (λ same. inl same)
           (λ made. inr (forwards a plan made))
-          (header_stays c world_now goes.follows.shared e.number t (WorkIn e.order x.machine) a y is (let long = three_words c world_now goes.follows.shared a y is in omega (arith, long)) writes no_room);
+          (header_stays c world_now goes.follows.shared e.number t (WorkIn e.order x.machine) a y is (some_words c (λ r. world_now.memory (Top r)) world_now.block goes.follows.shared.parsable goes.follows.shared.owned.rooms a y is) writes no_room);
       words = λ a k y is alone behind below. words_stay c world_now goes.follows.shared e.number t (WorkIn e.order x.machine) a k y is below writes alone behind;
     }
 

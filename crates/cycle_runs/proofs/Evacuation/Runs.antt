@@ -88,7 +88,7 @@ module _ (c : Config) (g : Graph) (s : Stage Actor) (h : List Entry) (goes : Goe
 
   control_named : (order : Order) (seen phase cset : ℕ) (image : List ℕ) (spot : ControlSpot) → is_ready c spot ≡ true → stored_image spot image ≡ None
       → IsNamed order (controlling (record { spot = spot; seen = seen; phase = phase; cset = cset; image = image }))
-  control_named order seen phase cset image (Working at) ready out = inl (refl, unit_inside c (control_seat c) at (and_parts _ _ ready).0)
+  control_named order seen phase cset image (Working at) ready out = inl (refl, unit_inside c (control_seat c) at (omega arith) (and_parts _ _ ready).0)
   control_named order seen phase cset image (Stopping at) ready out = inl (refl, is_word_true c (stop_touch at).word (and_parts _ _ (and_parts _ _ ready).0).0)
   control_named order seen phase cset image (LoadWord index) ready out = inr (image_start c + index, refl)
   control_named order seen phase cset image (StoreWord index) ready out = absurd (cc (out))

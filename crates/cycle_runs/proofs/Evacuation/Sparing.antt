@@ -1,7 +1,7 @@
 -- What the access of a machine does to the word of the copiers and to the words of pieces, once it is known what it writes.
 use Rattle.std.proofs.Common.{◌≡◌, ◌≢◌, ℕ, ◌⊎◌, inl, inr, ⊎_elim, ◌+◌, ◌<◌, ◌≤◌, true, false, Option, Some, None, refl, sym, ap, ◌∙◌, subst, arith}
 use Rattle.std.specs.Prelude.{◌==◌, if◌then◌else◌}
-use Rattle.std.proofs.lemmas.Option.{same_Some}
+use Rattle.std.proofs.lemmas.Option.{same_Some, none-some}
 use Rattle.std.proofs.lemmas.Bool.{cases_Bool, cond-true, cond-false, false≢true, ne_eqb, eq-eqb}
 use Rattle.heap_words.specs.declared.config.Config.{Config}
 use Rattle.heap_words.specs.declared.access.Access.{Access}
@@ -12,7 +12,7 @@ use Rattle.heap_words.proofs.Stores.{same_word_true}
 use Rattle.steps_base.specs.Touch.{Touch, loads, exchanges, formed, access_at, placed, touched}
 use Rattle.shen_graph.specs.declared.name.Name.{Name}
 use Rattle.load_barrier.proofs.Knows.{header_forwarded}
-use Rattle.heap_world.specs.World.{World, Block, thing, moved, spent, hand, promised, dead, filler, spare, carved, words_of, Body, body_at, IsCollected, TargetIn, Shared}
+use Rattle.heap_world.specs.World.{World, Block, thing, moved, spent, hand, promised, dead, filler, spare, carved, words_of, room_of, Body, body_at, IsCollected, TargetIn, Shared}
 use Rattle.heap_world.proofs.Apart.{one_piece}
 use Rattle.heap_world.proofs.Pointing.{copy_cases, body_piece}
 use Rattle.cycle_runs.specs.Evacuation.Runs.{IsPublishing}
@@ -32,10 +32,18 @@ body_no_room (Some (spare seat words)) b is x there = cc
 body_no_room (Some (carved seat words)) b is x there = cc
 body_no_room None b is x there = cc
 
+-- and room is room
+room_is_room : (seat : ℕ) (x : Block) → room_of x ≡ Some seat → IsNoRoom x → ⊥
+room_is_room seat (hand of words) room no_room = no_room
+room_is_room seat (spare of words) room no_room = no_room
+room_is_room seat (carved of words) room no_room = no_room
+room_is_room seat _ room no_room = none-some seat room
+
 -- an exchange that publishes a copy, as an access of the table
 unfoldable pub publishing : (c : Config) (w : World) (seat a : ℕ) (b : Body) (t : Touch) (access : Access) → access ≡ placed c t → IsPublication c w seat a b t → IsPublishing c w seat a b access
 publishing c w seat a b t access plan published = record {
   copy = published.copy;
+  end = published.end;
   is = plan ∙ ap (λ f. access_at (word_at c t.word) f) published.form ∙ ap (λ v. access_at (word_at c v) (exchanges plain_header (header_word published.copy))) published.word;
   copied = published.copied;
   plain = published.plain;
@@ -69,7 +77,7 @@ module _ (c : Config) (w : World) (shared : Shared c w) (seat : ℕ) (t : Touch)
   quiet_stays (Writes.only_loads form) quiet = subst IsQuiet (sym (touched_loads w.memory t Evac form)) quiet
   quiet_stays (Writes.elsewhere other) quiet = subst IsQuiet (sym (touched_else w.memory t Evac (λ is. false≢true (sym other ∙ ap is_watched is)))) quiet
   quiet_stays (Writes.counts word stays) quiet = stays quiet
-  quiet_stays (Writes.fills a words k room within word) quiet = subst IsQuiet (sym (touched_else w.memory t Evac (λ is. let both = sym word ∙ is in cc))) quiet
+  quiet_stays (Writes.fills a k y there room within word) quiet = subst IsQuiet (sym (touched_else w.memory t Evac (λ is. let both = sym word ∙ is in cc))) quiet
   quiet_stays (Writes.publishes a b published) quiet = subst IsQuiet (sym (touched_else w.memory t Evac (λ is. let both = sym published.word ∙ is in cc))) quiet
   quiet_stays (Writes.works a k refs nums name target from within word writes) quiet = subst IsQuiet (sym (touched_else w.memory t Evac (λ is. let both = sym word ∙ is in cc))) quiet
   quiet_stays (Writes.renews a k refs nums name is out from within word) quiet = subst IsQuiet (sym (touched_else w.memory t Evac (λ same. let both = sym word ∙ same in cc))) quiet
@@ -91,9 +99,9 @@ module _ (c : Config) (w : World) (shared : Shared c w) (seat : ℕ) (t : Touch)
     hits (Writes.only_loads form) no_room word = Hits.loads_it form
     hits (Writes.elsewhere other) no_room word = absurd (false≢true (sym other ∙ ap is_watched word))
     hits (Writes.counts evac stays) no_room word = absurd (let both = sym evac ∙ word in cc)
-    hits (Writes.fills a words j room within of) no_room word =
-        let same = one_here a j (hand seat words) room within (one_address (a + j) (d + k) (sym of ∙ word)) in
-        absurd (subst IsNoRoom (same_piece a (hand seat words) room same) no_room)
+    hits (Writes.fills a j y there room within of) no_room word =
+        let same = one_here a j y there within (one_address (a + j) (d + k) (sym of ∙ word)) in
+        absurd (room_is_room seat x (ap room_of (same_piece a y there same) ∙ room) no_room)
     hits (Writes.publishes a b published) no_room word =
         let piece = body_piece (w.block a) b published.there in
         let long = piece.2 in

@@ -1,7 +1,7 @@
 -- What the accesses of machines write into the words of the heap and the word of the copiers, by where they stand.
 use Rattle.std.proofs.Common.{◌≡◌, ℕ, inl, inr, ◌+◌, ◌<◌, ◌≤◌, Bool, true, false, List, Some, Option, refl, sym, ap, ◌∙◌, subst, arith}
 use Rattle.heap_words.specs.declared.config.Config.{Config}
-use Rattle.heap_words.specs.Encoding.{plain_header, header_word, refs_in}
+use Rattle.heap_words.specs.Encoding.{plain_header, header_word, refs_in, next_in}
 use Rattle.heap_words.specs.Words.{Word, Cset, Evac, Heap}
 use Rattle.heap_words.proofs.Shapes.{refs_in-shape_word}
 use Rattle.steps_base.specs.Touch.{Touch, loads, exchanges, touched}
@@ -34,7 +34,8 @@ use Rattle.load_barrier.specs.Rows as resolves
 use Rattle.load_barrier.specs.declared.evac_spot.EvacSpot.{EvacSpot}
 use Rattle.load_barrier.specs.declared.evac_spot.EvacSpot.TheVariants as evac
 use Rattle.load_barrier.specs.UnitRows as evacs
-use Rattle.heap_world.specs.World.{World, thing, hand, Body, body_at, body_words, IsCollected, TargetIn, Shared}
+use Rattle.alloc_buffers.specs.Facts.{TakeFacts}
+use Rattle.heap_world.specs.World.{World, Block, thing, hand, spare, words_of, room_of, Body, body_at, body_words, IsCollected, TargetIn, Shared}
 use Rattle.move_steps.specs.Resolving.Facts.{IsCopied, CanResolve}
 use Rattle.move_steps.proofs.Resolving.Parts.{resolving_steps}
 use Rattle.move_steps.specs.Evacuation.Facts.{CanEvacuate}
@@ -84,22 +85,23 @@ is_watched _ = false
 -- the exchange on the header at an address that publishes a copy of the object there, by a machine of a seat that copies it
 pub record IsPublication (c : Config) (w : World) (seat a : ℕ) (b : Body) (t : Touch) : Type 0 where
   pub copy : ℕ
+  pub end : ℕ
   pub word : t.word ≡ Heap a
   pub form : t.form ≡ exchanges plain_header (header_word copy)
   pub inside : IsCollected c (w.memory Cset) a
   pub copies : w.ghost.copying seat ≡ true
   pub there : body_at (w.block a) ≡ Some b
-  pub copied : IsCopied w seat a copy b (body_words b)
+  pub copied : IsCopied c w seat a copy end b (body_words b)
   pub plain : w.memory (Heap copy) ≡ plain_header
 
 -- What an access of the machine of a seat does to those words. It loads one; it is of another word; it moves the word of the copiers, which
--- stays quiet; it fills room of its own; it publishes a copy; it writes a field or a number of an object that may be used, where it may
+-- stays quiet; it writes a word of room of its own; it publishes a copy; it writes a field or a number of an object that may be used, where it may
 -- work so; or it renews a field of an object outside the collection set.
 pub data Writes (c : Config) (w : World) (seat : ℕ) (t : Touch) (Work : Type 0) : Type 0 where
   only_loads : t.form ≡ loads → Writes c w seat t Work
   elsewhere : is_watched t.word ≡ false → Writes c w seat t Work
   counts : t.word ≡ Evac → (IsQuiet (w.memory Evac) → IsQuiet (touched w.memory t Evac)) → Writes c w seat t Work
-  fills : (a words k : ℕ) → w.block a ≡ Some (hand seat words) → k < words → t.word ≡ Heap (a + k) → Writes c w seat t Work
+  fills : (a k : ℕ) (x : Block) → w.block a ≡ Some x → room_of x ≡ Some seat → k < words_of x → t.word ≡ Heap (a + k) → Writes c w seat t Work
   publishes : (a : ℕ) (b : Body) → IsPublication c w seat a b t → Writes c w seat t Work
   works : (a k refs nums : ℕ) (name : Name) → TargetIn c w a refs nums name → 3 ≤ k → k < 3 + refs + nums → t.word ≡ Heap (a + k) → Work → Writes c w seat t Work
   renews : (a k refs nums : ℕ) (name : Name) → w.block a ≡ Some (thing name refs nums) → (IsCollected c (w.memory Cset) a → ⊥) → 3 ≤ k → k < 3 + refs + nums → t.word ≡ Heap (a + k)
@@ -118,14 +120,19 @@ WorkIn order _ = ⊥
 
 module _ (c : Config) (w : World) (shared : Shared c w) where
   -- of who takes room
-  take_writes : (seat words : ℕ) (at : TakeSpot) (Work : Type 0) → Writes c w seat (takes.touch_at seat words at) Work
-  take_writes seat words take.LoadCurrent Work = Writes.elsewhere refl
-  take_writes seat words (take.LoadTop region) Work = Writes.elsewhere refl
-  take_writes seat words take.LoadFree Work = Writes.elsewhere refl
-  take_writes seat words (take.TakeRegion region) Work = Writes.elsewhere refl
-  take_writes seat words (take.StoreCurrent region) Work = Writes.elsewhere refl
-  take_writes seat words (take.StoreTop region top) Work = Writes.elsewhere refl
-  take_writes seat words (take.Ended taken) Work = Writes.elsewhere refl
+  take_writes : (seat words : ℕ) (at : TakeSpot) (Work : Type 0) → TakeFacts c w seat words at → Writes c w seat (takes.touch_at seat words at) Work
+  take_writes seat words take.LoadBuffer Work facts = Writes.elsewhere refl
+  take_writes seat words (take.LoadShared buffer) Work facts = Writes.elsewhere refl
+  take_writes seat words (take.LoadTop buffer region) Work facts = Writes.elsewhere refl
+  take_writes seat words (take.Carve buffer region top room) Work facts = Writes.elsewhere refl
+  take_writes seat words (take.LoadFree buffer shared_word) Work facts = Writes.elsewhere refl
+  take_writes seat words (take.TakeRegion buffer shared_word region) Work facts = Writes.elsewhere refl
+  take_writes seat words (take.ShareRegion buffer shared_word region) Work facts = Writes.elsewhere refl
+  take_writes seat words (take.GiveBack buffer region) Work facts = Writes.elsewhere refl
+  take_writes seat words (take.Fill buffer address room) Work facts =
+      Writes.fills (next_in buffer) 0 (spare seat (takes.free_words buffer)) facts.left refl (let some = facts.some in omega (arith, some)) (ap Heap (omega arith))
+  take_writes seat words (take.StoreBuffer address room) Work facts = Writes.elsewhere refl
+  take_writes seat words (take.Ended taken end) Work facts = Writes.elsewhere refl
 
   -- a step of a resolving leaves the word of the copiers quiet
   quiet_then : (seat a : ℕ) (at : ResolveSpot) → resolves.is_resolved at ≡ false → CanResolve c w seat a at → IsQuiet (w.memory Evac) → IsQuiet (touched w.memory (resolves.touch_at c seat a at) Evac)
@@ -134,13 +141,14 @@ module _ (c : Config) (w : World) (shared : Shared c w) where
       subst (λ (memory : Word → ℕ). IsQuiet (memory Evac)) step.memory (step.keeps.copies.quiet quiet)
 
   -- of who copies
-  copy_writes : (seat a copy : ℕ) (at : CopySpot) (Work : Type 0) → CanResolve c w seat a (Copying copy at) → Writes c w seat (resolves.copy_touch c a copy at) Work
-  copy_writes seat a copy (LoadWord words index) Work can = Writes.only_loads refl
-  copy_writes seat a copy (StoreWord words index found) Work can =
-      let less = can.facts.2.2 in let long = can.facts.2.0 in Writes.fills copy (body_words can.facts.0) index can.facts.2.3.room (omega (arith, less, long)) refl
-  copy_writes seat a copy StoreHeader Work can = Writes.fills copy (body_words can.facts.0) 0 can.facts.2.room (omega arith) (ap Heap (omega arith))
-  copy_writes seat a copy Publish Work can = Writes.publishes a can.facts.0 (record {
+  copy_writes : (seat a copy end : ℕ) (at : CopySpot) (Work : Type 0) → CanResolve c w seat a (Copying copy end at) → Writes c w seat (resolves.copy_touch seat a copy end at) Work
+  copy_writes seat a copy end (LoadWord words index) Work can = Writes.only_loads refl
+  copy_writes seat a copy end (StoreWord words index found) Work can =
+      let less = can.facts.2.2 in let long = can.facts.2.0 in Writes.fills copy index (hand seat (body_words can.facts.0)) can.facts.2.3.taken.here refl (omega (arith, less, long)) refl
+  copy_writes seat a copy end StoreHeader Work can = Writes.fills copy 0 (hand seat (body_words can.facts.0)) can.facts.2.taken.here refl (omega arith) (ap Heap (omega arith))
+  copy_writes seat a copy end Publish Work can = Writes.publishes a can.facts.0 (record {
     copy = copy;
+    end = end;
     word = refl;
     form = refl;
     inside = can.inside;
@@ -149,15 +157,15 @@ module _ (c : Config) (w : World) (shared : Shared c w) where
     copied = can.facts.2.0;
     plain = can.facts.2.1;
   })
-  copy_writes seat a copy (GiveBack answer) Work can = Writes.elsewhere refl
+  copy_writes seat a copy end (GiveBack answer) Work can = Writes.elsewhere refl
 
   -- of who resolves an address, also while references are updated
   resolve_writes : (seat a : ℕ) (at : ResolveSpot) (Work : Type 0) → CanResolve c w seat a at → Writes c w seat (resolves.touch_at c seat a at) Work
   resolve_writes seat a LoadHeader Work can = Writes.only_loads refl
   resolve_writes seat a (Entering at) Work can = Writes.counts refl (quiet_then seat a (Entering at) refl can)
   resolve_writes seat a LoadShape Work can = Writes.only_loads refl
-  resolve_writes seat a (Taking words at) Work can = take_writes seat words at Work
-  resolve_writes seat a (Copying copy at) Work can = copy_writes seat a copy at Work can
+  resolve_writes seat a (Taking words at) Work can = take_writes seat words at Work can.facts.2.1.facts
+  resolve_writes seat a (Copying copy end at) Work can = copy_writes seat a copy end at Work can
   resolve_writes seat a (Leaving answer) Work can = Writes.counts refl (quiet_then seat a (Leaving answer) refl can)
   resolve_writes seat a (Stopping at) Work can = Writes.counts refl (quiet_then seat a (Stopping at) refl can)
   resolve_writes seat a LoadAgain Work can = Writes.only_loads refl
@@ -277,8 +285,8 @@ module _ (c : Config) (w : World) (shared : Shared c w) where
   show_writes seat value command (show.StoreRoot reply) Work = Writes.elsewhere refl
 
   make_writes : (seat made : ℕ) (kept command : Command) (fixed : Option Reply) (at : MakeSpot) (Work : Type 0) → MakeFacts c w seat made kept command fixed at → Writes c w seat (make_touch seat made kept at) Work
-  make_writes seat made kept command fixed (make.Taking at) Work facts = take_writes seat _ at Work
-  make_writes seat made kept command fixed (make.StoreWord address done) Work facts = Writes.fills address _ done facts.1.room facts.2 refl
+  make_writes seat made kept command fixed (make.Taking at) Work facts = take_writes seat _ at Work facts.1
+  make_writes seat made kept command fixed (make.StoreWord address done) Work facts = Writes.fills address done (hand seat _) facts.1.room refl facts.2 refl
   make_writes seat made kept command fixed (make.StoreRoot address) Work facts = Writes.elsewhere refl
 
   wait_writes : (seat made : ℕ) (command : Command) (at : WaitSpot) (Work : Type 0) → Writes c w seat (wait_touch seat made command at) Work

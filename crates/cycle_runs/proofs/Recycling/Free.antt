@@ -10,7 +10,8 @@ use Rattle.shen_graph.specs.declared.name.Name.{Name}
 use Rattle.shen_graph.specs.Graph.{Reference}
 use Rattle.heap_world.specs.World.{World, Block, thing, spent, promised, words_of, name_at, Body, body_at, Points, TargetIn, UsableIn, HasCopy, IsMarkable, Shared}
 use Rattle.heap_world.proofs.Pointing.{named_piece, body_piece}
-use Rattle.move_steps.proofs.Evacuation.Walks.{three_words, placed}
+use Rattle.heap_world.proofs.Pieces.{some_words}
+use Rattle.move_steps.proofs.Evacuation.Walks.{placed}
 
 module _ (c : Config) (w : World) (shared : Shared c w) (r : ℕ) (inside : r < c.regions) (free : IsIn (w.memory Free) r) where
   -- an address does not lie there
@@ -23,7 +24,7 @@ module _ (c : Config) (w : World) (shared : Shared c w) (r : ℕ) (inside : r < 
       let there = placed c w shared a x is in
       let here : region_with c a ≡ r = regions_tile.of_no_other c r a of in
       let none : w.memory (Top r) ≡ 0 = shared.owned.free_word.empty r inside free in
-      let some = three_words c w shared a x is in
+      let some = some_words c (λ k. w.memory (Top k)) w.block shared.parsable shared.owned.rooms a x is in
       let to_top : a + words_of x ≤ base_of c r + w.memory (Top r) = subst (λ k. a + words_of x ≤ base_of c k + w.memory (Top k)) here there.to_top in
       let from = of.from in
       omega (arith, to_top, none, some, from)

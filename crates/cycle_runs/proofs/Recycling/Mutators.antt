@@ -30,10 +30,11 @@ use Rattle.mutator.specs.declared.makes.MakeSpot.TheVariants as make
 use Rattle.mutator.specs.declared.waits.WaitSpot.{WaitSpot}
 use Rattle.mutator.specs.declared.waits.WaitSpot.TheVariants as wait
 use Rattle.mutator.specs.Commands.{command_roots, dst_of, index_of}
+use Rattle.mutator.specs.Rows.{words_made}
 use Rattle.step_core.proofs.Machines.Stepped.{IsRootWord, HasObject, IsCas, IsSet, IsCopy, IsDrop, NameTheSame, LoadFacts, FieldFacts, LoadedFacts, RecordFacts, NumberFacts, ShowFacts, MakeFacts, WaitFacts, SpotFacts}
 use Rattle.cycle_runs.specs.Recycling.InHand.{IsLoadHand, IsFieldHand, IsLoadedHand, IsOverwrittenHand, IsResolveHand, IsRememberHand, IsMakeHand, IsWaitHand, IsMutatorHand}
 use Rattle.cycle_runs.proofs.Recycling.Free.{IsElsewhere, piece_elsewhere, null_elsewhere, named_elsewhere, points_elsewhere, target_elsewhere, usable_elsewhere}
-use Rattle.cycle_runs.proofs.Recycling.PartHands.{same_apart, either_apart, resolve_hand, follow_hand, remember_hand}
+use Rattle.cycle_runs.proofs.Recycling.PartHands.{same_apart, either_apart, take_hand, resolve_hand, follow_hand, remember_hand}
 
 module _ (c : Config) (w : World) (shared : Shared c w) (r : ℕ) (inside : r < c.regions) (free : IsIn (w.memory Free) r) where
   -- an address does not lie there
@@ -140,7 +141,7 @@ module _ (c : Config) (w : World) (shared : Shared c w) (r : ℕ) (inside : r < 
 
   -- of who makes an object
   make_hand : (seat made : ℕ) (k command : Command) (fixed : Option Reply) (at : MakeSpot) → MakeFacts c w seat made k command fixed at → (a : ℕ) → IsMakeHand at a → IsApart a
-  make_hand seat made k command fixed (make.Taking take) facts a is = absurd is
+  make_hand seat made k command fixed (make.Taking at) facts a is = take_hand c w shared r inside free seat (words_made k) at facts.1 a is
   make_hand seat made k command fixed (make.StoreWord address done) facts a is = same a address (piece_elsewhere c w shared r inside free address _ facts.1.room) is
   make_hand seat made k command fixed (make.StoreRoot address) facts a is = same a address (piece_elsewhere c w shared r inside free address _ facts.1.room) is
 

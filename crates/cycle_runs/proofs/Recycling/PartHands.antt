@@ -17,7 +17,12 @@ use Rattle.load_barrier.specs.declared.evac_spot.EvacSpot.{EvacSpot}
 use Rattle.load_barrier.specs.declared.evac_spot.EvacSpot.TheVariants as evac
 use Rattle.update_part.specs.declared.spot.UpdateSpot.{UpdateSpot}
 use Rattle.update_part.specs.declared.spot.UpdateSpot.TheVariants as update
-use Rattle.heap_world.specs.World.{World, thing, moved, hand, dead, Body, body_words, IsMarkable, Shared}
+use Rattle.heap_words.specs.Encoding.{next_in}
+use Rattle.alloc_buffers.specs.declared.spot.TakeSpot.{TakeSpot}
+use Rattle.alloc_buffers.specs.declared.spot.TakeSpot.TheVariants as take
+use Rattle.alloc_buffers.specs.Rows.{free_words}
+use Rattle.alloc_buffers.specs.Facts.{TakeFacts}
+use Rattle.heap_world.specs.World.{World, thing, moved, hand, dead, filler, spare, carved, Body, body_words, IsMarkable, Shared}
 use Rattle.move_steps.specs.Resolving.Facts.{HasMovedTo, CopyFacts, CanResolve}
 use Rattle.move_steps.specs.Evacuation.Facts.{IsMeasured, CanEvacuate}
 use Rattle.move_steps.proofs.Evacuation.Walks.{placed}
@@ -25,7 +30,7 @@ use Rattle.mark_steps.specs.Recording.{CanRecord}
 use Rattle.mark_steps.specs.Scanning.{CanScan}
 use Rattle.move_steps.specs.Updating.Following.{CanFollow}
 use Rattle.move_steps.specs.Updating.Facts.{IsPiece, HasShape, CanUpdate}
-use Rattle.cycle_runs.specs.Recycling.InHand.{IsCopyHand, IsResolveHand, IsRememberHand, IsScanHand, IsEvacHand, IsUpdateHand}
+use Rattle.cycle_runs.specs.Recycling.InHand.{IsTakeHand, IsCopyHand, IsResolveHand, IsRememberHand, IsScanHand, IsEvacHand, IsUpdateHand}
 use Rattle.cycle_runs.proofs.Recycling.Free.{IsElsewhere, piece_elsewhere, body_elsewhere, copy_elsewhere, markable_elsewhere}
 
 module _ (c : Config) (w : World) (shared : Shared c w) (r : ℕ) (inside : r < c.regions) (free : IsIn (w.memory Free) r) where
@@ -48,26 +53,40 @@ module _ (c : Config) (w : World) (shared : Shared c w) (r : ℕ) (inside : r < 
   moved_apart : (a to : ℕ) (b : Body) → HasMovedTo w a b to → IsApart to
   moved_apart a to b is = piece_elsewhere c w shared r inside free to (thing b.name b.refs b.nums) (shared.evacuated.moved.moveds a b.refs b.nums to b.name is).copy
 
+  -- of who takes room
+  pub take_hand : (seat words : ℕ) (at : TakeSpot) → TakeFacts c w seat words at → (a : ℕ) → IsTakeHand at a → IsApart a
+  take_hand seat words (take.Fill buffer address room) facts a is =
+      either_apart a address (next_in buffer) (piece_elsewhere c w shared r inside free address (carved seat room) facts.here)
+      (piece_elsewhere c w shared r inside free (next_in buffer) (spare seat (free_words buffer)) facts.left) is
+  take_hand seat words (take.StoreBuffer address room) facts a is = same_apart a address (⊎_elim
+      (λ spares. piece_elsewhere c w shared r inside free address (spare seat room) spares)
+      (λ cuts. piece_elsewhere c w shared r inside free address (carved seat room) cuts)
+      facts.here) is
+  take_hand seat words _ facts a is = absurd is
+
   -- of who copies
-  copy_hand : (seat address copy : ℕ) (b : Body) (at : CopySpot) → CopyFacts w seat address copy b at → (a : ℕ) → IsCopyHand copy at a → IsApart a
-  copy_hand seat address copy b (LoadWord words index) facts a is = same_apart a copy (room_apart copy seat (body_words b) facts.3.room) is
-  copy_hand seat address copy b (StoreWord words index found) facts a is = same_apart a copy (room_apart copy seat (body_words b) facts.3.room) is
-  copy_hand seat address copy b StoreHeader facts a is = same_apart a copy (room_apart copy seat (body_words b) facts.room) is
-  copy_hand seat address copy b Publish facts a is = same_apart a copy (room_apart copy seat (body_words b) facts.0.room) is
-  copy_hand seat address copy b (GiveBack answer) facts a is = either_apart a copy answer (room_apart copy seat (body_words b) facts.0) (moved_apart address answer b facts.1) is
+  copy_hand : (seat address copy end : ℕ) (b : Body) (at : CopySpot) → CopyFacts c w seat address copy end b at → (a : ℕ) → IsCopyHand copy at a → IsApart a
+  copy_hand seat address copy end b (LoadWord words index) facts a is = same_apart a copy (room_apart copy seat (body_words b) facts.3.taken.here) is
+  copy_hand seat address copy end b (StoreWord words index found) facts a is = same_apart a copy (room_apart copy seat (body_words b) facts.3.taken.here) is
+  copy_hand seat address copy end b StoreHeader facts a is = same_apart a copy (room_apart copy seat (body_words b) facts.taken.here) is
+  copy_hand seat address copy end b Publish facts a is = same_apart a copy (room_apart copy seat (body_words b) facts.0.taken.here) is
+  copy_hand seat address copy end b (GiveBack answer) facts a is = either_apart a copy answer (room_apart copy seat (body_words b) facts.0.here) (moved_apart address answer b facts.1) is
 
   -- of who resolves an address while objects are evacuated
   pub resolve_hand : (seat address : ℕ) (at : ResolveSpot) → CanResolve c w seat address at → (a : ℕ) → IsResolveHand address at a → IsApart a
-  resolve_hand seat address (Copying copy at) can a is = ⊎_elim
+  resolve_hand seat address (Copying copy end at) can a is = ⊎_elim
       (λ (same : a ≡ address). same_apart a address (copy_elsewhere c w shared r inside free address can.there) same)
-      (λ (hand_is : IsCopyHand copy at a). copy_hand seat address copy can.facts.0 at can.facts.2 a hand_is)
+      (λ (hand_is : IsCopyHand copy at a). copy_hand seat address copy end can.facts.0 at can.facts.2 a hand_is)
       is
   resolve_hand seat address (Leaving answer) can a is =
       either_apart a address answer (copy_elsewhere c w shared r inside free address can.there) (moved_apart address answer can.facts.0 can.facts.2) is
   resolve_hand seat address LoadHeader can a is = same_apart a address (copy_elsewhere c w shared r inside free address can.there) is
   resolve_hand seat address (Entering at) can a is = same_apart a address (copy_elsewhere c w shared r inside free address can.there) is
   resolve_hand seat address LoadShape can a is = same_apart a address (copy_elsewhere c w shared r inside free address can.there) is
-  resolve_hand seat address (Taking words at) can a is = same_apart a address (copy_elsewhere c w shared r inside free address can.there) is
+  resolve_hand seat address (Taking words at) can a is = ⊎_elim
+      (λ (same : a ≡ address). same_apart a address (copy_elsewhere c w shared r inside free address can.there) same)
+      (λ (hand_is : IsTakeHand at a). take_hand seat words at can.facts.2.1.facts a hand_is)
+      is
   resolve_hand seat address (Stopping at) can a is = same_apart a address (copy_elsewhere c w shared r inside free address can.there) is
   resolve_hand seat address LoadAgain can a is = same_apart a address (copy_elsewhere c w shared r inside free address can.there) is
   resolve_hand seat address (Resolved answer) can a is = same_apart a address (copy_elsewhere c w shared r inside free address can.there) is
@@ -79,7 +98,7 @@ module _ (c : Config) (w : World) (shared : Shared c w) (r : ℕ) (inside : r < 
   follow_hand seat address (Entering at) can a is = absurd can.facts
   follow_hand seat address LoadShape can a is = absurd can.facts
   follow_hand seat address (Taking words at) can a is = absurd can.facts
-  follow_hand seat address (Copying copy at) can a is = absurd can.facts
+  follow_hand seat address (Copying copy end at) can a is = absurd can.facts
   follow_hand seat address (Leaving answer) can a is = absurd can.facts
   follow_hand seat address (Stopping at) can a is = absurd can.facts
   follow_hand seat address LoadAgain can a is = absurd can.facts
@@ -121,7 +140,8 @@ module _ (c : Config) (w : World) (shared : Shared c w) (r : ℕ) (inside : r < 
 
   -- of who evacuates
   pub evac_hand : (seat cset : ℕ) (at : EvacSpot) → CanEvacuate c w seat cset at → (a : ℕ) → IsEvacHand at a → IsApart a
-  evac_hand seat cset (evac.LoadShape address end) can a is = same_apart a address (piece_elsewhere c w shared r inside free address can.facts.1.piece can.facts.1.there) is
+  evac_hand seat cset (evac.LoadFirst address end) can a is = same_apart a address (piece_elsewhere c w shared r inside free address can.facts.1.piece can.facts.1.there) is
+  evac_hand seat cset (evac.LoadShape address end) can a is = same_apart a address (piece_elsewhere c w shared r inside free address can.facts.1.at.piece can.facts.1.at.there) is
   evac_hand seat cset (evac.LoadMark address end next) can a is = ⊎_elim
       (λ (same : a ≡ address). same_apart a address (piece_elsewhere c w shared r inside free address can.facts.1.at.piece can.facts.1.at.there) same)
       (λ (behind : (next < end) × (a ≡ next)). next_apart address end next a can.facts.1 behind)
@@ -147,6 +167,10 @@ module _ (c : Config) (w : World) (shared : Shared c w) (r : ℕ) (inside : r < 
 
   -- of who updates references
   pub update_hand : (seat cset : ℕ) (at : UpdateSpot) → CanUpdate c w seat cset at → (a : ℕ) → IsUpdateHand at a → IsApart a
+  update_hand seat cset (update.LoadFirst walk address) can a is = same_apart a address (⊎_elim
+      (λ (piece : IsPiece w address). walked_apart address piece)
+      (λ fills. piece_elsewhere c w shared r inside free address (filler fills.0) fills.1)
+      can.facts.1) is
   update_hand seat cset (update.LoadShape walk address) can a is = same_apart a address (walked_apart address can.facts.1) is
   update_hand seat cset (update.LoadBlack at) can a is = same_apart a at.address (shaped_apart at.address at.shape can.facts.1) is
   update_hand seat cset (update.LoadField at field) can a is = same_apart a at.address (markable_elsewhere c w shared r inside free at.address can.facts.alive) is

@@ -1,9 +1,10 @@
 -- In each stage that events lead to no region that is free is held.
-use Rattle.std.proofs.Common.{◌≡◌, ℕ, ◌+◌, ◌<◌, ◌≤◌, ⊎_elim, List, [], Option, Some, None, get_or, refl, ap, ◌∙◌, subst, arith}
+use Rattle.std.proofs.Common.{◌≡◌, ◌≢◌, ℕ, ◌+◌, ◌<◌, ⊎_elim, List, [], Option, Some, None, get_or, refl, sym, ap, ◌∙◌, subst, arith}
 use Rattle.std.specs.Prelude.{◌-◌}
-use Rattle.std.proofs.lemmas.Option.{slice_get-get_or}
+use Rattle.std.proofs.lemmas.Option.{slice_get-get_or, none-some}
 use Rattle.heap_words.specs.declared.config.Config.{Config}
-use Rattle.heap_words.specs.Words.{Free, Answer, Heap}
+use Rattle.heap_words.specs.Encoding.{end_in}
+use Rattle.heap_words.specs.Words.{Free, Top, Current, Answer, Heap}
 use Rattle.regions.specs.Place.{IsOf}
 use Rattle.regions.specs.Sets.{IsIn}
 use Rattle.steps_base.specs.Steps.{Stage, go}
@@ -13,6 +14,10 @@ use Rattle.shen_graph.specs.declared.command.Reply.{Reply}
 use Rattle.shen_graph.specs.declared.command.Reply.TheVariants.{Ref, Full}
 use Rattle.shen_graph.specs.Graph.{Graph}
 use Rattle.shen_graph.specs.History.{Entry, after, of_thread}
+use Rattle.regions.proofs.PlaceLemmas.{regions_tile}
+use Rattle.alloc_buffers.specs.declared.spot.TakeSpot.{TakeSpot}
+use Rattle.alloc_buffers.specs.declared.spot.TakeSpot.TheVariants as take
+use Rattle.alloc_buffers.specs.Facts.{IsTaken, TakeFacts}
 use Rattle.heap_world.specs.World.{World, thing, moved, Body, body_at, Shared}
 use Rattle.heap_world.proofs.Pointing.{copy_cases}
 use Rattle.heap_world.specs.Asking.{Asking, nothing, asks, refused, given, IsAsked}
@@ -43,7 +48,7 @@ use Rattle.step_core.proofs.Machines.Requests.{has_asked}
 use Rattle.step_core.proofs.Machines.Roles.{mutator_there}
 use Rattle.step_core.proofs.Machines.Seats.{in_seat}
 use Rattle.step_core.proofs.Mutators.Spots.{mutator_at}
-use Rattle.cycle_runs.specs.Recycling.InHand.{IsUnitHand, IsHelpHand, IsControlHand, IsInHandOf}
+use Rattle.cycle_runs.specs.Recycling.InHand.{IsTakeRegion, IsUnitHand, IsHelpHand, IsControlHand, IsInHandOf}
 use Rattle.cycle_runs.specs.Recycling.Held.{IsHeld, FreeIsNotHeld, FreeIsNotHeldInRuns}
 use Rattle.cycle_runs.proofs.Recycling.Free.{IsElsewhere, piece_elsewhere, target_elsewhere, points_elsewhere}
 use Rattle.cycle_runs.proofs.Recycling.PartHands.{scan_hand, evac_hand, update_hand}
@@ -68,6 +73,31 @@ module _ (c : Config) (w : World) (shared : Shared c w) (r : ℕ) (inside : r < 
   control_hand : (seat : ℕ) (spot : ControlSpot) → ControlFacts c w seat spot → (a : ℕ) → IsControlHand c spot a → IsApart a
   control_hand seat (control.Working at) facts a is = unit_hand seat at facts a is
   control_hand seat _ facts a is = absurd is
+
+  -- a buffer has words in use, so that it does not
+  pub buffer_apart : (seat : ℕ) → w.memory (Current seat) ≢ 0 → IsApart (end_in (w.memory (Current seat)) - 1)
+  buffer_apart seat some of =
+      let buffer = shared.owned.buffers.each seat some in
+      let more = buffer.some in
+      let to_top = buffer.to_top in
+      let most = shared.parsable.plotted.tops buffer.region buffer.within in
+      let last : ℕ = end_in (w.memory (Current seat)) - 1 in
+      let here : buffer.region ≡ r =
+      sym (regions_tile.of_no_other c buffer.region last (record { from = omega (arith, more); before = omega (arith, more, to_top, most) })) ∙ regions_tile.of_no_other c r last of in
+      let none : w.memory (Top buffer.region) ≡ 0 = ap (λ k. w.memory (Top k)) here ∙ shared.owned.free_word.empty r inside free in
+      omega (arith, more, to_top, none)
+
+  -- a region that is taken is not free
+  not_own : (seat region : ℕ) → IsTaken c w seat region → r ≡ region → ⊥
+  not_own seat region taken is = none-some seat (sym (shared.owned.free_word.nobodys r inside free) ∙ ap w.ghost.owner is ∙ taken.own)
+
+  -- nor is it one that a machine is about to carve, or has taken
+  pub take_region : (seat words : ℕ) (at : TakeSpot) → TakeFacts c w seat words at → IsTakeRegion at r → ⊥
+  take_region seat words (take.LoadTop buffer region) facts is = facts.1.in_use (subst (λ k. IsIn (w.memory Free) k) is free)
+  take_region seat words (take.Carve buffer region top room) facts is = facts.1.in_use (subst (λ k. IsIn (w.memory Free) k) is free)
+  take_region seat words (take.ShareRegion buffer shared_word region) facts is = not_own seat region facts.1 is
+  take_region seat words (take.GiveBack buffer region) facts is = not_own seat region facts.1 is
+  take_region seat words _ facts is = absurd is
 
   -- nor does what any machine has
   pub machine_hand : (words : List ℕ) (entries : List Entry) (number : ℕ) (x : Actor) (machine : Machine) → IsMachine c words w entries number x machine → (a : ℕ) → IsInHandOf c machine a → IsApart a
@@ -147,6 +177,11 @@ module _ (c : Config) (g : Graph) (s : Stage Actor) (h : List Entry) (goes : Goe
       let word : carried.word ≡ the_world.memory (Heap (carried.object + 3 + (carried.index - 3))) = stands.same ∙ ap (λ a. the_world.memory (Heap a)) (omega (arith, from)) in
       copy_apart c the_world goes.follows.shared r inside free carried.object (carried.index - 3) b there (omega (arith, from, below)) (subst (IsOf c r) word of)
   not_held r inside free (IsHeld.by_piece a x is of) = piece_elsewhere c the_world goes.follows.shared r inside free a x is of
+  not_held r inside free (IsHeld.by_share is) = (goes.follows.shared.owned.shared_one r is).in_use free
+  not_held r inside free (IsHeld.by_buffer seat some of) = buffer_apart c the_world goes.follows.shared r inside free seat some of
+  not_held r inside free (IsHeld.by_taking number x t here takes region) =
+      take_region c the_world goes.follows.shared r inside free number t.words t.take
+      ((in_seat c s.words the_world (of_thread h (number + 1)) number x x.machine (goes.follows.machines number x here)).takes t takes) region
 
   pub free_is_not_held : FreeIsNotHeld c s (after g h)
   free_is_not_held = record { stands = stands; not_held = not_held }

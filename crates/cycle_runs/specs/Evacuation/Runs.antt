@@ -53,8 +53,9 @@ HeadersLeadInRuns = (change : Change) → IsPause change → (c : Config) (s : S
 -- the machine, where the object's words stand behind a plain header.
 pub record IsPublishing (c : Config) (w : World) (seat a : ℕ) (b : Body) (access : Access) : Type 0 where
   pub copy : ℕ
+  pub end : ℕ
   pub is : access ≡ Exchange (word_at c (Heap a)) plain_header (header_word copy)
-  pub copied : IsCopied w seat a copy b (body_words b)
+  pub copied : IsCopied c w seat a copy end b (body_words b)
   pub plain : w.memory (Heap copy) ≡ plain_header
 
 -- the places where a mutator writes a field or a number of an object

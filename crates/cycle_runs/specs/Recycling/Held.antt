@@ -1,7 +1,8 @@
 -- A region is held while something names it; one that is free is not, so that it can be given again.
-use Rattle.std.specs.Prelude.{ℕ, ◌≡◌, ◌+◌, ◌<◌, ◌≤◌, List, Some, None, slice_get}
+use Rattle.std.specs.Prelude.{ℕ, ◌≡◌, ◌≢◌, ◌+◌, ◌-◌, ◌<◌, ◌≤◌, List, Some, None, slice_get}
 use Rattle.heap_words.specs.declared.config.Config.{Config}
-use Rattle.heap_words.specs.Words.{Free, Answer, Heap, view}
+use Rattle.heap_words.specs.Encoding.{end_in}
+use Rattle.heap_words.specs.Words.{Free, Share, Current, Answer, Heap, view}
 use Rattle.regions.specs.Place.{IsOf}
 use Rattle.regions.specs.Sets.{IsIn}
 use Rattle.steps_base.specs.Steps.{Stage, Event, IsEvent, act, go}
@@ -16,13 +17,14 @@ use Rattle.step_core.specs.Begins.{Begins}
 use Rattle.step_core.specs.History.{history}
 use Rattle.step_core.specs.Machines.{kind}
 use Rattle.step_core.specs.Own.{root_now}
-use Rattle.step_core.specs.Seats.{Carried, carries_of}
+use Rattle.step_core.specs.Seats.{Carried, carries_of, Taking, taking_of}
 use Rattle.step_core.specs.Settled.{image_read, settled}
 use Rattle.step_core.specs.Sound.{world_of, StandsFor}
-use Rattle.cycle_runs.specs.Recycling.InHand.{IsInHandOf}
+use Rattle.cycle_runs.specs.Recycling.InHand.{IsInHandOf, IsTakeRegion}
 
 -- A region is held: in it lies what counts as a root, where an answer leads, what a field of a copy names, current or old, what a machine
--- has in hand, also a reference that it has loaded of an object and is about to store into a copy, or the beginning of a piece at all.
+-- has in hand, also a reference that it has loaded of an object and is about to store into a copy, or the beginning of a piece at all; it
+-- is the shared one, or has a seat's buffer; or a machine that takes room is about to carve it, or has taken it.
 pub data IsHeld (c : Config) (w : World) (machines : List Actor) (r : ℕ) : Type 0 where
   by_root : (number index : ℕ) (x : Actor) (m : Mutating) → slice_get machines number ≡ Some x → x.machine ≡ mutating m → index < 16 → IsOf c r (root_now w m.seat m.kept m.spot index)
       → IsHeld c w machines r
@@ -32,6 +34,9 @@ pub data IsHeld (c : Config) (w : World) (machines : List Actor) (r : ℕ) : Typ
   by_carried : (number : ℕ) (x : Actor) (carried : Carried) (b : Body) → slice_get machines number ≡ Some x → carries_of x.machine ≡ Some carried → body_at (w.block carried.object) ≡ Some b
       → 3 ≤ carried.index → carried.index < 3 + b.refs → IsOf c r carried.word → IsHeld c w machines r
   by_piece : (a : ℕ) (x : Block) → w.block a ≡ Some x → IsOf c r a → IsHeld c w machines r
+  by_share : w.memory Share ≡ r + 1 → IsHeld c w machines r
+  by_buffer : (seat : ℕ) → w.memory (Current seat) ≢ 0 → IsOf c r (end_in (w.memory (Current seat)) - 1) → IsHeld c w machines r
+  by_taking : (number : ℕ) (x : Actor) (t : Taking) → slice_get machines number ≡ Some x → taking_of x.machine ≡ Some t → IsTakeRegion t.take r → IsHeld c w machines r
 
 -- Words and machines stand for a graph by some plot, in which no region that is free by the words that count is held.
 pub record FreeIsNotHeld (c : Config) (s : Stage Actor) (g : Graph) : Type 0 where

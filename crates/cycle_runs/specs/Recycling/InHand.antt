@@ -5,6 +5,9 @@ use Rattle.std.specs.Int.{bit_at}
 use Rattle.heap_words.specs.declared.config.Config.{Config}
 use Rattle.regions.specs.Marks.{address_at}
 use Rattle.shen_graph.specs.declared.command.Command.{Command}
+use Rattle.heap_words.specs.Encoding.{next_in}
+use Rattle.alloc_buffers.specs.declared.spot.TakeSpot.{TakeSpot}
+use Rattle.alloc_buffers.specs.declared.spot.TakeSpot.TheVariants as take
 use Rattle.satb_barrier.specs.declared.spot.RememberSpot.{RememberSpot}
 use Rattle.satb_barrier.specs.declared.spot.RememberSpot.TheVariants as remember
 use Rattle.scan_part.specs.declared.spot.ScanSpot.{ScanSpot}
@@ -12,7 +15,7 @@ use Rattle.scan_part.specs.declared.spot.ScanSpot.TheVariants as scan
 use Rattle.load_barrier.specs.declared.copying.CopySpot.{CopySpot}
 use Rattle.load_barrier.specs.declared.copying.CopySpot.TheVariants.{GiveBack}
 use Rattle.load_barrier.specs.declared.spot.ResolveSpot.{ResolveSpot}
-use Rattle.load_barrier.specs.declared.spot.ResolveSpot.TheVariants.{Copying, Leaving}
+use Rattle.load_barrier.specs.declared.spot.ResolveSpot.TheVariants.{Taking, Copying, Leaving}
 use Rattle.load_barrier.specs.declared.evac_spot.EvacSpot.{EvacSpot}
 use Rattle.load_barrier.specs.declared.evac_spot.EvacSpot.TheVariants as evac
 use Rattle.update_part.specs.declared.spot.UpdateSpot.{UpdateSpot}
@@ -40,14 +43,29 @@ use Rattle.control_rows.specs.declared.spot.ControlSpot.{ControlSpot}
 use Rattle.control_rows.specs.declared.spot.ControlSpot.TheVariants as control
 use Rattle.step_core.specs.Actor.{Machine, mutating, helping, controlling}
 
+-- of who takes room: the words that it has carved, the free words of its buffer that it takes, and those that it fills
+abbrev pub IsTakeHand : TakeSpot → ℕ → Type 0
+IsTakeHand (take.Fill buffer address room) a = (a ≡ address) ⊎ (a ≡ next_in buffer)
+IsTakeHand (take.StoreBuffer address room) a = a ≡ address
+IsTakeHand _ a = ⊥
+
+-- the region that it is about to carve, or has taken and neither shared nor given back yet
+abbrev pub IsTakeRegion : TakeSpot → ℕ → Type 0
+IsTakeRegion (take.LoadTop buffer region) r = r ≡ region
+IsTakeRegion (take.Carve buffer region top room) r = r ≡ region
+IsTakeRegion (take.ShareRegion buffer shared region) r = r ≡ region
+IsTakeRegion (take.GiveBack buffer region) r = r ≡ region
+IsTakeRegion _ r = ⊥
+
 -- of who copies an object into room that begins at another address: the room, and where it gives that back the copy of the winner
 abbrev pub IsCopyHand : (copy : ℕ) → CopySpot → ℕ → Type 0
 IsCopyHand copy (GiveBack answer) a = (a ≡ copy) ⊎ (a ≡ answer)
 IsCopyHand copy _ a = a ≡ copy
 
--- of who resolves an address: that address, and the answer before it leaves
+-- of who resolves an address: that address, what its taking of room has, and the answer before it leaves
 abbrev pub IsResolveHand : (address : ℕ) → ResolveSpot → ℕ → Type 0
-IsResolveHand address (Copying copy at) a = (a ≡ address) ⊎ IsCopyHand copy at a
+IsResolveHand address (Taking words at) a = (a ≡ address) ⊎ IsTakeHand at a
+IsResolveHand address (Copying copy end at) a = (a ≡ address) ⊎ IsCopyHand copy at a
 IsResolveHand address (Leaving answer) a = (a ≡ address) ⊎ (a ≡ answer)
 IsResolveHand address _ a = a ≡ address
 
@@ -65,15 +83,17 @@ IsScanHand c (scan.LoadField address field refs) a = a ≡ address
 IsScanHand c (scan.SetGrey address field refs found) a = (a ≡ address) ⊎ (a ≡ found)
 IsScanHand c _ a = ⊥
 
--- of who evacuates: the object to which it has come, that behind it if there is one, and those of its resolving
+-- of who evacuates: the object, or the words that only fill, to which it has come, that behind it if there is one, and those of its resolving
 abbrev pub IsEvacHand : EvacSpot → ℕ → Type 0
+IsEvacHand (evac.LoadFirst address end) a = a ≡ address
 IsEvacHand (evac.LoadShape address end) a = a ≡ address
 IsEvacHand (evac.LoadMark address end next) a = (a ≡ address) ⊎ ((next < end) × (a ≡ next))
 IsEvacHand (evac.Resolving address end next at) a = IsResolveHand address at a ⊎ ((next < end) × (a ≡ next))
 IsEvacHand _ a = ⊥
 
--- of who updates references: the object to which it has come, what it has found in a field, and the copy to which that leads
+-- of who updates references: the object, or the words that only fill, to which it has come, what it has found in a field, and the copy to which that leads
 abbrev pub IsUpdateHand : UpdateSpot → ℕ → Type 0
+IsUpdateHand (update.LoadFirst walk address) a = a ≡ address
 IsUpdateHand (update.LoadShape walk address) a = a ≡ address
 IsUpdateHand (update.LoadBlack at) a = a ≡ at.address
 IsUpdateHand (update.LoadField at field) a = a ≡ at.address
@@ -107,9 +127,9 @@ abbrev pub IsOverwrittenHand : Overwritten → ℕ → Type 0
 IsOverwrittenHand (overwrites.Set object value) a = (a ≡ object) ⊎ (a ≡ value)
 IsOverwrittenHand _ a = ⊥
 
--- of who makes an object: its room
+-- of who makes an object: its room, also while it takes it
 abbrev pub IsMakeHand : MakeSpot → ℕ → Type 0
-IsMakeHand (make.Taking take) a = ⊥
+IsMakeHand (make.Taking at) a = IsTakeHand at a
 IsMakeHand (make.StoreWord address done) a = a ≡ address
 IsMakeHand (make.StoreRoot address) a = a ≡ address
 

@@ -24,7 +24,7 @@ use Rattle.cycle_words.specs.Marking.Marks.{is_black, IsNew}
 use Rattle.cycle_words.specs.Marking.Close.{IsTraced}
 use Rattle.cycle_words.specs.Marking.WhileMarking.{IsObjectAt, IsMarking, IsMarkedThrough}
 use Rattle.cycle_words.specs.Marking.Final.{dead_in, freed_block, freed_owner, final_marked}
-use Rattle.cycle_words.specs.Marking.Laws.{HasNoMoreSeats}
+use Rattle.image_graph.specs.Buffers.{HasNoMoreSeats}
 use Rattle.cycle_words.proofs.Marking.Plain.{below_top, object_below, reached_object, root_reached}
 use Rattle.cycle_words.proofs.Marking.Closed.{object_alive, markable_object, black_markable, traced_markable, are_closed}
 use Rattle.cycle_words.proofs.Marking.Ended.{ended_holds, ended_through}

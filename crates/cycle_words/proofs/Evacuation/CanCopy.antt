@@ -8,7 +8,7 @@ use Rattle.packing.proofs.Sums.{sum_same}
 use Rattle.regions.specs.Place.{base_of, region_with}
 use Rattle.regions.specs.Sets.{IsIn}
 use Rattle.shen_graph.specs.Graph.{Graph}
-use Rattle.heap_world.specs.World.{Block, thing, words_of, Plot}
+use Rattle.heap_world.specs.World.{Block, thing, words_of, is_loose, Plot}
 use Rattle.heap_world.proofs.Pointing.{piece_inside}
 use Rattle.full_words.specs.Promised.{Promises, with_promised}
 use Rattle.image_graph.specs.Holds.{HoldsBy, AreSized}
@@ -29,8 +29,10 @@ use Rattle.cycle_words.proofs.Evacuation.CopiedOut.{copies_out}
 use Rattle.cycle_words.proofs.Evacuation.CopyHolds as copy
 
 pub object_can_be_copied : ObjectCanBeCopied
-object_can_be_copied c m block owner p g holds sized a b here inside =
-    let size = sized a b here in
+object_can_be_copied c m block owner p g holds sized a object inside =
+    let b = object.0 in
+    let here = object.1 in
+    let size = sized.objects a b here object.2 in
     let at = below_top c (λ r. m (Top r)) block holds.objects.plotted a b here (holds.pieces.some a b here) in
     let most = holds.objects.plotted.tops (region_with c a) at.0 in
     let lies = piece_inside c (λ r. m (Top r)) block holds.objects.plotted a b here in
@@ -45,20 +47,20 @@ object_can_be_copied c m block owner p g holds sized a b here inside =
 
 -- where a region has room, and where none has
 module _ (c : Config) (m : Word → ℕ) (a : ℕ) (above : c.region_words ≤ a) (inside : IsIn (m Cset) (region_with c a)) (block : Plot) (owner : ℕ → Option ℕ) (p : Promises) (g : Graph)
-    (holds : HoldsBy c m block owner p g) (sized : AreSized m block) (b : Block) (here : block a ≡ Some b) (plain : is_forwarded (m (Heap a)) ≡ false) where
+    (holds : HoldsBy c m block owner p g) (sized : AreSized m block) (b : Block) (here : block a ≡ Some b) (fixed : is_loose b ≡ false) (plain : is_forwarded (m (Heap a)) ≡ false) where
   size : words_at m a ≡ words_of b
-  size = sized a b here
+  size = sized.objects a b here fixed
 
   with_room : IsCopiedOut c m (copied_out c m a) a → HoldsCopied c m (copied_out c m a) block owner p g
   with_room out = record {
     still = record {
-      pieces = copy.plot c m block owner p g holds a b here inside plain size out;
-      stay = copy.stays c m block owner p g holds a b here inside plain size out;
-      holds = copy.copied_holds c m block owner p g holds a b here inside plain size out;
-      sized = copy.copied_sized c m block owner p g holds a b here inside plain size out;
+      pieces = copy.plot c m block owner p g holds a b here fixed inside plain size out;
+      stay = copy.stays c m block owner p g holds a b here fixed inside plain size out;
+      holds = copy.copied_holds c m block owner p g holds a b here fixed inside plain size out;
+      sized = copy.copied_sized c m block owner p g holds a b here fixed inside plain size out;
     };
-    set = copy.set_same c m block owner p g holds a b here inside plain size out;
-    collecting = copy.collecting_still c m block owner p g holds a b here inside plain size out;
+    set = copy.set_same c m block owner p g holds a b here fixed inside plain size out;
+    collecting = copy.collecting_still c m block owner p g holds a b here fixed inside plain size out;
   }
 
   by_room : (o : Option ℕ) → copy_room c m a ≡ o → HoldsCopied c m (copied_out c m a) block owner p g
@@ -75,7 +77,7 @@ module _ (c : Config) (m : Word → ℕ) (a : ℕ) (above : c.region_words ≤ a
   still_holds = by_room (copy_room c m a) refl
 
 pub copying_holds : (c : Config) (m : Word → ℕ) (a : ℕ) → CanCopyOut c m a → CopyingHolds c m (copied_out c m a) a
-copying_holds c m a can block owner p g holds sized b here plain = still_holds c m a can.above can.in_set block owner p g holds sized b here plain
+copying_holds c m a can block owner p g holds sized object plain = still_holds c m a can.above can.in_set block owner p g holds sized object.0 object.1 object.2 plain
 
 pub live_is_marked : LiveIsMarked
 live_is_marked c m r block sized marked = sum_same (λ k. marked_words c m (base_of c r + k)) (λ k. marked_in c m block (base_of c r + k)) c.region_words (λ k below. each (base_of c r + k))
@@ -84,7 +86,7 @@ live_is_marked c m r block sized marked = sum_same (λ k. marked_words c m (base
     each a = ⊎_elim
         (λ (yes : is_black c m a ≡ true).
         let piece = marked a yes in
-        cond-true (is_black c m a) (words_at m a) 0 yes ∙ sized a piece.0 piece.1 ∙ sym (ap piece_words piece.1) ∙ sym (cond-true (is_black c m a) (piece_words (block a)) 0 yes))
+        cond-true (is_black c m a) (words_at m a) 0 yes ∙ sized.objects a piece.0 piece.1 piece.2 ∙ sym (ap piece_words piece.1) ∙ sym (cond-true (is_black c m a) (piece_words (block a)) 0 yes))
         (λ (no : is_black c m a ≡ false). cond-false (is_black c m a) (words_at m a) 0 no ∙ sym (cond-false (is_black c m a) (piece_words (block a)) 0 no))
         (cases_Bool (is_black c m a))
 

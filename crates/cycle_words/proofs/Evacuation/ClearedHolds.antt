@@ -1,18 +1,18 @@
 -- Evacuation begins: words that held a graph hold it once roots and answers were cleared of the collection set.
-use Rattle.std.proofs.Common.{◌≡◌, ◌≢◌, ℕ, ◌+◌, ◌^◌, ◌<◌, ◌≤◌, ◌==◌, if◌then◌else◌, nat_le, true, false, List, [], ◌∷◌, Option, Some, inr, refl, sym, ap, ◌∙◌, subst, ⊎_elim, arith}
+use Rattle.std.proofs.Common.{◌≡◌, ◌≢◌, ℕ, ◌+◌, ◌^◌, ◌<◌, ◌≤◌, ◌==◌, if◌then◌else◌, nat_le, true, false, List, [], ◌∷◌, Option, Some, inl, inr, refl, sym, ap, ◌∙◌, subst, ⊎_elim, arith}
 use Rattle.std.specs.Prelude.{Contains}
 use Rattle.std.specs.Int.{bit_at}
 use Rattle.std.proofs.Math.Path.{fun_ext}
-use Rattle.std.proofs.lemmas.Bool.{cases_Bool, cases_eq, cases_lt, false_from_ne_true, true≢false, cond-true, cond-false, and_parts, leb-true, eqb-true, eq-eqb, ne_eqb}
+use Rattle.std.proofs.lemmas.Bool.{cases_Bool, cases_eq, false_from_ne_true, true≢false, cond-true, cond-false, and_parts, leb-true, eqb-true, eq-eqb, ne_eqb}
 use Rattle.std.proofs.lemmas.Nat.{pow_pos}
 use Rattle.std.proofs.lemmas.Nat.Bits.{bit_at-zero}
 use Rattle.heap_words.specs.declared.config.Config.{Config}
-use Rattle.heap_words.specs.Words.{Word, Cset, Top, Tams, Root, Answer, Heap}
+use Rattle.heap_words.specs.Words.{Word, Cset, Top, Tams, Root, Answer, Heap, Share, write}
 use Rattle.heap_words.specs.Encoding.{is_forwarded, forwardee_in, object_words}
 use Rattle.regions.specs.Place.{region_with}
 use Rattle.shen_graph.specs.declared.name.Name.{Name}
 use Rattle.shen_graph.specs.Graph.{Graph}
-use Rattle.heap_world.specs.World.{Plot, thing, IsCollected}
+use Rattle.heap_world.specs.World.{Plot, thing, IsCollected, AreYoungRooms}
 use Rattle.heap_world.proofs.Pointing.{named_if_not_0}
 use Rattle.full_words.specs.Held.{IsLedTo, from_root, IsAmong, HoldsGraph}
 use Rattle.full_words.specs.Full.{now_in, root_words}
@@ -21,7 +21,8 @@ use Rattle.full_words.specs.Serving.{AreAsking}
 use Rattle.full_words.proofs.Reached.{words_read}
 use Rattle.full_words.proofs.Roots.{root_among, answer_among, answer_names}
 use Rattle.image_graph.specs.Holds.{HoldsBy, AreSized}
-use Rattle.cycle_words.proofs.Marking.Alike.{same_root_words, holds_alike}
+use Rattle.cycle_words.proofs.Marking.Alike.{sized_alike, same_root_words, holds_alike}
+use Rattle.cycle_words.proofs.Marking.Dead.{seated}
 use Rattle.cycle_words.specs.Evacuation.Live.{words_at, live_words, is_candidate, IsCandidate}
 use Rattle.cycle_words.specs.Evacuation.Choice.{copy_limit, chosen}
 use Rattle.cycle_words.specs.Evacuation.Copied.{copy_room, copied_out, IsCopiedOut}
@@ -31,7 +32,7 @@ use Rattle.cycle_words.proofs.Evacuation.NamingPlaces.{IsPlace, are_places}
 use Rattle.cycle_words.proofs.Evacuation.CopiedOut.{copies_out}
 use Rattle.cycle_words.proofs.Evacuation.Copies.{cleared_is, spared_is}
 use Rattle.cycle_words.proofs.Evacuation.Clearing.{can_clear_in_turn}
-use Rattle.cycle_words.proofs.Evacuation.Carried.{IsRenamed}
+use Rattle.image_graph.proofs.Carried.{IsRenamed}
 use Rattle.cycle_words.proofs.Evacuation.CopyHolds as copy
 use Rattle.cycle_words.proofs.Evacuation.CopyHolds.{IsInOrder}
 use Rattle.cycle_words.proofs.Evacuation.RenamedInPlace.{root_renamed, root_reached, answer_renamed, answer_reached}
@@ -39,13 +40,12 @@ use Rattle.cycle_words.specs.StillHolds.{PiecesStay, HoldsStill}
 use Rattle.cycle_words.specs.Evacuation.Laws.{HoldsCollecting}
 use Rattle.cycle_words.specs.Marking.Marks.{is_black}
 use Rattle.cycle_words.specs.Marking.WhileMarking.{IsObjectAt, CanBeReached, IsMarkedThrough}
-use Rattle.cycle_words.specs.Marking.Laws.{HasNoMoreSeats}
+use Rattle.image_graph.specs.Buffers.{HasNoMoreSeats}
 use Rattle.cycle_words.proofs.Evacuation.Candidate.{candidate_is_candidate}
 use Rattle.cycle_words.specs.Evacuation.Front.{is_in_front}
 use Rattle.cycle_words.proofs.Evacuation.Front.{member_is}
 use Rattle.cycle_words.proofs.Marking.Bits.{bits_small}
 use Rattle.regions.specs.Sets.{IsIn}
-use Rattle.heap_words.specs.Ranges.{seat_count}
 
 -- the words hold the graph still, and what holds of the set does
 record StillSo (c : Config) (before after : Word → ℕ) (block : Plot) (owner : ℕ → Option ℕ) (p : Promises) (g : Graph) : Type 0 where
@@ -87,12 +87,12 @@ module _ (c : Config) (m : Word → ℕ) (block : Plot) (owner : ℕ → Option 
 
       copied : StillSo c m (copied_out c m a) block owner p g
       copied = record {
-        pieces = copy.plot c m block owner p g holds a (thing name refs nums) here inside plain size out;
-        stay = copy.stays c m block owner p g holds a (thing name refs nums) here inside plain size out;
-        set = copy.set_same c m block owner p g holds a (thing name refs nums) here inside plain size out;
-        holds = copy.copied_holds c m block owner p g holds a (thing name refs nums) here inside plain size out;
-        sized = copy.copied_sized c m block owner p g holds a (thing name refs nums) here inside plain size out;
-        order = copy.order_still c m block owner p g holds a (thing name refs nums) here inside plain size out;
+        pieces = copy.plot c m block owner p g holds a (thing name refs nums) here refl inside plain size out;
+        stay = copy.stays c m block owner p g holds a (thing name refs nums) here refl inside plain size out;
+        set = copy.set_same c m block owner p g holds a (thing name refs nums) here refl inside plain size out;
+        holds = copy.copied_holds c m block owner p g holds a (thing name refs nums) here refl inside plain size out;
+        sized = copy.copied_sized c m block owner p g holds a (thing name refs nums) here refl inside plain size out;
+        order = copy.order_still c m block owner p g holds a (thing name refs nums) here refl inside plain size out;
       }
 
       is_copied : copied_out c m a ≡ moved_out c m a
@@ -139,7 +139,7 @@ module _ (c : Config) (m : Word → ℕ) (block : Plot) (owner : ℕ → Option 
         set = out.set;
         holds = root_renamed c (moved_out c m (m (Root t i))) out.pieces owner p g out.holds (now_in (moved_out c m (m (Root t i))) (m (Root t i))) t i
             (renamed (m (Root t i)) at.0 at.1 named.0 at.2 led collected can (Root t i) tt refl);
-        sized = λ sized b x is. out.sized sized b x is;
+        sized = λ sized. sized_alike (moved_out c m (m (Root t i))) (write (moved_out c m (m (Root t i))) (Root t i) (now_in (moved_out c m (m (Root t i))) (m (Root t i)))) out.pieces (λ a. refl) (out.sized sized);
         order = λ order.
             let next = out.order order in
             record {
@@ -150,6 +150,7 @@ module _ (c : Config) (m : Word → ℕ) (block : Plot) (owner : ℕ → Option 
               no_new = next.no_new;
               floors = next.floors;
               unseated = next.unseated;
+              young = next.young;
             };
       })
 
@@ -169,7 +170,7 @@ module _ (c : Config) (m : Word → ℕ) (block : Plot) (owner : ℕ → Option 
         set = out.set;
         holds = answer_renamed c (moved_out c m (m (Answer t))) out.pieces owner p g out.holds (now_in (moved_out c m (m (Answer t))) (m (Answer t))) t
             (renamed (m (Answer t)) at.0 at.1 named.0 at.2 led collected can (Answer t) tt refl);
-        sized = λ sized b x is. out.sized sized b x is;
+        sized = λ sized. sized_alike (moved_out c m (m (Answer t))) (write (moved_out c m (m (Answer t))) (Answer t) (now_in (moved_out c m (m (Answer t))) (m (Answer t)))) out.pieces (λ a. refl) (out.sized sized);
         order = λ order.
             let next = out.order order in
             record {
@@ -180,6 +181,7 @@ module _ (c : Config) (m : Word → ℕ) (block : Plot) (owner : ℕ → Option 
               no_new = next.no_new;
               floors = next.floors;
               unseated = next.unseated;
+              young = next.young;
             };
       })
 
@@ -208,9 +210,10 @@ all_cleared c owner p g (place ∷ places) m block are holds can =
     let rest = all_cleared c owner p g places (cleared_at c m place) next.pieces (λ q has. are q (is_later place places q has)) next.holds can.1 in
     record { pieces = rest.pieces; stay = λ a b is. rest.stay a b (next.stay a b is); set = rest.set ∙ next.set; holds = rest.holds; sized = λ sized. rest.sized (next.sized sized); order = λ order. rest.order (next.order order) }
 
--- A collection set may be stored where no object has moved.
+-- A collection set may be stored where no object has moved, if the shared region lies outside.
 module _ (c : Config) (m : Word → ℕ) (block : Plot) (owner : ℕ → Option ℕ) (p : Promises) (g : Graph) (holds : HoldsBy c m block owner p g)
-    (plain : (a refs nums : ℕ) (name : Name) → block a ≡ Some (thing name refs nums) → is_forwarded (m (Heap a)) ≡ false) (set : ℕ) where
+    (plain : (a refs nums : ℕ) (name : Name) → block a ≡ Some (thing name refs nums) → is_forwarded (m (Heap a)) ≡ false)
+    (set : ℕ) (away : (r : ℕ) → m Share ≡ r + 1 → IsIn set r → ⊥) where
   asking : AreAsking c (with_set m set) g p 0
   asking t from below some =
       let was = holds.asking t from below some in
@@ -225,7 +228,8 @@ module _ (c : Config) (m : Word → ℕ) (block : Plot) (owner : ℕ → Option 
     filled = holds.filled;
     pieces = holds.pieces;
     free_word = holds.free_word;
-    currents = record { within = holds.currents.within; own = holds.currents.own };
+    shared_one = λ r is. let was = holds.shared_one r is in record { within = was.within; in_use = was.in_use; nobodys = was.nobodys; outside = away r is };
+    buffers = holds.buffers;
     asking = asking;
     next = record { asked = holds.next.asked; promised = holds.next.promised; given = holds.next.given };
     unreached = holds.unreached;
@@ -246,8 +250,12 @@ module _ (c : Config) (m : Word → ℕ) (block : Plot) (owner : ℕ → Option 
       let member = was.in_set in
       omega (arith, member, none))
 
+  -- a region of the choice is a candidate
+  chosen_is : (r : ℕ) → IsIn set r → IsCandidate c m r
+  chosen_is r member = (candidate_is_candidate c m r).0 (member_is c.regions (copy_limit c m) (live_words c m) (is_candidate c m) r member).1
+
   set_holds : HoldsBy c with block owner p g
-  set_holds = set_stored_holds c m block owner p g holds unmoved set
+  set_holds = set_stored_holds c m block owner p g holds unmoved set (λ r is member. (chosen_is r member).nobodys (inl is))
 
   abbrev cleared : Word → ℕ
   cleared = roots_cleared c m set
@@ -260,9 +268,9 @@ module _ (c : Config) (m : Word → ℕ) (block : Plot) (owner : ℕ → Option 
     pieces = all.pieces;
     stay = all.stay;
     holds = holds_alike cleared (evac_started cleared)
-        (record { heap = λ a. refl; top = λ r. refl; root = λ t i. refl; answer = λ t. refl; wait = λ t. refl; current = λ s. refl; free = refl; cset = refl })
+        (record { heap = λ a. refl; top = λ r. refl; root = λ t i. refl; answer = λ t. refl; wait = λ t. refl; current = λ s. refl; free = refl; cset = refl; share = refl })
         c all.pieces owner p g all.holds;
-    sized = λ sized b x is. all.sized (λ q z here. sized q z here) b x is;
+    sized = λ sized. sized_alike cleared (evac_started cleared) all.pieces (λ a. refl) (all.sized (sized_alike m with block (λ a. refl) sized));
   }
 
   begun_none : HoldsStill c m (evac_spared m) block owner p g
@@ -270,9 +278,9 @@ module _ (c : Config) (m : Word → ℕ) (block : Plot) (owner : ℕ → Option 
     pieces = block;
     stay = λ a b is. is;
     holds = holds_alike m (evac_spared m)
-        (record { heap = λ a. refl; top = λ r. refl; root = λ t i. refl; answer = λ t. refl; wait = λ t. refl; current = λ s. refl; free = refl; cset = sym calm })
+        (record { heap = λ a. refl; top = λ r. refl; root = λ t i. refl; answer = λ t. refl; wait = λ t. refl; current = λ s. refl; free = refl; cset = sym calm; share = refl })
         c block owner p g holds;
-    sized = λ sized b x is. sized b x is;
+    sized = λ sized. sized_alike m (evac_spared m) block (λ a. refl) sized;
   }
 
   none_is : set ≡ 0 → evac_spared m ≡ evac_begun c m set
@@ -289,10 +297,7 @@ module _ (c : Config) (m : Word → ℕ) (block : Plot) (owner : ℕ → Option 
 
   -- Where marking has ended, what finishing a cycle asks for holds then.
   module _ (sized : AreSized m block) (through : IsMarkedThrough c m block) (marked : (a : ℕ) → is_black c m a ≡ true → IsObjectAt m block a)
-      (floors : (r : ℕ) → r < c.regions → m (Tams r) ≤ m (Top r)) (seats : HasNoMoreSeats c m) where
-    chosen_is : (r : ℕ) → IsIn set r → IsCandidate c m r
-    chosen_is r member = (candidate_is_candidate c m r).0 (member_is c.regions (copy_limit c m) (live_words c m) (is_candidate c m) r member).1
-
+      (floors : (r : ℕ) → r < c.regions → m (Tams r) ≤ m (Top r)) (young : AreYoungRooms c (λ r. m (Tams r)) block) (seats : HasNoMoreSeats c m) where
     -- reaching goes by roots, answers and the heap
     reached_same : (n w : Word → ℕ) → root_words c n ≡ root_words c w → ((a : ℕ) → n (Heap a) ≡ w (Heap a)) → (a : ℕ) → CanBeReached c n a → CanBeReached c w a
     reached_same n w roots heap a =
@@ -301,14 +306,12 @@ module _ (c : Config) (m : Word → ℕ) (block : Plot) (owner : ℕ → Option 
 
     order_first : IsInOrder c with block
     order_first = record {
-      marked = λ a collected black. let is = marked a black in (thing is.name is.refs is.nums, is.here);
+      marked = λ a collected black. let is = marked a black in (thing is.name is.refs is.nums, is.here, refl);
       reachable = λ a reached. through.reachable a (reached_same with m (same_root_words m with (λ t i. refl) (λ t. refl) c) (λ y. refl) a reached);
       no_new = λ r member. (chosen_is r member).no_new;
       floors = floors;
-      unseated = λ seat r is member. ⊎_elim
-          (λ (below : seat < seat_count c.mutators c.helpers). (chosen_is r member).nobodys (seat, below, is))
-          (λ (past : seat_count c.mutators c.helpers ≤ seat). (let none = seats seat past in omega (arith, is, none)))
-          (cases_lt seat (seat_count c.mutators c.helpers));
+      unseated = λ seat r is member. (chosen_is r member).nobodys (seated c m seats seat r is);
+      young = young;
     }
 
     collecting_some : HoldsCollecting c (evac_started cleared) owner p g
@@ -326,6 +329,7 @@ module _ (c : Config) (m : Word → ℕ) (block : Plot) (owner : ℕ → Option 
             no_new = order.no_new;
             floors = λ some. order.floors;
             unseated = order.unseated;
+            young = λ some. order.young;
             outside = λ off. absurd (off refl);
           };
           small = subst (λ k. k < 2 ^ c.regions) (sym all.set) (bits_small (is_in_front c.regions (copy_limit c m) (live_words c m) (is_candidate c m)) 0 c.regions);
@@ -338,11 +342,12 @@ module _ (c : Config) (m : Word → ℕ) (block : Plot) (owner : ℕ → Option 
       holds = begun_none.holds;
       sized = begun_none.sized sized;
       collecting = record {
-        marked = λ a collected black. let is = marked a black in (thing is.name is.refs is.nums, is.here);
+        marked = λ a collected black. let is = marked a black in (thing is.name is.refs is.nums, is.here, refl);
         reachable = λ some. absurd (some refl);
         no_new = λ r member. absurd (let none = bit_at-zero r in omega (arith, member, none));
         floors = λ some. absurd (some refl);
         unseated = λ seat r is member. (let none = bit_at-zero r in omega (arith, member, none));
+        young = λ some. absurd (some refl);
         outside = λ off a reached member. (let none = bit_at-zero (region_with c a) in omega (arith, member, none));
       };
       small = pow_pos c.regions;

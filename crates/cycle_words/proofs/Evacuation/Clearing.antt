@@ -35,7 +35,8 @@ use Rattle.cycle_words.proofs.Evacuation.Front.{front_is}
 use Rattle.cycle_words.proofs.Evacuation.Fits.{above_first}
 use Rattle.cycle_words.proofs.Evacuation.CopiedInTurn.{each_is_copied}
 use Rattle.cycle_words.proofs.Evacuation.Naming.{not_same, copied_naming, first_or_later, is_later, is_first, places_name, set_apart}
-use Rattle.cycle_words.proofs.Evacuation.Copies.{header_forwarded, now_is, now_same, not_collected, same_copy_room, same_copied_out, copied_front, copied_next}
+use Rattle.image_graph.proofs.Carried.{now_same}
+use Rattle.cycle_words.proofs.Evacuation.Copies.{header_forwarded, now_is, not_collected, same_copy_room, same_copied_out, copied_front, copied_next}
 
 none_distinct : IsDistinct nat_eq []
 unfolding IsDistinct

@@ -60,7 +60,7 @@ module _ (c : Config) (memory : Word → ℕ) (a r : ℕ) where
   unfolding copied_to
   heap_after x other = cond-false (a == x) (header_word to) _ (ne_eqb a x (λ same. other (sym same)))
 
-  others_stay : (word : Word) → (MayChange word → ⊥) → copied_to c memory a r word ≡ memory word
+  pub others_stay : (word : Word) → (MayChange word → ⊥) → copied_to c memory a r word ≡ memory word
   unfolding copied_to
   others_stay (Heap x) stays = absurd (stays tt)
   others_stay (Top q) stays = absurd (stays tt)

@@ -10,6 +10,7 @@ use Rattle.heap_words.specs.Encoding.{header_word, is_forwarded, forwardee_in, o
 use Rattle.packing.specs.Rooms.{lowest_room}
 use Rattle.regions.specs.Place.{base_of, region_with}
 use Rattle.regions.specs.Sets.{IsOutside, all_but}
+use Rattle.regions.specs.Walk.{is_filler}
 use Rattle.full_words.specs.Full.{now_in}
 use Rattle.cycle_words.specs.Evacuation.Live.{words_at}
 use Rattle.cycle_words.specs.Evacuation.Copying.{tops_outside}
@@ -20,6 +21,10 @@ use Rattle.cycle_words.specs.Evacuation.Begun.{IsNaming, is_collected, moved_out
 pub header_forwarded : (to : ℕ) → is_forwarded (header_word to) ≡ true
 header_forwarded to = eq-eqb ((4 * to + 3) % 4) 3 (omega arith)
 
+-- it is not that of words that only fill
+pub forwarded_fills : (to : ℕ) → is_filler (header_word to) ≡ false
+forwarded_fills to = ne_eqb ((4 * to + 3) % 4) 2 (omega arith)
+
 header_names : (to : ℕ) → forwardee_in (header_word to) ≡ to
 header_names to = omega arith
 
@@ -28,10 +33,6 @@ pub now_is : (m : Word → ℕ) (a to : ℕ) → m (Heap a) ≡ header_word to �
 now_is m a to header =
     cond-true (is_forwarded (m (Heap a))) (forwardee_in (m (Heap a))) a (ap is_forwarded header ∙ header_forwarded to)
     ∙ ap forwardee_in header ∙ header_names to
-
--- the current copy goes by the header
-pub now_same : (m n : Word → ℕ) (a : ℕ) → m (Heap a) ≡ n (Heap a) → now_in m a ≡ now_in n a
-now_same m n a same = ap (λ header. if is_forwarded header then forwardee_in header else a) same
 
 -- what is outside of the set is not collected
 pub not_collected : (c : Config) (m : Word → ℕ) (a : ℕ) → IsOutside (m Cset) (region_with c a) → is_collected c m a ≡ false

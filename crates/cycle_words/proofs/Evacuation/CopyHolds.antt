@@ -1,41 +1,46 @@
 -- A piece is copied out of the collection set: words that held a graph hold it, with the copy as a further piece.
-use Rattle.std.proofs.Common.{◌≡◌, ◌≢◌, ℕ, ◌+◌, ◌<◌, ◌≤◌, ◌⊎◌, ◌==◌, ◌&&◌, nat_le, true, false, inl, inr, Option, Some, ⊎_elim, refl, sym, ap, ◌∙◌, subst, arith}
+use Rattle.std.proofs.Common.{◌≡◌, ◌≢◌, ℕ, ◌+◌, ◌-◌, ◌<◌, ◌≤◌, ◌⊎◌, ◌==◌, ◌&&◌, nat_le, true, false, inl, inr, Option, Some, ⊎_elim, refl, sym, ap, ◌∙◌, subst, arith}
 use Rattle.std.specs.Prelude.{bit_and}
 use Rattle.std.specs.Int.{bit_at}
 use Rattle.std.proofs.Math.Path.{fun_ext}
 use Rattle.std.proofs.lemmas.Bool.{cases_eq, cases_Bool, cond-false, true≢false}
+use Rattle.std.proofs.lemmas.Option.{same_Some}
 use Rattle.std.proofs.lemmas.Nat.{and_le_l}
 use Rattle.std.proofs.lemmas.Nat.Bits.{bit_at-zero}
 use Rattle.heap_words.specs.declared.config.Config.{Config}
-use Rattle.heap_words.specs.Words.{Word, Phase, Cset, Free, Top, Tams, Current, Root, Wait, Answer, Black, Heap}
-use Rattle.heap_words.specs.Encoding.{is_forwarded, forwardee_in, object_words}
-use Rattle.regions.specs.Place.{base_of, region_with}
+use Rattle.heap_words.specs.Words.{Word, Phase, Cset, Free, Top, Tams, Current, Root, Wait, Answer, Black, Heap, Share}
+use Rattle.heap_words.specs.Encoding.{is_forwarded, forwardee_in, object_words, end_in}
+use Rattle.regions.specs.Place.{base_of, region_with, IsOf}
 use Rattle.regions.specs.Sets.{IsIn, IsOutside, all_but}
 use Rattle.regions.specs.Marks.{mark_word, mark_bit}
+use Rattle.regions.specs.Walk.{is_filler}
 use Rattle.regions.proofs.PlaceLemmas.{regions_tile}
 use Rattle.shen_graph.specs.declared.name.Name.{Name}
 use Rattle.shen_graph.specs.Graph.{Graph}
-use Rattle.heap_world.specs.World.{Block, thing, promised, words_of, Plot, name_at, IsCollected, IsPlotted, IsFilled, IsFreeWord, AreCurrent}
+use Rattle.heap_world.specs.World.{Block, thing, hand, promised, filler, carved, words_of, room_of, is_loose, Plot, name_at, IsCollected, IsPlotted, IsFilled, IsFreeWord, ShareIsOpen, AreBuffers, AreYoungRooms}
 use Rattle.heap_world.proofs.Updates.{updated, updated_same, updated_there, updated_else}
 use Rattle.heap_world.proofs.Pieces.{beside, piece_cases}
 use Rattle.heap_world.proofs.Pointing.{named_piece}
 use Rattle.heap_world.proofs.Apart.{far}
+use Rattle.heap_world.proofs.Recut.{room_loose}
 use Rattle.heap_world.proofs.Joined as joined
 use Rattle.heap_world.proofs.Joined.{CanJoin}
 use Rattle.full_words.specs.Held.{IsCopy}
 use Rattle.full_words.specs.Plot.{NamedAreThings}
 use Rattle.full_words.specs.Full.{now_in}
 use Rattle.full_words.specs.Promised.{Promises}
+use Rattle.full_words.proofs.Buffers.{buffers_stay, share_stays}
+use Rattle.image_graph.specs.State.{EndsIn}
 use Rattle.image_graph.specs.Holds.{HasMoved, HoldsBy, AreSized}
 use Rattle.cycle_words.specs.Marking.Marks.{is_black, IsNew, IsKept}
 use Rattle.cycle_words.specs.Marking.WhileMarking.{CanBeReached}
 use Rattle.cycle_words.specs.Evacuation.Live.{words_at}
 use Rattle.cycle_words.specs.Evacuation.Copied.{MayChange, top_address, copied_to, copied_out, IsCopiedOut}
 use Rattle.cycle_words.specs.Evacuation.Begun.{is_collected}
-use Rattle.cycle_words.specs.StillHolds.{AreMarkedPieces, WhileCollecting}
+use Rattle.cycle_words.specs.StillHolds.{AreMarkedObjects, WhileCollecting}
 use Rattle.cycle_words.proofs.Evacuation.CopiedOut.{copied_as}
-use Rattle.cycle_words.proofs.Evacuation.Copies.{header_forwarded, now_is, now_same}
-use Rattle.cycle_words.proofs.Evacuation.Carried.{not_renamed, IsCarried, led_comes, carried_holds}
+use Rattle.cycle_words.proofs.Evacuation.Copies.{header_forwarded, forwarded_fills, now_is}
+use Rattle.image_graph.proofs.Carried.{now_same, not_renamed, IsCarried, led_comes, carried_holds}
 
 -- a set that has a region is not empty
 pub some_set : (c : Config) (set a : ℕ) → IsCollected c set a → set ≢ 0
@@ -43,17 +48,18 @@ some_set c set a inside none = (let zero' : bit_at set (region_with c a) ≡ 0 =
 
 -- What holds of the collection set from one object to the next.
 pub record IsInOrder (c : Config) (m : Word → ℕ) (block : Plot) : Type 0 where
-  pub marked : AreMarkedPieces c m block
+  pub marked : AreMarkedObjects c m block
   pub reachable : (a : ℕ) → CanBeReached c m a → IsKept c m a
   pub no_new : (r : ℕ) → IsIn (m Cset) r → m (Top r) ≡ m (Tams r)
   pub floors : (r : ℕ) → r < c.regions → m (Tams r) ≤ m (Top r)
-  pub unseated : (seat r : ℕ) → m (Current seat) ≡ r + 1 → IsIn (m Cset) r → ⊥
+  pub unseated : (seat r : ℕ) → EndsIn c m seat r → IsIn (m Cset) r → ⊥
+  pub young : AreYoungRooms c (λ r. m (Tams r)) block
 
 pub in_order : (c : Config) (m : Word → ℕ) (block : Plot) → WhileCollecting c m block → m Cset ≢ 0 → IsInOrder c m block
-in_order c m block while some = record { marked = while.marked; reachable = while.reachable some; no_new = while.no_new; floors = while.floors some; unseated = while.unseated }
+in_order c m block while some = record { marked = while.marked; reachable = while.reachable some; no_new = while.no_new; floors = while.floors some; unseated = while.unseated; young = while.young some }
 
 module _ (c : Config) (m : Word → ℕ) (block : Plot) (owner : ℕ → Option ℕ) (p : Promises) (g : Graph) (holds : HoldsBy c m block owner p g)
-    (a : ℕ) (x : Block) (here : block a ≡ Some x) (inside : IsCollected c (m Cset) a) (plain : is_forwarded (m (Heap a)) ≡ false)
+    (a : ℕ) (x : Block) (here : block a ≡ Some x) (fixed : is_loose x ≡ false) (inside : IsCollected c (m Cset) a) (plain : is_forwarded (m (Heap a)) ≡ false)
     (size : words_at m a ≡ words_of x) (out : IsCopiedOut c m (copied_out c m a) a) where
   abbrev n : Word → ℕ
   n = copied_out c m a
@@ -202,6 +208,13 @@ module _ (c : Config) (m : Word → ℕ) (block : Plot) (owner : ℕ → Option 
   region_is : region_with c to ≡ r
   region_is = let room = out.room in regions_tile.of_no_other c r to (record { from = omega arith; before = omega (arith, own, room, size) })
 
+  -- room was there, for what is copied is none
+  room_was : (q seat : ℕ) (y : Block) → room_of y ≡ Some seat → plot q ≡ Some y → block q ≡ Some y
+  room_was q seat y room is = ⊎_elim
+      (λ (new : (q ≡ to) × (x ≡ y)). absurd (true≢false (sym (room_loose y seat room) ∙ sym (ap is_loose new.1) ∙ fixed)))
+      (λ (old : (q ≢ to) × (block q ≡ Some y)). old.1)
+      (cases q y is)
+
   named_again : (q : ℕ) (named : Name) → name_at (plot q) ≡ Some named → (refs : ℕ) × (nums : ℕ) × (plot q ≡ Some (thing named refs nums))
   named_again q named is =
       let at = named_piece (plot q) named is in
@@ -222,10 +235,8 @@ module _ (c : Config) (m : Word → ℕ) (block : Plot) (owner : ℕ → Option 
         (λ (new : (q ≡ to) × (x ≡ promised seat words)). holds.pieces.unpromised a seat words (here ∙ ap Some new.1))
         (λ (old : (q ≢ to) × (block q ≡ Some (promised seat words))). holds.pieces.unpromised q seat words old.1)
         (cases q (promised seat words) is);
-    roomless = λ q seat y is room. ⊎_elim
-        (λ (new : (q ≡ to) × (x ≡ y)). holds.pieces.roomless a seat y (here ∙ ap Some new.1) room)
-        (λ (old : (q ≢ to) × (block q ≡ Some y)). holds.pieces.roomless q seat y old.1 room)
-        (cases q y is);
+    unheld = λ q seat words is. holds.pieces.unheld q seat words (room_was q seat (hand seat words) refl is);
+    uncarved = λ q seat words is. holds.pieces.uncarved q seat words (room_was q seat (carved seat words) refl is);
     some = λ q z is. ⊎_elim
         (λ (new : (q ≡ to) × (x ≡ z)). subst (λ b. 1 ≤ words_of b) new.1 own)
         (λ (old : (q ≢ to) × (block q ≡ Some z)). long q z old.1)
@@ -352,26 +363,52 @@ module _ (c : Config) (m : Word → ℕ) (block : Plot) (owner : ℕ → Option 
     nobodys = λ q below is. holds.free_word.nobodys q below (free_was q below is).1;
   }
 
-  currents_again : AreCurrent c (λ s. n (Current s)) owner
-  currents_again = record {
-    within = λ seat q is. holds.currents.within seat q (sym (word_same (Current seat) (λ never. never)) ∙ is);
-    own = λ seat q is. holds.currents.own seat q (sym (word_same (Current seat) (λ never. never)) ∙ is);
-  }
+  -- the shared region may be carved still, and buffers are as their words tell
+  share_again : ShareIsOpen c (n Share) (n Free) (n Cset) owner
+  share_again =
+      subst (λ s. ShareIsOpen c s (n Free) (n Cset) owner) (sym (word_same Share (λ never. never)))
+      (subst (λ f. ShareIsOpen c (m Share) f (n Cset) owner) (sym free_is)
+      (subst (λ s. ShareIsOpen c (m Share) (bit_and (m Free) (all_but r)) s owner) (sym set_same) (share_stays c (m Share) (m Free) (m Cset) r owner out.below holds.shared_one)))
+
+  rises : (q : ℕ) → top q ≤ n (Top q)
+  rises q = ⊎_elim
+      (λ (same : q ≡ r). (let grown = out.copied.top in let at : n (Top q) ≡ n (Top r) = ap (λ k. n (Top k)) same in let was : m (Top q) ≡ m (Top r) = ap (λ k. m (Top k)) same in omega (arith, grown, at, was)))
+      (λ (other : q ≢ r). (let stays = top_same q other in omega (arith, stays)))
+      (cases_eq q r)
+
+  buffers_again : AreBuffers c (λ q. n (Top q)) (λ s. n (Current s)) plot
+  buffers_again = subst (λ s. AreBuffers c (λ q. n (Top q)) s plot) (sym (fun_ext (λ s. word_same (Current s) (λ never. never))))
+      (buffers_stay c top (λ q. n (Top q)) (λ s. m (Current s)) block plot (record { stays = λ q seat y room is. stays q y is; came = λ q seat y room is. room_was q seat y room is }) holds.buffers
+      (λ seat some. rises (holds.buffers.each seat some).region))
 
   pub copied_holds : HoldsBy c n plot owner p g
   copied_holds =
       carried_holds c m n block plot owner p g holds origin Lands carried moved_again
       (subst (λ t. IsFilled c t plot) (sym tops_are) (joined.filled_more c top block r (m (Top r)) x joins holds.filled))
-      pieces_again free_again currents_again
+      pieces_again free_again share_again buffers_again
 
   pub copied_sized : AreSized m block → AreSized n plot
-  copied_sized sized q z is = ⊎_elim
-      (λ (new : (q ≡ to) × (x ≡ z)).
-      ap (λ k. object_words (after (k + 1))) new.0 ∙ ap object_words (out.copied.words 1 (omega arith) (omega arith)) ∙ size ∙ ap words_of new.1)
-      (λ (old : (q ≢ to) × (block q ≡ Some z)).
-      let words = sized q z old.1 in
-      ap object_words (shape_stays q z old.1 (omega (arith, words))) ∙ sized q z old.1)
-      (cases q z is)
+  copied_sized sized = record {
+    objects = λ q z is stands. ⊎_elim
+        (λ (new : (q ≡ to) × (x ≡ z)).
+        ap (λ k. object_words (after (k + 1))) new.0 ∙ ap object_words (out.copied.words 1 (omega arith) (omega arith)) ∙ size ∙ ap words_of new.1)
+        (λ (old : (q ≢ to) × (block q ≡ Some z)).
+        let words = sized.objects q z old.1 stands in
+        ap object_words (shape_stays q z old.1 (omega (arith, words))) ∙ words)
+        (cases q z is);
+    headers = λ q z is stands. ⊎_elim
+        (λ (new : (q ≡ to) × (x ≡ z)). ap (λ k. is_filler (after k)) new.0 ∙ ap is_filler out.copied.header)
+        (λ (old : (q ≢ to) × (block q ≡ Some z)). ⊎_elim
+        (λ (same : q ≡ a). ap (λ k. is_filler (after k)) same ∙ ap is_filler out.copied.forwarded ∙ forwarded_fills to)
+        (λ (other : q ≢ a). ap is_filler (header_stays q z other old.1) ∙ sized.headers q z old.1 stands)
+        (cases_eq q a))
+        (cases q z is);
+    fillers = λ q words is. ⊎_elim
+        (λ (new : (q ≡ to) × (x ≡ filler words)). absurd (true≢false (sym (ap is_loose new.1) ∙ fixed)))
+        (λ (old : (q ≢ to) × (block q ≡ Some (filler words))).
+        header_stays q (filler words) (λ same. true≢false (ap is_loose (same_Some (filler words) x (sym old.1 ∙ ap block same ∙ here)) ∙ fixed)) old.1 ∙ sized.fillers q words old.1)
+        (cases q (filler words) is);
+  }
 
   -- what can be reached is the copy, or could be reached
   reached_was : (y : ℕ) → CanBeReached c n y → (y ≡ to) ⊎ CanBeReached c m y
@@ -415,8 +452,16 @@ module _ (c : Config) (m : Word → ℕ) (block : Plot) (owner : ℕ → Option 
       let other : q ≢ r = λ same. (let there : bit_at (m Cset) r ≡ 1 = subst (IsIn (m Cset)) same was in let away = out.outside in omega (arith, there, away)) in
       top_same q other ∙ no_new q was ∙ sym (word_same (Tams q) (λ never. never))
 
-  unseated_still : ((seat q : ℕ) → m (Current seat) ≡ q + 1 → IsIn (m Cset) q → ⊥) → (seat q : ℕ) → n (Current seat) ≡ q + 1 → IsIn (n Cset) q → ⊥
-  unseated_still unseated seat q is member = unseated seat q (sym (word_same (Current seat) (λ never. never)) ∙ is) (subst (λ s. IsIn s q) set_same member)
+  unseated_still : ((seat q : ℕ) → EndsIn c m seat q → IsIn (m Cset) q → ⊥) → (seat q : ℕ) → EndsIn c n seat q → IsIn (n Cset) q → ⊥
+  unseated_still unseated seat q is member =
+      unseated seat q (subst (λ k. (k ≢ 0) × IsOf c q (end_in k - 1)) (word_same (Current seat) (λ never. never)) is) (subst (λ s. IsIn s q) set_same member)
+
+  -- room is young still
+  young_still : AreYoungRooms c (λ q. m (Tams q)) block → AreYoungRooms c (λ q. n (Tams q)) plot
+  young_still young q seat y is room =
+      let same : n (Tams (region_with c q)) ≡ m (Tams (region_with c q)) = word_same (Tams (region_with c q)) (λ never. never) in
+      let was = young q seat y (room_was q seat y room is) room in
+      omega (arith, was, same)
 
   -- the header of another piece stays, and the object's own leads on
   pub header_same : (q : ℕ) (z : Block) → q ≢ a → block q ≡ Some z → n (Heap q) ≡ m (Heap q)
@@ -428,10 +473,10 @@ module _ (c : Config) (m : Word → ℕ) (block : Plot) (owner : ℕ → Option 
   pub collected_same : (y : ℕ) → is_collected c n y ≡ is_collected c m y
   collected_same y = ap (λ k. nat_le c.region_words y && (bit_at k (region_with c y) == 1)) set_same
 
-  pub marked_still : AreMarkedPieces c m block → AreMarkedPieces c n plot
+  pub marked_still : AreMarkedObjects c m block → AreMarkedObjects c n plot
   marked_still marked y collected black =
       let was = marked y (sym (collected_same y) ∙ collected) (sym (black_same y) ∙ black) in
-      (was.0, stays y was.0 was.1)
+      (was.0, stays y was.0 was.1, was.2)
 
   pub order_still : IsInOrder c m block → IsInOrder c n plot
   order_still order = record {
@@ -440,6 +485,7 @@ module _ (c : Config) (m : Word → ℕ) (block : Plot) (owner : ℕ → Option 
     no_new = no_new_still order.no_new;
     floors = floors_still order.floors;
     unseated = unseated_still order.unseated;
+    young = young_still order.young;
   }
 
   -- so finishing the cycle still keeps the graph: the copy lies outside of the set
@@ -452,6 +498,7 @@ module _ (c : Config) (m : Word → ℕ) (block : Plot) (owner : ℕ → Option 
         no_new = order.no_new;
         floors = λ set. order.floors;
         unseated = order.unseated;
+        young = λ set. order.young;
         outside = λ off y reached member.
             let was : IsCollected c (m Cset) y = subst (λ s. IsCollected c s y) set_same member in
             ⊎_elim

@@ -3,20 +3,19 @@ use Rattle.std.proofs.Common.{◌≡◌, ℕ, ◌+◌, ◌<◌, ◌≤◌, ◌�
 use Rattle.std.proofs.Math.Path.{fun_ext}
 use Rattle.std.proofs.lemmas.Bool.{cases_Bool, cond-true, cond-false, eqb-true}
 use Rattle.heap_words.specs.declared.config.Config.{Config}
-use Rattle.heap_words.specs.Words.{Word, Cset, Free, Top, Current, Root, Wait, Answer, Heap, write}
+use Rattle.heap_words.specs.Words.{Word, Cset, Free, Top, Current, Root, Wait, Answer, Heap, Share, write}
 use Rattle.heap_words.specs.Encoding.{is_forwarded, refs_in}
 use Rattle.heap_words.proofs.Stores.{both_equal}
 use Rattle.regions.specs.Place.{region_with}
 use Rattle.regions.specs.Sets.{IsIn, IsOutside}
 use Rattle.shen_graph.specs.declared.name.Name.{Name}
 use Rattle.shen_graph.specs.Graph.{Graph}
-use Rattle.heap_world.specs.World.{thing, Plot, name_at, IsPlotted, IsFilled, IsFreeWord, AreCurrent}
+use Rattle.heap_world.specs.World.{thing, Plot, name_at, IsPlotted, IsFilled, IsFreeWord, ShareIsOpen, AreBuffers}
 use Rattle.full_words.specs.Full.{now_in}
 use Rattle.full_words.specs.Promised.{Promises}
 use Rattle.image_graph.specs.Holds.{HasMoved, HoldsBy}
 use Rattle.cycle_words.specs.Marking.WhileMarking.{CanBeReached}
-use Rattle.cycle_words.proofs.Evacuation.Copies.{now_same}
-use Rattle.cycle_words.proofs.Evacuation.Carried.{IsRenamed, not_renamed, IsCarried, led_comes, carried_holds}
+use Rattle.image_graph.proofs.Carried.{now_same, IsRenamed, not_renamed, IsCarried, led_comes, carried_holds}
 
 -- Fields, roots and answers are renamed, and no other word of a piece, or of the regions, changes.
 pub record IsRenaming (c : Config) (m n : Word → ℕ) (block : Plot) : Type 0 where
@@ -31,6 +30,7 @@ pub record IsRenaming (c : Config) (m n : Word → ℕ) (block : Plot) : Type 0 
   pub free : n Free ≡ m Free
   pub cset : n Cset ≡ m Cset
   pub currents : (s : ℕ) → n (Current s) ≡ m (Current s)
+  pub share : n Share ≡ m Share
 
 module _ (c : Config) (m n : Word → ℕ) (block : Plot) (owner : ℕ → Option ℕ) (p : Promises) (g : Graph) (holds : HoldsBy c m block owner p g) (is : IsRenaming c m n block) where
   tops_are : ◌≡◌ {A = ℕ → ℕ} (λ r. n (Top r)) (λ r. m (Top r))
@@ -78,7 +78,9 @@ module _ (c : Config) (m n : Word → ℕ) (block : Plot) (owner : ℕ → Optio
       carried_holds c m n block block owner p g holds same_place Anywhere carried moved_again
       (subst (λ t. IsFilled c t block) (sym tops_are) holds.filled) holds.pieces
       (subst (λ t. IsFreeWord c (n Free) t owner) (sym tops_are) (subst (λ f. IsFreeWord c f (λ r. m (Top r)) owner) (sym is.free) holds.free_word))
-      (subst (λ s. AreCurrent c s owner) (sym (fun_ext is.currents)) holds.currents)
+      (subst (λ s. ShareIsOpen c s (n Free) (n Cset) owner) (sym is.share)
+      (subst (λ f. ShareIsOpen c (m Share) f (n Cset) owner) (sym is.free) (subst (λ s. ShareIsOpen c (m Share) (m Free) s owner) (sym is.cset) holds.shared_one)))
+      (subst (λ t. AreBuffers c t (λ s. n (Current s)) block) (sym tops_are) (subst (λ s. AreBuffers c (λ r. m (Top r)) s block) (sym (fun_ext is.currents)) holds.buffers))
 
   -- what can be reached could be
   pub reached_was : (x : ℕ) → CanBeReached c n x → CanBeReached c m x
@@ -104,6 +106,7 @@ module _ (c : Config) (m : Word → ℕ) (block : Plot) (owner : ℕ → Option 
     free = refl;
     cset = refl;
     currents = λ s. refl;
+    share = refl;
   }
 
   pub root_renamed : (t i : ℕ) → IsRenamed m (m (Root t i)) v → HoldsBy c (write m (Root t i) v) block owner p g
@@ -129,6 +132,7 @@ module _ (c : Config) (m : Word → ℕ) (block : Plot) (owner : ℕ → Option 
     free = refl;
     cset = refl;
     currents = λ s. refl;
+    share = refl;
   }
 
   pub answer_renamed : (t : ℕ) → IsRenamed m (m (Answer t)) v → HoldsBy c (write m (Answer t) v) block owner p g

@@ -1,16 +1,22 @@
 -- A cycle can be finished where the words hold a graph, and what is marked in the collection set are pieces that say how long they are.
-use Rattle.std.proofs.Common.{◌≡◌, ℕ, ◌+◌, ◌*◌, ◌<◌, ◌^◌, true, zero, suc, Option, sym, subst}
+use Rattle.std.proofs.Common.{◌≡◌, ℕ, ◌+◌, ◌*◌, ◌<◌, ◌^◌, true, zero, suc, Option, refl, sym, ◌∙◌, subst}
 use Rattle.heap_words.specs.declared.config.Config.{Config}
-use Rattle.heap_words.specs.Words.{Word}
+use Rattle.heap_words.specs.Words.{Word, Cset, Current}
 use Rattle.shen_graph.specs.Graph.{Graph}
 use Rattle.heap_world.specs.World.{Plot}
+use Rattle.buffer_words.specs.LetGo.{let_go}
 use Rattle.full_words.specs.Promised.{Promises}
+use Rattle.buffer_pauses.proofs.Inside.{buffers_inside}
+use Rattle.image_graph.proofs.Loosening.Loosened.{loosened_sized}
+use Rattle.image_graph.proofs.Loosening.Divided.{none_have_room}
+use Rattle.image_graph.proofs.Loosening.LettingGo.{has_let_go, let_go_seats}
+use Rattle.cycle_words.proofs.Finishing.Collecting.{let_go_collecting}
 use Rattle.cycle_words.specs.Evacuation.Copied.{CanCopyOut, copied_out}
 use Rattle.cycle_words.specs.Finishing.Copies.{is_left, CanCopyFrom, all_copied}
 use Rattle.cycle_words.specs.Finishing.Laws.{CollectingCanFinish}
 use Rattle.cycle_words.proofs.Evacuation.CanCopy.{object_can_be_copied}
 use Rattle.cycle_words.proofs.Finishing.CanUpdate.{references_can_be_updated}
-use Rattle.cycle_words.proofs.Finishing.Copies.{all_copied_set}
+use Rattle.cycle_words.proofs.Finishing.Copies.{all_copied_other, all_copied_set}
 use Rattle.cycle_words.proofs.Finishing.CopiesHold as copies
 use Rattle.cycle_words.proofs.Finishing.CopiesHold.{IsCopiedSoFar, all_copied_hold}
 
@@ -18,7 +24,7 @@ module _ (c : Config) (owner : ℕ → Option ℕ) (p : Promises) (g : Graph) wh
   one_can : (m : Word → ℕ) (block : Plot) (so_far : IsCopiedSoFar c m block owner p g) (a : ℕ) → is_left c m a ≡ true → CanCopyOut c m a
   one_can m block so_far a left =
       let piece = copies.piece c owner p g m block so_far a left in
-      object_can_be_copied c m block owner p g so_far.holds so_far.sized a piece.0 piece.1 (copies.inside c owner p g m block so_far a left)
+      object_can_be_copied c m block owner p g so_far.holds so_far.sized a piece (copies.inside c owner p g m block so_far a left)
 
   -- address by address
   all_can : (n : ℕ) (m : Word → ℕ) (block : Plot) (a : ℕ) → IsCopiedSoFar c m block owner p g → CanCopyFrom c m a n
@@ -33,10 +39,19 @@ module _ (c : Config) (owner : ℕ → Option ℕ) (p : Promises) (g : Graph) wh
   )
 
 pub collecting_can_finish : CollectingCanFinish
-collecting_can_finish c m block owner p g holds sized while small =
-    let first : IsCopiedSoFar c m block owner p g = record { holds = holds; sized = sized; marked = while.marked } in
-    let all = all_copied_hold c owner p g m block first in
+collecting_can_finish c m block owner p g holds sized seats while small =
+    let after = has_let_go c m block owner p g holds seats in
+    let first : IsCopiedSoFar c (let_go c m) after.plot owner p g = record {
+      holds = after.left.holds;
+      sized = loosened_sized c m (let_go c m) block after.plot owner p g holds after.left.loosened sized;
+      marked = (let_go_collecting c m block owner p g holds while seats).marked;
+    } in
+    let all = all_copied_hold c owner p g (let_go c m) after.plot first in
     record {
-      copies = λ at. all_can c owner p g (c.regions * c.region_words) m block c.region_words first;
-      updates = λ room. references_can_be_updated c (all_copied c m) all.0 owner p g all.2.holds all.2.sized (subst (λ k. k < 2 ^ c.regions) (sym (all_copied_set c m)) small);
+      buffers = buffers_inside c m block holds.objects.plotted holds.buffers;
+      copies = λ at. all_can c owner p g (c.regions * c.region_words) (let_go c m) after.plot c.region_words first;
+      updates = λ room. references_can_be_updated c (all_copied c (let_go c m)) all.0 owner p g all.2.holds all.2.sized
+          (none_have_room c (all_copied c (let_go c m)) all.0 owner p g all.2.holds
+          (λ seat. all_copied_other c (let_go c m) (Current seat) (λ never. never) ∙ let_go_seats c m block owner p g holds seats seat))
+          (subst (λ k. k < 2 ^ c.regions) (sym (all_copied_set c (let_go c m) ∙ after.left.loosened.others Cset refl)) small);
     }

@@ -4,19 +4,19 @@ use Rattle.heap_words.specs.declared.config.Config.{Config}
 use Rattle.heap_words.specs.Words.{Word, Cset, Top, Heap}
 use Rattle.regions.specs.Place.{base_of, region_with}
 use Rattle.regions.specs.Sets.{IsIn}
+use Rattle.regions.specs.Walk.{stride_at}
 use Rattle.regions.proofs.PlaceLemmas.{regions_tile}
 use Rattle.heap_world.specs.World.{Block, words_of, Plot, IsCollected, IsPlotted, IsFilled}
 use Rattle.heap_world.proofs.Pieces.{beside}
-use Rattle.cycle_words.specs.Evacuation.Live.{words_at}
 use Rattle.cycle_words.specs.Finishing.Updated.{start_of, CanUpdateAll}
 use Rattle.cycle_words.specs.Finishing.Laws.{ReferencesCanBeUpdated}
 use Rattle.cycle_words.proofs.Finishing.Fields.{covered}
-use Rattle.cycle_words.proofs.Finishing.UpdatedHolds.{some_words}
+use Rattle.cycle_words.proofs.Finishing.Strides.{strides}
 
 module _ (c : Config) (m : Word → ℕ) (block : Plot) (plotted : IsPlotted c (λ r. m (Top r)) block) (filled : IsFilled c (λ r. m (Top r)) block)
     (some : (a : ℕ) (x : Block) → block a ≡ Some x → 1 ≤ words_of x)
-    (sizes : (a : ℕ) (x : Block) → block a ≡ Some x → (IsCollected c (m Cset) a → ⊥) → words_at m a ≡ words_of x) (small : m Cset < 2 ^ c.regions) where
-  own_size : (q k : ℕ) (x : Block) → q < c.regions → (IsIn (m Cset) q → ⊥) → k < m (Top q) → block (base_of c q + k) ≡ Some x → words_at m (base_of c q + k) ≡ words_of x
+    (sizes : (a : ℕ) (x : Block) → block a ≡ Some x → (IsCollected c (m Cset) a → ⊥) → stride_at (λ y. m (Heap y)) a ≡ words_of x) (small : m Cset < 2 ^ c.regions) where
+  own_size : (q k : ℕ) (x : Block) → q < c.regions → (IsIn (m Cset) q → ⊥) → k < m (Top q) → block (base_of c q + k) ≡ Some x → stride_at (λ y. m (Heap y)) (base_of c q + k) ≡ words_of x
   own_size q k x inside away below here =
       let most = plotted.tops q inside in
       let same : region_with c (base_of c q + k) ≡ q = regions_tile.of_no_other c q (base_of c q + k) (record { from = omega arith; before = omega (arith, below, most) }) in
@@ -45,5 +45,5 @@ module _ (c : Config) (m : Word → ℕ) (block : Plot) (plotted : IsPlotted c (
   }
 
 pub references_can_be_updated : ReferencesCanBeUpdated
-references_can_be_updated c m block owner p g holds sized small =
-    can_update c m block holds.objects.plotted holds.filled (some_words c m block owner p g holds sized) (λ a x is away. sized a x is) small
+references_can_be_updated c m block owner p g holds sized none small =
+    can_update c m block holds.objects.plotted holds.filled holds.pieces.some (λ a x is away. strides m block sized none a x is) small

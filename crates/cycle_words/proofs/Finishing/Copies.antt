@@ -5,7 +5,8 @@ use Rattle.std.proofs.Math.Path.{fun_ext}
 use Rattle.std.proofs.lemmas.Bool.{cases_Bool, cases_eq, cond-true, cond-false, and_parts, eq-eqb, ne_eqb, true≢false}
 use Rattle.heap_words.specs.declared.config.Config.{Config}
 use Rattle.heap_words.specs.Words.{Word, Phase, Cset}
-use Rattle.cycle_words.specs.Evacuation.Copied.{copy_room, copied_to, copied_in, copied_out}
+use Rattle.cycle_words.specs.Evacuation.Copied.{copy_room, MayChange, copied_in, copied_out}
+use Rattle.cycle_words.proofs.Evacuation.CopiedOut.{others_stay}
 use Rattle.cycle_words.specs.Finishing.Copies.{is_left, is_found, has_copy_room, copied_from, is_room_from, all_copied}
 
 -- where there is room, a region has it
@@ -52,27 +53,30 @@ module _ (c : Config) (m : Word → ℕ) (a n : ℕ) where
   unfolding is_room_from
   room_skips other room = sym (cond-false (is_left c m a) room_next (is_room_from c m (a + 1) n) other) ∙ room
 
--- the collection set stays
-copied_set : (c : Config) (m : Word → ℕ) (a : ℕ) (o : Option ℕ) → copied_in c m a o Cset ≡ m Cset
-unfolding copied_to
-copied_set c m a None = refl
-copied_set c m a (Some r) = refl
+-- Words that copying does not change stay.
+copied_other : (c : Config) (m : Word → ℕ) (a : ℕ) (o : Option ℕ) (word : Word) → (MayChange word → ⊥) → copied_in c m a o word ≡ m word
+copied_other c m a None word stays = refl
+copied_other c m a (Some r) word stays = others_stay c m a r word stays
 
-set_from : (c : Config) (n : ℕ) (m : Word → ℕ) (a : ℕ) → copied_from c m a n Cset ≡ m Cset
-set_from c zero m a = ap (λ (f : Word → ℕ). f Cset) (copied_none c m a 0)
-set_from c (suc n) m a = ⊎_elim
+other_from : (c : Config) (n : ℕ) (m : Word → ℕ) (a : ℕ) (word : Word) → (MayChange word → ⊥) → copied_from c m a n word ≡ m word
+other_from c zero m a word stays = ap (λ (f : Word → ℕ). f word) (copied_none c m a 0)
+other_from c (suc n) m a word stays = ⊎_elim
     (λ (left : is_left c m a ≡ true). ⊎_elim
     (λ (room : has_copy_room c m a ≡ true).
-    ap (λ (f : Word → ℕ). f Cset) (copied_next c m a n left room) ∙ set_from c n (copied_out c m a) (a + 1) ∙ copied_set c m a (copy_room c m a))
-    (λ (none : has_copy_room c m a ≡ false). ap (λ (f : Word → ℕ). f Cset) (copied_stuck c m a n left none))
+    ap (λ (f : Word → ℕ). f word) (copied_next c m a n left room) ∙ other_from c n (copied_out c m a) (a + 1) word stays ∙ copied_other c m a (copy_room c m a) word stays)
+    (λ (none : has_copy_room c m a ≡ false). ap (λ (f : Word → ℕ). f word) (copied_stuck c m a n left none))
     (cases_Bool (has_copy_room c m a)))
-    (λ (other : is_left c m a ≡ false). ap (λ (f : Word → ℕ). f Cset) (copied_skips c m a n other) ∙ set_from c n m (a + 1))
+    (λ (other : is_left c m a ≡ false). ap (λ (f : Word → ℕ). f word) (copied_skips c m a n other) ∙ other_from c n m (a + 1) word stays)
     (cases_Bool (is_left c m a))
 
-pub all_copied_set : (c : Config) (m : Word → ℕ) → all_copied c m Cset ≡ m Cset
-all_copied_set c m = ⊎_elim
+pub all_copied_other : (c : Config) (m : Word → ℕ) (word : Word) → (MayChange word → ⊥) → all_copied c m word ≡ m word
+all_copied_other c m word stays = ⊎_elim
     (λ (at : m Phase ≡ 2).
-    cond-true (m Phase == 2) (copied_from c m c.region_words (c.regions * c.region_words) Cset) (m Cset) (eq-eqb (m Phase) 2 at)
-    ∙ set_from c (c.regions * c.region_words) m c.region_words)
-    (λ (off : m Phase ≢ 2). cond-false (m Phase == 2) (copied_from c m c.region_words (c.regions * c.region_words) Cset) (m Cset) (ne_eqb (m Phase) 2 off))
+    cond-true (m Phase == 2) (copied_from c m c.region_words (c.regions * c.region_words) word) (m word) (eq-eqb (m Phase) 2 at)
+    ∙ other_from c (c.regions * c.region_words) m c.region_words word stays)
+    (λ (off : m Phase ≢ 2). cond-false (m Phase == 2) (copied_from c m c.region_words (c.regions * c.region_words) word) (m word) (ne_eqb (m Phase) 2 off))
     (cases_eq (m Phase) 2)
+
+-- so does the collection set
+pub all_copied_set : (c : Config) (m : Word → ℕ) → all_copied c m Cset ≡ m Cset
+all_copied_set c m = all_copied_other c m Cset (λ never. never)

@@ -1,5 +1,5 @@
 -- All that is left of the collection set is copied out, or what finds room: words that held a graph hold it.
-use Rattle.std.proofs.Common.{◌≡◌, ◌≢◌, ℕ, ◌+◌, ◌*◌, ◌≤◌, ◌==◌, ◌&&◌, nat_le, true, false, not, zero, suc, Option, Some, sym, subst, ⊎_elim}
+use Rattle.std.proofs.Common.{◌≡◌, ◌≢◌, ℕ, ◌+◌, ◌*◌, ◌≤◌, ◌==◌, ◌&&◌, nat_le, true, false, not, zero, suc, Option, sym, subst, ⊎_elim}
 use Rattle.std.specs.Int.{bit_at}
 use Rattle.std.proofs.Math.Path.{fun_ext}
 use Rattle.std.proofs.lemmas.Bool.{cases_Bool, cases_eq, cond-true, cond-false, and_parts, leb-true, eqb-true, eq-eqb, ne_eqb, not-true}
@@ -8,15 +8,15 @@ use Rattle.heap_words.specs.Words.{Word, Phase, Cset, Heap}
 use Rattle.heap_words.specs.Encoding.{is_forwarded}
 use Rattle.regions.specs.Place.{region_with}
 use Rattle.shen_graph.specs.Graph.{Graph}
-use Rattle.heap_world.specs.World.{Block, words_of, Plot, IsCollected}
+use Rattle.heap_world.specs.World.{words_of, Plot, IsCollected}
 use Rattle.full_words.specs.Promised.{Promises}
-use Rattle.image_graph.specs.Holds.{HoldsBy, AreSized}
+use Rattle.image_graph.specs.Holds.{HoldsBy, AreSized, HasObject}
 use Rattle.cycle_words.specs.Marking.Marks.{is_black}
 use Rattle.cycle_words.specs.Evacuation.Live.{words_at}
 use Rattle.cycle_words.specs.Evacuation.Begun.{is_collected}
 use Rattle.cycle_words.specs.Evacuation.Copied.{copied_out, IsCopiedOut}
 use Rattle.cycle_words.specs.Finishing.Copies.{is_left, has_copy_room, copied_from, all_copied}
-use Rattle.cycle_words.specs.StillHolds.{PiecesStay, HoldsStill, AreMarkedPieces}
+use Rattle.cycle_words.specs.StillHolds.{PiecesStay, HoldsStill, AreMarkedObjects}
 use Rattle.cycle_words.proofs.Evacuation.CopiedOut.{copies_out}
 use Rattle.cycle_words.proofs.Evacuation.CopyHolds as copy
 use Rattle.cycle_words.proofs.Finishing.Copies.{room_found, copied_none, copied_next, copied_stuck, copied_skips}
@@ -25,7 +25,7 @@ use Rattle.cycle_words.proofs.Finishing.Copies.{room_found, copied_none, copied_
 pub record IsCopiedSoFar (c : Config) (n : Word → ℕ) (plot : Plot) (owner : ℕ → Option ℕ) (p : Promises) (g : Graph) : Type 0 where
   pub holds : HoldsBy c n plot owner p g
   pub sized : AreSized n plot
-  pub marked : AreMarkedPieces c n plot
+  pub marked : AreMarkedObjects c n plot
 
 module _ (c : Config) (owner : ℕ → Option ℕ) (p : Promises) (g : Graph) where
   -- An object is left, ..
@@ -42,11 +42,11 @@ module _ (c : Config) (owner : ℕ → Option ℕ) (p : Promises) (g : Graph) wh
     pub inside : IsCollected c (m Cset) a
     inside = eqb-true (bit_at (m Cset) (region_with c a)) 1 (and_parts (nat_le c.region_words a) (bit_at (m Cset) (region_with c a) == 1) parts.0).1
 
-    pub piece : (b : Block) × (block a ≡ Some b)
+    pub piece : HasObject block a
     piece = so_far.marked a parts.0 parts.1
 
     pub words : words_at m a ≡ words_of piece.0
-    words = so_far.sized a piece.0 piece.1
+    words = so_far.sized.objects a piece.0 piece.1 piece.2
 
     -- .. and there is room.
     module _ (room : has_copy_room c m a ≡ true) where
@@ -58,16 +58,16 @@ module _ (c : Config) (owner : ℕ → Option ℕ) (p : Promises) (g : Graph) wh
 
       -- the pieces with the copy
       abbrev pub more : Plot
-      more = copy.plot c m block owner p g so_far.holds a piece.0 piece.1 inside parts.2 words out
+      more = copy.plot c m block owner p g so_far.holds a piece.0 piece.1 piece.2 inside parts.2 words out
 
       pub more_stay : PiecesStay block more
-      more_stay = copy.stays c m block owner p g so_far.holds a piece.0 piece.1 inside parts.2 words out
+      more_stay = copy.stays c m block owner p g so_far.holds a piece.0 piece.1 piece.2 inside parts.2 words out
 
       pub one_copied : IsCopiedSoFar c n more owner p g
       one_copied = record {
-        holds = copy.copied_holds c m block owner p g so_far.holds a piece.0 piece.1 inside parts.2 words out;
-        sized = copy.copied_sized c m block owner p g so_far.holds a piece.0 piece.1 inside parts.2 words out so_far.sized;
-        marked = copy.marked_still c m block owner p g so_far.holds a piece.0 piece.1 inside parts.2 words out so_far.marked;
+        holds = copy.copied_holds c m block owner p g so_far.holds a piece.0 piece.1 piece.2 inside parts.2 words out;
+        sized = copy.copied_sized c m block owner p g so_far.holds a piece.0 piece.1 piece.2 inside parts.2 words out so_far.sized;
+        marked = copy.marked_still c m block owner p g so_far.holds a piece.0 piece.1 piece.2 inside parts.2 words out so_far.marked;
       }
 
   -- address by address
@@ -99,7 +99,7 @@ module _ (c : Config) (owner : ℕ → Option ℕ) (p : Promises) (g : Graph) wh
       (block, λ q z is. is, subst (λ w. IsCopiedSoFar c w block owner p g) same so_far))
       (cases_eq (m Phase) 2)
 
-pub copies_all_hold : (c : Config) (m : Word → ℕ) (block : Plot) (owner : ℕ → Option ℕ) (p : Promises) (g : Graph) → HoldsBy c m block owner p g → AreSized m block → AreMarkedPieces c m block
+pub copies_all_hold : (c : Config) (m : Word → ℕ) (block : Plot) (owner : ℕ → Option ℕ) (p : Promises) (g : Graph) → HoldsBy c m block owner p g → AreSized m block → AreMarkedObjects c m block
     → HoldsStill c m (all_copied c m) block owner p g
 copies_all_hold c m block owner p g holds sized marked =
     let all = all_copied_hold c owner p g m block (record { holds = holds; sized = sized; marked = marked }) in

@@ -1,22 +1,23 @@
 -- Once all that is left of the collection set was copied out, nothing that can be reached lies there.
-use Rattle.std.proofs.Common.{◌≡◌, ◌≢◌, ℕ, ◌+◌, ◌*◌, ◌<◌, ◌≤◌, ◌==◌, ◌&&◌, nat_le, true, false, not, zero, suc, Option, Some, sym, ap, ◌∙◌, subst, ⊎_elim, arith}
+use Rattle.std.proofs.Common.{◌≡◌, ◌≢◌, ℕ, ◌+◌, ◌*◌, ◌<◌, ◌≤◌, ◌==◌, ◌&&◌, nat_le, true, false, not, zero, suc, Option, sym, ap, ◌∙◌, subst, ⊎_elim, arith}
 use Rattle.std.specs.Int.{bit_at}
 use Rattle.std.proofs.Math.Path.{fun_ext}
 use Rattle.std.proofs.lemmas.Bool.{cases_Bool, cases_eq, cond-true, cond-false, and_parts, and_from, and_left, le-leb, eq-eqb, ne_eqb, not-true, not_from_false, true≢false, false_from_ne_true}
 use Rattle.std.proofs.lemmas.Nat.Bits.{bit_at-zero}
 use Rattle.heap_words.specs.declared.config.Config.{Config}
-use Rattle.heap_words.specs.Words.{Word, Phase, Cset, Top, Current, Heap}
+use Rattle.heap_words.specs.Words.{Word, Phase, Cset, Top, Heap}
 use Rattle.heap_words.specs.Encoding.{is_forwarded}
 use Rattle.regions.specs.Place.{region_with}
 use Rattle.regions.specs.Sets.{IsIn}
 use Rattle.shen_graph.specs.Graph.{Graph}
-use Rattle.heap_world.specs.World.{Block, thing, words_of, Plot, IsCollected}
+use Rattle.heap_world.specs.World.{thing, words_of, Plot, IsCollected}
 use Rattle.heap_world.proofs.Pointing.{piece_inside}
 use Rattle.full_words.specs.Held.{IsAmong}
 use Rattle.full_words.specs.Full.{now_in, root_words}
 use Rattle.full_words.specs.Promised.{Promises, with_promised}
 use Rattle.full_words.proofs.Reached.{held_is_reached}
-use Rattle.image_graph.specs.Holds.{HoldsBy, AreSized}
+use Rattle.image_graph.specs.State.{EndsIn}
+use Rattle.image_graph.specs.Holds.{HoldsBy, AreSized, HasObject}
 use Rattle.cycle_words.specs.Marking.Marks.{is_black, IsNew, IsKept}
 use Rattle.cycle_words.specs.Marking.WhileMarking.{CanBeReached}
 use Rattle.cycle_words.proofs.Marking.Plain.{below_top}
@@ -57,7 +58,7 @@ module _ (c : Config) (owner : ℕ → Option ℕ) (p : Promises) (g : Graph) wh
     abbrev inside : IsCollected c (m Cset) a
     inside = copies.inside c owner p g m block so_far a left
 
-    abbrev piece : (b : Block) × (block a ≡ Some b)
+    abbrev piece : HasObject block a
     piece = copies.piece c owner p g m block so_far a left
 
     abbrev words : words_at m a ≡ words_of piece.0
@@ -68,13 +69,13 @@ module _ (c : Config) (owner : ℕ → Option ℕ) (p : Promises) (g : Graph) wh
     left_was y now =
         let three = and_parts (is_collected c n y && is_black c n y) (not (is_forwarded (n (Heap y)))) now in
         let two = and_parts (is_collected c n y) (is_black c n y) three.0 in
-        let collected : is_collected c m y ≡ true = sym (copy.collected_same c m block owner p g so_far.holds a piece.0 piece.1 inside parts.2 words out y) ∙ two.0 in
-        let black : is_black c m y ≡ true = sym (copy.black_same c m block owner p g so_far.holds a piece.0 piece.1 inside parts.2 words out y) ∙ two.1 in
+        let collected : is_collected c m y ≡ true = sym (copy.collected_same c m block owner p g so_far.holds a piece.0 piece.1 piece.2 inside parts.2 words out y) ∙ two.0 in
+        let black : is_black c m y ≡ true = sym (copy.black_same c m block owner p g so_far.holds a piece.0 piece.1 piece.2 inside parts.2 words out y) ∙ two.1 in
         let plain : is_forwarded (n (Heap y)) ≡ false = not-true (is_forwarded (n (Heap y))) three.1 in
         let other : y ≢ a = λ same.
-        true≢false (sym (copy.moved_now c m block owner p g so_far.holds a piece.0 piece.1 inside parts.2 words out) ∙ ap (λ k. is_forwarded (n (Heap k))) (sym same) ∙ plain) in
+        true≢false (sym (copy.moved_now c m block owner p g so_far.holds a piece.0 piece.1 piece.2 inside parts.2 words out) ∙ ap (λ k. is_forwarded (n (Heap k))) (sym same) ∙ plain) in
         let was = so_far.marked y collected black in
-        let same : n (Heap y) ≡ m (Heap y) = copy.header_same c m block owner p g so_far.holds a piece.0 piece.1 inside parts.2 words out y was.0 other was.1 in (
+        let same : n (Heap y) ≡ m (Heap y) = copy.header_same c m block owner p g so_far.holds a piece.0 piece.1 piece.2 inside parts.2 words out y was.0 other was.1 in (
           other,
           and_from (is_collected c m y && is_black c m y) (not (is_forwarded (m (Heap y)))) (and_from (is_collected c m y) (is_black c m y) collected black)
               (not_from_false (is_forwarded (m (Heap y))) (ap is_forwarded (sym same) ∙ plain)),
@@ -82,10 +83,10 @@ module _ (c : Config) (owner : ℕ → Option ℕ) (p : Promises) (g : Graph) wh
 
     one_more : (plot : Plot) × IsGoingOn c n plot owner p g (a + 1)
     one_more = (
-      copy.plot c m block owner p g so_far.holds a piece.0 piece.1 inside parts.2 words out,
+      copy.plot c m block owner p g so_far.holds a piece.0 piece.1 piece.2 inside parts.2 words out,
       record {
         so_far = copies.one_copied c owner p g m block so_far a left room;
-        order = copy.order_still c m block owner p g so_far.holds a piece.0 piece.1 inside parts.2 words out on.order;
+        order = copy.order_still c m block owner p g so_far.holds a piece.0 piece.1 piece.2 inside parts.2 words out on.order;
         none_left = λ y below. false_from_ne_true (is_left c n y) (λ now.
             let was = left_was y now in
             let other = was.0 in
@@ -128,7 +129,7 @@ pub record IsEmptied (c : Config) (n : Word → ℕ) (plot : Plot) (owner : ℕ 
   pub holds : HoldsBy c n plot owner p g
   pub sized : AreSized n plot
   pub reachable : n Cset ≢ 0 → (a : ℕ) → CanBeReached c n a → IsKept c n a
-  pub unseated : (seat r : ℕ) → n (Current seat) ≡ r + 1 → IsIn (n Cset) r → ⊥
+  pub unseated : (seat r : ℕ) → EndsIn c n seat r → IsIn (n Cset) r → ⊥
   pub outside : (a : ℕ) → CanBeReached c n a → IsCollected c (n Cset) a → ⊥
 
 module _ (c : Config) (n : Word → ℕ) (plot : Plot) (owner : ℕ → Option ℕ) (p : Promises) (g : Graph) (passed : ℕ) (on : IsGoingOn c n plot owner p g passed)

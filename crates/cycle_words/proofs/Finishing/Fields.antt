@@ -8,13 +8,13 @@ use Rattle.heap_words.specs.Words.{Word, Cset, Top, Tams, Black, Heap}
 use Rattle.heap_words.specs.Encoding.{header_word, is_forwarded, forwardee_in}
 use Rattle.regions.specs.Place.{base_of, region_with}
 use Rattle.regions.specs.Sets.{IsIn}
+use Rattle.regions.specs.Walk.{stride_at}
 use Rattle.regions.proofs.PlaceLemmas.{regions_tile}
 use Rattle.regions.specs.Marks.{HasMark, mark_word, mark_bit}
 use Rattle.heap_world.specs.World.{Block, words_of, Plot, IsCollected, IsYoung, IsPlotted, IsFilled}
 use Rattle.full_words.specs.Full.{now_in}
 use Rattle.cycle_words.specs.Marking.Marks.{is_black}
 use Rattle.cycle_words.proofs.Marking.Plain.{below_top}
-use Rattle.cycle_words.specs.Evacuation.Live.{words_at}
 use Rattle.cycle_words.specs.Evacuation.Begun.{is_collected}
 use Rattle.cycle_words.specs.Finishing.Updated.{updated_word, start_of, object_of, is_kept, is_reference, is_outside, is_kept_field, all_updated}
 use Rattle.cycle_words.proofs.Finishing.Starts.{start_first, start_ends, start_goes_on}
@@ -59,10 +59,10 @@ module _ (c : Config) (m : Word → ℕ) where
       back : forwardee_in (header_word to) ≡ to
       back = omega arith
 
--- Pieces of regions outside the set begin where objects do.
+-- Pieces of regions outside the set begin where the walk comes.
 module _ (c : Config) (m : Word → ℕ) (block : Plot) (plotted : IsPlotted c (λ r. m (Top r)) block) (filled : IsFilled c (λ r. m (Top r)) block)
     (some : (a : ℕ) (x : Block) → block a ≡ Some x → 1 ≤ words_of x)
-    (sizes : (a : ℕ) (x : Block) → block a ≡ Some x → (IsCollected c (m Cset) a → ⊥) → words_at m a ≡ words_of x) where
+    (sizes : (a : ℕ) (x : Block) → block a ≡ Some x → (IsCollected c (m Cset) a → ⊥) → stride_at (λ y. m (Heap y)) a ≡ words_of x) where
   abbrev heap : ℕ → ℕ
   heap y = m (Heap y)
 
@@ -87,7 +87,7 @@ module _ (c : Config) (m : Word → ℕ) (block : Plot) (plotted : IsPlotted c (
   covered r (suc k) inside outside below =
       let before = covered r k inside outside (omega (arith, below)) in
       let here : region_with c (base_of c r + start r k) ≡ r = of_region r (base_of c r + start r k) inside (omega arith) (omega (arith, before.2, below)) in
-      let long : words_at m (base_of c r + start r k) ≡ words_of before.0 =
+      let long : stride_at heap (base_of c r + start r k) ≡ words_of before.0 =
       sizes (base_of c r + start r k) before.0 before.1 (λ collected. outside (subst (IsIn (m Cset)) here collected)) in
       ⊎_elim
       (λ (ends : start r k + words_of before.0 ≡ suc k).

@@ -6,14 +6,15 @@ use Rattle.std.proofs.lemmas.Bool.{cases_Bool, cases_lt, cond-true, cond-false, 
 use Rattle.std.proofs.lemmas.Nat.Bits.{bit_at-lt}
 use Rattle.std.proofs.lemmas.Option.{slice_get-get_or}
 use Rattle.heap_words.specs.declared.config.Config.{Config}
-use Rattle.heap_words.specs.Words.{Word, Cset, Top, Root, Answer, Heap}
+use Rattle.heap_words.specs.Words.{Word, Cset, Top, Current, Root, Answer, Heap}
+use Rattle.buffer_words.specs.LetGo.{let_go}
 use Rattle.heap_words.specs.Encoding.{refs_in}
 use Rattle.regions.specs.Place.{region_with}
 use Rattle.regions.specs.Sets.{IsOutside}
 use Rattle.shen_graph.specs.declared.name.Name.{Name}
 use Rattle.shen_graph.specs.Graph.{Graph, Reference}
 use Rattle.heap_graph.specs.Walk.{has}
-use Rattle.heap_world.specs.World.{thing, Plot, name_at, IsCollected}
+use Rattle.heap_world.specs.World.{thing, Plot, HasNoRoom, name_at, IsCollected}
 use Rattle.heap_world.proofs.Pointing.{named_piece, named_if_not_0, piece_inside}
 use Rattle.full_words.specs.Held.{from_root, from_field, IsAmong}
 use Rattle.full_words.specs.Full.{now_in, roots_below, answers_below, root_words, served}
@@ -26,11 +27,17 @@ use Rattle.cycle_words.specs.Marking.WhileMarking.{CanBeReached}
 use Rattle.cycle_words.specs.Evacuation.Begun.{is_collected}
 use Rattle.cycle_words.specs.Finishing.Updated.{updated_word, is_kept_field, all_updated}
 use Rattle.cycle_words.specs.Finishing.Copies.{all_copied, is_room_for_all}
-use Rattle.cycle_words.specs.Finishing.Finish.{set_freed, cycle_finished, finished}
+use Rattle.cycle_words.specs.Finishing.Finish.{set_freed, cycle_finished, finished_from, finished}
 use Rattle.cycle_words.specs.Finishing.Laws.{UpdatedNamesNothing}
 use Rattle.cycle_words.specs.StillHolds.{NothingNames, HoldsAnew, FinishingHolds}
 use Rattle.cycle_words.proofs.Evacuation.CopyHolds.{some_set}
 use Rattle.cycle_words.proofs.Evacuation.RenamedInPlace as renamed
+use Rattle.image_graph.specs.Buffers.{HasNoMoreSeats}
+use Rattle.image_graph.proofs.Loosening.Loosened.{loosened_sized}
+use Rattle.image_graph.proofs.Loosening.Divided.{none_have_room}
+use Rattle.image_graph.proofs.Loosening.LettingGo.{has_let_go, let_go_seats}
+use Rattle.cycle_words.proofs.Finishing.Collecting.{let_go_collecting}
+use Rattle.cycle_words.proofs.Finishing.Copies.{all_copied_other}
 use Rattle.cycle_words.proofs.Finishing.Fields.{low_spared}
 use Rattle.cycle_words.proofs.Finishing.UpdatedHolds.{updated_holds, updated_sized, renaming, word_stays}
 use Rattle.cycle_words.proofs.Finishing.KeptFields.{is_field}
@@ -39,7 +46,7 @@ use Rattle.cycle_words.proofs.Finishing.Emptied.{IsEmptied, emptied_then}
 use Rattle.cycle_words.proofs.Finishing.SetFreed.{left, owned, set_freed_holds, set_freed_sized}
 
 -- Once the set was emptied and all references were updated nothing names it.
-module _ (c : Config) (m : Word → ℕ) (block : Plot) (owner : ℕ → Option ℕ) (p : Promises) (g : Graph) (is : IsEmptied c m block owner p g) where
+module _ (c : Config) (m : Word → ℕ) (block : Plot) (owner : ℕ → Option ℕ) (p : Promises) (g : Graph) (is : IsEmptied c m block owner p g) (none : HasNoRoom block) where
   abbrev n : Word → ℕ
   n = all_updated c m
 
@@ -53,7 +60,7 @@ module _ (c : Config) (m : Word → ℕ) (block : Plot) (owner : ℕ → Option 
   holds = is.holds
 
   reached_was : (a : ℕ) → CanBeReached c n a → CanBeReached c m a
-  reached_was = renamed.reached_was c m n block owner p g holds (renaming c m block owner p g holds is.sized)
+  reached_was = renamed.reached_was c m n block owner p g holds (renaming c m block owner p g holds is.sized none)
 
   -- a word that named an object names nothing of the set once it was updated
   word_outside : (v : ℕ) (name : Name) → name_at (block v) ≡ Some name → CanBeReached c m (now_in m v) → IsCollected c (m Cset) (updated_word c m v) → ⊥
@@ -98,14 +105,14 @@ module _ (c : Config) (m : Word → ℕ) (block : Plot) (owner : ℕ → Option 
       let at = held_is_reached c top heap block (now_in m) (IsAmong (root_words c m)) (with_promised g p) holds.objects a was in
       let object = holds.objects.each a at.1 at.2 at.0 was at.3 in
       let reads : refs_in (heap (a + 1)) ≡ at.1 = ap refs_in object.2.shape ∙ refs_read at.1 at.2 object.2.few_refs object.2.few_nums in
-      let shape : n (Heap (a + 1)) ≡ heap (a + 1) = word_stays c m block owner p g holds is.sized a 1 0 (thing at.0 at.1 at.2) at.3 (omega arith) (inl (omega arith)) in
+      let shape : n (Heap (a + 1)) ≡ heap (a + 1) = word_stays c m block owner p g holds is.sized none a 1 0 (thing at.0 at.1 at.2) at.3 (omega arith) (inl (omega arith)) in
       let count : i < refs_in (heap (a + 1)) = subst (λ k. i < k) (ap refs_in shape) few in
       let below : i < at.1 = omega (arith, count, reads) in
       let kept_is = is.reachable (some_set c (m Cset) (n (Heap (a + 3 + i))) member) a was in
       let bit = bit_at-lt (m Cset) (region_with c a) in
       let away : IsOutside (m Cset) (region_with c a) = no_bit (bit_at (m Cset) (region_with c a)) bit (λ inside. is.outside a was inside) in
-      let field : is_kept_field c m (a + 3 + i) ≡ true = is_field c m block owner p g holds is.sized (a + 3 + i)
-      (record { object = a; piece = thing at.0 at.1 at.2; here = at.3; outside = away; kept = kept_is; field = i; few = count; at = refl }) in
+      let field : is_kept_field c m (a + 3 + i) ≡ true = is_field c m block owner p g holds is.sized none (a + 3 + i)
+      (record { object = a; piece = thing at.0 at.1 at.2; here = at.3; is_object = refl; outside = away; kept = kept_is; field = i; few = count; at = refl }) in
       let same : n (Heap (a + 3 + i)) ≡ updated_word c m (heap (a + 3 + i)) = cond-true (is_kept_field c m (a + 3 + i)) (updated_word c m (heap (a + 3 + i))) (heap (a + 3 + i)) field in
       let other : heap (a + 3 + i) ≢ 0 = λ none. some (same ∙ low_spared c m (heap (a + 3 + i)) (omega (arith, none)) ∙ none) in
       let reference : Reference = get_or object.0.refs i None in
@@ -120,7 +127,7 @@ module _ (c : Config) (m : Word → ℕ) (block : Plot) (owner : ℕ → Option 
   nothing_names = record { roots = named_outside; fields = field_outside; unseated = is.unseated }
 
   updated : HoldsBy c n block owner p g
-  updated = updated_holds c m block owner p g holds is.sized
+  updated = updated_holds c m block owner p g holds is.sized none
 
   -- so the set may be freed, and who waits served
   pub served_holds : HoldsAnew c (served c (set_freed c n) c.mutators) g
@@ -132,21 +139,30 @@ module _ (c : Config) (m : Word → ℕ) (block : Plot) (owner : ℕ → Option 
         owner = _;
         promises = _;
         holds = after.holds;
-        sized = after.sized (set_freed_sized c n block owner p g updated nothing_names (updated_sized c m block owner p g holds is.sized));
+        sized = after.sized (set_freed_sized c n block owner p g updated nothing_names (updated_sized c m block owner p g holds is.sized none));
       }
 
-pub finishing_holds : (c : Config) (m : Word → ℕ) → FinishingHolds c m (finished c m)
-finishing_holds c m block owner p g holds sized while = ⊎_elim
+-- From words in which nobody has a buffer ..
+finishing_from : (c : Config) (m : Word → ℕ) → ((seat : ℕ) → m (Current seat) ≡ 0) → FinishingHolds c m (finished_from c m)
+finishing_from c m nobody block owner p g holds sized while = ⊎_elim
     (λ (room : is_room_for_all c m ≡ true).
     let emptied = emptied_then c m block owner p g holds sized while room in
+    let none = none_have_room c (all_copied c m) emptied.0 owner p g emptied.1.holds (λ seat. all_copied_other c m (Current seat) (λ never. never) ∙ nobody seat) in
     subst (λ n. HoldsAnew c n g) (fun_ext (λ word. sym (cond-true (is_room_for_all c m) (served c (cycle_finished c m) c.mutators word) (all_copied c m word) room)))
-    (served_holds c (all_copied c m) emptied.0 owner p g emptied.1))
+    (served_holds c (all_copied c m) emptied.0 owner p g emptied.1 none))
     (λ (none : is_room_for_all c m ≡ false).
     let still = copies_all_hold c m block owner p g holds sized while.marked in
     subst (λ n. HoldsAnew c n g) (fun_ext (λ word. sym (cond-false (is_room_for_all c m) (served c (cycle_finished c m) c.mutators word) (all_copied c m word) none)))
     (record { pieces = still.pieces; owner = owner; promises = p; holds = still.holds; sized = still.sized sized }))
     (cases_Bool (is_room_for_all c m))
 
+-- .. as when all buffers were let go.
+pub finishing_holds : (c : Config) (m : Word → ℕ) → HasNoMoreSeats c m → FinishingHolds c m (finished c m)
+finishing_holds c m seats block owner p g holds sized while =
+    let after = has_let_go c m block owner p g holds seats in
+    finishing_from c (let_go c m) (let_go_seats c m block owner p g holds seats) after.plot owner p g after.left.holds
+    (loosened_sized c m (let_go c m) block after.plot owner p g holds after.left.loosened sized) (let_go_collecting c m block owner p g holds while seats)
+
 pub updated_names_nothing : UpdatedNamesNothing
-updated_names_nothing c m block owner p g holds sized while nothing =
-    nothing_names c m block owner p g (record { holds = holds; sized = sized; reachable = while.reachable; unseated = while.unseated; outside = nothing })
+updated_names_nothing c m block owner p g holds sized none while nothing =
+    nothing_names c m block owner p g (record { holds = holds; sized = sized; reachable = while.reachable; unseated = while.unseated; outside = nothing }) none

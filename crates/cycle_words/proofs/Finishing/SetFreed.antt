@@ -1,6 +1,7 @@
 -- The collection set is freed: words that hold a graph, of which nothing names the set, hold it without the pieces of the set.
-use Rattle.std.proofs.Common.{◌≡◌, ℕ, ◌+◌, Bool, false, Option, refl, sym, ◌∙◌}
+use Rattle.std.proofs.Common.{◌≡◌, ℕ, ◌+◌, Bool, false, Option, refl, sym, ◌∙◌, arith}
 use Rattle.std.specs.Int.{bit_at}
+use Rattle.std.proofs.lemmas.Nat.Bits.{bit_at-zero}
 use Rattle.std.proofs.lemmas.Bool.{ne_eqb, eq-eqb, false_from_ne_true, true≢false}
 use Rattle.heap_words.specs.declared.config.Config.{Config}
 use Rattle.heap_words.specs.Words.{Word, Cset, Heap}
@@ -17,8 +18,8 @@ use Rattle.cycle_words.specs.StillHolds.{NothingNames, EndingHolds}
 use Rattle.cycle_words.specs.Finishing.Finish.{set_freed}
 use Rattle.cycle_words.specs.Evacuation.Begun.{with_set}
 use Rattle.cycle_words.proofs.Evacuation.ClearedHolds.{set_stored_holds}
-use Rattle.cycle_words.proofs.Marking.Alike.{holds_alike}
-use Rattle.cycle_words.proofs.Marking.Vanished.{piece_was}
+use Rattle.cycle_words.proofs.Marking.Alike.{sized_alike, holds_alike}
+use Rattle.cycle_words.proofs.Marking.Vanished.{freed_sized}
 use Rattle.cycle_words.proofs.Marking.Freed.{CanFree, left_unmoved, freed_holds}
 
 module _ (c : Config) (m : Word → ℕ) (block : Plot) (owner : ℕ → Option ℕ) (p : Promises) (g : Graph) (holds : HoldsBy c m block owner p g) (nothing : NothingNames c m) where
@@ -31,6 +32,7 @@ module _ (c : Config) (m : Word → ℕ) (block : Plot) (owner : ℕ → Option 
   can : CanFree c out m block
   can = record {
     unseated = λ seat r is. not_out r (nothing.unseated seat r is);
+    unshared = λ r is. not_out r (holds.shared_one r is).outside;
     unnamed_roots = λ word among some. not_out (region_with c word) (nothing.roots word among some);
     unnamed_fields = λ a i held few some. not_out (region_with c (m (Heap (a + 3 + i)))) (nothing.fields a i held few some);
     unmoved = λ a refs nums name is left. false_from_ne_true (is_forwarded (m (Heap a))) (λ forwarded.
@@ -50,22 +52,23 @@ module _ (c : Config) (m : Word → ℕ) (block : Plot) (owner : ℕ → Option 
   -- nothing that is left has moved, so no region need be in the set
   calm_holds : HoldsBy c (with_set n 0) left owned p g
   calm_holds = set_stored_holds c n left owned p g (freed_holds c out m block owner p g holds can) (λ a refs nums name is. left_unmoved c out m block owner p g holds can a refs nums name is) 0
+      (λ r is member. (let none = bit_at-zero r in omega (arith, member, none)))
 
   pub set_ended_holds : HoldsBy c (final_updated c m) left owned p g
   set_ended_holds = holds_alike (with_set n 0) (final_updated c m)
-      (record { heap = λ a. refl; top = λ r. refl; root = λ t i. refl; answer = λ t. refl; wait = λ t. refl; current = λ s. refl; free = refl; cset = refl })
+      (record { heap = λ a. refl; top = λ r. refl; root = λ t i. refl; answer = λ t. refl; wait = λ t. refl; current = λ s. refl; free = refl; cset = refl; share = refl })
       c left owned p g calm_holds
 
   pub set_freed_holds : HoldsBy c (set_freed c m) left owned p g
   set_freed_holds = holds_alike (with_set n 0) (set_freed c m)
-      (record { heap = λ a. refl; top = λ r. refl; root = λ t i. refl; answer = λ t. refl; wait = λ t. refl; current = λ s. refl; free = refl; cset = refl })
+      (record { heap = λ a. refl; top = λ r. refl; root = λ t i. refl; answer = λ t. refl; wait = λ t. refl; current = λ s. refl; free = refl; cset = refl; share = refl })
       c left owned p g calm_holds
 
   pub set_freed_sized : AreSized m block → AreSized (set_freed c m) left
-  set_freed_sized sized a b is = let was = piece_was c out block a b is in sized a b was.1
+  set_freed_sized sized = sized_alike m (set_freed c m) left (λ a. refl) (freed_sized c out m block sized)
 
 pub ending_holds : (c : Config) (m : Word → ℕ) → EndingHolds c m (final_updated c m)
 ending_holds c m block owner p g holds nothing = record {
   holds = set_ended_holds c m block owner p g holds nothing;
-  sized = λ sized a b is. sized a b (piece_was c (is_chosen m) block a b is).1;
+  sized = λ sized. sized_alike m (final_updated c m) (freed_block c (is_chosen m) block) (λ a. refl) (freed_sized c (is_chosen m) m block sized);
 }

@@ -1,13 +1,13 @@
--- Where the object begins that has a word, and the words that updating all references changes.
+-- Where the piece begins that has a word: an object, or words that only fill.
 use Rattle.std.proofs.Common.{◌≡◌, ◌≢◌, ℕ, ◌+◌, ◌<◌, ◌==◌, zero, suc, refl, sym, ap, ◌∙◌, arith}
 use Rattle.std.proofs.lemmas.Bool.{cond-true, cond-false, eq-eqb, ne_eqb}
-use Rattle.heap_words.specs.Encoding.{object_words}
+use Rattle.regions.specs.Walk.{stride_at}
 use Rattle.cycle_words.specs.Finishing.Updated.{start_of}
 
 module _ (heap : ℕ → ℕ) (base : ℕ) where
-  -- the words of the object that begins at a distance
+  -- how many words stand as one from a distance on
   abbrev size : ℕ → ℕ
-  size k = object_words (heap (base + k + 1))
+  size k = stride_at heap (base + k)
 
   abbrev start : ℕ → ℕ
   start = start_of heap base
@@ -24,7 +24,7 @@ module _ (heap : ℕ → ℕ) (base : ℕ) where
   unfolding start_of
   start_goes_on k other = cond-false (start k + size (start k) == suc k) (suc k) (start k) (ne_eqb (start k + size (start k)) (suc k) other)
 
-  -- each word of an object is one of the object
+  -- each word of a piece is one of the piece
   pub starts_within : (k j : ℕ) → start k ≡ k → j < size k → start (k + j) ≡ k
   starts_within k zero begins few = let same : k + zero ≡ k = omega arith in ap start same ∙ begins
   starts_within k (suc j) begins few =
@@ -38,7 +38,7 @@ module _ (heap : ℕ → ℕ) (base : ℕ) where
   starts_behind k begins = behind (size k) refl
     where
       behind : (n : ℕ) → size k ≡ n → start (k + size k) ≡ k + size k
-      behind zero none = absurd (omega (arith, none))
+      behind zero none = let same : k + size k ≡ k = omega (arith, none) in ap start same ∙ begins ∙ sym same
       behind (suc n) long =
           let last : start (k + n) ≡ k = starts_within k n begins (omega (arith, long)) in
           let next : k + size k ≡ suc (k + n) = omega (arith, long) in

@@ -3,18 +3,19 @@ use Rattle.std.proofs.Common.{◌≡◌, ℕ, ◌+◌, ◌≤◌, ◌++◌, ◌�
 use Rattle.std.specs.List.{range_with_len}
 use Rattle.std.proofs.Math.Path.{fun_ext}
 use Rattle.heap_words.specs.declared.config.Config.{Config}
-use Rattle.heap_words.specs.Words.{Word, Cset, Free, Top, Current, Root, Wait, Answer, Heap}
-use Rattle.heap_words.specs.Encoding.{is_forwarded, refs_in, nums_in, shape_word, request_count_in, request_shape_in}
+use Rattle.heap_words.specs.Words.{Word, Cset, Free, Top, Current, Root, Wait, Answer, Heap, Share}
+use Rattle.heap_words.specs.Encoding.{is_forwarded, object_words, refs_in, nums_in, shape_word, request_count_in, request_shape_in}
 use Rattle.regions.specs.Sets.{IsIn, IsOutside}
 use Rattle.regions.specs.Place.{region_with}
+use Rattle.regions.specs.Walk.{is_filler}
 use Rattle.shen_graph.specs.Graph.{Graph}
-use Rattle.heap_world.specs.World.{Plot, Points, IsFilled, IsFreeWord, AreCurrent}
+use Rattle.heap_world.specs.World.{Plot, Points, IsFilled, IsFreeWord, ShareIsOpen, AreBuffers}
 use Rattle.full_words.specs.Held.{IsAmong, HoldsGraph}
 use Rattle.full_words.specs.Full.{now_in, roots_below, answers_below, root_words}
 use Rattle.full_words.specs.Promised.{Promises, with_promised}
 use Rattle.full_words.specs.Image.{AnswerStands, RootsStand}
 use Rattle.full_words.specs.Serving.{asked_shape, AreAsking}
-use Rattle.image_graph.specs.Holds.{HoldsBy}
+use Rattle.image_graph.specs.Holds.{HoldsBy, AreSized}
 
 -- n has the words of m on which a graph stands
 pub record AreAlike (m n : Word → ℕ) : Type 0 where
@@ -26,6 +27,7 @@ pub record AreAlike (m n : Word → ℕ) : Type 0 where
   pub current : (s : ℕ) → n (Current s) ≡ m (Current s)
   pub free : n Free ≡ m Free
   pub cset : n Cset ≡ m Cset
+  pub share : n Share ≡ m Share
 
 -- the words that hold objects, where roots and answers are the same
 module _ (m n : Word → ℕ) (root : (t i : ℕ) → n (Root t i) ≡ m (Root t i)) (answer : (t : ℕ) → n (Answer t) ≡ m (Answer t)) where
@@ -43,6 +45,14 @@ module _ (m n : Word → ℕ) (root : (t i : ℕ) → n (Root t i) ≡ m (Root t
 
   pub same_root_words : (c : Config) → root_words c n ≡ root_words c m
   same_root_words c = ap (λ xs. xs ++ answers_below n c.mutators) (roots_same c.mutators) ∙ ap (λ ys. roots_below m c.mutators ++ ys) (answers_same c.mutators)
+
+-- each piece says how many words it has, where the heap has the same words
+pub sized_alike : (m n : Word → ℕ) (block : Plot) → ((a : ℕ) → n (Heap a) ≡ m (Heap a)) → AreSized m block → AreSized n block
+sized_alike m n block heap sized = record {
+  objects = λ a b is fixed. ap object_words (heap (a + 1)) ∙ sized.objects a b is fixed;
+  headers = λ a b is fixed. ap is_filler (heap a) ∙ sized.headers a b is fixed;
+  fillers = λ a words is. heap a ∙ sized.fillers a words is;
+}
 
 module _ (m n : Word → ℕ) (alike : AreAlike m n) where
   heap_is : ◌≡◌ {A = ℕ → ℕ} (λ a. n (Heap a)) (λ a. m (Heap a))
@@ -104,7 +114,10 @@ module _ (m n : Word → ℕ) (alike : AreAlike m n) where
       filled = subst (λ f. IsFilled c f block) (sym top_is) holds.filled;
       pieces = holds.pieces;
       free_word = subst (λ f. IsFreeWord c (n Free) f owner) (sym top_is) (subst (λ k. IsFreeWord c k (λ r. m (Top r)) owner) (sym alike.free) holds.free_word);
-      currents = subst (λ f. AreCurrent c f owner) (sym (fun_ext alike.current)) holds.currents;
+      shared_one =
+          subst (λ s. ShareIsOpen c s (n Free) (n Cset) owner) (sym alike.share)
+          (subst (λ f. ShareIsOpen c (m Share) f (n Cset) owner) (sym alike.free) (subst (λ s. ShareIsOpen c (m Share) (m Free) s owner) (sym alike.cset) holds.shared_one));
+      buffers = subst (λ t. AreBuffers c t (λ s. n (Current s)) block) (sym top_is) (subst (λ s. AreBuffers c (λ r. m (Top r)) s block) (sym (fun_ext alike.current)) holds.buffers);
       asking = asking_again;
       next = record {
         asked = λ t below some. ap request_count_in (alike.wait t) ∙ holds.next.asked t below (λ none. some (alike.wait t ∙ none));

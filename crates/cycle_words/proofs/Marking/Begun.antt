@@ -1,32 +1,43 @@
 -- The beginning of marking keeps the graph, and what holds while marking runs holds after it.
-use Rattle.std.proofs.Common.{◌≡◌, ◌≢◌, ℕ, ◌+◌, Bool, true, Option, Some, refl, sym, ap, ◌∙◌, arith}
+use Rattle.std.proofs.Common.{◌≡◌, ◌≢◌, ℕ, ◌+◌, ◌<◌, Bool, true, Option, Some, refl, sym, ap, ◌∙◌, subst, arith}
 use Rattle.std.proofs.lemmas.Bool.{true≢false}
 use Rattle.heap_words.specs.declared.config.Config.{Config}
-use Rattle.heap_words.specs.Words.{Word, Cset, Top, Heap}
+use Rattle.heap_words.specs.Words.{Word, Cset, Top, Current, Root, Answer, Heap}
 use Rattle.heap_words.specs.Encoding.{refs_in}
 use Rattle.shen_graph.specs.declared.name.Name.{Name}
 use Rattle.shen_graph.specs.Graph.{Graph}
 use Rattle.heap_graph.specs.Walk.{has}
-use Rattle.heap_world.specs.World.{Plot, Block, thing, moved, no_ghost, name_at, IsPlotted, AreObjects, IsMarkable, IsYoung, IsLed}
+use Rattle.heap_world.specs.World.{Plot, thing, moved, hand, carved, no_ghost, name_at, IsPlotted, AreObjects, AreBuffers, IsMarkable, IsLed}
 use Rattle.heap_world.proofs.Pointing.{named_thing}
+use Rattle.buffer_words.specs.Settled.{buffers_settled}
+use Rattle.buffer_words.proofs.Settling.{settling_leaves}
+use Rattle.buffer_pauses.specs.Divided.{AreDivided}
 use Rattle.full_words.specs.Held.{IsAmong, IsCopy}
 use Rattle.full_words.specs.Full.{root_words, held_in}
 use Rattle.full_words.specs.Promised.{Promises, with_promised}
 use Rattle.full_words.proofs.Reached.{refs_read}
 use Rattle.full_words.proofs.Walked.{held_is_found, found_is_held}
+use Rattle.full_words.proofs.Buffers.{buffers_stay}
 use Rattle.image_graph.specs.Holds.{HoldsBy}
-use Rattle.cycle_words.specs.Marking.Init.{init_marked, pruned}
+use Rattle.image_graph.specs.Buffers.{HasNoMoreSeats, settled_block}
+use Rattle.cycle_words.specs.Marking.Init.{marking_begun, init_marked, pruned}
 use Rattle.cycle_words.specs.Marking.WhileMarking.{CanBeReached, IsMarking}
-use Rattle.cycle_words.specs.Marking.Laws.{BeginsMarking}
-use Rattle.cycle_words.proofs.Marking.Alike.{AreAlike, holds_alike}
-use Rattle.cycle_words.proofs.Marking.Plain.{below_top, reached_object, root_reached, object_above, reach_ind}
+use Rattle.cycle_words.specs.Marking.Laws.{BeginsMarking, InitMarks}
+use Rattle.image_graph.proofs.Loosening.Loosened.{loosened_seats, loosened_sized, loosened_reached}
+use Rattle.image_graph.proofs.Loosening.OneTurn.{HoldsLoosened}
+use Rattle.image_graph.proofs.Loosening.AllSettled.{settled_holds}
+use Rattle.image_graph.proofs.Loosening.Divided.{holds_divided}
+use Rattle.cycle_words.proofs.Marking.Alike.{AreAlike, sized_alike, holds_alike, same_root_words}
+use Rattle.cycle_words.proofs.Marking.Plain.{reached_object, root_reached, field_reached, object_above, reach_ind}
 use Rattle.cycle_words.proofs.Marking.Trimmed.{IsTrimmed, calm_trimmed, trimmed_objects, trimmed_rooted}
-use Rattle.cycle_words.proofs.Marking.Pruned.{thing_stays, thing_was, room_was, promised_was, moved_was, pruned_from, pruned_plotted, pruned_filled}
+use Rattle.cycle_words.proofs.Marking.Pruned.{thing_stays, thing_was, room_was, promised_was, moved_was, pruned_from, pruned_plotted, pruned_filled, pruned_rooms, pruned_sized}
 use Rattle.cycle_words.proofs.Marking.FirstSnapshot.{first_snapshot, is_first, first_marked}
 
-module _ (c : Config) (m : Word → ℕ) (block : Plot) (owner : ℕ → Option ℕ) (p : Promises) (g : Graph) (holds : HoldsBy c m block owner p g) (calm : m Cset ≡ 0) where
+-- Marking begins at words that hold a graph, and leaves those objects that are found: exactly what can be reached.
+module _ (c : Config) (m : Word → ℕ) (block : Plot) (owner : ℕ → Option ℕ) (p : Promises) (g : Graph) (holds : HoldsBy c m block owner p g) (calm : m Cset ≡ 0)
+    (found : ℕ → Bool) (is_found : (a : ℕ) → CanBeReached c m a → found a ≡ true) (reached : (a : ℕ) → found a ≡ true → CanBeReached c m a) where
   abbrev n : Word → ℕ
-  n = init_marked c m
+  n = marking_begun c m
 
   alike : AreAlike m n
   alike = record {
@@ -38,6 +49,7 @@ module _ (c : Config) (m : Word → ℕ) (block : Plot) (owner : ℕ → Option 
     current = λ s. refl;
     free = refl;
     cset = refl;
+    share = refl;
   }
 
   abbrev heap : ℕ → ℕ
@@ -46,20 +58,14 @@ module _ (c : Config) (m : Word → ℕ) (block : Plot) (owner : ℕ → Option 
   abbrev top : ℕ → ℕ
   top q = m (Top q)
 
-  abbrev found : ℕ → Bool
-  found = has (held_in c m)
-
-  abbrev left : Plot
+  abbrev pub left : Plot
   left = pruned found block
-
-  reached : (a : ℕ) → found a ≡ true → CanBeReached c m a
-  reached = found_is_held c m block (with_promised g p) holds.objects
 
   -- what can be reached stays an object, and no other
   reached_stays : (a : ℕ) → CanBeReached c m a → left a ≡ block a
   reached_stays a held =
       let at = reached_object c m block owner p g holds calm a held in
-      thing_stays found block a at.refs at.nums at.name (held_is_found c m block (with_promised g p) holds.objects a held) at.here ∙ sym at.here
+      thing_stays found block a at.refs at.nums at.name (is_found a held) at.here ∙ sym at.here
 
   was : (a refs nums : ℕ) (name : Name) → left a ≡ Some (thing name refs nums) → block a ≡ Some (thing name refs nums)
   was a refs nums name is = (thing_was found block a refs nums name is).0
@@ -80,7 +86,10 @@ module _ (c : Config) (m : Word → ℕ) (block : Plot) (owner : ℕ → Option 
   trimmed : IsTrimmed c m block top left
   trimmed = calm_trimmed c m block owner p g holds calm top left plotted reached_stays named was
 
-  left_holds : HoldsBy c m left owner p g
+  buffers : AreBuffers c top (λ s. m (Current s)) left
+  buffers = buffers_stay c top top (λ s. m (Current s)) block left (pruned_rooms found block) holds.buffers (λ seat some. omega arith)
+
+  pub left_holds : HoldsBy c m left owner p g
   left_holds = record {
     objects = trimmed_objects c m block owner p g holds top left trimmed;
     rooted = trimmed_rooted c m block owner p g holds top left trimmed;
@@ -89,11 +98,13 @@ module _ (c : Config) (m : Word → ℕ) (block : Plot) (owner : ℕ → Option 
     pieces = record {
       named = named;
       unpromised = λ a seat words is. holds.pieces.unpromised a seat words (promised_was found block a seat words is);
-      roomless = λ a seat x is room. holds.pieces.roomless a seat x (room_was found block a seat x room is) room;
+      unheld = λ a seat words is. holds.pieces.unheld a seat words (room_was found block a seat (hand seat words) refl is);
+      uncarved = λ a seat words is. holds.pieces.uncarved a seat words (room_was found block a seat (carved seat words) refl is);
       some = λ a b is. (let from = pruned_from found block a b is in let long = holds.pieces.some a from.0 from.1 in omega (arith, long, from.2));
     };
     free_word = holds.free_word;
-    currents = holds.currents;
+    shared_one = holds.shared_one;
+    buffers = buffers;
     asking = holds.asking;
     next = holds.next;
     unreached = holds.unreached;
@@ -127,27 +138,79 @@ module _ (c : Config) (m : Word → ℕ) (block : Plot) (owner : ℕ → Option 
       let shape : refs_in (heap (a + 1)) ≡ at.refs = ap refs_in at.shape ∙ refs_read at.refs at.nums at.few_refs at.few_nums in
       IsLed.by_field a at.refs at.nums i at.name so_far at.here (omega (arith, few, shape)) some)
 
-  none_young : (a : ℕ) (b : Block) → left a ≡ Some b → IsYoung c top a → ⊥
-  none_young a b is young =
-      let at = below_top c top left plotted a b is (left_holds.pieces.some a b is) in
-      let long = left_holds.pieces.some a b is in
-      omega (arith, young, at.2, long)
-
-  marking : IsMarking c n left
-  marking = record {
+  -- where edges divide these pieces
+  pub marking : AreDivided c m left → IsMarking c n left
+  marking divided = record {
     ghost = record { owner = no_ghost.owner; snapshot = first_snapshot c m left; recording = no_ghost.recording; scanning = no_ghost.scanning; copying = no_ghost.copying; working = no_ghost.working };
     object = (with_promised g p).object;
     marked = first_marked c m left no_ghost.recording no_ghost.scanning (λ a refs nums name is. led a (thing_reached a refs nums name is)) root_markable
-        (λ a seat words is. absurd (left_holds.pieces.unpromised a seat words is)) left_holds.pieces.roomless none_young;
+        (λ a seat words is. absurd (left_holds.pieces.unpromised a seat words is)) divided;
     unmarking = record { records_none = λ seat inside. refl; scans_none = λ seat inside. refl };
     objects = objects;
     uncollected = calm;
   }
 
-  pub init_marks : BeginsMarking c m n block owner p g
-  init_marks = record {
-    holds = holds_alike m n alike c block owner p g holds;
-    left = holds_alike m n alike c left owner p g left_holds;
-    marking = marking;
-    sized = λ sized a b is. let from = pruned_from found block a b is in sized a from.0 from.1 ∙ from.2;
+  pub begun : (plot : Plot) → HoldsBy c m plot owner p g → HoldsBy c n plot owner p g
+  begun plot held = holds_alike m n alike c plot owner p g held
+
+-- Buffers are settled first, by which nothing becomes reachable, or ceases to be.
+module _ (c : Config) (m : Word → ℕ) (block : Plot) (owner : ℕ → Option ℕ) (p : Promises) (g : Graph) (holds : HoldsBy c m block owner p g) (calm : m Cset ≡ 0) (seats : HasNoMoreSeats c m) where
+  abbrev s : Word → ℕ
+  s = buffers_settled c m
+
+  abbrev settled : Plot
+  settled = settled_block c m block
+
+  after : HoldsLoosened c m s block settled owner p g
+  after = settled_holds c m block owner p g holds seats
+
+  still_calm : s Cset ≡ 0
+  still_calm = after.loosened.others Cset refl ∙ calm
+
+  still_seats : HasNoMoreSeats c s
+  still_seats = loosened_seats c m s block settled after.loosened seats
+
+  abbrev found : ℕ → Bool
+  found = has (held_in c m)
+
+  same_roots : root_words c s ≡ root_words c m
+  same_roots = same_root_words m s (λ t i. after.loosened.others (Root t i) refl) (λ t. after.loosened.others (Answer t) refl) c
+
+  was_reached : (a : ℕ) → CanBeReached c s a → CanBeReached c m a
+  was_reached = loosened_reached c m s block settled owner p g holds after.loosened after.holds.objects.plotted
+
+  still_reached : (a : ℕ) → CanBeReached c m a → CanBeReached c s a
+  still_reached = reach_ind c m block owner p g holds calm (CanBeReached c s)
+      (λ word is some. root_reached c s settled owner p g after.holds still_calm word (ap (λ xs. has xs word) same_roots ∙ is) some)
+      (λ a i held so_far few some.
+      let at = reached_object c m block owner p g holds calm a held in
+      let reads : refs_in (m (Heap (a + 1))) ≡ at.refs = ap refs_in at.shape ∙ refs_read at.refs at.nums at.few_refs at.few_nums in
+      let shape : s (Heap (a + 1)) ≡ m (Heap (a + 1)) = after.loosened.words a 1 (thing at.name at.refs at.nums) refl at.here (omega arith) in
+      let place : a + 3 + i ≡ a + (3 + i) = omega arith in
+      let same : s (Heap (a + 3 + i)) ≡ m (Heap (a + 3 + i)) =
+      ap (λ k. s (Heap k)) place ∙ after.loosened.words a (3 + i) (thing at.name at.refs at.nums) refl at.here (omega (arith, few, reads)) ∙ ap (λ k. m (Heap k)) (sym place) in
+      subst (CanBeReached c s) same
+      (field_reached c s settled owner p g after.holds still_calm a i so_far (subst (λ k. i < k) (sym (ap refs_in shape)) few) (λ none. some (sym same ∙ none))))
+
+  is_found : (a : ℕ) → CanBeReached c s a → found a ≡ true
+  is_found a held = held_is_found c m block (with_promised g p) holds.objects a (was_reached a held)
+
+  reached : (a : ℕ) → found a ≡ true → CanBeReached c s a
+  reached a is = still_reached a (found_is_held c m block (with_promised g p) holds.objects a is)
+
+  abbrev plot : Plot
+  plot = left c s settled owner p g after.holds still_calm found is_found reached
+
+  left_then : HoldsBy c s plot owner p g
+  left_then = left_holds c s settled owner p g after.holds still_calm found is_found reached
+
+  pub marking_begins : BeginsMarking c m (init_marked c m) block owner p g
+  marking_begins = record {
+    holds = begun c s settled owner p g after.holds still_calm found is_found reached settled after.holds;
+    left = begun c s settled owner p g after.holds still_calm found is_found reached plot left_then;
+    marking = marking c s settled owner p g after.holds still_calm found is_found reached (holds_divided c s plot owner p g left_then still_seats (settling_leaves c m).last);
+    sized = λ sized. sized_alike s (init_marked c m) plot (λ a. refl) (pruned_sized found settled s (loosened_sized c m s block settled owner p g holds after.loosened sized));
   }
+
+pub init_marks : InitMarks
+init_marks c m block owner p g holds calm seats = marking_begins c m block owner p g holds calm seats

@@ -43,7 +43,7 @@ module _ (c : Config) (m : Word → ℕ) (block : Plot) (owner : ℕ → Option 
   n = closed c m
 
   alike : AreAlike m n
-  alike = record { heap = λ a. refl; top = λ r. refl; root = λ t i. refl; answer = λ t. refl; wait = λ t. refl; current = λ s. refl; free = refl; cset = refl }
+  alike = record { heap = λ a. refl; top = λ r. refl; root = λ t i. refl; answer = λ t. refl; wait = λ t. refl; current = λ s. refl; free = refl; cset = refl; share = refl }
 
   pub closed_holds : HoldsBy c n block owner p g
   closed_holds = holds_alike m n alike c block owner p g holds

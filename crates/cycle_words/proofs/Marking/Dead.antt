@@ -1,28 +1,61 @@
 -- The test of a dead region says what it is to be dead.
-use Rattle.std.proofs.Common.{◌≡◌, ℕ, ◌+◌, ◌-◌, ◌<◌, ◌≤◌, ◌==◌, ◌&&◌, ◌↔◌, not, Bool, true, false, ⊎_elim, sym, ap, ◌∙◌, arith}
+use Rattle.std.proofs.Common.{◌≡◌, ℕ, ◌+◌, ◌-◌, ◌<◌, ◌≤◌, ◌==◌, ◌&&◌, ◌↔◌, not, nat_lt, nat_le, Bool, true, false, inl, inr, ⊎_elim, sym, ap, ◌∙◌, arith}
+use Rattle.std.specs.List.{range_with_len, list_any}
 use Rattle.std.specs.Int.{bit_at}
-use Rattle.std.proofs.lemmas.Bool.{cases_lt, and_parts, and_from, eqb-true, eq-eqb, not-true, not_from_false, false_from_ne_true, true≢false}
+use Rattle.std.proofs.lemmas.Bool.{cases_lt, and_parts, and_from, or_cases, or_left, or_right, eqb-true, eqb-false, eq-eqb, ne_eqb, ltb-true, leb-true, lt-ltb, le-leb, not-true, not_from_false, false_from_ne_true, true≢false}
 use Rattle.heap_words.specs.declared.config.Config.{Config}
-use Rattle.heap_words.specs.Words.{Word, Free, Top, Tams, Current}
+use Rattle.heap_words.specs.Words.{Word, Free, Top, Tams, Current, Share}
+use Rattle.heap_words.specs.Encoding.{end_in}
 use Rattle.heap_words.specs.Ranges.{seat_count}
 use Rattle.regions.specs.Place.{base_of, IsOf}
-use Rattle.image_graph.specs.State.{IsSomeSeats}
+use Rattle.image_graph.specs.State.{EndsIn, IsSomeSeats}
 use Rattle.cycle_words.specs.Marking.Marks.{is_black}
 use Rattle.cycle_words.specs.Marking.Close.{closed}
-use Rattle.cycle_words.specs.Marking.Final.{is_current, has_black, is_dead, IsDead, dead_in}
-use Rattle.cycle_words.specs.Marking.Laws.{HasNoMoreSeats}
+use Rattle.cycle_words.specs.Marking.Final.{ends_in, is_current, has_black, is_dead, IsDead, dead_in}
+use Rattle.image_graph.specs.Buffers.{HasNoMoreSeats}
 use Rattle.cycle_words.proofs.Marking.Ranges.{any_at, any_is}
 
 module _ (c : Config) (m : Word → ℕ) (r : ℕ) where
+  -- a buffer that ends in the region
+  abbrev end_at : ℕ → ℕ
+  end_at seat = end_in (m (Current seat))
+
+  abbrev within : ℕ → Bool
+  within seat = nat_lt (base_of c r) (end_at seat) && nat_le (end_at seat) (base_of c r + c.region_words)
+
+  ends_is : (seat : ℕ) → ends_in c m r seat ≡ true → EndsIn c m seat r
+  ends_is seat is =
+      let both = and_parts (not (m (Current seat) == 0)) (within seat) is in
+      let bounds = and_parts (nat_lt (base_of c r) (end_at seat)) (nat_le (end_at seat) (base_of c r + c.region_words)) both.1 in
+      let low = ltb-true (base_of c r) (end_at seat) bounds.0 in
+      let high = leb-true (end_at seat) (base_of c r + c.region_words) bounds.1 in
+      (eqb-false (m (Current seat)) 0 (not-true (m (Current seat) == 0) both.0), record { from = omega (arith, low); before = omega (arith, low, high) })
+
+  ends_of : (seat : ℕ) → EndsIn c m seat r → ends_in c m r seat ≡ true
+  ends_of seat is =
+      let some : 1 ≤ base_of c r = (let long = c.in_range.least_words in let least : c.region_words ≤ base_of c r = grind arith in omega (arith, long, least)) in
+      let low = is.1.from in
+      let high = is.1.before in
+      and_from (not (m (Current seat) == 0)) (within seat) (not_from_false (m (Current seat) == 0) (ne_eqb (m (Current seat)) 0 is.0))
+      (and_from (nat_lt (base_of c r) (end_at seat)) (nat_le (end_at seat) (base_of c r + c.region_words))
+      (lt-ltb (base_of c r) (end_at seat) (omega (arith, low, some))) (le-leb (end_at seat) (base_of c r + c.region_words) (omega (arith, high))))
+
   pub current_is : is_current c m r ≡ true → IsSomeSeats c m r
-  current_is is =
-      let at = any_is (λ seat. m (Current seat) == r + 1) 0 (seat_count c.mutators c.helpers) is in
-      (0 + at.0, omega (arith, at.1), eqb-true (m (Current (0 + at.0))) (r + 1) at.2)
+  current_is is = ⊎_elim
+      (λ (shared : (m Share == r + 1) ≡ true). inl (eqb-true (m Share) (r + 1) shared))
+      (λ (seats : list_any (ends_in c m r) (range_with_len 0 (seat_count c.mutators c.helpers)) ≡ true).
+      let at = any_is (ends_in c m r) 0 (seat_count c.mutators c.helpers) seats in
+      inr (0 + at.0, omega (arith, at.1), ends_is (0 + at.0) at.2))
+      (or_cases (m Share == r + 1) (list_any (ends_in c m r) (range_with_len 0 (seat_count c.mutators c.helpers))) is)
 
   pub is_current_of : IsSomeSeats c m r → is_current c m r ≡ true
-  is_current_of is =
-      let here : 0 + is.0 ≡ is.0 = omega arith in
-      any_at (λ seat. m (Current seat) == r + 1) 0 (seat_count c.mutators c.helpers) is.0 is.1 (eq-eqb (m (Current (0 + is.0))) (r + 1) (ap (λ seat. m (Current seat)) here ∙ is.2))
+  is_current_of is = ⊎_elim
+      (λ (shared : m Share ≡ r + 1). or_left (m Share == r + 1) (list_any (ends_in c m r) (range_with_len 0 (seat_count c.mutators c.helpers))) (eq-eqb (m Share) (r + 1) shared))
+      (λ (seat : (s : ℕ) × (s < seat_count c.mutators c.helpers) × EndsIn c m s r).
+      let here : 0 + seat.0 ≡ seat.0 = omega arith in
+      or_right (m Share == r + 1) (list_any (ends_in c m r) (range_with_len 0 (seat_count c.mutators c.helpers)))
+      (any_at (ends_in c m r) 0 (seat_count c.mutators c.helpers) seat.0 seat.1 (ap (ends_in c m r) here ∙ ends_of seat.0 seat.2)))
+      is
 
   pub black_in : has_black c m r ≡ true → (a : ℕ) × IsOf c r a × (is_black c m a ≡ true)
   black_in is =
@@ -79,13 +112,20 @@ module _ (c : Config) (m : Word → ℕ) (r : ℕ) where
       ∙ ap (λ b. not b && filled && bare) seat
       ∙ ap (λ b. b && bare) (eq-eqb (m (Top r)) (m (Tams r)) top)
 
--- no seat's current region is dead once the marks are closed
-module _ (c : Config) (m : Word → ℕ) (seats : HasNoMoreSeats c m) where
-  pub seated : (seat r : ℕ) → m (Current seat) ≡ r + 1 → IsSomeSeats c m r
-  seated seat r is = ⊎_elim
-      (λ (inside : seat < seat_count c.mutators c.helpers). (seat, inside, is))
-      (λ (past : seat_count c.mutators c.helpers ≤ seat). absurd (let none = seats seat past in omega (arith, none, is)))
-      (cases_lt seat (seat_count c.mutators c.helpers))
+-- no region that is shared, or in which a buffer ends, is dead once the marks are closed
+module _ (c : Config) (m : Word → ℕ) where
+  alive : (r : ℕ) → IsSomeSeats c m r → dead_in c m r ≡ false
+  alive r is = false_from_ne_true (dead_in c m r) (λ told. ((dead_is_dead c (closed c m) r).0 told).nobodys is)
 
-  pub current_alive : (seat r : ℕ) → m (Current seat) ≡ r + 1 → dead_in c m r ≡ false
-  current_alive seat r is = false_from_ne_true (dead_in c m r) (λ told. ((dead_is_dead c (closed c m) r).0 told).nobodys (seated seat r is))
+  pub shared_alive : (r : ℕ) → m Share ≡ r + 1 → dead_in c m r ≡ false
+  shared_alive r is = alive r (inl is)
+
+  module _ (seats : HasNoMoreSeats c m) where
+    pub seated : (seat r : ℕ) → EndsIn c m seat r → IsSomeSeats c m r
+    seated seat r is = ⊎_elim
+        (λ (inside : seat < seat_count c.mutators c.helpers). inr (seat, inside, is))
+        (λ (past : seat_count c.mutators c.helpers ≤ seat). absurd (is.0 (seats seat past)))
+        (cases_lt seat (seat_count c.mutators c.helpers))
+
+    pub current_alive : (seat r : ℕ) → EndsIn c m seat r → dead_in c m r ≡ false
+    current_alive seat r is = alive r (seated seat r is)

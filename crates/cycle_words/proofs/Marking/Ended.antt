@@ -13,10 +13,10 @@ use Rattle.cycle_words.specs.Marking.Marks.{is_black, IsNew, IsKept}
 use Rattle.cycle_words.specs.Marking.Close.{closed}
 use Rattle.cycle_words.specs.Marking.WhileMarking.{IsObjectAt, CanBeReached, IsMarking, IsMarkedThrough}
 use Rattle.cycle_words.specs.Marking.Final.{dead_in, freed_block, freed_owner, final_marked}
-use Rattle.cycle_words.specs.Marking.Laws.{HasNoMoreSeats}
+use Rattle.image_graph.specs.Buffers.{HasNoMoreSeats}
 use Rattle.cycle_words.proofs.Marking.Plain.{reached_object, reach_ind, root_reached, field_reached}
 use Rattle.cycle_words.proofs.Marking.Closed.{closed_holds, closed_through, object_alive, object_back}
-use Rattle.cycle_words.proofs.Marking.Dead.{current_alive}
+use Rattle.cycle_words.proofs.Marking.Dead.{shared_alive, current_alive}
 use Rattle.cycle_words.proofs.Marking.Vanished.{piece_was, piece_stays}
 use Rattle.cycle_words.proofs.Marking.Freed.{CanFree, calm_can_free, same_roots, freed_holds}
 
@@ -47,7 +47,7 @@ module _ (c : Config) (m : Word → ℕ) (block : Plot) (owner : ℕ → Option 
   can : CanFree c out k block
   can =
       calm_can_free c out k block owner p g held marking.uncollected
-      (λ a reached. alive a (reached_object c k block owner p g held marking.uncollected a reached)) (current_alive c m seats)
+      (λ a reached. alive a (reached_object c k block owner p g held marking.uncollected a reached)) (current_alive c m seats) (shared_alive c m)
 
   pub ended_holds : HoldsBy c n left (freed_owner out owner) p g
   ended_holds = freed_holds c out k block owner p g held can

@@ -1,4 +1,4 @@
--- The snapshot of the words with which marking begins: the pieces, and what roots and answers name.
+-- The snapshot of the words with which marking begins: the pieces, what roots and answers name, and the edges of regions.
 use Rattle.std.proofs.Common.{◌≡◌, ◌≢◌, ℕ, ◌+◌, ◌*◌, ◌≤◌, ◌&&◌, nat_le, Bool, true, false, Option, Some, inl, refl, sym, ap, ◌∙◌, arith}
 use Rattle.std.proofs.lemmas.Bool.{and_parts, and_from, le-leb, leb-true}
 use Rattle.std.proofs.lemmas.Nat.Bits.{bit_at-zero}
@@ -7,7 +7,9 @@ use Rattle.heap_words.specs.Words.{Word, Top, Buffer, Heap}
 use Rattle.shen_graph.specs.declared.name.Name.{Name}
 use Rattle.regions.specs.Marks.{mark_bit}
 use Rattle.heap_graph.specs.Walk.{has}
-use Rattle.heap_world.specs.World.{Block, thing, promised, dead, Plot, HasNoRoom, Scan, Snapshot, AreMarks, IsMarkable, IsYoung, IsNoted, IsToScan, IsTracedAt, IsLed, KeepsSnapshot}
+use Rattle.heap_world.specs.World.{thing, promised, dead, Plot, Scan, Snapshot, AreMarks, IsMarkable, IsNoted, IsToScan, IsTracedAt, IsLed, KeepsSnapshot}
+use Rattle.buffer_words.specs.Edge.{edge}
+use Rattle.buffer_pauses.specs.Divided.{AreDivided}
 use Rattle.full_words.specs.Held.{IsAmong}
 use Rattle.full_words.specs.Full.{root_words}
 use Rattle.cycle_words.specs.Marking.Marks.{mark_bits}
@@ -25,7 +27,7 @@ module _ (c : Config) (m : Word → ℕ) (plot : Plot) where
   first a = nat_le c.region_words a && named a
 
   abbrev pub first_snapshot : Snapshot
-  first_snapshot = record { block = plot; heap = λ a. m (Heap a); starts = first; top = λ q. m (Top q) }
+  first_snapshot = record { block = plot; heap = λ a. m (Heap a); starts = first; top = edge c m }
 
   pub is_first : (a : ℕ) → c.region_words ≤ a → IsAmong (root_words c m) a → first a ≡ true
   is_first a above is = and_from (nat_le c.region_words a) (named a) (le-leb c.region_words a above) is
@@ -33,7 +35,7 @@ module _ (c : Config) (m : Word → ℕ) (plot : Plot) where
   -- Where its objects are those that it leads to, what roots and answers name can be marked, and what is promised is so named.
   module _ (recording : ℕ → Option ℕ) (scanning : ℕ → Option Scan) (led : (a refs nums : ℕ) (name : Name) → plot a ≡ Some (thing name refs nums) → IsLed first_snapshot a)
       (markable : (a : ℕ) → IsAmong (root_words c m) a → a ≢ 0 → IsMarkable plot a) (promises : (a seat words : ℕ) → plot a ≡ Some (promised seat words) → first a ≡ true)
-      (roomless : HasNoRoom plot) (none_young : (a : ℕ) (b : Block) → plot a ≡ Some b → IsYoung c (λ q. m (Top q)) a → ⊥) where
+      (divided : AreDivided c m plot) where
     -- what roots and answers name is grey
     first_noted : (a : ℕ) → first a ≡ true → IsNoted c (mark_bits c named) (λ t. 0) (λ t k. m (Buffer t k)) recording a
     first_noted a is =
@@ -51,7 +53,7 @@ module _ (c : Config) (m : Word → ℕ) (plot : Plot) where
           markable a among (λ none. omega (arith, none, long));
     }
 
-    pub first_marked : KeepsSnapshot c 1 (mark_bits c named) (λ q. 0) (λ t. 0) (λ t k. m (Buffer t k)) (λ q. m (Top q)) (λ q. m (Top q)) (λ a. m (Heap a)) plot first_snapshot recording scanning
+    pub first_marked : KeepsSnapshot c 1 (mark_bits c named) (λ q. 0) (λ t. 0) (λ t k. m (Buffer t k)) (λ q. m (Top q)) (edge c m) (λ a. m (Heap a)) plot first_snapshot recording scanning
     first_marked = record {
       empty = λ other. absurd (other refl);
       traced = record {
@@ -59,13 +61,13 @@ module _ (c : Config) (m : Word → ℕ) (plot : Plot) where
         starts = first_noted;
       };
       led = led;
-      old = λ a refs nums name is. none_young a (thing name refs nums) is;
+      old = λ a refs nums name is. divided.others a (thing name refs nums) is refl;
       kept = λ a refs nums name is. is;
       older = λ on a refs nums name is. inl is;
       promises = λ on a seat words is. promises a seat words is;
-      deads = λ on a words is. none_young a (dead words) is;
-      young = λ on a seat x is room. absurd (roomless a seat x is room);
-      floors = λ q inside. omega arith;
+      deads = λ on a words is. divided.others a (dead words) is refl;
+      young = λ on. divided.rooms;
+      floors = λ q inside. divided.tops q;
       tams_are = λ on q inside. refl;
       greys = λ on. greys_are;
       blacks = λ on. record { small = λ q. omega arith; of_objects = λ q k below set. absurd (let none = bit_at-zero k in omega (arith, none, set)) };

@@ -1,12 +1,15 @@
 -- The plot in which objects that are not of a set are dead.
-use Rattle.std.proofs.Common.{◌≡◌, ℕ, ◌+◌, Bool, true, false, Option, Some, None, refl, sym, ap, ◌∙◌, subst, arith}
+use Rattle.std.proofs.Common.{◌≡◌, ℕ, ◌+◌, Bool, true, false, Option, Some, None, refl, sym, ap, ◌∙◌, subst}
 use Rattle.std.specs.Option.{option_map}
 use Rattle.std.proofs.lemmas.Bool.{cond-true}
 use Rattle.std.proofs.lemmas.Option.{none-some, same_Some}
 use Rattle.heap_words.specs.declared.config.Config.{Config}
-use Rattle.regions.specs.Place.{base_of}
+use Rattle.heap_words.specs.Words.{Word}
 use Rattle.shen_graph.specs.declared.name.Name.{Name}
-use Rattle.heap_world.specs.World.{Block, thing, moved, spent, promised, dead, filler, words_of, room_of, Plot, IsInUse, IsPlotted, IsFilled}
+use Rattle.heap_world.specs.World.{Block, thing, moved, spent, promised, dead, filler, words_of, room_of, is_loose, Plot, IsPlotted, IsFilled}
+use Rattle.image_graph.proofs.Loosening.Resized.{IsResized, resized_plotted, resized_filled}
+use Rattle.full_words.proofs.Buffers.{SameRoom}
+use Rattle.image_graph.specs.Holds.{AreSized}
 use Rattle.cycle_words.specs.Marking.Init.{pruned_piece, pruned}
 
 -- the piece that there was
@@ -24,6 +27,11 @@ was_piece true (thing name refs nums) = WasPiece.was_left refl (λ n more less i
 was_piece false (thing name refs nums) = WasPiece.was_object name refs nums refl refl
 was_piece live _ = WasPiece.was_left refl (λ n more less is. cc)
 
+-- room stays
+room_left : (live : Bool) (x : Block) (seat : ℕ) → room_of x ≡ Some seat → pruned_piece live x ≡ x
+room_left live (thing name refs nums) seat room = cc
+room_left live _ seat room = refl
+
 module _ (live : ℕ → Bool) (block : Plot) where
   pub piece_was : (a : ℕ) (y : Block) → pruned live block a ≡ Some y → (x : Block) × (block a ≡ Some x) × WasPiece (live a) x y
   piece_was a y is =
@@ -39,6 +47,9 @@ module _ (live : ℕ → Bool) (block : Plot) where
 
   pub pruned_at : (a : ℕ) (x : Block) → block a ≡ Some x → pruned live block a ≡ Some (pruned_piece (live a) x)
   pruned_at a x is = ap (option_map (pruned_piece (live a))) is
+
+  pub room_stays : (a seat : ℕ) (x : Block) → room_of x ≡ Some seat → block a ≡ Some x → pruned live block a ≡ Some x
+  room_stays a seat x room is = pruned_at a x is ∙ ap Some (room_left (live a) x seat room)
 
   pub thing_stays : (a refs nums : ℕ) (name : Name) → live a ≡ true → block a ≡ Some (thing name refs nums) → pruned live block a ≡ Some (thing name refs nums)
   thing_stays a refs nums name kept is = pruned_at a (thing name refs nums) is ∙ ap Some (cond-true (live a) (thing name refs nums) (dead (3 + refs + nums)) kept)
@@ -77,27 +88,32 @@ module _ (live : ℕ → Bool) (block : Plot) where
   pub spent_was : (a words to : ℕ) → pruned live block a ≡ Some (spent words to) → block a ≡ Some (spent words to)
   spent_was a words to = other_was a (spent words to) (λ more wrong. (let differ = wrong in cc))
 
-  module _ (c : Config) (top : ℕ → ℕ) where
-    -- pieces lie where they lay
-    pub pruned_plotted : IsPlotted c top block → IsPlotted c top (pruned live block)
-    pruned_plotted plotted = record {
-      tops = plotted.tops;
-      in_use = λ a b is. let was = pruned_from a b is in subst (λ w. IsInUse c top a w) was.2 (plotted.in_use a was.0 was.1);
-      apart = λ a b x y is_x is_y before.
-          let was_x = pruned_from a x is_x in
-          let was_y = pruned_from b y is_y in
-          let far = plotted.apart a b was_x.0 was_y.0 was_x.1 was_y.1 before in
-          omega (arith, far, was_x.2);
-    }
+  -- all room is the same
+  pub pruned_rooms : SameRoom block (pruned live block)
+  pruned_rooms = record { stays = room_stays; came = λ a seat x room is. room_was a seat x room is }
 
-    there : (a : ℕ) → (b : Block) × (block a ≡ Some b) → (b : Block) × (pruned live block a ≡ Some b)
-    there a was = (pruned_piece (live a) was.0, pruned_at a was.0 was.1)
+  -- an object was one
+  fixed_from : (a : ℕ) (b : Block) → pruned live block a ≡ Some b → is_loose b ≡ false → (x : Block) × (block a ≡ Some x) × (is_loose x ≡ false) × (words_of x ≡ words_of b)
+  fixed_from a b is fixed = let was = piece_was a b is in (was.0, was.1, fixed_was was.0 b (live a) was.2 fixed, words_were was.0 b (live a) was.2)
+    where
+      fixed_was : (x y : Block) (l : Bool) → WasPiece l x y → is_loose y ≡ false → is_loose x ≡ false
+      fixed_was x y l (WasPiece.was_left same is_live) stays = ap is_loose same ∙ stays
+      fixed_was x y l (WasPiece.was_object name refs nums was dies) stays = ap is_loose was
 
-    pub pruned_filled : IsFilled c top block → IsFilled c top (pruned live block)
-    pruned_filled filled = record {
-      first = λ r inside used. there (base_of c r) (filled.first r inside used);
-      next = λ r a x inside from is below.
-          let was = pruned_from a x is in
-          subst (λ w. (b : Block) × (pruned live block (a + w) ≡ Some b)) was.2
-          (there (a + words_of was.0) (filled.next r a was.0 inside from was.1 (omega (arith, below, was.2))));
-    }
+  -- and says how many words it has
+  pub pruned_sized : (m : Word → ℕ) → AreSized m block → AreSized m (pruned live block)
+  pruned_sized m sized = record {
+    objects = λ a b is fixed. let was = fixed_from a b is fixed in sized.objects a was.0 was.1 was.2 ∙ was.3;
+    headers = λ a b is fixed. let was = fixed_from a b is fixed in sized.headers a was.0 was.1 was.2;
+    fillers = λ a words is. sized.fillers a words (filler_was a words is);
+  }
+
+  resized : IsResized block (pruned live block)
+  resized = record { from = pruned_from; to = λ a x is. (pruned_piece (live a) x, pruned_at a x is) }
+
+  -- pieces lie where they lay, and fill the regions
+  pub pruned_plotted : (c : Config) (top : ℕ → ℕ) → IsPlotted c top block → IsPlotted c top (pruned live block)
+  pruned_plotted c top = resized_plotted c top block (pruned live block) resized
+
+  pub pruned_filled : (c : Config) (top : ℕ → ℕ) → IsFilled c top block → IsFilled c top (pruned live block)
+  pruned_filled c top = resized_filled c top block (pruned live block) resized

@@ -11,6 +11,7 @@ use Rattle.regions.specs.Place.{base_of, region_with}
 use Rattle.regions.specs.Sets.{IsIn}
 use Rattle.regions.proofs.PlaceLemmas.{regions_tile}
 use Rattle.heap_world.specs.World.{Block, spent, promised, dead, filler, words_of, Plot, IsInUse, IsPlotted, IsFilled, IsParsable, IsFreeWord, AreUnwritten}
+use Rattle.image_graph.specs.Holds.{AreSized}
 use Rattle.cycle_words.specs.Marking.Marks.{bits_of}
 use Rattle.cycle_words.specs.Marking.Final.{freed, freed_block}
 use Rattle.cycle_words.proofs.Marking.Bits.{one, bits_small, bits_at}
@@ -83,6 +84,14 @@ module _ (c : Config) (out : ℕ → Bool) (block : Plot) where
 
   pub piece_stays : (a : ℕ) → out (region_with c a) ≡ false → plot a ≡ block a
   piece_stays a other = let none : Option Block = None in cond-false (out (region_with c a)) none (block a) other
+
+-- each that is left says how many words it has
+pub freed_sized : (c : Config) (out : ℕ → Bool) (m : Word → ℕ) (block : Plot) → AreSized m block → AreSized m (freed_block c out block)
+freed_sized c out m block sized = record {
+  objects = λ a b is fixed. sized.objects a b (piece_was c out block a b is).1 fixed;
+  headers = λ a b is fixed. sized.headers a b (piece_was c out block a b is).1 fixed;
+  fillers = λ a words is. sized.fillers a words (piece_was c out block a (filler words) is).1;
+}
 
 -- pieces lie apart, and each has some words
 module _ (c : Config) (out : ℕ → Bool) (m : Word → ℕ) (block : Plot) (plotted : IsPlotted c (λ q. m (Top q)) block) (some : (a : ℕ) (b : Block) → block a ≡ Some b → 1 ≤ words_of b) where

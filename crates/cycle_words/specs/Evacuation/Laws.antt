@@ -7,11 +7,11 @@ use Rattle.packing.specs.Tops.{sum_below}
 use Rattle.shen_graph.specs.Graph.{Graph}
 use Rattle.heap_world.specs.World.{Block, Plot, words_of}
 use Rattle.full_words.specs.Promised.{Promises}
-use Rattle.image_graph.specs.Holds.{HoldsBy, AreSized}
+use Rattle.image_graph.specs.Holds.{HoldsBy, AreSized, HasObject}
 use Rattle.cycle_words.specs.Marking.Marks.{is_black}
 use Rattle.cycle_words.specs.Marking.WhileMarking.{IsObjectAt, CanBeReached, IsMarking, IsMarkedThrough}
 use Rattle.cycle_words.specs.Marking.Final.{dead_in, freed_owner, final_marked}
-use Rattle.cycle_words.specs.Marking.Laws.{HasNoMoreSeats}
+use Rattle.image_graph.specs.Buffers.{HasNoMoreSeats}
 use Rattle.regions.specs.Place.{base_of, region_with}
 use Rattle.regions.specs.Sets.{IsIn}
 use Rattle.cycle_words.specs.Evacuation.Live.{marked_words, live_words, is_candidate, IsCandidate}
@@ -74,7 +74,7 @@ MarkedCanBegin = (c : Config) (memory : Word → ℕ) (block : Plot) (owner : �
 -- An object of the collection set can be copied out.
 abbrev pub ObjectCanBeCopied : Type 0
 ObjectCanBeCopied = (c : Config) (memory : Word → ℕ) (block : Plot) (owner : ℕ → Option ℕ) (p : Promises) (g : Graph) → HoldsBy c memory block owner p g → AreSized memory block
-    → (a : ℕ) (b : Block) → block a ≡ Some b → IsIn (memory Cset) (region_with c a) → CanCopyOut c memory a
+    → (a : ℕ) → HasObject block a → IsIn (memory Cset) (region_with c a) → CanCopyOut c memory a
 
 -- The words of a piece, if there is one, and those of the piece at an address if it is marked.
 abbrev pub piece_words : Option Block → ℕ
@@ -84,9 +84,9 @@ piece_words (Some b) = words_of b
 abbrev pub marked_in : Config → (Word → ℕ) → Plot → ℕ → ℕ
 marked_in c memory block a = if is_black c memory a then piece_words (block a) else 0
 
--- So many words are those of the pieces of a region that are marked, where what is marked are pieces.
+-- So many words are those of the objects of a region that are marked, where what is marked are objects.
 abbrev pub IsMarkedIn : Config → (Word → ℕ) → (region words : ℕ) → Type 0
-IsMarkedIn c memory r words = (block : Plot) → AreSized memory block → ((a : ℕ) → is_black c memory a ≡ true → (b : Block) × (block a ≡ Some b))
+IsMarkedIn c memory r words = (block : Plot) → AreSized memory block → ((a : ℕ) → is_black c memory a ≡ true → HasObject block a)
     → words ≡ sum_below (λ k. marked_in c memory block (base_of c r + k)) c.region_words
 
 -- That is what lives in the region.

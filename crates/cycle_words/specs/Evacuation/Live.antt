@@ -27,7 +27,7 @@ live_words c memory r = sum_below (λ k. marked_words c memory (base_of c r + k)
 abbrev pub garbage : Config → (Word → ℕ) → ℕ → ℕ
 garbage c memory r = memory (Top r) - live_words c memory r
 
--- A region is a candidate: it is in use, nobody's current one, nothing was allocated in it since marking began, and a quarter
+-- A region is a candidate: it is in use, not current, nothing was allocated in it since marking began, and a quarter
 -- of a region in it is garbage.
 abbrev pub is_candidate : Config → (Word → ℕ) → ℕ → Bool
 is_candidate c memory r =

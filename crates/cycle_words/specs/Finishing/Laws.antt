@@ -6,12 +6,13 @@ use Rattle.heap_words.specs.Encoding.{refs_in}
 use Rattle.regions.specs.Place.{region_with}
 use Rattle.regions.specs.Sets.{IsOutside}
 use Rattle.shen_graph.specs.Graph.{Graph}
-use Rattle.heap_world.specs.World.{Block, Plot}
+use Rattle.heap_world.specs.World.{Block, Plot, is_loose, HasNoRoom}
 use Rattle.full_words.specs.Full.{served}
 use Rattle.full_words.specs.Promised.{Promises}
 use Rattle.image_graph.specs.Left.{IsLeft}
 use Rattle.image_graph.specs.Holds.{HoldsBy, AreSized}
 use Rattle.cycle_words.specs.Marking.Marks.{IsKept}
+use Rattle.image_graph.specs.Buffers.{HasNoMoreSeats}
 use Rattle.cycle_words.specs.Evacuation.Copied.{copy_room}
 use Rattle.cycle_words.specs.Finishing.Copies.{is_left, all_copied, is_room_for_all}
 use Rattle.cycle_words.specs.Finishing.Finish.{nobody_waits, CanFinish}
@@ -36,33 +37,35 @@ pub record ServesAll (c : Config) (memory : Word → ℕ) : Type 0 where
 abbrev pub ServingServesAll : Type 0
 ServingServesAll = (c : Config) (memory : Word → ℕ) → ServesAll c memory
 
--- An address is that of a reference of a kept object outside the collection set: a piece lies there that is marked, or was allocated since
+-- An address is that of a reference of a kept object outside the collection set: an object lies there that is marked, or was allocated since
 -- marking began, and the address is one of the references that its shape word counts.
 pub record IsFieldOfKept (c : Config) (memory : Word → ℕ) (block : Plot) (x : ℕ) : Type 0 where
   pub object : ℕ
   pub piece : Block
   pub here : block object ≡ Some piece
+  pub is_object : is_loose piece ≡ false
   pub outside : IsOutside (memory Cset) (region_with c object)
   pub kept : IsKept c memory object
   pub field : ℕ
   pub few : field < refs_in (memory (Heap (object + 1)))
   pub at : x ≡ object + 3 + field
 
--- Where the words hold a graph these are the fields that updating all references changes, though it finds them by walking over the regions.
+-- Where the words hold a graph, and nobody has a buffer, these are the fields that updating all references changes, though it finds them by
+-- walking over the regions.
 abbrev pub KeptFieldsAreFields : Type 0
 KeptFieldsAreFields = (c : Config) (memory : Word → ℕ) (block : Plot) (owner : ℕ → Option ℕ) (p : Promises) (g : Graph) → HoldsBy c memory block owner p g → AreSized memory block
-    → (x : ℕ) → (is_kept_field c memory x ≡ true) ↔ IsFieldOfKept c memory block x
+    → HasNoRoom block → (x : ℕ) → (is_kept_field c memory x ≡ true) ↔ IsFieldOfKept c memory block x
 
 -- And references can be updated.
 abbrev pub ReferencesCanBeUpdated : Type 0
 ReferencesCanBeUpdated = (c : Config) (memory : Word → ℕ) (block : Plot) (owner : ℕ → Option ℕ) (p : Promises) (g : Graph) → HoldsBy c memory block owner p g → AreSized memory block
-    → memory Cset < 2 ^ c.regions → CanUpdateAll c memory
+    → HasNoRoom block → memory Cset < 2 ^ c.regions → CanUpdateAll c memory
 
 -- Where the words hold a graph, and a set of the heap's regions is collected so that finishing the cycle keeps it, the cycle can be
--- finished: what a marked piece of the set says of its length is so, each time that one is copied out.
+-- finished: what a marked object of the set says of its length is so, each time that one is copied out.
 abbrev pub CollectingCanFinish : Type 0
 CollectingCanFinish = (c : Config) (memory : Word → ℕ) (block : Plot) (owner : ℕ → Option ℕ) (p : Promises) (g : Graph) → HoldsBy c memory block owner p g → AreSized memory block
-    → WhileCollecting c memory block → memory Cset < 2 ^ c.regions → CanFinish c memory
+    → HasNoMoreSeats c memory → WhileCollecting c memory block → memory Cset < 2 ^ c.regions → CanFinish c memory
 
 -- Where no object is left in the set, nothing that can be reached lies there, ..
 abbrev pub NoneLeftInside : Type 0
@@ -72,4 +75,4 @@ NoneLeftInside = (c : Config) (memory : Word → ℕ) (block : Plot) (owner : �
 -- .. and then nothing names the set once all references were updated: it may be freed.
 abbrev pub UpdatedNamesNothing : Type 0
 UpdatedNamesNothing = (c : Config) (memory : Word → ℕ) (block : Plot) (owner : ℕ → Option ℕ) (p : Promises) (g : Graph) → HoldsBy c memory block owner p g → AreSized memory block
-    → WhileCollecting c memory block → NothingInside c memory → NothingNames c (all_updated c memory)
+    → HasNoRoom block → WhileCollecting c memory block → NothingInside c memory → NothingNames c (all_updated c memory)

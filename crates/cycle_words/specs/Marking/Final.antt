@@ -1,11 +1,12 @@
 -- What the end of marking makes of the words of an image: the marks are closed, and regions without a live object are freed.
-use Rattle.std.specs.Prelude.{ℕ, ◌≡◌, ◌+◌, ◌==◌, ◌&&◌, if◌then◌else◌, Bool, false, not, Option, None}
+use Rattle.std.specs.Prelude.{ℕ, ◌≡◌, ◌+◌, ◌==◌, ◌&&◌, ◌||◌, nat_lt, nat_le, if◌then◌else◌, Bool, false, not, Option, None}
 use Rattle.std.specs.List.{range_with_len, list_any}
 use Rattle.std.specs.Int.{bit_at}
 use Rattle.std.specs.Int.RustNames.{bit_or}
 use Rattle.heap_words.specs.declared.config.Config.{Config}
-use Rattle.heap_words.specs.Words.{Word, Free, Top, Tams, Limit, Current}
+use Rattle.heap_words.specs.Words.{Word, Free, Top, Tams, Limit, Current, Share}
 use Rattle.heap_words.specs.Ranges.{seat_count}
+use Rattle.heap_words.specs.Encoding.{end_in}
 use Rattle.regions.specs.Place.{base_of, region_with, IsOf}
 use Rattle.regions.specs.Sets.{IsOutside}
 use Rattle.heap_world.specs.World.{Plot}
@@ -13,15 +14,20 @@ use Rattle.image_graph.specs.State.{IsSomeSeats}
 use Rattle.cycle_words.specs.Marking.Marks.{is_black, bits_of}
 use Rattle.cycle_words.specs.Marking.Close.{closed}
 
--- some seat has a region as its current one
+-- a seat has a buffer that ends in a region
+abbrev pub ends_in : Config → (Word → ℕ) → (region seat : ℕ) → Bool
+ends_in c memory r seat =
+    not (memory (Current seat) == 0) && (nat_lt (base_of c r) (end_in (memory (Current seat))) && nat_le (end_in (memory (Current seat))) (base_of c r + c.region_words))
+
+-- a region is current: it is the one that is shared, or some seat's buffer ends in it
 abbrev pub is_current : Config → (Word → ℕ) → ℕ → Bool
-is_current c memory r = list_any (λ seat. memory (Current seat) == r + 1) (range_with_len 0 (seat_count c.mutators c.helpers))
+is_current c memory r = (memory Share == r + 1) || list_any (ends_in c memory r) (range_with_len 0 (seat_count c.mutators c.helpers))
 
 -- some address of a region is black
 abbrev pub has_black : Config → (Word → ℕ) → ℕ → Bool
 has_black c memory r = list_any (is_black c memory) (range_with_len (base_of c r) c.region_words)
 
--- A region is dead: it is in use, nobody's current one, nothing was allocated in it since marking began, and nothing in it is
+-- A region is dead: it is in use, not current, nothing was allocated in it since marking began, and nothing in it is
 -- marked.
 abbrev pub is_dead : Config → (Word → ℕ) → ℕ → Bool
 is_dead c memory r = (bit_at (memory Free) r == 0) && not (is_current c memory r) && (memory (Top r) == memory (Tams r)) && not (has_black c memory r)

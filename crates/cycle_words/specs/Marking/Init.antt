@@ -2,23 +2,29 @@
 use Rattle.std.specs.Prelude.{ℕ, ◌+◌, if◌then◌else◌, Bool}
 use Rattle.std.specs.Option.{option_map}
 use Rattle.heap_words.specs.declared.config.Config.{Config}
-use Rattle.heap_words.specs.Words.{Word, Phase, Claim, Ask, Top, Tams, Count, Grey, Black}
+use Rattle.heap_words.specs.Words.{Word, Phase, Claim, Ask, Tams, Count, Grey, Black}
+use Rattle.buffer_words.specs.Settled.{buffers_settled}
+use Rattle.buffer_words.specs.Edge.{edge}
 use Rattle.heap_graph.specs.Walk.{has}
 use Rattle.heap_world.specs.World.{Block, thing, dead, Plot}
 use Rattle.full_words.specs.Full.{root_words}
 use Rattle.cycle_words.specs.Marking.Marks.{mark_bits}
 
--- Nothing is black, and exactly what roots and answers name is grey. The tops are noted, no buffer has an entry, no unit is
+-- Nothing is black, and exactly what roots and answers name is grey. The edges are noted, no SATB buffer has an entry, no unit is
 -- claimed and nothing is asked for. All other words stay.
+abbrev pub marking_begun : Config → (Word → ℕ) → Word → ℕ
+marking_begun c memory (Grey n) = mark_bits c (has (root_words c memory)) n
+marking_begun c memory (Black n) = 0
+marking_begun c memory (Tams r) = edge c memory r
+marking_begun c memory (Count t) = 0
+marking_begun c memory Claim = 0
+marking_begun c memory Ask = 0
+marking_begun c memory Phase = 1
+marking_begun c memory word = memory word
+
+-- Buffers are settled, and marking begins: so what is allocated from now on lies at or above the edges.
 abbrev pub init_marked : Config → (Word → ℕ) → Word → ℕ
-init_marked c memory (Grey n) = mark_bits c (has (root_words c memory)) n
-init_marked c memory (Black n) = 0
-init_marked c memory (Tams r) = memory (Top r)
-init_marked c memory (Count t) = 0
-init_marked c memory Claim = 0
-init_marked c memory Ask = 0
-init_marked c memory Phase = 1
-init_marked c memory word = memory word
+init_marked c memory = marking_begun c (buffers_settled c memory)
 
 -- a piece that stays, or of whose object only the words stay
 abbrev pub pruned_piece : Bool → Block → Block

@@ -1,32 +1,32 @@
 -- That the pauses of marking keep the graph, and what they leave.
-use Rattle.std.specs.Prelude.{ℕ, ◌≡◌, ◌≤◌, ◌↔◌, ◌⊎◌, true, Option}
+use Rattle.std.specs.Prelude.{ℕ, ◌≡◌, ◌↔◌, ◌⊎◌, true, Option}
 use Rattle.heap_words.specs.declared.config.Config.{Config}
-use Rattle.heap_words.specs.Words.{Word, Cset, Current}
-use Rattle.heap_words.specs.Ranges.{seat_count}
+use Rattle.heap_words.specs.Words.{Word, Cset}
 use Rattle.shen_graph.specs.Graph.{Graph}
 use Rattle.heap_graph.specs.Walk.{has}
 use Rattle.heap_world.specs.World.{Plot}
 use Rattle.full_words.specs.Full.{held_in}
 use Rattle.full_words.specs.Promised.{Promises}
 use Rattle.image_graph.specs.Holds.{HoldsBy, AreSized}
+use Rattle.image_graph.specs.Buffers.{HasNoMoreSeats, settled_block}
 use Rattle.cycle_words.specs.Marking.Marks.{is_grey, is_black}
 use Rattle.cycle_words.specs.Marking.Init.{init_marked, pruned}
 use Rattle.cycle_words.specs.Marking.Close.{IsTraced, closed}
 use Rattle.cycle_words.specs.Marking.WhileMarking.{IsMarking, IsMarkedThrough}
 use Rattle.cycle_words.specs.Marking.Final.{IsDead, is_dead, dead_in, freed_block, freed_owner, final_marked}
 
--- The words stand for the same graph, also where objects that nothing leads to are dead; and of these pieces what holds while marking
--- runs holds. Where each piece said how many words it has, each of these does.
+-- The words stand for the same graph once buffers are settled, also where objects that nothing leads to are dead; and of these pieces what
+-- holds while marking runs holds. Where each piece said how many words it has, each of these does.
 pub record BeginsMarking (c : Config) (before after : Word → ℕ) (block : Plot) (owner : ℕ → Option ℕ) (p : Promises) (g : Graph) : Type 0 where
-  pub holds : HoldsBy c after block owner p g
-  pub left : HoldsBy c after (pruned (has (held_in c before)) block) owner p g
-  pub marking : IsMarking c after (pruned (has (held_in c before)) block)
-  pub sized : AreSized before block → AreSized after (pruned (has (held_in c before)) block)
+  pub holds : HoldsBy c after (settled_block c before block) owner p g
+  pub left : HoldsBy c after (pruned (has (held_in c before)) (settled_block c before block)) owner p g
+  pub marking : IsMarking c after (pruned (has (held_in c before)) (settled_block c before block))
+  pub sized : AreSized before block → AreSized after (pruned (has (held_in c before)) (settled_block c before block))
 
 -- So it is where marking begins.
 abbrev pub InitMarks : Type 0
 InitMarks = (c : Config) (memory : Word → ℕ) (block : Plot) (owner : ℕ → Option ℕ) (p : Promises) (g : Graph) → HoldsBy c memory block owner p g → memory Cset ≡ 0
-    → BeginsMarking c memory (init_marked c memory) block owner p g
+    → HasNoMoreSeats c memory → BeginsMarking c memory (init_marked c memory) block owner p g
 
 -- Closing the marks blackens exactly what tracing comes to, ..
 pub record AreClosed (c : Config) (before after : Word → ℕ) : Type 0 where
@@ -45,10 +45,6 @@ ClosingKeeps = (c : Config) (memory : Word → ℕ) (block : Plot) (owner : ℕ 
 -- The test of a dead region says what it is to be dead.
 abbrev pub DeadIsDead : Type 0
 DeadIsDead = (c : Config) (memory : Word → ℕ) (r : ℕ) → (is_dead c memory r ≡ true) ↔ IsDead c memory r
-
--- no seat but those of the heap has a current region
-abbrev pub HasNoMoreSeats : Config → (Word → ℕ) → Type 0
-HasNoMoreSeats c memory = (seat : ℕ) → seat_count c.mutators c.helpers ≤ seat → memory (Current seat) ≡ 0
 
 -- The end of marking: nothing that can be reached lies in a dead region, so that without the pieces of those the words stand
 -- for the same graph, and each object that can be reached is kept.

@@ -2,21 +2,27 @@
 use Rattle.std.specs.Prelude.{ℕ, ◌==◌, if◌then◌else◌, Bool}
 use Rattle.std.specs.Int.{bit_at}
 use Rattle.heap_words.specs.declared.config.Config.{Config}
-use Rattle.heap_words.specs.Words.{Word, Phase, Cset, Evac, Claim, Top, Limit}
+use Rattle.heap_words.specs.Words.{Word, Phase, Cset, Evac, Claim, Limit}
+use Rattle.buffer_words.specs.Settled.{buffers_settled}
+use Rattle.buffer_words.specs.Edge.{edge}
 use Rattle.cycle_words.specs.Marking.Final.{freed}
 
 -- a region is in the collection set
 abbrev pub is_chosen : (Word → ℕ) → ℕ → Bool
 is_chosen memory r = bit_at (memory Cset) r == 1
 
--- Updating begins: the limit of each region outside of the collection set is its top, and that of each region of the set is 0. No
--- copier is counted, and no unit is claimed. All other words stay.
-abbrev pub init_updated : (Word → ℕ) → Word → ℕ
-init_updated memory Phase = 3
-init_updated memory Evac = 0
-init_updated memory Claim = 0
-init_updated memory (Limit r) = if is_chosen memory r then 0 else memory (Top r)
-init_updated memory word = memory word
+-- The limit of each region outside of the collection set is its edge, and that of each region of the set is 0. No copier is counted, and no
+-- unit is claimed. All other words stay.
+abbrev pub updating_begun : Config → (Word → ℕ) → Word → ℕ
+updating_begun c memory Phase = 3
+updating_begun c memory Evac = 0
+updating_begun c memory Claim = 0
+updating_begun c memory (Limit r) = if is_chosen memory r then 0 else edge c memory r
+updating_begun c memory word = memory word
+
+-- Buffers are settled, and updating begins: so what is allocated from now on lies at or above the limits.
+abbrev pub init_updated : Config → (Word → ℕ) → Word → ℕ
+init_updated c memory = updating_begun c (buffers_settled c memory)
 
 -- no cycle runs: the collection set is empty, and no unit is claimed
 abbrev pub cycle_ended : (Word → ℕ) → Word → ℕ

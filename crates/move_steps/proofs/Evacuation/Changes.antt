@@ -88,6 +88,7 @@ module _ (c : Config) (u w : World) (seat claim : ℕ) (unit : Option ℕ) (on :
     no_promises = rely.no_promises;
     promise_words = rely.promise_words;
     current = rely.current;
+    opens = rely.opens;
     owners = rely.owners;
     tops = rely.tops;
     root_words = rely.root_words;
@@ -125,6 +126,7 @@ module _ (c : Config) (u w : World) (seat claim : ℕ) (unit : Option ℕ) (on :
       tams = rely.fields.tams;
       limits = rely.fields.limits;
       deads = rely.fields.deads;
+      fillers = rely.fields.fillers;
       claims = λ all. (let claimed = rely.fields.claims all in omega (arith, claimed, most));
       fields = rely.fields.fields;
     };
@@ -146,4 +148,4 @@ module _ (c : Config) (u w : World) (seat claim : ℕ) (unit : Option ℕ) (on :
 
 -- the machine has nothing still
 pub nothing_then : (w : World) (seat claim : ℕ) (unit : Option ℕ) → HasNothing w seat → HasNothing (world_then w seat claim unit) seat
-nothing_then w seat claim unit nothing = record { copying = nothing.copying; records_none = nothing.records_none; scans_none = nothing.scans_none; hands = nothing.hands }
+nothing_then w seat claim unit nothing = record { copying = nothing.copying; records_none = nothing.records_none; scans_none = nothing.scans_none; rooms = nothing.rooms }

@@ -10,19 +10,20 @@ use Rattle.regions.specs.Place.{base_of, region_with}
 use Rattle.regions.specs.Sets.{IsIn}
 use Rattle.regions.proofs.MarksApart.{word_inside}
 use Rattle.shen_graph.specs.declared.name.Name.{Name}
-use Rattle.heap_world.specs.World.{World, Block, thing, moved, Body, body_at, body_words, HasCopy, IsCaredFor, Shared}
+use Rattle.heap_world.specs.World.{World, Block, thing, moved, filling, Body, body_at, body_words, HasCopy, IsCaredFor, Shared}
 use Rattle.heap_world.specs.Rely.{Rely}
+use Rattle.heap_world.proofs.Pieces.{some_words}
 use Rattle.heap_world.proofs.Pointing.{piece_inside, copy_cases}
 use Rattle.load_barrier.specs.declared.evac_spot.EvacSpot.{EvacSpot}
-use Rattle.load_barrier.specs.declared.evac_spot.EvacSpot.TheVariants.{LoadClaim, ClaimUnit, LoadTop, LoadShape, LoadMark, Resolving, Ended}
+use Rattle.load_barrier.specs.declared.evac_spot.EvacSpot.TheVariants.{LoadClaim, ClaimUnit, LoadTop, LoadFirst, LoadShape, LoadMark, Resolving, Ended}
 use Rattle.load_barrier.specs.UnitRows.{touch_at, is_ended}
 use Rattle.load_barrier.specs.Fit as resolve
 use Rattle.load_barrier.specs.UnitFit.{has_shape, is_walkable, is_ready, PartFit}
 use Rattle.move_steps.specs.Resolving.Laws.{ResolvingSteps}
 use Rattle.move_steps.proofs.Resolving.Parts.{resolving_steps}
-use Rattle.move_steps.specs.Evacuation.Facts.{IsSwept, IsMeasured, HasNothing, WorkFacts, CanEvacuate}
+use Rattle.move_steps.specs.Evacuation.Facts.{IsSwept, IsWalkedTo, IsMeasured, HasNothing, WorkFacts, CanEvacuate}
 use Rattle.move_steps.specs.Evacuation.Laws.{spot_then, EvacStep, SweptStep, EvacuatingSteps, SweptIsForwarded, AllIsForwarded}
-use Rattle.move_steps.proofs.Evacuation.Walks.{before_end, next_base, placed, three_words, swept_stays, walked_stays, measured_stays}
+use Rattle.move_steps.proofs.Evacuation.Walks.{before_end, next_base, placed, three_words, swept_stays, walked_stays, object_stays, measured_stays}
 use Rattle.move_steps.proofs.Evacuation.Units.{each_step}
 
 -- While others step, what a machine counts on stays.
@@ -32,14 +33,15 @@ module _ (resolving : ResolvingSteps) (c : Config) (u w : World) (seat : ℕ) (s
     copying = rely.copies.copying ∙ nothing.copying;
     records_none = rely.marks.recording ∙ nothing.records_none;
     scans_none = rely.marks.scanning ∙ nothing.scans_none;
-    hands = λ a words is. nothing.hands a words (rely.no_rooms a _ is refl);
+    rooms = λ a x is room. nothing.rooms a x (rely.no_rooms a x is room) room;
   }
 
   facts_stay : (at : EvacSpot) → WorkFacts c u seat at → WorkFacts c w seat at
   facts_stay LoadClaim facts = nothing_stays facts
   facts_stay (ClaimUnit unit) facts = (nothing_stays facts.0, facts.1)
   facts_stay (LoadTop region) facts = (nothing_stays facts.0, subst (λ set. IsIn set region) (sym rely.copies.keeps.cset) facts.1)
-  facts_stay (LoadShape address end) facts = (nothing_stays facts.0, walked_stays c u w rely.copies.keeps address end facts.1)
+  facts_stay (LoadFirst address end) facts = (nothing_stays facts.0, walked_stays c u w rely.copies.keeps address end facts.1)
+  facts_stay (LoadShape address end) facts = (nothing_stays facts.0, object_stays c u w rely.copies.keeps address end facts.1)
   facts_stay (LoadMark address end next) facts = (nothing_stays facts.0, measured_stays c u w rely.copies.keeps address end next facts.1)
   facts_stay (Resolving address end next at) facts =
       (facts.0, resolving.stays c u w seat address at shared rely facts.1, measured_stays c u w rely.copies.keeps address end next facts.2)
@@ -60,21 +62,22 @@ word_there c a is = and_from _ _ (le-leb _ _ is.0) (lt-ltb _ _ is.1)
 
 -- The numbers of the spot are in range.
 module _ (c : Config) (u : World) (seat : ℕ) (shared : Shared c u) where
-  -- the first two words of a piece are of the heap
+  -- the first word of a piece is of the heap
   header_there : (a : ℕ) (x : Block) → u.block a ≡ Some x → IsWord c (Heap a)
   header_there a x is =
       let inside = piece_inside c (λ r. u.memory (Top r)) u.block shared.parsable.plotted a x is in
-      let some = three_words c u shared a x is in
+      let some = some_words c (λ r. u.memory (Top r)) u.block shared.parsable shared.owned.rooms a x is in
       (inside.0, omega (arith, inside.1, some))
 
-  second_there : (a : ℕ) (x : Block) → u.block a ≡ Some x → IsWord c (Heap (a + 1))
-  second_there a x is =
-      let inside = piece_inside c (λ r. u.memory (Top r)) u.block shared.parsable.plotted a x is in
-      let some = three_words c u shared a x is in
+  -- so is the second one, where the piece does not only fill
+  second_there : (address end : ℕ) (at : IsWalkedTo c u address end) → filling at.piece ≡ None → IsWord c (Heap (address + 1))
+  second_there address end at solid =
+      let inside = piece_inside c (λ r. u.memory (Top r)) u.block shared.parsable.plotted address at.piece at.there in
+      let some = three_words c u shared address at.piece at.inside solid at.there in
       (omega (arith, inside.0), omega (arith, inside.1, some))
 
-  shape_there : (a : ℕ) (x : Block) → u.block a ≡ Some x → has_shape c a ≡ true
-  shape_there a x is = and_from _ _ (word_there c a (header_there a x is)) (word_there c (a + 1) (second_there a x is))
+  shape_there : (address end : ℕ) (at : IsWalkedTo c u address end) → filling at.piece ≡ None → has_shape c address ≡ true
+  shape_there address end at solid = and_from _ _ (word_there c address (header_there address at.piece at.there)) (word_there c (address + 1) (second_there address end at solid))
 
   -- behind a piece there is another one, or the end
   walkable_there : (address end next : ℕ) → IsMeasured c u address end next → is_walkable c next end ≡ true
@@ -86,7 +89,7 @@ module _ (c : Config) (u : World) (seat : ℕ) (shared : Shared c u) where
       let end_is = at.end_is in
       let less : next < end = ltb-true next end more in
       let piece = shared.parsable.filled.next (region_with c address) address at.piece within at.from_base at.there (omega (arith, less, next_is, end_is)) in
-      cond-true (nat_lt next end) _ _ more ∙ shape_there next piece.0 (ap u.block next_is ∙ piece.1))
+      cond-true (nat_lt next end) _ _ more ∙ word_there c next (header_there next piece.0 (ap u.block next_is ∙ piece.1)))
       (λ (none : nat_lt next end ≡ false). cond-false (nat_lt next end) _ _ none)
       (cases_Bool (nat_lt next end))
 
@@ -94,10 +97,11 @@ module _ (c : Config) (u : World) (seat : ℕ) (shared : Shared c u) where
   ready_there LoadClaim facts = refl
   ready_there (ClaimUnit unit) facts = lt-ltb _ _ facts.1
   ready_there (LoadTop region) facts = lt-ltb _ _ (shared.evacuated.aside.in_heap region facts.1)
-  ready_there (LoadShape address end) facts = shape_there address facts.1.piece facts.1.there
-  ready_there (LoadMark address end next) facts = and_from _ _ (shape_there address facts.1.at.piece facts.1.at.there) (walkable_there address end next facts.1)
+  ready_there (LoadFirst address end) facts = word_there c address (header_there address facts.1.piece facts.1.there)
+  ready_there (LoadShape address end) facts = shape_there address end facts.1.at facts.1.solid
+  ready_there (LoadMark address end next) facts = and_from _ _ (shape_there address end facts.1.at facts.1.solid) (walkable_there address end next facts.1)
   ready_there (Resolving address end next at) facts =
-      and_from _ _ (shape_there address facts.2.at.piece facts.2.at.there) (and_from _ _ (walkable_there address end next facts.2)
+      and_from _ _ (shape_there address end facts.2.at facts.2.solid) (and_from _ _ (walkable_there address end next facts.2)
       (and_from _ _ facts.1.ready (ap (λ resolved. resolve.is_busy resolved) facts.0)))
   ready_there (Ended unit) facts = refl
 
@@ -106,7 +110,8 @@ pub unit_inside : (resolving : ResolvingSteps) (c : Config) (u : World) (seat cs
 unit_inside resolving c u seat cset LoadClaim shared can = tt
 unit_inside resolving c u seat cset (ClaimUnit unit) shared can = tt
 unit_inside resolving c u seat cset (LoadTop region) shared can = shared.evacuated.aside.in_heap region can.facts.1
-unit_inside resolving c u seat cset (LoadShape address end) shared can = second_there c u seat shared address can.facts.1.piece can.facts.1.there
+unit_inside resolving c u seat cset (LoadFirst address end) shared can = header_there c u seat shared address can.facts.1.piece can.facts.1.there
+unit_inside resolving c u seat cset (LoadShape address end) shared can = second_there c u seat shared address end can.facts.1.at can.facts.1.solid
 unit_inside resolving c u seat cset (LoadMark address end next) shared can = word_inside c address (header_there c u seat shared address can.facts.1.at.piece can.facts.1.at.there)
 unit_inside resolving c u seat cset (Resolving address end next at) shared can = resolving.inside c u seat address at shared can.facts.1
 unit_inside resolving c u seat cset (Ended unit) shared can = tt
@@ -116,7 +121,7 @@ unit_spares : (resolving : ResolvingSteps) (c : Config) (u : World) (seat cset :
     → (touch_at c seat at).word ≡ Heap (d + k) → ((touch_at c seat at).form ≡ loads) ⊎ (k ≡ 0)
 unit_spares resolving c u seat cset (ClaimUnit unit) d k b shared can is below word = absurd (cc (word))
 unit_spares resolving c u seat cset (Resolving address end next at) d k b shared can is below word =
-    ⊎_elim (λ loaded. inl loaded) (λ published. inr published.3) (resolving.spares c u seat address at d k b shared can.facts.1 is below word)
+    ⊎_elim (λ loaded. inl loaded) (λ published. inr published.4) (resolving.spares c u seat address at d k b shared can.facts.1 is below word)
 unit_spares resolving c u seat cset _ d k b shared can is below word = inl refl
 
 -- the word that it finds is fit for the part

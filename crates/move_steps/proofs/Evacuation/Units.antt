@@ -1,5 +1,5 @@
 -- The steps by which a machine works on a unit of evacuation.
-use Rattle.std.proofs.Common.{◌≡◌, ◌≢◌, ℕ, ◌+◌, ◌<◌, ◌≤◌, nat_lt, true, false, Some, None, ⊎_elim, inl, inr, refl, sym, ap, ◌∙◌, subst, arith}
+use Rattle.std.proofs.Common.{◌≡◌, ◌≢◌, ℕ, ◌+◌, ◌<◌, ◌≤◌, nat_lt, true, false, Option, Some, None, ⊎_elim, inl, inr, refl, sym, ap, ◌∙◌, subst, arith}
 use Rattle.std.specs.Prelude.{◌==◌}
 use Rattle.std.specs.Int.{bit_at}
 use Rattle.std.proofs.lemmas.Bool.{cases_eq, cases_Bool, cond-true, cond-false, eq-eqb, eqb-true, false≢true, ltb-true, ltb-false}
@@ -7,14 +7,14 @@ use Rattle.std.proofs.lemmas.Option.{same_Some}
 use Rattle.heap_words.specs.declared.config.Config.{Config}
 use Rattle.heap_words.specs.declared.access.Unit.{Unit as Done}
 use Rattle.heap_words.specs.declared.access.Unit.TheVariants.{Worked, NoneLeft}
-use Rattle.heap_words.specs.Encoding.{object_words}
+use Rattle.heap_words.specs.Encoding.{filler_words_in, object_words}
 use Rattle.heap_words.specs.Words.{Word, Phase, Cset, Evac, Claim, Top, Tams, Black, Heap, write}
 use Rattle.regions.specs.Place.{base_of, region_with}
 use Rattle.regions.specs.Sets.{IsIn}
 use Rattle.steps_base.specs.Touch.{touched}
 use Rattle.regions.specs.Marks.{mark_word, mark_bit, HasMark}
 use Rattle.shen_graph.specs.declared.name.Name.{Name}
-use Rattle.heap_world.specs.World.{World, Block, thing, IsCollected, IsMarkable, IsYoung, IsSweptTo, Shared}
+use Rattle.heap_world.specs.World.{World, Block, thing, filler, words_of, filling, IsCollected, IsMarkable, IsYoung, IsSweptTo, Shared}
 use Rattle.heap_world.specs.Rely.{Keeps, Rely}
 use Rattle.heap_world.specs.Part.{PartStep}
 use Rattle.heap_world.proofs.Pointing.{piece_inside}
@@ -24,13 +24,13 @@ use Rattle.load_barrier.specs.declared.spot.ResolveSpot.{ResolveSpot}
 use Rattle.load_barrier.specs.declared.spot.ResolveSpot.TheVariants.{LoadHeader, Resolved}
 use Rattle.load_barrier.specs.Rows as resolves
 use Rattle.load_barrier.specs.declared.evac_spot.EvacSpot.{EvacSpot}
-use Rattle.load_barrier.specs.declared.evac_spot.EvacSpot.TheVariants.{LoadClaim, ClaimUnit, LoadTop, LoadShape, LoadMark, Resolving, Ended}
-use Rattle.load_barrier.specs.UnitRows.{copy_phase, touch_at, is_ended, walk_on, after_claim, after_resolve, is_in_set, lies_in_set}
+use Rattle.load_barrier.specs.declared.evac_spot.EvacSpot.TheVariants.{LoadClaim, ClaimUnit, LoadTop, LoadFirst, LoadShape, LoadMark, Resolving, Ended}
+use Rattle.load_barrier.specs.UnitRows.{copy_phase, touch_at, is_ended, walk_on, after_claim, after_words, after_resolve, is_in_set, lies_in_set}
 use Rattle.move_steps.specs.Resolving.Facts.{CanResolve}
 use Rattle.move_steps.specs.Resolving.Laws.{ResolvingSteps}
-use Rattle.move_steps.specs.Evacuation.Facts.{working_of, IsSwept, IsWalkedTo, IsMeasured, HasNothing, WorkFacts, CanEvacuate}
+use Rattle.move_steps.specs.Evacuation.Facts.{working_of, IsSwept, IsWalkedTo, HasNothing, WorkFacts, CanEvacuate}
 use Rattle.move_steps.specs.Evacuation.Laws.{spot_then}
-use Rattle.move_steps.proofs.Evacuation.Walks.{region_is, placed, words_there, swept_past, swept_whole, measured_stays}
+use Rattle.move_steps.proofs.Evacuation.Walks.{region_is, placed, header_tells, filling_is, words_there, swept_past, swept_whole, measured_stays}
 use Rattle.move_steps.proofs.Evacuation.Changes.{world_then, cared_still, step_then, nothing_then}
 
 -- what a machine counts on once it has made a step, and that a unit that it ended is swept
@@ -64,12 +64,10 @@ module _ (c : Config) (w : World) (shared : Shared c w) where
   }
 
   -- and goes on behind a piece that is not the current copy of an object
-  pub next_walk : (address end next : ℕ) → IsMeasured c w address end next → ((refs nums : ℕ) (name : Name) → w.block address ≡ Some (thing name refs nums) → ⊥)
+  pub next_walk : (address end next : ℕ) (at : IsWalkedTo c w address end) → next ≡ address + words_of at.piece → ((refs nums : ℕ) (name : Name) → w.block address ≡ Some (thing name refs nums) → ⊥)
       → IsWalk c w (region_with c address) next end
-  next_walk address end next measured none =
-      let at = measured.at in
+  next_walk address end next at next_is none =
       let there = placed c w shared address at.piece at.there in
-      let next_is = measured.next_is in
       let end_is = at.end_is in
       record {
         set = at.inside;
@@ -152,7 +150,7 @@ module _ (c : Config) (u : World) (seat cset : ℕ) where
       let end_is = walk.end_is in
       let here : region_with c address ≡ region = region_is c region address walk.from_base (omega (arith, less, end_is, short)) in
       let piece = walk.piece less in
-      goes_on at (LoadShape address end) w base can (leads ∙ cond-true (nat_lt address end) _ _ more) (unit ∙ ap Some (sym here)) refl (
+      goes_on at (LoadFirst address end) w base can (leads ∙ cond-true (nat_lt address end) _ _ more) (unit ∙ ap Some (sym here)) refl (
         nothing,
         record {
           inside = subst (λ r. IsIn (w.memory Cset) r) (sym here) walk.set;
@@ -228,12 +226,31 @@ module _ (c : Config) (u : World) (seat cset : ℕ) where
       walks (LoadTop region) u region (base_of c region) (base_of c region + u.memory (Top region)) (loads_at (LoadTop region) (Top region) refl shared can) can refl refl
       can.facts.0 (first_walk c u shared region can.facts.1)
 
+  -- the load of a piece's header: the walk steps over words that only fill
+  at_load_first : (address end : ℕ) → Shared c u → CanEvacuate c u seat cset (LoadFirst address end) → UnitStep c u seat cset (LoadFirst address end)
+  at_load_first address end shared can = by_piece (filling can.facts.1.piece) refl
+    where
+      tells : filler_words_in (u.memory (Heap address)) ≡ filling can.facts.1.piece
+      tells = header_tells c u shared address can.facts.1.piece can.facts.1.inside can.facts.1.there
+
+      base : IsBase (LoadFirst address end) u
+      base = loads_at (LoadFirst address end) (Heap address) refl shared can
+
+      by_piece : (filled : Option ℕ) → filling can.facts.1.piece ≡ filled → UnitStep c u seat cset (LoadFirst address end)
+      by_piece (Some words) is =
+          let piece : can.facts.1.piece ≡ filler words = filling_is can.facts.1.piece words is in
+          walks (LoadFirst address end) u (region_with c address) (address + words) end base can (ap (after_words address end) (tells ∙ is)) refl can.facts.0
+          (next_walk c u shared address end (address + words) can.facts.1 (ap (λ x. address + words_of x) (sym piece))
+          (λ refs nums name object. (let both : Some (filler words) ≡ Some (thing name refs nums) = ap (λ x. Some x) (sym piece) ∙ sym can.facts.1.there ∙ object in absurd (cc (both)))))
+      by_piece None is =
+          goes_on (LoadFirst address end) (LoadShape address end) u base can (ap (after_words address end) (tells ∙ is)) refl refl (can.facts.0, record { at = can.facts.1; solid = is })
+
   -- the load of a piece's shape
   at_load_shape : (address end : ℕ) → Shared c u → CanEvacuate c u seat cset (LoadShape address end) → UnitStep c u seat cset (LoadShape address end)
   at_load_shape address end shared can =
-      let walked = can.facts.1 in
+      let walked = can.facts.1.at in
       goes_on (LoadShape address end) (LoadMark address end (address + object_words (u.memory (Heap (address + 1))))) u (loads_at (LoadShape address end) (Heap (address + 1)) refl shared can) can refl refl refl
-      (can.facts.0, record { at = walked; next_is = ap (λ n. address + n) (words_there c u shared address walked.piece walked.inside walked.there) })
+      (can.facts.0, record { at = walked; solid = can.facts.1.solid; next_is = ap (λ n. address + n) (words_there c u shared address walked.piece walked.inside can.facts.1.solid walked.there) })
 
   -- in the collection set an object that is not marked has no current copy
   unmarked : (address end : ℕ) → Shared c u → u.memory Phase ≡ 2 → IsWalkedTo c u address end → (HasMark c (λ n. u.memory (Black n)) address → ⊥)
@@ -261,12 +278,12 @@ module _ (resolving : ResolvingSteps) (c : Config) (u : World) (seat cset : ℕ)
       goes_on c u seat cset at (Resolving address end next LoadHeader) u base can (cond-true (bit_at got (mark_bit c address) == 1) _ _ black) refl refl (
         refl,
         resolving.begins c u seat address can.seated can.phase measured.at.inside (shared.evacuated.kept.only (omega (arith, can.phase)) address low (eqb-true _ _ black) measured.at.inside)
-            nothing.copying nothing.records_none nothing.scans_none nothing.hands,
+            nothing.copying nothing.records_none nothing.scans_none nothing.rooms,
         measured,
       ))
       (λ (white : (bit_at got (mark_bit c address) == 1) ≡ false).
       walks c u seat cset at u (region_with c address) next end base can (cond-false (bit_at got (mark_bit c address) == 1) _ _ white) refl nothing
-      (next_walk c u shared address end next measured
+      (next_walk c u shared address end next measured.at measured.next_is
       (unmarked c u seat cset address end shared can.phase measured.at (λ marked. false≢true (sym white ∙ eq-eqb (bit_at got (mark_bit c address)) 1 marked)))))
       (cases_Bool (bit_at got (mark_bit c address) == 1))
 
@@ -279,14 +296,14 @@ module _ (resolving : ResolvingSteps) (c : Config) (u : World) (seat cset : ℕ)
       let measured = measured_stays c u w base.keeps.copies address end next can.facts.2 in
       let answers = resolving.answers c w seat address answer resolved in
       let set_is : cset ≡ w.memory Cset = can.set_is ∙ sym base.keeps.copies.cset in
-      let nothing : HasNothing w seat = record { copying = resolved.copying; records_none = resolved.records_none; scans_none = resolved.scans_none; hands = resolved.hands } in
+      let nothing : HasNothing w seat = record { copying = resolved.copying; records_none = resolved.records_none; scans_none = resolved.scans_none; rooms = resolved.rooms } in
       ⊎_elim
       (λ (is : lies_in_set c cset answer ≡ true).
       ends c u seat cset spot Worked w base can (ap (after_resolve c cset address end next) leads ∙ cond-true (lies_in_set c cset answer) _ _ is) nothing
       (λ region own. inl (answers.stopped (subst (λ set. IsCollected c set answer) set_is (eqb-true _ _ is)))))
       (λ (not_in : lies_in_set c cset answer ≡ false).
       walks c u seat cset spot w (region_with c address) next end base can (ap (after_resolve c cset address end next) leads ∙ cond-false (lies_in_set c cset answer) _ _ not_in) refl nothing
-      (next_walk c w base.shared address end next measured
+      (next_walk c w base.shared address end next measured.at measured.next_is
       (answers.passed (λ inside. false≢true (sym not_in ∙ eq-eqb _ 1 (subst (λ set. IsCollected c set answer) (sym set_is) inside))))))
       (cases_Bool (lies_in_set c cset answer))
 
@@ -310,6 +327,7 @@ module _ (resolving : ResolvingSteps) (c : Config) (u : World) (seat cset : ℕ)
   each_step LoadClaim going shared can = at_load_claim c u seat cset shared can
   each_step (ClaimUnit unit) going shared can = at_claim_unit c u seat cset unit shared can
   each_step (LoadTop region) going shared can = at_load_top c u seat cset region shared can
+  each_step (LoadFirst address end) going shared can = at_load_first c u seat cset address end shared can
   each_step (LoadShape address end) going shared can = at_load_shape c u seat cset address end shared can
   each_step (LoadMark address end next) going shared can = at_load_mark address end next shared can
   each_step (Resolving address end next at) going shared can = at_resolving address end next at shared can

@@ -1,18 +1,21 @@
 -- Walks of regions of the collection set: where a piece of such a region lies, what its words say, and up to where the region is swept.
-use Rattle.std.proofs.Common.{◌≡◌, ◌≢◌, ℕ, ◌+◌, ◌-◌, ◌*◌, ◌/◌, ◌<◌, ◌≤◌, Some, ⊎_elim, inl, inr, refl, sym, ap, ◌∙◌, subst, arith}
+use Rattle.std.proofs.Common.{◌≡◌, ◌≢◌, ℕ, ◌+◌, ◌-◌, ◌*◌, ◌/◌, ◌%◌, ◌<◌, ◌≤◌, Some, None, ⊎_elim, inl, inr, refl, sym, ap, ◌∙◌, subst, arith}
 use Rattle.std.proofs.Math.Nat.{mul-le-mul_right, lt-div-mul-add}
 use Rattle.std.proofs.lemmas.Nat.{le-div}
-use Rattle.std.proofs.lemmas.Bool.{cases_lt, cases_eq}
+use Rattle.std.specs.Prelude.{◌==◌}
+use Rattle.std.proofs.lemmas.Bool.{cases_lt, cases_eq, cond-true, cond-false, eq-eqb, ne_eqb}
+use Rattle.std.proofs.lemmas.Option.{none-some, same_Some}
 use Rattle.heap_words.specs.declared.config.Config.{Config}
-use Rattle.heap_words.specs.Encoding.{object_words, shape_word}
+use Rattle.heap_words.specs.Encoding.{plain_header, header_word, filler_header, filler_words_in, object_words, shape_word}
 use Rattle.heap_words.specs.Words.{Cset, Evac, Top, Heap}
 use Rattle.regions.specs.Place.{base_of, region_with}
 use Rattle.regions.specs.Sets.{IsIn}
 use Rattle.regions.proofs.PlaceLemmas.{regions_tile}
 use Rattle.shen_graph.specs.declared.name.Name.{Name}
-use Rattle.heap_world.specs.World.{World, Block, thing, moved, spent, hand, promised, dead, filler, spare, carved, words_of, IsCollected, IsSweptTo, Shared}
+use Rattle.heap_world.specs.World.{World, Block, thing, moved, spent, hand, promised, dead, filler, spare, carved, words_of, filling, IsCollected, IsSweptTo, Shared}
 use Rattle.heap_world.specs.Rely.{KeepsCopies}
-use Rattle.move_steps.specs.Evacuation.Facts.{IsSwept, IsWalkedTo, IsMeasured}
+use Rattle.heap_world.proofs.Pieces.{some_words}
+use Rattle.move_steps.specs.Evacuation.Facts.{IsSwept, IsWalkedTo, IsAtObject, IsMeasured}
 
 -- an address at or above the base of its region lies in it
 pub before_end : (c : Config) (a : ℕ) → base_of c (region_with c a) ≤ a → a < base_of c (region_with c a) + c.region_words
@@ -43,24 +46,46 @@ pub record IsPlaced (c : Config) (w : World) (a : ℕ) (x : Block) : Type 0 wher
   pub to_top : a + words_of x ≤ base_of c (region_with c a) + w.memory (Top (region_with c a))
   pub short : w.memory (Top (region_with c a)) ≤ c.region_words
 
+-- the header of an object is none of words that only fill, moved or not, and that of such words tells how many they are
+plain_fills_not : (header : ℕ) → header ≡ plain_header → filler_words_in header ≡ None
+plain_fills_not header is = ap filler_words_in is
+
+forwarded_fills_not : (header to : ℕ) → header ≡ header_word to → filler_words_in header ≡ None
+forwarded_fills_not header to is = cond-false (header % 4 == 2) _ _ (ne_eqb (header % 4) 2 (λ same. omega (arith, is, same)))
+
+pub filler_fills : (header words : ℕ) → header ≡ filler_header words → filler_words_in header ≡ Some words
+filler_fills header words is = cond-true (header % 4 == 2) _ _ (eq-eqb (header % 4) 2 (omega (arith, is))) ∙ ap Some (let same : header / 4 ≡ words = omega (arith, is) in same)
+
+-- a piece of which so many words only fill is those
+pub filling_is : (x : Block) (words : ℕ) → filling x ≡ Some words → x ≡ filler words
+filling_is (filler more) words is = ap filler (same_Some more words is)
+filling_is (thing name refs nums) words is = absurd (none-some words is)
+filling_is (moved name refs nums to) words is = absurd (none-some words is)
+filling_is (spent more to) words is = absurd (none-some words is)
+filling_is (hand seat more) words is = absurd (none-some words is)
+filling_is (promised seat more) words is = absurd (none-some words is)
+filling_is (dead more) words is = absurd (none-some words is)
+filling_is (spare seat more) words is = absurd (none-some words is)
+filling_is (carved seat more) words is = absurd (none-some words is)
+
 module _ (c : Config) (w : World) (shared : Shared c w) where
-  -- a piece has three words at least
-  pub three_words : (a : ℕ) (x : Block) → w.block a ≡ Some x → 3 ≤ words_of x
-  three_words a (thing name refs nums) is = omega arith
-  three_words a (moved name refs nums to) is = omega arith
-  three_words a (spent words to) is = shared.parsable.spents a words to is
-  three_words a (hand seat words) is = (shared.owned.rooms.hands a seat words is).some
-  three_words a (promised seat words) is = shared.parsable.promises a seat words is
-  three_words a (dead words) is = shared.parsable.deads a words is
-  three_words a (filler words) is = absurd (shared.unwritten.fillers a words is)
-  three_words a (spare seat words) is = absurd (shared.owned.rooms.spares a seat words is)
-  three_words a (carved seat words) is = absurd (shared.owned.rooms.carveds a seat words is)
+  -- a piece of the set has three words at least, but for words that only fill
+  pub three_words : (a : ℕ) (x : Block) → IsCollected c (w.memory Cset) a → filling x ≡ None → w.block a ≡ Some x → 3 ≤ words_of x
+  three_words a (thing name refs nums) inside solid is = omega arith
+  three_words a (moved name refs nums to) inside solid is = omega arith
+  three_words a (spent words to) inside solid is = shared.parsable.spents a words to is
+  three_words a (hand seat words) inside solid is = shared.owned.rooms.hands a seat words is
+  three_words a (promised seat words) inside solid is = shared.parsable.promises a seat words is
+  three_words a (dead words) inside solid is = shared.parsable.deads a words is
+  three_words a (filler words) inside solid is = absurd (none-some words (sym solid))
+  three_words a (spare seat words) inside solid is = absurd (shared.evacuated.aside.no_rooms a seat (spare seat words) is refl inside)
+  three_words a (carved seat words) inside solid is = shared.owned.rooms.carveds a seat words is
 
   pub placed : (a : ℕ) (x : Block) → w.block a ≡ Some x → IsPlaced c w a x
   placed a x is =
       let used = shared.parsable.plotted.in_use a x is in
       let most : w.memory (Top used.region) ≤ c.region_words = shared.parsable.plotted.tops used.region used.within in
-      let some = three_words a x is in
+      let some = some_words c (λ r. w.memory (Top r)) w.block shared.parsable shared.owned.rooms a x is in
       let here : region_with c a ≡ used.region = region_is c used.region a used.from_base (omega (arith, used.to_top, most, some)) in
       record {
         within = subst (λ r. r < c.regions) (sym here) used.within;
@@ -69,27 +94,39 @@ module _ (c : Config) (w : World) (shared : Shared c w) where
         short = subst (λ r. w.memory (Top r) ≤ c.region_words) (sym here) most;
       }
 
-  -- the shape word of a piece of the set says how long it is
-  pub words_there : (a : ℕ) (x : Block) → IsCollected c (w.memory Cset) a → w.block a ≡ Some x → object_words (w.memory (Heap (a + 1))) ≡ words_of x
-  words_there a (thing name refs nums) inside is =
+  -- the header of a piece of the set tells whether it only fills, and then how many words
+  pub header_tells : (a : ℕ) (x : Block) → IsCollected c (w.memory Cset) a → w.block a ≡ Some x → filler_words_in (w.memory (Heap a)) ≡ filling x
+  header_tells a (thing name refs nums) inside is = plain_fills_not (w.memory (Heap a)) (shared.contents.objects.each a refs nums name is).2.header
+  header_tells a (moved name refs nums to) inside is = forwarded_fills_not (w.memory (Heap a)) to (shared.evacuated.moved.moveds a refs nums to name is).header
+  header_tells a (spent words to) inside is = forwarded_fills_not (w.memory (Heap a)) to (shared.evacuated.moved.spents a words to is).header
+  header_tells a (hand seat words) inside is = absurd (shared.evacuated.aside.no_rooms a seat (hand seat words) is refl inside)
+  header_tells a (promised seat words) inside is = absurd (shared.evacuated.aside.no_promises a seat words is inside)
+  header_tells a (dead words) inside is = plain_fills_not (w.memory (Heap a)) (shared.unwritten.headers a words is)
+  header_tells a (filler words) inside is = filler_fills (w.memory (Heap a)) words (shared.unwritten.fillers a words is)
+  header_tells a (spare seat words) inside is = absurd (shared.evacuated.aside.no_rooms a seat (spare seat words) is refl inside)
+  header_tells a (carved seat words) inside is = absurd (shared.evacuated.aside.no_rooms a seat (carved seat words) is refl inside)
+
+  -- the shape word of a piece of the set says how long it is, if the piece does not only fill
+  pub words_there : (a : ℕ) (x : Block) → IsCollected c (w.memory Cset) a → filling x ≡ None → w.block a ≡ Some x → object_words (w.memory (Heap (a + 1))) ≡ words_of x
+  words_there a (thing name refs nums) inside solid is =
       let there = (shared.contents.objects.each a refs nums name is).2 in
       ap object_words there.shape ∙ shaped refs nums there.few_refs there.few_nums
     where
       shaped : (refs nums : ℕ) → refs ≤ 16 → nums ≤ 16 → object_words (shape_word refs nums) ≡ 3 + refs + nums
       shaped refs nums few_refs few_nums = omega arith
-  words_there a (moved name refs nums to) inside is =
+  words_there a (moved name refs nums to) inside solid is =
       let there = shared.evacuated.moved.moveds a refs nums to name is in
       ap object_words there.shape ∙ shaped refs nums there.few_refs there.few_nums
     where
       shaped : (refs nums : ℕ) → refs ≤ 16 → nums ≤ 16 → object_words (shape_word refs nums) ≡ 3 + refs + nums
       shaped refs nums few_refs few_nums = omega arith
-  words_there a (spent words to) inside is = (shared.evacuated.moved.spents a words to is).shape
-  words_there a (hand seat words) inside is = absurd (shared.evacuated.aside.no_rooms a seat (hand seat words) is refl inside)
-  words_there a (promised seat words) inside is = absurd (shared.evacuated.aside.no_promises a seat words is inside)
-  words_there a (dead words) inside is = shared.unwritten.lengths a words is
-  words_there a (filler words) inside is = absurd (shared.unwritten.fillers a words is)
-  words_there a (spare seat words) inside is = absurd (shared.evacuated.aside.no_rooms a seat (spare seat words) is refl inside)
-  words_there a (carved seat words) inside is = absurd (shared.evacuated.aside.no_rooms a seat (carved seat words) is refl inside)
+  words_there a (spent words to) inside solid is = (shared.evacuated.moved.spents a words to is).shape
+  words_there a (hand seat words) inside solid is = absurd (shared.evacuated.aside.no_rooms a seat (hand seat words) is refl inside)
+  words_there a (promised seat words) inside solid is = absurd (shared.evacuated.aside.no_promises a seat words is inside)
+  words_there a (dead words) inside solid is = shared.unwritten.lengths a words is
+  words_there a (filler words) inside solid is = absurd (none-some words (sym solid))
+  words_there a (spare seat words) inside solid is = absurd (shared.evacuated.aside.no_rooms a seat (spare seat words) is refl inside)
+  words_there a (carved seat words) inside solid is = absurd (shared.evacuated.aside.no_rooms a seat (carved seat words) is refl inside)
 
   -- a region without an object that is not forwarded at an address is swept up to the piece behind it
   pub swept_past : (region a : ℕ) (x : Block) → w.block a ≡ Some x → ((refs nums : ℕ) (name : Name) → w.block a ≡ Some (thing name refs nums) → ⊥)
@@ -134,8 +171,14 @@ module _ (c : Config) (u w : World) (keeps : KeepsCopies c u w) where
         swept = (let less = before_end c address walked.from_base in swept_stays (region_with c address) address walked.inside (omega (arith, less)) walked.swept);
       }
 
+  pub object_stays : (address end : ℕ) → IsAtObject c u address end → IsAtObject c w address end
+  unfolding walked_stays
+  object_stays address end is =
+      let piece = keeps.pieces address is.at.piece is.at.inside is.at.there in
+      record { at = walked_stays address end is.at; solid = piece.3 ∙ is.solid }
+
   pub measured_stays : (address end next : ℕ) → IsMeasured c u address end next → IsMeasured c w address end next
   unfolding walked_stays
   measured_stays address end next measured =
       let piece = keeps.pieces address measured.at.piece measured.at.inside measured.at.there in
-      record { at = walked_stays address end measured.at; next_is = measured.next_is ∙ ap (λ n. address + n) (sym piece.2) }
+      record { at = walked_stays address end measured.at; solid = piece.3 ∙ measured.solid; next_is = measured.next_is ∙ ap (λ n. address + n) (sym piece.2) }

@@ -6,8 +6,6 @@ use Rattle.heap_words.specs.declared.config.Config.{Config}
 use Rattle.heap_words.specs.Words.{Top, Heap, Cset, is_word}
 use Rattle.heap_words.specs.Encoding.{shape_word, object_words}
 use Rattle.heap_words.proofs.Shapes.{refs_in-shape_word, nums_in-shape_word}
-use Rattle.regions.specs.Place.{base_of, region_with}
-use Rattle.regions.proofs.PlaceLemmas.{regions_tile}
 use Rattle.heap_world.specs.World.{World, Block, thing, spent, hand, promised, words_of, Body, body_at, body_words, IsCollected, HasCopy, IsMarkable, Shared}
 use Rattle.heap_world.proofs.Pointing.{copy_cases, body_piece, piece_inside}
 use Rattle.load_barrier.specs.Fit.{has_words, is_object}
@@ -71,35 +69,9 @@ module _ (c : Config) (u : World) (shared : Shared c u) where
   markable_piece a (IsMarkable.to_come seat words is) = (promised seat words, is, shared.parsable.promises a seat words is)
 
   module _ (copy seat words : ℕ) (room : u.block copy ≡ Some (hand seat words)) where
-    -- room in hand is of its seat's region
-    pub room_region : region_with c copy ≡ (shared.owned.rooms.hands copy seat words room).region
-    room_region =
-        let is_room = shared.owned.rooms.hands copy seat words room in
-        let most = shared.parsable.plotted.tops is_room.region (shared.owned.currents.within seat is_room.region is_room.is_current) in
-        let some = is_room.some in
-        let from = is_room.from_base in
-        let to = is_room.at_top in
-        regions_tile.of_no_other c is_room.region copy (record { from = from; before = omega (arith, from, to, most, some) })
-
-    -- which the seat owns
-    pub room_owned : u.ghost.owner (region_with c copy) ≡ Some seat
-    room_owned = ap u.ghost.owner room_region ∙ shared.owned.currents.own seat _ (shared.owned.rooms.hands copy seat words room).is_current
-
-    -- and which is one of the heap
-    pub room_within : region_with c copy < c.regions
-    room_within = subst (λ r. r < c.regions) (sym room_region) (shared.owned.currents.within seat _ (shared.owned.rooms.hands copy seat words room).is_current)
-
-    -- it lies outside the collection set
+    -- room in hand lies outside the collection set
     pub room_outside : IsCollected c (u.memory Cset) copy → ⊥
     room_outside inside = shared.evacuated.aside.no_rooms copy seat (hand seat words) room refl inside
-
-    -- above its region's base
-    pub room_from : base_of c (region_with c copy) ≤ copy
-    room_from = subst (λ r. base_of c r ≤ copy) (sym room_region) (shared.owned.rooms.hands copy seat words room).from_base
-
-    -- up to the top
-    pub room_top : copy + words ≡ base_of c (region_with c copy) + u.memory (Top (region_with c copy))
-    room_top = subst (λ r. copy + words ≡ base_of c r + u.memory (Top r)) (sym room_region) (shared.owned.rooms.hands copy seat words room).at_top
 
     -- and it is no copy
     pub room_no_copy : (b : Body) → body_at (u.block copy) ≡ Some b → ⊥

@@ -4,14 +4,14 @@ use Rattle.std.proofs.Math.Path.{fun_ext}
 use Rattle.std.proofs.lemmas.Option.{none-some, same_Some}
 use Rattle.std.proofs.lemmas.Bool.{false≢true}
 use Rattle.heap_words.specs.declared.config.Config.{Config}
-use Rattle.heap_words.specs.Words.{Word, Phase, Cset, Free, Evac, Top, Tams, Current, Count, Buffer, Grey, Black, Heap, write}
+use Rattle.heap_words.specs.Words.{Word, Phase, Cset, Free, Evac, Top, Tams, Current, Count, Buffer, Grey, Black, Heap, Share, write}
 use Rattle.regions.specs.Place.{base_of}
 use Rattle.regions.proofs.PlaceLemmas.{regions_tile}
 use Rattle.regions.specs.Sets.{IsIn}
 use Rattle.shen_graph.specs.declared.name.Name.{Name}
 use Rattle.steps_base.specs.Touch.{Touch, touched}
 use Rattle.heap_words.specs.Counter.{is_out_of_room, IsQuiet}
-use Rattle.heap_world.specs.World.{World, Block, thing, moved, spent, promised, dead, filler, words_of, room_of, Plot, Snapshot, Scan, no_snapshot, with_copying, name_at, Body, body_of, body_at, Target, IsCollected, IsParsable, AreObjects, AreOwned, IsMarkable, HaveMoved, IsCounted, AreKept, KeepsSnapshot, Shared}
+use Rattle.heap_world.specs.World.{World, Block, thing, moved, spent, promised, dead, filler, words_of, filling, room_of, Plot, Snapshot, Scan, no_snapshot, with_copying, name_at, Body, body_of, body_at, Target, IsCollected, IsParsable, AreObjects, AreOwned, IsMarkable, HaveMoved, IsCounted, AreKept, KeepsSnapshot, Shared}
 use Rattle.heap_world.specs.Rely.{KeepsMarks, KeepsCopies, Keeps, Rely}
 use Rattle.heap_world.specs.Part.{PartStep}
 use Rattle.heap_world.proofs.Updates.{updated}
@@ -32,14 +32,6 @@ heap_written memory at value = fun_ext same
   where
     same : (word : Word) → with_words memory (updated (λ a. memory (Heap a)) at value) (λ r. memory (Top r)) (memory Evac) word ≡ write memory (Heap at) value word
     same (Heap a) = refl
-    same _ = refl
-
--- or a top
-pub top_written : (memory : Word → ℕ) (at value : ℕ) → with_words memory (λ a. memory (Heap a)) (updated (λ r. memory (Top r)) at value) (memory Evac) ≡ write memory (Top at) value
-top_written memory at value = fun_ext same
-  where
-    same : (word : Word) → with_words memory (λ a. memory (Heap a)) (updated (λ r. memory (Top r)) at value) (memory Evac) word ≡ write memory (Top at) value word
-    same (Top r) = refl
     same _ = refl
 
 -- or the counter
@@ -83,7 +75,7 @@ module _ (c : Config) (u : World) (seat : ℕ) (heap top : ℕ → ℕ) (evac : 
   pub record IsCopyingStep : Type 0 where
     pub parsable : IsParsable c top block
     pub objects : AreObjects heap block u.graph.object
-    pub owned : AreOwned c top (u.memory Free) (λ s. u.memory (Current s)) block u.ghost.owner
+    pub owned : AreOwned c top (u.memory Share) (u.memory Free) (u.memory Cset) (λ s. u.memory (Current s)) block u.ghost.owner
     pub moved_are : HaveMoved c (u.memory Cset) heap block
     pub counted : IsCounted c evac copying
     pub kept : AreKept c (u.memory Phase) (u.memory Cset) (λ n. u.memory (Black n)) top (λ r. u.memory (Tams r)) block
@@ -91,7 +83,7 @@ module _ (c : Config) (u : World) (seat : ℕ) (heap top : ℕ → ℕ) (evac : 
     pub targets : (a refs nums : ℕ) (name : Name) → Target c (u.memory Cset) (u.memory Evac) u.block a refs nums name → Target c (u.memory Cset) evac block a refs nums name
     pub moveds : (a refs nums to : ℕ) (name : Name) → u.block a ≡ Some (moved name refs nums to) → block a ≡ Some (moved name refs nums to)
     pub spents : (a words to : ℕ) → u.block a ≡ Some (spent words to) → block a ≡ Some (spent words to)
-    pub pieces : (a : ℕ) (x : Block) → IsCollected c (u.memory Cset) a → u.block a ≡ Some x → (y : Block) × (block a ≡ Some y) × (words_of y ≡ words_of x)
+    pub pieces : (a : ℕ) (x : Block) → IsCollected c (u.memory Cset) a → u.block a ≡ Some x → (y : Block) × (block a ≡ Some y) × (words_of y ≡ words_of x) × (filling y ≡ filling x)
     pub no_new : (a refs nums : ℕ) (name : Name) → IsCollected c (u.memory Cset) a → block a ≡ Some (thing name refs nums) → u.block a ≡ Some (thing name refs nums)
     pub set_tops : (r : ℕ) → IsIn (u.memory Cset) r → top r ≡ u.memory (Top r)
     pub out : is_out_of_room (u.memory Evac) ≡ true → is_out_of_room evac ≡ true
@@ -101,6 +93,7 @@ module _ (c : Config) (u : World) (seat : ℕ) (heap top : ℕ → ℕ) (evac : 
     pub promises : (a j words : ℕ) → u.block a ≡ Some (promised j words) → block a ≡ Some (promised j words)
     pub no_promises : (a j words : ℕ) → block a ≡ Some (promised j words) → u.block a ≡ Some (promised j words)
     pub deads : (a words : ℕ) → u.block a ≡ Some (dead words) → block a ≡ Some (dead words)
+    pub fillers : (a words : ℕ) → u.block a ≡ Some (filler words) → block a ≡ Some (filler words)
     pub no_deads : (a words : ℕ) → block a ≡ Some (dead words) → u.block a ≡ Some (dead words)
     pub no_fillers : (a words : ℕ) → block a ≡ Some (filler words) → u.block a ≡ Some (filler words)
     pub words : (a k : ℕ) (x : Block) → u.block a ≡ Some x → k < words_of x → room_of x ≢ Some seat → (1 ≤ k) ⊎ (name_at (Some x) ≡ None) → heap (a + k) ≡ u.memory (Heap (a + k))
@@ -124,6 +117,12 @@ module _ (c : Config) (u : World) (seat : ℕ) (heap top : ℕ → ℕ) (evac : 
     dead_shape a words is =
         step.words a 1 (dead words) is (let long = shared.parsable.deads a words is in omega (arith, long)) (λ own. none-some seat own) (inr refl)
 
+    -- words that only fill have their header still
+    filler_header_stays : (a words : ℕ) → u.block a ≡ Some (filler words) → heap a ≡ u.memory (Heap a)
+    filler_header_stays a words is =
+        let there : a + 0 ≡ a = omega arith in
+        subst (λ x. heap x ≡ u.memory (Heap x)) there (step.words a 0 (filler words) is (shared.parsable.fillers a words is) (λ own. none-some seat own) (inr refl))
+
     -- the words of a promised object stay
     promise_after : (a j words k : ℕ) → u.block a ≡ Some (promised j words) → k < words → heap (a + k) ≡ u.memory (Heap (a + k))
     promise_after a j words k is below = step.words a k (promised j words) is below (λ own. none-some seat own) (inr refl)
@@ -138,7 +137,7 @@ module _ (c : Config) (u : World) (seat : ℕ) (heap top : ℕ → ℕ) (evac : 
       unwritten = unwritten_stays (λ a. u.memory (Heap a)) heap u.block block
           (λ a j words is. let was = step.no_promises a j words is in (was, λ k below. promise_after a j words k was below))
           (λ a words is. let was = step.no_deads a words is in (was, dead_header a words was, dead_shape a words was))
-          step.no_fillers
+          (λ a words is. let was = step.no_fillers a words is in (was, filler_header_stays a words was))
           shared.unwritten;
       marked = unmarked c (u.memory Phase) (λ n. u.memory (Grey n)) (λ n. u.memory (Black n)) (λ t. u.memory (Count t)) (λ t k. u.memory (Buffer t k)) top (λ r. u.memory (Tams r)) heap block u.ghost.snapshot u.ghost.recording u.ghost.scanning
           (λ marking. omega (arith, marking, on)) (shared.marked.empty (λ marking. omega (arith, marking, on)));
@@ -225,6 +224,7 @@ module _ (c : Config) (u : World) (seat : ℕ) (heap top : ℕ → ℕ) (evac : 
       no_promises = λ a words is. step.no_promises a j words is;
       promise_words = λ a words k is below. promise_after a j words k is below;
       current = refl;
+      opens = λ r is. is;
       owners = λ r is. is;
       tops = λ r is. step.own_tops r j differs is;
       root_words = λ i. refl;
@@ -248,7 +248,7 @@ module _ (c : Config) (u : World) (seat : ℕ) (heap top : ℕ → ℕ) (evac : 
         working = refl;
         words = λ a k b seated counted inside is from below. let piece = body_piece (u.block a) b is in step.words a k piece.0 piece.1 (omega (arith, below, piece.2)) (λ own. none-some b.name (sym (room_unnamed piece.0 seat own) ∙ body_named (Some piece.0) b (ap body_at (sym piece.1) ∙ is))) (inl from);
       };
-      fields = record { tams = λ r. refl; limits = λ r. refl; deads = step.deads; claims = λ all. all; fields = λ updating. absurd (omega (arith, updating, on)) };
+      fields = record { tams = λ r. refl; limits = λ r. refl; deads = step.deads; fillers = step.fillers; claims = λ all. all; fields = λ updating. absurd (omega (arith, updating, on)) };
     }
 
     -- the step owes no more

@@ -12,7 +12,7 @@ use Rattle.evac_room.specs.declared.spot.RoomSpot.TheVariants.{Look}
 use Rattle.evac_room.specs.Spot.{is_at_rest, is_counted}
 use Rattle.evac_room.specs.Rows as rooms
 use Rattle.evac_room.proofs.OneStep.{Mine}
-use Rattle.heap_world.specs.World.{World, thing, spent, Body, body_at, IsCollected, TargetIn, Shared}
+use Rattle.heap_world.specs.World.{World, Block, thing, spent, Body, body_at, IsCollected, TargetIn, Shared}
 use Rattle.heap_world.specs.Part.{PartStep}
 use Rattle.heap_world.proofs.Keeping.{rely_same, keeps_of}
 use Rattle.load_barrier.specs.declared.spot.ResolveSpot.{ResolveSpot}
@@ -22,7 +22,7 @@ use Rattle.load_barrier.specs.Fit.{is_ready}
 use Rattle.load_barrier.specs.Alone.{is_copier}
 use Rattle.load_barrier.specs.UnitRows.{copy_phase}
 use Rattle.load_barrier.proofs.Knows.{header_forwarded, header_names}
-use Rattle.move_steps.specs.Resolving.Facts.{IsAnswer, HasMovedTo, ResolveFacts, IsRoomAt}
+use Rattle.move_steps.specs.Resolving.Facts.{IsAnswer, HasMovedTo, ResolveFacts, IsResolvingRoom}
 use Rattle.move_steps.specs.Resolving.Laws.{CanResolveFor, ResolveStep}
 use Rattle.move_steps.proofs.Resolving.Bodies.{piece_begins}
 use Rattle.move_steps.proofs.Resolving.Counts.{counted_world, copying_now, counts_step}
@@ -68,7 +68,7 @@ module _ (c : Config) (u : World) (seat a : ℕ) (unit : Option ℕ) (shared : S
   leads_to at next leads step = subst (λ n. StepTo at n) (sym leads) step
 
   -- what it counts on elsewhere in the same world
-  pub can_at : (at next : ResolveSpot) → CanResolveFor c u seat a unit at → is_copier next ≡ is_copier at → ((b : ℕ) → IsRoomAt at b → IsRoomAt next b) → is_ready c seat a next ≡ true → ResolveFacts c u seat a next
+  pub can_at : (at next : ResolveSpot) → CanResolveFor c u seat a unit at → is_copier next ≡ is_copier at → ((b : ℕ) (x : Block) → IsResolvingRoom seat at b x → IsResolvingRoom seat next b x) → is_ready c seat a next ≡ true → ResolveFacts c u seat a next
       → CanResolveFor c u seat a unit next
   can_at at next can copies rooms_stay ready facts = record {
     resolves = record {
@@ -79,7 +79,7 @@ module _ (c : Config) (u : World) (seat a : ℕ) (unit : Option ℕ) (shared : S
       copying = can.resolves.copying ∙ sym copies;
       records_none = can.resolves.records_none;
       scans_none = can.resolves.scans_none;
-      hands = λ b words is. rooms_stay b (can.resolves.hands b words is);
+      rooms = λ b x is own. rooms_stay b x (can.resolves.rooms b x is own);
       ready = ready;
       facts = facts;
     };
@@ -120,7 +120,7 @@ module _ (c : Config) (u : World) (seat a : ℕ) (unit : Option ℕ) (shared : S
     abbrev pub counted_then : World
     counted_then = counted_world c u seat spot shared can.resolves.phase can.resolves.seated going (can.resolves.copying ∙ counts) mine
 
-    pub counter_moves : (next : ResolveSpot) → is_copier next ≡ is_counted (rooms.next_at spot (u.memory Evac)) → ((b : ℕ) → IsRoomAt at b → IsRoomAt next b) → is_ready c seat a next ≡ true
+    pub counter_moves : (next : ResolveSpot) → is_copier next ≡ is_counted (rooms.next_at spot (u.memory Evac)) → ((b : ℕ) (x : Block) → IsResolvingRoom seat at b x → IsResolvingRoom seat next b x) → is_ready c seat a next ≡ true
         → ResolveFacts c counted_then seat a next → StepTo at next
     counter_moves next copies rooms_stay ready facts =
         subst (λ t. PartStep c u seat t (λ w. CanResolveFor c w seat a unit next)) (sym touches)
@@ -133,7 +133,7 @@ module _ (c : Config) (u : World) (seat a : ℕ) (unit : Option ℕ) (shared : S
             copying = copying_now c u seat spot shared can.resolves.phase can.resolves.seated going (can.resolves.copying ∙ counts) mine ∙ sym copies;
             records_none = can.resolves.records_none;
             scans_none = can.resolves.scans_none;
-            hands = λ b words is. rooms_stay b (can.resolves.hands b words is);
+            rooms = λ b x is own. rooms_stay b x (can.resolves.rooms b x is own);
             ready = ready;
             facts = facts;
           };

@@ -112,7 +112,7 @@ module _ (c : Config) (u : World) (seat : ℕ) (spot : RoomSpot) (shared : Share
     targets = λ a refs nums name is. record { piece = is.piece; safe = λ inside. quiet_then (is.safe inside) };
     moveds = λ a refs nums to name is. is;
     spents = λ a words to is. is;
-    pieces = λ a x inside is. (x, is, refl);
+    pieces = λ a x inside is. (x, is, refl, refl);
     no_new = λ a refs nums name inside is. is;
     set_tops = λ r is. refl;
     out = counter_kept.bit_stays;
@@ -122,6 +122,7 @@ module _ (c : Config) (u : World) (seat : ℕ) (spot : RoomSpot) (shared : Share
     promises = λ a j words is. is;
     no_promises = λ a j words is. is;
     deads = λ a words is. is;
+    fillers = λ a words is. is;
     no_deads = λ a words is. is;
     no_fillers = λ a words is. is;
     words = λ a k x is below no_room which. refl;

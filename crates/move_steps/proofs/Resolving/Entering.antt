@@ -30,13 +30,13 @@ module _ (c : Config) (u : World) (seat a : ℕ) (unit : Option ℕ) (shared : S
       answered : (to : ℕ) → u.memory (Heap a) ≡ header_word to → is_word c (Heap to) ≡ true → IsAnswer c u a to → ResolveStep c u seat a unit LoadHeader
       answered to header inside answer =
           steps.leads_to c u seat a unit shared LoadHeader (Resolved to) (ap (after_header a copy_phase) header ∙ steps.leads_header c u seat a unit shared to)
-          (steps.looked c u seat a unit shared LoadHeader (Resolved to) (load_keeps u.memory (Heap a)) (steps.can_at c u seat a unit shared LoadHeader (Resolved to) can refl (λ b none. none) inside answer))
+          (steps.looked c u seat a unit shared LoadHeader (Resolved to) (load_keeps u.memory (Heap a)) (steps.can_at c u seat a unit shared LoadHeader (Resolved to) can refl (λ d x room. room) inside answer))
 
       by_copy : HasCopy u.block a → ResolveStep c u seat a unit LoadHeader
       by_copy (HasCopy.copy b is) = ⊎_elim
           (λ current.
           steps.leads_to c u seat a unit shared LoadHeader (Entering Look) (ap (after_header a copy_phase) (steps.header_plain c u seat a unit shared b current))
-          (steps.looked c u seat a unit shared LoadHeader (Entering Look) (load_keeps u.memory (Heap a)) (steps.can_at c u seat a unit shared LoadHeader (Entering Look) can refl (λ d none. none) refl (b, is, tt))))
+          (steps.looked c u seat a unit shared LoadHeader (Entering Look) (load_keeps u.memory (Heap a)) (steps.can_at c u seat a unit shared LoadHeader (Entering Look) can refl (λ d x room. room) refl (b, is, tt))))
           (λ old. answered old.0 (steps.header_leads c u seat a unit shared b old.0 old.1) (steps.answer_word c u seat a unit shared b old.0 old.1) (moved_answer c u a old.0 b shared old.1))
           (copy_cases (u.block a) b is)
       by_copy (HasCopy.spent_copy words to is) =
@@ -53,12 +53,12 @@ module _ (c : Config) (u : World) (seat a : ℕ) (unit : Option ℕ) (shared : S
 
       by_bit : (b z : Bool) → is_out_of_room (u.memory Evac) ≡ b → (count_of (u.memory Evac) == 0) ≡ z → steps.StepTo c u seat a unit shared (Entering Look) (after_enter (if b then (if z then Stopped else Look) else Raise (u.memory Evac)))
       by_bit true true out none =
-          steps.looked c u seat a unit shared (Entering Look) LoadAgain (load_keeps u.memory Evac) (steps.can_at c u seat a unit shared (Entering Look) LoadAgain can refl (λ d room. room) refl (body.0, body.1, record { out_of_room = out; nobody = grind (arith, nat_tests) }))
+          steps.looked c u seat a unit shared (Entering Look) LoadAgain (load_keeps u.memory Evac) (steps.can_at c u seat a unit shared (Entering Look) LoadAgain can refl (λ d x room. room) refl (body.0, body.1, record { out_of_room = out; nobody = grind (arith, nat_tests) }))
       by_bit true false out none =
-          steps.looked c u seat a unit shared (Entering Look) (Entering Look) (load_keeps u.memory Evac) (steps.can_at c u seat a unit shared (Entering Look) (Entering Look) can refl (λ d room. room) refl (body.0, body.1, tt))
+          steps.looked c u seat a unit shared (Entering Look) (Entering Look) (load_keeps u.memory Evac) (steps.can_at c u seat a unit shared (Entering Look) (Entering Look) can refl (λ d x room. room) refl (body.0, body.1, tt))
       by_bit false z out none =
           steps.looked c u seat a unit shared (Entering Look) (Entering (Raise (u.memory Evac))) (load_keeps u.memory Evac)
-          (steps.can_at c u seat a unit shared (Entering Look) (Entering (Raise (u.memory Evac))) can refl (λ d room. room) (let clear : nat_lt (u.memory Evac) (2 ^ 63) ≡ true = grind (arith, nat_tests) in and_from true _ refl (and_from _ true clear refl)) (body.0, body.1, tt))
+          (steps.can_at c u seat a unit shared (Entering Look) (Entering (Raise (u.memory Evac))) can refl (λ d x room. room) (let clear : nat_lt (u.memory Evac) (2 ^ 63) ≡ true = grind (arith, nat_tests) in and_from true _ refl (and_from _ true clear refl)) (body.0, body.1, tt))
 
   -- the exchange of the counter on the way in
   pub at_raise : (found : ℕ) → CanResolveFor c u seat a unit (Entering (Raise found)) → ResolveStep c u seat a unit (Entering (Raise found))
@@ -69,12 +69,12 @@ module _ (c : Config) (u : World) (seat a : ℕ) (unit : Option ℕ) (shared : S
 
       by_found : (b : Bool) → (u.memory Evac == found) ≡ b → steps.StepTo c u seat a unit shared (Entering (Raise found)) (after_enter (if b then Inside else Look))
       by_found true is = steps.counter_moves c u seat a unit shared (Entering (Raise found)) (Raise found) can refl refl clear refl LoadShape
-          (sym (ap is_counted (cond-true (u.memory Evac == found) Inside Look is))) (λ d room. room) (shape_word_ready) (can.resolves.facts.0, can.resolves.facts.1, tt)
+          (sym (ap is_counted (cond-true (u.memory Evac == found) Inside Look is))) (λ d x room. room) (shape_word_ready) (can.resolves.facts.0, can.resolves.facts.1, tt)
         where
           shape_word_ready : is_word c (Heap (a + 1)) ≡ true
           shape_word_ready = let piece = copy_piece c u shared a can.resolves.there in piece_word_is c u shared a 1 piece.0 piece.1 (let long = piece.2 in omega (arith, long))
       by_found false is = steps.counter_moves c u seat a unit shared (Entering (Raise found)) (Raise found) can refl refl clear refl (Entering Look)
-          (sym (ap is_counted (cond-false (u.memory Evac == found) Inside Look is))) (λ d room. room) refl (can.resolves.facts.0, can.resolves.facts.1, tt)
+          (sym (ap is_counted (cond-false (u.memory Evac == found) Inside Look is))) (λ d x room. room) refl (can.resolves.facts.0, can.resolves.facts.1, tt)
 
   -- the load of the shape
   pub at_load_shape : CanResolveFor c u seat a unit LoadShape → ResolveStep c u seat a unit LoadShape
@@ -84,8 +84,8 @@ module _ (c : Config) (u : World) (seat a : ℕ) (unit : Option ℕ) (shared : S
       let long = body_long c u shared a b is in
       let small = body_small c u shared a b is in
       let seated = can.resolves.seated in
-      steps.leads_to c u seat a unit shared LoadShape (Taking (body_words b) take.LoadCurrent) (ap (λ n. Taking n take.LoadCurrent) long)
-      (steps.looked c u seat a unit shared LoadShape (Taking (body_words b) take.LoadCurrent) (load_keeps u.memory (Heap (a + 1))) (steps.can_at c u seat a unit shared LoadShape (Taking (body_words b) take.LoadCurrent) can refl (λ d none. none)
+      steps.leads_to c u seat a unit shared LoadShape (Taking (body_words b) take.LoadBuffer) (ap (λ n. Taking n take.LoadBuffer) long)
+      (steps.looked c u seat a unit shared LoadShape (Taking (body_words b) take.LoadBuffer) (load_keeps u.memory (Heap (a + 1))) (steps.can_at c u seat a unit shared LoadShape (Taking (body_words b) take.LoadBuffer) can refl (λ d x room. room)
       (and_from _ _ (body_lies c u shared a b is) (and_from _ _ (and_from _ _ (lt-ltb _ _ seated) refl) refl)) (
         b,
         is,
@@ -97,7 +97,7 @@ module _ (c : Config) (u : World) (seat a : ℕ) (unit : Option ℕ) (shared : S
             most = small;
             ready = and_from _ _ (and_from _ _ (lt-ltb _ _ seated) refl) refl;
             facts = tt;
-            hands = λ d more there. absurd (can.resolves.hands d more there);
+            rooms = λ d x there own. can.resolves.rooms d x there own;
             records_none = can.resolves.records_none;
             scans_none = can.resolves.scans_none;
           },

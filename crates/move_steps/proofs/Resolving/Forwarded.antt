@@ -1,17 +1,17 @@
 -- A copy is published: the header of the old one names it, and it is the object's current copy from then on.
-use Rattle.std.proofs.Common.{◌≡◌, ◌≢◌, ℕ, ◌+◌, ◌<◌, ◌≤◌, ◌⊎◌, Some, None, get_or, true, ⊎_elim, inl, inr, refl, sym, ap, ◌∙◌, subst, arith}
+use Rattle.std.proofs.Common.{◌≡◌, ◌≢◌, ℕ, ◌+◌, ◌-◌, ◌<◌, ◌≤◌, ◌⊎◌, Some, None, get_or, true, ⊎_elim, inl, inr, refl, sym, ap, ◌∙◌, subst, arith}
 use Rattle.std.specs.Prelude.{◌==◌, length}
 use Rattle.std.proofs.lemmas.Bool.{cases_eq, cond-true, eq-eqb}
 use Rattle.std.proofs.lemmas.Option.{same_Some, none-some, slice_get_within, slice_get-get_or}
 use Rattle.heap_words.specs.declared.config.Config.{Config}
-use Rattle.heap_words.specs.Encoding.{plain_header, header_word, object_words}
+use Rattle.heap_words.specs.Encoding.{plain_header, header_word, object_words, next_in, end_in}
 use Rattle.heap_words.specs.Ranges.{seat_count}
-use Rattle.heap_words.specs.Words.{Phase, Cset, Evac, Top, Tams, Heap, write}
+use Rattle.heap_words.specs.Words.{Phase, Cset, Evac, Top, Tams, Current, Heap, write}
 use Rattle.regions.specs.Place.{base_of}
 use Rattle.steps_base.specs.Touch.{touch, exchanges}
 use Rattle.shen_graph.specs.declared.name.Name.{Name}
 use Rattle.shen_graph.specs.Graph.{Reference, Object}
-use Rattle.heap_world.specs.World.{World, Block, thing, moved, spent, hand, promised, dead, filler, spare, carved, words_of, room_of, Plot, name_at, Points, IsInUse, Body, body_of, body_at, IsPlotted, IsFilled, IsThing, IsCollected, IsMarkable, IsYoung, HasCopy, IsMoved, Shared}
+use Rattle.heap_world.specs.World.{World, Block, thing, moved, spent, hand, promised, dead, filler, spare, carved, words_of, filling, room_of, Plot, name_at, Points, IsInUse, Body, body_of, body_at, IsPlotted, IsFilled, IsThing, IsCollected, IsMarkable, IsYoung, HasCopy, IsMoved, Shared}
 use Rattle.heap_world.specs.Part.{PartStep}
 use Rattle.heap_world.proofs.Updates.{updated, updated_there, updated_else}
 use Rattle.heap_world.proofs.Apart.{one_piece}
@@ -148,6 +148,10 @@ module _ (c : Config) (u : World) (seat a copy refs nums : ℕ) (name : Name) (s
   room_came : (b j : ℕ) (x : Block) → block_then b ≡ Some x → room_of x ≡ Some j → u.block b ≡ Some x
   room_came b j x is own = (came b x (λ same. none-some j (ap room_of (sym same) ∙ own)) (λ same. none-some j (ap room_of (sym same) ∙ own)) is).2
 
+  -- elsewhere than where the copy is
+  pub room_left : (b j : ℕ) (x : Block) → block_then b ≡ Some x → room_of x ≡ Some j → (b ≢ copy) × (u.block b ≡ Some x)
+  room_left b j x is own = let was = came b x (λ same. none-some j (ap room_of (sym same) ∙ own)) (λ same. none-some j (ap room_of (sym same) ∙ own)) is in (was.1, was.2)
+
   -- a piece stood where one stands, as long
   was_piece : (b : ℕ) (x : Block) → block_then b ≡ Some x → (y : Block) × (u.block b ≡ Some y) × (words_of y ≡ words_of x)
   was_piece b x is = ⊎_elim
@@ -155,10 +159,10 @@ module _ (c : Config) (u : World) (seat a copy refs nums : ℕ) (name : Name) (s
       (λ rest. ⊎_elim (λ old. (thing name refs nums, ap u.block old.0 ∙ object, ap words_of (sym old.1))) (λ same. (x, same.2, refl)) rest)
       (now_cases b x is)
 
-  now_piece : (b : ℕ) (x : Block) → u.block b ≡ Some x → (y : Block) × (block_then b ≡ Some y) × (words_of y ≡ words_of x)
+  now_piece : (b : ℕ) (x : Block) → u.block b ≡ Some x → (y : Block) × (block_then b ≡ Some y) × (words_of y ≡ words_of x) × (filling y ≡ filling x)
   now_piece b x is = ⊎_elim
-      (λ new. (thing name refs nums, ap block_then new.0 ∙ new_there, ap words_of (sym new.1)))
-      (λ rest. ⊎_elim (λ old. (moved name refs nums copy, ap block_then old.0 ∙ old_there, ap words_of (sym old.1))) (λ same. (x, same.2, refl)) rest)
+      (λ new. (thing name refs nums, ap block_then new.0 ∙ new_there, ap words_of (sym new.1), ap filling (sym new.1)))
+      (λ rest. ⊎_elim (λ old. (moved name refs nums copy, ap block_then old.0 ∙ old_there, ap words_of (sym old.1), ap filling (sym old.1))) (λ same. (x, same.2, refl, refl)) rest)
       (was_cases b x is)
 
   -- a copy is one
@@ -301,8 +305,27 @@ module _ (c : Config) (u : World) (seat a copy refs nums : ℕ) (name : Name) (s
     };
     owned = record {
       free_word = shared.owned.free_word;
-      currents = shared.owned.currents;
+      shared_one = shared.owned.shared_one;
+      outside = shared.owned.outside;
+      buffers = record {
+        each = λ j some.
+            let was = shared.owned.buffers.each j some in
+            record {
+              region = was.region;
+              within = was.within;
+              from_base = was.from_base;
+              some = was.some;
+              ordered = was.ordered;
+              to_top = was.to_top;
+              free = λ more. ⊎_elim
+                  (λ there. inl (stays (next_in (u.memory (Current j))) (spare j (end_in (u.memory (Current j)) - next_in (u.memory (Current j)))) (λ same. (let differ = same in cc)) (λ same. (let differ = same in cc)) there))
+                  (λ has. inr (has.0, has.1, stays has.0 (carved j has.1) (λ same. (let differ = same in cc)) (λ same. (let differ = same in cc)) has.2))
+                  (was.free more);
+            };
+        spares = λ b j more is. shared.owned.buffers.spares b j more (room_came b j (spare j more) is refl);
+      };
       rooms = record {
+        seated = λ b j x is own. shared.owned.rooms.seated b j x (room_came b j x is own) own;
         hands = λ b j more is. shared.owned.rooms.hands b j more (room_came b j (hand j more) is refl);
         spares = λ b j more is. shared.owned.rooms.spares b j more (room_came b j (spare j more) is refl);
         carveds = λ b j more is. shared.owned.rooms.carveds b j more (room_came b j (carved j more) is refl);
@@ -368,6 +391,7 @@ module _ (c : Config) (u : World) (seat a copy refs nums : ℕ) (name : Name) (s
     no_rooms = λ j b x is own. room_came b j x is own;
     promises = λ b j more is. stays b (promised j more) (λ same. (let differ = same in cc)) (λ same. (let differ = same in cc)) is;
     no_promises = λ b j more is. (came b (promised j more) (λ same. (let differ = same in cc)) (λ same. (let differ = same in cc)) is).2;
+    fillers = λ b more is. stays b (filler more) (λ same. (let differ = same in cc)) (λ same. (let differ = same in cc)) is;
     deads = λ b more is. stays b (dead more) (λ same. (let differ = same in cc)) (λ same. (let differ = same in cc)) is;
     no_deads = λ b more is. (came b (dead more) (λ same. (let differ = same in cc)) (λ same. (let differ = same in cc)) is).2;
     no_fillers = λ b more is. (came b (filler more) (λ same. (let differ = same in cc)) (λ same. (let differ = same in cc)) is).2;
@@ -375,12 +399,6 @@ module _ (c : Config) (u : World) (seat a copy refs nums : ℕ) (name : Name) (s
     own_tops = λ r j differs is. refl;
     copiers_else = λ j differs. refl;
   }
-
-  -- no room is in the seat's hand, if it had no other
-  pub no_room : ((b more : ℕ) → u.block b ≡ Some (hand seat more) → b ≡ copy) → (b more : ℕ) → block_then b ≡ Some (hand seat more) → ⊥
-  no_room only b more is =
-      let was = came b (hand seat more) (λ same. (let differ = same in cc)) (λ same. (let differ = same in cc)) is in
-      was.1 (only b more was.2)
 
   -- the exchange owes no more
   pub publish_step : (facts : World → Type 0) → u.memory (Heap a) ≡ plain_header → facts forwarded_world → PartStep c u seat (touch (Heap a) (exchanges plain_header (header_word copy))) facts

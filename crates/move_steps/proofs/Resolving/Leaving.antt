@@ -33,7 +33,7 @@ module _ (c : Config) (u : World) (seat a : ℕ) (unit : Option ℕ) (shared : S
   at_leaving answer can =
       let right = moved_answer c u a answer can.resolves.facts.0 shared can.resolves.facts.2 in
       let kept = counter_kept c u seat Lower shared can.resolves.phase can.resolves.seated refl can.resolves.copying tt in
-      steps.counter_moves c u seat a unit shared (Leaving answer) Lower can refl refl tt refl (Resolved answer) refl (λ d room. room) can.resolves.ready (record {
+      steps.counter_moves c u seat a unit shared (Leaving answer) Lower can refl refl tt refl (Resolved answer) refl (λ d x room. room) can.resolves.ready (record {
         named = λ b is. let target = right.named b is in record { piece = target.piece; safe = λ inside. subst IsQuiet (sym (kept.quiet_stays (target.safe inside))) (target.safe inside) };
         passed = right.passed;
         stopped = λ inside. kept.bit_stays (right.stopped inside);
@@ -43,7 +43,7 @@ module _ (c : Config) (u : World) (seat a : ℕ) (unit : Option ℕ) (shared : S
   at_ask : CanResolveFor c u seat a unit (Stopping Ask) → ResolveStep c u seat a unit (Stopping Ask)
   at_ask can =
       steps.looked c u seat a unit shared (Stopping Ask) (Stopping (Mark (u.memory Evac))) (load_keeps u.memory Evac)
-      (steps.can_at c u seat a unit shared (Stopping Ask) (Stopping (Mark (u.memory Evac))) can refl (λ d room. room) refl (can.resolves.facts.0, can.resolves.facts.1, tt))
+      (steps.can_at c u seat a unit shared (Stopping Ask) (Stopping (Mark (u.memory Evac))) can refl (λ d x room. room) refl (can.resolves.facts.0, can.resolves.facts.1, tt))
 
   -- the exchange that marks it
   at_mark : (found : ℕ) → CanResolveFor c u seat a unit (Stopping (Mark found)) → ResolveStep c u seat a unit (Stopping (Mark found))
@@ -53,10 +53,10 @@ module _ (c : Config) (u : World) (seat a : ℕ) (unit : Option ℕ) (shared : S
       by_found true is =
           let kept = counter_kept c u seat (Mark found) shared can.resolves.phase can.resolves.seated refl can.resolves.copying tt in
           let leads : rooms.next_at (Mark found) (u.memory Evac) ≡ Wait = cond-true (u.memory Evac == found) Wait Ask is in
-          steps.counter_moves c u seat a unit shared (Stopping (Mark found)) (Mark found) can refl refl tt refl (Stopping Wait) (sym (ap is_counted leads)) (λ d room. room) refl
+          steps.counter_moves c u seat a unit shared (Stopping (Mark found)) (Mark found) can refl refl tt refl (Stopping Wait) (sym (ap is_counted leads)) (λ d x room. room) refl
           (can.resolves.facts.0, can.resolves.facts.1, subst (λ s. Mine (after (u.memory Evac) (Mark found)) s) leads kept.mine)
       by_found false is =
-          steps.counter_moves c u seat a unit shared (Stopping (Mark found)) (Mark found) can refl refl tt refl (Stopping Ask) (sym (ap is_counted (cond-false (u.memory Evac == found) Wait Ask is))) (λ d room. room) refl
+          steps.counter_moves c u seat a unit shared (Stopping (Mark found)) (Mark found) can refl refl tt refl (Stopping Ask) (sym (ap is_counted (cond-false (u.memory Evac == found) Wait Ask is))) (λ d x room. room) refl
           (can.resolves.facts.0, can.resolves.facts.1, tt)
 
   -- the load of the counter while it waits
@@ -66,10 +66,10 @@ module _ (c : Config) (u : World) (seat a : ℕ) (unit : Option ℕ) (shared : S
       by_count : (z : Bool) → (count_of (u.memory Evac) == 0) ≡ z → steps.StepTo c u seat a unit shared (Stopping Wait) (after_stop (if z then Stopped else Wait))
       by_count true none =
           steps.looked c u seat a unit shared (Stopping Wait) LoadAgain (load_keeps u.memory Evac)
-          (steps.can_at c u seat a unit shared (Stopping Wait) LoadAgain can refl (λ d room. room) refl (can.resolves.facts.0, can.resolves.facts.1, record { out_of_room = can.resolves.facts.2; nobody = grind (arith, nat_tests) }))
+          (steps.can_at c u seat a unit shared (Stopping Wait) LoadAgain can refl (λ d x room. room) refl (can.resolves.facts.0, can.resolves.facts.1, record { out_of_room = can.resolves.facts.2; nobody = grind (arith, nat_tests) }))
       by_count false none =
           steps.looked c u seat a unit shared (Stopping Wait) (Stopping Wait) (load_keeps u.memory Evac)
-          (steps.can_at c u seat a unit shared (Stopping Wait) (Stopping Wait) can refl (λ d room. room) refl can.resolves.facts)
+          (steps.can_at c u seat a unit shared (Stopping Wait) (Stopping Wait) can refl (λ d x room. room) refl can.resolves.facts)
 
   -- the last load of the header
   at_load_again : CanResolveFor c u seat a unit LoadAgain → ResolveStep c u seat a unit LoadAgain
@@ -80,14 +80,14 @@ module _ (c : Config) (u : World) (seat a : ℕ) (unit : Option ℕ) (shared : S
       (λ current.
       steps.leads_to c u seat a unit shared LoadAgain (Resolved a) (ap (λ h. Resolved (current_copy a h)) (steps.header_plain c u seat a unit shared b current))
       (steps.looked c u seat a unit shared LoadAgain (Resolved a) (load_keeps u.memory (Heap a))
-      (steps.can_at c u seat a unit shared LoadAgain (Resolved a) can refl (λ d room. room) (let piece = copy_piece c u shared a can.resolves.there in piece_begins c u shared a piece.0 piece.1 (let long = piece.2 in omega (arith, long)))
+      (steps.can_at c u seat a unit shared LoadAgain (Resolved a) can refl (λ d x room. room) (let piece = copy_piece c u shared a can.resolves.there in piece_begins c u shared a piece.0 piece.1 (let long = piece.2 in omega (arith, long)))
       (still_answer c u a b can.resolves.inside quiet current))))
       (λ old.
       steps.leads_to c u seat a unit shared LoadAgain (Resolved old.0)
       (ap (λ h. Resolved (current_copy a h)) (steps.header_leads c u seat a unit shared b old.0 old.1)
       ∙ ap (λ x. Resolved x) (cond-true (is_forwarded (header_word old.0)) (forwardee_in (header_word old.0)) a (header_forwarded old.0) ∙ header_names old.0))
       (steps.looked c u seat a unit shared LoadAgain (Resolved old.0) (load_keeps u.memory (Heap a))
-      (steps.can_at c u seat a unit shared LoadAgain (Resolved old.0) can refl (λ d room. room) (steps.answer_word c u seat a unit shared b old.0 old.1) (moved_answer c u a old.0 b shared old.1))))
+      (steps.can_at c u seat a unit shared LoadAgain (Resolved old.0) can refl (λ d x room. room) (steps.answer_word c u seat a unit shared b old.0 old.1) (moved_answer c u a old.0 b shared old.1))))
       (copy_cases (u.block a) b can.resolves.facts.1)
 
   at_entering : (at : RoomSpot) → CanResolveFor c u seat a unit (Entering at) → ResolveStep c u seat a unit (Entering at)
@@ -118,7 +118,7 @@ module _ (c : Config) (u : World) (seat a : ℕ) (unit : Option ℕ) (shared : S
   each_resolve (Entering at) going can = at_entering at can
   each_resolve LoadShape going can = at_load_shape c u seat a unit shared can
   each_resolve (Taking words at) going can = at_taking c u seat a unit shared words at can
-  each_resolve (Copying copy at) going can = at_copying c u seat a unit shared copy at can
+  each_resolve (Copying copy end at) going can = at_copying c u seat a unit shared copy end at can
   each_resolve (Leaving answer) going can = at_leaving answer can
   each_resolve (Stopping at) going can = at_stopping at can
   each_resolve LoadAgain going can = at_load_again can

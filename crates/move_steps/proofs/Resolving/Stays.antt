@@ -4,7 +4,9 @@ use Rattle.std.proofs.lemmas.Option.{none-some}
 use Rattle.heap_words.specs.declared.config.Config.{Config}
 use Rattle.heap_words.specs.Ranges.{seat_count}
 use Rattle.heap_words.specs.Words.{Cset, Evac, Heap}
-use Rattle.alloc_buffers.proofs.TakeStays.{can_take_stays}
+use Rattle.alloc_buffers.specs.declared.spot.Taken.TheVariants.{At}
+use Rattle.alloc_buffers.specs.declared.spot.TakeSpot.TheVariants.{Ended}
+use Rattle.alloc_buffers.proofs.TakeStays.{take_stays, can_take_stays}
 use Rattle.evac_room.specs.declared.spot.RoomSpot.{RoomSpot}
 use Rattle.evac_room.specs.declared.spot.RoomSpot.TheVariants.{Wait}
 use Rattle.heap_world.specs.World.{World, Body, body_at, body_words, IsCollected, HasCopy, Shared}
@@ -43,34 +45,34 @@ module _ (c : Config) (u w : World) (seat a : ℕ) (shared : Shared c u) (rely :
 
   module _ (seated : seat < seat_count c.mutators c.helpers) (inside : IsCollected c (u.memory Cset) a) (b : Body) (is : body_at (u.block a) ≡ Some b) where
     -- words that are copied stay so, for its room is its own and while it copies the object's words stay
-    copied_stays : (copy index : ℕ) → u.ghost.copying seat ≡ true → index ≤ body_words b → IsCopied u seat a copy b index → IsCopied w seat a copy b index
-    copied_stays copy index counted most copied = record {
-      room = rely.rooms copy _ copied.room refl;
+    copied_stays : (copy end index : ℕ) → u.ghost.copying seat ≡ true → index ≤ body_words b → IsCopied c u seat a copy end b index → IsCopied c w seat a copy end b index
+    copied_stays copy end index counted most copied = record {
+      taken = take_stays c u w seat rely (body_words b) (Ended (At copy) end) copied.taken;
       same = λ k some below.
-          rely.room_words copy k _ copied.room refl (omega (arith, below, most))
+          rely.room_words copy k _ copied.taken.here refl (omega (arith, below, most))
           ∙ copied.same k some below
           ∙ sym (rely.copies.words a k b seated counted inside is some (omega (arith, below, most)));
     }
 
-    copy_facts_stay : (copy : ℕ) (at : CopySpot) → u.ghost.copying seat ≡ true → CopyFacts u seat a copy b at → CopyFacts w seat a copy b at
-    copy_facts_stay copy (LoadWord words index) counted facts =
-        let long = facts.0 in let below = facts.2 in (facts.0, facts.1, facts.2, copied_stays copy index counted (omega (arith, long, below)) facts.3)
-    copy_facts_stay copy (StoreWord words index found) counted facts =
+    copy_facts_stay : (copy end : ℕ) (at : CopySpot) → u.ghost.copying seat ≡ true → CopyFacts c u seat a copy end b at → CopyFacts c w seat a copy end b at
+    copy_facts_stay copy end (LoadWord words index) counted facts =
+        let long = facts.0 in let below = facts.2 in (facts.0, facts.1, facts.2, copied_stays copy end index counted (omega (arith, long, below)) facts.3)
+    copy_facts_stay copy end (StoreWord words index found) counted facts =
         let long = facts.0 in
         let below = facts.2 in
         let some = facts.1 in (
           facts.0,
           facts.1,
           facts.2,
-          copied_stays copy index counted (omega (arith, long, below)) facts.3,
+          copied_stays copy end index counted (omega (arith, long, below)) facts.3,
           facts.4 ∙ sym (rely.copies.words a index b seated counted inside is some (omega (arith, long, below))),
         )
-    copy_facts_stay copy StoreHeader counted facts = copied_stays copy (body_words b) counted (omega arith) facts
-    copy_facts_stay copy Publish counted facts = (
-      copied_stays copy (body_words b) counted (omega arith) facts.0,
-      (let there : copy + 0 ≡ copy = omega arith in subst (λ x. w.memory (Heap x) ≡ u.memory (Heap x)) there (rely.room_words copy 0 _ facts.0.room refl (omega arith))) ∙ facts.1,
+    copy_facts_stay copy end StoreHeader counted facts = copied_stays copy end (body_words b) counted (omega arith) facts
+    copy_facts_stay copy end Publish counted facts = (
+      copied_stays copy end (body_words b) counted (omega arith) facts.0,
+      (let there : copy + 0 ≡ copy = omega arith in subst (λ x. w.memory (Heap x) ≡ u.memory (Heap x)) there (rely.room_words copy 0 _ facts.0.taken.here refl (omega arith))) ∙ facts.1,
     )
-    copy_facts_stay copy (GiveBack answer) counted facts = (rely.rooms copy _ facts.0 refl, rely.copies.keeps.moveds a b.refs b.nums answer b.name facts.1)
+    copy_facts_stay copy end (GiveBack answer) counted facts = (take_stays c u w seat rely (body_words b) (Ended (At copy) end) facts.0, rely.copies.keeps.moveds a b.refs b.nums answer b.name facts.1)
 
     stop_stays : (at : RoomSpot) → StopFacts (u.memory Evac) at → StopFacts (w.memory Evac) at
     stop_stays Wait facts = rely.copies.keeps.out facts
@@ -80,8 +82,8 @@ module _ (c : Config) (u w : World) (seat a : ℕ) (shared : Shared c u) (rely :
     body_facts_stay LoadHeader copying facts = tt
     body_facts_stay (Entering at) copying facts = tt
     body_facts_stay LoadShape copying facts = tt
-    body_facts_stay (Taking words at) copying facts = (facts.0, can_take_stays c u w seat words at shared rely facts.1)
-    body_facts_stay (Copying copy at) copying facts = copy_facts_stay copy at copying facts
+    body_facts_stay (Taking words at) copying facts = (facts.0, can_take_stays c u w seat words at rely facts.1)
+    body_facts_stay (Copying copy end at) copying facts = copy_facts_stay copy end at copying facts
     body_facts_stay (Leaving answer) copying facts = rely.copies.keeps.moveds a b.refs b.nums answer b.name facts
     body_facts_stay (Stopping at) copying facts = stop_stays at facts
     body_facts_stay LoadAgain copying facts = rely.copies.keeps.quiet facts
@@ -93,7 +95,7 @@ module _ (c : Config) (u w : World) (seat a : ℕ) (shared : Shared c u) (rely :
   facts_stay (Entering at) can facts = (facts.0, rely.copies.keeps.bodies a facts.0 facts.1, tt)
   facts_stay LoadShape can facts = (facts.0, rely.copies.keeps.bodies a facts.0 facts.1, tt)
   facts_stay (Taking words at) can facts = (facts.0, rely.copies.keeps.bodies a facts.0 facts.1, body_facts_stay can.seated can.inside facts.0 facts.1 (Taking words at) can.copying facts.2)
-  facts_stay (Copying copy at) can facts = (facts.0, rely.copies.keeps.bodies a facts.0 facts.1, body_facts_stay can.seated can.inside facts.0 facts.1 (Copying copy at) can.copying facts.2)
+  facts_stay (Copying copy end at) can facts = (facts.0, rely.copies.keeps.bodies a facts.0 facts.1, body_facts_stay can.seated can.inside facts.0 facts.1 (Copying copy end at) can.copying facts.2)
   facts_stay (Leaving answer) can facts = (facts.0, rely.copies.keeps.bodies a facts.0 facts.1, body_facts_stay can.seated can.inside facts.0 facts.1 (Leaving answer) can.copying facts.2)
   facts_stay (Stopping at) can facts = (facts.0, rely.copies.keeps.bodies a facts.0 facts.1, body_facts_stay can.seated can.inside facts.0 facts.1 (Stopping at) can.copying facts.2)
   facts_stay LoadAgain can facts = (facts.0, rely.copies.keeps.bodies a facts.0 facts.1, body_facts_stay can.seated can.inside facts.0 facts.1 LoadAgain can.copying facts.2)
@@ -108,7 +110,7 @@ module _ (c : Config) (u w : World) (seat a : ℕ) (shared : Shared c u) (rely :
     copying = rely.copies.copying ∙ can.copying;
     records_none = rely.marks.recording ∙ can.records_none;
     scans_none = rely.marks.scanning ∙ can.scans_none;
-    hands = λ b words is. can.hands b words (rely.no_rooms b _ is refl);
+    rooms = λ b x is own. can.rooms b x (rely.no_rooms b x is own) own;
     ready = can.ready;
     facts = facts_stay at can can.facts;
   }

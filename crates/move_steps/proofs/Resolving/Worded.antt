@@ -87,7 +87,7 @@ module _ (c : Config) (u : World) (seat copy words at place value : ℕ) (shared
     targets = λ a refs nums name is. is;
     moveds = λ a refs nums to name is. is;
     spents = λ a more to is. is;
-    pieces = λ a x inside is. (x, is, refl);
+    pieces = λ a x inside is. (x, is, refl, refl);
     no_new = λ a refs nums name inside is. is;
     set_tops = λ r is. refl;
     out = λ is. is;
@@ -97,6 +97,7 @@ module _ (c : Config) (u : World) (seat copy words at place value : ℕ) (shared
     promises = λ a j more is. is;
     no_promises = λ a j more is. is;
     deads = λ a more is. is;
+    fillers = λ a more is. is;
     no_deads = λ a more is. is;
     no_fillers = λ a more is. is;
     words = λ a k x is inside no_room which. else_stays a k x is (elsewhere a x is (λ same. no_room (ap room_of (sym same)))) inside;

@@ -71,7 +71,7 @@ module _ (c : Config) (u w : World) (seat claim : ℕ) (pass : Option Scan) wher
 
   -- so do those of updating
   pub fields_then : (c.regions ≤ u.memory Claim → c.regions ≤ claim) → KeepsFields c u w → KeepsFields c u (world_then w seat claim pass)
-  fields_then claims fields = record { tams = fields.tams; limits = fields.limits; deads = fields.deads; claims = claims; fields = fields.fields }
+  fields_then claims fields = record { tams = fields.tams; limits = fields.limits; deads = fields.deads; fillers = fields.fillers; claims = claims; fields = fields.fields }
 
   -- others can rely on what they knew
   others_then : (c.regions ≤ u.memory Claim → c.regions ≤ claim) → (k : ℕ) → k ≢ seat → Rely c k u w → Rely c k u (world_then w seat claim pass)
@@ -85,6 +85,7 @@ module _ (c : Config) (u w : World) (seat claim : ℕ) (pass : Option Scan) wher
     no_promises = rely.no_promises;
     promise_words = rely.promise_words;
     current = rely.current;
+    opens = rely.opens;
     owners = rely.owners;
     tops = rely.tops;
     root_words = rely.root_words;

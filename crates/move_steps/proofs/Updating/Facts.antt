@@ -1,5 +1,5 @@
 -- What a machine counts on while it works on a unit of updating stays while others step, and while it goes on itself.
-use Rattle.std.proofs.Common.{◌≡◌, ℕ, ◌+◌, Some, ⊎_elim, inl, inr, sym, ap, ◌∙◌, subst, arith, refl}
+use Rattle.std.proofs.Common.{◌≡◌, ℕ, ◌+◌, Some, ⊎_elim, inl, inr, sym, ap, ◌∙◌, subst, arith}
 use Rattle.heap_words.specs.declared.config.Config.{Config}
 use Rattle.heap_words.specs.Encoding.{refs_in}
 use Rattle.heap_words.proofs.Shapes.{refs_in-shape_word}
@@ -12,8 +12,8 @@ use Rattle.heap_world.proofs.Updated.{current_stays}
 use Rattle.update_part.specs.declared.spot.Walk.{Walk}
 use Rattle.update_part.specs.declared.spot.Visit.{Visit}
 use Rattle.update_part.specs.declared.spot.UpdateSpot.{UpdateSpot}
-use Rattle.update_part.specs.declared.spot.UpdateSpot.TheVariants.{LoadClaim, ClaimUnit, LoadLimit, LoadTams, LoadShape, LoadBlack, LoadField, LoadHeader, ExchangeField, Ended}
-use Rattle.move_steps.specs.Updating.Facts.{IsUnit, HasComeTo, IsPiece, HasShape, HasField, HasFound, UpdateFacts, CanUpdate}
+use Rattle.update_part.specs.declared.spot.UpdateSpot.TheVariants.{LoadClaim, ClaimUnit, LoadLimit, LoadTams, LoadFirst, LoadShape, LoadBlack, LoadField, LoadHeader, ExchangeField, Ended}
+use Rattle.move_steps.specs.Updating.Facts.{IsUnit, HasComeTo, IsPiece, HasPiece, HasShape, HasField, HasFound, UpdateFacts, CanUpdate}
 
 -- Outside pauses, whoever steps: what holds by where a machine stands does so then.
 module _ (c : Config) (u w : World) (seat : ℕ) (shared : Shared c u) (on : u.memory Phase ≡ 3) (keeps : Keeps c seat u w) (fields : KeepsFields c u w) where
@@ -40,7 +40,12 @@ module _ (c : Config) (u w : World) (seat : ℕ) (shared : Shared c u) (on : u.m
   piece_stays a (inl alive) = inl (alive_stays a alive)
   piece_stays a (inr fills) = inr (fills.0, fields.deads a fills.0 fills.1)
 
-  -- its shape word
+  -- or words that only fill
+  any_stays : (a : ℕ) → HasPiece u a → HasPiece w a
+  any_stays a (inl piece) = inl (piece_stays a piece)
+  any_stays a (inr fills) = inr (fills.0, fields.fillers a fills.0 fills.1)
+
+  -- the shape word of a piece
   shape_stays : (a shape : ℕ) → HasShape u a shape → HasShape w a shape
   shape_stays a shape (inl object) = inl (alive_stays a object.0, object.1 ∙ sym (keeps.marks.shapes a object.0))
   shape_stays a shape (inr fills) = inr (fills.0, fields.deads a fills.0 fills.1, fills.2)
@@ -86,6 +91,7 @@ module _ (c : Config) (u w : World) (seat : ℕ) (shared : Shared c u) (on : u.m
   facts_stay (ClaimUnit unit) facts = facts
   facts_stay (LoadLimit region) facts = unit_stays region facts
   facts_stay (LoadTams region limit) facts = (unit_stays region facts.0, facts.1 ∙ sym (fields.limits region), facts.2)
+  facts_stay (LoadFirst walk address) facts = (walked_stays walk address facts.0, any_stays address facts.1)
   facts_stay (LoadShape walk address) facts = (walked_stays walk address facts.0, piece_stays address facts.1)
   facts_stay (LoadBlack at) facts = (walked_stays at.walk at.address facts.0, shape_stays at.address at.shape facts.1, facts.2, facts.3)
   facts_stay (LoadField at field) facts = field_stays at field facts
@@ -103,6 +109,6 @@ can_update_stays c u w seat cset at shared keeps rely can = record {
   working = rely.copies.working ∙ can.working;
   records_none = rely.marks.recording ∙ can.records_none;
   scanning = rely.marks.scanning ∙ can.scanning;
-  hands = λ a words is. can.hands a words (rely.no_rooms a _ is refl);
+  rooms = λ a x is room. can.rooms a x (rely.no_rooms a x is room) room;
   facts = facts_stay c u w seat shared can.phase keeps rely.fields at can.facts;
 }

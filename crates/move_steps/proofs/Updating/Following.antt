@@ -71,7 +71,7 @@ module _ (c : Config) (u : World) (seat a : ℕ) (shared : Shared c u) where
   each_follow (Entering at) going can = absurd can.facts
   each_follow LoadShape going can = absurd can.facts
   each_follow (Taking words at) going can = absurd can.facts
-  each_follow (Copying copy at) going can = absurd can.facts
+  each_follow (Copying copy end at) going can = absurd can.facts
   each_follow (Leaving answer) going can = absurd can.facts
   each_follow (Stopping at) going can = absurd can.facts
   each_follow LoadAgain going can = absurd can.facts
@@ -85,7 +85,7 @@ module _ (c : Config) (u : World) (seat a : ℕ) (shared : Shared c u) where
   follow_ready (Entering at) can = absurd can.facts
   follow_ready LoadShape can = absurd can.facts
   follow_ready (Taking words at) can = absurd can.facts
-  follow_ready (Copying copy at) can = absurd can.facts
+  follow_ready (Copying copy end at) can = absurd can.facts
   follow_ready (Leaving answer) can = absurd can.facts
   follow_ready (Stopping at) can = absurd can.facts
   follow_ready LoadAgain can = absurd can.facts
@@ -98,7 +98,7 @@ module _ (c : Config) (u : World) (seat a : ℕ) (shared : Shared c u) where
   leaves_fit (Entering at) got can = tt
   leaves_fit LoadShape got can = tt
   leaves_fit (Taking words at) got can = tt
-  leaves_fit (Copying copy at) got can = tt
+  leaves_fit (Copying copy end at) got can = tt
   leaves_fit (Stopping at) got can = tt
   leaves_fit LoadAgain got can = tt
 
@@ -106,7 +106,7 @@ module _ (c : Config) (u : World) (seat a : ℕ) (shared : Shared c u) where
   follow_inside : (at : ResolveSpot) → CanFollow c u seat a at → IsWord c (touch_at c seat a at).word
   follow_inside at can =
       let piece = copy_piece c u shared a (HasCopy.copy can.body can.there) in
-      resolve_inside c seat a at (piece_begins c u shared a piece.0 piece.1 (let long = piece.2 in omega (arith, long))) (follow_ready at can)
+      resolve_inside c seat a at can.seated (piece_begins c u shared a piece.0 piece.1 (let long = piece.2 in omega (arith, long))) (follow_ready at can)
 
 -- While others step, what a machine counts on stays.
 module _ (c : Config) (u w : World) (seat a : ℕ) (shared : Shared c u) (rely : Rely c seat u w) where
@@ -116,7 +116,7 @@ module _ (c : Config) (u w : World) (seat a : ℕ) (shared : Shared c u) (rely :
   facts_stay (Entering at) can = absurd can.facts
   facts_stay LoadShape can = absurd can.facts
   facts_stay (Taking words at) can = absurd can.facts
-  facts_stay (Copying copy at) can = absurd can.facts
+  facts_stay (Copying copy end at) can = absurd can.facts
   facts_stay (Leaving answer) can = absurd can.facts
   facts_stay (Stopping at) can = absurd can.facts
   facts_stay LoadAgain can = absurd can.facts
@@ -133,7 +133,7 @@ module _ (c : Config) (u w : World) (seat a : ℕ) (shared : Shared c u) (rely :
       copying = rely.copies.copying ∙ can.nothing.copying;
       records_none = rely.marks.recording ∙ can.nothing.records_none;
       scans_none = rely.marks.scanning ∙ can.nothing.scans_none;
-      hands = λ b words is. can.nothing.hands b words (rely.no_rooms b _ is refl);
+      rooms = λ b x is room. can.nothing.rooms b x (rely.no_rooms b x is room) room;
     };
     facts = facts_stay at can;
   }
@@ -145,7 +145,7 @@ follows_uncounted c u seat a (Resolved answer) can = refl
 follows_uncounted c u seat a (Entering at) can = absurd can.facts
 follows_uncounted c u seat a LoadShape can = absurd can.facts
 follows_uncounted c u seat a (Taking words at) can = absurd can.facts
-follows_uncounted c u seat a (Copying copy at) can = absurd can.facts
+follows_uncounted c u seat a (Copying copy end at) can = absurd can.facts
 follows_uncounted c u seat a (Leaving answer) can = absurd can.facts
 follows_uncounted c u seat a (Stopping at) can = absurd can.facts
 follows_uncounted c u seat a LoadAgain can = absurd can.facts
@@ -157,7 +157,7 @@ follows_loads c u seat a (Resolved answer) can = refl
 follows_loads c u seat a (Entering at) can = absurd can.facts
 follows_loads c u seat a LoadShape can = absurd can.facts
 follows_loads c u seat a (Taking words at) can = absurd can.facts
-follows_loads c u seat a (Copying copy at) can = absurd can.facts
+follows_loads c u seat a (Copying copy end at) can = absurd can.facts
 follows_loads c u seat a (Leaving answer) can = absurd can.facts
 follows_loads c u seat a (Stopping at) can = absurd can.facts
 follows_loads c u seat a LoadAgain can = absurd can.facts

@@ -1,5 +1,5 @@
 -- Working on a unit of updating as a part: any machine that has a seat can have it inside.
-use Rattle.std.proofs.Common.{◌≡◌, ℕ, ◌+◌, ◌<◌, ◌≤◌, true, Some, inl, refl, sym, subst, arith}
+use Rattle.std.proofs.Common.{◌≡◌, ℕ, ◌+◌, ◌<◌, ◌≤◌, true, Some, inl, inr, refl, sym, subst, arith}
 use Rattle.std.proofs.lemmas.Bool.{and_from, le-leb, lt-ltb}
 use Rattle.heap_words.specs.declared.config.Config.{Config}
 use Rattle.heap_words.specs.Encoding.{refs_in}
@@ -7,16 +7,16 @@ use Rattle.heap_words.specs.Words.{Phase, Cset, Top, Heap, IsWord, is_word}
 use Rattle.steps_base.specs.Touch.{loads}
 use Rattle.regions.proofs.MarksApart.{word_inside}
 use Rattle.shen_graph.specs.declared.name.Name.{Name}
-use Rattle.heap_world.specs.World.{World, Block, moved, words_of, Body, body_at, body_words, IsCollected, Shared}
+use Rattle.heap_world.specs.World.{World, Block, moved, filler, words_of, Body, body_at, body_words, IsCollected, Shared}
 use Rattle.heap_world.proofs.Apart.{one_piece}
 use Rattle.heap_world.proofs.Keeping.{keeps_of}
 use Rattle.heap_world.proofs.Pointing.{body_piece, piece_inside}
 use Rattle.update_part.specs.declared.spot.Walk.{Walk}
 use Rattle.update_part.specs.declared.spot.Visit.{Visit}
 use Rattle.update_part.specs.declared.spot.UpdateSpot.{UpdateSpot}
-use Rattle.update_part.specs.declared.spot.UpdateSpot.TheVariants.{LoadClaim, ClaimUnit, LoadLimit, LoadTams, LoadShape, LoadBlack, LoadField, LoadHeader, ExchangeField, Ended}
+use Rattle.update_part.specs.declared.spot.UpdateSpot.TheVariants.{LoadClaim, ClaimUnit, LoadLimit, LoadTams, LoadFirst, LoadShape, LoadBlack, LoadField, LoadHeader, ExchangeField, Ended}
 use Rattle.update_part.specs.Rows.{touch_at, walk_fits, visit_fits, has_field, is_ready}
-use Rattle.move_steps.specs.Updating.Facts.{HasComeTo, HasShape, HasField, UpdateFacts}
+use Rattle.move_steps.specs.Updating.Facts.{HasComeTo, HasPiece, HasShape, HasField, UpdateFacts}
 use Rattle.move_steps.specs.Updating.Laws.{spot_then, UpdatingSteps}
 use Rattle.move_steps.proofs.Updating.Facts.{can_update_stays}
 use Rattle.move_steps.proofs.Updating.Pieces.{limit_short, tams_short, piece_shape, shape_words}
@@ -38,6 +38,11 @@ module _ (c : Config) (u : World) (shared : Shared c u) (on : u.memory Phase ≡
   shape_heap a shape k has below =
       let piece = shape_words c u shared on a shape has in
       piece_heap a (a + k) piece.0 piece.1 (omega arith) (let long = piece.2 in omega (arith, below, long))
+
+  -- the first word of what a walk comes to
+  any_heap : (a : ℕ) → HasPiece u a → IsWord c (Heap a)
+  any_heap a (inl piece) = subst (λ x. IsWord c (Heap x)) (omega arith) (shape_heap a (u.memory (Heap (a + 1))) 0 (piece_shape c u shared on a piece) (omega arith))
+  any_heap a (inr fills) = piece_heap a a (filler fills.0) fills.1 (omega arith) (let some = shared.parsable.fillers a fills.0 fills.1 in omega (arith, some))
 
   -- the numbers of a walk are in range
   walk_there : (walk : Walk) (address : ℕ) → HasComeTo c u walk address → walk_fits c walk ≡ true
@@ -79,6 +84,7 @@ module _ (c : Config) (u : World) (shared : Shared c u) (on : u.memory Phase ≡
       let limit_is = facts.1 in
       let short = limit_short c u shared on region facts.0.0 in
       and_from _ _ (lt-ltb _ _ facts.0.0) (le-leb limit c.region_words (omega (arith, limit_is, short)))
+  ready_there (LoadFirst walk address) facts = and_from _ _ (walk_there walk address facts.0) (word_there c address (any_heap address facts.1))
   ready_there (LoadShape walk address) facts =
       let has = piece_shape c u shared on address facts.1 in
       let first : IsWord c (Heap address) = subst (λ a. IsWord c (Heap a)) (omega arith) (shape_heap address (u.memory (Heap (address + 1))) 0 has (omega arith)) in
@@ -95,6 +101,7 @@ module _ (c : Config) (u : World) (shared : Shared c u) (on : u.memory Phase ≡
   update_inside (ClaimUnit unit) facts = tt
   update_inside (LoadLimit region) facts = facts.0
   update_inside (LoadTams region limit) facts = facts.0.0
+  update_inside (LoadFirst walk address) facts = any_heap address facts.1
   update_inside (LoadShape walk address) facts = shape_heap address (u.memory (Heap (address + 1))) 1 (piece_shape c u shared on address facts.1) (omega arith)
   update_inside (LoadBlack at) facts = word_inside c at.address (subst (λ a. IsWord c (Heap a)) (omega arith) (shape_heap at.address at.shape 0 facts.1 (omega arith)))
   update_inside (LoadField at field) facts = field_heap at field facts
@@ -129,7 +136,7 @@ updating_steps = record {
     working = idle;
     records_none = nothing.records_none;
     scanning = nothing.scans_none;
-    hands = nothing.hands;
+    rooms = nothing.rooms;
     facts = tt;
   };
   each = λ c u seat cset at going shared can. each_updates c u seat cset at going shared can;

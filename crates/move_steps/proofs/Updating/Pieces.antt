@@ -6,7 +6,7 @@ use Rattle.std.proofs.lemmas.Bool.{cases_Bool, eq-eqb, eqb-true, and_from, and_l
 use Rattle.std.proofs.lemmas.Bool.Decides.{nat_tests}
 use Rattle.std.proofs.lemmas.Option.{slice_get-get_or}
 use Rattle.heap_words.specs.declared.config.Config.{Config}
-use Rattle.heap_words.specs.Encoding.{refs_in, object_words, shape_word}
+use Rattle.heap_words.specs.Encoding.{filler_words_in, refs_in, object_words, shape_word}
 use Rattle.heap_words.proofs.Shapes.{refs_in-shape_word}
 use Rattle.heap_words.specs.Words.{Phase, Cset, Top, Tams, Limit, Heap, is_word}
 use Rattle.regions.specs.Place.{base_of, region_with}
@@ -18,8 +18,8 @@ use Rattle.heap_world.proofs.Pointing.{named_body, copy_cases, piece_word}
 use Rattle.update_part.specs.declared.spot.Walk.{Walk}
 use Rattle.update_part.specs.declared.spot.Visit.{Visit}
 use Rattle.update_part.specs.Rows.{limit_of, names_set}
-use Rattle.move_steps.proofs.Evacuation.Walks.{region_is}
-use Rattle.move_steps.specs.Updating.Facts.{IsUnit, HasComeTo, IsPiece, HasShape, HasField, HasFound}
+use Rattle.move_steps.proofs.Evacuation.Walks.{region_is, filler_fills}
+use Rattle.move_steps.specs.Updating.Facts.{IsUnit, HasComeTo, IsPiece, HasPiece, HasShape, HasField, HasFound}
 
 -- the words of an object with so many references and numbers
 shaped : (refs nums : ℕ) → refs ≤ 16 → nums ≤ 16 → object_words (shape_word refs nums) ≡ 3 + refs + nums
@@ -54,35 +54,45 @@ module _ (c : Config) (w : World) (shared : Shared c w) (on : w.memory Phase ≡
       let young : base_of c region + w.memory (Limit region) ≤ a = subst (λ r. base_of c r + w.memory (Limit r) ≤ a) here ((shared.updated on).young a seat x is room) in
       omega (arith, below, young)
 
-  -- it is an object, a promised one, or a dead one
-  pub piece_of_unit : (region a : ℕ) (x : Block) → IsUnit c w region → region_with c a ≡ region → a < base_of c region + w.memory (Limit region) → w.block a ≡ Some x → IsPiece w a
-  piece_of_unit region a (thing name refs nums) unit here below is = inl (IsMarkable.object name refs nums is)
+  -- it is an object, a promised one, or a dead one, or only fills
+  pub piece_of_unit : (region a : ℕ) (x : Block) → IsUnit c w region → region_with c a ≡ region → a < base_of c region + w.memory (Limit region) → w.block a ≡ Some x → HasPiece w a
+  piece_of_unit region a (thing name refs nums) unit here below is = inl (inl (IsMarkable.object name refs nums is))
   piece_of_unit region a (moved name refs nums to) unit here below is =
       absurd (unit.1 (subst (λ r. IsIn (w.memory Cset) r) here (shared.evacuated.moved.moveds a refs nums to name is).inside))
   piece_of_unit region a (spent words to) unit here below is =
       absurd (unit.1 (subst (λ r. IsIn (w.memory Cset) r) here (shared.evacuated.moved.spents a words to is).inside))
   piece_of_unit region a (hand seat words) unit here below is = absurd (no_room_below region a seat (hand seat words) here below is refl)
-  piece_of_unit region a (promised seat words) unit here below is = inl (IsMarkable.to_come seat words is)
-  piece_of_unit region a (dead words) unit here below is = inr (words, is)
-  piece_of_unit region a (filler words) unit here below is = absurd (shared.unwritten.fillers a words is)
+  piece_of_unit region a (promised seat words) unit here below is = inl (inl (IsMarkable.to_come seat words is))
+  piece_of_unit region a (dead words) unit here below is = inl (inr (words, is))
+  piece_of_unit region a (filler words) unit here below is = inr (words, is)
   piece_of_unit region a (spare seat words) unit here below is = absurd (no_room_below region a seat (spare seat words) here below is refl)
   piece_of_unit region a (carved seat words) unit here below is = absurd (no_room_below region a seat (carved seat words) here below is refl)
 
   -- a walk comes to a piece below the limit
   pub walks_to : (walk : Walk) (address : ℕ) (x : Block) → IsUnit c w walk.region → walk.limit ≡ w.memory (Limit walk.region) → walk.tams ≡ w.memory (Tams walk.region)
-      → base_of c walk.region ≤ address → address < limit_of c walk → w.block address ≡ Some x → HasComeTo c w walk address × IsPiece w address
+      → base_of c walk.region ≤ address → address < limit_of c walk → w.block address ≡ Some x → HasComeTo c w walk address × HasPiece w address
   walks_to walk address x unit limit_is tams_is from_base before there =
       let walked : HasComeTo c w walk address = record { unit = unit; limit_is = limit_is; tams_is = tams_is; from_base = from_base; before = before } in
       (walked, piece_of_unit walk.region address x unit (walked_region walk address walked) (omega (arith, before, limit_is)) there)
 
   -- behind a piece of a walk there is another one, if the limit is not reached
   pub walks_on : (walk : Walk) (address : ℕ) (x : Block) → HasComeTo c w walk address → w.block address ≡ Some x → address + words_of x < limit_of c walk
-      → HasComeTo c w walk (address + words_of x) × IsPiece w (address + words_of x)
+      → HasComeTo c w walk (address + words_of x) × HasPiece w (address + words_of x)
   walks_on walk address x walked there less =
       let limit_is = walked.limit_is in
       let low = (shared.updated on).limits walk.region walked.unit.0 in
       let next = shared.parsable.filled.next walk.region address x walked.unit.0 walked.from_base there (omega (arith, less, limit_is, low)) in
       walks_to walk (address + words_of x) next.0 walked.unit walked.limit_is walked.tams_is (let from = walked.from_base in omega (arith, from)) less next.1
+
+  -- the header of a piece is none of words that only fill
+  pub piece_header : (a : ℕ) → IsPiece w a → filler_words_in (w.memory (Heap a)) ≡ None
+  piece_header a (inl (IsMarkable.object name refs nums is)) = ap filler_words_in (shared.contents.objects.each a refs nums name is).2.header
+  piece_header a (inl (IsMarkable.to_come seat words is)) = ap filler_words_in (shared.unwritten.blanks a seat words is).header
+  piece_header a (inr fills) = ap filler_words_in (shared.unwritten.headers a fills.0 fills.1)
+
+  -- and that of such words tells how many they are
+  pub filler_tells : (a words : ℕ) → w.block a ≡ Some (filler words) → filler_words_in (w.memory (Heap a)) ≡ Some words
+  filler_tells a words is = filler_fills (w.memory (Heap a)) words (shared.unwritten.fillers a words is)
 
   -- the shape word of a piece
   pub piece_shape : (a : ℕ) → IsPiece w a → HasShape w a (w.memory (Heap (a + 1)))

@@ -12,22 +12,22 @@ use Rattle.regions.specs.Sets.{IsIn}
 use Rattle.steps_base.specs.Touch.{touched}
 use Rattle.regions.specs.Marks.{mark_word, mark_bit, HasMark}
 use Rattle.shen_graph.specs.declared.name.Name.{Name}
-use Rattle.heap_world.specs.World.{World, Scan, Block, thing, words_of, IsMarkable, IsYoung, IsCurrent, IsUpdating, Shared}
+use Rattle.heap_world.specs.World.{World, Scan, Block, thing, filler, words_of, IsMarkable, IsYoung, IsCurrent, IsUpdating, Shared}
 use Rattle.heap_world.specs.Rely.{Rely}
 use Rattle.heap_world.proofs.Keeping.{load_keeps, rely_same, keeps_of}
 use Rattle.heap_world.proofs.Updates.{updated, updated_there}
 use Rattle.update_part.specs.declared.spot.Walk.{Walk}
 use Rattle.update_part.specs.declared.spot.Visit.{Visit}
 use Rattle.update_part.specs.declared.spot.UpdateSpot.{UpdateSpot}
-use Rattle.update_part.specs.declared.spot.UpdateSpot.TheVariants.{LoadClaim, ClaimUnit, LoadLimit, LoadTams, LoadShape, LoadBlack, LoadField, LoadHeader, ExchangeField, Ended}
-use Rattle.update_part.specs.Rows.{touch_at, is_ended, limit_of, tams_of, names_set, next_object, next_field}
+use Rattle.update_part.specs.declared.spot.UpdateSpot.TheVariants.{LoadClaim, ClaimUnit, LoadLimit, LoadTams, LoadFirst, LoadShape, LoadBlack, LoadField, LoadHeader, ExchangeField, Ended}
+use Rattle.update_part.specs.Rows.{touch_at, is_ended, limit_of, tams_of, names_set, next_object, after_words, next_field}
 use Rattle.move_steps.proofs.Evacuation.Walks.{region_is, placed}
 use Rattle.move_steps.specs.Updating.Facts.{pass_of, HasComeTo, IsPiece, HasShape, HasField, HasFound, UpdateFacts, CanUpdate}
 use Rattle.move_steps.specs.Updating.Laws.{spot_then, UpdateStep}
 use Rattle.move_steps.proofs.Updating.Passes.{Comes, comes_at, IsPassed, passed_same, updating_passed, updating_claimed}
 use Rattle.move_steps.proofs.Updating.Changes.{world_then, keeps_then, fields_then, step_then}
 use Rattle.move_steps.proofs.Updating.Facts.{field_stays, facts_stay, can_update_stays}
-use Rattle.move_steps.proofs.Updating.Pieces.{walked_region, walks_to, walks_on, piece_shape, shape_words, shape_refs, field_word, current_names_none, old_names_set}
+use Rattle.move_steps.proofs.Updating.Pieces.{walked_region, walks_to, walks_on, piece_header, filler_tells, piece_shape, shape_words, shape_refs, field_word, current_names_none, old_names_set}
 use Rattle.move_steps.proofs.Updating.Stored.{renewed_world, shared_renewed, rely_renewed}
 
 -- a place of a unit
@@ -73,7 +73,7 @@ module _ (c : Config) (u : World) (seat cset : ℕ) where
     working = can.working;
     records_none = can.records_none;
     scanning = updated_there w.ghost.scanning seat (pass_of c next);
-    hands = can.hands;
+    rooms = can.rooms;
     facts = facts_stay c w (world_then w seat claim (pass_of c next)) seat shared can.phase
         (keeps_then c w w seat claim (pass_of c next) (keeps_of c seat w w (rely_same c seat w)))
         (fields_then c w w seat claim (pass_of c next) claims (rely_same c seat w).fields) next facts;
@@ -105,7 +105,7 @@ module _ (c : Config) (u : World) (seat cset : ℕ) where
       (λ (more : nat_lt (address + words_of x) (limit_of c walk) ≡ true).
       let next = walks_on c w base.shared can.phase walk address x walked there (ltb-true _ _ more) in
       let next_region = walked_region c w base.shared can.phase walk (address + words_of x) next.0 in
-      goes_on at (LoadShape walk (address + words_of x)) w base can (leads ∙ cond-true (nat_lt (address + words_of x) (limit_of c walk)) _ _ more)
+      goes_on at (LoadFirst walk (address + words_of x)) w base can (leads ∙ cond-true (nat_lt (address + words_of x) (limit_of c walk)) _ _ more)
       (λ a refs nums k name is below old comes.
       let from = comes_at c (pass_of c at) (stand address field) a k stands comes in
       ⊎_elim
@@ -249,8 +249,22 @@ module _ (c : Config) (u : World) (seat cset : ℕ) where
       let some = can.facts.2 in
       let low = (shared.updated can.phase).limits region unit.0 in
       let first = shared.parsable.filled.first region unit.0 (omega (arith, limit_is, some, low)) in
-      stays_there (LoadTams region limit) (LoadShape walk (base_of c region)) u (loads_at (LoadTams region limit) (Tams region) refl shared) can refl refl
+      stays_there (LoadTams region limit) (LoadFirst walk (base_of c region)) u (loads_at (LoadTams region limit) (Tams region) refl shared) can refl refl
       (walks_to c u shared can.phase walk (base_of c region) first.0 unit limit_is refl (omega arith) (omega (arith, some)) first.1)
+
+  -- the load of a header: the walk steps over words that only fill
+  at_load_first : (walk : Walk) (address : ℕ) → Shared c u → CanUpdate c u seat cset (LoadFirst walk address) → UpdateStep c u seat cset (LoadFirst walk address)
+  at_load_first walk address shared can = ⊎_elim
+      (λ (piece : IsPiece u address).
+      stays_there (LoadFirst walk address) (LoadShape walk address) u base can (ap (after_words c walk address) (piece_header c u shared can.phase address piece)) refl (can.facts.0, piece))
+      (λ (fills : (words : ℕ) × (u.block address ≡ Some (filler words))).
+      goes_behind (LoadFirst walk address) u walk address 0 (filler fills.0) base can can.facts.0 fills.1 refl
+      (λ refs nums k name is below from. (let both : Some (filler fills.0) ≡ Some (thing name refs nums) = sym fills.1 ∙ is in absurd (cc (both))))
+      (ap (after_words c walk address) (filler_tells c u shared can.phase address fills.0 fills.1)))
+      can.facts.1
+    where
+      base : IsBase (LoadFirst walk address) u
+      base = loads_at (LoadFirst walk address) (Heap address) refl shared
 
   -- an object above the top at mark start is not dead
   alive_above : (walk : Walk) (address : ℕ) → Shared c u → u.memory Phase ≡ 3 → HasComeTo c u walk address → IsPiece u address → tams_of c walk ≤ address → IsMarkable u.block address
@@ -386,6 +400,7 @@ module _ (c : Config) (u : World) (seat cset : ℕ) where
   each_updates (ClaimUnit unit) going shared can = at_claim_unit unit shared can
   each_updates (LoadLimit region) going shared can = at_load_limit region shared can
   each_updates (LoadTams region limit) going shared can = at_load_tams region limit shared can
+  each_updates (LoadFirst walk address) going shared can = at_load_first walk address shared can
   each_updates (LoadShape walk address) going shared can = at_load_shape walk address shared can
   each_updates (LoadBlack at) going shared can = at_load_black at shared can
   each_updates (LoadField at field) going shared can = at_load_field at field shared can

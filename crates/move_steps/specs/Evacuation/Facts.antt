@@ -5,15 +5,17 @@ use Rattle.heap_words.specs.Ranges.{seat_count}
 use Rattle.heap_words.specs.Words.{Phase, Cset, Evac, Top}
 use Rattle.regions.specs.Place.{base_of, region_with}
 use Rattle.regions.specs.Sets.{IsIn}
-use Rattle.heap_world.specs.World.{World, Block, hand, words_of, IsCollected, IsSweptTo}
+use Rattle.alloc_buffers.specs.Facts.{OnlySpares}
+use Rattle.heap_world.specs.World.{World, Block, words_of, filling, IsCollected, IsSweptTo}
 use Rattle.load_barrier.specs.Rows.{is_resolved}
 use Rattle.load_barrier.specs.declared.evac_spot.EvacSpot.{EvacSpot}
-use Rattle.load_barrier.specs.declared.evac_spot.EvacSpot.TheVariants.{LoadClaim, ClaimUnit, LoadTop, LoadShape, LoadMark, Resolving, Ended}
+use Rattle.load_barrier.specs.declared.evac_spot.EvacSpot.TheVariants.{LoadClaim, ClaimUnit, LoadTop, LoadFirst, LoadShape, LoadMark, Resolving, Ended}
 use Rattle.move_steps.specs.Resolving.Facts.{CanResolve}
 
 -- the region on which it works, by where it stands: from the step that claims a region of the set to that which ends the unit
 abbrev pub working_of : Config → EvacSpot → Option ℕ
 working_of c (LoadTop region) = Some region
+working_of c (LoadFirst address end) = Some (region_with c address)
 working_of c (LoadShape address end) = Some (region_with c address)
 working_of c (LoadMark address end next) = Some (region_with c address)
 working_of c (Resolving address end next at) = Some (region_with c address)
@@ -34,24 +36,31 @@ pub record IsWalkedTo (c : Config) (w : World) (address end : ℕ) : Type 0 wher
   pub there : w.block address ≡ Some piece
   pub swept : IsSweptTo c (w.memory Evac) w.block (region_with c address) address
 
+-- and the piece is no words that only fill
+pub record IsAtObject (c : Config) (w : World) (address end : ℕ) : Type 0 where
+  pub at : IsWalkedTo c w address end
+  pub solid : filling at.piece ≡ None
+
 -- and the address behind the piece is known
 pub record IsMeasured (c : Config) (w : World) (address end next : ℕ) : Type 0 where
   pub at : IsWalkedTo c w address end
+  pub solid : filling at.piece ≡ None
   pub next_is : next ≡ address + words_of at.piece
 
--- the machine of a seat copies, records and scans nothing, and has no room in hand
+-- the machine of a seat copies, records and scans nothing, and has no room but the free words of its buffer
 pub record HasNothing (w : World) (seat : ℕ) : Type 0 where
   pub copying : w.ghost.copying seat ≡ false
   pub records_none : w.ghost.recording seat ≡ None
   pub scans_none : w.ghost.scanning seat ≡ None
-  pub hands : (a words : ℕ) → w.block a ≡ Some (hand seat words) → ⊥
+  pub rooms : OnlySpares w seat
 
 -- what holds of the words and of what the machine copies, by where it stands
 abbrev pub WorkFacts : Config → World → ℕ → EvacSpot → Type 0
 WorkFacts c w seat LoadClaim = HasNothing w seat
 WorkFacts c w seat (ClaimUnit unit) = HasNothing w seat × (unit < c.regions)
 WorkFacts c w seat (LoadTop region) = HasNothing w seat × IsIn (w.memory Cset) region
-WorkFacts c w seat (LoadShape address end) = HasNothing w seat × IsWalkedTo c w address end
+WorkFacts c w seat (LoadFirst address end) = HasNothing w seat × IsWalkedTo c w address end
+WorkFacts c w seat (LoadShape address end) = HasNothing w seat × IsAtObject c w address end
 WorkFacts c w seat (LoadMark address end next) = HasNothing w seat × IsMeasured c w address end next
 WorkFacts c w seat (Resolving address end next at) = (is_resolved at ≡ false) × CanResolve c w seat address at × IsMeasured c w address end next
 WorkFacts c w seat (Ended unit) = HasNothing w seat

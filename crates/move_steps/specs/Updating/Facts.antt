@@ -8,17 +8,19 @@ use Rattle.heap_words.specs.Words.{Phase, Cset, Limit, Tams, Heap}
 use Rattle.regions.specs.Place.{base_of}
 use Rattle.regions.specs.Sets.{IsIn}
 use Rattle.shen_graph.specs.declared.name.Name.{Name}
-use Rattle.heap_world.specs.World.{World, Scan, thing, moved, hand, dead, IsMarkable, IsCurrent}
+use Rattle.heap_world.specs.World.{World, Scan, thing, moved, dead, filler, IsMarkable, IsCurrent}
+use Rattle.alloc_buffers.specs.Facts.{OnlySpares}
 use Rattle.update_part.specs.declared.spot.Walk.{Walk}
 use Rattle.update_part.specs.declared.spot.Visit.{Visit}
 use Rattle.update_part.specs.declared.spot.UpdateSpot.{UpdateSpot}
-use Rattle.update_part.specs.declared.spot.UpdateSpot.TheVariants.{ClaimUnit, LoadLimit, LoadTams, LoadShape, LoadBlack, LoadField, LoadHeader, ExchangeField}
+use Rattle.update_part.specs.declared.spot.UpdateSpot.TheVariants.{ClaimUnit, LoadLimit, LoadTams, LoadFirst, LoadShape, LoadBlack, LoadField, LoadHeader, ExchangeField}
 use Rattle.update_part.specs.Rows.{limit_of, tams_of}
 
 -- where a machine stands in its unit, by its spot: at the first reference with which it has not dealt, of an object to which it has come
 abbrev pub pass_of : Config → UpdateSpot → Option Scan
 pass_of c (LoadLimit region) = Some (record { object = base_of c region; field = 0 })
 pass_of c (LoadTams region limit) = Some (record { object = base_of c region; field = 0 })
+pass_of c (LoadFirst walk address) = Some (record { object = address; field = 0 })
 pass_of c (LoadShape walk address) = Some (record { object = address; field = 0 })
 pass_of c (LoadBlack at) = Some (record { object = at.address; field = 0 })
 pass_of c (LoadField at field) = Some (record { object = at.address; field = field })
@@ -42,7 +44,11 @@ pub record HasComeTo (c : Config) (w : World) (walk : Walk) (address : ℕ) : Ty
 abbrev pub IsPiece : World → ℕ → Type 0
 IsPiece w a = IsMarkable w.block a ⊎ ((words : ℕ) × (w.block a ≡ Some (dead words)))
 
--- and a shape word tells how long it is: that of the object, or one of as many words as the dead one has
+-- or words that only fill
+abbrev pub HasPiece : World → ℕ → Type 0
+HasPiece w a = IsPiece w a ⊎ ((words : ℕ) × (w.block a ≡ Some (filler words)))
+
+-- a shape word tells how long an object is: that of the object, or one of as many words as the dead one has
 abbrev pub HasShape : World → (a shape : ℕ) → Type 0
 HasShape w a shape =
     (IsMarkable w.block a × (shape ≡ w.memory (Heap (a + 1)))) ⊎ ((words : ℕ) × (w.block a ≡ Some (dead words)) × (object_words shape ≡ words))
@@ -73,6 +79,7 @@ abbrev pub UpdateFacts : Config → World → UpdateSpot → Type 0
 UpdateFacts c w (ClaimUnit unit) = unit < c.regions
 UpdateFacts c w (LoadLimit region) = IsUnit c w region
 UpdateFacts c w (LoadTams region limit) = IsUnit c w region × (limit ≡ w.memory (Limit region)) × (limit ≢ 0)
+UpdateFacts c w (LoadFirst walk address) = HasComeTo c w walk address × HasPiece w address
 UpdateFacts c w (LoadShape walk address) = HasComeTo c w walk address × IsPiece w address
 UpdateFacts c w (LoadBlack at) = HasComeTo c w at.walk at.address × HasShape w at.address at.shape × (refs_in at.shape ≢ 0) × (at.address < tams_of c at.walk)
 UpdateFacts c w (LoadField at field) = HasField c w at field
@@ -81,7 +88,7 @@ UpdateFacts c w (ExchangeField at field found copy) = HasField c w at field × H
 UpdateFacts c w _ = ⊤
 
 -- References are updated, the machine knows the collection set, and stands in its unit where its spot says. It copies and records nothing,
--- and has no room in hand.
+-- and all its room is free words of its buffer.
 pub record CanUpdate (c : Config) (w : World) (seat cset : ℕ) (at : UpdateSpot) : Type 0 where
   pub seated : seat < seat_count c.mutators c.helpers
   pub phase : w.memory Phase ≡ 3
@@ -90,5 +97,5 @@ pub record CanUpdate (c : Config) (w : World) (seat cset : ℕ) (at : UpdateSpot
   pub working : w.ghost.working seat ≡ None
   pub records_none : w.ghost.recording seat ≡ None
   pub scanning : w.ghost.scanning seat ≡ pass_of c at
-  pub hands : (a words : ℕ) → w.block a ≡ Some (hand seat words) → ⊥
+  pub rooms : OnlySpares w seat
   pub facts : UpdateFacts c w at

@@ -236,7 +236,7 @@ module _ (change : Change) (law : IsPause change) (c : Config) (g : Graph) (s : 
   work_ready at here = (and_parts _ _ (ready_at (Working at) here)).0
 
   work_found : (at : UnitSpot) → Here (Working at) → got (Working at) ≡ view c s.words (units.touch_at c (control_number c) at).word
-  work_found at here = found-placed c s.words (units.touch_at c (control_number c) at) (is_word_from c _ (unit_inside c (control_number c) at (work_ready at here)))
+  work_found at here = found-placed c s.words (units.touch_at c (control_number c) at) (is_word_from c _ (unit_inside c (control_number c) at (omega arith) (work_ready at here)))
 
   pub work_fit : (at : UnitSpot) → Here (Working at) → unit.IsFit c (control_number c) at (got (Working at))
   work_fit at here =

@@ -27,7 +27,8 @@ use Rattle.mutator.specs.declared.waits.WaitSpot.TheVariants as wait
 use Rattle.mutator.specs.Commands.{dst_of, refs_of, nums_of}
 use Rattle.mutator.specs.Orders.{is_waiting}
 use Rattle.mutator.specs.Rows.{Mutating}
-use Rattle.heap_world.specs.World.{Ghost, World, Plot, hand, Points, IsUsable, UsableIn, Shared}
+use Rattle.alloc_buffers.specs.Facts.{IsSpare, OnlySpares}
+use Rattle.heap_world.specs.World.{Ghost, World, Block, Plot, hand, carved, room_of, Points, IsUsable, UsableIn, Shared}
 use Rattle.heap_world.specs.Asking.{Asking, nothing, asks, refused, given, IsAsked}
 use Rattle.heap_world.specs.Change.{Change, Answers, IsDue, IsPause, IsPaused, image_view, image_words, words_given}
 use Rattle.heap_world.specs.Represents.{NobodyMarks, NobodyCopies, Represents}
@@ -46,7 +47,8 @@ use Rattle.step_core.proofs.Control.Images.{mixed_whole}
 use Rattle.step_core.proofs.Control.Pauses.{open_world}
 use Rattle.step_core.proofs.History.Replies.{answered_polls}
 use Rattle.step_core.proofs.Machines.Roles.{full_settled, machine_there, mutator_there, unmarking_by, uncopying_by, rests_by, rests_there, outside_goes_on}
-use Rattle.step_core.proofs.Mutators.Within.{records_outside, copies_outside}
+use Rattle.heap_world.proofs.Roomless.{only_spares}
+use Rattle.step_core.proofs.Mutators.Within.{records_outside, copies_outside, outside_spares}
 use Rattle.step_core.proofs.Mutators.Spots.{mutator_at}
 
 -- an image has words
@@ -140,7 +142,7 @@ mutator_is_not_control c t below is = omega arith
 -- The mutators in a new image: it stands for the same graph, nobody marks or copies in it, and it answers who asks.
 module _ (c : Config) (words : List ℕ) (u w : World) (t made : ℕ) (kept : Kept) (b : Actor) (x : Asking)
     (asked : IsAsked w.memory w.block w.graph.count t x) (graph : w.graph ≡ u.graph)
-    (roots : (i : ℕ) → i < 16 → Points w.block (w.memory (Root t i)) (w.graph.root (t + 1) i)) (none : (a more : ℕ) → w.block a ≡ Some (hand t more) → ⊥) (unmarking : NobodyMarks c w.ghost)
+    (roots : (i : ℕ) → i < 16 → Points w.block (w.memory (Root t i)) (w.graph.root (t + 1) i)) (none : OnlySpares w t) (unmarking : NobodyMarks c w.ghost)
     (uncopying : NobodyCopies c w.ghost) (usable : (i : ℕ) → i < 16 → UsableIn c w (w.memory (Root t i))) where
   -- what it counts on then, where it is outside
   mine_outside : (spot : Spot) (fixed : Option Reply) → is_within (standing_at spot) ≡ false → Mine c u (mutator_at t made kept spot) b.command fixed
@@ -156,7 +158,7 @@ module _ (c : Config) (words : List ℕ) (u w : World) (t made : ℕ) (kept : Ke
     marking = marking_outside c w t kept.phase spot out unmarking mine.seated.below;
     copying = copying_outside c w t kept.cset spot out uncopying mine.seated.below;
     roots = λ i small. subst (λ word. Points w.block word (w.graph.root (t + 1) i)) (sym (root_outside w t kept spot i out)) (roots i small);
-    hands = λ a more is. absurd (none a more is);
+    rooms = λ a x is room. outside_spares t kept spot a x out (none a x is room);
     facts = facts;
   }
 
@@ -304,9 +306,9 @@ module _ (c : Config) (words : List ℕ) (block : Plot) (ghost : Ghost) (g : Gra
       let there = machine_there c words before past machines seats seat below in
       rests_there c words before (of_thread past (seat + 1)) seat there.0 there.0.machine (outside seat there.0 there.1) (λ e. subst (IsResting before) (sym e) still) (known seat there.0 there.1)
 
-  -- nobody has room in hand
-  pub no_hands : Shared c before → AllKnown → AllOutside → (a seat more : ℕ) → block a ≡ Some (hand seat more) → ⊥
-  no_hands shared known outside a seat more here = (all_rest known outside seat (shared.owned.rooms.hands a seat more here).seated).hands a more here
+  -- all room is free words of buffers
+  spares_there : Shared c before → AllKnown → AllOutside → (a seat : ℕ) (x : Block) → block a ≡ Some x → room_of x ≡ Some seat → IsSpare seat x
+  spares_there shared known outside a seat x is room = (all_rest known outside seat (shared.owned.rooms.seated a seat x is room)).rooms a x is room
 
   -- what it has asked for stands in the words
   asked_there : AllKnown → AllOutside → (t : ℕ) → t < c.mutators → IsAsked (view c words) block g.count t (asking t)
@@ -359,7 +361,8 @@ module _ (c : Config) (words : List ℕ) (block : Plot) (ghost : Ghost) (g : Gra
         let there = mutator_there c words before past machines seats known t below in
         let thread = there.4 in
         subst (λ j. IsUsable c (view c words Cset) (view c words Evac) block (view c words (Root j i))) thread.number_is (thread.mine.seated.usable i small);
-    none = no_hands shared known outside;
+    none = λ a seat words is. let other = (spares_there shared known outside a seat (hand seat words) is refl).1 in cc;
+    uncarved = λ a seat words is. let other = (spares_there shared known outside a seat (carved seat words) is refl).1 in cc;
     asked = asked_there known outside;
     heard = heard_there known outside;
     promised_to = promised_to;
@@ -382,6 +385,7 @@ module _ (c : Config) (words : List ℕ) (block : Plot) (ghost : Ghost) (g : Gra
           roots = λ t i below small. subst (λ memory. Points stands.block (memory (Root t i)) (g.root (t + 1) i)) whole (stands.roots t i below small);
           usable = λ t i below small. subst (λ memory. IsUsable c (memory Cset) (memory Evac) stands.block (memory (Root t i))) whole (stands.usable t i below small);
           none = stands.none;
+          uncarved = stands.uncarved;
           asked = λ t below. asked_same (mixed c words image) (image_view c image) stands.block g.count t (asking t) refl refl (λ a. refl) (subst (λ memory. IsAsked memory stands.block g.count t (asking t)) whole (stands.asked t below));
           heard = λ t refs nums below is. subst (λ memory. bit_at (memory Ask) 1 ≡ 1) whole (stands.heard t refs nums below is);
           promised_to = stands.promised_to;
@@ -427,7 +431,7 @@ module _ (c : Config) (words : List ℕ) (block : Plot) (ghost : Ghost) (g : Gra
           let below : k < c.mutators = subst (λ j. j < c.mutators) thread.number_is thread.mine.seated.below in
           let asks_so = mutator_asks k b m there is in
           subst (λ j. IsThread c words then_world (of_thread past (k + 1)) k b (mutator_at j m.made m.kept m.spot)) (sym thread.number_is)
-          (thread_then c words before then_world k m.made m.kept b (paused.asked_then k) (asked_in_it k below) refl (λ i small. paused.stands.roots k i below small) (λ a more. paused.stands.none a k more) paused.stands.unmarking
+          (thread_then c words before then_world k m.made m.kept b (paused.asked_then k) (asked_in_it k below) refl (λ i small. paused.stands.roots k i below small) (λ a. only_spares paused.stands.block paused.stands.none paused.stands.uncarved a k) paused.stands.unmarking
           paused.stands.uncopying (λ i small. paused.stands.usable k i below small) (of_thread past (k + 1)) refl m.spot out (λ refs nums asks_by. crowded_then k below refs nums (asks_so ∙ asks_by))
           (subst (λ y. Answers y (paused.asked_then k)) asks_so (paused.answers k below))
           (subst (λ j. IsThread c words before (of_thread past (k + 1)) k b (mutator_at j m.made m.kept m.spot)) thread.number_is thread))
@@ -437,7 +441,7 @@ module _ (c : Config) (words : List ℕ) (block : Plot) (ghost : Ghost) (g : Gra
           → IsMachine c words before (of_thread past (k + 1)) k b machine → IsMachine c words then_world (of_thread past (k + 1)) k b machine
       machine_then k b machine there is other out facts =
           outside_goes_on c words before then_world (of_thread past (k + 1)) k b machine other out
-          (λ seated. rests_by c then_world k paused.stands.unmarking paused.stands.uncopying (λ a more. paused.stands.none a k more) seated)
+          (λ seated. rests_by c then_world k paused.stands.unmarking paused.stands.uncopying (λ a. only_spares paused.stands.block paused.stands.none paused.stands.uncarved a k) seated)
           (λ m role. mutator_then k b m there (is ∙ role) (ap (λ x. is_within (standing_of x)) (sym role) ∙ out)) facts
 
       -- what the control owes
@@ -456,7 +460,7 @@ module _ (c : Config) (words : List ℕ) (block : Plot) (ghost : Ghost) (g : Gra
           ready = lt-ltb _ _ (some_words c);
           phase_is = refl;
           set_is = refl;
-          facts = rests_by c then_world (control_number c) paused.stands.unmarking paused.stands.uncopying (λ a more. paused.stands.none a (control_number c) more) (omega arith);
+          facts = rests_by c then_world (control_number c) paused.stands.unmarking paused.stands.uncopying (λ a. only_spares paused.stands.block paused.stands.none paused.stands.uncarved a (control_number c)) (omega arith);
           aims = (law.long c image long, λ i below. absurd (omega (arith, below)));
         };
         others = λ k b other there is.

@@ -207,7 +207,7 @@ module _ (c : Config) (words : List ℕ) (block : Plot) (ghost : Ghost) (g : Gra
         let got : ℕ = view c words (units.touch_at c (control_number c) at).word in
         let ready = and_parts _ _ known.ready in
         let step = work_step c u (control_number c) shared at ready.0 (is_off (units.is_ended at) ready.1) known.facts in
-        step_owes (units.touch_at c (control_number c) at) (then_at (Working at) got) (is_word_from c _ (unit_inside c (control_number c) at ready.0))
+        step_owes (units.touch_at c (control_number c) at) (then_at (Working at) got) (is_word_from c _ (unit_inside c (control_number c) at (omega arith) ready.0))
         (step_with c u (control_number c) (units.touch_at c (control_number c) at) _ _ step
         (record {
           number_is = refl;

@@ -1,5 +1,5 @@
 -- The control obeys the handshake.
-use Rattle.std.proofs.Common.{◌≡◌, ℕ, ◌+◌, ◌≤◌, Bool, true, false, refl, arith, inl, inr}
+use Rattle.std.proofs.Common.{◌≡◌, ℕ, ◌+◌, ◌≤◌, Bool, true, false, refl, arith, inl, inr, ◌<◌}
 use Rattle.std.specs.Prelude.{nat_eq, nat_lt, if◌then◌else◌}
 use Rattle.std.proofs.lemmas.Bool.{and_parts}
 use Rattle.heap_words.specs.declared.config.Config.{Config}
@@ -27,6 +27,7 @@ use Rattle.control_rows.specs.Rows.{control_seat, access_with, next_spot, stoppi
 use Rattle.control_rows.specs.Ready.{is_ready}
 use Rattle.step_core.specs.Standing.{control_standing}
 use Rattle.step_core.proofs.Helpers.Stable.{is_off}
+use Rattle.heap_words.specs.Ranges.{seat_count}
 
 -- a choice of two spots at which it stands so
 either : (f : Standing → Bool) (b : Bool) (x y : ControlSpot) → f (control_standing x) ≡ true → f (control_standing y) ≡ true → f (control_standing (if b then x else y)) ≡ true
@@ -45,8 +46,8 @@ unit_free (Ended NoneLeft) = refl
 unit_free _ = refl
 
 -- the access of a unit is of a word of the image
-pub unit_above : (c : Config) (seat : ℕ) (at : UnitSpot) → unit.is_ready c seat at ≡ true → image_start c ≤ table_index (placed c (units.touch_at c seat at))
-unit_above c seat at ready = placed_above c (units.touch_at c seat at) (unit_inside c seat at ready) (unit_image c seat at)
+pub unit_above : (c : Config) (seat : ℕ) (at : UnitSpot) → seat < seat_count c.mutators c.helpers → unit.is_ready c seat at ≡ true → image_start c ≤ table_index (placed c (units.touch_at c seat at))
+unit_above c seat at seated ready = placed_above c (units.touch_at c seat at) (unit_inside c seat at seated ready) (unit_image c seat at)
 
 pub control_obeys : (c : Config) (seat phase cset seen value : ℕ) (spot : ControlSpot) → is_ready c spot ≡ true
     → Obeys c seat (control_standing spot) (access_with c spot value) (λ got. control_standing (next_spot c phase cset seen spot got))
@@ -58,7 +59,7 @@ control_obeys c seat phase cset seen value LookAsked ready = record {
 }
 control_obeys c seat phase cset seen value LookFree ready = record { elsewhere = placed_elsewhere c (touch Free loads) tt refl; goes_on = λ got. either is_free (wants_pause c seen got) (Stopping stop.Raise) LookLeft refl refl }
 control_obeys c seat phase cset seen value (Working at) ready = record {
-  elsewhere = image_elsewhere c (placed c (units.touch_at c (control_seat c) at)) (unit_above c (control_seat c) at (and_parts _ _ ready).0);
+  elsewhere = image_elsewhere c (placed c (units.touch_at c (control_seat c) at)) (unit_above c (control_seat c) at (omega arith) (and_parts _ _ ready).0);
   goes_on = λ got. unit_free (units.next_at c at got);
 }
 control_obeys c seat phase cset seen value (Stopping at) ready =
@@ -78,7 +79,7 @@ stop_counts c value stop.Stopped = inr (record { not_written = inl refl; same = 
 pub control_counts : (c : Config) (value : ℕ) (spot : ControlSpot) → is_ready c spot ≡ true → Counts c false (access_with c spot value) (λ got. false)
 control_counts c value StoreEnd ready = inr (record { not_written = inr (λ e. omega (arith, e)); same = λ got. refl })
 control_counts c value (Working at) ready =
-    inr (record { not_written = inr (image_not_left c (placed c (units.touch_at c (control_seat c) at)) (unit_above c (control_seat c) at (and_parts _ _ ready).0)); same = λ got. refl })
+    inr (record { not_written = inr (image_not_left c (placed c (units.touch_at c (control_seat c) at)) (unit_above c (control_seat c) at (omega arith) (and_parts _ _ ready).0)); same = λ got. refl })
 control_counts c value (Stopping at) ready = stop_counts c value at
 control_counts c value (StoreWord index) ready = inr (record { not_written = inr (image_not_left c (access_with c (StoreWord index) value) (omega arith)); same = λ got. refl })
 control_counts c value Go ready = inr (record { not_written = inr (λ e. omega (arith, e)); same = λ got. refl })

@@ -116,7 +116,7 @@ module _ (c : Config) (phase cset seen value : ℕ) where
   })
   control_keeps_end control.LookFree ready = inr (record { not_written = inl refl; same = λ got. neither (wants_pause c seen got) (control.Stopping stop.Raise) control.LookLeft refl refl })
   control_keeps_end (control.Working at) ready =
-      let above = unit_above c (control_seat c) at (and_parts _ _ ready).0 in
+      let above = unit_above c (control_seat c) at (omega arith) (and_parts _ _ ready).0 in
       inr (record { not_written = inr (λ e. omega (arith, e, above)); same = λ got. unit_goes (units.next_at c at got) })
   control_keeps_end (control.Stopping at) ready = inr (record { not_written = stop_not at; same = λ got. stopping_goes (stop_next c at got) })
   control_keeps_end (control.LoadWord index) ready = inr (record { not_written = inl refl; same = λ got. neither (nat_lt (index + 1) (image_words c)) (control.LoadWord (index + 1)) (control.StoreWord 0) refl refl })

@@ -1,5 +1,5 @@
 -- A helper obeys the handshake, and leaves the count of the mutators and the word of the end as they are.
-use Rattle.std.proofs.Common.{◌≡◌, ◌≢◌, ℕ, ◌≤◌, ◌⊎◌, Bool, true, false, refl, arith, inl, inr}
+use Rattle.std.proofs.Common.{◌≡◌, ◌≢◌, ℕ, ◌≤◌, ◌⊎◌, Bool, true, false, refl, arith, inl, inr, ◌+◌, ◌<◌}
 use Rattle.std.specs.Prelude.{nat_eq, if◌then◌else◌}
 use Rattle.std.proofs.lemmas.Bool.{and_parts}
 use Rattle.heap_words.specs.declared.config.Config.{Config}
@@ -34,7 +34,7 @@ unit_within : (at : UnitSpot) → is_within (help_standing (after_unit at)) ≡ 
 unit_within (Ended unit) = refl
 unit_within _ = refl
 
-module _ (c : Config) (seat : ℕ) where
+module _ (c : Config) (seat : ℕ) (seated : seat < c.mutators + c.helpers) where
   outside_both : (b : Bool) → help_standing (if b then Gone else Entering enter.Raise) ≡ outside
   outside_both true = refl
   outside_both false = refl
@@ -45,7 +45,7 @@ module _ (c : Config) (seat : ℕ) where
 
   -- the access of a unit is of a word of the image
   above : (at : UnitSpot) → spot_fits c seat (Working at) ≡ true → image_start c ≤ table_index (placed c (units.touch_at c seat at))
-  above at fits = unit_above c seat at (and_parts _ _ fits).0
+  above at fits = unit_above c seat at (omega (arith, seated)) (and_parts _ _ fits).0
 
   -- a helper that has not ended obeys
   pub help_obeys : (spot : HelpSpot) → spot_fits c seat spot ≡ true → is_gone spot ≡ false → Obeys c seat (help_standing spot) (placed c (touch_at c seat spot)) (λ got. help_standing (next_spot c spot got))

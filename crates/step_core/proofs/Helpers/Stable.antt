@@ -1,5 +1,5 @@
 -- What holds of helpers and of the control by where they stand: it stays while others step, and outside the heap they rest.
-use Rattle.std.proofs.Common.{◌≡◌, ℕ, ◌+◌, ◌<◌, Bool, true, false, refl, sym, ◌∙◌, subst}
+use Rattle.std.proofs.Common.{◌≡◌, ℕ, ◌+◌, ◌<◌, Bool, true, false, refl, sym, ◌∙◌, subst, arith}
 use Rattle.std.specs.Prelude.{if◌then◌else◌}
 use Rattle.heap_words.specs.declared.config.Config.{Config}
 use Rattle.heap_words.specs.Words.{IsWord, is_image}
@@ -74,7 +74,7 @@ spot_word c seat (Entering enter.Await) below fits = tt
 spot_word c seat (Entering enter.Inside) below fits = tt
 spot_word c seat LoadPhase below fits = tt
 spot_word c seat (LoadSet phase) below fits = tt
-spot_word c seat (Working at) below fits = unit_inside c seat at (and_parts _ _ fits).0
+spot_word c seat (Working at) below fits = unit_inside c seat at (omega (arith, below)) (and_parts _ _ fits).0
 spot_word c seat Leave below fits = below
 spot_word c seat Gone below fits = tt
 

@@ -1,5 +1,5 @@
 -- What the steps of a unit owe, of a helper or of the control: where one begins, goes on and ends.
-use Rattle.std.proofs.Common.{◌≡◌, ◌≢◌, ℕ, ◌+◌, ◌<◌, ◌≤◌, true, false, refl, sym, ◌∙◌, arith}
+use Rattle.std.proofs.Common.{◌≡◌, ◌≢◌, ℕ, ◌+◌, ◌<◌, ◌≤◌, true, false, refl, sym, ap, ◌∙◌, arith}
 use Rattle.std.proofs.lemmas.Bool.{and_parts, eqb-false, eqb-true}
 use Rattle.heap_words.specs.declared.config.Config.{Config}
 use Rattle.heap_words.specs.declared.access.Unit.{Unit}
@@ -33,6 +33,8 @@ use Rattle.heap_world.specs.World.{World, Shared}
 use Rattle.heap_world.specs.Rely.{Rely}
 use Rattle.heap_world.specs.Part.{PartStep}
 use Rattle.step_core.proofs.Control.Due.{due_stays, claimed_due, early_due}
+use Rattle.step_core.proofs.Machines.Ready.{no_hand}
+use Rattle.alloc_buffers.specs.Facts.{OnlySpares}
 use Rattle.step_core.proofs.Machines.Owed.{IsResting, Scans, CanWork}
 
 -- in a phase that is none of 0, 1 and 2 references are updated
@@ -51,6 +53,10 @@ step_with c u seat t some more step own = record {
   others = step.others;
 }
 
+-- room that is free words of a buffer stays so
+spares_on : (c : Config) (u w : World) (seat : ℕ) → Rely c seat u w → OnlySpares u seat → OnlySpares w seat
+spares_on c u w seat rely spares a x is room = spares a x (rely.no_rooms a x is room) room
+
 -- who rests goes on to rest
 pub rests_on : (c : Config) (u w : World) (seat : ℕ) → Rely c seat u w → IsResting u seat → IsResting w seat
 rests_on c u w seat rely rests = record {
@@ -58,13 +64,13 @@ rests_on c u w seat rely rests = record {
   scans_none = rely.marks.scanning ∙ rests.scans_none;
   copies_none = rely.copies.copying ∙ rests.copies_none;
   works_none = rely.copies.working ∙ rests.works_none;
-  hands = λ a words is. rests.hands a words (rely.no_rooms a _ is refl);
+  rooms = spares_on c u w seat rely rests.rooms;
 }
 
 -- what a machine counts on in its unit stays while others step
 pub work_stays : (c : Config) (u w : World) (seat : ℕ) (at : UnitSpot) → Shared c u → Rely c seat u w → CanWork c u seat at → CanWork c w seat at
 work_stays c u w seat (Scanning at) shared rely can =
-    (scanning_steps.stays c u w seat at rely can.0, rely.copies.copying ∙ can.1, rely.copies.working ∙ can.2)
+    (scanning_steps.stays c u w seat at rely can.0, rely.copies.copying ∙ can.1, rely.copies.working ∙ can.2, spares_on c u w seat rely can.3)
 work_stays c u w seat (Evacuating cset at) shared rely can = evacuating_steps.stays c u w seat cset at shared rely can
 work_stays c u w seat (Updating cset at) shared rely can = updating_steps.stays c u w seat cset at shared rely can
 work_stays c u w seat (Ended Worked) shared rely can = rests_on c u w seat rely can
@@ -73,12 +79,12 @@ work_stays c u w seat (Ended NoneLeft) shared rely can = (rests_on c u w seat re
 module _ (c : Config) (u : World) (seat : ℕ) (shared : Shared c u) where
   -- who rests has nothing
   has_nothing : IsResting u seat → HasNothing u seat
-  has_nothing rests = record { copying = rests.copies_none; records_none = rests.records_none; scans_none = rests.scans_none; hands = rests.hands }
+  has_nothing rests = record { copying = rests.copies_none; records_none = rests.records_none; scans_none = rests.scans_none; rooms = rests.rooms }
 
   -- who rests may begin a unit of the phase, which is not 0
   pub work_begins : (phase : ℕ) → seat < seat_count c.mutators c.helpers → phase ≢ 0 → phase ≡ u.memory Phase → IsResting u seat → CanWork c u seat (begins phase (u.memory Cset))
   work_begins phase seated some same rests = by_phase (CanWork c u seat) phase (u.memory Cset)
-      (λ one. (scanning_steps.begins c u seat seated (sym same ∙ eqb-true _ _ one) rests.records_none rests.scans_none rests.hands, rests.copies_none, rests.works_none))
+      (λ one. (scanning_steps.begins c u seat seated (sym same ∙ eqb-true _ _ one) rests.records_none rests.scans_none (no_hand u seat rests.rooms), rests.copies_none, rests.works_none, rests.rooms))
       (λ other two. evacuating_steps.begins c u seat seated (sym same ∙ eqb-true _ _ two) rests.works_none (has_nothing rests))
       (λ other last. updating_steps.begins c u seat seated
       (phase_three _ shared.phased.phase_is (λ none. some (same ∙ none)) (λ one. eqb-false _ _ other (same ∙ one)) (λ two. eqb-false _ _ last (same ∙ two))) rests.works_none (has_nothing rests))
@@ -105,9 +111,9 @@ module _ (c : Config) (u : World) (seat : ℕ) (shared : Shared c u) where
 
   -- where a scan goes on, or has ended
   scans_then : (w : World) (at : ScanSpot) → Scans c w seat at → CanWork c w seat (scanned at)
-  scans_then w (scan.Ended Worked) can = record { records_none = can.0.records_none; scans_none = can.0.scanning; copies_none = can.1; works_none = can.2; hands = can.0.hands }
+  scans_then w (scan.Ended Worked) can = record { records_none = can.0.records_none; scans_none = can.0.scanning; copies_none = can.1; works_none = can.2; rooms = can.3 }
   scans_then w (scan.Ended NoneLeft) can = (
-    record { records_none = can.0.records_none; scans_none = can.0.scanning; copies_none = can.1; works_none = can.2; hands = can.0.hands },
+    record { records_none = can.0.records_none; scans_none = can.0.scanning; copies_none = can.1; works_none = can.2; rooms = can.3 },
     early_due c w.memory (let on = can.0.phase in omega (arith, on)),
   )
   scans_then w _ can = can
@@ -119,7 +125,7 @@ module _ (c : Config) (u : World) (seat : ℕ) (shared : Shared c u) where
     scans_none = can.facts.scans_none;
     copies_none = can.facts.copying;
     works_none = can.working;
-    hands = can.facts.hands;
+    rooms = can.facts.rooms;
   }
 
   evacuates_then : (w : World) (cset : ℕ) (at : EvacSpot) → (at ≡ evac.Ended NoneLeft → c.regions ≤ w.memory Claim) → CanEvacuate c w seat cset at → CanWork c w seat (evacuated cset at)
@@ -129,7 +135,7 @@ module _ (c : Config) (u : World) (seat : ℕ) (shared : Shared c u) where
 
   -- and an updating
   updated_rests : (w : World) (cset : ℕ) (unit : Unit) → CanUpdate c w seat cset (update.Ended unit) → IsResting w seat
-  updated_rests w cset unit can = record { records_none = can.records_none; scans_none = can.scanning; copies_none = can.copying; works_none = can.working; hands = can.hands }
+  updated_rests w cset unit can = record { records_none = can.records_none; scans_none = can.scanning; copies_none = can.copying; works_none = can.working; rooms = can.rooms }
 
   updates_then : (w : World) (cset : ℕ) (at : UpdateSpot) → (at ≡ update.Ended NoneLeft → c.regions ≤ w.memory Claim) → CanUpdate c w seat cset at → CanWork c w seat (updated cset at)
   updates_then w cset (update.Ended Worked) left can = updated_rests w cset Worked can
@@ -143,7 +149,7 @@ module _ (c : Config) (u : World) (seat : ℕ) (shared : Shared c u) where
   pub work_step : (at : UnitSpot) → is_ready c seat at ≡ true → is_ended at ≡ false → CanWork c u seat at → WorkStep at
   work_step (Scanning at) ready going can =
       let step = scanning_steps.each c u seat at (not_ended (scans.is_ended at) (and_parts _ _ ready).1) shared can.0 in
-      step_with c u seat (scans.touch_at c at) _ _ step (scans_then step.world _ (step.own.0, step.own.1.copying ∙ can.1, step.own.1.working ∙ can.2))
+      step_with c u seat (scans.touch_at c at) _ _ step (scans_then step.world _ (step.own.0, step.own.1.copying ∙ can.1, step.own.1.working ∙ can.2, λ a x is. can.3 a x (ap (λ plot. plot a) (sym step.own.2) ∙ is)))
   work_step (Evacuating cset at) ready going can =
       let on = not_ended (evacs.is_ended at) (and_parts _ _ ready).1 in
       let step = evacuating_steps.each c u seat cset at on shared can in

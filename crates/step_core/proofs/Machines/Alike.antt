@@ -2,8 +2,9 @@
 use Rattle.std.proofs.Common.{◌≡◌, ◌≢◌, ℕ, ◌+◌, Bool, true, false, refl, sym, subst}
 use Rattle.std.specs.Int.{bit_at}
 use Rattle.heap_words.specs.declared.config.Config.{Config}
-use Rattle.heap_words.specs.Words.{Word, Pause, Left, End, Phase, Cset, Evac, Claim, Ask, State, Top, Tams, Limit, Current, Root, Count, Buffer, Wait, Answer, Grey, Heap, write}
+use Rattle.heap_words.specs.Words.{Word, Pause, Left, End, Phase, Cset, Evac, Claim, Ask, Free, State, Top, Tams, Limit, Current, Root, Count, Buffer, Wait, Answer, Grey, Heap, write}
 use Rattle.steps_base.specs.Touch.{touch, loads, stores}
+use Rattle.regions.specs.Sets.{IsIn}
 use Rattle.heap_world.specs.World.{World, IsCollected, TargetIn, Shared}
 use Rattle.heap_words.specs.Counter.{IsQuiet}
 use Rattle.shen_graph.specs.declared.name.Name.{Name}
@@ -19,6 +20,7 @@ pub record AreAlike (u w : Word → ℕ) : Type 0 where
   pub evac : w Evac ≡ u Evac
   pub claim : w Claim ≡ u Claim
   pub ask : w Ask ≡ u Ask
+  pub free : w Free ≡ u Free
   pub tops : (r : ℕ) → w (Top r) ≡ u (Top r)
   pub tams : (r : ℕ) → w (Tams r) ≡ u (Tams r)
   pub limits : (r : ℕ) → w (Limit r) ≡ u (Limit r)
@@ -47,6 +49,7 @@ alike_written memory Pause value is = record {
   evac = refl;
   claim = refl;
   ask = refl;
+  free = refl;
   tops = λ r. refl;
   tams = λ r. refl;
   limits = λ r. refl;
@@ -65,6 +68,7 @@ alike_written memory Left value is = record {
   evac = refl;
   claim = refl;
   ask = refl;
+  free = refl;
   tops = λ r. refl;
   tams = λ r. refl;
   limits = λ r. refl;
@@ -83,6 +87,7 @@ alike_written memory End value is = record {
   evac = refl;
   claim = refl;
   ask = refl;
+  free = refl;
   tops = λ r. refl;
   tams = λ r. refl;
   limits = λ r. refl;
@@ -101,6 +106,7 @@ alike_written memory (State other) value is = record {
   evac = refl;
   claim = refl;
   ask = refl;
+  free = refl;
   tops = λ r. refl;
   tams = λ r. refl;
   limits = λ r. refl;
@@ -152,6 +158,12 @@ module _ (c : Config) (u : World) (memory : Word → ℕ) (seat : ℕ) (alike : 
     no_promises = λ a words is. is;
     promise_words = λ a words k is below. alike.heap (a + k);
     current = alike.currents seat;
+    opens = λ r is. record {
+      within = is.within;
+      in_use = λ bit. is.in_use (subst (λ free. IsIn free r) alike.free bit);
+      nobodys = is.nobodys;
+      outside = λ inside. is.outside (subst (λ set. IsIn set r) alike.cset inside);
+    };
     owners = λ r is. is;
     tops = λ r is. alike.tops r;
     root_words = λ i. alike.roots seat i;

@@ -15,7 +15,8 @@ use Rattle.shen_graph.specs.Reach.{IsReach, size}
 use Rattle.shen_graph.specs.History.{Entry, after, EachIsLegal, of_thread}
 use Rattle.mutator.specs.Orders.{is_valid}
 use Rattle.mutator.specs.Rows.{Mutating}
-use Rattle.heap_world.specs.World.{Ghost, World, Plot, hand, Shared}
+use Rattle.heap_world.specs.World.{Ghost, World, Block, Plot, room_of, Shared}
+use Rattle.alloc_buffers.specs.Facts.{IsSpare, OnlySpares}
 pub use Rattle.heap_world.specs.Asking.{PromisedToMutators}
 use Rattle.heap_world.specs.Change.{IsDue}
 use Rattle.heap_world.specs.Roots.{HasNoMore}
@@ -68,20 +69,20 @@ pub record IsThread (c : Config) (words : List ℕ) (w : World) (entries : List 
   pub short : w.memory (Answer number) ≡ 1 → fixed ≡ None → IsShort c w.memory w.graph number (words_asked (Some a.command))
   pub entries_are : entries ≡ a.calls ++ entries_of number a.command fixed
 
--- the machine of a seat has no room in hand, and neither marks nor copies, nor does it work on a unit
+-- the machine of a seat has no room but free words of its buffer, and neither marks nor copies, nor does it work on a unit
 pub record Rests (ghost : Ghost) (block : Plot) (seat : ℕ) : Type 0 where
   pub records_none : ghost.recording seat ≡ None
   pub scans_none : ghost.scanning seat ≡ None
   pub copies_none : ghost.copying seat ≡ false
   pub works_none : ghost.working seat ≡ None
-  pub hands : (a words : ℕ) → block a ≡ Some (hand seat words) → ⊥
+  pub rooms : (a : ℕ) (x : Block) → block a ≡ Some x → room_of x ≡ Some seat → IsSpare seat x
 
 abbrev pub IsResting : World → ℕ → Type 0
 IsResting w seat = Rests w.ghost w.block seat
 
--- it scans a unit of marking, and neither copies nor works on a unit of evacuation
+-- it scans a unit of marking, neither copies nor works on a unit of evacuation, and has no room but free words of its buffer
 abbrev pub Scans : Config → World → ℕ → ScanSpot → Type 0
-Scans c w seat at = CanScan c w seat at × (w.ghost.copying seat ≡ false) × (w.ghost.working seat ≡ None)
+Scans c w seat at = CanScan c w seat at × (w.ghost.copying seat ≡ false) × (w.ghost.working seat ≡ None) × OnlySpares w seat
 
 -- What who works on a unit counts on by where the work stands: it can go on; or once the unit has ended it rests, and where none was left
 -- a pause is due.

@@ -24,6 +24,7 @@ use Rattle.heap_world.specs.World.{World, hand, promised, Plot, Points, IsPlotte
 use Rattle.step_core.proofs.Machines.Stepped.{IsMaking, IsSeatedIn, Mine}
 use Rattle.step_core.proofs.Mutators.Spots.{mutator_at}
 use Rattle.heap_world.proofs.Pointing.{piece_word, piece_small}
+use Rattle.alloc_buffers.specs.Facts.{OnlySpares}
 
 -- an access can be made whose word is one of the table and whose number is a word
 pub ready_of : (b d : Bool) → b ≡ true → d ≡ true → ((b && d) && true) ≡ true
@@ -51,18 +52,22 @@ seated_waiting c u seat made waiting seated = record { below = seated.below; cou
 leave_ready : (c : Config) (seat made : ℕ) (kept : Kept) (reply : Reply) → seat < c.mutators → is_ready c seat made kept (Leave reply) ≡ true
 leave_ready c seat made kept reply below = grind (arith, nat_tests)
 
+-- who has no room but free words of its buffer has none in hand
+pub no_hand : (w : World) (seat : ℕ) → OnlySpares w seat → (a words : ℕ) → w.block a ≡ Some (hand seat words) → ⊥
+no_hand w seat rooms a words is = let other = (rooms a (hand seat words) is refl).1 in cc
+
 -- with its reply settled, a mutator has only to leave
 pub leaving : (c : Config) (w : World) (seat made : ℕ) (kept : Kept) (command : Command) (r : Reply) → IsSeatedIn c w seat made false
     → (w.ghost.recording seat ≡ None) × (w.ghost.scanning seat ≡ None) × (w.ghost.copying seat ≡ false) × (w.ghost.working seat ≡ None)
-    → ((i : ℕ) → i < 16 → Points w.block (w.memory (Root seat i)) (w.graph.root (seat + 1) i)) → ((a words : ℕ) → w.block a ≡ Some (hand seat words) → ⊥)
+    → ((i : ℕ) → i < 16 → Points w.block (w.memory (Root seat i)) (w.graph.root (seat + 1) i)) → OnlySpares w seat
     → Mine c w (mutator_at seat made kept (Leave r)) command (Some r)
-leaving c w seat made kept command r seated idle roots hands = record {
+leaving c w seat made kept command r seated idle roots rooms = record {
   seated = seated;
   ready = leave_ready c seat made kept r seated.below;
   marking = record { records = idle.0; scans = idle.1; phase_is = λ no. absurd (cc (no)) };
   copying = record { copies_is = idle.2; works_none = idle.3; set_is = λ no. absurd (cc (no)) };
   roots = roots;
-  hands = hands;
+  rooms = rooms;
   facts = refl;
 }
 

@@ -2,7 +2,7 @@
 use Rattle.std.proofs.Common.{◌≡◌, ◌≢◌, ℕ, ◌+◌, ◌<◌, ◌⊎◌, inr, ⊎_elim, Bool, true, false, List, [], Option, Some, None, refl, sym, ap, ◌∙◌, subst, arith}
 use Rattle.std.specs.Prelude.{◌==◌, ◌&&◌, nat_lt, get_or, length, slice_get, if◌then◌else◌}
 use Rattle.std.proofs.Math.Bool.{Bool-set}
-use Rattle.std.proofs.lemmas.Bool.{and_from, and_parts, lt-ltb}
+use Rattle.std.proofs.lemmas.Bool.{and_from, and_parts, lt-ltb, ltb-true}
 use Rattle.std.proofs.lemmas.Bool.Decides.{nat_tests}
 use Rattle.std.proofs.lemmas.Option.{slice_get-get_or}
 use Rattle.std.proofs.Math.Path.{fun_ext}
@@ -36,7 +36,7 @@ use Rattle.heap_words.specs.declared.access.Took.TheVariants.{Done}
 use Rattle.heap_words.proofs.Stores.{is_word_from}
 use Rattle.steps_base.specs.Touch.{Touch, Form, touch, placed, touched}
 use Rattle.mutator.specs.Fit.{IsReady}
-use Rattle.heap_world.specs.World.{World, hand, Points, UsableIn, AreUsable, Shared}
+use Rattle.heap_world.specs.World.{World, Points, UsableIn, AreUsable, Shared}
 use Rattle.heap_world.specs.Asking.{IsAsked, nothing}
 use Rattle.heap_world.specs.Represents.{NobodyMarks, NobodyCopies}
 use Rattle.heap_world.specs.Rely.{Rely}
@@ -56,7 +56,7 @@ use Rattle.step_core.proofs.Mutators.Ordered.{order_word}
 use Rattle.step_core.proofs.Mutators.Outside.{outside_touch}
 use Rattle.step_core.proofs.Helpers.GoOn.{helps_on, goes_on}
 use Rattle.step_core.proofs.Machines.FitProps.{whole_is_prop, unit_is_prop, helpers_is_prop, part_is_prop, ends_is_prop}
-use Rattle.step_core.proofs.Mutators.Within.{none_outside, records_outside, copies_outside}
+use Rattle.step_core.proofs.Mutators.Within.{spares_outside, records_outside, copies_outside}
 use Rattle.step_core.proofs.Handshake.Mutator.{has_not_ended, mutator_obeys, mutator_counts, ready_fits, ready_word}
 use Rattle.step_core.proofs.Handshake.Helper.{help_obeys, help_counts, help_not_end}
 use Rattle.step_core.proofs.Handshake.Control.{control_obeys, control_counts}
@@ -64,6 +64,7 @@ use Rattle.step_core.proofs.Handshake.EndWord.{not_end, control_keeps_end}
 use Rattle.step_core.proofs.Mutators.Spots.{mutator_at}
 use Rattle.step_core.proofs.Machines.Ready.{rest_ready}
 use Rattle.step_core.proofs.Machines.Stable.{mine_stays}
+use Rattle.alloc_buffers.specs.Facts.{OnlySpares}
 
 -- what counts of answers and of the graph is the same in two worlds
 pub record CountsTheSame (u w : World) : Type 0 where
@@ -188,7 +189,7 @@ rests_there c words w entries k b (mutating m) out still is =
       scans_none = is.mine.marking.scans;
       copies_none = is.mine.copying.copies_is ∙ copies_outside m.spot apart;
       works_none = is.mine.copying.works_none;
-      hands = λ a more here. none_outside m.kept m.spot a more apart (is.mine.hands a more here);
+      rooms = λ a x here room. spares_outside m.seat m.kept m.spot a x apart (is.mine.rooms a x here room);
     })
 rests_there c words w entries k b (helping h) out still is = rests_outside c w k h.spot (out (λ e. (let below = is.below in omega (arith, below, e)))) is.facts
 rests_there c words w entries k b (controlling h) out still is = still is.number_is
@@ -209,7 +210,7 @@ outside_goes_on c words u w entries k b (controlling h) other out rests threads 
 
 -- what a mutator counts on that takes commands
 rest_mine : (c : Config) (w : World) (seat made : ℕ) (kept : Kept) (command : Command) (spot : Spot) → takes_commands spot ≡ true → seat < c.mutators → w.graph.count (seat + 1) ≡ made
-    → ((i : ℕ) → i < 16 → Points w.block (w.memory (Root seat i)) (w.graph.root (seat + 1) i)) → ((a words : ℕ) → w.block a ≡ Some (hand seat words) → ⊥)
+    → ((i : ℕ) → i < 16 → Points w.block (w.memory (Root seat i)) (w.graph.root (seat + 1) i)) → OnlySpares w seat
     → IsAsked w.memory w.block w.graph.count seat nothing → HasMarkingBy w seat None kept.phase false → HasCopyingBy w seat false kept.cset false → ((i : ℕ) → i < 16 → UsableIn c w (w.memory (Root seat i))) → Mine c w (mutator_at seat made kept spot) command None
 rest_mine c w seat made kept command Rest rest below counted roots none asked marking copying usable = record {
   seated = record { below = below; counted = counted; usable = usable; unasked = λ no. asked };
@@ -217,7 +218,7 @@ rest_mine c w seat made kept command Rest rest below counted roots none asked ma
   marking = marking;
   copying = copying;
   roots = roots;
-  hands = none;
+  rooms = none;
   facts = refl;
 }
 rest_mine c w seat made kept command (Ended r) rest below counted roots none asked marking copying usable = record {
@@ -226,15 +227,15 @@ rest_mine c w seat made kept command (Ended r) rest below counted roots none ask
   marking = marking;
   copying = copying;
   roots = roots;
-  hands = none;
+  rooms = none;
   facts = refl;
 }
 rest_mine c w seat made kept command _ rest below counted roots none asked marking copying usable = absurd cc
 
--- A world in which nobody has room in hand, waits, marks or copies.
+-- A world in which nobody has room but free words of its buffer, and nobody waits, marks or copies.
 pub record IsAtRest (c : Config) (w : World) : Type 0 where
   pub roots : (t i : ℕ) → t < c.mutators → i < 16 → Points w.block (w.memory (Root t i)) (w.graph.root (t + 1) i)
-  pub none : (a seat words : ℕ) → w.block a ≡ Some (hand seat words) → ⊥
+  pub spares : (seat : ℕ) → OnlySpares w seat
   pub asked : (t : ℕ) → t < c.mutators → IsAsked w.memory w.block w.graph.count t nothing
   pub unmarking : NobodyMarks c w.ghost
   pub uncopying : NobodyCopies c w.ghost
@@ -250,13 +251,13 @@ uncopying_by c w seat loaded uncopying below =
     record { copies_is = uncopying.copies_none seat (omega (arith, below)); works_none = uncopying.works_none seat (omega (arith, below)); set_is = λ no. absurd (cc (no)) }
 
 -- any machine rests there
-pub rests_by : (c : Config) (w : World) (seat : ℕ) → NobodyMarks c w.ghost → NobodyCopies c w.ghost → ((a words : ℕ) → w.block a ≡ Some (hand seat words) → ⊥) → seat < seat_count c.mutators c.helpers → IsResting w seat
+pub rests_by : (c : Config) (w : World) (seat : ℕ) → NobodyMarks c w.ghost → NobodyCopies c w.ghost → OnlySpares w seat → seat < seat_count c.mutators c.helpers → IsResting w seat
 rests_by c w seat unmarking uncopying none seated = record {
   records_none = unmarking.records_none seat seated;
   scans_none = unmarking.scans_none seat seated;
   copies_none = uncopying.copies_none seat seated;
   works_none = uncopying.works_none seat seated;
-  hands = none;
+  rooms = none;
 }
 
 -- an idle machine that has ended no call, in such a world
@@ -270,7 +271,7 @@ machine_begins c words w k b (mutating m) whole number idle calls valid rests =
       number_is = number.0;
       valid = valid;
       mine = rest_mine c w m.seat m.made m.kept b.command m.spot idle.1 below (subst (λ j. w.graph.count (j + 1) ≡ m.made) (sym number.0) idle.0)
-          (λ i small. rests.roots m.seat i below small) (λ a words is. rests.none a m.seat words is) (rests.asked m.seat below) (unmarking_by c w m.seat m.kept.phase rests.unmarking below)
+          (λ i small. rests.roots m.seat i below small) (rests.spares m.seat) (rests.asked m.seat below) (unmarking_by c w m.seat m.kept.phase rests.unmarking below)
           (uncopying_by c w m.seat m.kept.cset rests.uncopying below) (λ i small. rests.usable m.seat i below small);
       seen = record {
         null = λ now. ap (λ memory. memory (Answer k)) whole ∙ now;
@@ -283,7 +284,7 @@ machine_begins c words w k b (mutating m) whole number idle calls valid rests =
 machine_begins c words w k b (helping h) whole number idle calls valid rests = record {
   number_is = number.0;
   ready = and_from _ _ (lt-ltb _ _ (subst (λ j. j < c.mutators + c.helpers) (sym number.0) number.2)) (subst (λ spot. spot_fits c h.seat spot ≡ true) (sym idle) refl);
-  facts = subst (λ spot. HelpFacts c w k spot) (sym idle) (rests_by c w k rests.unmarking rests.uncopying (λ a more is. rests.none a k more is) (let below = number.2 in omega (arith, below)));
+  facts = subst (λ spot. HelpFacts c w k spot) (sym idle) (rests_by c w k rests.unmarking rests.uncopying (rests.spares k) (let below = number.2 in omega (arith, below)));
   least = number.1;
   below = number.2;
 }
@@ -292,7 +293,7 @@ machine_begins c words w k b (controlling h) whole number idle calls valid rests
   ready = subst (λ spot. is_ready c spot ≡ true) (sym idle.0) refl;
   phase_is = idle.2;
   set_is = idle.3;
-  facts = subst (λ spot. ControlFacts c w k spot) (sym idle.0) (rests_by c w k rests.unmarking rests.uncopying (λ a more is. rests.none a k more is) (omega (arith, number)));
+  facts = subst (λ spot. ControlFacts c w k spot) (sym idle.0) (rests_by c w k rests.unmarking rests.uncopying (rests.spares k) (omega (arith, number)));
   aims = subst (λ spot. IsAim c words spot h.image) (sym idle.0) tt;
 }
 
@@ -336,20 +337,20 @@ module _ (change : Change) (c : Config) (number : ℕ) (order : Order) where
       (mutator_obeys c m order takes can)
   machine_obeys (helping h) has takes can =
       subst (λ seat. Obeys c seat (standing_of (helping h)) (plan_of c order (helping h)) (λ got. standing_of (machine_after change c order got (helping h)))) has.0
-      (help_obeys c h.seat h.spot (and_parts _ _ can).1 (is_off (help.is_gone h.spot) (and_parts _ _ takes).1))
+      (help_obeys c h.seat (ltb-true _ _ (and_parts _ _ can).0) h.spot (and_parts _ _ can).1 (is_off (help.is_gone h.spot) (and_parts _ _ takes).1))
   machine_obeys (controlling k) has takes can = control_obeys c number k.phase k.cset k.seen (word_stored k.spot k.image) k.spot can
 
   pub machine_counts : (machine : Machine) → takes_of machine order ≡ true → CanGo c machine
       → Counts c (is_left_of machine) (plan_of c order machine) (λ got. is_left_of (machine_after change c order got machine))
   machine_counts (mutating m) takes can = mutator_counts c m order takes can
-  machine_counts (helping h) takes can = help_counts c h.seat h.spot (and_parts _ _ can).1
+  machine_counts (helping h) takes can = help_counts c h.seat (ltb-true _ _ (and_parts _ _ can).0) h.spot (and_parts _ _ can).1
   machine_counts (controlling k) takes can = control_counts c (word_stored k.spot k.image) k.spot can
 
 -- a step of the control writes the word of the end where it ends, and no other does
 pub machine_keeps_end : (change : Change) (c : Config) (given : Order) (machine : Machine) → takes_of machine given ≡ true → CanGo c machine
     → KeepsEnd c (has_ended_of machine) (plan_of c given machine) (λ got. has_ended_of (machine_after change c given got machine))
 machine_keeps_end change c given (mutating m) takes can = inr (record { not_written = not_end c m given m.spot takes (ready_fits c m can) (ready_word c m can); same = λ got. refl })
-machine_keeps_end change c given (helping h) takes can = inr (record { not_written = help_not_end c h.seat h.spot (and_parts _ _ can).1; same = λ got. refl })
+machine_keeps_end change c given (helping h) takes can = inr (record { not_written = help_not_end c h.seat (ltb-true _ _ (and_parts _ _ can).0) h.spot (and_parts _ _ can).1; same = λ got. refl })
 machine_keeps_end change c given (controlling k) takes can = control_keeps_end c k.phase k.cset k.seen (word_stored k.spot k.image) k.spot can
 
 -- who is told nothing goes on, unless it has ended

@@ -1,5 +1,5 @@
 -- What holds of a machine says what the ghost state has of its seat, and what a mutator may use.
-use Rattle.std.proofs.Common.{◌≡◌, ℕ, ◌<◌, true, false, List, Option, Some, None, inl, inr, refl, sym, ◌∙◌, subst, ◌⊎◌, ⊎_elim, length, ap, arith}
+use Rattle.std.proofs.Common.{◌≡◌, ℕ, ◌+◌, ◌<◌, true, false, List, Option, Some, None, inl, inr, refl, sym, ◌∙◌, subst, ◌⊎◌, ⊎_elim, length, ap, arith}
 use Rattle.std.proofs.lemmas.Option.{same_Some, none-some}
 use Rattle.heap_words.specs.declared.config.Config.{Config}
 use Rattle.heap_words.specs.Words.{Answer}
@@ -10,12 +10,13 @@ use Rattle.heap_words.specs.declared.access.Unit.{Unit}
 use Rattle.heap_words.specs.declared.access.Unit.TheVariants.{Worked, NoneLeft}
 use Rattle.unit_part.specs.declared.spot.UnitSpot.{UnitSpot}
 use Rattle.unit_part.specs.declared.spot.UnitSpot.TheVariants.{Scanning, Evacuating, Updating, Ended}
-use Rattle.alloc_buffers.specs.Facts.{HasLess, TakeFacts}
+use Rattle.alloc_buffers.specs.Facts.{HasLess, IsSpare, TakeFacts}
+use Rattle.heap_words.specs.Encoding.{next_in, end_in}
 use Rattle.alloc_buffers.specs.declared.spot.TakeSpot.{TakeSpot}
 use Rattle.alloc_buffers.specs.declared.spot.TakeSpot.TheVariants.{LoadFree}
 use Rattle.load_barrier.specs.declared.spot.ResolveSpot.{ResolveSpot}
 use Rattle.load_barrier.specs.declared.spot.ResolveSpot.TheVariants as resolve
-use Rattle.move_steps.specs.Resolving.Facts.{ResolveFacts, CanResolve, IsRoomAt, CopyFacts}
+use Rattle.move_steps.specs.Resolving.Facts.{ResolveFacts, CanResolve, CopyFacts}
 use Rattle.load_barrier.specs.declared.copying.CopySpot.{CopySpot}
 use Rattle.load_barrier.specs.declared.copying.CopySpot.TheVariants as copy
 use Rattle.load_barrier.specs.declared.evac_spot.EvacSpot.{EvacSpot}
@@ -48,47 +49,56 @@ use Rattle.helper.specs.declared.spot.HelpSpot.{HelpSpot}
 use Rattle.helper.specs.declared.spot.HelpSpot.TheVariants as help
 use Rattle.control_rows.specs.declared.spot.ControlSpot.{ControlSpot}
 use Rattle.control_rows.specs.declared.spot.ControlSpot.TheVariants as control
-use Rattle.heap_world.specs.World.{World, Body, body_words, hand, UsableIn}
+use Rattle.heap_world.specs.World.{World, Block, Body, body_words, hand, room_of, UsableIn}
 use Rattle.step_core.specs.Actor.{Machine, mutating, helping, controlling, Actor}
-use Rattle.step_core.specs.Seats.{copies_in, IsRoomIn, help_unit, control_unit, unit_scan, unit_copies, unit_region, UnitRoom, take_looks, resolve_looks, evac_looks, unit_looks, make_looks, call_looks, Carried, resolve_carries, evac_carries, unit_carries, call_carries, StandsThere, IsInSeat, before_record, before_resolve, works_on, AsksNothing, MakesObject, IsServed, IsOfRoots, IsOfField, IsOfLoaded, IsOfOverwritten, IsOfCall, is_answered}
+use Rattle.step_core.specs.Seats.{copies_in, IsRoomIn, help_unit, control_unit, unit_scan, unit_copies, unit_region, UnitRoom, resolve_hand, evac_hand, unit_hand, make_hand, call_hand, Taking, resolve_taking, evac_taking, unit_taking, make_taking, call_taking, take_looks, looks_in, Carried, resolve_carries, evac_carries, unit_carries, call_carries, StandsThere, IsInSeat, before_record, before_resolve, works_on, AsksNothing, MakesObject, IsServed, IsOfRoots, IsOfField, IsOfLoaded, IsOfOverwritten, IsOfCall, is_answered}
 use Rattle.step_core.proofs.Machines.Owed.{IsResting, CanWork, HelpFacts, ControlFacts, IsMachine}
 use Rattle.step_core.proofs.Machines.Stepped.{HasObject, FieldFacts, NumberFacts, ShowFacts, RecordFacts, LoadedFacts, MakeFacts, IsResolving, IsMaking, IsPolling, IsAnswered, WaitFacts, SpotFacts, Mine, HasTaken, IsCas, IsCopy, IsDrop, LoadFacts}
-use Rattle.step_core.specs.Own.{IsInMaking, IsInHand}
 
 -- What the ghost state and the pieces have of a seat that works on a unit of evacuation.
 record OnUnit (c : Config) (w : World) (seat : ℕ) (at : EvacSpot) : Type 0 where
   records : w.ghost.recording seat ≡ None
   scans : w.ghost.scanning seat ≡ None
   copies : w.ghost.copying seat ≡ copies_in at
-  hands : (a words : ℕ) → w.block a ≡ Some (hand seat words) → IsRoomIn at a
-  lacks : (words : ℕ) → evac_looks at ≡ Some words → HasLess c w.memory seat words
+  rooms : (a : ℕ) (x : Block) → w.block a ≡ Some x → room_of x ≡ Some seat → IsRoomIn seat at a x
+  takes : (t : Taking) → evac_taking at ≡ Some t → TakeFacts c w seat t.words t.take
   carries : (x : Carried) → evac_carries at ≡ Some x → StandsThere c w x
-  holds : (a words : ℕ) → IsRoomIn at a → (more : ℕ) × (w.block a ≡ Some (hand seat more))
+  holds : (a : ℕ) → evac_hand at ≡ Some a → (words : ℕ) × (w.block a ≡ Some (hand seat words))
 
 -- who copies has its room in hand
-copy_holds : (w : World) (seat a to : ℕ) (b : Body) (at : CopySpot) → CopyFacts w seat a to b at → w.block to ≡ Some (hand seat (body_words b))
-copy_holds w seat a to b (copy.LoadWord words index) facts = facts.3.room
-copy_holds w seat a to b (copy.StoreWord words index found) facts = facts.3.room
-copy_holds w seat a to b copy.StoreHeader facts = facts.room
-copy_holds w seat a to b copy.Publish facts = facts.0.room
-copy_holds w seat a to b (copy.GiveBack answer) facts = facts.0
+copy_holds : (c : Config) (w : World) (seat a to end : ℕ) (b : Body) (at : CopySpot) → CopyFacts c w seat a to end b at → w.block to ≡ Some (hand seat (body_words b))
+copy_holds c w seat a to end b (copy.LoadWord words index) facts = facts.3.taken.here
+copy_holds c w seat a to end b (copy.StoreWord words index found) facts = facts.3.taken.here
+copy_holds c w seat a to end b copy.StoreHeader facts = facts.taken.here
+copy_holds c w seat a to end b copy.Publish facts = facts.0.taken.here
+copy_holds c w seat a to end b (copy.GiveBack answer) facts = facts.0.here
 
-resolve_holds : (c : Config) (w : World) (seat address : ℕ) (at : ResolveSpot) → ResolveFacts c w seat address at → (a : ℕ) → IsRoomAt at a → (more : ℕ) × (w.block a ≡ Some (hand seat more))
-resolve_holds c w seat address (resolve.Copying to at) facts a is = (body_words facts.0, ap (λ x. w.block x) is ∙ copy_holds w seat address to facts.0 at facts.2)
-resolve_holds c w seat address _ facts a is = absurd is
+resolve_holds : (c : Config) (w : World) (seat address : ℕ) (at : ResolveSpot) → ResolveFacts c w seat address at → (a : ℕ) → resolve_hand at ≡ Some a → (words : ℕ) × (w.block a ≡ Some (hand seat words))
+resolve_holds c w seat address (resolve.Copying to end at) facts a is =
+    (body_words facts.0, ap (λ x. w.block x) (sym (same_Some to a is)) ∙ copy_holds c w seat address to end facts.0 at facts.2)
+resolve_holds c w seat address _ facts a is = absurd cc
 
--- who takes room and is about to look for a free region lacks room in its current one, also where it resolves an address
-take_lacks : (c : Config) (w : World) (seat wanted words : ℕ) (take : TakeSpot) → take_looks words take ≡ Some wanted → TakeFacts c w seat words take → HasLess c w.memory seat wanted
-take_lacks c w seat wanted words LoadFree looks facts = subst (HasLess c w.memory seat) (same_Some words wanted looks) facts
+-- who takes room has what its taking counts on, also where it resolves an address
+taking_facts : (c : Config) (w : World) (seat words : ℕ) (take : TakeSpot) (t : Taking) → Some (record { words = words; take = take }) ≡ Some t → TakeFacts c w seat words take → TakeFacts c w seat t.words t.take
+taking_facts c w seat words take t same facts = subst (λ (x : Taking). TakeFacts c w seat x.words x.take) (same_Some _ t same) facts
+
+resolve_takes : (c : Config) (w : World) (seat a : ℕ) (at : ResolveSpot) (t : Taking) → resolve_taking at ≡ Some t → ResolveFacts c w seat a at → TakeFacts c w seat t.words t.take
+resolve_takes c w seat a (resolve.Taking words take) t takes facts = taking_facts c w seat words take t takes facts.2.1.facts
+resolve_takes c w seat a _ t takes facts = absurd cc
+
+-- and who is about to look for a free region has a buffer with fewer free words than it wants, or none
+take_lacks : (c : Config) (w : World) (seat wanted words : ℕ) (take : TakeSpot) → take_looks words take ≡ Some wanted → TakeFacts c w seat words take → HasLess w.memory seat wanted
+take_lacks c w seat wanted words (LoadFree buffer shared) looks facts =
+    subst (HasLess w.memory seat) (same_Some words wanted looks) (subst (λ word. end_in word < next_in word + words) (sym facts.is) facts.less)
 take_lacks c w seat wanted words _ looks facts = absurd cc
 
-resolve_lacks : (c : Config) (w : World) (seat a wanted : ℕ) (at : ResolveSpot) → resolve_looks at ≡ Some wanted → ResolveFacts c w seat a at → HasLess c w.memory seat wanted
-resolve_lacks c w seat a wanted (resolve.Taking words take) looks facts = take_lacks c w seat wanted words take looks facts.2.1.facts
-resolve_lacks c w seat a wanted _ looks facts = absurd cc
+pub lacks : {c : Config} (w : World) (seat words : ℕ) (taking : Option Taking) → looks_in taking ≡ Some words → ((t : Taking) → taking ≡ Some t → TakeFacts c w seat t.words t.take) → HasLess w.memory seat words
+lacks {c} w seat words None looks takes = absurd (none-some words looks)
+lacks {c} w seat words (Some t) looks takes = take_lacks c w seat words t.words t.take looks (takes t refl)
 
 -- who is about to store a word into its copy has the object's word
 resolve_stands : (c : Config) (w : World) (seat a : ℕ) (at : ResolveSpot) (x : Carried) → resolve_carries a at ≡ Some x → CanResolve c w seat a at → StandsThere c w x
-resolve_stands c w seat a (resolve.Copying to (copy.StoreWord words index found)) x carries can = subst (StandsThere c w) (same_Some _ x carries) (record {
+resolve_stands c w seat a (resolve.Copying to end (copy.StoreWord words index found)) x carries can = subst (StandsThere c w) (same_Some _ x carries) (record {
   body = can.facts.0;
   there = can.facts.1;
   inside = can.inside;
@@ -96,37 +106,39 @@ resolve_stands c w seat a (resolve.Copying to (copy.StoreWord words index found)
   within = subst (λ n. index < n) can.facts.2.0 can.facts.2.2;
   same = can.facts.2.4;
 })
-resolve_stands c w seat a (resolve.Copying to _) x carries can = absurd cc
+resolve_stands c w seat a (resolve.Copying to end _) x carries can = absurd cc
 resolve_stands c w seat a _ x carries can = absurd cc
 
 -- where it has nothing
-on_unit_nothing : (c : Config) (w : World) (seat : ℕ) (at : EvacSpot) → copies_in at ≡ false → evac_looks at ≡ None → evac_carries at ≡ None → ((a : ℕ) → IsRoomIn at a → ⊥) → HasNothing w seat → OnUnit c w seat at
-on_unit_nothing c w seat at copies looks carries rooms nothing = record {
+on_unit_nothing : (c : Config) (w : World) (seat : ℕ) (at : EvacSpot) → copies_in at ≡ false → evac_taking at ≡ None → evac_carries at ≡ None → evac_hand at ≡ None
+    → ((a : ℕ) (x : Block) → IsSpare seat x → IsRoomIn seat at a x) → HasNothing w seat → OnUnit c w seat at
+on_unit_nothing c w seat at copies taking carries in_hand rooms nothing = record {
   records = nothing.records_none;
   scans = nothing.scans_none;
   copies = nothing.copying ∙ sym copies;
-  hands = λ a words is. absurd (nothing.hands a words is);
-  lacks = λ words is. absurd (none-some words (sym looks ∙ is));
+  rooms = λ a x is room. rooms a x (nothing.rooms a x is room);
+  takes = λ t is. absurd (none-some t (sym taking ∙ is));
   carries = λ x is. absurd (none-some x (sym carries ∙ is));
-  holds = λ a words is. absurd (rooms a is);
+  holds = λ a is. absurd (none-some a (sym in_hand ∙ is));
 }
 
 on_unit : (c : Config) (w : World) (seat : ℕ) (at : EvacSpot) → WorkFacts c w seat at → OnUnit c w seat at
-on_unit c w seat evac.LoadClaim facts = on_unit_nothing c w seat evac.LoadClaim refl refl refl (λ a is. is) facts
-on_unit c w seat (evac.ClaimUnit unit) facts = on_unit_nothing c w seat (evac.ClaimUnit unit) refl refl refl (λ a is. is) facts.0
-on_unit c w seat (evac.LoadTop region) facts = on_unit_nothing c w seat (evac.LoadTop region) refl refl refl (λ a is. is) facts.0
-on_unit c w seat (evac.LoadShape address end) facts = on_unit_nothing c w seat (evac.LoadShape address end) refl refl refl (λ a is. is) facts.0
-on_unit c w seat (evac.LoadMark address end next) facts = on_unit_nothing c w seat (evac.LoadMark address end next) refl refl refl (λ a is. is) facts.0
+on_unit c w seat evac.LoadClaim facts = on_unit_nothing c w seat evac.LoadClaim refl refl refl refl (λ a x is. is) facts
+on_unit c w seat (evac.ClaimUnit unit) facts = on_unit_nothing c w seat (evac.ClaimUnit unit) refl refl refl refl (λ a x is. is) facts.0
+on_unit c w seat (evac.LoadTop region) facts = on_unit_nothing c w seat (evac.LoadTop region) refl refl refl refl (λ a x is. is) facts.0
+on_unit c w seat (evac.LoadFirst address end) facts = on_unit_nothing c w seat (evac.LoadFirst address end) refl refl refl refl (λ a x is. is) facts.0
+on_unit c w seat (evac.LoadShape address end) facts = on_unit_nothing c w seat (evac.LoadShape address end) refl refl refl refl (λ a x is. is) facts.0
+on_unit c w seat (evac.LoadMark address end next) facts = on_unit_nothing c w seat (evac.LoadMark address end next) refl refl refl refl (λ a x is. is) facts.0
 on_unit c w seat (evac.Resolving address end next at) facts = record {
   records = facts.1.records_none;
   scans = facts.1.scans_none;
   copies = facts.1.copying;
-  hands = facts.1.hands;
-  lacks = λ words is. resolve_lacks c w seat address words at is facts.1.facts;
+  rooms = facts.1.rooms;
+  takes = λ t is. resolve_takes c w seat address at t is facts.1.facts;
   carries = λ x is. resolve_stands c w seat address at x is facts.1;
-  holds = λ a words is. resolve_holds c w seat address at facts.1.facts a is;
+  holds = λ a is. resolve_holds c w seat address at facts.1.facts a is;
 }
-on_unit c w seat (evac.Ended unit) facts = on_unit_nothing c w seat (evac.Ended unit) refl refl refl (λ a is. is) facts
+on_unit c w seat (evac.Ended unit) facts = on_unit_nothing c w seat (evac.Ended unit) refl refl refl refl (λ a x is. is) facts
 
 -- What the ghost state and the pieces have of a seat that works on a unit, or rests.
 record AtUnit (c : Config) (w : World) (seat : ℕ) (at : UnitSpot) : Type 0 where
@@ -134,10 +146,10 @@ record AtUnit (c : Config) (w : World) (seat : ℕ) (at : UnitSpot) : Type 0 whe
   scans : w.ghost.scanning seat ≡ unit_scan c at
   copies : w.ghost.copying seat ≡ unit_copies at
   works : w.ghost.working seat ≡ unit_region c at
-  hands : (a words : ℕ) → w.block a ≡ Some (hand seat words) → UnitRoom at a
-  lacks : (words : ℕ) → unit_looks at ≡ Some words → HasLess c w.memory seat words
+  rooms : (a : ℕ) (x : Block) → w.block a ≡ Some x → room_of x ≡ Some seat → UnitRoom seat at a x
+  takes : (t : Taking) → unit_taking at ≡ Some t → TakeFacts c w seat t.words t.take
   carries : (x : Carried) → unit_carries at ≡ Some x → StandsThere c w x
-  holds : (a words : ℕ) → UnitRoom at a → (more : ℕ) × (w.block a ≡ Some (hand seat more))
+  holds : (a : ℕ) → unit_hand at ≡ Some a → (words : ℕ) × (w.block a ≡ Some (hand seat words))
 
 module _ (c : Config) (w : World) (seat : ℕ) where
   at_rest : (unit : Unit) → IsResting w seat → AtUnit c w seat (Ended unit)
@@ -146,10 +158,10 @@ module _ (c : Config) (w : World) (seat : ℕ) where
     scans = rests.scans_none;
     copies = rests.copies_none;
     works = rests.works_none;
-    hands = rests.hands;
-    lacks = λ words is. absurd cc;
+    rooms = rests.rooms;
+    takes = λ t is. absurd cc;
     carries = λ x is. absurd cc;
-    holds = λ a words is. absurd is;
+    holds = λ a is. absurd cc;
   }
 
   at_unit : (at : UnitSpot) → CanWork c w seat at → AtUnit c w seat at
@@ -158,23 +170,23 @@ module _ (c : Config) (w : World) (seat : ℕ) where
     scans = facts.0.scanning;
     copies = facts.1;
     works = facts.2;
-    hands = facts.0.hands;
-    lacks = λ words is. absurd cc;
+    rooms = facts.3;
+    takes = λ t is. absurd cc;
     carries = λ x is. absurd cc;
-    holds = λ a words is. absurd is;
+    holds = λ a is. absurd cc;
   }
   at_unit (Evacuating cset at) facts =
       let unit = on_unit c w seat at facts.facts in
-      record { records = unit.records; scans = unit.scans; copies = unit.copies; works = facts.working; hands = unit.hands; lacks = unit.lacks; carries = unit.carries; holds = unit.holds }
+      record { records = unit.records; scans = unit.scans; copies = unit.copies; works = facts.working; rooms = unit.rooms; takes = unit.takes; carries = unit.carries; holds = unit.holds }
   at_unit (Updating cset at) facts = record {
     records = facts.records_none;
     scans = facts.scanning;
     copies = facts.copying;
     works = facts.working;
-    hands = facts.hands;
-    lacks = λ words is. absurd cc;
+    rooms = facts.rooms;
+    takes = λ t is. absurd cc;
     carries = λ x is. absurd cc;
-    holds = λ a words is. absurd is;
+    holds = λ a is. absurd cc;
   }
   at_unit (Ended Worked) facts = at_rest Worked facts
   at_unit (Ended NoneLeft) facts = at_rest NoneLeft facts.0
@@ -201,24 +213,24 @@ module _ (c : Config) (w : World) (seat : ℕ) where
   control_at control.Go facts = at_rest Worked facts
   control_at control.Gone facts = at_rest Worked facts
 
--- a mutator that is about to look for a free region
-make_lacks : (c : Config) (w : World) (seat made wanted : ℕ) (k command : Command) (fixed : Option Reply) (at : MakeSpot) → make_looks (words_made k) at ≡ Some wanted → MakeFacts c w seat made k command fixed at → HasLess c w.memory seat wanted
-make_lacks c w seat made wanted k command fixed (make.Taking take) looks facts = take_lacks c w seat wanted (words_made k) take looks facts.1
-make_lacks c w seat made wanted k command fixed _ looks facts = absurd cc
+-- a mutator that takes room
+make_takes : (c : Config) (w : World) (seat made : ℕ) (k command : Command) (fixed : Option Reply) (at : MakeSpot) (t : Taking) → make_taking (words_made k) at ≡ Some t → MakeFacts c w seat made k command fixed at → TakeFacts c w seat t.words t.take
+make_takes c w seat made k command fixed (make.Taking take) t takes facts = taking_facts c w seat (words_made k) take t takes facts.1
+make_takes c w seat made k command fixed _ t takes facts = absurd cc
 
-resolving_lacks : (c : Config) (w : World) (seat address wanted : ℕ) (at : ResolveSpot) → resolve_looks at ≡ Some wanted → IsResolving c w seat address at → HasLess c w.memory seat wanted
-resolving_lacks c w seat address wanted at looks (inl can) = resolve_lacks c w seat address wanted at looks can.facts
-resolving_lacks c w seat address wanted (resolve.Taking words take) looks (inr follows) = absurd (follows.facts)
-resolving_lacks c w seat address wanted _ looks (inr follows) = absurd cc
+resolving_takes : (c : Config) (w : World) (seat address : ℕ) (at : ResolveSpot) (t : Taking) → resolve_taking at ≡ Some t → IsResolving c w seat address at → TakeFacts c w seat t.words t.take
+resolving_takes c w seat address at t takes (inl can) = resolve_takes c w seat address at t takes can.facts
+resolving_takes c w seat address (resolve.Taking words take) t takes (inr follows) = absurd (follows.facts)
+resolving_takes c w seat address _ t takes (inr follows) = absurd cc
 
-call_lacks : (c : Config) (w : World) (seat made wanted : ℕ) (kept : Kept) (command : Command) (fixed : Option Reply) (spot : Spot) → call_looks kept spot ≡ Some wanted → SpotFacts c w seat made kept command fixed spot → HasLess c w.memory seat wanted
-call_lacks c w seat made wanted kept command fixed (Making at) looks facts = make_lacks c w seat made wanted kept.command command fixed at looks facts
-call_lacks c w seat made wanted kept command fixed (Resolving address at next) looks facts = resolving_lacks c w seat address wanted at looks facts.0
-call_lacks c w seat made wanted kept command fixed _ looks facts = absurd cc
+call_takes : (c : Config) (w : World) (seat made : ℕ) (kept : Kept) (command : Command) (fixed : Option Reply) (spot : Spot) (t : Taking) → call_taking kept spot ≡ Some t → SpotFacts c w seat made kept command fixed spot → TakeFacts c w seat t.words t.take
+call_takes c w seat made kept command fixed (Making at) t takes facts = make_takes c w seat made kept.command command fixed at t takes facts
+call_takes c w seat made kept command fixed (Resolving address at next) t takes facts = resolving_takes c w seat address at t takes facts.0
+call_takes c w seat made kept command fixed _ t takes facts = absurd cc
 
 resolving_stands : (c : Config) (w : World) (seat address : ℕ) (at : ResolveSpot) (x : Carried) → resolve_carries address at ≡ Some x → IsResolving c w seat address at → StandsThere c w x
 resolving_stands c w seat address at x carries (inl can) = resolve_stands c w seat address at x carries can
-resolving_stands c w seat address (resolve.Copying to at) x carries (inr follows) = absurd (follows.facts)
+resolving_stands c w seat address (resolve.Copying to end at) x carries (inr follows) = absurd (follows.facts)
 resolving_stands c w seat address _ x carries (inr follows) = absurd cc
 
 call_stands : (c : Config) (w : World) (seat made : ℕ) (kept : Kept) (command : Command) (fixed : Option Reply) (spot : Spot) (x : Carried) → call_carries spot ≡ Some x → SpotFacts c w seat made kept command fixed spot → StandsThere c w x
@@ -226,20 +238,22 @@ call_stands c w seat made kept command fixed (Resolving address at next) x carri
 call_stands c w seat made kept command fixed _ x carries facts = absurd cc
 
 -- a mutator that makes an object, or copies one, has its room in hand
-make_holds : (c : Config) (w : World) (seat made : ℕ) (k command : Command) (fixed : Option Reply) (at : MakeSpot) → MakeFacts c w seat made k command fixed at → (a words : ℕ) → IsInMaking k at a words → (more : ℕ) × (w.block a ≡ Some (hand seat more))
-make_holds c w seat made k command fixed (make.Taking take) facts a words is = absurd is
-make_holds c w seat made k command fixed (make.StoreWord address done) facts a words is = (words_made k, ap (λ x. w.block x) is.0 ∙ facts.1.room)
-make_holds c w seat made k command fixed (make.StoreRoot address) facts a words is = (words_made k, ap (λ x. w.block x) is.0 ∙ facts.1.room)
+make_holds : (c : Config) (w : World) (seat made : ℕ) (k command : Command) (fixed : Option Reply) (at : MakeSpot) → MakeFacts c w seat made k command fixed at → (a : ℕ) → make_hand at ≡ Some a
+    → (words : ℕ) × (w.block a ≡ Some (hand seat words))
+make_holds c w seat made k command fixed (make.Taking take) facts a is = absurd cc
+make_holds c w seat made k command fixed (make.StoreWord address done) facts a is = (words_made k, ap (λ x. w.block x) (sym (same_Some address a is)) ∙ facts.1.room)
+make_holds c w seat made k command fixed (make.StoreRoot address) facts a is = (words_made k, ap (λ x. w.block x) (sym (same_Some address a is)) ∙ facts.1.room)
 
-resolving_holds : (c : Config) (w : World) (seat address : ℕ) (at : ResolveSpot) → IsResolving c w seat address at → (a : ℕ) → IsRoomAt at a → (more : ℕ) × (w.block a ≡ Some (hand seat more))
+resolving_holds : (c : Config) (w : World) (seat address : ℕ) (at : ResolveSpot) → IsResolving c w seat address at → (a : ℕ) → resolve_hand at ≡ Some a → (words : ℕ) × (w.block a ≡ Some (hand seat words))
 resolving_holds c w seat address at (inl can) a is = resolve_holds c w seat address at can.facts a is
-resolving_holds c w seat address (resolve.Copying to at) (inr follows) a is = absurd (follows.facts)
-resolving_holds c w seat address _ (inr follows) a is = absurd is
+resolving_holds c w seat address (resolve.Copying to end at) (inr follows) a is = absurd (follows.facts)
+resolving_holds c w seat address _ (inr follows) a is = absurd cc
 
-call_holds : (c : Config) (w : World) (seat made : ℕ) (kept : Kept) (command : Command) (fixed : Option Reply) (spot : Spot) → SpotFacts c w seat made kept command fixed spot → (a words : ℕ) → IsInHand kept spot a words → (more : ℕ) × (w.block a ≡ Some (hand seat more))
-call_holds c w seat made kept command fixed (Making at) facts a words is = make_holds c w seat made kept.command command fixed at facts a words is
-call_holds c w seat made kept command fixed (Resolving address at next) facts a words is = resolving_holds c w seat address at facts.0 a is
-call_holds c w seat made kept command fixed _ facts a words is = absurd is
+call_holds : (c : Config) (w : World) (seat made : ℕ) (kept : Kept) (command : Command) (fixed : Option Reply) (spot : Spot) → SpotFacts c w seat made kept command fixed spot → (a : ℕ) → call_hand spot ≡ Some a
+    → (words : ℕ) × (w.block a ≡ Some (hand seat words))
+call_holds c w seat made kept command fixed (Making at) facts a is = make_holds c w seat made kept.command command fixed at facts a is
+call_holds c w seat made kept command fixed (Resolving address at next) facts a is = resolving_holds c w seat address at facts.0 a is
+call_holds c w seat made kept command fixed _ facts a is = absurd cc
 
 -- any machine in its seat
 pub in_seat : (c : Config) (words : List ℕ) (w : World) (entries : List Entry) (number : ℕ) (a : Actor) (machine : Machine) → IsMachine c words w entries number a machine → IsInSeat c w number machine
@@ -249,17 +263,17 @@ in_seat c words w entries number a (mutating m) thread =
       scans = thread.mine.marking.scans;
       copies = thread.mine.copying.copies_is;
       works = thread.mine.copying.works_none;
-      hands = thread.mine.hands;
-      lacks = λ wanted is. call_lacks c w m.seat m.made wanted m.kept a.command thread.fixed m.spot is thread.mine.facts;
+      rooms = thread.mine.rooms;
+      takes = λ t is. call_takes c w m.seat m.made m.kept a.command thread.fixed m.spot t is thread.mine.facts;
       carries = λ x is. call_stands c w m.seat m.made m.kept a.command thread.fixed m.spot x is thread.mine.facts;
-      holds = λ b words is. call_holds c w m.seat m.made m.kept a.command thread.fixed m.spot thread.mine.facts b words is;
+      holds = λ b is. call_holds c w m.seat m.made m.kept a.command thread.fixed m.spot thread.mine.facts b is;
     })
 in_seat c words w entries number a (helping h) facts =
     let at = help_at c w number h.spot facts.facts in
-    record { records = at.records; scans = at.scans; copies = at.copies; works = at.works; hands = at.hands; lacks = at.lacks; carries = at.carries; holds = at.holds }
+    record { records = at.records; scans = at.scans; copies = at.copies; works = at.works; rooms = at.rooms; takes = at.takes; carries = at.carries; holds = at.holds }
 in_seat c words w entries number a (controlling k) facts =
     let at = control_at c w number k.spot facts.facts in
-    record { records = at.records; scans = at.scans; copies = at.copies; works = at.works; hands = at.hands; lacks = at.lacks; carries = at.carries; holds = at.holds }
+    record { records = at.records; scans = at.scans; copies = at.copies; works = at.works; rooms = at.rooms; takes = at.takes; carries = at.carries; holds = at.holds }
 
 -- What a mutator may use: an object on which it works, by each part of a call.
 module _ (c : Config) (w : World) (seat : ℕ) (k command : Command) (fixed : Option Reply) where

@@ -334,8 +334,8 @@ mine_stays c u w m command fixed shared rely mine = let keeps : Keeps c m.seat u
   marking = marking_relied c u w m.seat (recording_of m.spot) m.kept.phase (has_phase m.spot) rely.marks mine.marking;
   copying = copying_relied c u w m.seat (copies_at m.spot) m.kept.cset (has_set m.spot) rely.copies mine.copying;
   roots = λ i below. rw (now_stays c u w m.seat keeps m.kept m.spot i) (root_stays c u w m.seat keeps _ i (mine.roots i below));
-  hands = λ a words is. mine.hands a words (rely.no_rooms a _ is refl);
-  facts = facts_stay c u w m.seat keeps m.made m.kept command fixed (take_stays c u w m.seat rely (λ r is. shared.owned.currents.own m.seat r is))
+  rooms = λ a x is room. mine.rooms a x (rely.no_rooms a x is room) room;
+  facts = facts_stay c u w m.seat keeps m.made m.kept command fixed (take_stays c u w m.seat rely)
       (filling_stays c u w m.seat rely m.made)
       (λ address at can. still_resolving c u w m.seat address at shared rely can)
       (λ address at can. recording_steps.stays c u w m.seat address at rely can) rely.asked m.spot mine.facts;

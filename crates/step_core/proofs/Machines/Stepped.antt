@@ -43,13 +43,13 @@ use Rattle.mutator.specs.Rows.{Mutating, words_made, touch_of, next_of, given_at
 use Rattle.mutator.specs.Told.{told_of}
 use Rattle.mutator.specs.Fit.{IsReady}
 use Rattle.step_core.specs.Actor.{entry_of, command_by}
-use Rattle.step_core.specs.Own.{root_now, IsInHand}
+use Rattle.step_core.specs.Own.{root_now, IsRoomOf}
 pub use Rattle.step_core.specs.Seats.{recording_of, copies_at, HasTaken, MakesObject}
 use Rattle.mark_steps.specs.Recording.{CanRecord}
 use Rattle.load_barrier.specs.declared.spot.ResolveSpot.{ResolveSpot}
 use Rattle.move_steps.specs.Resolving.Facts.{CanResolve}
 use Rattle.move_steps.specs.Updating.Following.{CanFollow}
-use Rattle.heap_world.specs.World.{World, Plot, Scan, hand, name_at, Points, TargetIn, IsUsable, UsableIn, IsCovered, Shared}
+use Rattle.heap_world.specs.World.{World, Block, Plot, Scan, hand, room_of, name_at, Points, TargetIn, IsUsable, UsableIn, IsCovered, Shared}
 use Rattle.heap_world.specs.Asking as asking
 use Rattle.heap_world.specs.Asking.{Asking, HasNoPromise, IsAsked}
 use Rattle.heap_world.specs.Rely.{Rely}
@@ -380,7 +380,7 @@ pub record Mine (c : Config) (w : World) (m : Mutating) (command : Command) (fix
   pub marking : HasMarkingIn w m.seat m.kept m.spot
   pub copying : HasCopyingIn w m.seat m.kept m.spot
   pub roots : (i : ℕ) → i < 16 → Points w.block (root_now w m.seat m.kept m.spot i) (w.graph.root (m.seat + 1) i)
-  pub hands : (a words : ℕ) → w.block a ≡ Some (hand m.seat words) → IsInHand m.kept m.spot a words
+  pub rooms : (a : ℕ) (x : Block) → w.block a ≡ Some x → room_of x ≡ Some m.seat → IsRoomOf m.seat m.kept m.spot a x
   pub facts : SpotFacts c w m.seat m.made m.kept command fixed m.spot
 
 -- the graph after the entry that a step settles, if it settles one

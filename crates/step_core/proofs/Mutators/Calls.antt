@@ -1,5 +1,5 @@
 -- The first access of a call, and the last; the access by which a mutator ends; and that which asks for a cycle.
-use Rattle.std.proofs.Common.{◌≡◌, ℕ, ◌+◌, ◌<◌, true, false, Option, Some, None, refl, sym, ap, ◌∙◌, arith}
+use Rattle.std.proofs.Common.{◌≡◌, ℕ, ◌+◌, ◌<◌, true, false, Option, None, refl, sym, ap, ◌∙◌, arith}
 use Rattle.std.proofs.lemmas.Bool.Decides.{nat_tests}
 use Rattle.heap_words.specs.declared.config.Config.{Config}
 use Rattle.heap_words.specs.Words.{Ask, Root}
@@ -14,13 +14,14 @@ use Rattle.shen_graph.specs.declared.order.Order.{Order}
 use Rattle.shen_graph.specs.declared.order.Order.TheVariants.{Nothing, Begin, End}
 use Rattle.mutator.specs.Rows.{Mutating, call_begun}
 use Rattle.mutator.specs.Orders.{is_next}
-use Rattle.heap_world.specs.World.{World, hand, Points}
+use Rattle.heap_world.specs.World.{World, Points}
 use Rattle.step_core.specs.Actor.{command_by}
 use Rattle.step_core.proofs.Machines.Stepped.{IsSeatedIn, HasMarkingBy, HasCopyingBy, Mine, Row, OrderedRow}
 use Rattle.step_core.proofs.Mutators.Spots.{mutator_at, accessed_by, accessed}
 use Rattle.step_core.proofs.Mutators.WhileMarking.{marks_in, still_waits, copies_in, fields_in}
 use Rattle.step_core.proofs.Machines.Ready.{leaving, rest_ready}
 use Rattle.step_core.proofs.History.Settling.{legal_answer, graph_answer}
+use Rattle.alloc_buffers.specs.Facts.{OnlySpares}
 
 module _ (c : Config) (u : World) (seat made : ℕ) (kept : Kept) (command : Command) (fixed : Option Reply) where
   abbrev at_spot : Spot → Mutating
@@ -30,14 +31,14 @@ module _ (c : Config) (u : World) (seat made : ℕ) (kept : Kept) (command : Com
   abbrev MineBegun : Order → Type 0
   MineBegun order = Mine c (accessed_by c u (at_spot Rest) order) (call_begun order (at_spot Rest)) (command_by order command) fixed
 
-  begins : (k : Command) → IsSeatedIn c u seat made false → HasMarkingBy u seat None kept.phase false → HasCopyingBy u seat false kept.cset false → ((i : ℕ) → i < 16 → Points u.block (u.memory (Root seat i)) (u.graph.root (seat + 1) i)) → ((a words : ℕ) → u.block a ≡ Some (hand seat words) → ⊥)
+  begins : (k : Command) → IsSeatedIn c u seat made false → HasMarkingBy u seat None kept.phase false → HasCopyingBy u seat false kept.cset false → ((i : ℕ) → i < 16 → Points u.block (u.memory (Root seat i)) (u.graph.root (seat + 1) i)) → OnlySpares u seat
       → fixed ≡ None → is_next made k ≡ true → MineBegun (Begin k)
-  begins k seated marking copying roots hands unsettled next =
-      record { seated = seated; ready = refl; marking = marking; copying = copying; roots = roots; hands = hands; facts = record { unsettled = unsettled; is = refl; next = next } }
+  begins k seated marking copying roots rooms unsettled next =
+      record { seated = seated; ready = refl; marking = marking; copying = copying; roots = roots; rooms = rooms; facts = record { unsettled = unsettled; is = refl; next = next } }
 
-  ends : IsSeatedIn c u seat made false → HasMarkingBy u seat None kept.phase false → HasCopyingBy u seat false kept.cset false → ((i : ℕ) → i < 16 → Points u.block (u.memory (Root seat i)) (u.graph.root (seat + 1) i)) → ((a words : ℕ) → u.block a ≡ Some (hand seat words) → ⊥)
+  ends : IsSeatedIn c u seat made false → HasMarkingBy u seat None kept.phase false → HasCopyingBy u seat false kept.cset false → ((i : ℕ) → i < 16 → Points u.block (u.memory (Root seat i)) (u.graph.root (seat + 1) i)) → OnlySpares u seat
       → fixed ≡ None → MineBegun End
-  ends seated marking copying roots hands unsettled = record { seated = seated; ready = refl; marking = marking; copying = copying; roots = roots; hands = hands; facts = unsettled }
+  ends seated marking copying roots rooms unsettled = record { seated = seated; ready = refl; marking = marking; copying = copying; roots = roots; rooms = rooms; facts = unsettled }
 
   -- a mutator that has not begun a call begins one, or ends
   pub at_rest : (order : Order) → OrderedRow c u (at_spot Rest) command order fixed
@@ -49,7 +50,7 @@ module _ (c : Config) (u : World) (seat made : ℕ) (kept : Kept) (command : Com
     legal = tt;
     settles = λ r e. cc;
     shared = shared;
-    mine = begins k mine.seated mine.marking mine.copying mine.roots mine.hands mine.facts takes;
+    mine = begins k mine.seated mine.marking mine.copying mine.roots mine.rooms mine.facts takes;
     others = λ j d. let marks = marks_in c u (accessed_by c u (at_spot Rest) (Begin k)).memory u.graph j refl (λ n. refl) (λ t. refl) (λ t k. refl) (λ a. refl) in let copies = copies_in c u (accessed_by c u (at_spot Rest) (Begin k)).memory u.graph j refl refl (λ r. refl) (λ a. refl) in let kept_fields = fields_in c u (accessed_by c u (at_spot Rest) (Begin k)).memory u.graph (λ r. refl) (λ r. refl) refl (λ a. refl) in search (arith, nat_tests, marks, copies, kept_fields);
   }
   at_rest End shared mine takes = record {
@@ -59,7 +60,7 @@ module _ (c : Config) (u : World) (seat made : ℕ) (kept : Kept) (command : Com
     legal = tt;
     settles = λ r e. cc;
     shared = shared;
-    mine = ends mine.seated mine.marking mine.copying mine.roots mine.hands mine.facts;
+    mine = ends mine.seated mine.marking mine.copying mine.roots mine.rooms mine.facts;
     others = λ j d. let marks = marks_in c u (accessed_by c u (at_spot Rest) End).memory u.graph j refl (λ n. refl) (λ t. refl) (λ t k. refl) (λ a. refl) in let copies = copies_in c u (accessed_by c u (at_spot Rest) End).memory u.graph j refl refl (λ r. refl) (λ a. refl) in let kept_fields = fields_in c u (accessed_by c u (at_spot Rest) End).memory u.graph (λ r. refl) (λ r. refl) refl (λ a. refl) in search (arith, nat_tests, marks, copies, kept_fields);
   }
 
@@ -73,7 +74,7 @@ module _ (c : Config) (u : World) (seat made : ℕ) (kept : Kept) (command : Com
     legal = tt;
     settles = λ q e. cc;
     shared = shared;
-    mine = begins k mine.seated mine.marking mine.copying mine.roots mine.hands mine.facts takes;
+    mine = begins k mine.seated mine.marking mine.copying mine.roots mine.rooms mine.facts takes;
     others = λ j d. let marks = marks_in c u (accessed_by c u (at_spot (Ended r)) (Begin k)).memory u.graph j refl (λ n. refl) (λ t. refl) (λ t k. refl) (λ a. refl) in let copies = copies_in c u (accessed_by c u (at_spot (Ended r)) (Begin k)).memory u.graph j refl refl (λ r. refl) (λ a. refl) in let kept_fields = fields_in c u (accessed_by c u (at_spot (Ended r)) (Begin k)).memory u.graph (λ r. refl) (λ r. refl) refl (λ a. refl) in search (arith, nat_tests, marks, copies, kept_fields);
   }
   at_ended r End shared mine takes = record {
@@ -83,7 +84,7 @@ module _ (c : Config) (u : World) (seat made : ℕ) (kept : Kept) (command : Com
     legal = tt;
     settles = λ q e. cc;
     shared = shared;
-    mine = ends mine.seated mine.marking mine.copying mine.roots mine.hands mine.facts;
+    mine = ends mine.seated mine.marking mine.copying mine.roots mine.rooms mine.facts;
     others = λ j d. let marks = marks_in c u (accessed_by c u (at_spot (Ended r)) End).memory u.graph j refl (λ n. refl) (λ t. refl) (λ t k. refl) (λ a. refl) in let copies = copies_in c u (accessed_by c u (at_spot (Ended r)) End).memory u.graph j refl refl (λ r. refl) (λ a. refl) in let kept_fields = fields_in c u (accessed_by c u (at_spot (Ended r)) End).memory u.graph (λ r. refl) (λ r. refl) refl (λ a. refl) in search (arith, nat_tests, marks, copies, kept_fields);
   }
 
@@ -98,7 +99,7 @@ module _ (c : Config) (u : World) (seat made : ℕ) (kept : Kept) (command : Com
         legal = legal_answer u.graph seat command reply.Ok refl gc;
         settles = λ r e. (mine.facts.0, refl);
         shared = shared;
-        mine = leaving c _ seat made kept command reply.Ok mine.seated (mine.marking.records, mine.marking.scans, mine.copying.copies_is, mine.copying.works_none) mine.roots mine.hands;
+        mine = leaving c _ seat made kept command reply.Ok mine.seated (mine.marking.records, mine.marking.scans, mine.copying.copies_is, mine.copying.works_none) mine.roots mine.rooms;
         others = λ j d. let marks = marks_in c u (accessed c u (at_spot AskCycle)).memory u.graph j refl (λ n. refl) (λ t. refl) (λ t k. refl) (λ a. refl) in let copies = copies_in c u (accessed c u (at_spot AskCycle)).memory u.graph j refl refl (λ r. refl) (λ a. refl) in let kept_fields = fields_in c u (accessed c u (at_spot AskCycle)).memory u.graph (λ r. refl) (λ r. refl) refl (λ a. refl) in let waits = still_waits (u.memory Ask) in search (arith, nat_tests, marks, copies, kept_fields, waits);
       }
 
@@ -111,6 +112,6 @@ module _ (c : Config) (u : World) (seat made : ℕ) (kept : Kept) (command : Com
     legal = tt;
     settles = λ q e. cc;
     shared = shared;
-    mine = record { seated = mine.seated; ready = rest_ready c seat made kept (Ended r) refl mine.seated.below; marking = mine.marking; copying = mine.copying; roots = mine.roots; hands = mine.hands; facts = refl };
+    mine = record { seated = mine.seated; ready = rest_ready c seat made kept (Ended r) refl mine.seated.below; marking = mine.marking; copying = mine.copying; roots = mine.roots; rooms = mine.rooms; facts = refl };
     others = λ j d. let marks = marks_in c u (accessed c u (at_spot (Leave r))).memory u.graph j refl (λ n. refl) (λ t. refl) (λ t k. refl) (λ a. refl) in let copies = copies_in c u (accessed c u (at_spot (Leave r))).memory u.graph j refl refl (λ r. refl) (λ a. refl) in let kept_fields = fields_in c u (accessed c u (at_spot (Leave r))).memory u.graph (λ r. refl) (λ r. refl) refl (λ a. refl) in search (arith, nat_tests, marks, copies, kept_fields);
   }

@@ -77,7 +77,7 @@ module _ (c : Config) (u : World) (seat made : ℕ) (kept : Kept) (command : Com
       marking = marking_relied c u w seat None kept.phase false marks mine.marking;
       copying = copying_relied c u w seat false kept.cset false copies mine.copying;
       roots = λ i below. rw (keeps.root_words i) (root_stays c u w seat keeps _ i (mine.roots i below));
-      hands = λ a words is. mine.hands a words (ap (λ plot. plot a) (sym same) ∙ is);
+      rooms = λ a x is. mine.rooms a x (ap (λ plot. plot a) (sym same) ∙ is);
       facts = enter_stays c u w seat keeps made kept.command command fixed next mine.facts;
     })
 
@@ -91,8 +91,8 @@ module _ (c : Config) (u : World) (seat made : ℕ) (kept : Kept) (command : Com
 
   -- and once it is inside: a call begins with the phase, and one that has waited has its answer
   mine_inside : (next : Entered) → Mine c u (at_spot (Entering Look next)) command fixed → Mine c u (at_spot (after_enter next Inside)) command fixed
-  mine_inside Call mine = record { seated = mine.seated; ready = refl; marking = mine.marking; copying = mine.copying; roots = mine.roots; hands = mine.hands; facts = mine.facts }
-  mine_inside Waited mine = record { seated = mine.seated; ready = ready_of _ true (lt-ltb _ _ mine.seated.below) refl; marking = mine.marking; copying = mine.copying; roots = mine.roots; hands = mine.hands; facts = mine.facts }
+  mine_inside Call mine = record { seated = mine.seated; ready = refl; marking = mine.marking; copying = mine.copying; roots = mine.roots; rooms = mine.rooms; facts = mine.facts }
+  mine_inside Waited mine = record { seated = mine.seated; ready = ready_of _ true (lt-ltb _ _ mine.seated.below) refl; marking = mine.marking; copying = mine.copying; roots = mine.roots; rooms = mine.rooms; facts = mine.facts }
 
   -- a step of an entering is a step of the mutator
   lifted : (at : EnterSpot) (next : Entered) → Shared c u → Mine c (entered_world u seat at) (at_spot (after_enter next (enter_next at (u.memory (enter_touch seat at).word)))) command fixed
@@ -136,6 +136,6 @@ module _ (c : Config) (u : World) (seat made : ℕ) (kept : Kept) (command : Com
         marking = record { records = mine.marking.records; scans = mine.marking.scans; phase_is = λ on. refl };
         copying = mine.copying;
         roots = mine.roots;
-        hands = mine.hands;
+        rooms = mine.rooms;
         facts = mine.facts;
       })

@@ -73,7 +73,7 @@ module _ (c : Config) (u : World) (seat made : ℕ) (kept : Kept) (command : Com
       (ap (λ k. outcome u.graph (seat + 1) k) get.is ∙ rw here.1 refl)
       shared
       (found_mine c (record { memory = u.memory; block = u.block; ghost = u.ghost; graph = with_root u.graph (seat + 1) dst here.0 }) seat made kept command
-      shared mine.seated mine.marking mine.copying mine.hands got here.0 get.small
+      shared mine.seated mine.marking mine.copying mine.rooms got here.0 get.small
       (roots_then u.block (λ i. u.memory (Root seat i)) u.graph.root (seat + 1) dst got here.0 mine.roots here.2)
       here.2)
 
@@ -93,7 +93,7 @@ module _ (c : Config) (u : World) (seat made : ℕ) (kept : Kept) (command : Com
       marking = record { records = held.own.recording; scans = held.own.scanning; phase_is = mine.marking.phase_is };
       copying = mine.copying;
       roots = mine.roots;
-      hands = mine.hands;
+      rooms = mine.rooms;
       facts = (held.own, (mine.facts.0, set_stays c u (with_in_hand u seat got) seat held.keeps command object field value mine.facts.1, covered));
     });
     others = held.others;
@@ -107,7 +107,7 @@ module _ (c : Config) (u : World) (seat made : ℕ) (kept : Kept) (command : Com
         marking = mine.marking;
         copying = mine.copying;
         roots = mine.roots;
-        hands = mine.hands;
+        rooms = mine.rooms;
         facts = (mine.facts.0, set, covered);
       }))
 
@@ -115,7 +115,7 @@ module _ (c : Config) (u : World) (seat made : ℕ) (kept : Kept) (command : Com
   at_load_old object value shared mine =
       let set = mine.facts.1 in
       let here = field_in c u shared seat set.obj object field set.of set.below in
-      load_old object value shared mine (overwrites_of c u seat kept.phase object field here.0 mine.seated.below shared mine.marking mine.hands here.2)
+      load_old object value shared mine (overwrites_of c u seat kept.phase object field here.0 mine.seated.below shared mine.marking mine.rooms here.2)
 
   -- a field that has another reference than the expected one: it is null, and the call leaves, or its object is another
   differing : (object expect value : ℕ) (v : Reference) → Shared c u → Mine c u (at_spot (OnField object (fields.LoadExpected expect value))) command fixed → (cas : IsCas c u seat command object field expect value)
@@ -126,9 +126,9 @@ module _ (c : Config) (u : World) (seat made : ℕ) (kept : Kept) (command : Com
       let zero_got : got ≡ 0 = eqb-true _ _ null in
       let other : (got == expect) ≡ false = same_words c u shared got expect v _ (inl zero_got) cas.expect_is.usable is cas.expect_is.stands ∙ differs in
       rw (cond-true (got == 0) false (if nat_lt kept.phase copy_phase then false else lies_in_set c kept.cset got) null, other)
-      (leaving c _ seat made kept command reply.No mine.seated (mine.marking.records, mine.marking.scans, mine.copying.copies_is, mine.copying.works_none) mine.roots mine.hands))
+      (leaving c _ seat made kept command reply.No mine.seated (mine.marking.records, mine.marking.scans, mine.copying.copies_is, mine.copying.works_none) mine.roots mine.rooms))
       (λ (some : (got == 0) ≡ false).
-      compared_mine c u seat made kept command shared mine.seated mine.marking mine.copying mine.hands (Some reply.No) object expect value got v cas
+      compared_mine c u seat made kept command shared mine.seated mine.marking mine.copying mine.rooms (Some reply.No) object expect value got v cas
       (inl (refl, named_otherwise c u shared got expect v _ (eqb-false _ _ some) is cas.expect_is.stands differs)) is mine.roots)
       (cases_Bool (got == 0))
 
@@ -142,7 +142,7 @@ module _ (c : Config) (u : World) (seat made : ℕ) (kept : Kept) (command : Com
       ⊎_elim
       (λ (same : same_reference here.0 (u.graph.root (seat + 1) cas.expected) ≡ true).
       looks c u (at_spot (OnField object (fields.LoadExpected expect value))) (Heap (object + 3 + field)) command fixed refl (cond-true _ _ _ (agree ∙ same)) refl shared
-      (compared_mine c u seat made kept command shared mine.seated mine.marking mine.copying mine.hands fixed object expect value got here.0 cas
+      (compared_mine c u seat made kept command shared mine.seated mine.marking mine.copying mine.rooms fixed object expect value got here.0 cas
       (inr (mine.facts.0, named_as_one c u shared got expect here.0 _ here.2 cas.expect_is.stands same)) here.2 mine.roots))
       (λ (differs : same_reference here.0 (u.graph.root (seat + 1) cas.expected) ≡ false).
       replies c u (at_spot (OnField object (fields.LoadExpected expect value))) (Heap (object + 3 + field)) command fixed reply.No refl (cond-false _ _ _ (agree ∙ differs)) refl mine.facts.0 refl
@@ -161,7 +161,7 @@ module _ (c : Config) (u : World) (seat made : ℕ) (kept : Kept) (command : Com
       replies c u (at_spot (OnNumber object refs numbers.Load)) (Heap (object + 3 + refs + index)) command fixed (reply.Number got) refl refl refl mine.facts.0 refl
       (ap (λ k. outcome u.graph (seat + 1) k) rd.is ∙ rw here (ap (λ n. answers (reply.Number (u.memory (Heap (object + 3 + n + index)))) u.graph) (sym rd.refs_are)))
       shared
-      (leaving c _ seat made kept command (reply.Number got) mine.seated (mine.marking.records, mine.marking.scans, mine.copying.copies_is, mine.copying.works_none) mine.roots mine.hands)
+      (leaving c _ seat made kept command (reply.Number got) mine.seated (mine.marking.records, mine.marking.scans, mine.copying.copies_is, mine.copying.works_none) mine.roots mine.rooms)
 
   -- the load of a name: it is the one that was settled
   pub at_load_name : (value : ℕ) → Row c u (at_spot (Showing value show.LoadName)) command fixed
@@ -178,6 +178,6 @@ module _ (c : Config) (u : World) (seat made : ℕ) (kept : Kept) (command : Com
         marking = mine.marking;
         copying = mine.copying;
         roots = mine.roots;
-        hands = mine.hands;
+        rooms = mine.rooms;
         facts = (found.settled ∙ ap (λ n. Some (reply.Ref n)) (sym read), found.small, mine.facts.1);
       })

@@ -14,7 +14,7 @@ use Rattle.mutator.specs.declared.makes.MakeSpot.TheVariants as make
 use Rattle.mutator.specs.declared.spot.Kept.{Kept}
 use Rattle.mutator.specs.Commands.{dst_of, refs_of, nums_of}
 use Rattle.mutator.specs.Rows.{Mutating}
-use Rattle.heap_world.specs.World.{World, Block, thing, moved, spent, hand, promised, dead, words_of, room_of, Body, body_at, IsMarkable, Shared}
+use Rattle.heap_world.specs.World.{World, Block, thing, moved, spent, hand, promised, dead, filler, words_of, room_of, Body, body_at, IsMarkable, Shared}
 use Rattle.step_core.proofs.Machines.Stepped.{IsFilling, Mine, Row}
 use Rattle.heap_world.specs.Rely.{Rely}
 use Rattle.step_core.proofs.Mutators.Spots.{mutator_at, accessed}
@@ -102,7 +102,7 @@ module _ (c : Config) (u : World) (seat made : ℕ) (kept : Kept) (command : Com
             head_stays a (dead words) is (λ differ. cc) (let long = shared.parsable.deads a words is in omega (arith, long)),
             else_stays a 1 (dead words) is (not_room a (dead words) is (λ differ. cc)) (let long = shared.parsable.deads a words is in omega (arith, long)),
           ))
-          (λ a words is. is)
+          (λ a words is. (is, head_stays a (filler words) is (λ differ. cc) (let some = shared.parsable.fillers a words is in omega (arith, some))))
           shared.unwritten;
       marked = marked_elsewhere c (u.memory Phase) (λ n. u.memory (Grey n)) (λ n. u.memory (Black n)) (λ t. u.memory (Count t)) (λ t k. u.memory (Buffer t k)) (λ r. u.memory (Top r)) (λ r. u.memory (Tams r))
           (λ a. u.memory (Heap a)) u.block u.ghost.snapshot u.ghost.recording u.ghost.scanning shared.marked (λ a. stored_world.memory (Heap a))
@@ -147,7 +147,7 @@ module _ (c : Config) (u : World) (seat made : ℕ) (kept : Kept) (command : Com
       marking = mine.marking;
       copying = mine.copying;
       roots = mine.roots;
-      hands = mine.hands;
+      rooms = mine.rooms;
       facts = (mine.facts.0, filling, ltb-true _ _ more);
     }
     mine_stored false all = record {
@@ -156,7 +156,7 @@ module _ (c : Config) (u : World) (seat made : ℕ) (kept : Kept) (command : Com
       marking = mine.marking;
       copying = mine.copying;
       roots = mine.roots;
-      hands = mine.hands;
+      rooms = mine.rooms;
       facts = (
         mine.facts.0,
         subst (λ n. IsFilling stored_world seat made refs nums address n) (let most = ltb-false _ _ all in let less = mine.facts.2 in omega (arith, most, less)) filling,
@@ -187,6 +187,7 @@ module _ (c : Config) (u : World) (seat made : ℕ) (kept : Kept) (command : Com
           let other : a ≢ address = not_room a (promised j words) is (λ differ. cc) in
           else_stays a k (promised j words) is other below;
       current = refl;
+      opens = λ r is. is;
       owners = λ r is. is;
       tops = λ r is. refl;
       root_words = λ i. refl;
@@ -201,7 +202,7 @@ module _ (c : Config) (u : World) (seat made : ℕ) (kept : Kept) (command : Com
           (λ a k b seated copies inside is from below.
           let piece = body_piece (u.block a) b is in
           else_stays a k piece.0 piece.1 (not_room a piece.0 piece.1 (λ same. not_body a b piece.0 is piece.1 same)) (let long = piece.2 in omega (arith, below, long)));
-      fields = fields_stored c u stored_world (λ r. refl) (λ r. refl) refl (λ a words is. is) (λ on a more_refs more_nums k n is below. inl (fields_stay a more_refs more_nums k n is below));
+      fields = fields_stored c u stored_world (λ r. refl) (λ r. refl) refl (λ a words is. is) (λ a words is. is) (λ on a more_refs more_nums k n is below. inl (fields_stay a more_refs more_nums k n is below));
     }
 
   -- the step that stores a word of a new object
@@ -228,7 +229,7 @@ module _ (c : Config) (u : World) (seat made : ℕ) (kept : Kept) (command : Com
       here = mine.facts.1.room;
       unnamed = refl;
       long = refl;
-      own = record { no_room = λ j differs room. differs (sym (same_Some seat j room)); no_promise = λ j words differs same. cc; no_dead = λ words same. cc };
+      own = record { no_room = λ j differs room. differs (sym (same_Some seat j room)); no_promise = λ j words differs same. cc; no_dead = λ words same. cc; no_filler = λ words same. cc; no_spare = λ j words same. cc; no_carved = λ j words same. cc };
       known = λ on. inr (shared.marked.young on address seat (hand seat (3 + refs + nums)) mine.facts.1.room refl);
       outside = room_outside c u shared address seat (3 + refs + nums) mine.facts.1.room;
       kept = λ on. inr (shared.evacuated.kept.young on address seat (hand seat (3 + refs + nums)) mine.facts.1.room refl);
@@ -243,7 +244,7 @@ module _ (c : Config) (u : World) (seat made : ℕ) (kept : Kept) (command : Com
         (record { below = mine.seated.below; counted = count_made has; usable = usable_made has mine.seated.usable; unasked = λ calm. let was = mine.seated.unasked calm in (was.0, was.1, λ a words is. was.2 a words (promise_before has a seat words is).1) })
         (mine.marking.records, mine.marking.scans, mine.copying.copies_is, mine.copying.works_none)
         (roots_made has mine.roots)
-        (λ a words is. let old = room_before has a seat (hand seat words) is refl in old.0 (mine.hands a words old.1).0)
+        (λ a x is room. let old = room_before has a seat x is room in ⊎_elim (λ spares. spares) (λ new. absurd (old.0 new.0)) (mine.rooms a x old.1 room))
 
   -- the step that stores a new object into a root settles its name
   pub at_store_fresh : (address : ℕ) → Row c u (at_spot (Making (make.StoreRoot address))) command fixed

@@ -6,7 +6,7 @@ use Rattle.std.proofs.lemmas.Bool.{cond-false, ne_eqb, and_left}
 use Rattle.std.proofs.lemmas.Bool.Decides.{nat_tests}
 use Rattle.heap_words.specs.declared.config.Config.{Config}
 use Rattle.heap_words.specs.Encoding.{fresh_word}
-use Rattle.heap_words.specs.Words.{Free, Claim, Cset, Evac, Phase, Root, Top, Tams, Limit, Heap, Current, Count, Buffer, Grey, Black}
+use Rattle.heap_words.specs.Words.{Free, Claim, Cset, Evac, Phase, Root, Top, Tams, Limit, Heap, Current, Share, Count, Buffer, Grey, Black}
 use Rattle.steps_base.specs.Touch.{touch, stores, touched}
 use Rattle.shen_graph.specs.declared.name.Name.{Name}
 use Rattle.shen_graph.specs.declared.command.Command.{Command}
@@ -16,7 +16,7 @@ use Rattle.shen_graph.specs.Graph.{Object, blank, fresh, with_root, with_fresh}
 use Rattle.shen_graph.specs.Step.{outcome}
 use Rattle.mutator.specs.Commands.{dst_of, refs_of, nums_of}
 use Rattle.mutator.specs.WaitRows.{next_name}
-use Rattle.heap_world.specs.World.{World, Block, thing, moved, promised, dead, words_of, room_of, name_at, Points, IsCollected, TargetIn, UsableIn, IsThing, IsGiven, IsYoung, Shared}
+use Rattle.heap_world.specs.World.{World, Block, thing, moved, promised, dead, filler, spare, carved, words_of, room_of, name_at, Points, IsCollected, TargetIn, UsableIn, IsThing, IsGiven, IsYoung, Shared}
 use Rattle.heap_world.specs.Rely.{Rely}
 use Rattle.heap_world.proofs.Updates.{updated, updated_there, updated_else}
 use Rattle.heap_world.proofs.Keeping.{points_stay, usable_stays}
@@ -30,11 +30,14 @@ use Rattle.step_core.proofs.Machines.Stepped.{IsMaking, LegalBy, graph_by}
 use Rattle.step_core.proofs.History.Settling.{legal_answer, graph_answer}
 use Rattle.heap_world.proofs.RootChanges.{roots_written, usable_written}
 
--- a piece that is no other seat's, neither its room nor promised to it, and no dead object
+-- a piece that is no other seat's, neither its room nor promised to it, and no dead object or filler, nor free words of a buffer or carved words
 pub record IsOwn (seat : ℕ) (piece : Block) : Type 0 where
   pub no_room : (j : ℕ) → j ≢ seat → room_of piece ≢ Some j
   pub no_promise : (j words : ℕ) → j ≢ seat → piece ≡ promised j words → ⊥
   pub no_dead : (words : ℕ) → piece ≡ dead words → ⊥
+  pub no_filler : (words : ℕ) → piece ≡ filler words → ⊥
+  pub no_spare : (j words : ℕ) → piece ≡ spare j words → ⊥
+  pub no_carved : (j words : ℕ) → piece ≡ carved j words → ⊥
 
 -- What is needed where a mutator stores its next object into a root: the command makes it, and a piece of the seat's own has all
 -- its words.
@@ -123,7 +126,7 @@ module _ {c : Config} {u : World} {seat made : ℕ} {command k : Command} {fixed
       objects = objects_again c top u.block address refs nums name has.piece has.unnamed has.long has.here (λ a. u.memory (Heap a)) u.graph.object has.shared.contents.objects not_given (blank refs nums) new_is;
       given = given_again c u.graph.count u.graph.object name (blank refs nums) has.shared.contents.given is_given;
     };
-    owned = owned_again c top u.block address refs nums name has.piece has.unnamed has.long has.here (u.memory Free) (λ s. u.memory (Current s)) u.ghost.owner has.shared.owned;
+    owned = owned_again c top u.block address refs nums name has.piece has.unnamed has.long has.here (u.memory Share) (u.memory Free) (u.memory Cset) (λ s. u.memory (Current s)) u.ghost.owner has.own.no_spare has.own.no_carved has.shared.owned;
     phased = has.shared.phased;
     unwritten = unwritten_again c top u.block address refs nums name has.piece has.unnamed has.long has.here (λ a. u.memory (Heap a)) has.shared.unwritten;
     marked = marking_again c top u.block address refs nums name has.piece has.unnamed has.long has.here (u.memory Phase) (λ n. u.memory (Grey n)) (λ n. u.memory (Black n)) (λ t. u.memory (Count t)) (λ t i. u.memory (Buffer t i))
@@ -191,7 +194,7 @@ module _ {c : Config} {u : World} {seat made : ℕ} {command k : Command} {fixed
     moveds = λ a more_refs more_nums to n is. stays c top u.block address refs nums name has.piece has.unnamed has.long has.here a (moved n more_refs more_nums to) is
         (λ same. none-some n (sym has.unnamed ∙ ap (λ b. name_at (Some b)) same));
     spents = λ a words to is. updated_else u.block address (Some (thing name refs nums)) a (λ e. not_here a (has.shared.evacuated.moved.spents a words to is).inside (sym e)) ∙ is;
-    pieces = λ a x inside is. (x, updated_else u.block address (Some (thing name refs nums)) a (λ e. not_here a inside (sym e)) ∙ is, refl);
+    pieces = λ a x inside is. (x, updated_else u.block address (Some (thing name refs nums)) a (λ e. not_here a inside (sym e)) ∙ is, refl, refl);
     no_new = λ a more_refs more_nums n inside is. sym (updated_else u.block address (Some (thing name refs nums)) a (λ e. not_here a inside (sym e))) ∙ is;
     tops = λ r is. refl;
   }
@@ -208,6 +211,7 @@ module _ {c : Config} {u : World} {seat made : ℕ} {command k : Command} {fixed
     no_promises = λ a words is. (promise_before a j words is).1;
     promise_words = λ a words i is below. refl;
     current = refl;
+    opens = λ r is. is;
     owners = λ r is. is;
     tops = λ r is. refl;
     root_words = λ i. cond-false ((seat == j) && (dst_of k == i)) _ _ (and_left _ _ (ne_eqb seat j (λ e. differs (sym e))));
@@ -219,5 +223,5 @@ module _ {c : Config} {u : World} {seat made : ℕ} {command k : Command} {fixed
     asked = λ is. is;
     marks = rely_marks c u made_world j refl (λ n. refl) (λ t. refl) (λ t i. refl) refl (λ t. refl) refl (markable_again c top u.block address refs nums name has.piece has.unnamed has.long has.here) (λ a is. refl);
     copies = rely_copies c u made_world j copies_stay refl refl (λ a i b seated copies inside is from below. refl);
-    fields = fields_stored c u made_world (λ r. refl) (λ r. refl) refl (λ a words is. stays c top u.block address refs nums name has.piece has.unnamed has.long has.here a (dead words) is (has.own.no_dead words)) (λ on a more_refs more_nums i n is below. inl refl);
+    fields = fields_stored c u made_world (λ r. refl) (λ r. refl) refl (λ a words is. stays c top u.block address refs nums name has.piece has.unnamed has.long has.here a (dead words) is (has.own.no_dead words)) (λ a words is. stays c top u.block address refs nums name has.piece has.unnamed has.long has.here a (filler words) is (has.own.no_filler words)) (λ on a more_refs more_nums i n is below. inl refl);
   }

@@ -12,12 +12,13 @@ use Rattle.shen_graph.specs.Step.{shown}
 use Rattle.shen_graph.specs.History.{is_full}
 use Rattle.mutator.specs.Rows.{after_field}
 use Rattle.mutator.specs.Commands.{dst_of}
-use Rattle.heap_world.specs.World.{World, hand, body_of, Points, UsableIn, Shared}
+use Rattle.heap_world.specs.World.{World, body_of, Points, UsableIn, Shared}
 use Rattle.step_core.proofs.Machines.Stepped.{IsSeatedIn, HasMarkingBy, HasCopyingBy, Mine}
 use Rattle.step_core.proofs.Mutators.Spots.{mutator_at}
 use Rattle.heap_world.proofs.Pointing.{named_body, body_piece, piece_word, points_small, null_if_0, named_if_not_0}
 use Rattle.step_core.proofs.Machines.Ready.{ready_of, number_small}
 use Rattle.mutator.specs.declared.spot.Kept.{Kept}
+use Rattle.alloc_buffers.specs.Facts.{OnlySpares}
 
 -- a reply that shows a reference is not full
 pub shown_not_full : (r : Reference) → is_full (shown r) ≡ false
@@ -28,10 +29,10 @@ shown_not_full (Some n) = refl
 pub field_mine : (c : Config) (w : World) (seat made : ℕ) (kept : Kept) (command : Command) (got : ℕ) (v : Reference)
     → Shared c w → IsSeatedIn c w seat made false → HasMarkingBy w seat None kept.phase true → HasCopyingBy w seat false kept.cset true → dst_of kept.command < 16
     → ((i : ℕ) → i < 16 → Points w.block (if i == dst_of kept.command then got else w.memory (Root seat i)) (w.graph.root (seat + 1) i))
-    → ((a words : ℕ) → w.block a ≡ Some (hand seat words) → ⊥)
+    → OnlySpares w seat
     → Points w.block got v → UsableIn c w got
     → Mine c w (mutator_at seat made kept (after_field got)) command (Some (shown v))
-field_mine c w seat made kept command got v shared seated marking copying small roots hands is usable = ⊎_elim
+field_mine c w seat made kept command got v shared seated marking copying small roots rooms is usable = ⊎_elim
     (λ (none : (got == 0) ≡ true).
     let below = seated.below in
     let zero_got : got ≡ 0 = eqb-true _ _ none in
@@ -41,7 +42,7 @@ field_mine c w seat made kept command got v shared seated marking copying small 
       marking = marking;
       copying = copying;
       roots = roots;
-      hands = hands;
+      rooms = rooms;
       facts = (ap (λ r. Some (shown r)) (null_if_0 c _ w.block shared.parsable.plotted got v is zero_got), small, usable);
     }))
     (λ (some : (got == 0) ≡ false).
@@ -54,7 +55,7 @@ field_mine c w seat made kept command got v shared seated marking copying small 
       marking = marking;
       copying = copying;
       roots = roots;
-      hands = hands;
+      rooms = rooms;
       facts = (record { name = named.0; settled = ap (λ r. Some (shown r)) named.1; is = named.2; small = small }, usable);
     }))
     (cases_Bool (got == 0))

@@ -23,7 +23,7 @@ use Rattle.mutator.specs.Orders.{is_next}
 use Rattle.mutator.specs.Commands.{command_roots, command_root, is_on_object, lacks_object, has_part}
 use Rattle.mutator.specs.Rows.{Mutating, first_spot, after_first, first_of_set, with_part}
 use Rattle.mutator.specs.Told.{name_the_same}
-use Rattle.heap_world.specs.World.{World, hand, name_at, Points, Shared}
+use Rattle.heap_world.specs.World.{World, name_at, Points, Shared}
 use Rattle.step_core.proofs.Machines.Stepped.{IsRootWord, HasRoot, HasObject, HasFirst, HasRoots, IsBegun, IsSet, IsSeatedIn, HasMarkingBy, HasCopyingBy, Mine, Stepped, Row}
 use Rattle.step_core.proofs.Mutators.Spots.{mutator_at}
 use Rattle.step_core.proofs.Mutators.WhileMarking.{covered_unmarked}
@@ -31,6 +31,7 @@ use Rattle.step_core.proofs.Machines.Ready.{leaving, ready_of, number_small}
 use Rattle.heap_world.proofs.Pointing.{named_if_not_0, null_if_0, points_small}
 use Rattle.step_core.proofs.Machines.Naming.{same_words, names_agree, word_in, shape_in, bad_on_null, bad_on_shape}
 use Rattle.step_core.proofs.Mutators.Loading.{looks, replies}
+use Rattle.alloc_buffers.specs.Facts.{OnlySpares}
 
 -- the roots that a command loads are below 16
 root_small : (made : ℕ) (k : Command) (i : ℕ) → is_next made k ≡ true → i < length (command_roots k) → command_root k i < 16
@@ -73,7 +74,7 @@ record IsUnderWay (c : Config) (u : World) (seat made phase cset : ℕ) (command
   marking : HasMarkingBy u seat None phase true
   copying : HasCopyingBy u seat false cset true
   roots : (i : ℕ) → i < 16 → Points u.block (u.memory (Root seat i)) (u.graph.root (seat + 1) i)
-  hands : (a words : ℕ) → u.block a ≡ Some (hand seat words) → ⊥
+  rooms : OnlySpares u seat
   facts : IsBegun made command fixed k
 
 -- yes and no are not full
@@ -109,7 +110,7 @@ module _ (c : Config) (u : World) (seat made : ℕ) (kept : Kept) (command : Com
   root_mine k now some mine =
       let below = mine.seated.below in
       let small = root_small made k 0 mine.facts.next some in
-      record { seated = mine.seated; ready = grind (arith, nat_tests); marking = mine.marking; copying = mine.copying; roots = mine.roots; hands = mine.hands; facts = (mine.facts, some) }
+      record { seated = mine.seated; ready = grind (arith, nat_tests); marking = mine.marking; copying = mine.copying; roots = mine.roots; rooms = mine.rooms; facts = (mine.facts, some) }
 
   -- where it goes on after the collection set
   set_mine : (k : Command) (now : ℕ) → HasBegunWith k now → HasSpot k now fixed (first_spot k)
@@ -122,7 +123,7 @@ module _ (c : Config) (u : World) (seat made : ℕ) (kept : Kept) (command : Com
         marking = mine.marking;
         copying = mine.copying;
         roots = mine.roots;
-        hands = mine.hands;
+        rooms = mine.rooms;
         facts = (
           record {
             unsettled = mine.facts.unsettled;
@@ -145,10 +146,10 @@ module _ (c : Config) (u : World) (seat made : ℕ) (kept : Kept) (command : Com
         marking = mine.marking;
         copying = mine.copying;
         roots = mine.roots;
-        hands = mine.hands;
+        rooms = mine.rooms;
         facts = (mine.facts.unsettled, small, inr (record { is = mine.facts.is; value_is = refl }));
       }
-  set_mine Gc now mine = record { seated = mine.seated; ready = refl; marking = mine.marking; copying = mine.copying; roots = mine.roots; hands = mine.hands; facts = (mine.facts.unsettled, mine.facts.is) }
+  set_mine Gc now mine = record { seated = mine.seated; ready = refl; marking = mine.marking; copying = mine.copying; roots = mine.roots; rooms = mine.rooms; facts = (mine.facts.unsettled, mine.facts.is) }
   set_mine (Get dst src field) now mine = root_mine (Get dst src field) now (omega arith) mine
   set_mine (Set obj field val) now mine = root_mine (Set obj field val) now (omega arith) mine
   set_mine (Cas obj field expect val) now mine = root_mine (Cas obj field expect val) now (omega arith) mine
@@ -160,7 +161,7 @@ module _ (c : Config) (u : World) (seat made : ℕ) (kept : Kept) (command : Com
 
   -- it leaves with the reply that is settled
   leave_mine : (k : Command) (r : Reply) → HasBegun k → HasSpot k kept.cset (Some r) (Leave r)
-  leave_mine k r mine = leaving c _ seat made (keeping k kept.cset) command r mine.seated (mine.marking.records, mine.marking.scans, mine.copying.copies_is, mine.copying.works_none) mine.roots mine.hands
+  leave_mine k r mine = leaving c _ seat made (keeping k kept.cset) command r mine.seated (mine.marking.records, mine.marking.scans, mine.copying.copies_is, mine.copying.works_none) mine.roots mine.rooms
 
   -- it can go on with the shape of the command's object
   shape_mine : (k : Command) (object second third : ℕ) → Shared c u → HasBegun k → is_on_object k ≡ true → HasRoots c u seat k object second third → HasSpot k kept.cset fixed (Loading (load.Shape object second third))
@@ -172,7 +173,7 @@ module _ (c : Config) (u : World) (seat made : ℕ) (kept : Kept) (command : Com
         marking = mine.marking;
         copying = mine.copying;
         roots = mine.roots;
-        hands = mine.hands;
+        rooms = mine.rooms;
         facts = (mine.facts, on, has);
       }
 
@@ -187,14 +188,14 @@ module _ (c : Config) (u : World) (seat made : ℕ) (kept : Kept) (command : Com
   second_mine k first mine more has =
       let below = mine.seated.below in
       let small = root_small made k 1 mine.facts.next more in
-      record { seated = mine.seated; ready = grind (arith, nat_tests); marking = mine.marking; copying = mine.copying; roots = mine.roots; hands = mine.hands; facts = (mine.facts, more, has) }
+      record { seated = mine.seated; ready = grind (arith, nat_tests); marking = mine.marking; copying = mine.copying; roots = mine.roots; rooms = mine.rooms; facts = (mine.facts, more, has) }
 
   -- it can go on with the third root
   third_mine : (k : Command) (first second : ℕ) → HasBegun k → 2 < length (command_roots k) → HasFirst c u seat k first → HasRoot c u seat k 1 second → HasSpot k kept.cset fixed (Loading (load.Third first second))
   third_mine k first second mine more has has_second =
       let below = mine.seated.below in
       let small = root_small made k 2 mine.facts.next more in
-      record { seated = mine.seated; ready = grind (arith, nat_tests); marking = mine.marking; copying = mine.copying; roots = mine.roots; hands = mine.hands; facts = (mine.facts, more, has, has_second) }
+      record { seated = mine.seated; ready = grind (arith, nat_tests); marking = mine.marking; copying = mine.copying; roots = mine.roots; rooms = mine.rooms; facts = (mine.facts, more, has, has_second) }
 
   -- where it goes on after the first root
   first_mine : (k : Command) (first : ℕ) → Shared c u → HasBegun k → HasFirst c u seat k first → HasSpot k kept.cset fixed (after_first k first)
@@ -219,7 +220,7 @@ module _ (c : Config) (u : World) (seat made : ℕ) (kept : Kept) (command : Com
         marking = mine.marking;
         copying = mine.copying;
         roots = mine.roots;
-        hands = mine.hands;
+        rooms = mine.rooms;
         facts = (mine.facts.unsettled, small, inl (record { src = src; is = mine.facts.is; value_is = value_is }));
       }
   first_mine _ first shared mine has = let some = has.some in absurd (omega arith)
@@ -227,7 +228,7 @@ module _ (c : Config) (u : World) (seat made : ℕ) (kept : Kept) (command : Com
   -- the load of the collection set
   pub at_load_set : Row c u (at_spot LoadSet) command fixed
   at_load_set shared mine =
-      let begun : HasBegunWith kept.command (u.memory Cset) = record { seated = mine.seated; marking = mine.marking; copying = record { copies_is = mine.copying.copies_is; works_none = mine.copying.works_none; set_is = λ on. refl }; roots = mine.roots; hands = mine.hands; facts = mine.facts } in
+      let begun : HasBegunWith kept.command (u.memory Cset) = record { seated = mine.seated; marking = mine.marking; copying = record { copies_is = mine.copying.copies_is; works_none = mine.copying.works_none; set_is = λ on. refl }; roots = mine.roots; rooms = mine.rooms; facts = mine.facts } in
       looks c u (at_spot LoadSet) Cset command fixed refl refl refl shared (set_mine kept.command (u.memory Cset) begun)
 
   -- the first root of a command is null, and there is no object
@@ -254,7 +255,7 @@ module _ (c : Config) (u : World) (seat made : ℕ) (kept : Kept) (command : Com
   pub at_load_root : Row c u (at_spot (Loading load.First)) command fixed
   at_load_root shared mine =
       let k : Command = kept.command in
-      let base : HasBegun k = record { seated = mine.seated; marking = mine.marking; copying = mine.copying; roots = mine.roots; hands = mine.hands; facts = mine.facts.0 } in
+      let base : HasBegun k = record { seated = mine.seated; marking = mine.marking; copying = mine.copying; roots = mine.roots; rooms = mine.rooms; facts = mine.facts.0 } in
       ⊎_elim (root_lacks k shared base mine.facts.1) (root_goes k shared base mine.facts.1) (cases_Bool (lacks_object k (u.memory (Root seat (command_root k 0)))))
 
   -- where it goes on after the second root; for a Same it is settled here whether the roots are the same
@@ -284,7 +285,7 @@ module _ (c : Config) (u : World) (seat made : ℕ) (kept : Kept) (command : Com
   -- the load of the second root
   pub at_load_second : (first : ℕ) → Row c u (at_spot (Loading (load.Second first))) command fixed
   at_load_second first shared mine =
-      second_step kept.command first shared (record { seated = mine.seated; marking = mine.marking; copying = mine.copying; roots = mine.roots; hands = mine.hands; facts = mine.facts.0 }) mine.facts.1 mine.facts.2
+      second_step kept.command first shared (record { seated = mine.seated; marking = mine.marking; copying = mine.copying; roots = mine.roots; rooms = mine.rooms; facts = mine.facts.0 }) mine.facts.1 mine.facts.2
 
   -- where it goes on after the third root: only a Cas has one
   third_step : (k : Command) (first second : ℕ) → Shared c u → HasBegun k → 2 < length (command_roots k) → HasFirst c u seat k first → HasRoot c u seat k 1 second → Stepped c u (at_call k (Loading (load.Third first second))) command Nothing fixed
@@ -296,7 +297,7 @@ module _ (c : Config) (u : World) (seat made : ℕ) (kept : Kept) (command : Com
   -- the load of the third root
   pub at_load_third : (first second : ℕ) → Row c u (at_spot (Loading (load.Third first second))) command fixed
   at_load_third first second shared mine =
-      third_step kept.command first second shared (record { seated = mine.seated; marking = mine.marking; copying = mine.copying; roots = mine.roots; hands = mine.hands; facts = mine.facts.0 }) mine.facts.1 mine.facts.2 mine.facts.3
+      third_step kept.command first second shared (record { seated = mine.seated; marking = mine.marking; copying = mine.copying; roots = mine.roots; rooms = mine.rooms; facts = mine.facts.0 }) mine.facts.1 mine.facts.2 mine.facts.3
 
   -- A Set goes on with its field: while objects are marked it looks first what it will overwrite.
   set_part : (obj field val object value : ℕ) → Shared c u → HasBegun (Set obj field val) → IsSet c u seat command object field value
@@ -308,7 +309,7 @@ module _ (c : Config) (u : World) (seat made : ℕ) (kept : Kept) (command : Com
         marking = mine.marking;
         copying = mine.copying;
         roots = mine.roots;
-        hands = mine.hands;
+        rooms = mine.rooms;
         facts = (mine.facts.unsettled, is);
       }))
       (λ (off : (kept.phase == 1) ≡ false). rw off (record {
@@ -317,7 +318,7 @@ module _ (c : Config) (u : World) (seat made : ℕ) (kept : Kept) (command : Com
         marking = mine.marking;
         copying = mine.copying;
         roots = mine.roots;
-        hands = mine.hands;
+        rooms = mine.rooms;
         facts = (mine.facts.unsettled, is, covered_unmarked c u object field shared (λ on. eqb-false _ _ off (mine.marking.phase_is refl ∙ on)));
       }))
       (cases_Bool (kept.phase == 1))
@@ -337,7 +338,7 @@ module _ (c : Config) (u : World) (seat made : ℕ) (kept : Kept) (command : Com
         marking = mine.marking;
         copying = mine.copying;
         roots = mine.roots;
-        hands = mine.hands;
+        rooms = mine.rooms;
         facts = (mine.facts.unsettled, record { src = src; is = mine.facts.is; small = grind (arith, nat_tests); of = of; below = below });
       }
   part_mine (Set obj field val) object second third shape shared mine has of refs nums on part =
@@ -351,7 +352,7 @@ module _ (c : Config) (u : World) (seat made : ℕ) (kept : Kept) (command : Com
         marking = mine.marking;
         copying = mine.copying;
         roots = mine.roots;
-        hands = mine.hands;
+        rooms = mine.rooms;
         facts = (
           mine.facts.unsettled,
           record { obj = obj; expected = expect; val = val; is = mine.facts.is; of = of; below = below; expect_is = has.second_is (omega arith); value_is = has.third_is (omega arith) },
@@ -367,7 +368,7 @@ module _ (c : Config) (u : World) (seat made : ℕ) (kept : Kept) (command : Com
         marking = mine.marking;
         copying = mine.copying;
         roots = mine.roots;
-        hands = mine.hands;
+        rooms = mine.rooms;
         facts = (mine.facts.unsettled, record { obj = obj; val = val; is = mine.facts.is; small = grind (arith, nat_tests); of = of; below = below; value_is = value_is });
       }
   part_mine (Rd obj index) object second third shape shared mine has of refs nums on part =
@@ -378,7 +379,7 @@ module _ (c : Config) (u : World) (seat made : ℕ) (kept : Kept) (command : Com
         marking = mine.marking;
         copying = mine.copying;
         roots = mine.roots;
-        hands = mine.hands;
+        rooms = mine.rooms;
         facts = (mine.facts.unsettled, record { obj = obj; is = mine.facts.is; of = of; refs_are = refs; below = below });
       }
   part_mine (Wr obj index value) object second third shape shared mine has of refs nums on part =
@@ -391,7 +392,7 @@ module _ (c : Config) (u : World) (seat made : ℕ) (kept : Kept) (command : Com
         marking = mine.marking;
         copying = mine.copying;
         roots = mine.roots;
-        hands = mine.hands;
+        rooms = mine.rooms;
         facts = (mine.facts.unsettled, record { obj = obj; is = mine.facts.is; of = of; refs_are = refs; below = below });
       }
   part_mine _ object second third shape shared mine has of refs nums on part = cc
@@ -400,7 +401,7 @@ module _ (c : Config) (u : World) (seat made : ℕ) (kept : Kept) (command : Com
   pub at_load_shape : (object second third : ℕ) → Row c u (at_spot (Loading (load.Shape object second third))) command fixed
   at_load_shape object second third shared mine =
       let k : Command = kept.command in
-      let base : HasBegun k = record { seated = mine.seated; marking = mine.marking; copying = mine.copying; roots = mine.roots; hands = mine.hands; facts = mine.facts.0 } in
+      let base : HasBegun k = record { seated = mine.seated; marking = mine.marking; copying = mine.copying; roots = mine.roots; rooms = mine.rooms; facts = mine.facts.0 } in
       let of : HasObject c u seat (command_root k 0) object = object_of c u seat k object shared mine.facts.1 mine.facts.2.first_is in
       let sizes = shape_in c u shared seat (command_root k 0) object of in
       ⊎_elim

@@ -89,19 +89,19 @@ outside_given Gone out = refl
 outside_given _ out = cc
 
 -- no step of a resolving is of an answer
-copy_answer : (c : Config) (memory : Word → ℕ) (address copy t : ℕ) (at : CopySpot) → touched memory (resolves.copy_touch c address copy at) (Answer t) ≡ memory (Answer t)
-copy_answer c memory address copy t (copying.LoadWord words index) = refl
-copy_answer c memory address copy t (copying.StoreWord words index found) = refl
-copy_answer c memory address copy t copying.StoreHeader = refl
-copy_answer c memory address copy t copying.Publish = refl
-copy_answer c memory address copy t (copying.GiveBack answer) = refl
+copy_answer : (memory : Word → ℕ) (seat address copy end t : ℕ) (at : CopySpot) → touched memory (resolves.copy_touch seat address copy end at) (Answer t) ≡ memory (Answer t)
+copy_answer memory seat address copy end t (copying.LoadWord words index) = refl
+copy_answer memory seat address copy end t (copying.StoreWord words index found) = refl
+copy_answer memory seat address copy end t copying.StoreHeader = refl
+copy_answer memory seat address copy end t copying.Publish = refl
+copy_answer memory seat address copy end t (copying.GiveBack answer) = refl
 
 resolve_answer : (c : Config) (memory : Word → ℕ) (seat address t : ℕ) (at : ResolveSpot) → touched memory (resolves.touch_at c seat address at) (Answer t) ≡ memory (Answer t)
 resolve_answer c memory seat address t resolve.LoadHeader = refl
 resolve_answer c memory seat address t (resolve.Entering at) = refl
 resolve_answer c memory seat address t resolve.LoadShape = refl
 resolve_answer c memory seat address t (resolve.Taking words at) = others_stay seat words memory at (Answer t) refl
-resolve_answer c memory seat address t (resolve.Copying copy at) = copy_answer c memory address copy t at
+resolve_answer c memory seat address t (resolve.Copying copy end at) = copy_answer memory seat address copy end t at
 resolve_answer c memory seat address t (resolve.Leaving answer) = refl
 resolve_answer c memory seat address t (resolve.Stopping at) = refl
 resolve_answer c memory seat address t resolve.LoadAgain = refl

@@ -1,6 +1,6 @@
 -- A mutator that overwrites a reference, while objects are marked and in other phases: it takes the reference in hand, to record it, or
 -- marking needs the field no more.
-use Rattle.std.proofs.Common.{◌≡◌, ◌≢◌, ℕ, ◌+◌, ◌^◌, ◌<◌, ⊎_elim, inl, inr, true, false, Option, Some, None, refl, sym, ◌∙◌, arith}
+use Rattle.std.proofs.Common.{◌≡◌, ◌≢◌, ℕ, ◌+◌, ◌^◌, ◌<◌, ⊎_elim, inl, inr, true, false, Option, None, refl, sym, ◌∙◌, arith}
 use Rattle.std.specs.Prelude.{◌==◌, nat_lt, if◌then◌else◌}
 use Rattle.std.proofs.lemmas.Bool.{and_from, and_parts, cases_Bool, eqb-true, eqb-false, lt-ltb, ltb-true}
 use Rattle.std.proofs.lemmas.Bool.Decides.{nat_tests}
@@ -24,14 +24,15 @@ use Rattle.mutator.specs.declared.spot.Spot.TheVariants.{Recording}
 use Rattle.mutator.specs.declared.overwrites.Overwritten.{Overwritten}
 use Rattle.mutator.specs.Fit.{is_ready}
 use Rattle.mutator.specs.Rows.{Mutating, is_to_record}
-use Rattle.heap_world.specs.World.{World, thing, hand, promised, Points, IsMarkable, IsCovered, Shared}
+use Rattle.heap_world.specs.World.{World, thing, promised, Points, IsMarkable, IsCovered, Shared}
 use Rattle.heap_world.proofs.Marked.{same_marks}
 use Rattle.heap_world.proofs.Objects.{stored}
 use Rattle.heap_world.proofs.Unmoved.{unmoved}
 use Rattle.heap_world.proofs.Pointing.{named_thing, named_if_not_0, piece_small}
 use Rattle.step_core.proofs.Machines.Stepped.{HasMarkingBy, Stepped}
 use Rattle.step_core.proofs.Mutators.WhileMarking.{covered_found, covered_unmarked, rely_twice}
-use Rattle.step_core.proofs.Machines.Ready.{number_small}
+use Rattle.step_core.proofs.Machines.Ready.{number_small, no_hand}
+use Rattle.alloc_buffers.specs.Facts.{OnlySpares}
 
 -- the address of an object is small
 markable_small : (c : Config) (w : World) (a : ℕ) → Shared c w → IsMarkable w.block a → a < 2 ^ 32
@@ -76,7 +77,7 @@ pub data Overwrites (c : Config) (u : World) (seat phase object field got : ℕ)
   leaves : is_to_record phase got ≡ false → IsCovered c u object field → Overwrites c u seat phase object field got
 
 -- so it is with each reference that a field of an object has
-pub overwrites_of : (c : Config) (u : World) (seat phase object field : ℕ) (v : Reference) → seat < c.mutators → Shared c u → HasMarkingBy u seat None phase true → ((a words : ℕ) → u.block a ≡ Some (hand seat words) → ⊥)
+pub overwrites_of : (c : Config) (u : World) (seat phase object field : ℕ) (v : Reference) → seat < c.mutators → Shared c u → HasMarkingBy u seat None phase true → OnlySpares u seat
     → Points u.block (u.memory (Heap (object + 3 + field))) v → Overwrites c u seat phase object field (u.memory (Heap (object + 3 + field)))
 overwrites_of c u seat phase object field v below shared marking none stands = let got : ℕ = u.memory (Heap (object + 3 + field)) in ⊎_elim
     (λ (records : is_to_record phase got ≡ true).
@@ -84,7 +85,7 @@ overwrites_of c u seat phase object field v below shared marking none stands = l
     let named = named_if_not_0 c (λ r. u.memory (Top r)) u.block shared.parsable.plotted got v stands some.1 in
     let on : u.memory Phase ≡ 1 = sym (marking.phase_is refl) ∙ some.0 in
     let piece = named_thing (u.block got) named.0 (λ refs nums to is. unmoved c u shared (omega (arith, on)) got refs nums to named.0 is) named.2 in
-    let held = recording_steps.begins c u seat got below on (IsMarkable.object named.0 piece.0 piece.1 piece.2) marking.records marking.scans none shared in
+    let held = recording_steps.begins c u seat got below on (IsMarkable.object named.0 piece.0 piece.1 piece.2) marking.records marking.scans (no_hand u seat none) shared in
     Overwrites.takes records held (covered_found c u (with_in_hand u seat got) object field shared held.keeps.marks (inr held.noted)))
     (λ (other : is_to_record phase got ≡ false). Overwrites.leaves other (⊎_elim
     (λ (on : (phase == 1) ≡ true). covered_found c u u object field shared (same_marks c u seat).keeps (inl (null_unrecorded phase got other on)))

@@ -4,7 +4,7 @@ use Rattle.std.specs.Prelude.{◌==◌}
 use Rattle.std.proofs.lemmas.Bool.{cond-true, cond-false, eq-eqb, ne_eqb}
 use Rattle.std.proofs.lemmas.Bool.{cases_eq}
 use Rattle.heap_words.specs.declared.config.Config.{Config}
-use Rattle.heap_words.specs.Words.{Top, Current, Heap, is_word}
+use Rattle.heap_words.specs.Words.{Top, Heap, is_word}
 use Rattle.shen_graph.specs.declared.command.Command.{Command}
 use Rattle.shen_graph.specs.declared.command.Reply.{Reply}
 use Rattle.shen_graph.specs.declared.order.Order.TheVariants.{Nothing}
@@ -40,7 +40,7 @@ module _ (c : Config) (u : World) (shared : Shared c u) where
       of_object None is other = absurd (other is)
       of_object (Some name) is other =
           let piece = named_piece (u.block word) name is in
-          let long = some_words c (λ k. u.memory (Top k)) (λ k. u.memory (Current k)) u.block shared.parsable shared.owned.rooms word piece.0 piece.1 in
+          let long = some_words c (λ k. u.memory (Top k)) u.block shared.parsable shared.owned.rooms word piece.0 piece.1 in
           ap (λ a. is_word c (Heap a)) (omega arith) ∙ piece_word c (λ k. u.memory (Top k)) u.block shared.parsable.plotted word 0 piece.0 piece.1 (omega (arith, long))
 
   module _ (seat made : ℕ) (kept : Kept) (command : Command) (fixed : Option Reply) where

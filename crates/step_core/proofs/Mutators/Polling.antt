@@ -88,7 +88,7 @@ module _ (c : Config) (words image : List ℕ) (block : Plot) (ghost : Ghost) (g
       marking = thread.mine.marking;
       copying = thread.mine.copying;
       roots = thread.mine.roots;
-      hands = thread.mine.hands;
+      rooms = thread.mine.rooms;
       facts = answered_by u seat made raw kept.command command thread.fixed (eqb-false _ _ some) thread.seen thread.mine.facts;
     };
     seen = thread.seen;

@@ -1,5 +1,5 @@
 -- The steps by which a mutator records what it overwrites: what recording owes is what their places owe.
-use Rattle.std.proofs.Common.{◌≡◌, ℕ, ◌+◌, ◌<◌, true, false, Option, Some, None, refl, sym, ◌∙◌, subst, arith}
+use Rattle.std.proofs.Common.{◌≡◌, ℕ, ◌+◌, ◌<◌, true, false, Option, Some, None, refl, sym, ◌∙◌, subst, arith, ap}
 use Rattle.std.specs.Prelude.{if◌then◌else◌}
 use Rattle.std.proofs.lemmas.Bool.{and_parts, false≢true}
 use Rattle.heap_words.specs.declared.config.Config.{Config}
@@ -20,7 +20,7 @@ use Rattle.mutator.specs.declared.overwrites.Overwritten.TheVariants as overwrit
 use Rattle.mutator.specs.Commands.{dst_of}
 use Rattle.mutator.specs.Fit.{remember_fits}
 use Rattle.mutator.specs.Rows.{Mutating, after_recording, after_remember}
-use Rattle.heap_world.specs.World.{World, hand, Points, Shared}
+use Rattle.heap_world.specs.World.{World, Points, Shared}
 use Rattle.heap_world.specs.Rely.{Keeps}
 use Rattle.heap_world.specs.Part.{SameWork}
 use Rattle.heap_world.proofs.Unmoved.{usable_unmoved}
@@ -34,6 +34,7 @@ use Rattle.step_core.proofs.Mutators.Fields.{store_ready}
 use Rattle.step_core.proofs.Mutators.InHand.{field_mine}
 use Rattle.step_core.proofs.Mutators.Overwriting.{record_ready}
 use Rattle.step_core.proofs.Machines.Ready.{leaving}
+use Rattle.alloc_buffers.specs.Facts.{OnlySpares}
 
 module _ (c : Config) (u : World) (seat made : ℕ) (kept : Kept) (command : Command) (fixed : Option Reply) where
   abbrev at_spot : Spot → Mutating
@@ -48,7 +49,7 @@ module _ (c : Config) (u : World) (seat made : ℕ) (kept : Kept) (command : Com
         still Recorded going = absurd (false≢true going)
         still _ going = refl
 
-    module _ (w : World) (shared : Shared c w) (keeps : Keeps c seat u w) where
+    module _ (w : World) (shared : Shared c w) (keeps : Keeps c seat u w) (same : w.block ≡ u.block) where
       -- what it counts on of marking then
       marking_then : (at : RememberSpot) → (in_hand : Option ℕ) → CanRecord c w seat address at → w.ghost.recording seat ≡ in_hand → HasMarkingBy w seat in_hand kept.phase true
       marking_then at in_hand can records = record { records = records; scans = can.scanning; phase_is = λ on. mine.marking.phase_is refl ∙ sym keeps.marks.phase }
@@ -70,11 +71,11 @@ module _ (c : Config) (u : World) (seat made : ℕ) (kept : Kept) (command : Com
         marking = marking_then at (Some address) can records;
         copying = copying_then work;
         roots = roots_then;
-        hands = can.hands;
+        rooms = λ a x is. mine.rooms a x (ap (λ plot. plot a) (sym same) ∙ is);
         facts = (can, record_stays c u w seat keeps kept.command command fixed address next mine.facts.1);
       }
 
-  module _ (w : World) (seated : IsSeatedIn c w seat made false) (marking : HasMarkingBy w seat None kept.phase true) (copying : HasCopyingBy w seat false kept.cset true) (on : w.memory Phase ≡ 1) (none : (a words : ℕ) → w.block a ≡ Some (hand seat words) → ⊥) (shared : Shared c w) where
+  module _ (w : World) (seated : IsSeatedIn c w seat made false) (marking : HasMarkingBy w seat None kept.phase true) (copying : HasCopyingBy w seat false kept.cset true) (on : w.memory Phase ≡ 1) (none : OnlySpares w seat) (shared : Shared c w) where
     -- where it goes on once the address is recorded
     mine_recorded : (address : ℕ) (next : Overwritten) → ((i : ℕ) → i < 16 → Points w.block (root_recording w seat (dst_of kept.command) address next i) (w.graph.root (seat + 1) i))
         → RecordFacts c w seat kept.command command fixed address next → Mine c w (at_spot (after_recording address next)) command fixed
@@ -84,7 +85,7 @@ module _ (c : Config) (u : World) (seat made : ℕ) (kept : Kept) (command : Com
       marking = marking;
       copying = copying;
       roots = roots;
-      hands = none;
+      rooms = none;
       facts = facts;
     }
     mine_recorded address overwrites.Xchg roots found =
@@ -96,12 +97,12 @@ module _ (c : Config) (u : World) (seat made : ℕ) (kept : Kept) (command : Com
 
   module _ (before : RememberSpot) (address : ℕ) (next : Overwritten) (mine : Mine c u (at_spot (Recording before address next)) command fixed) where
     -- what it counts on after a step
-    mine_then : (at : RememberSpot) (w : World) → Shared c w → Keeps c seat u w → CanRecord c w seat address at → SameWork u w seat → Mine c w (at_spot (after_remember address next at)) command fixed
-    mine_then Recorded w shared keeps can work =
-        mine_recorded w (seated_stays c u w seat keeps made false mine.seated) (marking_then before address next mine w shared keeps Recorded None can can.recording) (copying_then before address next mine w shared keeps work) can.phase
-        can.hands shared address next
-        (roots_then before address next mine w shared keeps) (record_stays c u w seat keeps kept.command command fixed address next mine.facts.1)
-    mine_then at w shared keeps can work = mine_at before address next mine w shared keeps at refl can.recording can work
+    mine_then : (at : RememberSpot) (w : World) → Shared c w → Keeps c seat u w → w.block ≡ u.block → CanRecord c w seat address at → SameWork u w seat → Mine c w (at_spot (after_remember address next at)) command fixed
+    mine_then Recorded w shared keeps same can work =
+        mine_recorded w (seated_stays c u w seat keeps made false mine.seated) (marking_then before address next mine w shared keeps same Recorded None can can.recording) (copying_then before address next mine w shared keeps same work) can.phase
+        (λ a x is. mine.rooms a x (ap (λ plot. plot a) (sym same) ∙ is)) shared address next
+        (roots_then before address next mine w shared keeps same) (record_stays c u w seat keeps kept.command command fixed address next mine.facts.1)
+    mine_then at w shared keeps same can work = mine_at before address next mine w shared keeps same at refl can.recording can work
 
   -- each step
   pub at_record : (at : RememberSpot) (address : ℕ) (next : Overwritten) → Row c u (at_spot (Recording at address next)) command fixed
@@ -114,6 +115,6 @@ module _ (c : Config) (u : World) (seat made : ℕ) (kept : Kept) (command : Com
         legal = tt;
         settles = λ r e. cc;
         shared = step.shared;
-        mine = mine_then at address next mine (satb.next_at at (u.memory (satb.touch_at c seat address at).word)) step.world step.shared step.keeps step.own.0 step.own.1;
+        mine = mine_then at address next mine (satb.next_at at (u.memory (satb.touch_at c seat address at).word)) step.world step.shared step.keeps step.own.2 step.own.0 step.own.1;
         others = step.others;
       }

@@ -59,7 +59,7 @@ module _ (c : Config) (w : World) (seat made : ℕ) (kept : Kept) (command : Com
         marking = mine.marking;
         copying = mine.copying;
         roots = mine.roots;
-        hands = mine.hands;
+        rooms = mine.rooms;
         facts = subst (λ s. SpotFacts c w seat made kept command (Some Full) s) (sym is.0)
             (inr (inr (record { dst = is.1.dst; refs = is.1.refs; nums = is.1.nums; is = is.1.is; settled = inr refl }, is.2)));
       }

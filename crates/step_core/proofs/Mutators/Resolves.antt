@@ -4,28 +4,36 @@ use Rattle.heap_words.specs.declared.config.Config.{Config}
 use Rattle.heap_words.specs.Ranges.{seat_count}
 use Rattle.heap_words.specs.Words.{Phase, Cset, IsWord}
 use Rattle.load_barrier.specs.declared.spot.ResolveSpot.{ResolveSpot}
-use Rattle.load_barrier.specs.declared.spot.ResolveSpot.TheVariants.{LoadHeader, Resolved}
+use Rattle.load_barrier.specs.declared.spot.ResolveSpot.TheVariants.{LoadHeader, Taking, Copying, Resolved}
 use Rattle.load_barrier.specs.Alone.{is_copier}
 use Rattle.load_barrier.specs.Rows as resolves
 use Rattle.load_barrier.specs.Fit as load
-use Rattle.move_steps.specs.Resolving.Facts.{IsAnswer, IsRoomAt}
+use Rattle.move_steps.specs.Resolving.Facts.{IsAnswer, IsResolvingRoom}
 use Rattle.move_steps.proofs.Resolving.Parts.{resolving_steps}
 use Rattle.move_steps.proofs.Updating.Following.{following_steps}
-use Rattle.heap_world.specs.World.{World, Body, hand, HasCopy, body_at, IsCollected, Shared}
+use Rattle.alloc_buffers.specs.Facts.{IsSpare, OnlySpares}
+use Rattle.move_steps.specs.Updating.Following.{FollowFacts}
+use Rattle.heap_world.specs.World.{World, Block, Body, room_of, HasCopy, body_at, IsCollected, Shared}
 use Rattle.heap_world.specs.Rely.{Rely}
 use Rattle.heap_world.specs.Part.{PartStep}
 use Rattle.step_core.proofs.Machines.Stepped.{IsResolving}
 
--- The address lies in the collection set and is that of a copy. The counter counts the machine where it copies; it has no room in hand but
--- for its copy, and neither records nor scans; and it can make its next access.
+-- The address lies in the collection set and is that of a copy. The counter counts the machine where it copies; all its room is what the spot
+-- says, and it neither records nor scans; and it can make its next access.
 pub record Resolves (c : Config) (w : World) (seat a : ℕ) (at : ResolveSpot) : Type 0 where
   pub inside : IsCollected c (w.memory Cset) a
   pub there : HasCopy w.block a
   pub copying : w.ghost.copying seat ≡ is_copier at
   pub records_none : w.ghost.recording seat ≡ None
   pub scans_none : w.ghost.scanning seat ≡ None
-  pub hands : (b words : ℕ) → w.block b ≡ Some (hand seat words) → IsRoomAt at b
+  pub rooms : (b : ℕ) (x : Block) → w.block b ≡ Some x → room_of x ≡ Some seat → IsResolvingRoom seat at b x
   pub ready : load.is_ready c seat a at ≡ true
+
+-- who follows a header has free words of its buffer alone
+follows_room : (c : Config) (w : World) (seat a : ℕ) (at : ResolveSpot) (b : ℕ) (x : Block) → FollowFacts c w a at → IsSpare seat x → IsResolvingRoom seat at b x
+follows_room c w seat a (Taking words take) b x facts spares = absurd facts
+follows_room c w seat a (Copying copy end at) b x facts spares = absurd facts
+follows_room c w seat a _ b x facts spares = spares
 
 pub resolves_by : (c : Config) (w : World) (seat a : ℕ) (at : ResolveSpot) → Shared c w → IsResolving c w seat a at → Resolves c w seat a at
 resolves_by c w seat a at shared (inl can) = record {
@@ -34,7 +42,7 @@ resolves_by c w seat a at shared (inl can) = record {
   copying = can.copying;
   records_none = can.records_none;
   scans_none = can.scans_none;
-  hands = can.hands;
+  rooms = can.rooms;
   ready = can.ready;
 }
 resolves_by c w seat a at shared (inr can) = record {
@@ -43,18 +51,18 @@ resolves_by c w seat a at shared (inr can) = record {
   copying = can.nothing.copying ∙ sym (following_steps.copies_none c w seat a at can);
   records_none = can.nothing.records_none;
   scans_none = can.nothing.scans_none;
-  hands = λ b words is. absurd (can.nothing.hands b words is);
+  rooms = λ b x is room. follows_room c w seat a at b x can.facts (can.nothing.rooms b x is room);
   ready = following_steps.ready c w seat a at shared can;
 }
 
 -- a machine that works on no unit begins to resolve the address of a copy of an object of the graph, in phase 2 or 3
 pub resolving_begins : (c : Config) (u : World) (seat a : ℕ) (b : Body) → seat < seat_count c.mutators c.helpers → (u.memory Phase ≡ 2) ⊎ (u.memory Phase ≡ 3) → IsCollected c (u.memory Cset) a
     → body_at (u.block a) ≡ Some b → u.ghost.copying seat ≡ false → u.ghost.working seat ≡ None → u.ghost.recording seat ≡ None → u.ghost.scanning seat ≡ None
-    → ((x words : ℕ) → u.block x ≡ Some (hand seat words) → ⊥) → IsResolving c u seat a LoadHeader
+    → OnlySpares u seat → IsResolving c u seat a LoadHeader
 resolving_begins c u seat a b seated (inl on) inside there copying working records scans none =
     inl (resolving_steps.begins c u seat a seated on inside (HasCopy.copy b there) copying records scans none)
 resolving_begins c u seat a b seated (inr on) inside there copying working records scans none =
-    inr (following_steps.begins c u seat a b seated on inside there working (record { copying = copying; records_none = records; scans_none = scans; hands = none }))
+    inr (following_steps.begins c u seat a b seated on inside there working (record { copying = copying; records_none = records; scans_none = scans; rooms = none }))
 
 -- it resolves, and works on no unit
 pub record ResolvesAlone (c : Config) (w : World) (seat a : ℕ) (at : ResolveSpot) : Type 0 where

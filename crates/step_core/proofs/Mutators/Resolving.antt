@@ -30,7 +30,7 @@ use Rattle.mutator.specs.declared.resolves.Loaded.TheVariants.{ForRoot, ToCompar
 use Rattle.mutator.specs.Commands.{dst_of, index_of}
 use Rattle.mutator.specs.Rows.{Mutating, after_expected, after_resolve, after_resolved, with_loaded}
 use Rattle.mutator.specs.Fit.{is_ready, resolve_fits}
-use Rattle.heap_world.specs.World.{World, hand, name_at, body_of, Points, IsCollected, TargetIn, UsableIn, Shared}
+use Rattle.heap_world.specs.World.{World, name_at, body_of, Points, IsCollected, TargetIn, UsableIn, Shared}
 use Rattle.heap_world.specs.Rely.{Keeps}
 use Rattle.heap_world.proofs.Pointing.{named_body, copy_cases, named_if_not_0, points_small}
 use Rattle.heap_world.proofs.Unmoved.{usable_unmoved}
@@ -42,6 +42,7 @@ use Rattle.step_core.proofs.Machines.Stable.{root_stays, now_stays, seated_stays
 use Rattle.step_core.proofs.Mutators.InHand.{field_mine}
 use Rattle.step_core.proofs.Mutators.Resolves.{resolves_by, resolving_begins, ResolvesAlone, resolving_step, resolving_inside, resolving_answers}
 use Rattle.step_core.proofs.Machines.Ready.{leaving, ready_of, number_small}
+use Rattle.alloc_buffers.specs.Facts.{OnlySpares}
 
 -- an address of the set lies there, by the test of its bit
 pub lies_there : (c : Config) (cset a : ℕ) → lies_in_set c cset a ≡ true → IsCollected c cset a
@@ -109,7 +110,7 @@ resolving_ready c w seat made kept address at next shared can going =
     (and_from _ _ is.ready (rw going refl)))
 
 module _ (c : Config) (w : World) (seat made : ℕ) (kept : Kept) (command : Command) (shared : Shared c w) (seated : IsSeatedIn c w seat made false) (marking : HasMarkingBy w seat None kept.phase true)
-    (copying : HasCopyingBy w seat false kept.cset true) (none : (a words : ℕ) → w.block a ≡ Some (hand seat words) → ⊥) where
+    (copying : HasCopyingBy w seat false kept.cset true) (none : OnlySpares w seat) where
   -- A Cas goes on with what it found, by a word that may be used for it: it exchanges where that is the one that is to be there, and
   -- leaves otherwise.
   pub expected_mine : (fixed : Option Reply) (object expect value found answer : ℕ) (v : Reference) → IsCas c w seat command object (index_of kept.command) expect value → IsCompared w.block fixed found expect
@@ -132,7 +133,7 @@ module _ (c : Config) (w : World) (seat made : ℕ) (kept : Kept) (command : Com
             marking = marking;
             copying = copying;
             roots = roots;
-            hands = none;
+            rooms = none;
             facts = (same.0, cas, same.1);
           })
       by_comparison (inl other) =
@@ -158,7 +159,7 @@ module _ (c : Config) (w : World) (seat made : ℕ) (kept : Kept) (command : Com
         marking = marking;
         copying = copying;
         roots = roots;
-        hands = λ a words there. absurd (none a words there);
+        rooms = none;
         facts = (can, facts);
       }
 
@@ -253,14 +254,14 @@ module _ (c : Config) (u : World) (seat made : ℕ) (kept : Kept) (command : Com
         marking = marking_then at alone;
         copying = copying_then at alone;
         roots = roots_then;
-        hands = (resolves_by c w seat address at shared alone.can).hands;
+        rooms = (resolves_by c w seat address at shared alone.can).rooms;
         facts = (alone.can, resolved_stays c u w seat keeps kept.command command fixed address next mine.facts.1);
       }
 
       -- what it counts on after a step
       mine_then : (at : ResolveSpot) → ResolvesAlone c w seat address at → Mine c w (at_spot (after_resolve address next at)) command fixed
       mine_then (Resolved answer) alone =
-          mine_resolved c w seat made kept command shared (seated_stays c u w seat keeps made false mine.seated) (marking_then (Resolved answer) alone) (copying_then (Resolved answer) alone) (resolves_by c w seat address (Resolved answer) shared alone.can).hands
+          mine_resolved c w seat made kept command shared (seated_stays c u w seat keeps made false mine.seated) (marking_then (Resolved answer) alone) (copying_then (Resolved answer) alone) (resolves_by c w seat address (Resolved answer) shared alone.can).rooms
           fixed address answer next (resolving_answers c w seat address answer alone.can) roots_then (resolved_stays c u w seat keeps kept.command command fixed address next mine.facts.1)
       mine_then at alone = mine_at at refl alone
 

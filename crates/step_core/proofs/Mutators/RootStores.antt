@@ -66,7 +66,7 @@ module _ (c : Config) (u : World) (seat made : ℕ) (kept : Kept) (command : Com
             (leaving c _ seat made kept command r
             (seated_written c u (accessed c u (at_spot (Showing value (show.StoreRoot r)))) seat made dst value refl refl refl mine.facts.2 mine.seated)
             (mine.marking.records, mine.marking.scans, mine.copying.copies_is, mine.copying.works_none)
-            (λ i below. subst (λ word. Points u.block word (u.graph.root (seat + 1) i)) (root_written u.memory seat dst value i) (mine.roots i below)) mine.hands);
+            (λ i below. subst (λ word. Points u.block word (u.graph.root (seat + 1) i)) (root_written u.memory seat dst value i) (mine.roots i below)) mine.rooms);
         others = λ j d. let marks = marks_in c u (accessed c u (at_spot (Showing value (show.StoreRoot r)))).memory (accessed c u (at_spot (Showing value (show.StoreRoot r)))).graph j refl (λ n. refl) (λ t. refl) (λ t k. refl) (λ a. refl) in let copies = copies_in c u (accessed c u (at_spot (Showing value (show.StoreRoot r)))).memory (accessed c u (at_spot (Showing value (show.StoreRoot r)))).graph j refl refl (λ r. refl) (λ a. refl) in let kept_fields = fields_in c u (accessed c u (at_spot (Showing value (show.StoreRoot r)))).memory (accessed c u (at_spot (Showing value (show.StoreRoot r)))).graph (λ r. refl) (λ r. refl) refl (λ a. refl) in search (arith, nat_tests, marks, copies, kept_fields);
       }
 
@@ -86,7 +86,7 @@ module _ (c : Config) (u : World) (seat made : ℕ) (kept : Kept) (command : Com
     legal = legal_answer u.graph seat command reply.Ok refl (ap (λ o. o.reply) is);
     settles = λ r e. (mine.facts.0, refl);
     shared = shared;
-    mine = leaving c _ seat made kept command reply.Ok (seated_written c u (rooted_world value v) seat made dst value refl refl refl new mine.seated) (mine.marking.records, mine.marking.scans, mine.copying.copies_is, mine.copying.works_none) (roots_written u.block u.memory u.graph.root seat dst value v mine.roots stands) mine.hands;
+    mine = leaving c _ seat made kept command reply.Ok (seated_written c u (rooted_world value v) seat made dst value refl refl refl new mine.seated) (mine.marking.records, mine.marking.scans, mine.copying.copies_is, mine.copying.works_none) (roots_written u.block u.memory u.graph.root seat dst value v mine.roots stands) mine.rooms;
     others = λ j d. let marks = marks_in c u (rooted_world value v).memory (rooted_world value v).graph j refl (λ n. refl) (λ t. refl) (λ t k. refl) (λ a. refl) in let copies = copies_in c u (rooted_world value v).memory (rooted_world value v).graph j refl refl (λ r. refl) (λ a. refl) in let kept_fields = fields_in c u (rooted_world value v).memory (rooted_world value v).graph (λ r. refl) (λ r. refl) refl (λ a. refl) in search (arith, nat_tests, marks, copies, kept_fields);
   }
 

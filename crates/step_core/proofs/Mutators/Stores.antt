@@ -157,7 +157,7 @@ module _ (c : Config) (u : World) (seat made : ℕ) (kept : Kept) (command : Com
       let answered = set_outcome u.graph (seat + 1) is.obj is.of.name o.0 is.of.root_is o.1 field is.val v.0 v.1 in
       field_settles c u (at_spot (OnField object (fields.Store value))) object field value is.obj is.val shared is.of is.below is.value_is mine.facts.2 u.graph.root command fixed reply.Ok
       refl refl refl mine.facts.0 refl (ap (λ k. outcome u.graph (seat + 1) k) is.is ∙ answered) (λ j i d. refl)
-      (leaving c _ seat made kept command reply.Ok mine.seated (mine.marking.records, mine.marking.scans, mine.copying.copies_is, mine.copying.works_none) mine.roots mine.hands)
+      (leaving c _ seat made kept command reply.Ok mine.seated (mine.marking.records, mine.marking.scans, mine.copying.copies_is, mine.copying.works_none) mine.roots mine.rooms)
 
   -- The swap of a field settles the reference that it had. In a world in which marking needs the field no more:
   swap_settles : (w : World) (object value : ℕ) → (shared : Shared c w) → fixed ≡ None → (is : IsXchg c w seat command object field value dst) → (covered : IsCovered c w object field)
@@ -184,7 +184,7 @@ module _ (c : Config) (u : World) (seat made : ℕ) (kept : Kept) (command : Com
       let got : ℕ = u.memory (Heap (object + 3 + field)) in
       swap_settles u object value shared mine.facts.0 mine.facts.1 covered
       (λ v stands shared_now. rw other
-      (found_mine c _ seat made kept command shared_now mine.seated mine.marking mine.copying mine.hands got v mine.facts.1.small (roots_then u.block (λ i. u.memory (Root seat i)) u.graph.root (seat + 1) dst got v mine.roots stands) stands))
+      (found_mine c _ seat made kept command shared_now mine.seated mine.marking mine.copying mine.rooms got v mine.facts.1.small (roots_then u.block (λ i. u.memory (Root seat i)) u.graph.root (seat + 1) dst got v mine.roots stands) stands))
   swap_field object value shared mine (Overwrites.takes records held covered) =
       let got : ℕ = u.memory (Heap (object + 3 + field)) in
       stepped_in_hand c u (at_spot (OnField object (fields.Swap value))) got command fixed held
@@ -198,7 +198,7 @@ module _ (c : Config) (u : World) (seat made : ℕ) (kept : Kept) (command : Com
         marking = record { records = held.own.recording; scans = held.own.scanning; phase_is = mine.marking.phase_is };
         copying = mine.copying;
         roots = roots_then u.block (λ i. u.memory (Root seat i)) u.graph.root (seat + 1) dst got v mine.roots stands;
-        hands = mine.hands;
+        rooms = mine.rooms;
         facts = (can, record { name = named.0; settled = ap (λ r. Some (shown r)) named.1; is = named.2; small = mine.facts.1.small });
       })))
 
@@ -206,7 +206,7 @@ module _ (c : Config) (u : World) (seat made : ℕ) (kept : Kept) (command : Com
   at_swap_field object value shared mine =
       let is = mine.facts.1 in
       let v = field_in c u shared seat is.obj object field is.of is.below in
-      swap_field object value shared mine (overwrites_of c u seat kept.phase object field v.0 mine.seated.below shared mine.marking mine.hands v.2)
+      swap_field object value shared mine (overwrites_of c u seat kept.phase object field v.0 mine.seated.below shared mine.marking mine.rooms v.2)
 
   -- The field has the word that was found in it: it changes. In a world in which marking needs the field no more:
   exchange_settles : (w : World) (object found expect value : ℕ) → (w.memory (Heap (object + 3 + field)) == found) ≡ true → (shared : Shared c w) → fixed ≡ None
@@ -231,7 +231,7 @@ module _ (c : Config) (u : World) (seat made : ℕ) (kept : Kept) (command : Com
       → Overwrites c u seat kept.phase object field found → Stepped c u (at_spot (OnField object (fields.Exchange found expect value))) command Nothing fixed
   exchange_field object found expect value same shared mine (Overwrites.leaves other covered) =
       exchange_settles u object found expect value same shared mine.facts.0 mine.facts.1 mine.facts.2 covered
-      (λ shared_now. rw other (leaving c _ seat made kept command reply.Yes mine.seated (mine.marking.records, mine.marking.scans, mine.copying.copies_is, mine.copying.works_none) mine.roots mine.hands))
+      (λ shared_now. rw other (leaving c _ seat made kept command reply.Yes mine.seated (mine.marking.records, mine.marking.scans, mine.copying.copies_is, mine.copying.works_none) mine.roots mine.rooms))
   exchange_field object found expect value same shared mine (Overwrites.takes records held covered) =
       stepped_in_hand c u (at_spot (OnField object (fields.Exchange found expect value))) found command fixed held
       (exchange_settles (with_in_hand u seat found) object found expect value same held.shared mine.facts.0 (cas_stays c u (with_in_hand u seat found) seat held.keeps command object field expect value mine.facts.1) mine.facts.2 covered
@@ -243,7 +243,7 @@ module _ (c : Config) (u : World) (seat made : ℕ) (kept : Kept) (command : Com
         marking = record { records = held.own.recording; scans = held.own.scanning; phase_is = mine.marking.phase_is };
         copying = mine.copying;
         roots = mine.roots;
-        hands = mine.hands;
+        rooms = mine.rooms;
         facts = (can, refl);
       })))
 
@@ -252,7 +252,7 @@ module _ (c : Config) (u : World) (seat made : ℕ) (kept : Kept) (command : Com
       let is = mine.facts.1 in
       let v = field_in c u shared seat is.obj object field is.of is.below in
       exchange_field object found expect value same shared mine
-      (subst (λ x. Overwrites c u seat kept.phase object field x) (eqb-true _ _ same) (overwrites_of c u seat kept.phase object field v.0 mine.seated.below shared mine.marking mine.hands v.2))
+      (subst (λ x. Overwrites c u seat kept.phase object field x) (eqb-true _ _ same) (overwrites_of c u seat kept.phase object field v.0 mine.seated.below shared mine.marking mine.rooms v.2))
 
   -- it has another: nothing changes, and the field is loaded again
   exchange_again : (object found expect value : ℕ) → (u.memory (Heap (object + 3 + field)) == found) ≡ false → Row c u (at_spot (OnField object (fields.Exchange found expect value))) command fixed
@@ -269,7 +269,7 @@ module _ (c : Config) (u : World) (seat made : ℕ) (kept : Kept) (command : Com
       marking = mine.marking;
       copying = mine.copying;
       roots = mine.roots;
-      hands = mine.hands;
+      rooms = mine.rooms;
       facts = (mine.facts.0, mine.facts.1);
     });
     others = λ j d. rely_same c j u;
@@ -296,4 +296,4 @@ module _ (c : Config) (u : World) (seat made : ℕ) (kept : Kept) (command : Com
       refl refl refl mine.facts.0 refl shared is.of.target (omega arith) (omega (arith, is.below, is.refs_are)) (λ i small same. absurd (let refs_are = is.refs_are in omega (arith, small, same, refs_are))) (λ i small same. absurd (let refs_are = is.refs_are in omega (arith, small, same, refs_are)))
       (subst (λ (x : ℕ). IsThing (updated (λ a. u.memory (Heap a)) (object + 3 + x + index) value) u.block object is.of.refs is.of.nums is.of.name (with_value o.0 index value)) (sym is.refs_are) stands)
       (ap (λ k. outcome u.graph (seat + 1) k) is.is ∙ answered) (λ j i d. refl)
-      (leaving c _ seat made kept command reply.Ok mine.seated (mine.marking.records, mine.marking.scans, mine.copying.copies_is, mine.copying.works_none) mine.roots mine.hands)
+      (leaving c _ seat made kept command reply.Ok mine.seated (mine.marking.records, mine.marking.scans, mine.copying.copies_is, mine.copying.works_none) mine.roots mine.rooms)

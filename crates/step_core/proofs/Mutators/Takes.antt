@@ -1,5 +1,5 @@
 -- The steps of a mutator that takes room for an object: what taking room owes is what its place owes.
-use Rattle.std.proofs.Common.{◌≡◌, ℕ, ◌+◌, Bool, true, false, Option, Some, None, refl, sym, ◌∙◌, arith}
+use Rattle.std.proofs.Common.{◌≡◌, ℕ, ◌+◌, Bool, true, false, Option, None, refl, sym, ◌∙◌, arith}
 use Rattle.std.specs.Prelude.{◌&&◌}
 use Rattle.std.proofs.lemmas.Bool.{and_from, and_parts, false≢true}
 use Rattle.heap_words.specs.declared.config.Config.{Config}
@@ -7,7 +7,7 @@ use Rattle.heap_words.specs.Words.{Top}
 use Rattle.steps_base.specs.Fits.{touch_fits}
 use Rattle.shen_graph.specs.declared.command.Command.{Command}
 use Rattle.shen_graph.specs.declared.command.Reply.{Reply}
-use Rattle.heap_world.specs.World.{World, hand, Shared}
+use Rattle.heap_world.specs.World.{World, Shared}
 use Rattle.heap_world.specs.Asking.{nothing}
 use Rattle.heap_world.specs.Rely.{Keeps}
 use Rattle.heap_world.specs.Part.{SameWork}
@@ -33,7 +33,7 @@ use Rattle.step_core.proofs.Machines.Ready.{seated_waiting, taking_ready, word_r
 
 -- a taking that goes on has not ended
 not_ended : (take : TakeSpot) → is_going take ≡ true → takes.is_ended take ≡ false
-not_ended (Ended taken) going = absurd (false≢true going)
+not_ended (Ended taken end) going = absurd (false≢true going)
 not_ended _ going = refl
 
 module _ (c : Config) (u : World) (seat made : ℕ) (kept : Kept) (command : Command) (fixed : Option Reply) where
@@ -71,7 +71,7 @@ module _ (c : Config) (u : World) (seat made : ℕ) (kept : Kept) (command : Com
       most = (let few_refs = mine.facts.0.few_refs in let few_nums = mine.facts.0.few_nums in omega (arith, few_refs, few_nums));
       ready = and_from _ _ ready_parts.0 ready_parts.2;
       facts = mine.facts.1;
-      hands = λ a more is. absurd (mine.hands a more is);
+      rooms = mine.rooms;
       records_none = mine.marking.records;
       scans_none = mine.marking.scans;
     }
@@ -89,40 +89,40 @@ module _ (c : Config) (u : World) (seat made : ℕ) (kept : Kept) (command : Com
     }
 
     -- what it counts on at another spot of the taking
-    mine_at : (next : TakeSpot) (w : World) → is_going next ≡ true → Keeps c seat u w → SameWork u w seat → CanTake c w seat words next → ((a more : ℕ) → w.block a ≡ Some (hand seat more) → ⊥)
+    mine_at : (next : TakeSpot) (w : World) → is_going next ≡ true → Keeps c seat u w → SameWork u w seat → CanTake c w seat words next
         → Mine c w (at_spot (Making (make.Taking next))) command fixed
-    mine_at next w going keeps work can none = record {
+    mine_at next w going keeps work can = record {
       seated = seated_stays c u w seat keeps made false mine.seated;
       ready = (let both = and_parts _ _ can.ready in taking_ready c seat made kept command fixed mine.facts.0 next both.0 going both.1);
       marking = marking_at next w true keeps can;
       copying = copying_at w true keeps work;
       roots = λ i below. rw (keeps.root_words i) (root_stays c u w seat keeps _ i (mine.roots i below));
-      hands = none;
+      rooms = can.rooms;
       facts = (mine.facts.0, can.facts);
     }
 
     -- what it counts on after a step of the taking: with room in hand it goes on with the object's words, and without room it asks
     -- for the object
     mine_then : (next : TakeSpot) (w : World) → Shared c w → Keeps c seat u w → SameWork u w seat → CanTake c w seat words next → Mine c w (at_spot (after_take next)) command fixed
-    mine_then (Ended NoRoom) w shared keeps work can = record {
+    mine_then (Ended NoRoom end) w shared keeps work can = record {
       seated = seated_waiting c w seat made false (seated_stays c u w seat keeps made false mine.seated);
       ready = request_ready c seat made kept command fixed mine.facts.0 mine.seated.below;
-      marking = marking_at (Ended NoRoom) w false keeps can;
+      marking = marking_at (Ended NoRoom end) w false keeps can;
       copying = copying_at w false keeps work;
       roots = λ i below. rw (keeps.root_words i) (root_stays c u w seat keeps _ i (mine.roots i below));
-      hands = can.hands;
+      rooms = can.rooms;
       facts = (mine.facts.0, asked_stays c u w seat keeps nothing (mine.seated.unasked refl));
     }
-    mine_then (Ended (At address)) w shared keeps work can = record {
+    mine_then (Ended (At address) end) w shared keeps work can = record {
       seated = seated_stays c u w seat keeps made false mine.seated;
-      ready = word_ready c seat made kept command fixed mine.facts.0 (λ r. w.memory (Top r)) w.block shared.parsable.plotted address can.facts mine.seated.below 0 (omega arith);
-      marking = marking_at (Ended (At address)) w true keeps can;
+      ready = word_ready c seat made kept command fixed mine.facts.0 (λ r. w.memory (Top r)) w.block shared.parsable.plotted address can.facts.here mine.seated.below 0 (omega arith);
+      marking = marking_at (Ended (At address) end) w true keeps can;
       copying = copying_at w true keeps work;
       roots = λ i below. rw (keeps.root_words i) (root_stays c u w seat keeps _ i (mine.roots i below));
-      hands = can.hands;
-      facts = (mine.facts.0, record { room = can.facts; within = omega arith; stored = λ k below. absurd (omega arith) }, omega arith);
+      rooms = can.rooms;
+      facts = (mine.facts.0, record { room = can.facts.here; within = omega arith; stored = λ k below. absurd (omega arith) }, omega arith);
     }
-    mine_then next w shared keeps work can = mine_at next w refl keeps work can can.hands
+    mine_then next w shared keeps work can = mine_at next w refl keeps work can
 
     -- the step of the taking is a step of the mutator
     lifted : TakeStep c u seat words Fresh take → Stepped c u (at_spot (Making (make.Taking take))) command Nothing fixed

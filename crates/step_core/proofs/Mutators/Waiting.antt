@@ -20,7 +20,7 @@ use Rattle.mutator.specs.declared.waits.WaitSpot.TheVariants as wait
 use Rattle.mutator.specs.Commands.{dst_of, refs_of, nums_of}
 use Rattle.mutator.specs.Rows.{Mutating}
 use Rattle.mutator.specs.WaitRows.{next_name}
-use Rattle.heap_world.specs.World.{World, Shared, hand, promised, TargetIn, IsMarkable}
+use Rattle.heap_world.specs.World.{World, Shared, promised, TargetIn, IsMarkable}
 use Rattle.heap_world.specs.Asking as asking
 use Rattle.heap_world.specs.Asking.{IsPromise}
 use Rattle.heap_world.specs.Rely.{Keeps, KeepsFields, RelyCopies, RelyMarks}
@@ -60,7 +60,7 @@ module _ (c : Config) (u : World) (seat made : ℕ) (kept : Kept) (command : Com
       marking = mine.marking;
       copying = mine.copying;
       roots = mine.roots;
-      hands = mine.hands;
+      rooms = mine.rooms;
       facts = (
         mine.facts.0,
         (
@@ -106,7 +106,7 @@ module _ (c : Config) (u : World) (seat made : ℕ) (kept : Kept) (command : Com
       marking = mine.marking;
       copying = mine.copying;
       roots = mine.roots;
-      hands = mine.hands;
+      rooms = mine.rooms;
       facts = (asking_stays c u (accessed c u (at_spot wait.AskRoom)) seat ask_keeps made kept.command command fixed (asking.asks refs nums) mine.facts, now_waits (u.memory Ask));
     };
     others = λ j d. let marks = ask_marks j in let copies = ask_copies j in let kept_fields = ask_fields in let waits : bit_at (u.memory Ask) 1 ≡ 1 → bit_at (bit_or (u.memory Ask) 2) 1 ≡ 1 = λ is. now_waits (u.memory Ask) in search (arith, nat_tests, marks, copies, kept_fields, waits);
@@ -127,7 +127,7 @@ module _ (c : Config) (u : World) (seat made : ℕ) (kept : Kept) (command : Com
       marking = mine.marking;
       copying = mine.copying;
       roots = mine.roots;
-      hands = mine.hands;
+      rooms = mine.rooms;
       facts = inl (heard_stays c u (accessed c u (at_spot wait.StepOut)) seat (state_keeps c u seat seat 0) (λ is. is) made kept.command command fixed mine.facts);
     };
     others = λ j d. let marks = marks_in c u (accessed c u (at_spot wait.StepOut)).memory u.graph j refl (λ n. refl) (λ t. refl) (λ t k. refl) (λ a. refl) in let copies = copies_in c u (accessed c u (at_spot wait.StepOut)).memory u.graph j refl refl (λ r. refl) (λ a. refl) in let kept_fields = fields_in c u (accessed c u (at_spot wait.StepOut)).memory u.graph (λ r. refl) (λ r. refl) refl (λ a. refl) in search (arith, nat_tests, marks, copies, kept_fields);
@@ -158,7 +158,7 @@ module _ (c : Config) (u : World) (seat made : ℕ) (kept : Kept) (command : Com
         marking = mine.marking;
         copying = mine.copying;
         roots = mine.roots;
-        hands = mine.hands;
+        rooms = mine.rooms;
         facts = answered some;
       }
 
@@ -177,7 +177,7 @@ module _ (c : Config) (u : World) (seat made : ℕ) (kept : Kept) (command : Com
         marking = mine.marking;
         copying = mine.copying;
         roots = mine.roots;
-        hands = mine.hands;
+        rooms = mine.rooms;
         facts = ⊎_elim
             (λ given. let more = given.1.1 in let one = eqb-true _ _ full in absurd (omega (arith, more, one)))
             (λ no. (no.0.settled, no.1.0, no.1.2, no.1.1, record { dst = no.0.dst; refs = no.0.refs; nums = no.0.nums; is = no.0.is }))
@@ -190,7 +190,7 @@ module _ (c : Config) (u : World) (seat made : ℕ) (kept : Kept) (command : Com
             marking = mine.marking;
             copying = mine.copying;
             roots = mine.roots;
-            hands = mine.hands;
+            rooms = mine.rooms;
             facts = (given, refl);
           })
           (λ no. absurd (eqb-false _ _ other no.1.1))
@@ -211,7 +211,7 @@ module _ (c : Config) (u : World) (seat made : ℕ) (kept : Kept) (command : Com
       here = promise.here;
       unnamed = refl;
       long = refl;
-      own = record { no_room = λ j differs room. none-some j room; no_promise = λ j words differs same. (let seats : j ≡ seat = cc in differs seats); no_dead = λ words same. cc };
+      own = record { no_room = λ j differs room. none-some j room; no_promise = λ j words differs same. (let seats : j ≡ seat = cc in differs seats); no_dead = λ words same. cc; no_filler = λ words same. cc; no_spare = λ j words same. cc; no_carved = λ j words same. cc };
       known = λ on. inl (shared.marked.promises on address seat (3 + refs + nums) promise.here);
       outside = λ inside. shared.evacuated.aside.no_promises address seat (3 + refs + nums) promise.here inside;
       kept = λ on. shared.evacuated.kept.objects on address (IsMarkable.to_come seat (3 + refs + nums) promise.here);
@@ -227,7 +227,7 @@ module _ (c : Config) (u : World) (seat made : ℕ) (kept : Kept) (command : Com
       marking = mine.marking;
       copying = mine.copying;
       roots = roots_made has mine.roots;
-      hands = λ a words is. mine.hands a words (room_before has a seat (hand seat words) is refl).1;
+      rooms = λ a x is room. mine.rooms a x (room_before has a seat x is room).1 room;
       facts = (
         refl,
         mine.facts.0.1.0,
@@ -262,7 +262,7 @@ module _ (c : Config) (u : World) (seat made : ℕ) (kept : Kept) (command : Com
     mine = rw mine.facts.0
         (leaving c (accessed c u (at_spot (wait.ClearAnswer r))) seat made kept command r
         (record { below = mine.seated.below; counted = mine.seated.counted; usable = mine.seated.usable; unasked = λ calm. (mine.facts.1, cond-true (seat == seat) _ _ (eq-eqb seat seat refl), mine.facts.2) })
-        (mine.marking.records, mine.marking.scans, mine.copying.copies_is, mine.copying.works_none) mine.roots mine.hands);
+        (mine.marking.records, mine.marking.scans, mine.copying.copies_is, mine.copying.works_none) mine.roots mine.rooms);
     others = λ j d. let marks = marks_in c u (accessed c u (at_spot (wait.ClearAnswer r))).memory u.graph j refl (λ n. refl) (λ t. refl) (λ t k. refl) (λ a. refl) in let copies = copies_in c u (accessed c u (at_spot (wait.ClearAnswer r))).memory u.graph j refl refl (λ r. refl) (λ a. refl) in let kept_fields = fields_in c u (accessed c u (at_spot (wait.ClearAnswer r))).memory u.graph (λ r. refl) (λ r. refl) refl (λ a. refl) in search (arith, nat_tests, marks, copies, kept_fields);
   }
 

@@ -115,7 +115,7 @@ copies_twice c seat u v w first second =
         pieces = λ a x inside is.
             let one = first.keeps.pieces a x inside is in
             let two = second.keeps.pieces a one.0 (set_then a inside) one.1 in
-            (two.0, two.1, two.2 ∙ one.2);
+            (two.0, two.1, two.2 ∙ one.2, two.3 ∙ one.3);
         no_new = λ a refs nums name inside is. first.keeps.no_new a refs nums name inside (second.keeps.no_new a refs nums name (set_then a inside) is);
         tops = λ r is. second.keeps.tops r (subst (λ set. IsIn set r) (sym first.keeps.cset) is) ∙ first.keeps.tops r is;
         out = λ is. second.keeps.out (first.keeps.out is);
@@ -132,6 +132,7 @@ fields_twice c u v w marking first second = record {
   tams = λ r. second.tams r ∙ first.tams r;
   limits = λ r. second.limits r ∙ first.limits r;
   deads = λ a words is. second.deads a words (first.deads a words is);
+  fillers = λ a words is. second.fillers a words (first.fillers a words is);
   claims = λ all. second.claims (first.claims all);
   fields = λ on a refs nums k name is below. absurd (omega (arith, on, marking));
 }
@@ -148,6 +149,7 @@ rely_twice c seat u v w marking first second = record {
   no_promises = λ a words is. first.no_promises a words (second.no_promises a words is);
   promise_words = λ a words k is below. second.promise_words a words k (first.promises a words is) below ∙ first.promise_words a words k is below;
   current = second.current ∙ first.current;
+  opens = λ r is. second.opens r (first.opens r is);
   owners = λ r is. second.owners r (first.owners r is);
   tops = λ r is. second.tops r (first.owners r is) ∙ first.tops r is;
   root_words = λ i. second.root_words i ∙ first.root_words i;

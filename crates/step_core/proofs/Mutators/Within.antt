@@ -37,7 +37,9 @@ use Rattle.mutator.specs.declared.waits.WaitSpot.TheVariants as wait
 use Rattle.mutator.specs.Commands.{command_roots, lacks_object, has_part}
 use Rattle.mutator.specs.Rows.{Mutating, first_spot, after_roots, after_first, with_part, is_to_record, overwritten, after_recording, after_remember, after_resolved, after_resolve, with_loaded, after_take, take_next, next_at}
 use Rattle.mutator.specs.WaitRows.{after_enter}
-use Rattle.step_core.specs.Own.{IsInHand}
+use Rattle.step_core.specs.Own.{IsRoomOf}
+use Rattle.heap_world.specs.World.{Block}
+use Rattle.alloc_buffers.specs.Facts.{IsSpare}
 use Rattle.step_core.specs.Standing.{standing_at, wait_standing}
 use Rattle.step_core.proofs.Machines.Stepped.{recording_of, copies_at}
 
@@ -101,8 +103,8 @@ resolve_in found next (Resolved answer) = resolved_in found answer next
 resolve_in found next _ = refl
 
 take_in : (at : TakeSpot) → IsIn (after_take at)
-take_in (take.Ended (At address)) = refl
-take_in (take.Ended NoRoom) = refl
+take_in (take.Ended (At address) end) = refl
+take_in (take.Ended NoRoom end) = refl
 take_in _ = refl
 
 -- it goes on in the heap
@@ -154,14 +156,23 @@ goes_on_in c m order got (Entering enter.Inside next) is = goes_in next
     goes_in Waited = refl
 goes_on_in c m order got _ is = cc
 
--- a mutator that is not in the heap has no room in hand
-pub none_outside : (kept : Kept) (spot : Spot) (a words : ℕ) → is_within (standing_at spot) ≡ false → IsInHand kept spot a words → ⊥
-none_outside kept Rest a words out is = is
-none_outside kept (Ended reply) a words out is = is
-none_outside kept (Entering at then_on) a words out is = is
-none_outside kept (Waiting at) a words out is = is
-none_outside kept Gone a words out is = is
-none_outside kept _ a words out is = cc
+-- a mutator that is not in the heap has no room but free words of its buffer
+pub spares_outside : (seat : ℕ) (kept : Kept) (spot : Spot) (a : ℕ) (x : Block) → is_within (standing_at spot) ≡ false → IsRoomOf seat kept spot a x → IsSpare seat x
+spares_outside seat kept Rest a x out is = is
+spares_outside seat kept (Ended reply) a x out is = is
+spares_outside seat kept (Entering at then_on) a x out is = is
+spares_outside seat kept (Waiting at) a x out is = is
+spares_outside seat kept Gone a x out is = is
+spares_outside seat kept _ a x out is = absurd (cc (out))
+
+-- and these it may have
+pub outside_spares : (seat : ℕ) (kept : Kept) (spot : Spot) (a : ℕ) (x : Block) → is_within (standing_at spot) ≡ false → IsSpare seat x → IsRoomOf seat kept spot a x
+outside_spares seat kept Rest a x out is = is
+outside_spares seat kept (Ended reply) a x out is = is
+outside_spares seat kept (Entering at then_on) a x out is = is
+outside_spares seat kept (Waiting at) a x out is = is
+outside_spares seat kept Gone a x out is = is
+outside_spares seat kept _ a x out is = absurd (cc (out))
 
 -- it is about to record nothing
 pub records_outside : (spot : Spot) → is_within (standing_at spot) ≡ false → recording_of spot ≡ None

@@ -110,6 +110,7 @@ module _ (c : Config) (g : Graph) (s : Stage Actor) (past : List Entry) (goes : 
     roots = stands.roots;
     usable = stands.usable;
     none = stands.none;
+    uncarved = stands.uncarved;
     asked = λ t below. subst (IsAsked (view c s.words) stands.block the_graph.count t) (none_asks t below) (stands.asked t below);
     heard = λ t refs nums below is. absurd cc;
     promised_to = stands.promised_to;

@@ -17,6 +17,7 @@ use Rattle.step_core.proofs.Machines.Owed.{IsMachine, Follows}
 use Rattle.step_core.proofs.Handshake.Begins.{begins_shaken, begins_counted}
 use Rattle.step_core.proofs.Theorem.Induction.{Goes}
 use Rattle.step_core.proofs.Machines.Roles.{machine_there, machine_begins}
+use Rattle.heap_world.proofs.Roomless.{only_spares}
 
 -- an idle control holds no image
 idle_holds : (c : Config) (phase cset : ℕ) (g : Graph) (machine : Machine) → HasNumber c (control_number c) machine → IsIdle phase cset g (control_number c) machine → image_read machine ≡ None
@@ -50,7 +51,7 @@ module _ (c : Config) (s : Stage Actor) (g : Graph) (begins : Begins c s g) wher
         let new = begins.machines k a is in
         subst (λ memory. IsMachine c s.words (record { memory = memory; block = begins.stands.block; ghost = begins.stands.ghost; graph = g }) [] k a a.machine) (sym whole_begins)
         (machine_begins c s.words (record { memory = view c s.words; block = begins.stands.block; ghost = begins.stands.ghost; graph = g }) k a a.machine refl new.number_is new.idle new.calls new.valid
-        (record { roots = begins.stands.roots; none = begins.stands.none; asked = begins.stands.asked; unmarking = begins.stands.unmarking; uncopying = begins.stands.uncopying; usable = begins.stands.usable }));
+        (record { roots = begins.stands.roots; spares = λ seat a. only_spares begins.stands.block begins.stands.none begins.stands.uncarved a seat; asked = begins.stands.asked; unmarking = begins.stands.unmarking; uncopying = begins.stands.uncopying; usable = begins.stands.usable }));
   }
 
   pub goes_begins : Goes c g s []

@@ -45,7 +45,7 @@ use Rattle.step_core.specs.Fit.{IsWholeImage}
 use Rattle.step_core.specs.History.{told, history}
 use Rattle.step_core.specs.Machines.{takes_of, plan_of, took_of, machine_after, kind, IsFitFor, standing_of}
 use Rattle.step_core.specs.Pausing.{IsInPause, IsHelper, IsEmpty}
-use Rattle.step_core.specs.Seats.{looks_for}
+use Rattle.step_core.specs.Seats.{taking_of, looks_for}
 use Rattle.step_core.specs.Settled.{settled, control_number}
 use Rattle.step_core.specs.Sound.{world_of, IsMutator, IsOfHeap, FindsFit, IsSound}
 use Rattle.step_core.proofs.Mutators.Adapter.{gives_settled}
@@ -67,7 +67,7 @@ use Rattle.step_core.proofs.Mutators.Ordered.{order_word}
 use Rattle.step_core.proofs.Mutators.Outside.{outside_touch}
 use Rattle.step_core.specs.Standing.{standing_at, help_standing}
 use Rattle.step_core.proofs.History.Replies.{unsettled_at_rest, unsettled_before, settled_after, took_settled}
-use Rattle.step_core.proofs.Machines.Seats.{in_seat}
+use Rattle.step_core.proofs.Machines.Seats.{in_seat, lacks}
 use Rattle.step_core.proofs.Theorem.Stands.{thread_of as thread_there, stands}
 use Rattle.step_core.proofs.Theorem.AtRest.{at_rest}
 use Rattle.step_core.specs.AtRest.{IsAtRest}
@@ -261,8 +261,8 @@ module _ (change : Change) (law : IsPause change) (c : Config) (g : Graph) (s : 
   }
 
   -- of a machine that is about to look for a free region
-  lacks_room : (number : ℕ) (a : Actor) (words : ℕ) → slice_get s.machines number ≡ Some a → looks_for a.machine ≡ Some words → HasLess c (settled c s) number words
-  lacks_room number a words here looks = (in_seat c s.words the_world (of_thread h (number + 1)) number a a.machine (known number a here)).lacks words looks
+  lacks_room : (number : ℕ) (a : Actor) (words : ℕ) → slice_get s.machines number ≡ Some a → looks_for a.machine ≡ Some words → HasLess (settled c s) number words
+  lacks_room number a words here looks = lacks the_world number words (taking_of a.machine) looks (in_seat c s.words the_world (of_thread h (number + 1)) number a a.machine (known number a here)).takes
 
   -- what the control has read of the image is as the table has it
   aims_of : (number : ℕ) (a : Actor) (k : Controlling) → slice_get s.machines number ≡ Some a → a.machine ≡ controlling k → (is_ready c k.spot ≡ true) × IsAim c s.words k.spot k.image
@@ -330,7 +330,7 @@ module _ (change : Change) (law : IsPause change) (c : Config) (s : Stage Actor)
 
   -- a machine that is about to look for a free region lacks room
   pub run_lacks_room : (events : List (Event Order)) (number : ℕ) (a : Actor) (words : ℕ)
-      → slice_get (go (kind change c) s events).machines number ≡ Some a → looks_for a.machine ≡ Some words → HasLess c (settled c (go (kind change c) s events)) number words
+      → slice_get (go (kind change c) s events).machines number ≡ Some a → looks_for a.machine ≡ Some words → HasLess (settled c (go (kind change c) s events)) number words
   run_lacks_room events = lacks_room change law c g (go (kind change c) s events) (history change c s events) (goes_all events)
 
   -- a heap at rest

@@ -15,14 +15,14 @@ use Rattle.std.specs.Prelude.{List}
 use Rattle.steps_base.specs.Steps.{Event}
 use Rattle.shen_graph.specs.declared.order.Order.{Order}
 use Rattle.regions.specs.Place.{base_of}
-use Rattle.heap_words.specs.Words.{Word, same_word, Pause, State, Top, Tams, Root, Heap, Phase, Cset, Free, Evac, Claim, Current, Count, Buffer, Wait, Answer, Grey, Black, view}
+use Rattle.heap_words.specs.Words.{Word, same_word, Pause, State, Top, Tams, Root, Heap, Phase, Cset, Free, Evac, Claim, Current, Count, Buffer, Wait, Answer, Grey, Black, view, Share}
 use Rattle.shen_graph.specs.declared.name.Name.{Name}
 use Rattle.shen_graph.specs.declared.command.Command.TheVariants.{Gc}
 use Rattle.shen_graph.specs.Graph.{Object, hub, same_name, blank}
 use Rattle.mutator.specs.Rows.{fresh_mutator}
 use Rattle.step_core.specs.Actor.{mutating, fresh_helper, fresh_control}
 use Rattle.step_core.specs.Opening.{opening_actor, opening, first_free}
-use Rattle.heap_world.specs.World.{World, Plot, Block, thing, moved, spent, hand, promised, dead, filler, no_ghost, words_of, room_of, HasNoRoom, name_at, Points, IsInUse, IsPlotted, IsFilled, IsThing, IsGiven, AreObjects, IsFreeWord, IsUsable, IsEvacuating, Shared}
+use Rattle.heap_world.specs.World.{World, Plot, Block, thing, moved, spent, hand, promised, dead, filler, spare, carved, no_ghost, words_of, room_of, HasNoRoom, name_at, Points, IsInUse, IsPlotted, IsFilled, IsThing, IsGiven, AreObjects, IsFreeWord, IsUsable, IsEvacuating, Shared}
 use Rattle.heap_world.specs.Asking.{nothing}
 use Rattle.heap_world.specs.Represents.{Represents}
 use Rattle.step_core.specs.Begins.{HasCalledNothing, IsCalmOutside, Begins, Run, first_graph}
@@ -247,11 +247,13 @@ first_shared c = record {
   };
   owned = record {
     free_word = first_free_word c;
-    currents = record {
-      within = λ seat r is. let none = rooted_else c (Current seat) (λ k. refl) c.mutators in absurd (omega (arith, none, is));
-      own = λ seat r is. let none = rooted_else c (Current seat) (λ k. refl) c.mutators in absurd (omega (arith, none, is));
+    shared_one = λ r is. let none = rooted_else c Share (λ k. refl) c.mutators in absurd (omega (arith, none, is));
+    rooms = rooms_none c (first_block c) (no_room c);
+    buffers = record {
+      each = λ seat some. absurd (some (rooted_else c (Current seat) (λ k. refl) c.mutators));
+      spares = λ a seat words is. absurd (no_room c a seat (spare seat words) is refl);
     };
-    rooms = rooms_none c (λ r. first_memory c (Top r)) (λ s. first_memory c (Current s)) (first_block c) (no_room c);
+    outside = λ seat some. absurd (some (rooted_else c (Current seat) (λ k. refl) c.mutators));
   };
   phased = record { phase_is = (let none = first_phase c in omega (arith, none)); cset_is = λ other. rooted_else c Cset (λ k. refl) c.mutators; evac_is = λ other. rooted_else c Evac (λ k. refl) c.mutators };
   unwritten = record { blanks = λ a seat words is. absurd (none_promised c a seat words is); headers = λ a words is. absurd (let no = (block_only c a (dead words) is).1 in cc); lengths = λ a words is. absurd (let no = (block_only c a (dead words) is).1 in cc); fillers = λ a words is. (let no = (block_only c a (filler words) is).1 in cc) };
@@ -287,6 +289,7 @@ first_stands c = record {
   roots = λ t i below small. first_roots c t i below;
   usable = λ t i below small. subst (λ set. IsUsable c set (first_memory c Evac) (first_block c) (first_memory c (Root t i))) (sym (first_set c)) (usable_now c (first_memory c Evac) (first_block c) (none_moved c) _ _ (first_roots c t i below));
   none = λ a seat words is. no_room c a seat (hand seat words) is refl;
+  uncarved = λ a seat words is. no_room c a seat (carved seat words) is refl;
   asked = λ t below. (rooted_else c (Wait t) (λ k. refl) c.mutators, rooted_else c (Answer t) (λ k. refl) c.mutators, λ a words is. none_promised c a t words is);
   heard = λ t refs nums below is. absurd (cc (is));
   promised_to = λ a seat words is. absurd (none_promised c a seat words is);

@@ -27,9 +27,9 @@ module _ (c : Config) (g : Graph) (s : Stage Actor) (h : List Entry) (goes : Goe
     block = goes.follows.block;
     ghost = goes.follows.ghost;
     shared = goes.follows.shared;
-    in_hand = λ a seat words is. (goes.follows.shared.owned.rooms.hands a seat words is).seated;
+    rooms = goes.follows.shared.owned.rooms.seated;
     promised_to = goes.follows.promised_to;
-    mutators = λ number a m here. let mine = (thread_of number a m here).mine in record { made = mine.seated.counted; roots = mine.roots; hands = mine.hands };
+    mutators = λ number a m here. let mine = (thread_of number a m here).mine in record { made = mine.seated.counted; roots = mine.roots; rooms = mine.rooms };
     asked = λ number a m here going. let thread = thread_of number a m here in has_asked c the_world m.seat m.made m.kept a.command thread.fixed m.spot going thread.mine;
     seats = λ number a here. in_seat c s.words the_world (of_thread h (number + 1)) number a a.machine (goes.follows.machines number a here);
     served = λ number a m here. let thread = thread_of number a m here in served c the_world m a.command thread.fixed thread.mine;

@@ -1,8 +1,8 @@
 use Rattle.std.proofs.Common.{◌≡◌, sym, ◌∙◌, arith}
 use Rattle.image_graph.specs.State.{config_of, words_of, memory_of}
-use Rattle.mark_core.proofs.MarkingEnded.{no_more_seats}
+use Rattle.image_graph.proofs.BufferTurns.{no_more_seats}
 use Rattle.cycle_pauses.proofs.Pauses.{ended_can_begin}
-use Rattle.control.proofs.Collecting.{can_hold, can_calm, can_end, init_mark-next, end_mark-next, init_update-next, final_update-next}
+use Rattle.control.proofs.Collecting.{can_hold, can_inside, can_calm, can_end, init_mark-next, end_mark-next, init_update-next, final_update-next}
 use Rattle.control.proofs.collect.go_on.Goals as goal
 
 pub init_mark-requires-clause-holds : goal.init_mark-requires-clause-holds
@@ -18,6 +18,9 @@ pub end_mark-requires-clause-can : goal.end_mark-requires-clause-can
 end_mark-requires-clause-can c =
     ended_can_begin (config_of c.args.image.now) (memory_of c.args.image.now) c.requires (sym c.phase.ensures ∙ c.in-1.is)
     (no_more_seats (config_of c.args.image.now) (words_of c.args.image.now))
+
+pub init_update-requires : goal.init_update-requires
+init_update-requires c = can_inside (config_of c.args.image.now) (memory_of c.args.image.now) c.requires
 
 pub returns-in-0-clause-words : goal.returns-in-0-clause-words
 returns-in-0-clause-words c =

@@ -1,7 +1,7 @@
 use Rattle.std.proofs.Common.{◌≡◌, sym, ap, ◌∙◌, subst, arith}
 use Rattle.heap_words.specs.declared.config.Config.{Config}
 use Rattle.image_graph.specs.State.{config_of, words_of, memory_of}
-use Rattle.mark_core.proofs.MarkingEnded.{no_more_seats}
+use Rattle.image_graph.proofs.BufferTurns.{no_more_seats}
 use Rattle.cycle_pauses.specs.Ended.{ended, CanEnd}
 use Rattle.cycle_pauses.specs.Collect.{past_marking}
 use Rattle.cycle_pauses.proofs.Pauses.{ended_can_begin, running_can_end}

@@ -39,8 +39,8 @@ returns c =
     let outside : bit_at (m Free) r ≢ 1 = λ is. true≢false (sym (c.is_in.ensures.1 (ap (λ x. bit_at x r) free ∙ is)) ∙ c.if-is_in.false) in
     let unset : bit_at (m Free) r ≡ 0 = omega (arith, outside, bit_at-lt (m Free) r) in
     let unseated : is_current g m r ≡ false = false_from_ne_true (is_current g m r) (λ is. c.is_current.ensures.no c.if-is_current.false (current_is g m r is)) in
-    let top : m (Top r) ≡ m (Tams r) = omega (arith, c.edge-top.ensures, tams, c.if-top-word.false) in
+    let top : m (Top r) ≡ m (Tams r) = omega (arith, c.top-top.ensures, tams, c.if-top-word.false) in
     let words : c.region_words.result ≡ g.region_words = c.region_words.ensures ∙ ap (λ (k : Config). k.region_words) c.config-config.ensures in
     let rest : c.saturating_sub.result ≡ garbage g m r =
-    c.saturating_sub.ensures ∙ ap (λ t. t - c.args.live) c.edge-top.ensures ∙ ap (λ n. m (Top r) - n) c.requires.live in
+    c.saturating_sub.ensures ∙ ap (λ t. t - c.args.live) c.top-top.ensures ∙ ap (λ n. m (Top r) - n) c.requires.live in
     ap (λ n. nat_le (n / 4) c.saturating_sub.result) words ∙ ap (nat_le (g.region_words / 4)) rest ∙ sym (garbage_decides g m r unset unseated top)

@@ -37,7 +37,7 @@ copy_words-requires-clause-to c =
     c.words_of-words.ensures ∙ ap object_words (c.word.ensures.named (Heap (a + 1)) (word_of_heap g a (words_at m a) 1 object (omega arith))
     (ap (λ (k : Config). word_at k (Heap (a + 1))) (sym c.config-config.ensures) ∙ sym c.heap_at.ensures)) in
     let base : c.base.result ≡ base_of g r = c.base.ensures ∙ ap (λ (k : Config). base_of k r) c.config-config.ensures in
-    let at : top_address g m r ≡ c.base.result + c.edge-top.result = omega (arith, base, c.edge-top.ensures) in
+    let at : top_address g m r ≡ c.base.result + c.top-top.result = omega (arith, base, c.top-top.ensures) in
     subst (λ x. AreInHeap g x c.words_of-words.result) at
     (subst (AreInHeap g (top_address g m r)) (sym words) (room_in_heap g r (m (Top r)) (words_at m a) c.requires.region c.requires.room))
 
@@ -52,7 +52,7 @@ copy_words-requires-clause-apart c =
     c.words_of-words.ensures ∙ ap object_words (c.word.ensures.named (Heap (a + 1)) (word_of_heap g a (words_at m a) 1 object (omega arith))
     (ap (λ (k : Config). word_at k (Heap (a + 1))) (sym c.config-config.ensures) ∙ sym c.heap_at.ensures)) in
     let base : c.base.result ≡ base_of g r = c.base.ensures ∙ ap (λ (k : Config). base_of k r) c.config-config.ensures in
-    let at : top_address g m r ≡ c.base.result + c.edge-top.result = omega (arith, base, c.edge-top.ensures) in
+    let at : top_address g m r ≡ c.base.result + c.top-top.result = omega (arith, base, c.top-top.ensures) in
     subst (λ x. (a + c.words_of-words.result ≤ x) ⊎ (x + c.words_of-words.result ≤ a)) at
     (subst (λ n. (a + n ≤ top_address g m r) ⊎ (top_address g m r + n ≤ a)) (sym words) (copies_apart g m a r c.requires.can c.requires.outside c.requires.room))
 
@@ -71,8 +71,8 @@ returns-clause-words c =
     (ap (λ (k : Config). word_at k (Heap (a + 1))) (sym same) ∙ sym c.heap_at.ensures)) in
     let free : c.word-free.result ≡ m Free = c.word-free.ensures.named Free tt (ap (λ (k : Config). word_at k Free) (sym same) ∙ sym c.free_at.ensures) in
     let base : c.base.result ≡ base_of old r = c.base.ensures ∙ ap (λ (k : Config). base_of k r) same in
-    let to : ℕ = c.base.result + c.edge-top.result in
-    let at : to ≡ top_address old m r = omega (arith, base, c.edge-top.ensures) in
+    let to : ℕ = c.base.result + c.top-top.result in
+    let at : to ≡ top_address old m r = omega (arith, base, c.top-top.ensures) in
     -- where it is written
     let copy = room_in_heap old r (m (Top r)) (words_at m a) c.requires.region c.requires.room in
     let copy_is : IsWord g (Heap to) = subst (λ (k : Config). IsWord k (Heap to)) (sym same) (omega (arith, copy.from, at), omega (arith, copy.to, at)) in
@@ -81,7 +81,7 @@ returns-clause-words c =
     let e1 : config_of c.set_word.new.self ≡ g = c.set_word.ensures.config ∙ e0 in
     let e2 : config_of c.set_word-2.new.self ≡ g = c.set_word-2.ensures.config ∙ e1 in
     let e3 : config_of c.set_word-3.new.self ≡ g = c.set_word-3.ensures.config ∙ e2 in
-    let top : ℕ = c.edge-top.result + c.words_of-words.result in
+    let top : ℕ = c.top-top.result + c.words_of-words.result in
     let bits : ℕ = bit_and c.word-free.result c.all_but.result in
     let s1 = stored (config_of c.copy_words.new.image) g _ _ (Heap to) c.heap_at-2.result 1 e0 copy_is c.heap_at-2.ensures c.set_word.ensures.named in
     let s2 = stored (config_of c.set_word.new.self) g _ _ (Top r) c.top_at.result top e1 (subst (λ (k : Config). r < k.regions) (sym same) c.requires.region) c.top_at.ensures c.set_word-2.ensures.named in
@@ -92,7 +92,7 @@ returns-clause-words c =
     (s2 ∙ ap (λ n. write n (Top r) top)
     (s1 ∙ ap (λ n. write n (Heap to) 1) c.copy_words.ensures.words)))
     ∙ copied_stores old m a r to c.words_of-words.result top bits c.header_to.result at words
-    (omega (arith, c.edge-top.ensures, words))
+    (omega (arith, c.top-top.ensures, words))
     (ap (λ k. bit_and k c.all_but.result) free ∙ ap (bit_and (m Free)) c.all_but.ensures.value)
     (c.header_to.ensures ∙ ap header_word at)
 
@@ -120,8 +120,8 @@ word-requires c =
     let object = object_in_heap k a (words_at m a) c.requires.can.above c.requires.can.of_region c.requires.can.lies in
     placed_inside k c.config-config.result (Heap (a + 1)) _ (sym c.config-config.ensures) (word_in k c.config-config.result a (words_at m a) 1 c.config-config.ensures object (omega arith)) c.heap_at.ensures
 
-pub edge-top-requires : goal.edge-top-requires
-edge-top-requires c =
+pub top-top-requires : goal.top-top-requires
+top-top-requires c =
     c.requires.region
 
 pub word-free-requires : goal.word-free-requires
@@ -137,8 +137,8 @@ overflow_add-copy c =
     let k = config_of c.args.image.now in
     let m : Word → ℕ = memory_of c.args.image.now in
     let r = c.args.region in
-    let at : base_of k r + m (Top r) ≡ c.base.result + c.edge-top.result =
-    omega (arith, c.base.ensures ∙ ap (λ (j : Config). base_of j r) c.config-config.ensures, c.edge-top.ensures) in
+    let at : base_of k r + m (Top r) ≡ c.base.result + c.top-top.result =
+    omega (arith, c.base.ensures ∙ ap (λ (j : Config). base_of j r) c.config-config.ensures, c.top-top.ensures) in
     let target = subst (λ (x : ℕ). AreInHeap k x (words_at m c.args.address)) at (room_in_heap k r (m (Top r)) (words_at m c.args.address) c.requires.region c.requires.room) in
     omega (arith, low_in _ _ _ target)
 
@@ -147,8 +147,8 @@ heap_at-requires-2 c =
     let k = config_of c.args.image.now in
     let m : Word → ℕ = memory_of c.args.image.now in
     let r = c.args.region in
-    let at : base_of k r + m (Top r) ≡ c.base.result + c.edge-top.result =
-    omega (arith, c.base.ensures ∙ ap (λ (j : Config). base_of j r) c.config-config.ensures, c.edge-top.ensures) in
+    let at : base_of k r + m (Top r) ≡ c.base.result + c.top-top.result =
+    omega (arith, c.base.ensures ∙ ap (λ (j : Config). base_of j r) c.config-config.ensures, c.top-top.ensures) in
     let target = subst (λ (x : ℕ). AreInHeap k x (words_at m c.args.address)) at (room_in_heap k r (m (Top r)) (words_at m c.args.address) c.requires.region c.requires.room) in
     first_in k c.config-config.result _ (words_at m c.args.address) c.config-config.ensures target (omega arith)
 
@@ -157,10 +157,10 @@ set_word-requires c =
     let k = config_of c.args.image.now in
     let m : Word → ℕ = memory_of c.args.image.now in
     let r = c.args.region in
-    let at : base_of k r + m (Top r) ≡ c.base.result + c.edge-top.result =
-    omega (arith, c.base.ensures ∙ ap (λ (j : Config). base_of j r) c.config-config.ensures, c.edge-top.ensures) in
+    let at : base_of k r + m (Top r) ≡ c.base.result + c.top-top.result =
+    omega (arith, c.base.ensures ∙ ap (λ (j : Config). base_of j r) c.config-config.ensures, c.top-top.ensures) in
     let target = subst (λ (x : ℕ). AreInHeap k x (words_at m c.args.address)) at (room_in_heap k r (m (Top r)) (words_at m c.args.address) c.requires.region c.requires.room) in
-    placed_inside (config_of c.copy_words.new.image) c.config-config.result (Heap (c.base.result + c.edge-top.result)) _ (c.copy_words.ensures.config ∙ sym c.config-config.ensures) (first_in k c.config-config.result _ (words_at m c.args.address) c.config-config.ensures target (omega arith)) c.heap_at-2.ensures
+    placed_inside (config_of c.copy_words.new.image) c.config-config.result (Heap (c.base.result + c.top-top.result)) _ (c.copy_words.ensures.config ∙ sym c.config-config.ensures) (first_in k c.config-config.result _ (words_at m c.args.address) c.config-config.ensures target (omega arith)) c.heap_at-2.ensures
 
 pub top_at-requires : goal.top_at-requires
 top_at-requires c =
@@ -168,7 +168,7 @@ top_at-requires c =
 
 pub overflow_add-top : goal.overflow_add-top
 overflow_add-top c =
-    omega (arith, c.words_of-words.ensures, c.edge-top.ensures, c.requires.room, (config_of c.args.image.now).in_range.most_words)
+    omega (arith, c.words_of-words.ensures, c.top-top.ensures, c.requires.room, (config_of c.args.image.now).in_range.most_words)
 
 pub set_word-requires-2 : goal.set_word-requires-2
 set_word-requires-2 c =
@@ -195,8 +195,8 @@ header_to-requires c =
     let k = config_of c.args.image.now in
     let m : Word → ℕ = memory_of c.args.image.now in
     let r = c.args.region in
-    let at : base_of k r + m (Top r) ≡ c.base.result + c.edge-top.result =
-    omega (arith, c.base.ensures ∙ ap (λ (j : Config). base_of j r) c.config-config.ensures, c.edge-top.ensures) in
+    let at : base_of k r + m (Top r) ≡ c.base.result + c.top-top.result =
+    omega (arith, c.base.ensures ∙ ap (λ (j : Config). base_of j r) c.config-config.ensures, c.top-top.ensures) in
     let target = subst (λ (x : ℕ). AreInHeap k x (words_at m c.args.address)) at (room_in_heap k r (m (Top r)) (words_at m c.args.address) c.requires.region c.requires.room) in
     omega (arith, low_in _ _ _ target)
 
@@ -217,7 +217,7 @@ returns-clause-address c =
     let k = config_of c.args.image.now in
     let m : Word → ℕ = memory_of c.args.image.now in
     let r = c.args.region in
-    let at : base_of k r + m (Top r) ≡ c.base.result + c.edge-top.result =
-    omega (arith, c.base.ensures ∙ ap (λ (j : Config). base_of j r) c.config-config.ensures, c.edge-top.ensures) in
+    let at : base_of k r + m (Top r) ≡ c.base.result + c.top-top.result =
+    omega (arith, c.base.ensures ∙ ap (λ (j : Config). base_of j r) c.config-config.ensures, c.top-top.ensures) in
     let target = subst (λ (x : ℕ). AreInHeap k x (words_at m c.args.address)) at (room_in_heap k r (m (Top r)) (words_at m c.args.address) c.requires.region c.requires.room) in
     sym at

@@ -10,5 +10,5 @@ word-requires c = placed_inside (config_of c.args.image.now) c.config-config.res
 pub is_in-requires : goal.is_in-requires
 is_in-requires c = omega (arith, c.requires.region, (config_of c.args.image.now).in_range.most_regions)
 
-pub edge-requires : goal.edge-requires
-edge-requires c = c.requires.region
+pub top-requires : goal.top-requires
+top-requires c = c.requires.region

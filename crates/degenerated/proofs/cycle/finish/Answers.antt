@@ -1,120 +1,52 @@
-use Rattle.std.proofs.Common.{◌≡◌, ℕ, true, false, refl, sym, ap, ◌∙◌, subst}
-use Rattle.std.proofs.lemmas.Bool.{true≢false}
+use Rattle.std.proofs.Common.{◌≡◌, ◌*◌, ℕ, ◌&&◌, ◌↔◌, true, sym, ap, ◌∙◌, subst}
 use Rattle.heap_words.specs.declared.config.Config.{Config}
-use Rattle.heap_words.specs.Words.{Word}
-use Rattle.full_words.specs.Full.{served}
-use Rattle.image_graph.specs.State.{config_of, memory_of}
-use Rattle.image_graph.specs.Left.{IsLeft}
-use Rattle.image_graph.specs.Make.{AreWithin}
-use Rattle.cycle_words.specs.Finishing.Updated.{all_updated}
-use Rattle.cycle_words.specs.Finishing.Copies.{is_room_for_all, all_copied}
-use Rattle.cycle_words.specs.Finishing.Finish.{set_freed, cycle_finished, is_whole}
+use Rattle.heap_words.specs.Words.{Word, Phase}
+use Rattle.image_graph.specs.State.{config_of, words_of, memory_of}
+use Rattle.image_graph.proofs.BufferTurns.{no_more_seats}
+use Rattle.cycle_words.specs.Finishing.Updated.{CanUpdateAll}
+use Rattle.cycle_words.specs.Finishing.Copies.{CanCopyFrom, all_copied, is_room_for_all}
+use Rattle.cycle_words.specs.Finishing.Finish.{finished_from, nobody_waits}
 use Rattle.cycle_words.specs.StillHolds.{FinishingHolds}
 use Rattle.cycle_words.proofs.Finishing.FinishingHolds.{finishing_holds}
-use Rattle.degenerated.proofs.Finishing.{stops_short, goes_through, all_served, not_all_served, whole_is, within_still}
+use Rattle.degenerated.specs.declared.cycle.Finished.{Finished}
+use Rattle.degenerated.specs.declared.cycle.Finished.TheVariants.{Whole}
 use Rattle.degenerated.proofs.cycle.finish.Goals as goal
 
--- the words when who waits is served
-to_end : (g d e : Config) (m one two three : Word → ℕ) → d ≡ g → e ≡ d → one ≡ all_copied g m → two ≡ all_updated d one → three ≡ set_freed e two → three ≡ cycle_finished g m
-to_end g d e m one two three same_d same_e to_one to_two to_three =
-    to_three
-    ∙ ap (λ (k : Config). set_freed k two) (same_e ∙ same_d)
-    ∙ ap (set_freed g) (to_two ∙ ap (λ (k : Config). all_updated k one) same_d ∙ ap (all_updated g) to_one)
+-- what is asked of words, and told of them, once buffers were let go
+abbrev Copies : Config → (Word → ℕ) → Type 0
+Copies k n = n Phase ≡ 2 → CanCopyFrom k n k.region_words (k.regions * k.region_words)
 
-pub returns-then-not-copy_rest-clause-words : goal.returns-then-not-copy_rest-clause-words
-returns-then-not-copy_rest-clause-words c =
+abbrev Updates : Config → (Word → ℕ) → Type 0
+Updates k n = is_room_for_all k n ≡ true → CanUpdateAll k (all_copied k n)
+
+abbrev Tells : Finished → Config → (Word → ℕ) → Type 0
+Tells result k n = (result ≡ Whole) ↔ ((is_room_for_all k n && nobody_waits k (finished_from k n)) ≡ true)
+
+pub let_go-requires : goal.let_go-requires
+let_go-requires c = c.requires.buffers
+
+pub end-requires-clause-copies : goal.end-requires-clause-copies
+end-requires-clause-copies c =
+    subst (λ (k : Config). Copies k (memory_of c.let_go.new.self)) (sym c.let_go.ensures.config)
+    (subst (Copies (config_of c.args.image.now)) (sym c.let_go.ensures.words) c.requires.copies)
+
+pub end-requires-clause-updates : goal.end-requires-clause-updates
+end-requires-clause-updates c =
+    subst (λ (k : Config). Updates k (memory_of c.let_go.new.self)) (sym c.let_go.ensures.config)
+    (subst (Updates (config_of c.args.image.now)) (sym c.let_go.ensures.words) c.requires.updates)
+
+pub returns-clause-words : goal.returns-clause-words
+returns-clause-words c =
+    c.end.ensures.words ∙ ap (λ (k : Config). finished_from k (memory_of c.let_go.new.self)) c.let_go.ensures.config
+    ∙ ap (finished_from (config_of c.args.image.now)) c.let_go.ensures.words
+
+pub returns-clause-holds : goal.returns-clause-holds
+returns-clause-holds c =
     let g = config_of c.args.image.now in
     let m : Word → ℕ = memory_of c.args.image.now in
-    c.copy_rest.ensures.words ∙ stops_short g m (sym c.copy_rest.ensures.room ∙ c.if-not-copy_rest.true)
+    subst (λ (n : Word → ℕ). FinishingHolds g m n) (sym (returns-clause-words c)) (finishing_holds g m (no_more_seats g (words_of c.args.image.now)))
 
-pub give_turns-requires : goal.give_turns-requires
-give_turns-requires c =
-    let g = config_of c.args.image.now in
-    let m : Word → ℕ = memory_of c.args.image.now in
-    let one = c.copy_rest.new.image in
-    let two = c.update_all.new.image in
-    let three = c.end_cycle.new.image in
-    let words = to_end g (config_of one) (config_of two) m (memory_of one) (memory_of two) (memory_of three) c.copy_rest.ensures.config c.update_all.ensures.config
-    c.copy_rest.ensures.words c.update_all.ensures.words c.end_cycle.ensures.words in
-    let config : config_of three ≡ g = c.end_cycle.ensures.config ∙ c.update_all.ensures.config ∙ c.copy_rest.ensures.config in
-    let room : is_room_for_all g m ≡ true = sym c.copy_rest.ensures.room ∙ c.if-not-copy_rest.false in
-    subst (λ (k : Config). AreWithin k (memory_of three)) (sym config)
-    (subst (AreWithin g) (sym words) (within_still g (all_copied g m) (c.requires.updates room).within))
-
-pub returns-then-give_turns-clause-words : goal.returns-then-give_turns-clause-words
-returns-then-give_turns-clause-words c =
-    let g = config_of c.args.image.now in
-    let m : Word → ℕ = memory_of c.args.image.now in
-    let one = c.copy_rest.new.image in
-    let two = c.update_all.new.image in
-    let three = c.end_cycle.new.image in
-    let words = to_end g (config_of one) (config_of two) m (memory_of one) (memory_of two) (memory_of three) c.copy_rest.ensures.config c.update_all.ensures.config
-    c.copy_rest.ensures.words c.update_all.ensures.words c.end_cycle.ensures.words in
-    let config : config_of three ≡ g = c.end_cycle.ensures.config ∙ c.update_all.ensures.config ∙ c.copy_rest.ensures.config in
-    let room : is_room_for_all g m ≡ true = sym c.copy_rest.ensures.room ∙ c.if-not-copy_rest.false in
-    c.give_turns.ensures.words ∙ ap (λ (k : Config). served k (memory_of three) k.mutators) config ∙ ap (λ (n : Word → ℕ). served g n g.mutators) words ∙ goes_through g m room
-
-pub returns-then-give_turns-clause-whole : goal.returns-then-give_turns-clause-whole
-returns-then-give_turns-clause-whole c =
-    let g = config_of c.args.image.now in
-    let m : Word → ℕ = memory_of c.args.image.now in
-    let one = c.copy_rest.new.image in
-    let two = c.update_all.new.image in
-    let three = c.end_cycle.new.image in
-    let words = to_end g (config_of one) (config_of two) m (memory_of one) (memory_of two) (memory_of three) c.copy_rest.ensures.config c.update_all.ensures.config
-    c.copy_rest.ensures.words c.update_all.ensures.words c.end_cycle.ensures.words in
-    let config : config_of three ≡ g = c.end_cycle.ensures.config ∙ c.update_all.ensures.config ∙ c.copy_rest.ensures.config in
-    let room : is_room_for_all g m ≡ true = sym c.copy_rest.ensures.room ∙ c.if-not-copy_rest.false in
-    let none : (t : ℕ) → IsLeft g (cycle_finished g m) t → ⊥ = λ t left.
-    c.give_turns.ensures.served c.if-give_turns.true t
-    (subst (λ (k : Config). IsLeft k (memory_of three) t) (sym config) (subst (λ (n : Word → ℕ). IsLeft g n t) (sym words) left)) in
-    let whole : is_whole g m ≡ true = whole_is g m room ∙ all_served g (cycle_finished g m) none in
-    (λ same. whole, λ told. refl)
-
-pub returns-else-give_turns-clause-words : goal.returns-else-give_turns-clause-words
-returns-else-give_turns-clause-words c =
-    let g = config_of c.args.image.now in
-    let m : Word → ℕ = memory_of c.args.image.now in
-    let one = c.copy_rest.new.image in
-    let two = c.update_all.new.image in
-    let three = c.end_cycle.new.image in
-    let words = to_end g (config_of one) (config_of two) m (memory_of one) (memory_of two) (memory_of three) c.copy_rest.ensures.config c.update_all.ensures.config
-    c.copy_rest.ensures.words c.update_all.ensures.words c.end_cycle.ensures.words in
-    let config : config_of three ≡ g = c.end_cycle.ensures.config ∙ c.update_all.ensures.config ∙ c.copy_rest.ensures.config in
-    let room : is_room_for_all g m ≡ true = sym c.copy_rest.ensures.room ∙ c.if-not-copy_rest.false in
-    c.give_turns.ensures.words ∙ ap (λ (k : Config). served k (memory_of three) k.mutators) config ∙ ap (λ (n : Word → ℕ). served g n g.mutators) words ∙ goes_through g m room
-
-pub returns-else-give_turns-clause-whole : goal.returns-else-give_turns-clause-whole
-returns-else-give_turns-clause-whole c =
-    let g = config_of c.args.image.now in
-    let m : Word → ℕ = memory_of c.args.image.now in
-    let one = c.copy_rest.new.image in
-    let two = c.update_all.new.image in
-    let three = c.end_cycle.new.image in
-    let words = to_end g (config_of one) (config_of two) m (memory_of one) (memory_of two) (memory_of three) c.copy_rest.ensures.config c.update_all.ensures.config
-    c.copy_rest.ensures.words c.update_all.ensures.words c.end_cycle.ensures.words in
-    let config : config_of three ≡ g = c.end_cycle.ensures.config ∙ c.update_all.ensures.config ∙ c.copy_rest.ensures.config in
-    let room : is_room_for_all g m ≡ true = sym c.copy_rest.ensures.room ∙ c.if-not-copy_rest.false in
-    let told = c.give_turns.ensures.left c.if-give_turns.false in
-    let left : IsLeft g (cycle_finished g m) told.0 =
-    subst (λ (n : Word → ℕ). IsLeft g n told.0) words (subst (λ (k : Config). IsLeft k (memory_of three) told.0) config told.1) in
-    let short : is_whole g m ≡ false = whole_is g m room ∙ not_all_served g (cycle_finished g m) told.0 left in
-    (λ same. search, λ whole. absurd (true≢false (sym whole ∙ short)))
-
-pub returns-then-not-copy_rest-clause-holds : goal.returns-then-not-copy_rest-clause-holds
-returns-then-not-copy_rest-clause-holds c =
-    let g = config_of c.args.image.now in
-    let m : Word → ℕ = memory_of c.args.image.now in
-    subst (λ (n : Word → ℕ). FinishingHolds g m n) (sym (returns-then-not-copy_rest-clause-words c)) (finishing_holds g m)
-
-pub returns-then-give_turns-clause-holds : goal.returns-then-give_turns-clause-holds
-returns-then-give_turns-clause-holds c =
-    let g = config_of c.args.image.now in
-    let m : Word → ℕ = memory_of c.args.image.now in
-    subst (λ (n : Word → ℕ). FinishingHolds g m n) (sym (returns-then-give_turns-clause-words c)) (finishing_holds g m)
-
-pub returns-else-give_turns-clause-holds : goal.returns-else-give_turns-clause-holds
-returns-else-give_turns-clause-holds c =
-    let g = config_of c.args.image.now in
-    let m : Word → ℕ = memory_of c.args.image.now in
-    subst (λ (n : Word → ℕ). FinishingHolds g m n) (sym (returns-else-give_turns-clause-words c)) (finishing_holds g m)
+pub returns-clause-whole : goal.returns-clause-whole
+returns-clause-whole c =
+    subst (Tells c.end.result (config_of c.args.image.now)) c.let_go.ensures.words
+    (subst (λ (k : Config). Tells c.end.result k (memory_of c.let_go.new.self)) c.let_go.ensures.config c.end.ensures.whole)

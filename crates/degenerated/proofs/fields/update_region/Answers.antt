@@ -1,14 +1,14 @@
 use Rattle.std.proofs.Common.{◌≡◌, ◌+◌, ◌-◌, ◌<◌, ◌==◌, ℕ, Bool, true, false, refl, sym, ap, ◌∙◌, subst, arith}
 use Rattle.heap_words.specs.declared.config.Config.{Config}
-use Rattle.heap_words.specs.Words.{Word, Cset, Top, Heap, IsWord}
+use Rattle.heap_words.specs.Words.{Word, Cset, Top, Heap}
 use Rattle.regions.specs.Place.{base_of}
 use Rattle.regions.specs.Sets.{IsOutside}
+use Rattle.regions.specs.Walk.{stride_at}
 use Rattle.image_graph.specs.State.{config_of, memory_of}
-use Rattle.cycle_words.specs.Evacuation.Live.{words_at}
 use Rattle.cycle_words.specs.Finishing.Updated.{start_of, object_of, is_outside, CanUpdateAll}
 use Rattle.cycle_words.proofs.Finishing.Starts.{start_first}
 use Rattle.degenerated.specs.Steps.{fields_updated, is_at, is_below, is_of}
-use Rattle.degenerated.proofs.UpdatedFields.{outside_told, object_in, same_fields, no_fields, can_still, same_object, then_updated, last_in_heap, here, still, none_below, addresses_apart, one_address_more, fields_below}
+use Rattle.degenerated.proofs.UpdatedFields.{CanRead, outside_told, object_in, same_fields, no_fields, can_still, same_object, then_updated, last_in_heap, here, still, none_below, addresses_apart, one_address_more, fields_below}
 use Rattle.degenerated.proofs.fields.update_region.Goals as goal
 use Rattle.degenerated.proofs.fields.update_region.Goals.{then-ends_at, else-ends_at}
 
@@ -22,20 +22,20 @@ module _ (g d : Config) (m now : Word → ℕ) (can : CanUpdateAll g m) (r i : �
   n = fields_updated g p m
 
   module _ (object : ℕ) (at : object ≡ base_of g r + start_of (λ a. m (Heap a)) (base_of g r) (i - 1)) where
-    pub shape_is : IsWord d (Heap (object + 1))
-    shape_is =
-        let inside = last_in_heap g m can p r below outside i some in
-        subst (λ (k : Config). IsWord k (Heap (object + 1))) (sym same) (omega (arith, inside.from, at), omega (arith, inside.to, at))
+    pub first_is : CanRead d now object
+    first_is =
+        subst (λ (k : Config). CanRead k now object) (sym same)
+        (subst (λ (k : Word → ℕ). CanRead g k object) (sym words) (subst (CanRead g n) (sym at) (last_in_heap g m can p r below outside i some)))
 
-    pub begun_here : (told : Bool) → told ≡ (object + words_at now object == first + i) → told ≡ true
+    pub begun_here : (told : Bool) → told ≡ (object + stride_at (λ a. now (Heap a)) object == first + i) → told ≡ true
         → first + i ≡ base_of g r + start_of (λ a. m (Heap a)) (base_of g r) i
     begun_here told is yes' =
-        here g m can p r below outside i some object first at base (ap (λ (k : Word → ℕ). object + words_at k object == first + i) (sym words) ∙ sym is ∙ yes')
+        here g m can p r below outside i some object first at base (ap (λ (k : Word → ℕ). object + stride_at (λ a. k (Heap a)) object == first + i) (sym words) ∙ sym is ∙ yes')
 
-    pub goes_on_here : (told : Bool) → told ≡ (object + words_at now object == first + i) → told ≡ false
+    pub goes_on_here : (told : Bool) → told ≡ (object + stride_at (λ a. now (Heap a)) object == first + i) → told ≡ false
         → object ≡ base_of g r + start_of (λ a. m (Heap a)) (base_of g r) i
     goes_on_here told is no' =
-        still g m can p r below outside i some object first at base (ap (λ (k : Word → ℕ). object + words_at k object == first + i) (sym words) ∙ sym is ∙ no')
+        still g m can p r below outside i some object first at base (ap (λ (k : Word → ℕ). object + stride_at (λ a. k (Heap a)) object == first + i) (sym words) ∙ sym is ∙ no')
 
   pub can_now : CanUpdateAll d now
   can_now = subst (λ (k : Config). CanUpdateAll k now) (sym same) (subst (CanUpdateAll g) (sym words) (can_still g m can p))
@@ -63,14 +63,23 @@ loop-offset-init c =
           ∙ (let none = start_first (λ a. m (Heap a)) (base_of g r) in let first : base_of g r ≡ base_of g r + start_of (λ a. m (Heap a)) (base_of g r) 0 = omega (arith, none) in first);
     }
 
-pub ends_at-requires : goal.ends_at-requires
-ends_at-requires c =
+pub ends_at-requires-clause-header : goal.ends_at-requires-clause-header
+ends_at-requires-clause-header c =
     let g = config_of c.args.image.now in
     let m : Word → ℕ = memory_of c.args.image.now in
     let is = c.loop-offset.invariant in
-    shape_is g (config_of c.loop-offset.image) m (memory_of c.loop-offset.image) c.requires.can c.args.region c.loop-offset.offset c.requires.region c.requires.outside
-    (omega (arith, c.loop-offset-test.true, c.edge-top.ensures)) is.config is.words c.base-first.result
-    (c.base-first.ensures ∙ ap (λ (k : Config). base_of k c.args.region) c.config.ensures) c.loop-offset.object is.object
+    (first_is g (config_of c.loop-offset.image) m (memory_of c.loop-offset.image) c.requires.can c.args.region c.loop-offset.offset c.requires.region c.requires.outside
+    (omega (arith, c.loop-offset-test.true, c.top-top.ensures)) is.config is.words c.base-first.result
+    (c.base-first.ensures ∙ ap (λ (k : Config). base_of k c.args.region) c.config.ensures) c.loop-offset.object is.object).0
+
+pub ends_at-requires-clause-shape : goal.ends_at-requires-clause-shape
+ends_at-requires-clause-shape c =
+    let g = config_of c.args.image.now in
+    let m : Word → ℕ = memory_of c.args.image.now in
+    let is = c.loop-offset.invariant in
+    (first_is g (config_of c.loop-offset.image) m (memory_of c.loop-offset.image) c.requires.can c.args.region c.loop-offset.offset c.requires.region c.requires.outside
+    (omega (arith, c.loop-offset-test.true, c.top-top.ensures)) is.config is.words c.base-first.result
+    (c.base-first.ensures ∙ ap (λ (k : Config). base_of k c.args.region) c.config.ensures) c.loop-offset.object is.object).1
 
 pub update_word-requires-clause-can : goal.update_word-requires-clause-can
 update_word-requires-clause-can c =
@@ -78,7 +87,7 @@ update_word-requires-clause-can c =
     let m : Word → ℕ = memory_of c.args.image.now in
     let is = c.loop-offset.invariant in
     can_now g (config_of c.loop-offset.image) m (memory_of c.loop-offset.image) c.requires.can c.args.region c.loop-offset.offset c.requires.region c.requires.outside
-    (omega (arith, c.loop-offset-test.true, c.edge-top.ensures)) is.config is.words c.base-first.result
+    (omega (arith, c.loop-offset-test.true, c.top-top.ensures)) is.config is.words c.base-first.result
     (c.base-first.ensures ∙ ap (λ (k : Config). base_of k c.args.region) c.config.ensures)
 
 pub update_word-requires-clause-outside : goal.update_word-requires-clause-outside
@@ -87,7 +96,7 @@ update_word-requires-clause-outside c =
     let m : Word → ℕ = memory_of c.args.image.now in
     let is = c.loop-offset.invariant in
     outside_now g (config_of c.loop-offset.image) m (memory_of c.loop-offset.image) c.requires.can c.args.region c.loop-offset.offset c.requires.region c.requires.outside
-    (omega (arith, c.loop-offset-test.true, c.edge-top.ensures)) is.config is.words c.base-first.result
+    (omega (arith, c.loop-offset-test.true, c.top-top.ensures)) is.config is.words c.base-first.result
     (c.base-first.ensures ∙ ap (λ (k : Config). base_of k c.args.region) c.config.ensures)
 
 pub update_word-requires-clause-object : goal.update_word-requires-clause-object
@@ -98,7 +107,7 @@ update_word-requires-clause-object c =
     let i = c.loop-offset.offset in
     let now = c.loop-offset.image in
     let is = c.loop-offset.invariant in
-    let some : i < m (Top r) = omega (arith, c.loop-offset-test.true, c.edge-top.ensures) in
+    let some : i < m (Top r) = omega (arith, c.loop-offset-test.true, c.top-top.ensures) in
     let base = c.base-first.ensures ∙ ap (λ (k : Config). base_of k r) c.config.ensures in
     object_now g (config_of now) m (memory_of now) c.requires.can r i c.requires.region c.requires.outside some is.config is.words c.base-first.result base c.if-ends_at.object
     (elim c.if-ends_at.branch [
@@ -116,7 +125,7 @@ loop-offset-preserved c =
     let i = c.loop-offset.offset in
     let now = c.loop-offset.image in
     let is = c.loop-offset.invariant in
-    let some : i < m (Top r) = omega (arith, c.loop-offset-test.true, c.edge-top.ensures) in
+    let some : i < m (Top r) = omega (arith, c.loop-offset-test.true, c.top-top.ensures) in
     let base : c.base-first.result ≡ base_of g r = c.base-first.ensures ∙ ap (λ (k : Config). base_of k r) c.config.ensures in
     let object : c.if-ends_at.object ≡ base_of g r + start_of (λ a. m (Heap a)) (base_of g r) i = elim c.if-ends_at.branch [
       | then-ends_at w ↦ w.object-is ∙ begun_here g (config_of now) m (memory_of now) c.requires.can r i c.requires.region c.requires.outside some is.config is.words c.base-first.result base
@@ -140,6 +149,6 @@ returns-clause-words c =
     let g = config_of c.args.image.now in
     let m : Word → ℕ = memory_of c.args.image.now in
     let r = c.args.region in
-    let all : c.loop-offset.offset ≡ m (Top r) = omega (arith, c.loop-offset-test.false, c.loop-offset.auto.offset-end, c.edge-top.ensures) in
+    let all : c.loop-offset.offset ≡ m (Top r) = omega (arith, c.loop-offset-test.false, c.loop-offset.auto.offset-end, c.top-top.ensures) in
     c.loop-offset.invariant.words ∙ ap (λ k. fields_updated g (is_below g r k) m) all
     ∙ same_fields g m (is_below g r (m (Top r))) (is_of g r) (fields_below g m r c.requires.region (c.requires.can.within r c.requires.region))

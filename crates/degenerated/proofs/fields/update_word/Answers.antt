@@ -1,25 +1,29 @@
-use Rattle.std.proofs.Common.{◌≡◌, ◌+◌, ℕ, sym, ap, ◌∙◌, subst, arith}
+use Rattle.std.proofs.Common.{◌≡◌, ℕ, sym, ap, ◌∙◌, subst}
 use Rattle.heap_words.specs.declared.config.Config.{Config}
 use Rattle.heap_words.specs.Words.{Word, Heap, IsWord, word_at, write}
 use Rattle.image_graph.specs.State.{config_of, memory_of}
 use Rattle.image_graph.proofs.NamedStores.{placed_inside}
 use Rattle.cycle_words.specs.Finishing.Updated.{updated_word}
-use Rattle.degenerated.proofs.UpdatedFields.{object_inside, address_inside, no_reference, not_kept, kept_reference, left, set_one}
+use Rattle.degenerated.proofs.UpdatedFields.{CanRead, object_inside, address_inside, no_reference, not_kept, kept_reference, left, set_one}
 use Rattle.degenerated.proofs.fields.update_word.Goals as goal
 
-pub is_reference-requires : goal.is_reference-requires
-is_reference-requires c =
+pub is_reference-requires-clause-header : goal.is_reference-requires-clause-header
+is_reference-requires-clause-header c =
     let g = config_of c.args.image.now in
     let m : Word → ℕ = memory_of c.args.image.now in
-    let inside = object_inside g m c.requires.can c.args.address c.requires.outside in
-    subst (λ x. IsWord g (Heap (x + 1))) (sym c.requires.object) (omega (arith, inside.from), omega (arith, inside.to))
+    subst (λ x. IsWord g (Heap x)) (sym c.requires.object) (object_inside g m c.requires.can c.args.address c.requires.outside).0
+
+pub is_reference-requires-clause-shape : goal.is_reference-requires-clause-shape
+is_reference-requires-clause-shape c =
+    let g = config_of c.args.image.now in
+    let m : Word → ℕ = memory_of c.args.image.now in
+    (subst (CanRead g m) (sym c.requires.object) (object_inside g m c.requires.can c.args.address c.requires.outside)).1
 
 pub is_kept-requires : goal.is_kept-requires
 is_kept-requires c =
     let g = config_of c.args.image.now in
     let m : Word → ℕ = memory_of c.args.image.now in
-    let inside = object_inside g m c.requires.can c.args.address c.requires.outside in
-    subst (λ x. IsWord g (Heap x)) (sym c.requires.object) (omega (arith, inside.from), omega (arith, inside.to))
+    subst (λ x. IsWord g (Heap x)) (sym c.requires.object) (object_inside g m c.requires.can c.args.address c.requires.outside).0
 
 pub returns-then-not-is_reference-clause-words : goal.returns-then-not-is_reference-clause-words
 returns-then-not-is_reference-clause-words c =

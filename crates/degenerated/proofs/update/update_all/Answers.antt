@@ -41,8 +41,8 @@ returns-clause-words c =
     ∙ all g (words_of c.args.image.now) c.requires
 
 pub returns-clause-holds : goal.returns-clause-holds
-returns-clause-holds c = λ block owner p graph holds sized.
+returns-clause-holds c = λ block owner p graph holds sized none.
     let g = config_of c.args.image.now in
     let m : Word → ℕ = memory_of c.args.image.now in
     subst (λ (n : Word → ℕ). HoldsUpdated g n block owner p graph) (sym (returns-clause-words c))
-    (record { holds = updated_holds g m block owner p graph holds sized; sized = updated_sized g m block owner p graph holds sized })
+    (record { holds = updated_holds g m block owner p graph holds sized none; sized = updated_sized g m block owner p graph holds sized none })

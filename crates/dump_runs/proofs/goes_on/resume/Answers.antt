@@ -1,6 +1,6 @@
-use Rattle.std.proofs.Common.{◌≡◌, List, subst, arith}
+use Rattle.std.proofs.Common.{◌≡◌, List, subst, arith, ap, ◌∙◌}
 use Rattle.heap_words.specs.declared.config.Config.{Config}
-use Rattle.heap_words.specs.Words.{view}
+use Rattle.heap_words.specs.Words.{view, table_words}
 use Rattle.steps_base.specs.Steps.{Stage, Event}
 use Rattle.shen_graph.specs.Graph.{Graph}
 use Rattle.shen_graph.specs.declared.order.Order.{Order}
@@ -37,6 +37,7 @@ returns-clause-answered c =
     let begins : Begins d.config start g = c.in_ok-replies.ensures.begins in
     record {
       words = images.words_of image;
+      size = image.all_words ∙ ap table_words same;
       placed = subst (λ (k : Config). IsPlaced d.config d.graph (view k (images.words_of image))) same placed;
       whole = whole_from d.config start g begins c.args.scripts.items c.requires.count events done.called done.idle;
       text = answer_from d.config start g begins c.args.scripts.items c.requires.count c.args.schedule.now c.args.steps c.in-Some.replies c.in-Some.plain done c.in_ok-graph.graph c.in_ok-graph.ensures.threads

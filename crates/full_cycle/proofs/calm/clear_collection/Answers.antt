@@ -1,7 +1,8 @@
 use Rattle.std.proofs.Common.{◌≡◌, ℕ, ap, ◌∙◌}
 use Rattle.heap_words.specs.declared.config.Config.{Config}
-use Rattle.heap_words.specs.Words.{Phase, Free, Evac, Top, Tams, Root, Count, Buffer, Grey, word_at, view, heap_start}
+use Rattle.heap_words.specs.Words.{Phase, Free, Evac, Top, Tams, Root, Count, Buffer, Grey, Share, word_at, view, write, heap_start}
 use Rattle.image_graph.specs.State.{config_of, words_of}
+use Rattle.image_graph.proofs.NamedStores.{stored}
 use Rattle.full_cycle.proofs.TableRows.{calmed}
 use Rattle.full_cycle.proofs.RangeWords.{changed_to}
 use Rattle.full_cycle.proofs.calm.clear_collection.Goals as goal
@@ -17,6 +18,8 @@ returns-clause-words c =
     let s5 = changed_to _ _ _ _ (λ (word : ℕ). 0) (words_of c.clear_words-4.new.image) (words_of c.clear_words-5.new.image) (c.grey_at.ensures ∙ ap (λ (k : Config). word_at k (Grey 0)) same) (c.heap_start.ensures.value ∙ ap heap_start same) c.clear_words-5.ensures.words in
     let unchanged : config_of c.clear_words-5.new.image ≡ g =
     c.clear_words-5.ensures.config ∙ c.clear_words-4.ensures.config ∙ c.clear_words-3.ensures.config ∙ c.clear_words-2.ensures.config ∙ c.clear_words.ensures.config in
-    ap (λ (k : Config). view k (words_of c.clear_words-5.new.image)) unchanged
+    let share = stored (config_of c.clear_words-5.new.image) g (view (config_of c.clear_words-5.new.image) (words_of c.clear_words-5.new.image)) _ Share c.share_at.result 0 unchanged tt
+    (c.share_at.ensures ∙ ap (λ (k : Config). word_at k Share) same) c.set_word.ensures.named in
+    share ∙ ap (λ (k : Config). write (view k (words_of c.clear_words-5.new.image)) Share 0) unchanged
     ∙ calmed g (words_of c.args.image.now) (words_of c.clear_words.new.image) (words_of c.clear_words-2.new.image) (words_of c.clear_words-3.new.image)
     (words_of c.clear_words-4.new.image) (words_of c.clear_words-5.new.image) s1 s2 s3 s4 s5

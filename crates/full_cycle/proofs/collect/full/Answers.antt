@@ -1,79 +1,49 @@
-use Rattle.std.proofs.Common.{◌≡◌, ℕ, sym, ap, ◌∙◌, subst}
+use Rattle.std.proofs.Common.{ℕ, sym, ap, ◌∙◌, subst}
 use Rattle.heap_words.specs.declared.config.Config.{Config}
 use Rattle.heap_words.specs.Words.{Word}
-use Rattle.full_words.specs.Full.{served, refused}
+use Rattle.buffer_words.specs.LetGo.{let_go}
+use Rattle.full_words.specs.Full.{full_from}
 use Rattle.image_graph.specs.State.{config_of, memory_of}
-use Rattle.full_cycle.specs.Collect.{CanCollect}
-use Rattle.image_graph.proofs.Same.{carried}
-use Rattle.full_cycle.proofs.Holding.{can_collect_some}
-use Rattle.full_cycle.proofs.Whole.{roots_in_table, answers_in_table, five_config, five_words, five_within}
 use Rattle.image_graph.specs.Holds.{HoldsSome}
+use Rattle.image_graph.specs.Buffers.{LettingGoHolds}
+use Rattle.image_graph.proofs.Loosening.Inside.{inside_some, let_go_some}
 use Rattle.full_cycle.proofs.Again.{holds_full}
 use Rattle.full_cycle.proofs.Result.{keeps_graph, keeps_reachable, refuses_left}
 use Rattle.full_cycle.proofs.collect.full.Goals as goal
 
-pub find_held-requires : goal.find_held-requires
-find_held-requires c = can_collect_some (config_of c.args.image.now) (memory_of c.args.image.now) c.requires
+pub let_go-requires : goal.let_go-requires
+let_go-requires c = inside_some (config_of c.args.image.now) (memory_of c.args.image.now) c.requires
 
-pub pack_held-requires-clause-can : goal.pack_held-requires-clause-can
-pack_held-requires-clause-can c =
-    let old = c.args.image.now in
-    carried (λ k m. CanCollect k m) old c.find_held.new.image c.find_held.ensures.unchanged (can_collect_some (config_of old) (memory_of old) c.requires)
-
-pub renew_roots-requires-clause-roots : goal.renew_roots-requires-clause-roots
-renew_roots-requires-clause-roots c =
-    let old = c.args.image.now in
-    roots_in_table old c.find_held.new.image c.pack_held.new.image (can_collect_some (config_of old) (memory_of old) c.requires)
-    c.find_held.ensures.unchanged c.pack_held.ensures.config c.pack_held.ensures.words c.pack_held.ensures.renews
-
-pub renew_roots-requires-clause-answers : goal.renew_roots-requires-clause-answers
-renew_roots-requires-clause-answers c =
-    let old = c.args.image.now in
-    answers_in_table old c.find_held.new.image c.pack_held.new.image (can_collect_some (config_of old) (memory_of old) c.requires)
-    c.find_held.ensures.unchanged c.pack_held.ensures.config c.pack_held.ensures.words c.pack_held.ensures.renews
-
-pub give_turns-requires : goal.give_turns-requires
-give_turns-requires c =
-    let old = c.args.image.now in
-    five_within old c.find_held.new.image c.pack_held.new.image (can_collect_some (config_of old) (memory_of old) c.requires)
-    c.find_held.ensures.unchanged c.pack_held.ensures.config c.pack_held.ensures.words c.pack_held.ensures.renews
-    c.renew_roots.new.image c.clear_collection.new.image c.free_empty.new.image
-    c.renew_roots.ensures.config c.clear_collection.ensures.config c.free_empty.ensures.config
-    c.renew_roots.ensures.words c.clear_collection.ensures.words c.free_empty.ensures.words
+pub collect-requires : goal.collect-requires
+collect-requires c =
+    subst (λ (k : Config). HoldsSome k (memory_of c.let_go.new.self)) (sym c.let_go.ensures.config)
+    (let_go_some (config_of c.args.image.now) (memory_of c.args.image.now) (memory_of c.let_go.new.self) c.let_go.ensures.holds c.requires)
 
 pub returns-clause-words : goal.returns-clause-words
 returns-clause-words c =
-    let old = c.args.image.now in
-    let five = c.free_empty.new.image in
-    let can = can_collect_some (config_of old) (memory_of old) c.requires in
-    let config : config_of five ≡ config_of old =
-    five_config old c.find_held.new.image c.pack_held.new.image can
-    c.find_held.ensures.unchanged c.pack_held.ensures.config c.pack_held.ensures.words c.pack_held.ensures.renews
-    c.renew_roots.new.image c.clear_collection.new.image five
-    c.renew_roots.ensures.config c.clear_collection.ensures.config c.free_empty.ensures.config
-    c.renew_roots.ensures.words c.clear_collection.ensures.words c.free_empty.ensures.words in
-    let words =
-    five_words old c.find_held.new.image c.pack_held.new.image can
-    c.find_held.ensures.unchanged c.pack_held.ensures.config c.pack_held.ensures.words c.pack_held.ensures.renews
-    c.renew_roots.new.image c.clear_collection.new.image five
-    c.renew_roots.ensures.config c.clear_collection.ensures.config c.free_empty.ensures.config
-    c.renew_roots.ensures.words c.clear_collection.ensures.words c.free_empty.ensures.words in
-    c.refuse.ensures.words
-    ∙ ap refused (c.give_turns.ensures.words
-    ∙ ap (λ (k : Config). served k (memory_of five) k.mutators) config
-    ∙ ap (λ (n : Word → ℕ). served (config_of old) n (config_of old).mutators) words)
+    c.collect.ensures.words ∙ ap (λ (k : Config). full_from k (memory_of c.let_go.new.self)) c.let_go.ensures.config
+    ∙ ap (full_from (config_of c.args.image.now)) c.let_go.ensures.words
 
 pub returns-clause-holds : goal.returns-clause-holds
 returns-clause-holds c =
     let g = config_of c.args.image.now in
     let m : Word → ℕ = memory_of c.args.image.now in
-    subst (HoldsSome g) (sym (returns-clause-words c)) (holds_full g m c.requires)
+    let lets : LettingGoHolds g m (let_go g m) = subst (LettingGoHolds g m) c.let_go.ensures.words c.let_go.ensures.holds in
+    subst (HoldsSome g) (sym (returns-clause-words c)) (holds_full g (let_go g m) (let_go_some g m (let_go g m) lets c.requires))
 
 pub returns-clause-graph : goal.returns-clause-graph
-returns-clause-graph c = keeps_graph (config_of c.args.image.now) (memory_of c.args.image.now) (memory_of c.refuse.new.image) (returns-clause-words c)
+returns-clause-graph c =
+    let g = config_of c.args.image.now in
+    let m : Word → ℕ = memory_of c.args.image.now in
+    let lets : LettingGoHolds g m (let_go g m) = subst (LettingGoHolds g m) c.let_go.ensures.words c.let_go.ensures.holds in
+    keeps_graph g m lets (memory_of c.collect.new.image) (returns-clause-words c)
 
 pub returns-clause-kept : goal.returns-clause-kept
-returns-clause-kept c = keeps_reachable (config_of c.args.image.now) (memory_of c.args.image.now)
+returns-clause-kept c =
+    let g = config_of c.args.image.now in
+    let m : Word → ℕ = memory_of c.args.image.now in
+    let lets : LettingGoHolds g m (let_go g m) = subst (LettingGoHolds g m) c.let_go.ensures.words c.let_go.ensures.holds in
+    keeps_reachable g m lets
 
 pub returns-clause-refused : goal.returns-clause-refused
-returns-clause-refused c = refuses_left (config_of c.args.image.now) (memory_of c.args.image.now) (memory_of c.refuse.new.image) (returns-clause-words c)
+returns-clause-refused c = refuses_left (config_of c.args.image.now) (memory_of c.args.image.now) (memory_of c.collect.new.image) (returns-clause-words c)

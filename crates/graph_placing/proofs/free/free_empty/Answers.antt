@@ -16,7 +16,7 @@ pub overflow_add-free : goal.overflow_add-free
 overflow_add-free c =
     let top : ℕ → ℕ = λ r. memory_of c.args.image.now (Top r) in
     let r = c.loop-region.region in
-    let sum = empty_more top r c.set_if_empty-free.result c.loop-region.free c.edge.result c.edge.ensures c.set_if_empty-free.ensures c.loop-region.invariant in
+    let sum = empty_more top r c.set_if_empty-free.result c.loop-region.free c.top.result c.top.ensures c.set_if_empty-free.ensures c.loop-region.invariant in
     let small = empty_small top (r + 1) in
     let few : r + 1 ≤ 64 = omega (arith, c.loop-region-test.true, c.regions-region-end.ensures, ap (λ (k : Config). k.regions) c.config-config.ensures, (config_of c.args.image.now).in_range.most_regions) in
     let power : 2 ^ (r + 1) ≤ 2 ^ 64 = pow-le-pow_right (omega arith) few in
@@ -24,7 +24,7 @@ overflow_add-free c =
 
 pub loop-region-preserved : goal.loop-region-preserved
 loop-region-preserved c =
-    empty_more (λ r. memory_of c.args.image.now (Top r)) c.loop-region.region c.set_if_empty-free.result c.loop-region.free c.edge.result c.edge.ensures
+    empty_more (λ r. memory_of c.args.image.now (Top r)) c.loop-region.region c.set_if_empty-free.result c.loop-region.free c.top.result c.top.ensures
     c.set_if_empty-free.ensures c.loop-region.invariant
 
 pub returns-clause-words : goal.returns-clause-words

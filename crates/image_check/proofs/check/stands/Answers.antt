@@ -9,7 +9,8 @@ returns c told =
     laid_holds (config_of c.args.image.now) (memory_of c.args.image.now) c.args.objects.now (record {
       regions = c.if-not-are_regions_right.ensures refl;
       free = c.if-not-is_free_word_right.ensures refl;
-      currents = c.if-not-is_nobodys.ensures refl;
+      unbuffered = c.if-not-has_no_buffers.ensures refl;
+      shared_one = c.if-not-is_share_right.ensures refl;
       order = c.if-not-are_in_order.ensures refl;
       lies = c.if-not-lie_right.ensures refl;
       reads = c.if-not-read_right.ensures refl;

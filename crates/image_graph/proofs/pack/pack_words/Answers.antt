@@ -3,7 +3,7 @@ use borrow.Rule.Slice.PartMut.{put_mid}
 use Rattle.heap_words.specs.Words.{Top, word_at, heap_size, heap_in}
 use Rattle.packing.specs.Table.{CanCompact}
 use Rattle.image_graph.specs.Pack.{IsPacked}
-use Rattle.image_graph.proofs.Packed.{packed_from, heap_behind}
+use Rattle.image_graph.proofs.Packed.{packed_from, heap_part}
 use Rattle.image_graph.proofs.pack.pack_words.Goals as goal
 
 pub returns : goal.returns
@@ -12,17 +12,23 @@ returns c =
     let before = c.args.words.now in
     let split = c.split_at_mut-low.ensures in
     let low = c.split_at_mut-low.result.0.now in
-    let heap = c.split_at_mut-low.result.1.now in
+    let rest = c.split_at_mut-low.result.1.now in
+    let rest_is = split.back ∙ ap (λ k. drop k before) c.heap_start.ensures.value in
+    let parts = c.split_at_mut-heap.ensures in
+    let heap = c.split_at_mut-heap.result.0.now in
+    let behind = c.split_at_mut-heap.result.1.now in
     let tops = c.compact_marked.new.tops in
     let after_heap = c.compact_marked.new.heap in
     let top_is : word_at config (Top 0) ≡ c.top_at-top.result = sym c.top_at-top.ensures in
     let wide : config.regions ≡ c.top_at-top.result + c.regions.result - c.top_at-top.result = omega (arith, c.regions.ensures) in
-    let all = packed_from config c.args.marks.now before low heap tops after_heap c.compact_marked.new.places c.requires.table
-    (split.front ∙ ap (λ k. take k before) c.heap_start.ensures.value) (split.back ∙ ap (λ k. drop k before) c.heap_start.ensures.value)
+    let all = packed_from config c.args.marks.now before low heap behind tops after_heap c.compact_marked.new.places c.requires.table
+    (split.front ∙ ap (λ k. take k before) c.heap_start.ensures.value)
+    (parts.front ∙ ap (λ k. take k rest) c.heap_size.ensures.value ∙ ap (take (heap_size config)) rest_is)
+    (parts.back ∙ ap (λ k. drop k rest) c.heap_size.ensures.value ∙ ap (drop (heap_size config)) rest_is)
     (omega arith) (omega arith)
     c.region_words.result c.region_words.ensures c.compact_marked.ensures.slid (λ r inside. c.compact_marked.ensures.tops r (omega (arith, inside))) c.compact_marked.ensures.renews in
-    subst (λ k. IsPacked config c.args.marks.now before (put_mid c.top_at-top.result k low tops ++ after_heap) c.compact_marked.new.places) wide
-    (subst (λ t. IsPacked config c.args.marks.now before (put_mid t config.regions low tops ++ after_heap) c.compact_marked.new.places) top_is all)
+    subst (λ k. IsPacked config c.args.marks.now before (put_mid c.top_at-top.result k low tops ++ (after_heap ++ behind)) c.compact_marked.new.places) wide
+    (subst (λ t. IsPacked config c.args.marks.now before (put_mid t config.regions low tops ++ (after_heap ++ behind)) c.compact_marked.new.places) top_is all)
 
 pub top_at-top-requires : goal.top_at-top-requires
 top_at-top-requires c = omega (arith, c.args.config.in_range.least_regions)
@@ -40,13 +46,15 @@ pub compact_marked-requires-clause-compact : goal.compact_marked-requires-clause
 compact_marked-requires-clause-compact c =
     let config = c.args.config in
     let before = c.args.words.now in
-    let heap : heap_in config before ≡ c.split_at_mut-low.result.1.now =
-    heap_behind config before c.requires.table ∙ ap (λ k. drop k before) (sym c.heap_start.ensures.value) ∙ sym c.split_at_mut-low.ensures.back in
-    subst (λ (n : ℕ). CanCompact n c.split_at_mut-low.result.1.now c.args.marks.now) (sym c.region_words.ensures)
+    let rest = c.split_at_mut-low.result.1.now in
+    let heap : heap_in config before ≡ c.split_at_mut-heap.result.0.now =
+    heap_part config before ∙ ap (take (heap_size config)) (ap (λ k. drop k before) (sym c.heap_start.ensures.value) ∙ sym c.split_at_mut-low.ensures.back)
+    ∙ ap (λ k. take k rest) (sym c.heap_size.ensures.value) ∙ sym c.split_at_mut-heap.ensures.front in
+    subst (λ (n : ℕ). CanCompact n c.split_at_mut-heap.result.0.now c.args.marks.now) (sym c.region_words.ensures)
     (subst (λ (w : List ℕ). CanCompact config.region_words w c.args.marks.now) heap c.requires.compact)
 
 pub compact_marked-requires-clause-table : goal.compact_marked-requires-clause-table
 compact_marked-requires-clause-table c =
-    let wide : length c.split_at_mut-low.result.1.now ≡ heap_size c.args.config =
-    omega (arith, c.requires.table, c.heap_start.ensures.value, c.split_at_mut-low.ensures.back_len, c.split_at_mut-low.ensures.front_len) in
+    let wide : length c.split_at_mut-heap.result.0.now ≡ heap_size c.args.config =
+    omega (arith, c.heap_size.ensures.value, c.split_at_mut-heap.ensures.front_len) in
     omega (arith, wide, c.requires.places)

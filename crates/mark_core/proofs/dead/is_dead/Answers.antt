@@ -36,5 +36,5 @@ returns c =
     let outside : bit_at (m Free) r ≢ 1 = λ is. true≢false (sym (c.is_in.ensures.1 (ap (λ x. bit_at x r) free ∙ is)) ∙ c.if-is_in.false) in
     let unset : bit_at (m Free) r ≡ 0 = omega (arith, outside, bit_at-lt (m Free) r) in
     let unseated : is_current g m r ≡ false = false_from_ne_true (is_current g m r) (λ is. c.is_current.ensures.no c.if-is_current.false (current_is g m r is)) in
-    let top : m (Top r) ≡ m (Tams r) = omega (arith, c.edge.ensures, tams, c.if-edge-word.false) in
+    let top : m (Top r) ≡ m (Tams r) = omega (arith, c.top.ensures, tams, c.if-top-word.false) in
     ap not c.has_black.ensures ∙ sym (marks_decide g m r unset unseated top)

@@ -9,7 +9,8 @@ use Rattle.cycle_words.specs.Marking.Final.{IsDead, dead_in, freed_block, freed_
 use Rattle.cycle_words.proofs.Marking.Dead.{dead_is_dead}
 use Rattle.cycle_words.proofs.Marking.Vanished.{free_was, free_is}
 use Rattle.cycle_words.proofs.Marking.Ended.{ended_holds, ended_through}
-use Rattle.mark_core.proofs.MarkingEnded.{no_more_seats, final_words}
+use Rattle.image_graph.proofs.BufferTurns.{no_more_seats}
+use Rattle.mark_core.proofs.MarkingEnded.{final_words}
 use Rattle.mark_core.proofs.Some.{holds_ended}
 use Rattle.mark_core.proofs.end.final_mark.Goals as goal
 

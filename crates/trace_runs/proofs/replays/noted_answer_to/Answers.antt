@@ -1,6 +1,6 @@
 use Rattle.std.proofs.Common.{arith}
 use Rattle.trace_runs.proofs.Scripts.{count_scripts}
-use Rattle.trace_runs.proofs.Whole.{all_rest, replayed_noted}
+use Rattle.trace_runs.proofs.Whole.{all_rest, whole, replayed_noted}
 use Rattle.step_core.proofs.Theorem.FirstFacts.{opening_run}
 use Rattle.trace_runs.specs.Replayed.{events_of}
 use Rattle.trace_runs.proofs.replays.noted_answer_to.Goals as goal
@@ -26,3 +26,17 @@ graph_of-requires-clause-config c = c.in_ok-replies.ensures.finished.config
 
 pub returns-clause-scripts : goal.returns-clause-scripts
 returns-clause-scripts c = λ mutator below. c.in_ok-replies.ensures.finished.jobs_are mutator (omega (arith, below, c.in_ok-graph.ensures.threads))
+
+pub returns-clause-whole : goal.returns-clause-whole
+returns-clause-whole c =
+    let t = c.args.trace in
+    let done = c.in_ok-replies.ensures.finished in
+    whole t.config t.scripts (events_of t.config t.scripts t.schedule c.args.steps) (count_scripts c.requires.0 t.config t.scripts t.schedule c.requires.1) done.idle done.called
+
+pub returns-clause-history : goal.returns-clause-history
+returns-clause-history c = c.in_ok-replies.ensures.history
+
+pub returns-clause-graph : goal.returns-clause-graph
+returns-clause-graph c =
+    let t = c.args.trace in
+    c.in_ok-graph.ensures.shows (opening_run t.config (events_of t.config t.scripts t.schedule c.args.steps)) c.in_ok-replies.ensures.finished.shows

@@ -1,19 +1,20 @@
 use Rattle.std.proofs.Common.{ℕ, sym, ap, ◌∙◌, subst}
-use Rattle.image_graph.specs.State.{config_of, words_of, memory_of}
+use Rattle.heap_words.specs.declared.config.Config.{Config}
 use Rattle.heap_words.specs.Words.{Word}
+use Rattle.image_graph.specs.State.{config_of, words_of, memory_of}
+use Rattle.image_graph.proofs.BufferTurns.{no_more_seats}
 use Rattle.cycle_words.specs.StillHolds.{LimitsHold}
+use Rattle.cycle_words.specs.Updating.Changes.{updating_begun}
 use Rattle.cycle_words.proofs.Updating.LimitsNoted.{limits_hold}
-use Rattle.update_refs.specs.Steps.{update_started}
-use Rattle.update_refs.proofs.UpdatingBegun.{begun}
 use Rattle.update_refs.proofs.begin.init_update.Goals as goal
 
 pub returns-clause-words : goal.returns-clause-words
 returns-clause-words c =
-    let old = c.args.image.now in
-    c.start.ensures.words ∙ ap update_started c.note_limits.ensures.words ∙ begun (config_of old) (words_of old)
+    c.begin.ensures.words ∙ ap (λ (k : Config). updating_begun k (memory_of c.settle.new.self)) c.settle.ensures.config
+    ∙ ap (updating_begun (config_of c.args.image.now)) c.settle.ensures.words
 
 pub returns-clause-holds : goal.returns-clause-holds
 returns-clause-holds c =
     let g = config_of c.args.image.now in
     let m : Word → ℕ = memory_of c.args.image.now in
-    subst (λ (n : Word → ℕ). LimitsHold g m n) (sym (returns-clause-words c)) (limits_hold g m)
+    subst (λ (n : Word → ℕ). LimitsHold g m n) (sym (returns-clause-words c)) (limits_hold g m (no_more_seats g (words_of c.args.image.now)))

@@ -4,11 +4,11 @@ use Rattle.heap_words.specs.Words.{Word, Limit, word_at, write}
 use Rattle.image_graph.specs.State.{config_of, memory_of}
 use Rattle.image_graph.proofs.NamedStores.{stored}
 use Rattle.update_refs.specs.Steps.{limit_in, limited}
-use Rattle.update_refs.proofs.UpdatingBegun.{none_limited, limited_next}
+use Rattle.update_refs.proofs.UpdatingBegun.{none_limited, limit_limited, limited_next}
 use Rattle.update_refs.proofs.begin.note_limits.Goals as goal
 
 pub loop-region-init : goal.loop-region-init
-loop-region-init c = record { config = refl; words = none_limited (memory_of c.args.image.now) }
+loop-region-init c = record { config = refl; words = none_limited (config_of c.args.image.now) (memory_of c.args.image.now) }
 
 pub loop-region-preserved : goal.loop-region-preserved
 loop-region-preserved c =
@@ -17,17 +17,19 @@ loop-region-preserved c =
     let m : Word → ℕ = memory_of old in
     let r = c.loop-region.region in
     let below : r < g.regions = omega (arith, c.loop-region-test.true, c.regions-region-end.ensures, ap (λ (k : Config). k.regions) c.config-config.ensures) in
-    let is : c.limit-limit.result ≡ limit_in m r = c.limit-limit.ensures ∙ ap (λ n. limit_in n r) c.loop-region.invariant.words in
+    let is : c.limit-limit.result ≡ limit_in g m r =
+    c.limit-limit.ensures ∙ ap (λ (k : Config). limit_in k (memory_of c.loop-region.image) r) c.loop-region.invariant.config
+    ∙ ap (λ (n : Word → ℕ). limit_in g n r) c.loop-region.invariant.words ∙ limit_limited g r r m in
     let one = stored (config_of c.loop-region.image) g (memory_of c.loop-region.image) (memory_of c.set_word.new.self) (Limit r) c.limit_at.result c.limit-limit.result
     c.loop-region.invariant.config below (c.limit_at.ensures ∙ ap (λ (k : Config). word_at k (Limit r)) c.config-config.ensures) c.set_word.ensures.named in
     record {
       config = c.set_word.ensures.config ∙ c.loop-region.invariant.config;
       words = one ∙ ap (λ n. write n (Limit r) c.limit-limit.result) c.loop-region.invariant.words
-          ∙ ap (write (limited r m) (Limit r)) is ∙ limited_next r m;
+          ∙ ap (write (limited g r m) (Limit r)) is ∙ limited_next g r m;
     }
 
 pub returns-clause-words : goal.returns-clause-words
 returns-clause-words c =
     let all : c.loop-region.region ≡ (config_of c.args.image.now).regions =
     omega (arith, c.loop-region-test.false, c.loop-region.auto.region-end, c.regions-region-end.ensures, ap (λ (k : Config). k.regions) c.config-config.ensures) in
-    c.loop-region.invariant.words ∙ ap (λ n. limited n (memory_of c.args.image.now)) all
+    c.loop-region.invariant.words ∙ ap (λ n. limited (config_of c.args.image.now) n (memory_of c.args.image.now)) all

@@ -16,6 +16,8 @@ returns-in-Done c =
       doing = gone.doing;
       most = gone.most;
       all = gone.all;
+      some = gone.some;
+      waited = gone.waited;
       told = gone.told;
       legal = gone.legal;
     }

@@ -1,10 +1,12 @@
-use Rattle.std.proofs.Common.{◌≡◌, ◌≢◌, Bool, true, false, refl, ◌∙◌}
+use Rattle.std.proofs.Common.{◌≡◌, ◌≢◌, Bool, true, false, refl, ◌∙◌, subst}
 use Rattle.std.specs.Arc.{arc_value}
+use Rattle.heap_words.specs.declared.config.Config.{Config}
 use Rattle.heap_machines.specs.declared.stepped.Stepped.{Stepped}
 use Rattle.heap_machines.specs.declared.stepped.Stepped.TheVariants as stepped
-use Rattle.table_heap.specs.State.{has_turn}
+use Rattle.table_heap.specs.State.{has_turn, machine_at}
+use Rattle.heap_seats.specs.Going.{HasWaited}
 use Rattle.heap_seats.proofs.Known.{stays_of, stays_here, goes_run}
-use Rattle.heap_seats.proofs.Stepped.{calls_go, doing_goes, order_then, steps_then}
+use Rattle.heap_seats.proofs.Stepped.{calls_go, doing_goes, order_then, steps_then, waited_then}
 use Rattle.heap_seats.proofs.seat.Seat.step.Goals as goal
 
 has_one : (turn : Bool) (said : Stepped) → (turn ≡ false → said ≡ stepped.Idle) → said ≢ stepped.Idle → turn ≡ true
@@ -33,4 +35,5 @@ returns-clause-stepped c moved =
       doing = doing_goes s.bundle b s.number c.step.result step;
       order = order_then s.bundle b s.number c.step.result step;
       steps = steps_then s.bundle b s.number c.step.result step;
+      waited = λ is. subst (λ (k : Config). HasWaited k (machine_at b s.number)) s.same_config (waited_then s.bundle b s.number c.step.result step is);
     }

@@ -1,3 +1,4 @@
+use Rattle.std.proofs.lemmas.Bool.{and_parts}
 use Rattle.load_barrier.proofs.UnitWaiting.{never_says, says_again}
 use Rattle.load_barrier.proofs.evac_spot.EvacSpot.after.Goals as goal
 
@@ -11,3 +12,9 @@ returns-in-LoadTop-clause-again c = rw (c.in-LoadTop.is, c.led-in-LoadTop.ensure
 
 pub returns-in-LoadMark-clause-again : goal.returns-in-LoadMark-clause-again
 returns-in-LoadMark-clause-again c = rw (c.in-LoadMark.is, c.led-in-LoadMark.ensures.says) (never_says c.after_mark.result)
+
+pub returns-in-LoadFirst-clause-again : goal.returns-in-LoadFirst-clause-again
+returns-in-LoadFirst-clause-again c = rw (c.in-LoadFirst.is, c.led-in-LoadFirst.ensures.says) (never_says c.after_first.result)
+
+pub after-at-requires-clause-ready : goal.after-at-requires-clause-ready
+after-at-requires-clause-ready c = let parts = and_parts _ _ (rw c.in-Resolving.is at c.requires.ready) in (and_parts _ _ (and_parts _ _ parts.1).1).0

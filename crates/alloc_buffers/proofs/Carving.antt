@@ -1,0 +1,222 @@
+-- The step of a taking of room that carves a buffer out of the shared region.
+use Rattle.std.proofs.Common.{◌≡◌, ◌≢◌, ℕ, ◌+◌, ◌^◌, ◌<◌, ◌≤◌, true, false, Some, inl, inr, ⊎_elim, refl, sym, ap, ◌∙◌, subst, arith}
+use Rattle.std.specs.Prelude.{◌==◌, nat_lt}
+use Rattle.std.proofs.lemmas.Bool.{cases_Bool, cond-true, cond-false, eqb-true, and_from, and_parts, lt-ltb, le-leb, leb-true, ltb-true, ltb-false}
+use Rattle.std.proofs.lemmas.Option.{none-some}
+use Rattle.heap_words.specs.declared.config.Config.{Config}
+use Rattle.heap_words.specs.Encoding.{next_in, end_in, filler_header}
+use Rattle.heap_words.specs.Words.{Phase, Cset, Free, Evac, Claim, Top, Tams, Limit, Current, Count, Buffer, Grey, Black, Heap, Share, is_word, write}
+use Rattle.regions.specs.Place.{base_of}
+use Rattle.regions.specs.Sets.{IsIn}
+use Rattle.shen_graph.specs.declared.name.Name.{Name}
+use Rattle.heap_world.specs.World.{World, Block, thing, moved, spent, promised, dead, filler, spare, carved, name_at, Shared}
+use Rattle.heap_world.specs.Rely.{Keeps, RelyMarks, Rely}
+use Rattle.heap_world.proofs.Updates.{updated, updated_there, updated_else}
+use Rattle.heap_world.proofs.Pointing.{piece_word}
+use Rattle.heap_world.proofs.NewPiece.{CanGrow, names_stay, stays, old_room, own_room, old_promise, parsable_more, contents_more, owned_more, unwritten_more, markable_more, marking_more, evacuating_more, updating_more, same_but_loose}
+use Rattle.heap_world.proofs.Copies.{CopiesStay, keeps_copies, rely_copies}
+use Rattle.heap_world.proofs.Fields.{fields_stored}
+use Rattle.heap_world.proofs.Marked.{rely_marks}
+use Rattle.alloc_buffers.specs.declared.spot.Kind.{Kind}
+use Rattle.alloc_buffers.specs.declared.spot.TakeSpot.TheVariants.{LoadShared, Carve, Fill, StoreBuffer}
+use Rattle.alloc_buffers.specs.Rows.{free_words, carved_at}
+use Rattle.alloc_buffers.specs.Facts.{CanTake}
+use Rattle.alloc_buffers.proofs.TakeSteps.{TakeStep, can_at, looked, exchange_lost, left_of, buffer_small, store_ready, region_end_small}
+
+module _ (c : Config) (u : World) (seat words : ℕ) (kind : Kind) (buffer region top room : ℕ) (shared : Shared c u) (can : CanTake c u seat words (Carve buffer region top room)) (won : (u.memory (Top region) == top) ≡ true) where
+  abbrev tops : ℕ → ℕ
+  tops r = u.memory (Top r)
+
+  -- where the new buffer lies
+  abbrev address : ℕ
+  address = base_of c region + top
+
+  -- the words above the top lie in the region, and are as many as are wanted
+  numbers : (top + room ≤ c.region_words) × (words ≤ room)
+  numbers = let fit = and_parts _ _ (and_parts _ _ can.ready).1 in (leb-true (top + room) c.region_words fit.0, leb-true words room fit.1)
+
+  -- the world in which the words above the top are carved
+  abbrev carved_world : World
+  carved_world = record { memory = write u.memory (Top region) (top + room); block = updated u.block address (Some (carved seat room)); ghost = u.ghost; graph = u.graph }
+
+  -- the region has room
+  grows : CanGrow c tops u.block region top room
+  grows = record {
+    parsable = shared.parsable;
+    rooms = shared.owned.rooms;
+    within = can.facts.1.within;
+    top_is = eqb-true (u.memory (Top region)) top won;
+    room = numbers.0;
+    some = (let least = can.least in let long = numbers.1 in omega (arith, least, long));
+  }
+
+  -- machines share what they should
+  shared_carved : Shared c carved_world
+  shared_carved = record {
+    parsable = parsable_more c tops u.block region top room seat grows;
+    contents = contents_more c tops u.block region top room seat grows (λ a. u.memory (Heap a)) u.graph.object u.graph.count shared.contents;
+    owned = owned_more c tops u.block region top room seat grows (u.memory Share) (u.memory Free) (u.memory Cset) (λ s. u.memory (Current s)) u.ghost.owner can.seated can.facts.1.in_use shared.owned;
+    phased = shared.phased;
+    unwritten = unwritten_more c tops u.block region top room seat grows (λ a. u.memory (Heap a)) shared.unwritten;
+    marked = marking_more c tops u.block region top room seat grows (u.memory Phase) (λ n. u.memory (Grey n)) (λ n. u.memory (Black n)) (λ t. u.memory (Count t)) (λ t k. u.memory (Buffer t k))
+        (λ r. u.memory (Tams r)) (λ a. u.memory (Heap a)) u.ghost.snapshot u.ghost.recording u.ghost.scanning shared.marked;
+    evacuated = evacuating_more c tops u.block region top room seat grows (u.memory Phase) (u.memory Cset) (u.memory Evac) (u.memory Claim) (u.memory Free) (λ r. u.memory (Tams r)) (λ a. u.memory (Heap a)) (λ n. u.memory (Black n))
+        u.ghost.owner u.ghost.copying u.ghost.working can.facts.1.outside shared.evacuated;
+    updated = λ on. updating_more c tops u.block region top room seat grows (u.memory Cset) (u.memory Claim) (λ r. u.memory (Limit r)) (λ a. u.memory (Heap a)) u.ghost.scanning (shared.updated on);
+  }
+
+  -- what a word stands for it still stands for
+  names : (a : ℕ) (n : Name) → name_at (u.block a) ≡ Some n → name_at (carved_world.block a) ≡ Some n
+  names = names_stay c tops u.block region top room seat grows
+
+  -- each piece stays
+  stays_there : (a : ℕ) (b : Block) → u.block a ≡ Some b → carved_world.block a ≡ Some b
+  stays_there = stays c tops u.block region top room seat grows
+
+  -- marking goes on
+  marks_carved : (j : ℕ) → RelyMarks c j u carved_world
+  marks_carved j = rely_marks c u carved_world j refl (λ n. refl) (λ t. refl) (λ t k. refl) refl (λ t. refl) refl (markable_more c tops u.block region top room seat grows) (λ a is. refl)
+
+  -- the region is not set aside
+  set_stays : CopiesStay c u carved_world
+  set_stays = record {
+    cset = refl;
+    evac = refl;
+    things = λ a refs nums n is. stays_there a (thing n refs nums) is;
+    moveds = λ a refs nums to n is. stays_there a (moved n refs nums to) is;
+    spents = λ a more to is. stays_there a (spent more to) is;
+    pieces = λ a x inside is. (x, stays_there a x is, refl, refl);
+    no_new = λ a refs nums n inside is. (same_but_loose c tops u.block region top room seat grows).came a (thing n refs nums) refl is;
+    tops = λ r is. updated_else tops region (top + room) r (λ same. can.facts.1.outside (subst (IsIn (u.memory Cset)) (sym same) is));
+  }
+
+  -- the facts of the seat's machine stand
+  keeps_carved : Keeps c seat u carved_world
+  keeps_carved = record {
+    names = names;
+    targets = λ a refs nums n has. record { piece = stays_there a (thing n refs nums) has.piece; safe = has.safe };
+    promises = λ a more is. stays_there a (promised seat more) is;
+    no_promises = λ a more is. old_promise c tops u.block region top room seat grows a seat more is;
+    promise_words = λ a more k is below. refl;
+    root_words = λ i. refl;
+    roots = λ i. refl;
+    count = refl;
+    wait = refl;
+    answer = refl;
+    marks = (marks_carved seat).keeps;
+    copies = keeps_copies c u carved_world set_stays;
+  }
+
+  -- others can rely on what they knew
+  others_carved : (j : ℕ) → j ≢ seat → Rely c j u carved_world
+  others_carved j differs = record {
+    names = names;
+    targets = λ a refs nums n has. record { piece = stays_there a (thing n refs nums) has.piece; safe = has.safe };
+    rooms = λ a x is of. stays_there a x is;
+    no_rooms = λ a x is of. old_room c tops u.block region top room seat grows a j x differs is of;
+    room_words = λ a k x is of below. refl;
+    promises = λ a more is. stays_there a (promised j more) is;
+    no_promises = λ a more is. old_promise c tops u.block region top room seat grows a j more is;
+    promise_words = λ a more k is below. refl;
+    current = refl;
+    opens = λ r is. record { within = is.within; in_use = is.in_use; nobodys = is.nobodys; outside = is.outside };
+    owners = λ r is. is;
+    tops = λ r is. updated_else tops region (top + room) r (λ same. none-some j (sym can.facts.1.nobodys ∙ ap u.ghost.owner same ∙ is));
+    root_words = λ i. refl;
+    roots = λ i. refl;
+    count = refl;
+    wait = refl;
+    answer = refl;
+    state = refl;
+    asked = λ is. is;
+    marks = marks_carved j;
+    copies = rely_copies c u carved_world j set_stays refl refl (λ a k b seated counted inside is from below. refl);
+    fields = fields_stored c u carved_world (λ r. refl) (λ r. refl) refl (λ a more is. stays_there a (dead more) is) (λ a more is. stays_there a (filler more) is) (λ on a refs nums k n is below. inl refl);
+  }
+
+  -- the new buffer is small enough to be stored
+  ends_low : address + room < 2 ^ 32
+  ends_low = let high = numbers.0 in region_end_small c (λ r. c.region_words) region (address + room) can.facts.1.within (omega arith) (omega (arith, high))
+
+  -- the words of the seat's buffer
+  abbrev word : ℕ
+  word = u.memory (Current seat)
+
+  -- what the seat counts on then: the old buffer has free words, which are to be filled
+  fills : next_in buffer < end_in buffer → CanTake c carved_world seat words (Fill buffer address room)
+  fills some =
+      let is = can.facts.0.is in
+      let more : next_in word < end_in word = subst (λ b. next_in b < end_in b) (sym is) some in
+      let left : u.block (next_in buffer) ≡ Some (spare seat (free_words buffer)) = subst (λ b. u.block (next_in b) ≡ Some (spare seat (free_words b))) is (left_of c u seat words kind shared can.rooms more) in
+      let low : end_in buffer < 2 ^ 32 = subst (λ b. end_in b < 2 ^ 32) is (buffer_small c u seat words kind shared (λ none. (let next : next_in word ≡ 0 = ap next_in none in let end : end_in word ≡ 0 = ap end_in none in omega (arith, next, end, more)))) in
+      let inside : is_word c (Heap (next_in buffer + 0)) ≡ true = piece_word c tops u.block shared.parsable.plotted (next_in buffer) 0 (spare seat (free_words buffer)) left (omega (arith, some)) in
+      can_at c u seat words kind (Carve buffer region top room) (Fill buffer address room) carved_world can refl refl
+      (and_from _ _
+      (and_from _ _ (ap (λ a. is_word c (Heap a)) (omega arith) ∙ inside) (lt-ltb (filler_header (free_words buffer)) (2 ^ 64) (omega (arith, low))))
+      (and_from _ _
+      (and_from _ _ (lt-ltb (next_in buffer) (end_in buffer) some) (lt-ltb (end_in buffer) (2 ^ 32) (omega (arith, low))))
+      (and_from _ _ (le-leb words room numbers.1) (lt-ltb (address + room) (2 ^ 32) (omega (arith, ends_low))))))
+      (record {
+        is = is;
+        some = some;
+        left = stays_there (next_in buffer) (spare seat (free_words buffer)) left;
+        here = updated_there u.block address (Some (carved seat room));
+        long = numbers.1;
+      })
+      (λ a x is_now of. ⊎_elim
+      (λ (new : (a ≡ address) × (carved seat room ≡ x)). inr (new.0, sym new.1))
+      (λ old. inl (can.rooms a x old of))
+      (own_room c tops u.block region top room seat grows a x is_now))
+
+  -- or it has none, and goes
+  stores : end_in buffer ≤ next_in buffer → CanTake c carved_world seat words (StoreBuffer address room)
+  stores none =
+      can_at c u seat words kind (Carve buffer region top room) (StoreBuffer address room) carved_world can refl refl
+      (store_ready c seat words address room can.seated numbers.1 ends_low)
+      (record { here = inr (updated_there u.block address (Some (carved seat room))); long = numbers.1 })
+      (λ a x is_now of. ⊎_elim
+      (λ (new : (a ≡ address) × (carved seat room ≡ x)). new.0)
+      (λ old.
+      let free = can.rooms a x old of in
+      let piece : u.block a ≡ Some (spare seat free.0) = old ∙ ap (λ b. Some b) free.1 in
+      let told = shared.owned.buffers.spares a seat free.0 piece in
+      let some = shared.owned.rooms.spares a seat free.0 piece in
+      let is = can.facts.0.is in
+      let next : next_in buffer ≡ a = ap next_in (sym is) ∙ told.0 in
+      let end : end_in buffer ≡ a + free.0 = ap end_in (sym is) ∙ told.1 in
+      absurd (omega (arith, next, end, some, none)))
+      (own_room c tops u.block region top room seat grows a x is_now))
+
+  -- so it can go on in either case
+  goes_on : CanTake c carved_world seat words (carved_at buffer address room)
+  goes_on = ⊎_elim
+      (λ (some : nat_lt (next_in buffer) (end_in buffer) ≡ true).
+      subst (CanTake c carved_world seat words) (sym (cond-true (nat_lt (next_in buffer) (end_in buffer)) (Fill buffer address room) (StoreBuffer address room) some)) (fills (ltb-true _ _ some)))
+      (λ (none : nat_lt (next_in buffer) (end_in buffer) ≡ false).
+      subst (CanTake c carved_world seat words) (sym (cond-false (nat_lt (next_in buffer) (end_in buffer)) (Fill buffer address room) (StoreBuffer address room) none)) (stores (ltb-false _ _ none)))
+      (cases_Bool (nat_lt (next_in buffer) (end_in buffer)))
+
+  -- the exchange of the top carves the words
+  carves : TakeStep c u seat words kind (Carve buffer region top room)
+  carves = record {
+    world = carved_world;
+    memory = ap (write u.memory (Top region)) (sym (cond-true (u.memory (Top region) == top) (top + room) (u.memory (Top region)) won));
+    graph = refl;
+    shared = shared_carved;
+    own = (
+      subst (CanTake c carved_world seat words) (sym (cond-true (u.memory (Top region) == top) (carved_at buffer address room) (LoadShared buffer) won)) goes_on,
+      record { copying = refl; working = refl },
+    );
+    keeps = keeps_carved;
+    others = others_carved;
+  }
+
+-- the step that carves: where another machine was faster, it looks again
+pub at_carve : (c : Config) (u : World) (seat words : ℕ) (kind : Kind) (buffer region top room : ℕ) → Shared c u → CanTake c u seat words (Carve buffer region top room) → TakeStep c u seat words kind (Carve buffer region top room)
+at_carve c u seat words kind buffer region top room shared can = ⊎_elim
+    (carves c u seat words kind buffer region top room shared can)
+    (λ (lost : (u.memory (Top region) == top) ≡ false).
+    looked c u seat words kind (Carve buffer region top room) (LoadShared buffer) shared can (exchange_lost u.memory (Top region) top (top + room) lost)
+    (cond-false (u.memory (Top region) == top) (carved_at buffer (base_of c region + top) room) (LoadShared buffer) lost) refl
+    can.facts.0 can.rooms)
+    (cases_Bool (u.memory (Top region) == top))

@@ -1,0 +1,231 @@
+-- The last step of a taking of room: the store of the seat's buffer, without the words that are taken.
+use Rattle.std.proofs.Common.{◌≡◌, ◌≢◌, ℕ, ◌+◌, ◌-◌, ◌<◌, ◌≤◌, ◌⊎◌, false, Some, None, inl, inr, ⊎_elim, refl, sym, ap, ◌∙◌, subst, arith}
+use Rattle.std.proofs.lemmas.Bool.{cases_eq, and_parts, leb-true, ltb-true, true≢false}
+use Rattle.std.proofs.lemmas.Option.{same_Some}
+use Rattle.heap_words.specs.declared.config.Config.{Config}
+use Rattle.heap_words.specs.Encoding.{next_in, end_in, buffer_word}
+use Rattle.heap_words.specs.Words.{Word, Cset, Top, Current, Heap, write}
+use Rattle.regions.specs.Place.{base_of, IsOf}
+use Rattle.regions.proofs.PlaceLemmas.{regions_tile}
+use Rattle.heap_world.specs.World.{World, Block, Plot, hand, filler, spare, carved, words_of, room_of, is_loose, IsBuffer, AreBuffers, Shared}
+use Rattle.heap_world.proofs.Updates.{updated_there, updated_else}
+use Rattle.heap_world.proofs.Pieces.{piece_cases}
+use Rattle.heap_world.proofs.Retiled.{IsTiling, IsStretch, one_at, two_at, one_tile, two_tiles, only_one, retiled, retiled_cases, new_there}
+use Rattle.heap_world.proofs.Recut.{CanRecut, buffers_again, buffers_outside}
+use Rattle.heap_world.proofs.RecutWorlds.{is_of_room, shared_recut, recut_world, keeps_recut, others_recut}
+use Rattle.alloc_buffers.specs.declared.spot.Kind.{Kind}
+use Rattle.alloc_buffers.specs.declared.spot.Taken.TheVariants.{At}
+use Rattle.alloc_buffers.specs.declared.spot.TakeSpot.TheVariants.{StoreBuffer, Ended}
+use Rattle.alloc_buffers.specs.Facts.{CanTake}
+use Rattle.alloc_buffers.proofs.TakeSteps.{TakeStep, can_at, piece_stretch, piece_alone}
+
+-- a store into the word of a buffer changes no word of another kind
+pub buffer_else : (memory : Word → ℕ) (seat value : ℕ) (at : Word) → is_of_room at ≡ false → write memory (Current seat) value at ≡ memory at
+buffer_else memory seat value (Heap a) is = refl
+buffer_else memory seat value (Current other) is = absurd (true≢false is)
+buffer_else memory seat value _ is = refl
+
+-- So many words from an address on are cut into words in a seat's hand and free words of its buffer, if any are left.
+record IsCut (new : Plot) (seat address words room : ℕ) : Type 0 where
+  tiling : IsTiling new address room
+  pieces : (x : ℕ) (b : Block) → new x ≡ Some b → ((x ≡ address) × (hand seat words ≡ b)) ⊎ ((x ≡ address + words) × (spare seat (room - words) ≡ b))
+  here : new address ≡ Some (hand seat words)
+  rest : words < room → new (address + words) ≡ Some (spare seat (room - words))
+
+-- words can be cut so
+cut : (seat address words room : ℕ) → 1 ≤ words → words ≤ room → (new : Plot) × IsCut new seat address words room
+cut seat address words room some long = ⊎_elim
+    (λ (whole : words ≡ room). (
+      one_at address (hand seat words),
+      record {
+        tiling = subst (IsTiling (one_at address (hand seat words)) address) whole (one_tile address (hand seat words) some);
+        pieces = λ x b is. inl (only_one address (hand seat words) x b is);
+        here = updated_there (λ b. None) address (Some (hand seat words));
+        rest = λ less. absurd (omega (arith, less, whole));
+      },
+    ))
+    (λ (part : words ≢ room).
+    let left : 1 ≤ room - words = omega (arith, part, long) in (
+      two_at address (hand seat words) (spare seat (room - words)),
+      record {
+        tiling = subst (IsTiling (two_at address (hand seat words) (spare seat (room - words))) address) (omega (arith, long)) (two_tiles address (hand seat words) (spare seat (room - words)) some left);
+        pieces = λ x b is. ⊎_elim
+            (λ (last : (x ≡ address + words) × (spare seat (room - words) ≡ b)). inr last)
+            (λ (other : (x ≢ address + words) × (one_at address (hand seat words) x ≡ Some b)). inl (only_one address (hand seat words) x b other.1))
+            (piece_cases (one_at address (hand seat words)) (address + words) (spare seat (room - words)) x b is);
+        here = updated_else (one_at address (hand seat words)) (address + words) (Some (spare seat (room - words))) address (omega (arith, some)) ∙ updated_there (λ b. None) address (Some (hand seat words));
+        rest = λ less. updated_there (one_at address (hand seat words)) (address + words) (Some (spare seat (room - words)));
+      },
+    ))
+    (cases_eq words room)
+
+module _ (c : Config) (u : World) (seat words : ℕ) (kind : Kind) (address room : ℕ) (shared : Shared c u) (can : CanTake c u seat words (StoreBuffer address room)) (old : Block) (there : u.block address ≡ Some old)
+    (of_seat : room_of old ≡ Some seat) (so_long : words_of old ≡ room) (new : Plot) (is_cut : IsCut new seat address words room) where
+  abbrev tops : ℕ → ℕ
+  tops r = u.memory (Top r)
+
+  -- as many words as are wanted, and addresses are small
+  numbers : (words ≤ room) × (address + room < 4294967296)
+  numbers = let fit = and_parts _ _ (and_parts _ _ can.ready).1 in (leb-true words room fit.0, ltb-true (address + room) 4294967296 fit.1)
+
+  -- there are some
+  some : 1 ≤ words_of old
+  some = let least = can.least in let long = numbers.0 in omega (arith, least, long, so_long)
+
+  -- no other piece begins there
+  alone : (x : ℕ) (b : Block) → address ≤ x → x < address + room → u.block x ≡ Some b → (x ≡ address) × (old ≡ b)
+  alone x b from to is = piece_alone c tops u.block shared.parsable.plotted address old there some x b from (omega (arith, to, so_long)) is
+
+  can_recut : CanRecut c tops u.block new seat address room
+  can_recut = record {
+    parsable = shared.parsable;
+    rooms = shared.owned.rooms;
+    stretch = subst (IsStretch c tops u.block address) so_long (piece_stretch c tops u.block shared.parsable.plotted address old there some);
+    tiling = is_cut.tiling;
+    olds = λ x b from to is. ap room_of (sym (alone x b from to is).1) ∙ of_seat;
+    loose = λ x b is. ⊎_elim (λ one. ap is_loose (sym one.1)) (λ two. ap is_loose (sym two.1)) (is_cut.pieces x b is);
+    own = λ x other b is of. same_Some other seat (sym of ∙ ⊎_elim (λ one. ap room_of (sym one.1)) (λ two. ap room_of (sym two.1)) (is_cut.pieces x b is));
+    hands = λ x other more is. ⊎_elim
+        (λ (one : (x ≡ address) × (hand seat words ≡ hand other more)). let same = one.1 in let long : words ≡ more = cc in (let least = can.least in omega (arith, least, long)))
+        (λ (two : (x ≡ address + words) × (spare seat (room - words) ≡ hand other more)). let same = two.1 in absurd cc)
+        (is_cut.pieces x (hand other more) is);
+    carveds = λ x other more is. ⊎_elim
+        (λ (one : (x ≡ address) × (hand seat words ≡ carved other more)). let same = one.1 in absurd cc)
+        (λ (two : (x ≡ address + words) × (spare seat (room - words) ≡ carved other more)). let same = two.1 in absurd cc)
+        (is_cut.pieces x (carved other more) is);
+  }
+
+  -- the word of the buffer then
+  abbrev word : ℕ
+  word = buffer_word (address + words) (address + room)
+
+  -- it tells where the free words begin and end
+  next_is : next_in word ≡ address + words
+  next_is = let fit = numbers in omega (arith, fit)
+
+  end_is : end_in word ≡ address + room
+  end_is = let fit = numbers in omega (arith, fit)
+
+  -- the plot then
+  abbrev after : Plot
+  after = retiled u.block new address room
+
+  -- room of the seat elsewhere there is none
+  none_else : (x : ℕ) (b : Block) → (x < address) ⊎ (address + room ≤ x) → u.block x ≡ Some b → room_of b ≡ Some seat → ⊥
+  none_else x b away is of = let here = can.rooms x b is of in let least = can.least in let long = numbers.0 in omega (arith, away, here, least, long)
+
+  -- the free words that are left
+  rest_there : words < room → after (address + words) ≡ Some (spare seat (room - words))
+  rest_there less = new_there c tops u.block new address room shared.parsable.plotted can_recut.stretch is_cut.tiling (address + words) (spare seat (room - words)) (is_cut.rest less)
+
+  own_buffer : IsBuffer c tops after seat word
+  own_buffer =
+      let stretch = can_recut.stretch in
+      let base = stretch.from_base in
+      let high = stretch.to_top in
+      let least = can.least in
+      let long = numbers.0 in
+      record {
+        region = stretch.region;
+        within = stretch.within;
+        from_base = omega (arith, base, next_is);
+        some = omega (arith, base, end_is, least, long);
+        ordered = omega (arith, next_is, end_is, long);
+        to_top = omega (arith, high, end_is);
+        free = λ more.
+            let left : end_in word - next_in word ≡ room - words = omega (arith, next_is, end_is, long) in
+            inl (ap after next_is ∙ rest_there (omega (arith, more, next_is, end_is)) ∙ ap (λ n. Some (spare seat n)) (sym left));
+      }
+
+  buffers_then : AreBuffers c tops (λ s. write u.memory (Current seat) word (Current s)) after
+  buffers_then = buffers_again c tops u.block new seat address room can_recut (λ s. u.memory (Current s)) (λ s. write u.memory (Current seat) word (Current s))
+      (λ other differs. updated_else (λ s. u.memory (Current s)) seat word other (λ same. differs (sym same)))
+      (λ there_is. subst (IsBuffer c tops after seat) (sym (updated_there (λ s. u.memory (Current s)) seat word)) own_buffer)
+      (λ x more is.
+      let now : write u.memory (Current seat) word (Current seat) ≡ word = updated_there (λ s. u.memory (Current s)) seat word in
+      let told : (next_in word ≡ x) × (end_in word ≡ x + more) = ⊎_elim
+      (λ away. absurd (none_else x (spare seat more) away.0 away.1 refl))
+      (λ inside. ⊎_elim
+      (λ (one : (x ≡ address) × (hand seat words ≡ spare seat more)). let same = one.1 in absurd cc)
+      (λ (two : (x ≡ address + words) × (spare seat (room - words) ≡ spare seat more)).
+      let same = two.1 in
+      let left : room - words ≡ more = cc in
+      let at = two.0 in
+      let long = numbers.0 in
+      (omega (arith, next_is, at), omega (arith, end_is, at, left, long)))
+      (is_cut.pieces x (spare seat more) inside.2))
+      (retiled_cases u.block new address room x (spare seat more) is)
+      in
+      subst (λ k. (next_in k ≡ x) × (end_in k ≡ x + more)) (sym now) told)
+      shared.owned.buffers
+
+  -- the world after the step
+  abbrev stored_world : World
+  stored_world = recut_world c u new seat address room shared can_recut (write u.memory (Current seat) word) (buffer_else u.memory seat word) (λ x away. refl)
+
+  -- the address is of the region of the stretch
+  of_region : IsOf c can_recut.stretch.region address
+  of_region =
+      let stretch = can_recut.stretch in
+      let base = stretch.from_base in
+      let high = stretch.to_top in
+      let most = shared.parsable.plotted.tops stretch.region stretch.within in
+      let least = can.least in
+      let long = numbers.0 in
+      record { from = base; before = omega (arith, high, most, least, long) }
+
+  -- what the seat counts on then: the room is in hand
+  has_taken : CanTake c stored_world seat words (Ended (At address) (address + room))
+  has_taken =
+      let now : write u.memory (Current seat) word (Current seat) ≡ word = updated_there (λ s. u.memory (Current s)) seat word in
+      can_at c u seat words kind (StoreBuffer address room) (Ended (At address) (address + room)) stored_world can refl refl refl
+      (record {
+        here = new_there c tops u.block new address room shared.parsable.plotted can_recut.stretch is_cut.tiling address (hand seat words) is_cut.here;
+        next = ap next_in now ∙ next_is;
+        end_is = ap end_in now ∙ end_is;
+        ordered = (let long = numbers.0 in omega (arith, long));
+        within =
+            let stretch = can_recut.stretch in
+            let high = stretch.to_top in
+            let most = shared.parsable.plotted.tops stretch.region stretch.within in
+            subst (λ r. address + room ≤ base_of c r + c.region_words) (sym (regions_tile.of_no_other c stretch.region address of_region)) (omega (arith, high, most));
+      })
+      (λ x b is of. ⊎_elim
+      (λ away. absurd (none_else x b away.0 away.1 of))
+      (λ inside. ⊎_elim
+      (λ one. inr (one.0, sym one.1))
+      (λ two. inl (room - words, sym two.1))
+      (is_cut.pieces x b inside.2))
+      (retiled_cases u.block new address room x b is))
+
+  -- the store of the buffer puts the words into hand
+  stored : TakeStep c u seat words kind (StoreBuffer address room)
+  stored = record {
+    world = stored_world;
+    memory = refl;
+    graph = refl;
+    shared = shared_recut c u new seat address room shared can_recut (λ x. u.memory (Heap x)) (λ x away. refl) (λ s. write u.memory (Current seat) word (Current s))
+        (λ x more is. ⊎_elim
+        (λ (one : (x ≡ address) × (hand seat words ≡ filler more)). let same = one.1 in absurd cc)
+        (λ (two : (x ≡ address + words) × (spare seat (room - words) ≡ filler more)). let same = two.1 in absurd cc)
+        (is_cut.pieces x (filler more) is))
+        buffers_then
+        (buffers_outside c tops u.block new seat address room can_recut (u.memory Cset) (λ s. u.memory (Current s)) (λ s. write u.memory (Current seat) word (Current s))
+        (λ other differs. updated_else (λ s. u.memory (Current s)) seat word other (λ same. differs (sym same)))
+        (λ there. ap end_in (updated_there (λ s. u.memory (Current s)) seat word) ∙ end_is)
+        shared.evacuated.aside.no_rooms shared.owned.outside);
+    own = (has_taken, record { copying = refl; working = refl });
+    keeps = keeps_recut c u new seat address room shared can_recut (write u.memory (Current seat) word) (buffer_else u.memory seat word) (λ x away. refl);
+    others = others_recut c u new seat address room shared can_recut (write u.memory (Current seat) word) (buffer_else u.memory seat word) (λ x away. refl)
+        (λ s differs. updated_else (λ k. u.memory (Current k)) seat word s (λ same. differs (sym same)));
+  }
+
+-- the step that stores the buffer, out of its free words or out of those that are carved
+pub at_store_buffer : (c : Config) (u : World) (seat words : ℕ) (kind : Kind) (address room : ℕ) → Shared c u → CanTake c u seat words (StoreBuffer address room) → TakeStep c u seat words kind (StoreBuffer address room)
+at_store_buffer c u seat words kind address room shared can =
+    let some : 1 ≤ words = (let least = can.least in omega (arith, least)) in
+    let made = cut seat address words room some can.facts.long in
+    ⊎_elim
+    (λ free. stored c u seat words kind address room shared can (spare seat room) free refl refl made.0 made.1)
+    (λ new. stored c u seat words kind address room shared can (carved seat room) new refl refl made.0 made.1)
+    can.facts.here

@@ -1,0 +1,13 @@
+pub mod CutOff
+pub mod Inside
+pub mod Refitted
+pub mod StandsStill
+pub mod Trimmed
+pub mod SeatTurns
+pub mod Emptied
+pub mod Without
+pub mod Filled
+pub mod GivenBack
+pub mod Settling
+pub mod Divided
+pub mod Kept

@@ -1,0 +1,167 @@
+-- A memory with other tops, words of the heap, and buffers.
+use Rattle.std.proofs.Common.{◌≡◌, ℕ, refl}
+use Rattle.std.proofs.Math.Path.{fun_ext}
+use Rattle.heap_words.specs.Words.{Word, Pause, Left, End, State, Phase, Cset, Free, Evac, Claim, Ask, Top, Tams, Limit, Current, Root, Count, Buffer, Wait, Answer, Grey, Black, Heap, Share, write}
+use Rattle.heap_world.proofs.Updates.{updated}
+
+-- the memory
+abbrev pub refitted : (Word → ℕ) → (top heap current : ℕ → ℕ) → Word → ℕ
+refitted m top heap current (Top r) = top r
+refitted m top heap current (Heap a) = heap a
+refitted m top heap current (Current seat) = current seat
+refitted m top heap current word = m word
+
+module _ (m : Word → ℕ) where
+  -- its own tops, words of the heap, and buffers
+  abbrev pub tops_of : ℕ → ℕ
+  tops_of r = m (Top r)
+
+  abbrev pub heap_of : ℕ → ℕ
+  heap_of a = m (Heap a)
+
+  abbrev pub currents_of : ℕ → ℕ
+  currents_of seat = m (Current seat)
+
+  -- with these it is the same
+  pub refit_same : m ≡ refitted m (λ r. m (Top r)) (λ a. m (Heap a)) (λ seat. m (Current seat))
+  refit_same = fun_ext by_word
+    where
+      by_word : (word : Word) → m word ≡ refitted m (λ r. m (Top r)) (λ a. m (Heap a)) (λ seat. m (Current seat)) word
+      by_word Pause = refl
+      by_word Left = refl
+      by_word End = refl
+      by_word (State seat) = refl
+      by_word Phase = refl
+      by_word Cset = refl
+      by_word Free = refl
+      by_word Evac = refl
+      by_word Claim = refl
+      by_word Ask = refl
+      by_word (Top r) = refl
+      by_word (Tams r) = refl
+      by_word (Limit r) = refl
+      by_word (Current seat) = refl
+      by_word (Root t i) = refl
+      by_word (Count t) = refl
+      by_word (Buffer t i) = refl
+      by_word (Wait t) = refl
+      by_word (Answer t) = refl
+      by_word (Grey n) = refl
+      by_word (Black n) = refl
+      by_word (Heap a) = refl
+      by_word Share = refl
+
+  module _ (top heap current : ℕ → ℕ) where
+    -- others once more
+    pub refit_twice : (tops heaps currents : ℕ → ℕ) → refitted (refitted m top heap current) tops heaps currents ≡ refitted m tops heaps currents
+    refit_twice tops heaps currents = fun_ext by_word
+      where
+        by_word : (word : Word) → refitted (refitted m top heap current) tops heaps currents word ≡ refitted m tops heaps currents word
+        by_word Pause = refl
+        by_word Left = refl
+        by_word End = refl
+        by_word (State seat) = refl
+        by_word Phase = refl
+        by_word Cset = refl
+        by_word Free = refl
+        by_word Evac = refl
+        by_word Claim = refl
+        by_word Ask = refl
+        by_word (Top r) = refl
+        by_word (Tams r) = refl
+        by_word (Limit r) = refl
+        by_word (Current seat) = refl
+        by_word (Root t i) = refl
+        by_word (Count t) = refl
+        by_word (Buffer t i) = refl
+        by_word (Wait t) = refl
+        by_word (Answer t) = refl
+        by_word (Grey n) = refl
+        by_word (Black n) = refl
+        by_word (Heap a) = refl
+        by_word Share = refl
+
+    -- a word of it is written
+    pub refit_heap : (at value : ℕ) → write (refitted m top heap current) (Heap at) value ≡ refitted m top (updated heap at value) current
+    refit_heap at value = fun_ext by_word
+      where
+        by_word : (word : Word) → write (refitted m top heap current) (Heap at) value word ≡ refitted m top (updated heap at value) current word
+        by_word Pause = refl
+        by_word Left = refl
+        by_word End = refl
+        by_word (State seat) = refl
+        by_word Phase = refl
+        by_word Cset = refl
+        by_word Free = refl
+        by_word Evac = refl
+        by_word Claim = refl
+        by_word Ask = refl
+        by_word (Top r) = refl
+        by_word (Tams r) = refl
+        by_word (Limit r) = refl
+        by_word (Current seat) = refl
+        by_word (Root t i) = refl
+        by_word (Count t) = refl
+        by_word (Buffer t i) = refl
+        by_word (Wait t) = refl
+        by_word (Answer t) = refl
+        by_word (Grey n) = refl
+        by_word (Black n) = refl
+        by_word (Heap a) = refl
+        by_word Share = refl
+
+    pub refit_top : (at value : ℕ) → write (refitted m top heap current) (Top at) value ≡ refitted m (updated top at value) heap current
+    refit_top at value = fun_ext by_word
+      where
+        by_word : (word : Word) → write (refitted m top heap current) (Top at) value word ≡ refitted m (updated top at value) heap current word
+        by_word Pause = refl
+        by_word Left = refl
+        by_word End = refl
+        by_word (State seat) = refl
+        by_word Phase = refl
+        by_word Cset = refl
+        by_word Free = refl
+        by_word Evac = refl
+        by_word Claim = refl
+        by_word Ask = refl
+        by_word (Top r) = refl
+        by_word (Tams r) = refl
+        by_word (Limit r) = refl
+        by_word (Current seat) = refl
+        by_word (Root t i) = refl
+        by_word (Count t) = refl
+        by_word (Buffer t i) = refl
+        by_word (Wait t) = refl
+        by_word (Answer t) = refl
+        by_word (Grey n) = refl
+        by_word (Black n) = refl
+        by_word (Heap a) = refl
+        by_word Share = refl
+
+    pub refit_current : (at value : ℕ) → write (refitted m top heap current) (Current at) value ≡ refitted m top heap (updated current at value)
+    refit_current at value = fun_ext by_word
+      where
+        by_word : (word : Word) → write (refitted m top heap current) (Current at) value word ≡ refitted m top heap (updated current at value) word
+        by_word Pause = refl
+        by_word Left = refl
+        by_word End = refl
+        by_word (State seat) = refl
+        by_word Phase = refl
+        by_word Cset = refl
+        by_word Free = refl
+        by_word Evac = refl
+        by_word Claim = refl
+        by_word Ask = refl
+        by_word (Top r) = refl
+        by_word (Tams r) = refl
+        by_word (Limit r) = refl
+        by_word (Current seat) = refl
+        by_word (Root t i) = refl
+        by_word (Count t) = refl
+        by_word (Buffer t i) = refl
+        by_word (Wait t) = refl
+        by_word (Answer t) = refl
+        by_word (Grey n) = refl
+        by_word (Black n) = refl
+        by_word (Heap a) = refl
+        by_word Share = refl

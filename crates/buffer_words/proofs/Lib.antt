@@ -1,0 +1,5 @@
+pub mod OneTurn
+pub mod Settling
+pub mod LettingGo
+pub mod Edges
+pub mod Elsewhere

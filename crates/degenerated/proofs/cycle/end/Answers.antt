@@ -1,0 +1,100 @@
+use Rattle.std.proofs.Common.{◌≡◌, ℕ, ◌&&◌, true, false, refl, sym, ap, ◌∙◌, subst}
+use Rattle.std.proofs.lemmas.Bool.{true≢false}
+use Rattle.heap_words.specs.declared.config.Config.{Config}
+use Rattle.heap_words.specs.Words.{Word}
+use Rattle.full_words.specs.Full.{served}
+use Rattle.image_graph.specs.State.{config_of, memory_of}
+use Rattle.image_graph.specs.Left.{IsLeft}
+use Rattle.image_graph.specs.Make.{AreWithin}
+use Rattle.cycle_words.specs.Finishing.Updated.{all_updated}
+use Rattle.cycle_words.specs.Finishing.Copies.{is_room_for_all, all_copied}
+use Rattle.cycle_words.specs.Finishing.Finish.{set_freed, cycle_finished, finished_from, nobody_waits}
+use Rattle.degenerated.proofs.Finishing.{stops_short, goes_through, all_served, not_all_served, whole_is, within_still}
+use Rattle.degenerated.proofs.cycle.end.Goals as goal
+
+-- the words when who waits is served
+to_end : (g d e : Config) (m one two three : Word → ℕ) → d ≡ g → e ≡ d → one ≡ all_copied g m → two ≡ all_updated d one → three ≡ set_freed e two → three ≡ cycle_finished g m
+to_end g d e m one two three same_d same_e to_one to_two to_three =
+    to_three
+    ∙ ap (λ (k : Config). set_freed k two) (same_e ∙ same_d)
+    ∙ ap (set_freed g) (to_two ∙ ap (λ (k : Config). all_updated k one) same_d ∙ ap (all_updated g) to_one)
+
+pub returns-then-not-copy_rest-clause-words : goal.returns-then-not-copy_rest-clause-words
+returns-then-not-copy_rest-clause-words c =
+    let g = config_of c.args.image.now in
+    let m : Word → ℕ = memory_of c.args.image.now in
+    c.copy_rest.ensures.words ∙ stops_short g m (sym c.copy_rest.ensures.room ∙ c.if-not-copy_rest.true)
+
+pub give_turns-requires : goal.give_turns-requires
+give_turns-requires c =
+    let g = config_of c.args.image.now in
+    let m : Word → ℕ = memory_of c.args.image.now in
+    let one = c.copy_rest.new.image in
+    let two = c.update_all.new.image in
+    let three = c.end_cycle.new.image in
+    let words = to_end g (config_of one) (config_of two) m (memory_of one) (memory_of two) (memory_of three) c.copy_rest.ensures.config c.update_all.ensures.config
+    c.copy_rest.ensures.words c.update_all.ensures.words c.end_cycle.ensures.words in
+    let config : config_of three ≡ g = c.end_cycle.ensures.config ∙ c.update_all.ensures.config ∙ c.copy_rest.ensures.config in
+    let room : is_room_for_all g m ≡ true = sym c.copy_rest.ensures.room ∙ c.if-not-copy_rest.false in
+    subst (λ (k : Config). AreWithin k (memory_of three)) (sym config)
+    (subst (AreWithin g) (sym words) (within_still g (all_copied g m) (c.requires.updates room).within))
+
+pub returns-then-give_turns-clause-words : goal.returns-then-give_turns-clause-words
+returns-then-give_turns-clause-words c =
+    let g = config_of c.args.image.now in
+    let m : Word → ℕ = memory_of c.args.image.now in
+    let one = c.copy_rest.new.image in
+    let two = c.update_all.new.image in
+    let three = c.end_cycle.new.image in
+    let words = to_end g (config_of one) (config_of two) m (memory_of one) (memory_of two) (memory_of three) c.copy_rest.ensures.config c.update_all.ensures.config
+    c.copy_rest.ensures.words c.update_all.ensures.words c.end_cycle.ensures.words in
+    let config : config_of three ≡ g = c.end_cycle.ensures.config ∙ c.update_all.ensures.config ∙ c.copy_rest.ensures.config in
+    let room : is_room_for_all g m ≡ true = sym c.copy_rest.ensures.room ∙ c.if-not-copy_rest.false in
+    c.give_turns.ensures.words ∙ ap (λ (k : Config). served k (memory_of three) k.mutators) config ∙ ap (λ (n : Word → ℕ). served g n g.mutators) words ∙ goes_through g m room
+
+pub returns-then-give_turns-clause-whole : goal.returns-then-give_turns-clause-whole
+returns-then-give_turns-clause-whole c =
+    let g = config_of c.args.image.now in
+    let m : Word → ℕ = memory_of c.args.image.now in
+    let one = c.copy_rest.new.image in
+    let two = c.update_all.new.image in
+    let three = c.end_cycle.new.image in
+    let words = to_end g (config_of one) (config_of two) m (memory_of one) (memory_of two) (memory_of three) c.copy_rest.ensures.config c.update_all.ensures.config
+    c.copy_rest.ensures.words c.update_all.ensures.words c.end_cycle.ensures.words in
+    let config : config_of three ≡ g = c.end_cycle.ensures.config ∙ c.update_all.ensures.config ∙ c.copy_rest.ensures.config in
+    let room : is_room_for_all g m ≡ true = sym c.copy_rest.ensures.room ∙ c.if-not-copy_rest.false in
+    let none : (t : ℕ) → IsLeft g (cycle_finished g m) t → ⊥ = λ t left.
+    c.give_turns.ensures.served c.if-give_turns.true t
+    (subst (λ (k : Config). IsLeft k (memory_of three) t) (sym config) (subst (λ (n : Word → ℕ). IsLeft g n t) (sym words) left)) in
+    let whole : (is_room_for_all g m && nobody_waits g (finished_from g m)) ≡ true = whole_is g m room ∙ all_served g (cycle_finished g m) none in
+    (λ same. whole, λ told. refl)
+
+pub returns-else-give_turns-clause-words : goal.returns-else-give_turns-clause-words
+returns-else-give_turns-clause-words c =
+    let g = config_of c.args.image.now in
+    let m : Word → ℕ = memory_of c.args.image.now in
+    let one = c.copy_rest.new.image in
+    let two = c.update_all.new.image in
+    let three = c.end_cycle.new.image in
+    let words = to_end g (config_of one) (config_of two) m (memory_of one) (memory_of two) (memory_of three) c.copy_rest.ensures.config c.update_all.ensures.config
+    c.copy_rest.ensures.words c.update_all.ensures.words c.end_cycle.ensures.words in
+    let config : config_of three ≡ g = c.end_cycle.ensures.config ∙ c.update_all.ensures.config ∙ c.copy_rest.ensures.config in
+    let room : is_room_for_all g m ≡ true = sym c.copy_rest.ensures.room ∙ c.if-not-copy_rest.false in
+    c.give_turns.ensures.words ∙ ap (λ (k : Config). served k (memory_of three) k.mutators) config ∙ ap (λ (n : Word → ℕ). served g n g.mutators) words ∙ goes_through g m room
+
+pub returns-else-give_turns-clause-whole : goal.returns-else-give_turns-clause-whole
+returns-else-give_turns-clause-whole c =
+    let g = config_of c.args.image.now in
+    let m : Word → ℕ = memory_of c.args.image.now in
+    let one = c.copy_rest.new.image in
+    let two = c.update_all.new.image in
+    let three = c.end_cycle.new.image in
+    let words = to_end g (config_of one) (config_of two) m (memory_of one) (memory_of two) (memory_of three) c.copy_rest.ensures.config c.update_all.ensures.config
+    c.copy_rest.ensures.words c.update_all.ensures.words c.end_cycle.ensures.words in
+    let config : config_of three ≡ g = c.end_cycle.ensures.config ∙ c.update_all.ensures.config ∙ c.copy_rest.ensures.config in
+    let room : is_room_for_all g m ≡ true = sym c.copy_rest.ensures.room ∙ c.if-not-copy_rest.false in
+    let told = c.give_turns.ensures.left c.if-give_turns.false in
+    let left : IsLeft g (cycle_finished g m) told.0 =
+    subst (λ (n : Word → ℕ). IsLeft g n told.0) words (subst (λ (k : Config). IsLeft k (memory_of three) told.0) config told.1) in
+    let short : (is_room_for_all g m && nobody_waits g (finished_from g m)) ≡ false = whole_is g m room ∙ not_all_served g (cycle_finished g m) told.0 left in
+    (λ same. search, λ whole. absurd (true≢false (sym whole ∙ short)))

@@ -1,0 +1,45 @@
+-- What is said of a trace that is to break a test.
+use Rattle.std.specs.Prelude.{ℕ, ◌≡◌, ◌≢◌, List, length}
+use Rattle.heap_words.specs.declared.config.Config.{Config}
+use Rattle.heap_words.specs.declared.schedule.Item.{Item}
+use Rattle.shen_graph.specs.GraphText.{Text, Row}
+use Rattle.shen_graph.specs.History.{Entry, after}
+use Rattle.heap_graph.specs.Shows.{ShowsGraph}
+use Rattle.step_core.specs.Begins.{first_graph}
+use Rattle.step_core.specs.Schedule.{Scripts}
+use Rattle.trace_grammar.specs.Grammar.{Reads}
+use Rattle.trace_runs.specs.Replayed.{IsWhole, events_of, history_of}
+use Rattle.find_grammar.specs.declared.test.Test.{Test}
+use Rattle.find_play.specs.Verdict.{IsVerdictOn}
+use Rattle.find_play.specs.declared.verdict.Verdict.{Verdict as Verdicts}
+use Rattle.find_play.specs.declared.verdict.Verdict.TheVariants.{Holds}
+use Rattle.find_hunt.specs.declared.judging.Judged.{Judged}
+use Rattle.find_hunt.specs.declared.judging.Judged.TheVariants.{Verdict, Nothing}
+
+-- The bytes are a trace of this heap; so many steps of its replay lead to its end, by a legal history, which is this one; and these
+-- are the objects of the graph that is left.
+pub record IsRunOf (config : Config) (bytes : List ℕ) (steps : ℕ) (history : List Entry) (rows : List Row) : Type 0 where
+  pub scripts : Scripts
+  pub items : List Item
+  pub reads : Reads bytes config scripts items
+  pub whole : IsWhole config scripts (events_of config scripts items steps)
+  pub history_is : history ≡ history_of config scripts items steps
+  pub text : Text
+  pub shows : ShowsGraph text config.mutators (after (first_graph config) history)
+  pub rows_are : rows ≡ text.rows
+
+-- the verdict of the test on that run
+pub record HasVerdict (test : Test) (bytes : List ℕ) (steps : ℕ) (verdict : Verdicts) : Type 0 where
+  pub history : List Entry
+  pub rows : List Row
+  pub run : IsRunOf test.config bytes steps history rows
+  pub verdict_on : IsVerdictOn test.programs.items test.bounds.returns (length test.notes) test.places.items test.claims.items history rows verdict
+
+abbrev pub IsJudged : Test → List ℕ → ℕ → Judged → Type 0
+IsJudged test bytes steps (Verdict verdict) = HasVerdict test bytes steps verdict
+IsJudged test bytes steps Nothing = Unit {0}
+
+-- a run of the test, as a trace, that does not have all that is claimed
+pub record IsBreak (test : Test) (bytes : List ℕ) (steps : ℕ) (verdict : Verdicts) : Type 0 where
+  pub judged : HasVerdict test bytes steps verdict
+  pub breaks : verdict ≢ Holds

@@ -1,0 +1,271 @@
+//! All schedules within the bounds of a test.
+
+use crate::tally::{Found, Tally};
+use crate::tree::{Tree, Turn};
+use crate::turns::{Turns, goes_alone, possible_turns};
+use find_course::{Course, mixed};
+use find_grammar::Test;
+use find_play::Verdict;
+use heap_words::{Item, NoMemory};
+use std::alloc::Global;
+use std::collections::HashMap;
+
+/// How to search.
+#[derive(Clone, Copy, Debug)]
+pub struct Plan {
+    /// Whether helpers and the control take part everywhere, and not only where a thread waits.
+    pub everywhere: bool,
+    /// Whether to leave out schedules that are like others.
+    pub reduced: bool,
+    /// Whether to go on behind the first schedule that breaks the test.
+    pub through: bool,
+    /// The most schedules that are run.
+    pub most: u64,
+}
+
+/// What is kept from one run to the next.
+#[derive(Drop)]
+struct Searching {
+    plan: Plan,
+    preemptions: u64,
+    tree: Tree,
+    // By state and turn the fewest preemptions with which it was met.
+    met: HashMap<u64, u64>,
+    tally: Tally,
+    turns: Vec<Turn>,
+    picks: Vec<usize>,
+}
+
+// Adds a step of a machine to the items.
+fn add_step(items: &mut Vec<Item>, number: usize) -> Result<(), NoMemory> {
+    if let Some(
+        Item::Steps {
+            number: last,
+            count,
+        },
+    ) = items.last().copied()
+    {
+        if last == number {
+            let at = items.len().saturating_sub(1);
+            if at < items.len() {
+                items[at] = Item::Steps {
+                    number,
+                    count: count.saturating_add(1),
+                };
+            }
+            return Ok(());
+        }
+    }
+    match items.push(Item::Steps { number, count: 1 }) {
+        Ok(()) => Ok(()),
+        Err(_) => Err(NoMemory),
+    }
+}
+
+/// Turns of machines as items, one for each machine that makes some steps.
+pub(crate) fn items_of(alloc: Global, picks: &[usize]) -> Result<Vec<Item>, NoMemory> {
+    let mut items = Vec::new(alloc);
+    for number in picks {
+        add_step(&mut items, *number)?;
+    }
+    Ok(items)
+}
+
+impl Searching {
+    // Whether a turn was met before at this state with no more preemptions; it is noted.
+    fn is_met(&mut self, state: u64, number: usize, spent: u64) -> Result<bool, NoMemory> {
+        if !self.plan.reduced {
+            return Ok(false);
+        }
+        let key = mixed(state, number as u64);
+        if let Some(before) = self.met.get(&key) {
+            if *before <= spent {
+                return Ok(true);
+            }
+        }
+        match self.met.insert(key, spent) {
+            Ok(_) => Ok(false),
+            Err(_) => Err(NoMemory),
+        }
+    }
+
+    // Adds the schedules that depart at this step.
+    fn depart(
+        &mut self,
+        parent: Option<usize>,
+        course: &Course,
+        turns: &Turns,
+        spent: u64,
+        state: u64,
+    ) -> Result<(), NoMemory> {
+        let usual = turns.usual;
+        if self.plan.reduced && turns.cost(usual) == Some(0) && goes_alone(course, usual) {
+            return Ok(());
+        }
+        for number in 0..course.seats() {
+            let Some(cost) = turns.cost(number) else {
+                continue;
+            };
+            if number == usual {
+                continue;
+            }
+            let spent = spent.saturating_add(cost);
+            if spent > self.preemptions {
+                self.tally.barred = self.tally.barred.saturating_add(1);
+                continue;
+            }
+            if self.is_met(state, number, spent)? {
+                continue;
+            }
+            let turn = Turn {
+                step: course.steps(),
+                number,
+            };
+            self.tree.add(parent, turn, spent)?;
+        }
+        Ok(())
+    }
+
+    // The machine of the next step: the one by which the schedule departs here, or the usual one, where other schedules depart. None
+    // where this was met before.
+    fn pick(
+        &mut self,
+        branch: Option<usize>,
+        course: &Course,
+        turns: &Turns,
+        spent: u64,
+    ) -> Result<Option<usize>, NoMemory> {
+        if let Some(turn) = self.turns.last().copied() {
+            if turn.step == course.steps() {
+                self.turns.pop();
+                return Ok(Some(turn.number));
+            }
+            return Ok(Some(turns.usual));
+        }
+        let state = course.state_sum();
+        self.depart(branch, course, turns, spent, state)?;
+        if self.is_met(state, turns.usual, spent)? {
+            self.tally.met = self.tally.met.saturating_add(1);
+            return Ok(None);
+        }
+        Ok(Some(turns.usual))
+    }
+
+    // Begins a schedule.
+    fn begin(&mut self, branch: Option<usize>) -> Result<(), NoMemory> {
+        self.turns.clear();
+        self.picks.clear();
+        match branch {
+            Some(branch) => self.tree.turns(branch, &mut self.turns),
+            None => Ok(()),
+        }
+    }
+
+    // Makes a step of a machine. Whether it had one to make.
+    fn step(
+        &mut self,
+        alloc: Global,
+        test: &Test,
+        course: &mut Course,
+        number: usize,
+    ) -> Result<bool, NoMemory> {
+        let Ok(()) = self.picks.push(number) else {
+            return Err(NoMemory);
+        };
+        self.tally.steps = self.tally.steps.saturating_add(1);
+        let made = course.step(alloc, test, number)?;
+        Ok(made.is_some())
+    }
+
+    // Runs a schedule. The course at its end; None where it was left before.
+    fn run(
+        &mut self,
+        alloc: Global,
+        test: &Test,
+        branch: Option<usize>,
+    ) -> Result<Option<Course>, NoMemory> {
+        self.begin(branch)?;
+        let mut course = Course::open(alloc, test)?;
+        let mut last = None;
+        let mut spent = 0u64;
+        for _ in 0..test.bounds.steps {
+            if course.is_over() {
+                return Ok(Some(course));
+            }
+            let Some(turns) = possible_turns(&mut course, last, self.plan.everywhere) else {
+                break;
+            };
+            let Some(number) = self.pick(branch, &course, &turns, spent)? else {
+                return Ok(None);
+            };
+            spent = spent.saturating_add(turns.cost(number).unwrap_or(0));
+            if !self.step(alloc, test, &mut course, number)? {
+                break;
+            }
+            last = Some(number);
+        }
+        self.tally.cut = self.tally.cut.saturating_add(1);
+        Ok(None)
+    }
+
+    // Runs a schedule, and counts it. The schedule where it breaks the test.
+    fn look(
+        &mut self,
+        alloc: Global,
+        test: &Test,
+        branch: Option<usize>,
+        spent: u64,
+    ) -> Result<Option<Found>, NoMemory> {
+        self.tally.schedules = self.tally.schedules.saturating_add(1);
+        let Some(mut course) = self.run(alloc, test, branch)? else {
+            return Ok(None);
+        };
+        let Some(ending) = course.ending(alloc, test, test.bounds.steps)? else {
+            self.tally.cut = self.tally.cut.saturating_add(1);
+            return Ok(None);
+        };
+        self.tally.ended(ending)?;
+        match ending.verdict {
+            Verdict::Holds => Ok(None),
+            verdict => Ok(Some(Found {
+                items: items_of(alloc, &self.picks)?,
+                verdict,
+                preemptions: spent,
+            })),
+        }
+    }
+}
+
+/// Runs the schedules of a test, those with fewer preemptions first, up to the first that breaks it, or all. What was counted, and the
+/// first schedule that breaks the test.
+pub fn search_all(
+    alloc: Global,
+    test: &Test,
+    plan: Plan,
+) -> Result<(Tally, Option<Found>), NoMemory> {
+    let mut searching = Searching {
+        plan,
+        preemptions: test.bounds.preemptions,
+        tree: Tree::open(alloc, test.bounds.preemptions)?,
+        met: HashMap::new(alloc),
+        tally: Tally::open(alloc),
+        turns: Vec::new(alloc),
+        picks: Vec::new(alloc),
+    };
+    let mut found = searching.look(alloc, test, None, 0)?;
+    for _ in 1..plan.most {
+        if found.is_some() && !plan.through {
+            break;
+        }
+        let Some((branch, spent)) = searching.tree.take() else {
+            break;
+        };
+        let next = searching.look(alloc, test, Some(branch), spent)?;
+        if found.is_none() {
+            found = next;
+        }
+    }
+    let mut tally = searching.tally;
+    tally.unrun = searching.tree.waiting();
+    Ok((tally, found))
+}

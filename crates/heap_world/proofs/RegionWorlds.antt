@@ -1,0 +1,83 @@
+-- A step that writes the free word or the word of the shared region, and no other word, and leaves all pieces as they are: the seat keeps what
+-- its facts stand on, and others can rely on what they knew.
+use Rattle.std.proofs.Common.{◌≡◌, ℕ, ◌+◌, Bool, true, false, Option, Some, refl, sym, ap, ◌∙◌, subst}
+use Rattle.std.specs.Int.{bit_at}
+use Rattle.heap_words.specs.declared.config.Config.{Config}
+use Rattle.heap_words.specs.Words.{Word, Phase, Cset, Free, Evac, Claim, Ask, State, Top, Tams, Limit, Current, Root, Count, Buffer, Wait, Answer, Grey, Heap, Share}
+use Rattle.heap_words.specs.Counter.{IsQuiet}
+use Rattle.shen_graph.specs.declared.name.Name.{Name}
+use Rattle.heap_world.specs.World.{World, with_owner, IsCollected, IsOpenIn, TargetIn}
+use Rattle.heap_world.specs.Rely.{Keeps, RelyMarks, Rely}
+use Rattle.heap_world.proofs.Marked.{rely_marks}
+use Rattle.heap_world.proofs.Copies.{CopiesStay, same_plot, keeps_copies, rely_copies}
+use Rattle.heap_world.proofs.Fields.{fields_kept}
+
+-- the words that tell which regions are free, and which one is shared
+abbrev pub is_of_regions : Word → Bool
+is_of_regions Free = true
+is_of_regions Share = true
+is_of_regions _ = false
+
+module _ (c : Config) (u : World) (m : Word → ℕ) (owner : ℕ → Option ℕ) (others : (at : Word) → is_of_regions at ≡ false → m at ≡ u.memory at) where
+  -- the world after the step
+  abbrev pub region_world : World
+  region_world = record { memory = m; block = u.block; ghost = with_owner u.ghost owner; graph = u.graph }
+
+  -- marking goes on
+  marks_kept : (j : ℕ) → RelyMarks c j u region_world
+  marks_kept j = rely_marks c u region_world j (others Phase refl) (λ n. others (Grey n) refl) (λ t. others (Count t) refl) (λ t k. others (Buffer t k) refl) refl (λ t. refl) refl (λ a is. is) (λ a is. others (Heap (a + 1)) refl)
+
+  -- copies stay
+  copies_kept : CopiesStay c u region_world
+  copies_kept = same_plot c u region_world refl (others Cset refl) (others Evac refl) (λ r is. others (Top r) refl)
+
+  -- an object may be used still
+  targets_kept : (a refs nums : ℕ) (name : Name) → TargetIn c u a refs nums name → TargetIn c region_world a refs nums name
+  targets_kept a refs nums name has = record {
+    piece = has.piece;
+    safe = λ inside. subst IsQuiet (sym (others Evac refl)) (has.safe (subst (λ s. IsCollected c s a) (others Cset refl) inside));
+  }
+
+  -- the facts of the seat's machine stand
+  pub keeps_regions : (seat : ℕ) → Keeps c seat u region_world
+  keeps_regions seat = record {
+    names = λ a name is. is;
+    targets = targets_kept;
+    promises = λ a words is. is;
+    no_promises = λ a words is. is;
+    promise_words = λ a words k is below. others (Heap (a + k)) refl;
+    root_words = λ i. others (Root seat i) refl;
+    roots = λ i. refl;
+    count = refl;
+    wait = others (Wait seat) refl;
+    answer = others (Answer seat) refl;
+    marks = (marks_kept seat).keeps;
+    copies = keeps_copies c u region_world copies_kept;
+  }
+
+  -- others can rely on what they knew, where they keep their regions, and regions that may be carved may be so still
+  pub others_regions : (j : ℕ) → ((r : ℕ) → u.ghost.owner r ≡ Some j → owner r ≡ Some j) → ((r : ℕ) → IsOpenIn c u r → IsOpenIn c region_world r) → Rely c j u region_world
+  others_regions j owners opens = record {
+    names = λ a name is. is;
+    targets = targets_kept;
+    rooms = λ a x is room. is;
+    no_rooms = λ a x is room. is;
+    room_words = λ a k x is room below. others (Heap (a + k)) refl;
+    promises = λ a words is. is;
+    no_promises = λ a words is. is;
+    promise_words = λ a words k is below. others (Heap (a + k)) refl;
+    current = others (Current j) refl;
+    opens = opens;
+    owners = owners;
+    tops = λ r is. others (Top r) refl;
+    root_words = λ i. others (Root j i) refl;
+    roots = λ i. refl;
+    count = refl;
+    wait = others (Wait j) refl;
+    answer = others (Answer j) refl;
+    state = others (State j) refl;
+    asked = λ is. ap (λ n. bit_at n 1) (others Ask refl) ∙ is;
+    marks = marks_kept j;
+    copies = rely_copies c u region_world j copies_kept refl refl (λ a k b seated counted inside is from below. others (Heap (a + k)) refl);
+    fields = fields_kept c u region_world refl (λ r. others (Tams r) refl) (λ r. others (Limit r) refl) (others Claim refl) (λ a. others (Heap a) refl);
+  }

@@ -1,0 +1,29 @@
+-- Settling buffers and letting them go keep the graph that words hold.
+use Rattle.std.proofs.Common.{◌≡◌, ℕ, ◌≤◌}
+use Rattle.heap_words.specs.declared.config.Config.{Config}
+use Rattle.heap_words.specs.Ranges.{seat_count}
+use Rattle.heap_words.specs.Words.{Word, Current}
+use Rattle.buffer_words.specs.Settled.{buffers_settled}
+use Rattle.buffer_words.specs.LetGo.{let_go}
+use Rattle.image_graph.specs.Buffers.{settled_block, SettlingHolds, LettingGoHolds}
+use Rattle.image_graph.proofs.Loosening.Loosened.{loosened_sized}
+use Rattle.image_graph.proofs.Loosening.AllSettled.{settled_holds}
+use Rattle.image_graph.proofs.Loosening.LettingGo.{has_let_go, let_go_none}
+
+module _ (c : Config) (m : Word → ℕ) (seats : (seat : ℕ) → seat_count c.mutators c.helpers ≤ seat → m (Current seat) ≡ 0) where
+  pub settling_holds : SettlingHolds c m (buffers_settled c m)
+  settling_holds block owner p g holds =
+      let after = settled_holds c m block owner p g holds seats in
+      record { holds = after.holds; sized = loosened_sized c m (buffers_settled c m) block (settled_block c m block) owner p g holds after.loosened }
+
+  pub letting_go_holds : LettingGoHolds c m (let_go c m)
+  letting_go_holds block owner p g holds =
+      let after = has_let_go c m block owner p g holds seats in
+      record {
+        pieces = after.plot;
+        holds = after.left.holds;
+        none = let_go_none c m block owner p g holds seats;
+        stays = after.left.loosened.same.stays;
+        came = after.left.loosened.same.came;
+        sized = loosened_sized c m (let_go c m) block after.plot owner p g holds after.left.loosened;
+      }

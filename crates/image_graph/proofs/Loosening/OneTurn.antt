@@ -1,0 +1,206 @@
+-- One buffer goes: words that hold a graph hold it by pieces of which all but loose ones are the same.
+use Rattle.std.proofs.Common.{◌≡◌, ◌≢◌, ℕ, ◌+◌, ◌-◌, ◌<◌, ◌⊎◌, true, false, Option, Some, None, inl, inr, ⊎_elim, refl, sym, ap, ◌∙◌, subst, arith}
+use Rattle.std.proofs.lemmas.Bool.{cases_eq, true≢false, eqb-true}
+use Rattle.std.proofs.lemmas.Option.{none-some, same_Some}
+use Rattle.heap_words.specs.declared.config.Config.{Config}
+use Rattle.heap_words.specs.Words.{Word, Top, Current, Heap}
+use Rattle.heap_words.specs.Encoding.{filler_header, next_in, end_in}
+use Rattle.regions.specs.Place.{base_of}
+use Rattle.shen_graph.specs.Graph.{Graph}
+use Rattle.heap_world.specs.World.{Block, filler, spare, words_of, room_of, is_loose, Plot, IsBuffer, AreBuffers}
+use Rattle.heap_world.proofs.Updates.{updated, updated_same, updated_there, updated_else}
+use Rattle.heap_world.proofs.Pieces.{piece_cases}
+use Rattle.heap_world.proofs.Apart.{far}
+use Rattle.full_words.specs.Promised.{Promises}
+use Rattle.image_graph.specs.Holds.{HoldsBy}
+use Rattle.buffer_words.specs.Buffers.{buffer_region, is_last, IsInside}
+use Rattle.buffer_pauses.proofs.Refitted.{refitted, tops_of, heap_of, currents_of}
+use Rattle.buffer_pauses.proofs.SeatTurns.{IsDropped, AllHaveFree}
+use Rattle.buffer_pauses.proofs.Inside.{buffer_inside}
+use Rattle.buffer_pauses.proofs.Emptied.{buffers_dropped, dropped_fewer, without_fewer}
+use Rattle.buffer_pauses.proofs.Without.{buffers_without, buffers_cut}
+use Rattle.buffer_pauses.proofs.CutOff.{CanCutOff, falls, stays, came, plotted_without, filled_without}
+use Rattle.image_graph.proofs.Loosening.Resized.{IsResized, resized_plotted, resized_filled}
+use Rattle.image_graph.proofs.Loosening.Loosened.{is_of_buffers, IsLoosened, loosened_holds}
+
+-- other words stay where only tops, words of the heap and buffers change
+refitted_others : (m : Word → ℕ) (top heap current : ℕ → ℕ) (word : Word) → is_of_buffers word ≡ false → refitted m top heap current word ≡ m word
+refitted_others m top heap current (Heap a) other = absurd (true≢false other)
+refitted_others m top heap current (Top r) other = absurd (true≢false other)
+refitted_others m top heap current (Current seat) other = absurd (true≢false other)
+refitted_others m top heap current _ other = refl
+
+-- The words hold the graph by other pieces, of which all but loose ones are the same.
+pub record HoldsLoosened (c : Config) (m n : Word → ℕ) (block plot : Plot) (owner : ℕ → Option ℕ) (p : Promises) (g : Graph) : Type 0 where
+  pub loosened : IsLoosened m n block plot
+  pub holds : HoldsBy c n plot owner p g
+
+module _ (c : Config) (m : Word → ℕ) (block : Plot) (owner : ℕ → Option ℕ) (p : Promises) (g : Graph) (holds : HoldsBy c m block owner p g) where
+  -- buffers without free words are dropped
+  module _ (current : ℕ → ℕ) (dropped : (seat : ℕ) → IsDropped (currents_of m) current seat) where
+    abbrev without_them : Word → ℕ
+    without_them = refitted m (tops_of m) (heap_of m) current
+
+    pub drops : HoldsLoosened c m without_them block block owner p g
+    drops =
+        let loosened : IsLoosened m without_them block block = record {
+          same = record { stays = λ a b fixed is. is; came = λ a b fixed is. is };
+          rooms = λ a seat x is room. is;
+          some = λ a words is. holds.pieces.some a (filler words) is;
+          words = λ a k b fixed is below. refl;
+          headers = λ a words is. inr (is, refl);
+          others = refitted_others m (tops_of m) (heap_of m) current;
+          lower = λ r. omega arith;
+          fewer = dropped_fewer (currents_of m) current dropped;
+        } in
+        record {
+          loosened = loosened;
+          holds = loosened_holds c m without_them block block owner p g holds loosened holds.objects.plotted holds.filled
+              (buffers_dropped c (tops_of m) (currents_of m) current block dropped (λ a seat more is. holds.pieces.some a (spare seat more) is) holds.buffers);
+        }
+
+  module _ (seat word : ℕ) (is : m (Current seat) ≡ word) (some : word ≢ 0) where
+    its : IsBuffer c (tops_of m) block seat word
+    its = subst (IsBuffer c (tops_of m) block seat) is (holds.buffers.each seat (λ none. some (sym is ∙ none)))
+
+    pub lies : IsInside c word
+    lies = buffer_inside c (tops_of m) block seat word its (holds.objects.plotted.tops its.region its.within)
+
+    module _ (more : next_in word < end_in word) where
+      -- its free words are a piece
+      abbrev pub free : Block
+      free = spare seat (end_in word - next_in word)
+
+      pub free_piece : block (next_in word) ≡ Some free
+      free_piece = ⊎_elim (λ there. there) (λ has. absurd (holds.pieces.uncarved has.0 seat has.1 has.2)) (its.free more)
+
+      -- the piece of another seat lies elsewhere
+      elsewhere : (x s words : ℕ) → s ≢ seat → block x ≡ Some (spare s words) → x ≢ next_in word
+      elsewhere x s words differs here at = differs (let both = same_Some (spare s words) free (sym here ∙ ap block at ∙ free_piece) in cc)
+
+      -- They become words that only fill.
+      abbrev pub fills_words : Word → ℕ
+      fills_words = refitted m (tops_of m) (updated (heap_of m) (next_in word) (filler_header (end_in word - next_in word))) (updated (currents_of m) seat 0)
+
+      abbrev pub fills_plot : Plot
+      fills_plot = updated block (next_in word) (Some (filler (end_in word - next_in word)))
+
+      cases : (x : ℕ) (b : Block) → fills_plot x ≡ Some b → ((x ≡ next_in word) × (filler (end_in word - next_in word) ≡ b)) ⊎ ((x ≢ next_in word) × (block x ≡ Some b))
+      cases = piece_cases block (next_in word) (filler (end_in word - next_in word))
+
+      -- a piece of another kind than words that only fill was there
+      was_there : (x : ℕ) (b : Block) → (filler (end_in word - next_in word) ≡ b → ⊥) → fills_plot x ≡ Some b → (x ≢ next_in word) × (block x ≡ Some b)
+      was_there x b differs here = ⊎_elim (λ now. absurd (differs now.1)) (λ was. was) (cases x b here)
+
+      resized : IsResized block fills_plot
+      resized = record {
+        from = λ x b here. ⊎_elim
+            (λ (now : (x ≡ next_in word) × (filler (end_in word - next_in word) ≡ b)). (free, ap block now.0 ∙ free_piece, ap words_of now.1))
+            (λ (was : (x ≢ next_in word) × (block x ≡ Some b)). (b, was.1, refl))
+            (cases x b here);
+        to = λ x b here. ⊎_elim
+            (λ (at : next_in word ≡ x). (filler (end_in word - next_in word), updated_same block (next_in word) (Some (filler (end_in word - next_in word))) x at))
+            (λ (other : next_in word ≢ x). (b, updated_else block (next_in word) (Some (filler (end_in word - next_in word))) x other ∙ here))
+            (cases_eq (next_in word) x);
+      }
+
+      -- a piece that is not loose stays, and lies elsewhere
+      fixed_elsewhere : (x : ℕ) (b : Block) → is_loose b ≡ false → block x ≡ Some b → next_in word ≢ x
+      fixed_elsewhere x b fixed here at = true≢false (ap is_loose (same_Some free b (sym free_piece ∙ ap block at ∙ here)) ∙ fixed)
+
+      not_fixed : (b : Block) → is_loose b ≡ false → filler (end_in word - next_in word) ≡ b → ⊥
+      not_fixed b fixed same = true≢false (ap is_loose same ∙ fixed)
+
+      heap_else : (x : ℕ) → next_in word ≢ x → fills_words (Heap x) ≡ m (Heap x)
+      heap_else x other = updated_else (heap_of m) (next_in word) (filler_header (end_in word - next_in word)) x other
+
+      fills_loosened : IsLoosened m fills_words block fills_plot
+      fills_loosened = record {
+        same = record {
+          stays = λ x b fixed here. updated_else block (next_in word) (Some (filler (end_in word - next_in word))) x (fixed_elsewhere x b fixed here) ∙ here;
+          came = λ x b fixed here. (was_there x b (not_fixed b fixed) here).1;
+        };
+        rooms = λ x s b here room. (was_there x b (λ same. none-some s (ap room_of same ∙ room)) here).1;
+        some = λ x words here. ⊎_elim
+            (λ (now : (x ≡ next_in word) × (filler (end_in word - next_in word) ≡ filler words)). let long : end_in word - next_in word ≡ words = ap words_of now.1 in omega (arith, long, more))
+            (λ (was : (x ≢ next_in word) × (block x ≡ Some (filler words))). holds.pieces.some x (filler words) was.1)
+            (cases x (filler words) here);
+        words = λ x k b fixed here below.
+            let apart : x + k ≢ next_in word + 0 = far c (tops_of m) block holds.objects.plotted x (next_in word) k 0 b free here free_piece (λ at. fixed_elsewhere x b fixed here (sym at)) below (omega (arith, more)) in
+            heap_else (x + k) (λ at. apart (omega (arith, at)));
+        headers = λ x words here. ⊎_elim
+            (λ (now : (x ≡ next_in word) × (filler (end_in word - next_in word) ≡ filler words)).
+            let long : end_in word - next_in word ≡ words = ap words_of now.1 in
+            inl (ap (λ k. fills_words (Heap k)) now.0 ∙ updated_there (heap_of m) (next_in word) (filler_header (end_in word - next_in word)) ∙ ap filler_header long))
+            (λ (was : (x ≢ next_in word) × (block x ≡ Some (filler words))). inr (was.1, heap_else x (λ at. was.0 (sym at))))
+            (cases x (filler words) here);
+        others = refitted_others m (tops_of m) (updated (heap_of m) (next_in word) (filler_header (end_in word - next_in word))) (updated (currents_of m) seat 0);
+        lower = λ r. omega arith;
+        fewer = without_fewer (currents_of m) seat;
+      }
+
+      fills_buffers : AreBuffers c (tops_of m) (updated (currents_of m) seat 0) fills_plot
+      fills_buffers = buffers_without c (tops_of m) (tops_of m) (currents_of m) block fills_plot seat holds.buffers holds.pieces.uncarved
+          (λ x s words differs here. updated_else block (next_in word) (Some (filler (end_in word - next_in word))) x (λ at. elsewhere x s words differs here (sym at)) ∙ here)
+          (λ x s words here.
+          let was = was_there x (spare s words) (λ same. cc) here in
+          let there = holds.buffers.spares x s words was.1 in
+          ((λ at. was.0 (sym there.0 ∙ ap (λ k. next_in (m (Current k))) at ∙ ap next_in is)), was.1))
+          (λ s differs is_some. (holds.buffers.each s is_some).to_top)
+
+      pub fills : HoldsLoosened c m fills_words block fills_plot owner p g
+      fills = record {
+        loosened = fills_loosened;
+        holds = loosened_holds c m fills_words block fills_plot owner p g holds fills_loosened
+            (resized_plotted c (tops_of m) block fills_plot resized holds.objects.plotted) (resized_filled c (tops_of m) block fills_plot resized holds.filled) fills_buffers;
+      }
+
+      -- They are given back, where they end at the top, while each buffer has free words.
+      module _ (last : is_last c m word ≡ true) (full : AllHaveFree m) where
+        abbrev region : ℕ
+        region = buffer_region c word
+
+        can : CanCutOff c (tops_of m) block region (next_in word) free
+        can =
+            let end : end_in word ≡ base_of c region + m (Top region) = eqb-true (end_in word) (base_of c region + m (Top region)) last in
+            record {
+              plotted = holds.objects.plotted;
+              filled = holds.filled;
+              long = holds.pieces.some;
+              within = lies.region;
+              from_base = lies.from_base;
+              here = free_piece;
+              at_top = omega (arith, more, end);
+            }
+
+        abbrev pub gives_words : Word → ℕ
+        gives_words = refitted m (updated (tops_of m) region (next_in word - base_of c region)) (heap_of m) (updated (currents_of m) seat 0)
+
+        abbrev pub gives_plot : Plot
+        gives_plot = updated block (next_in word) None
+
+        was_left : (x : ℕ) (b : Block) → gives_plot x ≡ Some b → (x ≢ next_in word) × (block x ≡ Some b)
+        was_left = came c (tops_of m) block region (next_in word) free can
+
+        gives_loosened : IsLoosened m gives_words block gives_plot
+        gives_loosened = record {
+          same = record {
+            stays = λ x b fixed here. stays c (tops_of m) block region (next_in word) free can x (λ at. fixed_elsewhere x b fixed here (sym at)) ∙ here;
+            came = λ x b fixed here. (was_left x b here).1;
+          };
+          rooms = λ x s b here room. (was_left x b here).1;
+          some = λ x words here. holds.pieces.some x (filler words) (was_left x (filler words) here).1;
+          words = λ x k b fixed here below. refl;
+          headers = λ x words here. inr ((was_left x (filler words) here).1, refl);
+          others = refitted_others m (updated (tops_of m) region (next_in word - base_of c region)) (heap_of m) (updated (currents_of m) seat 0);
+          lower = falls c (tops_of m) block region (next_in word) free can;
+          fewer = without_fewer (currents_of m) seat;
+        }
+
+        pub gives : HoldsLoosened c m gives_words block gives_plot owner p g
+        gives = record {
+          loosened = gives_loosened;
+          holds = loosened_holds c m gives_words block gives_plot owner p g holds gives_loosened
+              (plotted_without c (tops_of m) block region (next_in word) free can) (filled_without c (tops_of m) block region (next_in word) free can)
+              (buffers_cut c (tops_of m) (currents_of m) block seat (next_in word) (end_in word - next_in word) region can holds.buffers holds.pieces.uncarved full);
+        }

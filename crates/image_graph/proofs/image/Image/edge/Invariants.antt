@@ -1,0 +1,7 @@
+use Rattle.std.proofs.Common.{◌≡◌}
+use Rattle.buffer_words.specs.Edge.{edge_below}
+use Rattle.image_graph.specs.State.{config_of, memory_of}
+use Rattle.image_graph.proofs.image.Image.edge.Given as goal
+
+abbrev pub invariant-loop-seat : goal.invariant-loop-seat
+invariant-loop-seat l = l.edge ≡ edge_below (config_of l.self) (memory_of l.self) l.region l.seat

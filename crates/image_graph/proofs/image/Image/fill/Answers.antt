@@ -1,0 +1,24 @@
+use Rattle.std.proofs.Common.{◌≡◌, ℕ, ◌<◌, ◌-◌, sym, ap, ◌∙◌, arith}
+use Rattle.std.proofs.lemmas.Bool.{cond-true, lt-ltb}
+use Rattle.std.specs.Prelude.{nat_lt}
+use Rattle.heap_words.specs.Words.{Word, Heap, IsWord, word_at, write}
+use Rattle.heap_words.specs.Encoding.{next_in, end_in, filler_header}
+use Rattle.regions.proofs.PlaceLemmas.{regions_tile}
+use Rattle.buffer_words.specs.Buffers.{buffer_region}
+use Rattle.image_graph.specs.State.{config_of, memory_of}
+use Rattle.image_graph.proofs.image.Image.fill.Goals as goal
+
+pub returns-then-next-end-clause-words : goal.returns-then-next-end-clause-words
+returns-then-next-end-clause-words c =
+    let k = config_of c.args.self.now in
+    let m : Word → ℕ = memory_of c.args.self.now in
+    let word = c.args.word in
+    let next = c.next_of-next.ensures in
+    let end = c.end_of-end.ensures in
+    let some : next_in word < end_in word = omega (arith, c.if-next-end.true, next, end) in
+    let is : IsWord k (Heap (next_in word)) =
+    regions_tile.in_heap k (buffer_region k word) (next_in word) c.requires.region (record { from = c.requires.from_base; before = omega (arith, some, c.requires.to_end) }) in
+    let place : word_at k (Heap (next_in word)) ≡ c.heap_at-at.result = sym (c.heap_at-at.ensures ∙ ap (λ a. word_at k (Heap a)) next) in
+    let value : c.filler.result ≡ filler_header (end_in word - next_in word) = c.filler.ensures ∙ ap (λ e. filler_header (e - c.next_of-next.result)) end ∙ ap (λ n. filler_header (end_in word - n)) next in
+    c.set_word.ensures.named (Heap (next_in word)) is place ∙ ap (λ v. write m (Heap (next_in word)) v) value
+    ∙ sym (cond-true (nat_lt (next_in word) (end_in word)) (write m (Heap (next_in word)) (filler_header (end_in word - next_in word))) m (lt-ltb _ _ some))

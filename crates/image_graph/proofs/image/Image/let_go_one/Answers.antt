@@ -1,0 +1,30 @@
+use Rattle.std.proofs.Common.{◌≡◌, ◌≢◌, ℕ, true, false, sym, ap, ◌∙◌}
+use Rattle.heap_words.specs.Words.{Word, Current, write}
+use Rattle.buffer_words.specs.Buffers.{is_last, filled_over}
+use Rattle.buffer_words.specs.LetGo.{given_back}
+use Rattle.image_graph.specs.State.{config_of, memory_of}
+use Rattle.image_graph.proofs.NamedStores.{stored}
+use Rattle.image_graph.proofs.BufferTurns.{let_go_back, let_go_filled}
+use Rattle.image_graph.proofs.image.Image.let_go_one.Goals as goal
+use Rattle.image_graph.proofs.image.Image.let_go_one.Goals.{then-is_last, else-is_last}
+
+pub returns-clause-words : goal.returns-clause-words
+returns-clause-words c =
+    let k = config_of c.args.self.now in
+    let m : Word → ℕ = memory_of c.args.self.now in
+    let seat = c.args.seat in
+    let word : c.word-word.result ≡ m (Current seat) = c.word-word.ensures.named (Current seat) c.requires.seat (sym c.cur_at-at.ensures) in
+    let some : m (Current seat) ≢ 0 = λ none. c.if-word-eq0.false (word ∙ none) in
+    let last : is_last k m (m (Current seat)) ≡ c.is_last.result = ap (is_last k m) (sym word) ∙ sym c.is_last.ensures in
+    elim c.if-is_last.branch [
+      | then-is_last w ↦
+          let yes : c.is_last.result ≡ true = cc in
+          stored (config_of c.if-is_last.self) k _ _ (Current seat) c.cur_at-at.result 0 (ap config_of w.self-is ∙ w.give_back.ensures.config) c.requires.seat c.cur_at-at.ensures c.set_word.ensures.named
+          ∙ ap (λ (n : Word → ℕ). write n (Current seat) 0) (ap memory_of w.self-is ∙ w.give_back.ensures.words ∙ ap (given_back k m) word)
+          ∙ let_go_back k m seat some (last ∙ yes)
+      | else-is_last w ↦
+          let no : c.is_last.result ≡ false = cc in
+          stored (config_of c.if-is_last.self) k _ _ (Current seat) c.cur_at-at.result 0 (ap config_of w.self-is ∙ w.fill.ensures.config) c.requires.seat c.cur_at-at.ensures c.set_word.ensures.named
+          ∙ ap (λ (n : Word → ℕ). write n (Current seat) 0) (ap memory_of w.self-is ∙ w.fill.ensures.words ∙ ap (filled_over m) word)
+          ∙ let_go_filled k m seat some (last ∙ no)
+    ]

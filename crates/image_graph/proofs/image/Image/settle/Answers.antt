@@ -1,0 +1,43 @@
+use Rattle.std.proofs.Common.{◌≡◌, ℕ, ◌<◌, refl, sym, ap, ◌∙◌, subst, arith}
+use Rattle.heap_words.specs.declared.config.Config.{Config}
+use Rattle.heap_words.specs.Ranges.{seat_count}
+use Rattle.heap_words.specs.Words.{Word, Current}
+use Rattle.buffer_words.specs.Buffers.{IsInside}
+use Rattle.buffer_words.specs.Settled.{settled_at, settled_below, buffers_settled}
+use Rattle.image_graph.specs.State.{config_of, words_of, memory_of}
+use Rattle.image_graph.specs.Buffers.{SettlingHolds}
+use Rattle.image_graph.proofs.Loosening.Laws.{settling_holds}
+use Rattle.image_graph.proofs.BufferTurns.{no_more_seats, settled_first, settled_next, settled_later}
+use Rattle.image_graph.proofs.image.Image.settle.Goals as goal
+
+pub loop-seat-init : goal.loop-seat-init
+loop-seat-init c = record { config = refl; words = settled_first (config_of c.args.self.now) (memory_of c.args.self.now) }
+
+pub settle_one-requires-clause-inside : goal.settle_one-requires-clause-inside
+settle_one-requires-clause-inside c =
+    let k = config_of c.args.self.now in
+    let m : Word → ℕ = memory_of c.args.self.now in
+    let seat = c.loop-seat.seat in
+    let same : config_of c.loop-seat.self ≡ k = c.loop-seat.invariant.config in
+    let word : memory_of c.loop-seat.self (Current seat) ≡ m (Current seat) = ap (λ (n : Word → ℕ). n (Current seat)) c.loop-seat.invariant.words ∙ settled_later k m seat seat (omega arith) in
+    let below : seat < seat_count k.mutators k.helpers = omega (arith, c.loop-seat-test.true, c.seats-seat-end.ensures) in
+    λ some. subst (λ (n : ℕ). IsInside (config_of c.loop-seat.self) n) (sym word) (subst (λ (j : Config). IsInside j (m (Current seat))) (sym same) (c.requires seat below (λ none. some (word ∙ none))))
+
+pub loop-seat-preserved : goal.loop-seat-preserved
+loop-seat-preserved c =
+    let k = config_of c.args.self.now in
+    let m : Word → ℕ = memory_of c.args.self.now in
+    let seat = c.loop-seat.seat in
+    record {
+      config = c.settle_one.ensures.config ∙ c.loop-seat.invariant.config;
+      words = c.settle_one.ensures.words ∙ ap (λ (j : Config). settled_at j (memory_of c.loop-seat.self) seat) c.loop-seat.invariant.config
+          ∙ ap (λ (n : Word → ℕ). settled_at k n seat) c.loop-seat.invariant.words ∙ settled_next k m seat;
+    }
+
+pub returns-clause-holds : goal.returns-clause-holds
+returns-clause-holds c =
+    let k = config_of c.args.self.now in
+    let m : Word → ℕ = memory_of c.args.self.now in
+    let all : c.loop-seat.seat ≡ seat_count k.mutators k.helpers = omega (arith, c.loop-seat-test.false, c.loop-seat.auto.seat-end, c.seats-seat-end.ensures) in
+    let words : memory_of c.loop-seat.self ≡ buffers_settled k m = c.loop-seat.invariant.words ∙ ap (settled_below k m) all in
+    subst (SettlingHolds k m) (sym words) (settling_holds k m (no_more_seats k (words_of c.args.self.now)))

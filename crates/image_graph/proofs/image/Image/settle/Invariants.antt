@@ -1,0 +1,10 @@
+use Rattle.std.proofs.Common.{◌≡◌}
+use Rattle.buffer_words.specs.Settled.{settled_below}
+use Rattle.image_graph.specs.State.{config_of, memory_of}
+use Rattle.image_graph.proofs.image.Image.settle.Given as goal
+
+abbrev pub invariant-loop-seat : goal.invariant-loop-seat
+invariant-loop-seat l = record {
+  config : config_of l.self ≡ config_of l.fn.self;
+  words : memory_of l.self ≡ settled_below (config_of l.fn.self) (memory_of l.fn.self) l.seat;
+}

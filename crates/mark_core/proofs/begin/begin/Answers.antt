@@ -1,0 +1,48 @@
+use Rattle.std.proofs.Common.{◌≡◌, ℕ, [], ap, ◌∙◌}
+use Rattle.heap_words.specs.declared.config.Config.{Config}
+use Rattle.heap_words.specs.Words.{Word, Phase, Claim, Ask, bit_words, word_at, write}
+use Rattle.heap_graph.specs.Walk.{has, with_addresses}
+use Rattle.full_words.specs.Full.{root_words}
+use Rattle.image_graph.specs.State.{config_of, words_of, memory_of, found_of}
+use Rattle.image_graph.proofs.NamedStores.{stored}
+use Rattle.mark_core.specs.Steps.{greyed, noted, emptied}
+use Rattle.image_graph.proofs.Same.{memory_same}
+use Rattle.mark_core.proofs.MarkingBegun.{roots_inside_some, all_inside, begun}
+use Rattle.mark_core.proofs.begin.begin.Goals as goal
+
+pub find_named-requires : goal.find_named-requires
+find_named-requires c = roots_inside_some (config_of c.args.image.now) (memory_of c.args.image.now) c.requires
+
+pub returns-clause-words : goal.returns-clause-words
+returns-clause-words c =
+    let old = c.args.image.now in
+    let g = config_of old in
+    let m : Word → ℕ = memory_of old in
+    let one = c.find_named.new.image in
+    let two = c.grey_found.new.image in
+    let three = c.note_edges.new.image in
+    let four = c.empty_buffers.new.image in
+    let same = c.find_named.ensures.unchanged in
+    let set = has (with_addresses [] (root_words g m)) in
+    let to_two : memory_of two ≡ greyed g set (bit_words g) m =
+    c.grey_found.ensures.words
+    ∙ ap (λ (k : Config). greyed k (has (found_of one)) (bit_words k) (memory_of one)) same.config
+    ∙ ap (λ n. greyed g (has (found_of one)) (bit_words g) n) (memory_same old one same)
+    ∙ ap (λ xs. greyed g (has xs) (bit_words g) m) c.find_named.ensures.named in
+    let config_two = c.grey_found.ensures.config ∙ same.config in
+    let to_three : memory_of three ≡ noted g g.regions (greyed g set (bit_words g) m) =
+    c.note_edges.ensures.words ∙ ap (λ (k : Config). noted k k.regions (memory_of two)) config_two ∙ ap (noted g g.regions) to_two in
+    let config_three = c.note_edges.ensures.config ∙ config_two in
+    let to_four : memory_of four ≡ emptied g.mutators (noted g g.regions (greyed g set (bit_words g) m)) =
+    c.empty_buffers.ensures.words ∙ ap (λ (k : Config). emptied k.mutators (memory_of three)) config_three ∙ ap (emptied g.mutators) to_three in
+    let config_four = c.empty_buffers.ensures.config ∙ config_three in
+    let claim = stored (config_of four) g (memory_of four) (memory_of c.set_word.new.self) Claim c.claim_at.result 0 config_four tt
+    (c.claim_at.ensures ∙ ap (λ (k : Config). word_at k Claim) (c.config-config.ensures ∙ config_four)) c.set_word.ensures.named in
+    let config_five = c.set_word.ensures.config ∙ config_four in
+    let ask = stored (config_of c.set_word.new.self) g (memory_of c.set_word.new.self) (memory_of c.set_word-2.new.self) Ask c.ask_at.result 0 config_five tt
+    (c.ask_at.ensures ∙ ap (λ (k : Config). word_at k Ask) (c.config-config.ensures ∙ config_four)) c.set_word-2.ensures.named in
+    let config_six = c.set_word-2.ensures.config ∙ config_five in
+    let phase = stored (config_of c.set_word-2.new.self) g (memory_of c.set_word-2.new.self) (memory_of c.set_word-3.new.self) Phase c.phase_at.result 1 config_six tt
+    (c.phase_at.ensures ∙ ap (λ (k : Config). word_at k Phase) (c.config-config.ensures ∙ config_four)) c.set_word-3.ensures.named in
+    phase ∙ ap (λ n. write n Phase 1) (ask ∙ ap (λ n. write n Ask 0) (claim ∙ ap (λ n. write n Claim 0) to_four))
+    ∙ begun g (words_of old) (all_inside g m c.requires)

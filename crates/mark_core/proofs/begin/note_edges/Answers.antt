@@ -1,0 +1,32 @@
+use Rattle.std.proofs.Common.{◌≡◌, ◌<◌, ℕ, ap, ◌∙◌, arith}
+use Rattle.heap_words.specs.declared.config.Config.{Config}
+use Rattle.heap_words.specs.Words.{Word, Tams, word_at, write}
+use Rattle.buffer_words.specs.Edge.{edge}
+use Rattle.image_graph.specs.State.{config_of, memory_of}
+use Rattle.image_graph.proofs.NamedStores.{stored}
+use Rattle.mark_core.specs.Steps.{noted}
+use Rattle.mark_core.proofs.LoopTurns.{edge_noted, noted_next}
+use Rattle.mark_core.proofs.begin.note_edges.Goals as goal
+
+pub loop-region-preserved : goal.loop-region-preserved
+loop-region-preserved c =
+    let old = c.args.image.now in
+    let g = config_of old in
+    let r = c.loop-region.region in
+    let below : r < g.regions = omega (arith, c.loop-region-test.true, c.regions-region-end.ensures, ap (λ (k : Config). k.regions) c.config-config.ensures) in
+    let edge_is : c.edge-edge.result ≡ edge g (memory_of old) r =
+    c.edge-edge.ensures ∙ ap (λ (k : Config). edge k (memory_of c.loop-region.image) r) c.loop-region.invariant.config
+    ∙ ap (λ (n : Word → ℕ). edge g n r) c.loop-region.invariant.words ∙ edge_noted g r r (memory_of old) in
+    let one = stored (config_of c.loop-region.image) g (memory_of c.loop-region.image) (memory_of c.set_word.new.self) (Tams r) c.tams_at.result c.edge-edge.result
+    c.loop-region.invariant.config below (c.tams_at.ensures ∙ ap (λ (k : Config). word_at k (Tams r)) c.config-config.ensures) c.set_word.ensures.named in
+    record {
+      config = c.set_word.ensures.config ∙ c.loop-region.invariant.config;
+      words = one ∙ ap (λ m. write m (Tams r) c.edge-edge.result) c.loop-region.invariant.words
+          ∙ ap (write (noted g r (memory_of old)) (Tams r)) edge_is ∙ noted_next g r (memory_of old);
+    }
+
+pub returns-clause-words : goal.returns-clause-words
+returns-clause-words c =
+    let all : c.loop-region.region ≡ (config_of c.args.image.now).regions =
+    omega (arith, c.loop-region-test.false, c.loop-region.auto.region-end, c.regions-region-end.ensures, ap (λ (k : Config). k.regions) c.config-config.ensures) in
+    c.loop-region.invariant.words ∙ ap (λ n. noted (config_of c.args.image.now) n (memory_of c.args.image.now)) all

@@ -1,0 +1,10 @@
+use Rattle.std.proofs.Common.{◌≡◌}
+use Rattle.image_graph.specs.State.{config_of, memory_of}
+use Rattle.mark_core.specs.Steps.{noted}
+use Rattle.mark_core.proofs.begin.note_edges.Given as goal
+
+abbrev pub invariant-loop-region : goal.invariant-loop-region
+invariant-loop-region l = record {
+  config : config_of l.image ≡ config_of l.fn.image;
+  words : memory_of l.image ≡ noted (config_of l.fn.image) l.region (memory_of l.fn.image);
+}
