@@ -1,12 +1,12 @@
 //! All schedules within the bounds of a test.
 
+use crate::record::Record;
 use crate::tally::{Found, Tally};
 use crate::tree::{Tree, Turn};
 use crate::turns::{Turns, goes_alone, possible_turns};
 use find_course::{Course, mixed};
 use find_grammar::Test;
-use find_play::Verdict;
-use heap_words::{Item, NoMemory};
+use heap_words::NoMemory;
 use std::alloc::Global;
 use std::collections::HashMap;
 
@@ -31,44 +31,8 @@ struct Searching {
     tree: Tree,
     // By state and turn the fewest preemptions with which it was met.
     met: HashMap<u64, u64>,
-    tally: Tally,
+    record: Record,
     turns: Vec<Turn>,
-    picks: Vec<usize>,
-}
-
-// Adds a step of a machine to the items.
-fn add_step(items: &mut Vec<Item>, number: usize) -> Result<(), NoMemory> {
-    if let Some(
-        Item::Steps {
-            number: last,
-            count,
-        },
-    ) = items.last().copied()
-    {
-        if last == number {
-            let at = items.len().saturating_sub(1);
-            if at < items.len() {
-                items[at] = Item::Steps {
-                    number,
-                    count: count.saturating_add(1),
-                };
-            }
-            return Ok(());
-        }
-    }
-    match items.push(Item::Steps { number, count: 1 }) {
-        Ok(()) => Ok(()),
-        Err(_) => Err(NoMemory),
-    }
-}
-
-/// Turns of machines as items, one for each machine that makes some steps.
-pub(crate) fn items_of(alloc: Global, picks: &[usize]) -> Result<Vec<Item>, NoMemory> {
-    let mut items = Vec::new(alloc);
-    for number in picks {
-        add_step(&mut items, *number)?;
-    }
-    Ok(items)
 }
 
 impl Searching {
@@ -111,7 +75,7 @@ impl Searching {
             }
             let spent = spent.saturating_add(cost);
             if spent > self.preemptions {
-                self.tally.barred = self.tally.barred.saturating_add(1);
+                self.record.tally.barred = self.record.tally.barred.saturating_add(1);
                 continue;
             }
             if self.is_met(state, number, spent)? {
@@ -145,7 +109,7 @@ impl Searching {
         let state = course.state_sum();
         self.depart(branch, course, turns, spent, state)?;
         if self.is_met(state, turns.usual, spent)? {
-            self.tally.met = self.tally.met.saturating_add(1);
+            self.record.tally.met = self.record.tally.met.saturating_add(1);
             return Ok(None);
         }
         Ok(Some(turns.usual))
@@ -153,28 +117,12 @@ impl Searching {
 
     // Begins a schedule.
     fn begin(&mut self, branch: Option<usize>) -> Result<(), NoMemory> {
+        self.record.begin();
         self.turns.clear();
-        self.picks.clear();
         match branch {
             Some(branch) => self.tree.turns(branch, &mut self.turns),
             None => Ok(()),
         }
-    }
-
-    // Makes a step of a machine. Whether it had one to make.
-    fn step(
-        &mut self,
-        alloc: Global,
-        test: &Test,
-        course: &mut Course,
-        number: usize,
-    ) -> Result<bool, NoMemory> {
-        let Ok(()) = self.picks.push(number) else {
-            return Err(NoMemory);
-        };
-        self.tally.steps = self.tally.steps.saturating_add(1);
-        let made = course.step(alloc, test, number)?;
-        Ok(made.is_some())
     }
 
     // Runs a schedule. The course at its end; None where it was left before.
@@ -199,12 +147,12 @@ impl Searching {
                 return Ok(None);
             };
             spent = spent.saturating_add(turns.cost(number).unwrap_or(0));
-            if !self.step(alloc, test, &mut course, number)? {
+            if !self.record.step(alloc, test, &mut course, number)? {
                 break;
             }
             last = Some(number);
         }
-        self.tally.cut = self.tally.cut.saturating_add(1);
+        self.record.cut();
         Ok(None)
     }
 
@@ -216,22 +164,9 @@ impl Searching {
         branch: Option<usize>,
         spent: u64,
     ) -> Result<Option<Found>, NoMemory> {
-        self.tally.schedules = self.tally.schedules.saturating_add(1);
-        let Some(mut course) = self.run(alloc, test, branch)? else {
-            return Ok(None);
-        };
-        let Some(ending) = course.ending(alloc, test, test.bounds.steps)? else {
-            self.tally.cut = self.tally.cut.saturating_add(1);
-            return Ok(None);
-        };
-        self.tally.ended(ending)?;
-        match ending.verdict {
-            Verdict::Holds => Ok(None),
-            verdict => Ok(Some(Found {
-                items: items_of(alloc, &self.picks)?,
-                verdict,
-                preemptions: spent,
-            })),
+        match self.run(alloc, test, branch)? {
+            Some(mut course) => self.record.end(alloc, test, &mut course, spent),
+            None => Ok(None),
         }
     }
 }
@@ -248,9 +183,8 @@ pub fn search_all(
         preemptions: test.bounds.preemptions,
         tree: Tree::open(alloc, test.bounds.preemptions)?,
         met: HashMap::new(alloc),
-        tally: Tally::open(alloc),
+        record: Record::open(alloc),
         turns: Vec::new(alloc),
-        picks: Vec::new(alloc),
     };
     let mut found = searching.look(alloc, test, None, 0)?;
     for _ in 1..plan.most {
@@ -265,7 +199,9 @@ pub fn search_all(
             found = next;
         }
     }
-    let mut tally = searching.tally;
-    tally.unrun = searching.tree.waiting();
+    let unrun = searching.tree.waiting();
+    let record = searching.record;
+    let mut tally = record.tally;
+    tally.unrun = unrun;
     Ok((tally, found))
 }

@@ -3,6 +3,7 @@
 
 mod exhaustive;
 mod random;
+mod record;
 mod tally;
 mod tree;
 mod turns;

@@ -1,11 +1,11 @@
 //! Schedules by chance.
 
-use crate::exhaustive::{Plan, items_of};
+use crate::exhaustive::Plan;
+use crate::record::Record;
 use crate::tally::{Found, Tally};
 use crate::turns::{Turns, possible_turns};
 use find_course::{Course, SEATS, mixed};
 use find_grammar::Test;
-use find_play::Verdict;
 use heap_words::NoMemory;
 use std::alloc::Global;
 
@@ -115,8 +115,7 @@ struct Drawing {
     plan: Plan,
     draw: Draw,
     chance: Chance,
-    tally: Tally,
-    picks: Vec<usize>,
+    record: Record,
     // The most steps of a run so far.
     longest: u64,
 }
@@ -124,7 +123,7 @@ struct Drawing {
 impl Drawing {
     // Runs a schedule. The course at its end, and its preemptions; None where it was left before.
     fn run(&mut self, alloc: Global, test: &Test) -> Result<Option<(Course, u64)>, NoMemory> {
-        self.picks.clear();
+        self.record.begin();
         let depth = match self.draw {
             Draw::Uniform => 0,
             Draw::Depth(depth) => depth,
@@ -151,7 +150,7 @@ impl Drawing {
                 Draw::Depth(_) => priorities.highest(&turns),
             };
             spent = spent.saturating_add(turns.cost(number).unwrap_or(0));
-            if !self.step(alloc, test, &mut course, number)? {
+            if !self.record.step(alloc, test, &mut course, number)? {
                 return Ok(None);
             }
             last = Some(number);
@@ -159,41 +158,13 @@ impl Drawing {
         Ok(None)
     }
 
-    // Makes a step of a machine. Whether it had one to make.
-    fn step(
-        &mut self,
-        alloc: Global,
-        test: &Test,
-        course: &mut Course,
-        number: usize,
-    ) -> Result<bool, NoMemory> {
-        let Ok(()) = self.picks.push(number) else {
-            return Err(NoMemory);
-        };
-        self.tally.steps = self.tally.steps.saturating_add(1);
-        let made = course.step(alloc, test, number)?;
-        Ok(made.is_some())
-    }
-
+    // Runs a schedule, and counts it. The schedule where it breaks the test.
     fn look(&mut self, alloc: Global, test: &Test) -> Result<Option<Found>, NoMemory> {
-        self.tally.schedules = self.tally.schedules.saturating_add(1);
         let Some((mut course, spent)) = self.run(alloc, test)? else {
-            self.tally.cut = self.tally.cut.saturating_add(1);
+            self.record.cut();
             return Ok(None);
         };
-        let Some(ending) = course.ending(alloc, test, test.bounds.steps)? else {
-            self.tally.cut = self.tally.cut.saturating_add(1);
-            return Ok(None);
-        };
-        self.tally.ended(ending)?;
-        match ending.verdict {
-            Verdict::Holds => Ok(None),
-            verdict => Ok(Some(Found {
-                items: items_of(alloc, &self.picks)?,
-                verdict,
-                preemptions: spent,
-            })),
-        }
+        self.record.end(alloc, test, &mut course, spent)
     }
 }
 
@@ -209,8 +180,7 @@ pub fn draw_schedules(
         plan,
         draw,
         chance: Chance { state: seed },
-        tally: Tally::open(alloc),
-        picks: Vec::new(alloc),
+        record: Record::open(alloc),
         longest: 1,
     };
     let mut found = None;
@@ -223,5 +193,6 @@ pub fn draw_schedules(
             break;
         }
     }
-    Ok((drawing.tally, found))
+    let record = drawing.record;
+    Ok((record.tally, found))
 }

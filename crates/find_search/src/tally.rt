@@ -23,7 +23,7 @@ pub struct Tally {
     pub unrun: u64,
     /// Steps that were made.
     pub steps: u64,
-    /// Runs whose claims hold, runs of which an assertion fails, and runs in which a thread is stuck.
+    /// Runs whose claims hold.
     pub holding: u64,
     /// Runs of which an assertion fails.
     pub failing: u64,
