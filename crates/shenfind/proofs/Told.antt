@@ -17,8 +17,8 @@ use Rattle.find_reading.specs.TestFaults.{IsTraceRefusal}
 use Rattle.find_hunt.specs.Judged.{IsBreak}
 use Rattle.shenfind.specs.declared.status.Status.{Status}
 use Rattle.shenfind.specs.declared.status.Status.TheVariants.{Holds, BadWords, BadTest, Unfinished, ReadFault, WriteFault as Unwritten, NoMemory, Fails, Stuck}
-use Rattle.shenfind.specs.Refusals.{refusal_text, refusal_status}
-use Rattle.shenfind.specs.Told.{status_of, Says, Reports, HasSearched, HasTest, Fits}
+use Rattle.shenfind.specs.FaultLines.{refusal_text, refusal_status}
+use Rattle.shenfind.specs.Tellings.{status_of, SaysLine, Reports, HasSearched, HasTest, StatusTells}
 
 -- which of these is meant by a result of a call: a status, where it did not fail
 pub found : (result : Result Status WriteFault) (test : Test) (text : List ℕ) (verdict : Verdict) (sink errors : Output)
@@ -35,7 +35,7 @@ found (Ok s) test text verdict sink errors broken status written reports = subst
 
 -- a test came, and how its search has ended fits the status
 fits_searched : (s : Status) (input : Input) (sink errors : Output) (test : Test) → HasRead input (λ bytes. (rest : List ℕ) × (bytes ≡ header test.config ++ rest))
-    → HasSearched s test sink errors → Fits s input sink errors
+    → HasSearched s test sink errors → StatusTells s input sink errors
 fits_searched Holds input sink errors test read h = record { test = test; read = read; is = h; }
 fits_searched Unfinished input sink errors test read h = record { test = test; read = read; is = h; }
 fits_searched Fails input sink errors test read h = record { test = test; read = read; is = h; }
@@ -47,7 +47,7 @@ fits_searched ReadFault input sink errors test read h = absurd h
 fits_searched Unwritten input sink errors test read h = absurd h
 
 pub searched : (result : Result Status WriteFault) (input : Input) (sink errors : Output) (test : Test) → HasRead input (λ bytes. (rest : List ℕ) × (bytes ≡ header test.config ++ rest))
-    → IfOk result (λ s. HasSearched s test sink errors) → IfOk result (λ s. Fits s input sink errors)
+    → IfOk result (λ s. HasSearched s test sink errors) → IfOk result (λ s. StatusTells s input sink errors)
 searched (Ok s) input sink errors test read h = fits_searched s input sink errors test read h
 searched (Err e) input sink errors test read h = tt
 
@@ -59,7 +59,7 @@ IsFaultOf input fault.ReadFault = Rose input.faults_before input.faults_after
 IsFaultOf input fault.NoMemory = Unit {0}
 
 -- the line of a fault and its status fit
-fits_refused : (f : TestFault) (input : Input) (sink errors : Output) → IsFaultOf input f → Says (refusal_text f) sink errors → Fits (refusal_status f) input sink errors
+fits_refused : (f : TestFault) (input : Input) (sink errors : Output) → IsFaultOf input f → SaysLine (refusal_text f) sink errors → StatusTells (refusal_status f) input sink errors
 fits_refused (fault.BadLine line why) input sink errors is says = inl (record { line = line; why = why; read = is; says = says; })
 fits_refused (fault.TooLong count) input sink errors is says = inr (record { bytes = is.0; taken = is.1; many = is.2; says = says; })
 fits_refused fault.ReadFault input sink errors is says = (is, says)
@@ -67,9 +67,9 @@ fits_refused fault.NoMemory input sink errors is says = says
 
 pub refused : (result : Result Status WriteFault) (f : TestFault) (input : Input) (sink errors : Output) → IsFaultOf input f → sink.after ≡ sink.before
     → IfOk result (λ s. s ≡ refusal_status f) → OnOk result (Appends errors.before.written errors.after.written (refusal_text f))
-    → IfOk result (λ s. Fits s input sink errors)
+    → IfOk result (λ s. StatusTells s input sink errors)
 refused (Err e) f input sink errors is kept status text = tt
-refused (Ok s) f input sink errors is kept status text = subst (λ t. Fits t input sink errors) (sym status) (fits_refused f input sink errors is (record { kept = kept; written = text; }))
+refused (Ok s) f input sink errors is kept status text = subst (λ t. StatusTells t input sink errors) (sym status) (fits_refused f input sink errors is (record { kept = kept; written = text; }))
 
 -- of a fault of reading, whichever it is, this is known of the source
 pub fault_is : (f : TestFault) (input : Input)

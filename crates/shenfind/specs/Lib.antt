@@ -1,2 +1,2 @@
-pub mod Refusals
-pub mod Told
+pub mod FaultLines
+pub mod Tellings

@@ -3,8 +3,8 @@ ghost use Rattle.std.specs.Prelude.{ℕ, List, [], ◌∷◌, ◌++◌};
 ghost use Rattle.std.specs.Fmt.{decimal};
 ghost use Rattle.text_writer.specs.Sending.{Puts, Writes, outlet, stage};
 ghost use Rattle.trace_grammar.specs.Spelling.{newline};
-ghost use Rattle.shenfind.specs.Refusals.{refusal_text};
-ghost use Rattle.shenfind.specs.Told.{verdict_line};
+ghost use Rattle.shenfind.specs.FaultLines.{refusal_text};
+ghost use Rattle.shenfind.specs.Tellings.{line_of_verdict};
 ghost use Rattle.find_reading.specs.declared.fault.TestFault.TheVariants.{BadLine};
 
 use find_play::Verdict;
@@ -52,7 +52,7 @@ fn put_runs<K: Sink>(block: &mut Block, sink: &mut K, tally: &Tally)
 // Puts the line of a verdict, and before it the preemptions of the schedule that was found, if one was.
 fn put_verdict<K: Sink>(block: &mut Block, sink: &mut K, verdict: Verdict, preemptions: u64)
     ensures { (front : List ℕ) × Puts (stage (K.written sink.old) (K.faults sink.old) (K.calls sink.old) block.old)
-        (stage (K.written sink.new) (K.faults sink.new) (K.calls sink.new) block.new) (front ++ verdict_line verdict) }
+        (stage (K.written sink.new) (K.faults sink.new) (K.calls sink.new) block.new) (front ++ line_of_verdict verdict) }
 {
     match verdict {
         Verdict::Holds => block.put(sink, b"holds\n"),
@@ -76,7 +76,7 @@ pub fn write_report<K: Sink>(
     preemptions: u64,
 ) -> Result<(), WriteFault>
     ensures { (counts : List ℕ) × Writes result (outlet (K.written sink.old) (K.faults sink.old) (K.calls sink.old))
-        (outlet (K.written sink.new) (K.faults sink.new) (K.calls sink.new)) (counts ++ verdict_line verdict) }
+        (outlet (K.written sink.new) (K.faults sink.new) (K.calls sink.new)) (counts ++ line_of_verdict verdict) }
 {
     let mut block = Block::new();
     put_schedules(&mut block, sink, tally);

@@ -3,8 +3,8 @@ ghost use Rattle.std.specs.Prelude.{◌≡◌, ◌⊎◌, IfOk, OnOk, OnErr};
 ghost use Rattle.std.specs.Io.KnownBytes.{Appends};
 ghost use Rattle.shen_base.specs.Count.{Rose};
 ghost use Rattle.text_writer.specs.Sending.{outlet};
-ghost use Rattle.shenfind.specs.Refusals.{refusal_text, refusal_status};
-ghost use Rattle.shenfind.specs.Told.{status_of, Reports, HasSearched, Fits};
+ghost use Rattle.shenfind.specs.FaultLines.{refusal_text, refusal_status};
+ghost use Rattle.shenfind.specs.Tellings.{status_of, Reports, HasSearched, StatusTells};
 
 use crate::report::{write_bad_line, write_report};
 use crate::status::Status;
@@ -116,7 +116,7 @@ fn told<S: Source, K: Sink, E: Sink>(
     sink: &mut K,
     errors: &mut E,
 ) -> Result<Status, WriteFault>
-    ensures fits { IfOk result (λ status. Fits status
+    ensures fits { IfOk result (λ status. StatusTells status
         (record { before = S.left source.old; after = S.left source.new; faults_before = S.faults source.old; faults_after = S.faults source.new })
         (record { before = outlet (K.written sink.old) (K.faults sink.old) (K.calls sink.old); after = outlet (K.written sink.new) (K.faults sink.new) (K.calls sink.new) })
         (record { before = outlet (E.written errors.old) (E.faults errors.old) (E.calls errors.old); after = outlet (E.written errors.new) (E.faults errors.new) (E.calls errors.new) })) }
@@ -146,7 +146,7 @@ pub fn shenfind<S: Source, K: Sink, E: Sink>(
     // What each status says of what came and of what was written. Where it is `Fails` or `Stuck`, a test came whole, a trace of its heap
     // was written, and the verdict of the test on that trace's own replay, whose history is legal and in which each thread gives the
     // commands that its program means, is that one; the report's last line names it.
-    ensures fits { Fits result
+    ensures fits { StatusTells result
         (record { before = S.left source.old; after = S.left source.new; faults_before = S.faults source.old; faults_after = S.faults source.new })
         (record { before = outlet (K.written sink.old) (K.faults sink.old) (K.calls sink.old); after = outlet (K.written sink.new) (K.faults sink.new) (K.calls sink.new) })
         (record { before = outlet (E.written errors.old) (E.faults errors.old) (E.calls errors.old); after = outlet (E.written errors.new) (E.faults errors.new) (E.calls errors.new) }) }
