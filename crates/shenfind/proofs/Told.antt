@@ -1,5 +1,5 @@
 -- What is known of a call by its parts.
-use Rattle.std.proofs.Common.{◌≡◌, ℕ, ◌+◌, ◌≤◌, ◌++◌, List, length, Ok, Err, Result, IfOk, OnOk, inl, inr, refl, sym, subst, absurd}
+use Rattle.std.proofs.Common.{◌≡◌, ℕ, ◌+◌, ◌≤◌, ◌++◌, List, length, Ok, Err, Result, IfOk, OnOk, inl, inr, refl, sym, subst}
 use Rattle.std.specs.Io.KnownBytes.{Appends, Consumes}
 use Rattle.shen_base.specs.Count.{Rose}
 use Rattle.text_writer.specs.declared.send.WriteFault.{WriteFault}
@@ -21,12 +21,12 @@ use Rattle.shenfind.specs.FaultLines.{refusal_text, refusal_status}
 use Rattle.shenfind.specs.Tellings.{status_of, SaysLine, Reports, HasSearched, HasTest, StatusTells}
 
 -- which of these is meant by a result of a call: a status, where it did not fail
-pub found : (result : Result Status WriteFault) (test : Test) (text : List ℕ) (verdict : Verdict) (sink errors : Output)
-    → IsBreak test text usual_steps verdict → IfOk result (λ s. s ≡ status_of verdict)
-    → OnOk result (Appends sink.before.written sink.after.written text) → OnOk result (Reports verdict errors.before.written errors.after.written)
+pub found : (result : Result Status WriteFault) (test : Test) (text : List ℕ) (said : Verdict) (sink errors : Output)
+    → IsBreak test text usual_steps said → IfOk result (λ s. s ≡ status_of said)
+    → OnOk result (Appends sink.before.written sink.after.written text) → OnOk result (Reports said errors.before.written errors.after.written)
     → IfOk result (λ s. HasSearched s test sink errors)
-found (Err e) test text verdict sink errors broken status written reports = tt
-found (Ok s) test text verdict sink errors broken status written reports = subst (λ t. HasSearched t test sink errors) (sym status) (by_verdict verdict broken reports)
+found (Err e) test text said sink errors broken status written reports = tt
+found (Ok s) test text said sink errors broken status written reports = subst (λ t. HasSearched t test sink errors) (sym status) (by_verdict said broken reports)
   where
     by_verdict : (v : Verdict) → IsBreak test text usual_steps v → Reports v errors.before.written errors.after.written → HasSearched (status_of v) test sink errors
     by_verdict verdict.Holds b r = absurd (b.breaks refl)

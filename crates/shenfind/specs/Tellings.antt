@@ -36,9 +36,9 @@ pub record SaysLine (text : List ℕ) (sink errors : Output) : Type 0 where
   pub written : Appends errors.before.written errors.after.written text
 
 -- a report was written between these, whose last line is of this verdict
-pub record Reports (verdict : Verdict) (before after : Option (List ℕ)) : Type 0 where
+pub record Reports (v : Verdict) (before after : Option (List ℕ)) : Type 0 where
   pub counts : List ℕ
-  pub written : Appends before after (counts ++ line_of_verdict verdict)
+  pub written : Appends before after (counts ++ line_of_verdict v)
 
 -- A trace was written whose own replay, of so many steps as that of `shenrun`, breaks the test. The status and the report name how.
 pub record FindsBreak (s : Status) (test : Test) (sink errors : Output) : Type 0 where

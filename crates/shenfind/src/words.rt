@@ -1,4 +1,5 @@
 //! The words of the command line.
+ghost use Rattle.std.specs.Prelude.{◌+◌, ◌<◌, ◌≤◌, length, IfSome};
 
 use find_search::{Draw, Plan};
 use trace_grammar::number_in;
@@ -22,7 +23,9 @@ const MOST: u64 = 4_000_000_000;
 const DEEPEST: u64 = 1000;
 
 // The number of the word at this index, 1 to so many.
-fn number_at(words: &[String], at: usize, most: u64) -> Option<u64> {
+fn number_at(words: &[String], at: usize, most: u64) -> Option<u64>
+    ensures { IfSome result (λ _. at < length words.now) }
+{
     match number_in(most, words.get(at)?.as_bytes()) {
         Some(0) => None,
         found => found,
@@ -63,7 +66,9 @@ fn kind_of(words: &[String]) -> Option<(Asked, usize)> {
 }
 
 // An option behind the first words. How many words it is.
-fn take_option(words: &[String], at: usize, asked: &mut Asked) -> Option<usize> {
+fn take_option(words: &[String], at: usize, asked: &mut Asked) -> Option<usize>
+    ensures { IfSome result (λ count. (0 < count) × (at + count ≤ length words.now)) }
+{
     let all = asked.drawn.is_none();
     let plan = &mut asked.plan;
     match words.get(at)?.as_bytes() {
