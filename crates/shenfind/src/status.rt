@@ -1,3 +1,6 @@
+ghost use Rattle.std.specs.Prelude.{◌≡◌};
+ghost use Rattle.shenfind.specs.ExitNumbers.{exit_number};
+
 /// How a call of the program ended.
 #[derive(Clone, Copy, Debug, PartialEq, Eq)]
 pub enum Status {
@@ -23,7 +26,9 @@ pub enum Status {
 
 impl Status {
     /// The number with which the program ends: those of `shenrun`, and 10 and 11 where a run was found.
-    pub fn number(self) -> u8 {
+    pub fn number(self) -> u8
+        ensures { result ≡ exit_number self }
+    {
         match self {
             Status::Holds => 0,
             Status::BadWords => 2,
