@@ -2,3 +2,8 @@ mod KindLoop
 mod Blocks
 mod Said
 mod SaidLines
+mod SaidAgain
+mod Following
+mod Taken
+mod HeadFound
+mod TestLaws

@@ -18,11 +18,11 @@ use Rattle.find_grammar.specs.Names.{number_of}
 use Rattle.find_reading.specs.declared.slot.Slot.{Slot}
 use Rattle.find_reading.specs.declared.slot.Slot.TheVariants as slot
 use Rattle.find_reading.specs.declared.kind.LineKind.{LineKind}
-use Rattle.find_reading.specs.declared.draft.Draft.{Draft}
+use Rattle.find_reading.specs.Told.{Told}
 use Rattle.find_reading.specs.Names.{is_name}
-use Rattle.find_reading.specs.Lines.{as_small, as_large, as_root, as_number, as_index, fresh_in, names_beside, value_in, with_rest, without_word, take_value, with_first, then_values, values_in}
+use Rattle.find_reading.specs.Lines.{as_small, as_large, as_root, as_number, as_index, names_beside, value_in, with_rest, without_word, take_value, with_first, then_values, values_in}
 use Rattle.find_reading.specs.WordsSaid.{ranged, number_between, number_wanted, as_wanted, wanted_in}
-use Rattle.find_reading.specs.Spelling.{wanted_word, Says, AreSaid}
+use Rattle.find_reading.specs.Spelling.{wanted_word, FitsWhenWanted, Says, AreSaid}
 
 same_ok : {A : Type 0} (x y : A) → ◌≡◌ {A = Result A TestWhy} (Ok x) (Ok y) → x ≡ y
 same_ok x y e = cc
@@ -47,20 +47,20 @@ number_said least most n w small e = by_tests (is_plain_number w) (ltb (digits_v
 
 -- the value is what a reply is asked to be, and the word is its
 abbrev IsReply : List ℕ → Value → Type 0
-IsReply w v = (x : Wanted) × (v ≡ value.Wanted x) × (w ≡ wanted_word x)
+IsReply w v = (x : Wanted) × (v ≡ value.Wanted x) × (w ≡ wanted_word x) × FitsWhenWanted x
 
-one_reply : (w name : List ℕ) (x : Wanted) (other : Result Value TestWhy) (v : Value) → name ≡ wanted_word x → cond (is_same w name) (Ok (value.Wanted x)) other ≡ Ok v → (other ≡ Ok v → IsReply w v) → IsReply w v
-one_reply w name x other v spelled e others = by_test (is_same w name) refl e
+one_reply : (w name : List ℕ) (x : Wanted) (other : Result Value TestWhy) (v : Value) → name ≡ wanted_word x → FitsWhenWanted x → cond (is_same w name) (Ok (value.Wanted x)) other ≡ Ok v → (other ≡ Ok v → IsReply w v) → IsReply w v
+one_reply w name x other v spelled fits e others = by_test (is_same w name) refl e
   where
     by_test : (test : Bool) → is_same w name ≡ test → cond test (Ok (value.Wanted x)) other ≡ Ok v → IsReply w v
-    by_test true same e = (x, sym (same_ok _ _ e), same_text w name (sym same) ∙ spelled)
+    by_test true same e = (x, sym (same_ok _ _ e), same_text w name (sym same) ∙ spelled, fits)
     by_test false same e = others e
 
 number_reply : (w : List ℕ) (v : Value) → number_wanted w ≡ Ok v → IsReply w v
 number_reply w v e = by_test (is_plain_number w) e
   where
     by_number : (r : Result ℕ TestWhy) → number_between 0 18446744073709551615 w ≡ r → as_wanted r ≡ Ok v → IsReply w v
-    by_number (Ok n) is e = (wanted.Number n, sym (same_ok _ _ e), (number_said 0 18446744073709551615 n w (omega arith) is).0)
+    by_number (Ok n) is e = let said = number_said 0 18446744073709551615 n w (omega arith) is in (wanted.Number n, sym (same_ok _ _ e), said.0, omega (arith, said.2))
     by_number (Err why) is e = absurd cc
 
     by_test : (test : Bool) → cond test (as_wanted (number_between 0 18446744073709551615 w)) (Err why.Reply) ≡ Ok v → IsReply w v
@@ -70,13 +70,13 @@ number_reply w v e = by_test (is_plain_number w) e
 pub reply_said : (w : List ℕ) (v : Value) → wanted_in w ≡ Ok v → IsReply w v
 unfolding wanted_in
 reply_said w v e =
-    one_reply w (codes "yes") wanted.Yes _ v refl e (λ e.
-    one_reply w (codes "no") wanted.No _ v refl e (λ e.
-    one_reply w (codes "null") wanted.Null _ v refl e (λ e.
-    one_reply w (codes "object") wanted.Object _ v refl e (λ e.
-    one_reply w (codes "ok") wanted.Ok _ v refl e (λ e.
-    one_reply w (codes "full") wanted.Full _ v refl e (λ e.
-    one_reply w (codes "bad") wanted.Bad _ v refl e (λ e. number_reply w v e)))))))
+    one_reply w (codes "yes") wanted.Yes _ v refl tt e (λ e.
+    one_reply w (codes "no") wanted.No _ v refl tt e (λ e.
+    one_reply w (codes "null") wanted.Null _ v refl tt e (λ e.
+    one_reply w (codes "object") wanted.Object _ v refl tt e (λ e.
+    one_reply w (codes "ok") wanted.Ok _ v refl tt e (λ e.
+    one_reply w (codes "full") wanted.Full _ v refl tt e (λ e.
+    one_reply w (codes "bad") wanted.Bad _ v refl tt e (λ e. number_reply w v e)))))))
 
 -- ---- values
 
@@ -86,7 +86,7 @@ is_small_slot (slot.Small most) = ltb most 18446744073709551616
 is_small_slot (slot.Large least most) = ltb most 18446744073709551616
 is_small_slot _ = true
 
-pub value_said : (d : Draft) (k : LineKind) (s : Slot) (w : List ℕ) (v : Value) → is_small_slot s ≡ true → value_in d k s w ≡ Ok v → Says d k s v w
+pub value_said : (d : Told) (k : LineKind) (s : Slot) (w : List ℕ) (v : Value) → is_small_slot s ≡ true → value_in d k s w ≡ Ok v → Says d k s v w
 unfolding value_in
 value_said d k slot.Nothing w v small e = absurd cc
 value_said d k (slot.Small most) w v small e = by_number (number_between 0 most w) refl e
@@ -101,12 +101,12 @@ value_said d k (slot.Large least most) w v small e = by_number (number_between l
     by_number (Err why) is e = absurd cc
 value_said d k slot.Root w v small e = by_number (number_of d.roots w) refl e
   where
-    by_test : (n : ℕ) (test : Bool) → number_of d.roots w ≡ Some n → cond test (Ok (value.Small n)) (Err why.Name) ≡ Ok v → Says d k slot.Root v w
-    by_test n true is e = subst (λ (u : Value). Says d k slot.Root u w) (same_ok _ _ e) is
-    by_test n false is e = absurd cc
+    by_test : (n : ℕ) (test : Bool) → ltb n 16 ≡ test → number_of d.roots w ≡ Some n → cond test (Ok (value.Small n)) (Err why.Name) ≡ Ok v → Says d k slot.Root v w
+    by_test n true small is e = subst (λ (u : Value). Says d k slot.Root u w) (same_ok _ _ e) (is, omega (arith, ltb-true n 16 small))
+    by_test n false small is e = absurd cc
 
     by_number : (o : Option ℕ) → number_of d.roots w ≡ o → as_root o ≡ Ok v → Says d k slot.Root v w
-    by_number (Some n) is e = by_test n (ltb n 4294967296) is e
+    by_number (Some n) is e = by_test n (ltb n 16) refl is e
     by_number None is e = absurd cc
 value_said d k slot.Note w v small e = by_number (number_of d.notes w) refl e
   where
@@ -120,7 +120,7 @@ value_said d k slot.Place w v small e = by_number (number_of d.place_names w) re
     by_number None is e = absurd cc
 value_said d k slot.Wanted w v small e =
     let said = reply_said w v e in
-    subst (λ (u : Value). Says d k slot.Wanted u w) (sym said.1) said.2
+    subst (λ (u : Value). Says d k slot.Wanted u w) (sym said.1) (said.2, said.3)
 value_said d k slot.Fresh w v small e = by_tests (is_name w) (number_of (names_beside d k) w) refl refl e
   where
     by_tests : (name : Bool) (number : Option ℕ) → is_name w ≡ name → number_of (names_beside d k) w ≡ number → cond (name && is_none number) (Ok value.Nothing) (Err why.Fresh) ≡ Ok v → Says d k slot.Fresh v w
@@ -142,7 +142,7 @@ nothing_said : (s : Slot) (v : Value) → without_word s ≡ Ok v → (s ≡ slo
 nothing_said slot.Nothing v e = (refl, sym (same_ok _ _ e))
 nothing_said _ v e = absurd cc
 
-pub values_said : (d : Draft) (k : LineKind) (ss : List Slot) (ws : List (List ℕ)) (vs : List Value) → are_small ss ≡ true → values_in d k ss ws ≡ Ok vs → AreSaid d k ss vs ws
+pub values_said : (d : Told) (k : LineKind) (ss : List Slot) (ws : List (List ℕ)) (vs : List Value) → are_small ss ≡ true → values_in d k ss ws ≡ Ok vs → AreSaid d k ss vs ws
 unfolding values_in take_value
 values_said d k [] [] vs small e = subst (λ (us : List Value). AreSaid d k [] us []) (same_ok [] vs e) tt
 values_said d k [] (w ∷ ws) vs small e = absurd cc

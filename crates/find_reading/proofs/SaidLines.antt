@@ -10,18 +10,18 @@ use Rattle.find_reading.specs.declared.fault.TestWhy.TheVariants as why
 use Rattle.find_reading.specs.declared.slot.Value.{Value}
 use Rattle.find_reading.specs.declared.kind.LineKind.{LineKind}
 use Rattle.find_reading.specs.declared.kind.LineKind.TheVariants as line
-use Rattle.find_reading.specs.declared.draft.Draft.{Draft}
+use Rattle.find_reading.specs.Told.{Told}
 use Rattle.find_reading.specs.Kinds.{line_word, command_slots, line_slots, line_kinds, kind_of_word}
 use Rattle.find_reading.specs.Drafts.{allows}
-use Rattle.find_reading.specs.Lines.{values_in, of_kind, words_behind, words_of, line_in}
-use Rattle.find_reading.specs.Spelling.{AreSaid, IsLineSaid}
+use Rattle.find_reading.specs.Lines.{values_in, of_kind, words_of, line_in}
+use Rattle.find_reading.specs.Spelling.{IsLineSaid}
 use Rattle.find_reading.proofs.Said.{are_small, values_said}
 
 command_small : (k : CommandKind) → are_small (command_slots k) ≡ true
 command_small New = refl
 command_small _ = refl
 
-line_small : (k : LineKind) → are_small (line_slots k) ≡ true
+pub line_small : (k : LineKind) → are_small (line_slots k) ≡ true
 line_small (line.Command k) = command_small k
 line_small _ = refl
 
@@ -37,7 +37,7 @@ kind_spelled (x ∷ ks) w k e = by_test (is_same w (line_word x)) refl (kind_spe
 same_pair : (x y : LineKind × List Value) → ◌≡◌ {A = Result (LineKind × List Value) TestWhy} (Ok x) (Ok y) → x ≡ y
 same_pair x y e = cc
 
-pub line_said : (d : Draft) (ws : List (List ℕ)) (k : LineKind) (vs : List Value) → line_in d ws ≡ Ok (k, vs) → IsLineSaid d ws k vs
+pub line_said : (d : Told) (ws : List (List ℕ)) (k : LineKind) (vs : List Value) → line_in d ws ≡ Ok (k, vs) → IsLineSaid d ws k vs
 line_said d [] k vs e = absurd cc
 line_said d (w ∷ ws) k vs e = by_kind (kind_of_word line_kinds w) refl e
   where

@@ -1,7 +1,10 @@
 pub mod WordsSaid
 pub mod Kinds
 pub mod Names
+pub mod Told
 pub mod Lines
 pub mod Drafts
 pub mod TestFaults
 pub mod Spelling
+pub mod Added
+pub mod Tests

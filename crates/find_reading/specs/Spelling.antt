@@ -1,5 +1,5 @@
 -- How the words of a line are spelled.
-use Rattle.std.specs.Prelude.{ℕ, ◌≡◌, ◌≤◌, true, List, [], ◌∷◌, codes, Some, None}
+use Rattle.std.specs.Prelude.{ℕ, ◌≡◌, ◌^◌, ◌<◌, ◌≤◌, true, List, [], ◌∷◌, codes, Some, None}
 use Rattle.std.specs.Fmt.{decimal}
 use Rattle.find_grammar.specs.declared.wanted.Wanted.{Wanted}
 use Rattle.find_grammar.specs.declared.wanted.Wanted.TheVariants as wanted
@@ -8,7 +8,7 @@ use Rattle.find_reading.specs.declared.slot.Slot.{Slot}
 use Rattle.find_reading.specs.declared.slot.Slot.TheVariants as slot
 use Rattle.find_reading.specs.declared.slot.Value.{Value}
 use Rattle.find_reading.specs.declared.slot.Value.TheVariants as value
-use Rattle.find_reading.specs.declared.draft.Draft.{Draft}
+use Rattle.find_reading.specs.Told.{Told}
 use Rattle.find_reading.specs.declared.kind.LineKind.{LineKind}
 use Rattle.find_reading.specs.Names.{is_name}
 use Rattle.find_reading.specs.Kinds.{line_word, line_slots}
@@ -26,26 +26,31 @@ wanted_word wanted.Full = codes "full"
 wanted_word wanted.Bad = codes "bad"
 wanted_word (wanted.Number n) = decimal n
 
+-- a number that a reply is to be fits 64 bits
+abbrev pub FitsWhenWanted : Wanted → Type 0
+FitsWhenWanted (wanted.Number n) = n < 2 ^ 64
+FitsWhenWanted _ = Unit {0}
+
 -- Where this is to stand, that is said by the word: a number in its range, the number of the first name that the word is,
 -- what a reply is asked to be; or the word is a name that none of the names has, beside which a line of this kind puts it.
-abbrev pub Says : Draft → LineKind → Slot → Value → List ℕ → Type 0
+abbrev pub Says : Told → LineKind → Slot → Value → List ℕ → Type 0
 Says d k (slot.Small most) (value.Small n) w = (w ≡ decimal n) × (n ≤ most)
 Says d k (slot.Large least most) (value.Large n) w = (w ≡ decimal n) × (least ≤ n) × (n ≤ most)
-Says d k slot.Root (value.Small n) w = number_of d.roots w ≡ Some n
+Says d k slot.Root (value.Small n) w = (number_of d.roots w ≡ Some n) × (n ≤ 15)
 Says d k slot.Note (value.Index n) w = number_of d.notes w ≡ Some n
 Says d k slot.Place (value.Index n) w = number_of d.place_names w ≡ Some n
-Says d k slot.Wanted (value.Wanted x) w = w ≡ wanted_word x
+Says d k slot.Wanted (value.Wanted x) w = (w ≡ wanted_word x) × FitsWhenWanted x
 Says d k slot.Fresh value.Nothing w = (is_name w ≡ true) × (number_of (names_beside d k) w ≡ None)
 Says d k _ _ w = ⊥
 
 -- that is said by these words, one for each value, and none where nothing is to stand
-abbrev pub AreSaid : Draft → LineKind → List Slot → List Value → List (List ℕ) → Type 0
+abbrev pub AreSaid : Told → LineKind → List Slot → List Value → List (List ℕ) → Type 0
 AreSaid d k [] [] [] = Unit {0}
 AreSaid d k (s ∷ ss) (v ∷ vs) [] = (s ≡ slot.Nothing) × (v ≡ value.Nothing) × AreSaid d k ss vs []
 AreSaid d k (s ∷ ss) (v ∷ vs) (w ∷ ws) = Says d k s v w × AreSaid d k ss vs ws
 AreSaid d k _ _ _ = ⊥
 
 -- a line of these words: the word of its kind, and then words that say its values; and such a line may stand there
-abbrev pub IsLineSaid : Draft → List (List ℕ) → LineKind → List Value → Type 0
+abbrev pub IsLineSaid : Told → List (List ℕ) → LineKind → List Value → Type 0
 IsLineSaid d [] k vs = ⊥
 IsLineSaid d (w ∷ ws) k vs = (w ≡ line_word k) × (allows d k ≡ true) × AreSaid d k (line_slots k) vs ws

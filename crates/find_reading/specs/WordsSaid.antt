@@ -1,8 +1,6 @@
 -- What a word says by itself.
-use Rattle.std.specs.Prelude.{ℕ, ◌^◌, ◌==◌, Bool, true, false, ◌&&◌, List, [], ◌∷◌, codes, length, nat_lt, slice_index, if◌then◌else◌, Result, Ok, Err}
-use Rattle.std.specs.List.{prefix_len}
+use Rattle.std.specs.Prelude.{ℕ, List, codes, nat_lt, if◌then◌else◌, Result, Ok, Err}
 use Rattle.std.specs.Str.Parse.{digits_value}
-use Rattle.find_grammar.specs.declared.wanted.Wanted.{Wanted}
 use Rattle.find_grammar.specs.declared.wanted.Wanted.TheVariants as wanted
 use Rattle.trace_grammar.specs.declared.why.Why.TheVariants as cause
 use Rattle.trace_refusals.specs.Causes.{is_same, is_plain_number}

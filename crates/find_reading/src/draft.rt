@@ -1,5 +1,6 @@
 //! What the lines so far say.
 ghost use Rattle.std.specs.Prelude.{◌≡◌};
+ghost use Rattle.find_reading.specs.Told.{told_in};
 ghost use Rattle.find_reading.specs.Drafts.{is_in_thread, has_all_threads, may_begin_thread, is_loop, has_loop, innermost, is_then, allows};
 
 use crate::kind::LineKind;
@@ -68,21 +69,21 @@ fn is_then(block: Option<Block>) -> bool
 impl Draft {
     /// Whether a thread has begun, and nothing is claimed yet.
     fn is_within(&self) -> bool
-        ensures { result ≡ is_in_thread self.now }
+        ensures { result ≡ is_in_thread (told_in self.now) }
     {
         !self.programs.is_empty() && self.claims.is_empty()
     }
 
     /// Whether all threads have begun, no block is open, and the bounds are given.
     pub(crate) fn is_whole(&self) -> bool
-        ensures { result ≡ has_all_threads self.now }
+        ensures { result ≡ has_all_threads (told_in self.now) }
     {
         self.programs.len() == self.threads && self.open.is_empty() && self.bounds.is_some()
     }
 
     /// The block that began last, of those that are open.
     fn innermost(&self) -> Option<Block>
-        ensures { result ≡ innermost self.now }
+        ensures { result ≡ innermost (told_in self.now) }
     {
         let count = self.open.len();
         if count == 0 {
@@ -94,7 +95,7 @@ impl Draft {
 
     /// Whether another thread may begin.
     fn may_begin(&self) -> bool
-        ensures { result ≡ may_begin_thread self.now }
+        ensures { result ≡ may_begin_thread (told_in self.now) }
     {
         self.bounds.is_some()
             && self.claims.is_empty()
@@ -104,7 +105,7 @@ impl Draft {
 
     /// Whether a line of this kind may stand next.
     pub(crate) fn allows(&self, kind: LineKind) -> bool
-        ensures { result ≡ allows self.now kind }
+        ensures { result ≡ allows (told_in self.now) kind }
     {
         match kind {
             LineKind::Bounds => self.bounds.is_none(),

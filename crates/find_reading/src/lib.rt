@@ -13,6 +13,6 @@ mod words;
 
 pub use fault::{TestFault, TestWhy};
 pub use kind::LineKind;
-pub use laws::lines_are_of_their_words;
+pub use laws::{bytes_are_a_test_or_refused, lines_are_of_their_words, tests_are_read_once};
 pub use read::{read_test, test_of};
 pub use slot::{Slot, Value};

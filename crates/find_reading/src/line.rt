@@ -1,10 +1,12 @@
 //! What a line says.
-ghost use Rattle.std.specs.Prelude.{◌≡◌, ◌∷◌, [], IfOk, IfErr, Ok, Err};
+ghost use Rattle.std.specs.Prelude.{◌≡◌, ◌∷◌, [], slice_index_or, IfOk, IfErr, Ok, Err};
 ghost use Rattle.std.specs.Result.{result_map_both};
 ghost use Rattle.trace_refusals.specs.Causes.{parts, parts_behind};
 ghost use Rattle.find_grammar.specs.Names.{number_of};
+ghost use Rattle.find_reading.specs.Told.{told_in};
 ghost use Rattle.find_reading.specs.Kinds.{line_kinds, line_slots, kind_of_word};
 ghost use Rattle.find_reading.specs.Lines.{as_root, as_number, fresh_in, without_word, value_in, take_value, values_in, words_behind, line_in};
+ghost use Rattle.find_reading.specs.Tests.{name_among};
 
 use crate::draft::Draft;
 use crate::fault::TestWhy;
@@ -48,7 +50,7 @@ fn root_in(names: &Names, word: &[u8]) -> Result<Value, TestWhy>
     ensures { result ≡ as_root (number_of names.now word.now) }
 {
     match names.find(word) {
-        Some(number) if number < 4_294_967_296 => Ok(Value::Small(number as u32)),
+        Some(number) if number < 16 => Ok(Value::Small(number as u32)),
         _ => Err(TestWhy::Name),
     }
 }
@@ -67,7 +69,7 @@ fn fresh_in(names: &Names, word: &[u8]) -> Result<Value, TestWhy>
 /// What a word says where this is to stand.
 #[tactic(auto, unfolding(crate::specs::Lines::value_in))]
 fn value_in(draft: &Draft, kind: LineKind, slot: Slot, word: &[u8]) -> Result<Value, TestWhy>
-    ensures { result ≡ value_in draft.now kind slot word.now }
+    ensures { result ≡ value_in (told_in draft.now) kind slot word.now }
 {
     match slot {
         Slot::Nothing => Err(TestWhy::Line),
@@ -115,7 +117,7 @@ fn take_value<'a>(
     slot: Slot,
     words: &'a [u8],
 ) -> Result<(Value, &'a [u8]), TestWhy>
-    ensures { result_map_both (λ x. (x.0, parts_behind 32 x.1.now)) (λ e. e) result ≡ take_value draft.now kind slot (parts_behind 32 words.now) }
+    ensures { result_map_both (λ x. (x.0, parts_behind 32 x.1.now)) (λ e. e) result ≡ take_value (told_in draft.now) kind slot (parts_behind 32 words.now) }
 {
     match next_word(words) {
         None => match without_word(slot) {
@@ -132,7 +134,7 @@ fn take_value<'a>(
 /// What the words behind the first say.
 #[tactic(auto, unfolding(crate::specs::Lines::values_in))]
 fn values_in(draft: &Draft, kind: LineKind, words: &[u8]) -> Result<[Value; 4], TestWhy>
-    ensures { result ≡ values_in draft.now kind (line_slots kind) (parts_behind 32 words.now) }
+    ensures { result ≡ values_in (told_in draft.now) kind (line_slots kind) (parts_behind 32 words.now) }
 {
     let [a, b, c, d] = kind.slots();
     let (first, words) = take_value(draft, kind, a, words)?;
@@ -145,20 +147,28 @@ fn values_in(draft: &Draft, kind: LineKind, words: &[u8]) -> Result<[Value; 4], 
     }
 }
 
+/// The word behind the first, if there is one.
+fn name_in(words: &[u8]) -> &[u8]
+    ensures { result.now ≡ slice_index_or (parts_behind 32 words.now) 0 [] }
+{
+    match next_word(words) {
+        Some((name, _)) => name,
+        None => &[],
+    }
+}
+
 /// What the words behind the first say in a line of this kind.
 fn words_in<'a>(draft: &Draft, kind: LineKind, words: &'a [u8]) -> Result<Line<'a>, TestWhy>
-    ensures ok { IfOk result (λ l. words_behind draft.now kind (parts_behind 32 words.now) ≡ Ok (l.kind, l.values)) }
-    ensures err { IfErr result (λ why. words_behind draft.now kind (parts_behind 32 words.now) ≡ Err why) }
+    ensures ok { IfOk result (λ l. words_behind (told_in draft.now) kind (parts_behind 32 words.now) ≡ Ok (l.kind, l.values)) }
+    ensures name { IfOk result (λ l. l.name.now ≡ slice_index_or (parts_behind 32 words.now) 0 []) }
+    ensures err { IfErr result (λ why. words_behind (told_in draft.now) kind (parts_behind 32 words.now) ≡ Err why) }
 {
     if !draft.allows(kind) {
         return Err(TestWhy::Place);
     }
     match values_in(draft, kind, words) {
         Ok(values) => {
-            let name = match next_word(words) {
-                Some((name, _)) => name,
-                None => &[],
-            };
+            let name = name_in(words);
             Ok(Line { kind, values, name })
         }
         Err(why) => Err(why),
@@ -167,8 +177,9 @@ fn words_in<'a>(draft: &Draft, kind: LineKind, words: &'a [u8]) -> Result<Line<'
 
 /// What a line says behind the lines of a draft; or the first cause for which it is refused.
 pub(crate) fn line_in<'a>(draft: &Draft, text: &'a [u8]) -> Result<Line<'a>, TestWhy>
-    ensures ok { IfOk result (λ l. line_in draft.now (parts 32 text.now) ≡ Ok (l.kind, l.values)) }
-    ensures err { IfErr result (λ why. line_in draft.now (parts 32 text.now) ≡ Err why) }
+    ensures ok { IfOk result (λ l. line_in (told_in draft.now) (parts 32 text.now) ≡ Ok (l.kind, l.values)) }
+    ensures name { IfOk result (λ l. l.name.now ≡ name_among (parts 32 text.now)) }
+    ensures err { IfErr result (λ why. line_in (told_in draft.now) (parts 32 text.now) ≡ Err why) }
 {
     let (word, words) = cut(b' ', text);
     match kind_among(&KINDS, word) {

@@ -1,18 +1,22 @@
 //! What a line adds to a draft.
-ghost use Rattle.std.specs.Prelude.{◌≡◌, IfOk};
+ghost use Rattle.std.specs.Prelude.{◌≡◌, ◌∷◌, [], codes, length, IfOk, OnOk};
+ghost use Rattle.find_reading.specs.Told.{told_in, untold};
+ghost use Rattle.find_reading.specs.Added.{command_said, claim_said, last_program, does, with_block, without_block, claiming, placing, stated, added};
+ghost use Rattle.find_reading.specs.Drafts.{innermost};
 
 use crate::draft::{Block, Draft};
-use crate::fault::TestFault;
 use crate::kind::LineKind;
 use crate::line::Line;
 use crate::slot::Value;
-use find_grammar::{Bounds, Claim, Names, Place, Program, Statement};
+use find_grammar::{Bounds, Claim, Names, Place, Program, Statement, Wanted};
 use shen_graph::{Command, NoMemory};
 use std::alloc::Global;
 use trace_grammar::CommandKind;
 
 /// The command of a kind, of roots, small numbers and a large one.
-fn command_of(kind: CommandKind, values: [Value; 4]) -> Command {
+fn command_of(kind: CommandKind, values: [Value; 4]) -> Command
+    ensures { result ≡ command_said kind values }
+{
     let [first, second, third, fourth] = values;
     let (a, b, c, d) = (first.small(), second.small(), third.small(), fourth.small());
     match kind {
@@ -57,7 +61,9 @@ fn command_of(kind: CommandKind, values: [Value; 4]) -> Command {
 }
 
 /// What a line of a fact claims.
-fn claim_of(kind: LineKind, values: [Value; 4]) -> Claim {
+fn claim_of(kind: LineKind, values: [Value; 4]) -> Claim
+    ensures { result ≡ claim_said kind values }
+{
     let [first, second, third, _] = values;
     match kind {
         LineKind::Assert => Claim::Assert,
@@ -106,7 +112,9 @@ fn claim_of(kind: LineKind, values: [Value; 4]) -> Claim {
 }
 
 /// The names of the roots of a thread, or of the places, before a line gives one.
-pub(crate) fn hub_alone(alloc: Global) -> Result<Names, NoMemory> {
+pub(crate) fn hub_alone(alloc: Global) -> Result<Names, NoMemory>
+    ensures { IfOk result (λ names. names ≡ codes "hub" ∷ []) }
+{
     let mut names = Names::open(alloc);
     names.push(alloc, b"hub")?;
     Ok(names)
@@ -115,7 +123,7 @@ pub(crate) fn hub_alone(alloc: Global) -> Result<Names, NoMemory> {
 impl Draft {
     /// A draft of no line, for so many threads.
     pub(crate) fn open(alloc: Global, threads: usize) -> Result<Draft, NoMemory>
-        ensures { IfOk result (λ draft. draft.threads ≡ threads) }
+        ensures { IfOk result (λ draft. told_in draft ≡ untold threads) }
     {
         Ok(Draft {
             threads,
@@ -131,7 +139,9 @@ impl Draft {
     }
 
     /// How many statements the thread has that began last.
-    fn count(&self) -> usize {
+    fn count(&self) -> usize
+        ensures { result ≡ length (last_program (told_in self.now)) }
+    {
         match self.programs.as_slice() {
             [.., program] => program.list().len(),
             [] => 0,
@@ -140,7 +150,7 @@ impl Draft {
 
     /// Adds a statement to the thread that began last.
     fn add(&mut self, statement: Statement) -> Result<(), NoMemory>
-        ensures { self.new.threads ≡ self.old.threads }
+        ensures { OnOk result (told_in self.new ≡ does (told_in self.old) statement) }
     {
         let count = self.programs.len();
         if count > 0 {
@@ -151,56 +161,104 @@ impl Draft {
 
     /// Begins another thread.
     fn begin(&mut self, alloc: Global) -> Result<(), NoMemory>
-        ensures { self.new.threads ≡ self.old.threads }
+        ensures { OnOk result (told_in self.new ≡ added (told_in self.old) LineKind.Thread [] []) }
     {
         self.roots = hub_alone(alloc)?;
         self.programs.push(Program::open(alloc))?;
         Ok(())
     }
 
+    /// Begins a block.
+    fn open_block(&mut self, block: Block) -> Result<(), NoMemory>
+        ensures { OnOk result (told_in self.new ≡ with_block (told_in self.old) block) }
+    {
+        self.open.push(block)?;
+        Ok(())
+    }
+
+    /// Takes the innermost block away, if there is one.
+    fn close_block(&mut self) -> Option<Block>
+        ensures block { result ≡ innermost (told_in self.old) }
+        ensures blocks { told_in self.new ≡ without_block (told_in self.old) }
+    {
+        self.open.pop()
+    }
+
     /// Ends the innermost block.
     fn end(&mut self) -> Result<(), NoMemory>
-        ensures { self.new.threads ≡ self.old.threads }
+        ensures { OnOk result (told_in self.new ≡ stated (told_in self.old) LineKind.End []) }
     {
-        match self.open.pop() {
+        match self.close_block() {
             Some(Block::Loop(first)) => self.add(Statement::Again { first }),
             _ => self.add(Statement::End),
         }
     }
 
-    /// Adds what a line of a program says.
+    /// Begins a loop behind what the program has.
+    fn begin_loop(&mut self) -> Result<(), NoMemory>
+        ensures { OnOk result (told_in self.new ≡ stated (told_in self.old) LineKind.Loop []) }
+    {
+        self.add(Statement::Loop)?;
+        let block = Block::Loop(self.count());
+        self.open_block(block)
+    }
+
+    /// Begins an `if`.
+    fn begin_if(&mut self, wanted: Wanted) -> Result<(), NoMemory>
+        ensures { OnOk result (told_in self.new ≡ with_block (does (told_in self.old) (Statement.If wanted)) Block.Then) }
+    {
+        self.add(Statement::If(wanted))?;
+        self.open_block(Block::Then)
+    }
+
+    /// Goes over to the other part of an `if`.
+    fn begin_else(&mut self) -> Result<(), NoMemory>
+        ensures { OnOk result (told_in self.new ≡ stated (told_in self.old) LineKind.Else []) }
+    {
+        self.add(Statement::Else)?;
+        self.close_block();
+        self.open_block(Block::Else)
+    }
+
+    /// Adds a line of what is claimed.
+    fn claim(&mut self, claim: Claim) -> Result<(), NoMemory>
+        ensures { OnOk result (told_in self.new ≡ claiming (told_in self.old) claim) }
+    {
+        self.claims.push(claim)?;
+        Ok(())
+    }
+
+    /// Adds what a line of a program, or of what is claimed, says.
     fn take_statement(&mut self, kind: LineKind, values: [Value; 4]) -> Result<(), NoMemory>
-        ensures { self.new.threads ≡ self.old.threads }
+        ensures { OnOk result (told_in self.new ≡ stated (told_in self.old) kind values) }
     {
         let first = values[0];
         match kind {
-            LineKind::Command(command) => self.add(Statement::Run(command_of(command, values)))?,
+            LineKind::Command(command) => self.add(Statement::Run(command_of(command, values))),
             LineKind::Keep => self.add(Statement::Keep {
                 note: first.index(),
-            })?,
-            LineKind::Until => self.add(Statement::Until(first.wanted()))?,
-            LineKind::Loop => {
-                self.add(Statement::Loop)?;
-                let block = Block::Loop(self.count());
-                self.open.push(block)?;
-            }
-            LineKind::If => {
-                self.add(Statement::If(first.wanted()))?;
-                self.open.push(Block::Then)?;
-            }
-            LineKind::Else => {
-                self.add(Statement::Else)?;
-                self.open.pop();
-                self.open.push(Block::Else)?;
-            }
-            _ => self.end()?,
+            }),
+            LineKind::Loop => self.begin_loop(),
+            LineKind::Until => self.add(Statement::Until(first.wanted())),
+            LineKind::If => self.begin_if(first.wanted()),
+            LineKind::Else => self.begin_else(),
+            LineKind::End => self.end(),
+            _ => self.claim(claim_of(kind, values)),
         }
+    }
+
+    /// Gives a place its name, and says where it is.
+    fn add_place(&mut self, alloc: Global, name: &[u8], place: Place) -> Result<(), NoMemory>
+        ensures { OnOk result (told_in self.new ≡ placing (told_in self.old) name.now place) }
+    {
+        self.place_names.push(alloc, name)?;
+        self.places.push(place)?;
         Ok(())
     }
 
     /// Adds what a line says.
     pub(crate) fn take(&mut self, alloc: Global, line: Line) -> Result<(), NoMemory>
-        ensures { self.new.threads ≡ self.old.threads }
+        ensures { OnOk result (told_in self.new ≡ added (told_in self.old) line.entry.kind line.entry.values line.entry.name.now) }
     {
         let [first, second, third, _] = line.values;
         match line.kind {
@@ -210,26 +268,19 @@ impl Draft {
                     steps: second.large(),
                     returns: third.large(),
                 });
+                Ok(())
             }
-            LineKind::Note => self.notes.push(alloc, line.name)?,
-            LineKind::Root => self.roots.push(alloc, line.name)?,
+            LineKind::Note => self.notes.push(alloc, line.name),
+            LineKind::Root => self.roots.push(alloc, line.name),
             LineKind::Place => {
-                self.place_names.push(alloc, line.name)?;
-                self.places.push(Place {
+                let place = Place {
                     from: second.index(),
                     field: third.small(),
-                })?;
+                };
+                self.add_place(alloc, line.name, place)
             }
-            LineKind::Thread => self.begin(alloc)?,
-            LineKind::Command(_)
-            | LineKind::Keep
-            | LineKind::Loop
-            | LineKind::Until
-            | LineKind::If
-            | LineKind::Else
-            | LineKind::End => self.take_statement(line.kind, line.values)?,
-            _ => self.claims.push(claim_of(line.kind, line.values))?,
+            LineKind::Thread => self.begin(alloc),
+            _ => self.take_statement(line.kind, line.values),
         }
-        Ok(())
     }
 }

@@ -1,5 +1,5 @@
 //! Reading a test.
-ghost use Rattle.std.specs.Prelude.{◌≡◌, ◌≢◌, ℕ, ◌+◌, ◌≤◌, List, ◌++◌, Err, length, vec_len, take, IfSome, IfNone, IfOk, IfErr};
+ghost use Rattle.std.specs.Prelude.{◌≡◌, ◌≢◌, ℕ, ◌+◌, ◌≤◌, List, [], ◌++◌, Err, Some, length, vec_len, take, IfSome, IfNone, IfOk, OnOk, IfErr};
 ghost use Rattle.std.specs.Option.{option_map};
 ghost use Rattle.std.specs.Io.KnownBytes.{Consumes};
 ghost use Rattle.shen_base.specs.Count.{Rose};
@@ -9,22 +9,25 @@ ghost use Rattle.trace_grammar.specs.Spelling.{header};
 ghost use Rattle.trace_grammar.specs.Scanning.{sizes_at};
 ghost use Rattle.trace_grammar.specs.Grammar.{most_bytes, Came};
 ghost use Rattle.trace_grammar.specs.declared.why.Why.{Why as Cause};
+ghost use Rattle.trace_refusals.specs.Causes.{parts};
 ghost use Rattle.trace_refusals.specs.Refused.{StopsAt};
 ghost use Rattle.trace_reading.specs.Calls.{HasFewCalls};
 ghost use Rattle.find_reading.specs.declared.fault.TestWhy.{TestWhy as Said};
 ghost use Rattle.find_reading.specs.TestFaults.{IsLineFault, IsTraceRefusal};
+ghost use Rattle.find_reading.specs.Told.{told_in, untold};
+ghost use Rattle.find_reading.specs.Lines.{line_in};
+ghost use Rattle.find_reading.specs.Tests.{TestLineFollows, test_said, test_end_cause, LineStops, StopsBehind, HasToldLines, HasToldLine, IsWholeTest, IsTestBody, IsTest, RefusesTest};
 
 use crate::draft::Draft;
 use crate::fault::{TestFault, TestWhy};
 use crate::line::line_in;
-use crate::words::cut;
 use find_grammar::{Bounds, Test};
 use heap_words::Config;
 use shen_base::Source;
 use std::alloc::Global;
 use trace_grammar::{Why, numbers_at, text_at};
 use trace_reading::{TraceFault, all_bytes};
-use trace_refusals::head_refusal;
+use trace_refusals::{head_refusal, line_at};
 
 /// The numbers at the head of a test, and the bytes behind its three lines.
 #[tactic(auto, unfolding(trace_grammar::specs::Scanning::sizes_at))]
@@ -72,6 +75,21 @@ fn bad_head(bytes: &[u8]) -> TestFault
     }
 }
 
+/// Takes a line, which is line `line`, given without its end.
+fn take_text(alloc: Global, draft: &mut Draft, line: u64, text: &[u8]) -> Result<(), TestFault>
+    ensures ok { OnOk result (TestLineFollows (told_in draft.old) text.now (told_in draft.new)) }
+    ensures fault { IfErr result IsLineFault }
+    ensures bad_line { (n : ℕ) (why : Said) → result ≡ Err (TestFault.BadLine n why) → (n ≡ line) × (line_in (told_in draft.old) (parts 32 text.now) ≡ Err why) }
+{
+    match line_in(draft, text) {
+        Ok(read) => match draft.take(alloc, read) {
+            Ok(()) => Ok(()),
+            Err(_) => Err(TestFault::NoMemory),
+        },
+        Err(why) => Err(TestFault::BadLine { line, why }),
+    }
+}
+
 /// Takes the line at the front, which is line `line`, and returns the bytes behind it.
 fn take_line<'a>(
     alloc: Global,
@@ -79,29 +97,30 @@ fn take_line<'a>(
     line: u64,
     bytes: &'a [u8],
 ) -> Result<&'a [u8], TestFault>
+    requires { 1 ≤ length bytes.now }
     ensures shorter { IfOk result (λ rest. length rest.now + 1 ≤ length bytes.now) }
+    ensures ok { IfOk result (λ rest. HasToldLine (told_in draft.old) bytes.now rest.now (told_in draft.new)) }
     ensures fault { IfErr result IsLineFault }
-    ensures threads { draft.new.threads ≡ draft.old.threads }
+    ensures bad_line { (n : ℕ) (why : Said) → result ≡ Err (TestFault.BadLine n why) → (n ≡ line) × LineStops (told_in draft.old) (parts 10 bytes.now) why }
 {
-    let (text, end) = cut(b'\n', bytes);
-    let Some((_, rest)) = end.split_first() else {
-        let why = TestWhy::Trace(Why::EndOfLine);
-        return Err(TestFault::BadLine { line, why });
-    };
-    match line_in(draft, text) {
-        Ok(read) => match draft.take(alloc, read) {
-            Ok(()) => Ok(rest),
-            Err(_) => Err(TestFault::NoMemory),
-        },
-        Err(why) => Err(TestFault::BadLine { line, why }),
+    match line_at(bytes) {
+        Some((text, rest)) => {
+            take_text(alloc, draft, line, text)?;
+            Ok(rest)
+        }
+        None => {
+            let why = TestWhy::Trace(Why::EndOfLine);
+            Err(TestFault::BadLine { line, why })
+        }
     }
 }
 
 /// Takes all lines behind the head, the first of which is line 4, and returns the number of the line behind them.
 fn take_lines(alloc: Global, draft: &mut Draft, bytes: &[u8]) -> Result<u64, TestFault>
     requires { length bytes.now ≤ most_bytes }
+    ensures ok { IfOk result (λ line. HasToldLines (told_in draft.old) 4 bytes.now [] line (told_in draft.new)) }
     ensures fault { IfErr result IsLineFault }
-    ensures threads { draft.new.threads ≡ draft.old.threads }
+    ensures bad_line { (n : ℕ) (why : Said) → result ≡ Err (TestFault.BadLine n why) → StopsBehind (told_in draft.old) 4 bytes.now n why }
 {
     let mut rest = bytes;
     let mut line = 4;
@@ -114,8 +133,10 @@ fn take_lines(alloc: Global, draft: &mut Draft, bytes: &[u8]) -> Result<u64, Tes
 
 /// The test of a draft whose next line would be line `line`.
 fn finish(config: Config, draft: Draft, line: u64) -> Result<Test, TestFault>
+    ensures ok { IfOk result (λ test. IsWholeTest config (told_in draft) (test_said test)) }
     ensures config { IfOk result (λ test. test.config ≡ config) }
     ensures threads { IfOk result (λ test. vec_len test.programs ≡ draft.threads) }
+    ensures bad_line { (n : ℕ) (why : Said) → result ≡ Err (TestFault.BadLine n why) → (n ≡ line) × (test_end_cause (told_in draft) [] ≡ Some why) }
     ensures fault { IfErr result IsLineFault }
 {
     let whole = draft.is_whole();
@@ -137,8 +158,10 @@ fn finish(config: Config, draft: Draft, line: u64) -> Result<Test, TestFault>
 /// The test of this configuration whose lines behind the head these bytes are.
 fn body_of(alloc: Global, config: Config, bytes: &[u8]) -> Result<Test, TestFault>
     requires { length bytes.now ≤ most_bytes }
+    ensures ok { IfOk result (λ test. IsTestBody config bytes.now (test_said test)) }
     ensures config { IfOk result (λ test. test.config ≡ config) }
     ensures threads { IfOk result (λ test. vec_len test.programs ≡ config.mutators) }
+    ensures bad_line { (n : ℕ) (why : Said) → result ≡ Err (TestFault.BadLine n why) → StopsBehind (untold config.mutators) 4 bytes.now n why }
     ensures fault { IfErr result IsLineFault }
 {
     let Ok(mut draft) = Draft::open(alloc, config.mutators()) else {
@@ -151,6 +174,8 @@ fn body_of(alloc: Global, config: Config, bytes: &[u8]) -> Result<Test, TestFaul
 /// The test that these bytes spell; or the first line that is refused, or `NoMemory`.
 pub fn test_of(alloc: Global, bytes: &[u8]) -> Result<Test, TestFault>
     requires { length bytes.now ≤ most_bytes }
+    ensures ok { IfOk result (λ test. IsTest bytes.now (test_said test)) }
+    ensures refused { (n : ℕ) (why : Said) → result ≡ Err (TestFault.BadLine n why) → RefusesTest bytes.now n why }
     ensures head { IfOk result (λ test. (rest : List ℕ) × (bytes.now ≡ header test.config ++ rest)) }
     ensures threads { IfOk result (λ test. vec_len test.programs ≡ test.config.mutators) }
     ensures fault { IfErr result IsLineFault }
@@ -169,6 +194,11 @@ pub fn test_of(alloc: Global, bytes: &[u8]) -> Result<Test, TestFault>
 /// Reads a test. It reads to the end of the source, or until one byte more came than a test may have, and then looks at
 /// the lines.
 pub fn read_test<S: Source>(alloc: Global, source: &mut S) -> Result<Test, TestFault>
+    ensures ok { IfOk result (λ test. (bytes : List ℕ) × Came (S.left source.old) (S.left source.new) bytes × IsTest bytes (test_said test)) }
+
+    // The bytes came whole, and are refused at that line and for that cause.
+    ensures refused { (n : ℕ) (why : Said) → result ≡ Err (TestFault.BadLine n why) → (bytes : List ℕ) × Came (S.left source.old) (S.left source.new) bytes × RefusesTest bytes n why }
+
     ensures head { IfOk result (λ test. (bytes : List ℕ) × Came (S.left source.old) (S.left source.new) bytes × (rest : List ℕ) × (bytes ≡ header test.config ++ rest)) }
     ensures threads { IfOk result (λ test. vec_len test.programs ≡ test.config.mutators) }
 

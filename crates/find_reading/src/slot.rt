@@ -1,3 +1,6 @@
+ghost use Rattle.std.specs.Prelude.{◌≡◌};
+ghost use Rattle.find_reading.specs.Added.{small_said, large_said, index_said, wanted_said};
+
 use find_grammar::Wanted;
 
 /// What a word of a line is to be.
@@ -38,7 +41,9 @@ pub enum Value {
 
 impl Value {
     /// The small number, 0 for another value.
-    pub fn small(self) -> u32 {
+    pub fn small(self) -> u32
+        ensures { result ≡ small_said self }
+    {
         match self {
             Value::Small(number) => number,
             _ => 0,
@@ -46,7 +51,9 @@ impl Value {
     }
 
     /// The number, 0 for another value.
-    pub fn large(self) -> u64 {
+    pub fn large(self) -> u64
+        ensures { result ≡ large_said self }
+    {
         match self {
             Value::Large(number) => number,
             _ => 0,
@@ -54,7 +61,9 @@ impl Value {
     }
 
     /// The number of a note or of a place, 0 for another value.
-    pub fn index(self) -> usize {
+    pub fn index(self) -> usize
+        ensures { result ≡ index_said self }
+    {
         match self {
             Value::Index(number) => number,
             _ => 0,
@@ -62,7 +71,9 @@ impl Value {
     }
 
     /// What a reply is asked to be, a null reference for another value.
-    pub fn wanted(self) -> Wanted {
+    pub fn wanted(self) -> Wanted
+        ensures { result ≡ wanted_said self }
+    {
         match self {
             Value::Wanted(wanted) => wanted,
             _ => Wanted::Null,

@@ -1,4 +1,3 @@
-use Rattle.std.proofs.Common.{sym}
 use Rattle.find_reading.proofs.Blocks.{loop_found, loop_goes_on, loops_end}
 use Rattle.find_reading.proofs.draft.has_loop.Goals as goal
 

@@ -1,0 +1,14 @@
+use Rattle.std.proofs.Common.{◌≡◌, vec_len, ap, ◌∙◌}
+use Rattle.std.proofs.lemmas.Result.{IfOk-weaker}
+use Rattle.find_grammar.specs.declared.test.Test.{Test}
+use Rattle.find_reading.specs.Told.{Told, told_in}
+use Rattle.find_reading.proofs.Following.{threads_stay}
+use Rattle.find_reading.proofs.read.body_of.Goals as goal
+
+pub returns-clause-threads : goal.returns-clause-threads
+returns-clause-threads c =
+    let taken = c.in_ok-line.ensures.ok in
+    let stay = threads_stay (told_in c.in-Ok.draft) (told_in c.take_lines.new.draft) taken.lines taken.lead in
+    let first = ap (λ (d : Told). d.threads) c.in-Ok.ensures in
+    IfOk-weaker c.finish.result (λ (test : Test). vec_len test.programs ≡ c.take_lines.new.draft.threads) (λ (test : Test). vec_len test.programs ≡ c.args.config.mutators)
+    (λ test threads. threads ∙ stay ∙ first ∙ c.mutators.ensures) c.finish.ensures.threads
