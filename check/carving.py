@@ -1,6 +1,6 @@
 """Takings of room, walks and pauses of a heap, held to their rules through the events that `shensteps` lists.
 
-A heap is followed by its words alone. Each machine that takes room has to make the accesses of the step table, by the words that it
+A heap is followed by its words alone, through each step of a pause or through the words that it has changed. Each machine that takes room has to make the accesses of the step table, by the words that it
 has found; a unit has to step over words that only fill; the pieces of each region fill it from its base to its top; and a pause has to
 settle buffers or to let them go, and to leave the graph as it was.
 """
@@ -129,7 +129,9 @@ def raw(event, key):
 class Heap:
     """The words of a heap, and what its machines have taken."""
 
-    def __init__(self, head):
+    def __init__(self, head, is_whole):
+        # Where pauses are not listed step by step, others load these words before the listing says what they find.
+        self.is_whole, self.unlisted = is_whole, () if is_whole else ("pause", "answer")
         self.regions, self.region_words = head["regions"], head["region_words"]
         self.threads, self.reserve = head["threads"], head["reserve"]
         self.machines = head["threads"] + head["helpers"] + 1
@@ -139,9 +141,8 @@ class Heap:
         for thread in range(self.threads):
             self.words["root", thread, 0] = hub
         self.takings, self.wants, self.rooms, self.calls, self.units = {}, {}, {}, {}, {}
-        self.before = None
+        self.before, self.is_folded = None, False
         self.seen = {}
-        self.widest = 0
 
     def base(self, region):
         """The first address of a region."""
@@ -239,8 +240,8 @@ class Heap:
         place, verb, machine, word = event["at"], event["operation"], event["machine"], self.name(event)
         found = event["found"]["word"]
         self.seen[place] = self.seen.get(place, 0) + 1
-        if found != self.word(*word):
-            raise Broken(f"{word} has {self.word(*word)}, and {found} is found")
+        if word[0] not in self.unlisted:
+            self.hold_found(word, found)
         if "begins" in event:
             self.calls[machine] = event["begins"].split()
         self.taking(event, place, verb, machine, word)
@@ -252,8 +253,32 @@ class Heap:
         if place == "PL" and self.before is None:
             self.before = dict(self.words)
         if place == "P3":
-            self.hold_pause()
-            self.before = None
+            self.end_pause()
+
+    def hear(self, told):
+        """Takes an object of a listing. Behind the line of a pause come the words that it has changed."""
+        if told["kind"] == "change":
+            word = self.name(told)
+            self.hold_found(word, told["found"]["word"])
+            self.words[word] = told["value"]["word"]
+            return
+        if self.is_folded:
+            self.hold_regions()
+            self.end_pause()
+        if told["kind"] == "event":
+            self.take(told)
+        elif told["kind"] == "pause" and not self.is_whole:
+            self.before, self.is_folded = dict(self.words), True
+
+    def hold_found(self, word, found):
+        """Whether a word is found as it was left."""
+        if found != self.word(*word):
+            raise Broken(f"{word} has {self.word(*word)}, and {found} is found")
+
+    def end_pause(self):
+        """Behind the last word of a pause."""
+        self.hold_pause()
+        self.before, self.is_folded = None, False
 
     def taking(self, event, place, verb, machine, word):
         """What a machine does that takes room."""
@@ -417,15 +442,16 @@ class Heap:
             raise Broken("a pause has touched buffers")
 
 
-def follow(lines):
-    """Holds the objects of a listing with `--pauses full` to the rules; the heap at its end."""
+def follow(lines, is_whole=True):
+    """Holds the objects of a listing to the rules, with each step of its pauses or with the words that these have changed; the heap at its
+    end."""
     heap = None
     for it in lines:
         if it["kind"] == "head":
-            heap = Heap(it)
-        elif it["kind"] == "event":
-            try:
-                heap.take(it)
-            except Broken as why:
-                raise Broken(f"event {it['event']}, {it['at']} of machine {it['machine']}: {why}") from None
+            heap = Heap(it, is_whole)
+            continue
+        try:
+            heap.hear(it)
+        except Broken as why:
+            raise Broken(f"event {it.get('event', '-')}, {it.get('at', it['kind'])}: {why}") from None
     return heap
