@@ -61,13 +61,13 @@ def stops(places):
 
 
 # What happens while they stand there: the items before they make their first objects, those before and behind their stops, and those by
-# which the cycle goes on then; A is the thread that has asked for it, H a helper and C the control. The last number says how many buffers
-# are carved for copies before they make their first objects.
+# which the cycle goes on then; A is the thread that has asked for it, H a helper and C the control, and A=* are all replies of that
+# thread. The last number says how many buffers are carved for copies before they make their first objects.
 WHILE = {
-    "a unit of evacuation walks": ("C@EC", "H@EF", "H:2 H@H0", "C@UC C@I2", 0),
-    "a unit of updating walks": ("C@UC", "H@UG", "H:2 H@H0", "C@I2", 1),
-    "a pause asks": ("", "", "C@P2 C:3", "C@EC", 0),
-    "a copier gives back": ("C@EC A@HX H@XS A@GB", "", "A:1 H@H0", "C@UC C@I2", 1),
+    "a unit of evacuation walks": ("C@EC", "H@EF", "H:2", "A=* C@UC C@I2", 0),
+    "a unit of updating walks": ("C@UC", "H@UG", "H:2", "A=* C@I2", 1),
+    "a pause asks": ("", "", "C@P2 C:3", "C@EC A=*", 0),
+    "a copier gives back": ("C@EC A@HX H@XS A@GB", "", "A:1", "A=* C@UC C@I2", 1),
     "a mutator ends": ("C@EC", "", "A@ML A:1 C:30", "C@UC C@I2", 0),
 }
 
@@ -90,15 +90,14 @@ def trace(size, places, what, number):
         lines += [f"{thread} {it}" for it in (f"new 1 {LARGE}", f"new 2 {LARGE}", f"set 0 {thread} 2", f"get 3 0 {thread}", "same 2 3")]
     first = [f"{it}=1" for it in threads]
     turns = [f"{threads[(number + it) % len(places)]}=2" for it in range(len(places))]
-    items = [f"A={len(third) - 2}", before, *first, walking, *stops(places), behind, *turns, f"H@H0 A={len(third)}", ends]
-    names = zip("AHC", range(len(places) + 1, len(places) + 4))
-    return "\n".join([*lines, "! " + named(" ".join(items), names), ""])
+    items = " ".join([f"A={len(third) - 2}", before, *first, walking, *stops(places), behind, *turns, "H@H0", ends])
+    return "\n".join([*lines, "! " + " ".join(named(it, len(places), len(third)) for it in items.split()), ""])
 
 
-def named(items, names):
-    """Items with the numbers of their machines."""
-    numbers = {name: str(number) for name, number in names}
-    return " ".join(numbers.get(it[0], it[0]) + it[1:] for it in items.split())
+def named(item, count, replies):
+    """An item with the number of its machine behind so many threads, and with all replies of the thread that asks."""
+    numbers = {"A": count + 1, "H": count + 2, "C": count + 3}
+    return f"{numbers.get(item[0], item[0])}{item[1:]}".replace("*", str(replies))
 
 
 def meetings():
