@@ -6,8 +6,8 @@ usage: measure_carving.py [--counts | --times] [FOLDER]
 FOLDER is another checkout with programs in crates/*/out, for instance one in which each seat has a region of its own; its numbers stand
 behind those of this one. Counts are the same in each run; times mean something only beside each other, from one run.
 
-Counts: in heaps of several sizes so many seats have taken room, and then the threads make objects of 4 to 35 words, all of which live, by
-turns; or all but the first have stopped behind their first object, and that one goes on alone. Twelve seats are eight threads, three
+Counts: in heaps of several sizes so many seats have taken room, and then the threads make objects, all of which live, by turns; or all but
+the first have stopped behind their first object, and that one goes on alone. Objects have 16 words, or 4 to 35. Twelve seats are eight threads, three
 helpers and the control, which have copied an object each in a cycle before. Of each heap the script writes how many words live when
 somebody waits for the first time, which is when the heap is collected in full, and when the first request is answered `full`, each in per
 cent of the heap's words. For objects of one size it writes how many words only fill when somebody waits, and the steps of a `new`.
@@ -30,7 +30,7 @@ SEATS = [1, 2, 4, 8, 12]
 # Behind the first wait each object costs a full collection, so larger heaps are not filled up.
 MOST_FILLED = 16384
 HUB, UNIT = 19, 16
-SIZES = [5, 8, 16, 19, 35]
+SIZES, MIXED = [5, 8, 16, 19, 35], "4 to 35"
 ROUNDS, CHURN, ALLOCATED = 5, 20000, 20000
 
 
@@ -104,17 +104,14 @@ def filled(regions, words, seats, shapes, is_alone):
     return trace
 
 
-def mixed(seed):
-    """Shapes of 4 to 35 words, with a reference at least."""
-    rand = random.Random(seed)
-    while True:
-        yield rand.randint(1, 16), rand.randint(0, 16)
-
-
-def of_size(size):
-    """Shapes of so many words."""
+def shapes_of(size, seed=1):
+    """Shapes of so many words, or of 4 to 35; each has a reference at least."""
+    if size == MIXED:
+        rand = random.Random(seed)
+        while True:
+            yield rand.randint(1, 16), rand.randint(0, 16)
     refs = min(16, size - 3)
-    return itertools.repeat((refs, size - 3 - refs))
+    yield from itertools.repeat((refs, size - 3 - refs))
 
 
 def listed(programs, text, *words):
@@ -162,7 +159,7 @@ def fills(programs, trace, event):
 
 def steps_of_new(programs, size, count=500):
     """How many steps a `new` takes, on an average, besides one for each reference and number: of one thread in regions of 1024 words."""
-    refs, nums = next(of_size(size))
+    refs, nums = next(shapes_of(size))
     text = "\n".join(["shen 1", "heap 64 1024 0", "threads 1 0", *[f"1 new 1 {refs} {nums}"] * count, f"! 1={count}", ""])
     return sum(it["kind"] == "event" for it in listed(programs, text, "--item", "1")) / count - refs - nums
 
@@ -172,15 +169,15 @@ def told(numbers):
     return "  |  ".join("  ".join("   -" if it is None else f"{it:4.0f}" for it in one) for one in numbers)
 
 
-def heap_rows(every):
+def heap_rows(every, size):
     """How much lives in heaps of several sizes."""
-    print("regions  words  seats  by turns: live before waiting, before full; one alone: the same (per cent)")
+    print(f"objects of {size} words\nregions  words  seats  by turns: live before waiting, before full; one alone: the same (per cent)")
     for (regions, words), seats in itertools.product(HEAPS, SEATS):
         if seats == 12 and regions < 16:
             continue
         columns = []
         for is_alone in (False, True)[: 1 if seats == 1 else 2]:
-            trace = filled(regions, words, seats, mixed(seats), is_alone)
+            trace = filled(regions, words, seats, shapes_of(size, seats), is_alone)
             columns.append(told([lives(it, trace, trace.heap <= MOST_FILLED)[::2] for it in every]))
         print(f"{regions:7}  {words:5}  {seats:5}  {'      '.join(columns)}", flush=True)
 
@@ -188,13 +185,13 @@ def heap_rows(every):
 def size_rows(every):
     """What objects of one size, and of mixed sizes, cost one thread in 16 regions of 1024 words."""
     print("words of an object  live before waiting, words that fill (per cent), steps of a new besides one for each reference and number")
-    for size in [*SIZES, "4 to 35"]:
+    for size in [*SIZES, MIXED]:
         numbers = []
         for programs in every:
-            trace = filled(16, 1024, 1, mixed(1) if size == "4 to 35" else of_size(size), True)
+            trace = filled(16, 1024, 1, shapes_of(size), True)
             live, event, _ = lives(programs, trace, False)
             numbers.append((live, fills(programs, trace, event)))
-        steps = "-" if size == "4 to 35" else "  |  ".join(f"{steps_of_new(it, size):.1f}" for it in every)
+        steps = "-" if size == MIXED else "  |  ".join(f"{steps_of_new(it, size):.1f}" for it in every)
         print(f"{size!s:>18}  {told(numbers)}      {steps}", flush=True)
 
 
@@ -229,7 +226,8 @@ def main():
     words = [it for it in sys.argv[1:] if not it.startswith("--")]
     every = [Programs(it) for it in [TOP, *words[:1]]]
     if "--times" not in sys.argv:
-        heap_rows(every)
+        heap_rows(every, UNIT)
+        heap_rows(every, MIXED)
         size_rows(every)
     if "--counts" not in sys.argv:
         times(every)

@@ -189,22 +189,26 @@ class Heap:
             at += 3 + of["index"] + (refs if kind == "number" else 0)
         return ("heap", at + {"shape": 1, "name": 2}.get(kind, 0))
 
-    def pieces(self, region):
-        """The pieces of a region, as (kind, address, words, machine)."""
-        at, end = self.base(region), self.base(region) + self.word("top", region)
+    def room_at(self):
+        """The room of machines by where it begins, as (kind, end, machine)."""
         rooms = {it[0]: (kind, it[1], machine) for machine, (kind, *it) in self.rooms.items()}
         for machine, word in self.buffers():
             if next_of(word) < end_of(word):
                 rooms.setdefault(next_of(word), ("free", end_of(word), machine))
+        return rooms
+
+    def pieces(self, region, rooms):
+        """The pieces of a region, as (kind, address, words, machine)."""
+        words = self.words
+        at, end = self.base(region), self.base(region) + self.word("top", region)
         while at < end:
-            header = self.word("heap", at)
-            kind, to, machine = rooms.get(at, (None, None, None))
+            header, (kind, to, machine) = words.get(("heap", at), 0), rooms.get(at, (None, None, None))
             if kind is None and header % 4 == FILLS:
                 kind, to = "filler", at + header // 4
             elif kind is None:
                 if header != 1 and header % 4 != FORWARDED:
                     raise Broken(f"a header {header} stands at {at}")
-                kind, to = "object", at + words_of(self.word("heap", at + 1))
+                kind, to = "object", at + words_of(words.get(("heap", at + 1), 0))
             if to <= at or to > end:
                 raise Broken(f"a {kind} from {at} to {to} in region {region}, which ends at {end}")
             yield kind, at, to - at, machine
@@ -212,9 +216,9 @@ class Heap:
 
     def hold_regions(self):
         """Whether pieces fill each region, with each room among them; free regions are empty, not shared, and nobody's."""
-        found = []
+        found, room_at = [], self.room_at()
         for region in range(self.regions):
-            found += [(kind, at, words, machine) for kind, at, words, machine in self.pieces(region) if machine]
+            found += [(kind, at, words, machine) for kind, at, words, machine in self.pieces(region, room_at) if machine]
             if self.word("top", region) > self.region_words:
                 raise Broken("a top is too large")
             if self.word("free") >> region & 1 and (self.word("top", region) or self.word("share") == region + 1):
@@ -326,7 +330,7 @@ class Heap:
             if machine in self.units and self.units[machine] is not None and word[1] != self.units[machine]:
                 raise Broken(f"{place} loads {word[1]}, and {self.units[machine]} is due")
             self.units[machine] = word[1] + found // 4 if found % 4 == FILLS else ("shape", word[1])
-            kinds = [kind for kind, at, _, _ in self.pieces(self.region_of(word[1])) if at == word[1]]
+            kinds = [kind for kind, at, _, _ in self.pieces(self.region_of(word[1]), self.room_at()) if at == word[1]]
             if kinds not in (["object"], ["filler"]):
                 raise Broken(f"a unit walks over {kinds} at {word[1]}")
         elif place in ("ES", "US"):

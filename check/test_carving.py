@@ -182,6 +182,8 @@ class Judge:
             self.goes = {int(number): place} if place else {}
         if kind == "event":
             return self.strayed(told) or self.answered(told)
+        if kind == "end" and self.stops:
+            return f"stops that never came: {self.stops}"
         if kind == "graph" and not self.ends_as(told):
             return "another graph than that of the calls"
         return "an item never ends" if kind == "stuck" else None
