@@ -1,7 +1,7 @@
 #!/usr/bin/env python3
 """Measures what it buys, and what it costs, that all seats carve their buffers out of one shared region.
 
-usage: measure_carving.py [--counts | --times] [FOLDER]
+usage: measure_carving.py [--counts | --instructions | --times] [FOLDER]
 
 FOLDER is another checkout with programs in crates/*/out, for instance one in which each seat has a region of its own; its numbers stand
 behind those of this one. Counts are the same in each run; times mean something only beside each other, from one run.
@@ -12,17 +12,22 @@ helpers and the control, which have copied an object each in a cycle before. Of 
 somebody waits for the first time, which is when the heap is collected in full, and when the first request is answered `full`, each in per
 cent of the heap's words. For objects of one size it writes how many words only fill when somebody waits, and the steps of a `new`.
 
-Times: commands a second of `churn`, and of eight threads that only allocate in 64 regions of 1024 words, the best of five runs.
+Instructions of the whole process by valgrind, where there is one, a command: of the scripts of a churn, and of eight threads that only
+allocate in 64 regions of 1024 words, under `replay` in rounds and under `run --workers 1`. Times: commands a second of `churn`, and of
+those eight threads under `run`, the best of five runs.
 """
 import collections
 import itertools
 import json
 import os
 import random
+import shutil
 import subprocess
 import sys
 import tempfile
 import time
+
+from compare import MOST_STEPS, churn_trace, instructions
 
 TOP = os.path.dirname(os.path.dirname(os.path.abspath(__file__)))
 HEAPS = [(4, 64), (16, 64), (64, 64), (16, 256), (64, 256), (4, 1024), (16, 1024), (64, 1024)]
@@ -32,6 +37,8 @@ MOST_FILLED = 16384
 HUB, UNIT = 19, 16
 SIZES, MIXED = [5, 8, 16, 19, 35], "4 to 35"
 ROUNDS, CHURN, ALLOCATED = 5, 20000, 20000
+# How many times fewer rounds and objects are made where instructions are counted.
+PART = 20
 
 
 class Programs:
@@ -119,7 +126,7 @@ def listed(programs, text, *words):
     with tempfile.TemporaryFile() as file:
         file.write(text.encode())
         file.seek(0)
-        with subprocess.Popen([programs.steps, "--json", "--steps", "4000000000", *words], stdin=file, stdout=subprocess.PIPE) as run:
+        with subprocess.Popen([programs.steps, "--json", "--steps", MOST_STEPS, *words], stdin=file, stdout=subprocess.PIPE) as run:
             try:
                 yield from map(json.loads, run.stdout)
             finally:
@@ -214,6 +221,20 @@ def allocating(count):
     return "\n".join(["shen 1", "heap 64 1024 8", "threads 8 2", *lines, ""]), len(lines)
 
 
+def instructions_of(every):
+    """Instructions a command, of a churn and of threads that allocate."""
+    text, count = allocating(ALLOCATED // PART)
+    with tempfile.TemporaryDirectory() as folder:
+        made = os.path.join(folder, "made")
+        with open(made, "w") as file:
+            file.write(text)
+        churned = churn_trace(folder, "churned", CHURN // PART, "")
+        for name, trace, commands in ("churn", churned, 3 * (2 + 8 * (CHURN // PART))), ("eight that allocate", made, count):
+            for words in ("replay", "--steps", MOST_STEPS), ("run", "--workers", "1"):
+                told_of = "  |  ".join(f"{instructions(it.run, trace, words) / commands:.0f}" for it in every)
+                print(f"instructions a command, {name}, {words[0]}: {told_of}", flush=True)
+
+
 def times(every):
     """Commands a second of a churn, and of threads that allocate."""
     text, count = allocating(ALLOCATED)
@@ -225,11 +246,14 @@ def times(every):
 def main():
     words = [it for it in sys.argv[1:] if not it.startswith("--")]
     every = [Programs(it) for it in [TOP, *words[:1]]]
-    if "--times" not in sys.argv:
+    asked = [it for it in ("--counts", "--instructions", "--times") if it in sys.argv] or ["--counts", "--instructions", "--times"]
+    if "--counts" in asked:
         heap_rows(every, UNIT)
         heap_rows(every, MIXED)
         size_rows(every)
-    if "--counts" not in sys.argv:
+    if "--instructions" in asked and shutil.which("valgrind"):
+        instructions_of(every)
+    if "--times" in asked:
         times(every)
 
 
