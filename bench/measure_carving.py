@@ -14,7 +14,7 @@ cent of the heap's words. For objects of one size it writes how many words only 
 
 Instructions of the whole process by valgrind, where there is one, a command: of the scripts of a churn, and of eight threads that only
 allocate in 64 regions of 1024 words, under `replay` in rounds and under `run --workers 1`. Times: commands a second of `churn`, and of
-those eight threads under `run`, the best of five runs.
+those eight threads under `run`, by the clock and by the time of processors, the best of five runs, in which the checkouts take turns.
 """
 import collections
 import itertools
@@ -25,9 +25,8 @@ import shutil
 import subprocess
 import sys
 import tempfile
-import time
 
-from compare import MOST_STEPS, churn_trace, instructions
+from compare import MOST_STEPS, churn_trace, instructions, run
 
 TOP = os.path.dirname(os.path.dirname(os.path.abspath(__file__)))
 HEAPS = [(4, 64), (16, 64), (64, 64), (16, 256), (64, 256), (4, 1024), (16, 1024), (64, 1024)]
@@ -202,19 +201,6 @@ def size_rows(every):
         print(f"{size!s:>18}  {told(numbers)}      {steps}", flush=True)
 
 
-def best(words, text=""):
-    """The least time of a run, in seconds."""
-    times = []
-    with tempfile.TemporaryFile() as file:
-        file.write(text.encode())
-        for _ in range(ROUNDS):
-            file.seek(0)
-            start = time.monotonic()
-            subprocess.run(words, stdin=file, stdout=subprocess.DEVNULL, check=True)
-            times.append(time.monotonic() - start)
-    return min(times)
-
-
 def allocating(count):
     """The trace of eight threads that only allocate, and how many commands it has."""
     lines = [f"{thread} new 1 1 12" for _ in range(count) for thread in range(1, 9)]
@@ -238,9 +224,15 @@ def instructions_of(every):
 def times(every):
     """Commands a second of a churn, and of threads that allocate."""
     text, count = allocating(ALLOCATED)
-    churned = [f"{3 * (2 + 8 * CHURN) / best([it.run, 'churn', '0', str(CHURN)]):.0f}" for it in every]
-    made = [f"{count / best([it.run, 'run'], text):.0f}" for it in every]
-    print(f"commands a second of a churn: {'  |  '.join(churned)}; of eight that allocate: {'  |  '.join(made)}")
+    with tempfile.NamedTemporaryFile("w") as file:
+        file.write(text)
+        file.flush()
+        churned = None, ("churn", "0", str(CHURN)), 3 * (2 + 8 * CHURN)
+        for name, (trace, words, commands) in ("churn", churned), ("eight that allocate", (file.name, ("run",), count)):
+            runs = [[run(it.run, trace, words) for it in every] for _ in range(ROUNDS)]
+            for at, of_what in enumerate(("second", "second of processors")):
+                rates = "  |  ".join(f"{commands / min(it[one][at] for it in runs):.0f}" for one in range(len(every)))
+                print(f"commands a {of_what}, {name}: {rates}", flush=True)
 
 
 def main():
