@@ -1,6 +1,6 @@
 """Takings of room, walks and pauses of a heap, held to their rules through the events that `shensteps` lists.
 
-A heap is followed by its words alone. Each machine that takes room has to make the accesses of the step table, by the words that it
+A heap is followed by its words alone, through each step of a pause or through the words that it has changed. Each machine that takes room has to make the accesses of the step table, by the words that it
 has found; a unit has to step over words that only fill; the pieces of each region fill it from its base to its top; and a pause has to
 settle buffers or to let them go, and to leave the graph as it was.
 """
@@ -129,7 +129,9 @@ def raw(event, key):
 class Heap:
     """The words of a heap, and what its machines have taken."""
 
-    def __init__(self, head):
+    def __init__(self, head, is_whole):
+        # Where pauses are not listed step by step, others load these words before the listing says what they find.
+        self.is_whole, self.unlisted = is_whole, () if is_whole else ("pause", "answer")
         self.regions, self.region_words = head["regions"], head["region_words"]
         self.threads, self.reserve = head["threads"], head["reserve"]
         self.machines = head["threads"] + head["helpers"] + 1
@@ -139,9 +141,8 @@ class Heap:
         for thread in range(self.threads):
             self.words["root", thread, 0] = hub
         self.takings, self.wants, self.rooms, self.calls, self.units = {}, {}, {}, {}, {}
-        self.before = None
+        self.before, self.is_folded = None, False
         self.seen = {}
-        self.widest = 0
 
     def base(self, region):
         """The first address of a region."""
@@ -188,22 +189,26 @@ class Heap:
             at += 3 + of["index"] + (refs if kind == "number" else 0)
         return ("heap", at + {"shape": 1, "name": 2}.get(kind, 0))
 
-    def pieces(self, region):
-        """The pieces of a region, as (kind, address, words, machine)."""
-        at, end = self.base(region), self.base(region) + self.word("top", region)
+    def room_at(self):
+        """The room of machines by where it begins, as (kind, end, machine)."""
         rooms = {it[0]: (kind, it[1], machine) for machine, (kind, *it) in self.rooms.items()}
         for machine, word in self.buffers():
             if next_of(word) < end_of(word):
                 rooms.setdefault(next_of(word), ("free", end_of(word), machine))
+        return rooms
+
+    def pieces(self, region, rooms):
+        """The pieces of a region, as (kind, address, words, machine)."""
+        words = self.words
+        at, end = self.base(region), self.base(region) + self.word("top", region)
         while at < end:
-            header = self.word("heap", at)
-            kind, to, machine = rooms.get(at, (None, None, None))
+            header, (kind, to, machine) = words.get(("heap", at), 0), rooms.get(at, (None, None, None))
             if kind is None and header % 4 == FILLS:
                 kind, to = "filler", at + header // 4
             elif kind is None:
                 if header != 1 and header % 4 != FORWARDED:
                     raise Broken(f"a header {header} stands at {at}")
-                kind, to = "object", at + words_of(self.word("heap", at + 1))
+                kind, to = "object", at + words_of(words.get(("heap", at + 1), 0))
             if to <= at or to > end:
                 raise Broken(f"a {kind} from {at} to {to} in region {region}, which ends at {end}")
             yield kind, at, to - at, machine
@@ -211,9 +216,9 @@ class Heap:
 
     def hold_regions(self):
         """Whether pieces fill each region, with each room among them; free regions are empty, not shared, and nobody's."""
-        found = []
+        found, room_at = [], self.room_at()
         for region in range(self.regions):
-            found += [(kind, at, words, machine) for kind, at, words, machine in self.pieces(region) if machine]
+            found += [(kind, at, words, machine) for kind, at, words, machine in self.pieces(region, room_at) if machine]
             if self.word("top", region) > self.region_words:
                 raise Broken("a top is too large")
             if self.word("free") >> region & 1 and (self.word("top", region) or self.word("share") == region + 1):
@@ -239,8 +244,8 @@ class Heap:
         place, verb, machine, word = event["at"], event["operation"], event["machine"], self.name(event)
         found = event["found"]["word"]
         self.seen[place] = self.seen.get(place, 0) + 1
-        if found != self.word(*word):
-            raise Broken(f"{word} has {self.word(*word)}, and {found} is found")
+        if word[0] not in self.unlisted:
+            self.hold_found(word, found)
         if "begins" in event:
             self.calls[machine] = event["begins"].split()
         self.taking(event, place, verb, machine, word)
@@ -252,8 +257,32 @@ class Heap:
         if place == "PL" and self.before is None:
             self.before = dict(self.words)
         if place == "P3":
-            self.hold_pause()
-            self.before = None
+            self.end_pause()
+
+    def hear(self, told):
+        """Takes an object of a listing. Behind the line of a pause come the words that it has changed."""
+        if told["kind"] == "change":
+            word = self.name(told)
+            self.hold_found(word, told["found"]["word"])
+            self.words[word] = told["value"]["word"]
+            return
+        if self.is_folded:
+            self.hold_regions()
+            self.end_pause()
+        if told["kind"] == "event":
+            self.take(told)
+        elif told["kind"] == "pause" and not self.is_whole:
+            self.before, self.is_folded = dict(self.words), True
+
+    def hold_found(self, word, found):
+        """Whether a word is found as it was left."""
+        if found != self.word(*word):
+            raise Broken(f"{word} has {self.word(*word)}, and {found} is found")
+
+    def end_pause(self):
+        """Behind the last word of a pause."""
+        self.hold_pause()
+        self.before, self.is_folded = None, False
 
     def taking(self, event, place, verb, machine, word):
         """What a machine does that takes room."""
@@ -301,7 +330,7 @@ class Heap:
             if machine in self.units and self.units[machine] is not None and word[1] != self.units[machine]:
                 raise Broken(f"{place} loads {word[1]}, and {self.units[machine]} is due")
             self.units[machine] = word[1] + found // 4 if found % 4 == FILLS else ("shape", word[1])
-            kinds = [kind for kind, at, _, _ in self.pieces(self.region_of(word[1])) if at == word[1]]
+            kinds = [kind for kind, at, _, _ in self.pieces(self.region_of(word[1]), self.room_at()) if at == word[1]]
             if kinds not in (["object"], ["filler"]):
                 raise Broken(f"a unit walks over {kinds} at {word[1]}")
         elif place in ("ES", "US"):
@@ -417,15 +446,16 @@ class Heap:
             raise Broken("a pause has touched buffers")
 
 
-def follow(lines):
-    """Holds the objects of a listing with `--pauses full` to the rules; the heap at its end."""
+def follow(lines, is_whole=True):
+    """Holds the objects of a listing to the rules, with each step of its pauses or with the words that these have changed; the heap at its
+    end."""
     heap = None
     for it in lines:
         if it["kind"] == "head":
-            heap = Heap(it)
-        elif it["kind"] == "event":
-            try:
-                heap.take(it)
-            except Broken as why:
-                raise Broken(f"event {it['event']}, {it['at']} of machine {it['machine']}: {why}") from None
+            heap = Heap(it, is_whole)
+            continue
+        try:
+            heap.hear(it)
+        except Broken as why:
+            raise Broken(f"event {it.get('event', '-')}, {it.get('at', it['kind'])}: {why}") from None
     return heap

@@ -9,7 +9,7 @@ def objects(trace, *words):
     """The exit number of a listing of a trace, and its objects."""
     text = trace if isinstance(trace, bytes) else trace.encode()
     ran = subprocess.run([program("shensteps"), "--json", *words], input=text, stdout=subprocess.PIPE, check=False)
-    return ran.returncode, [json.loads(line) for line in ran.stdout.decode().splitlines() if line.startswith("{")]
+    return ran.returncode, json.loads(f"[{','.join(it for it in ran.stdout.decode().splitlines() if it.startswith('{'))}]")
 
 
 def machine(event):

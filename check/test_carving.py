@@ -3,81 +3,120 @@
 
 usage: test_carving.py [TRACES]
 
-Two threads, or three, are stopped at each place of a taking in turn, in heaps with regions of several sizes: while a unit of evacuation or
-of updating walks, while a pause asks, while a copier gives its copy back, and while a mutator ends. The shared region is full then, and
-each thread has free words left, so that a taking comes by all places. Behind them come the two worked examples of words, and random
-traces with regions of many sizes. carving.py follows the words of each, and a graph of objects that never move has to be answered the
-same, in the order in which calls are settled, and to be the same in the end. No answer was taken from the programs.
+Two threads, or three, are stopped at places of a taking, at each of them in turn, in heaps with regions of several sizes: while a unit
+of evacuation or of updating walks, while a pause asks, while a copier gives its copy back, and while a mutator ends. The shared region
+is full then, and each thread has free words left, so that a taking comes by all places; that each machine stands where it was stopped is
+looked at, too. Then three threads that take room where none is shared yet, the two worked examples of words, and random traces with
+regions of many sizes. carving.py follows the words of each, and a graph of objects that never move has to be answered the same, in the
+order in which calls are settled, and to be the same in the end. No answer was taken from the programs.
 """
+import collections
+import concurrent.futures
 import itertools
+import os
 import random
 import sys
 
 sys.dont_write_bytecode = True
 from cases import program  # pylint: disable=wrong-import-position
-from carving import Broken, follow  # pylint: disable=wrong-import-position
+from carving import TAKING, Broken, follow  # pylint: disable=wrong-import-position
 from listed import machine, objects  # pylint: disable=wrong-import-position
 from settling import Graph, command  # pylint: disable=wrong-import-position
 
 TRACES = 60
 SIZES = (64, 65, 96, 128, 192, 1024)
-# The size of which all pairs of places are tried.
+# The size of which different places are tried, too.
 MOST = 128
-# The places before TV and behind it, on the way of one who finds the shared region full and has free words left.
+# The places before TV is done and behind it, on the way of one who finds the shared region full and has free words left.
 BEFORE, BEHIND = ("TC", "TR", "TT", "TV"), ("TX", "TZ", "TS")
 BUFFER, LARGE = 64, "16 16"
 
 
-def pairs():
-    """Pairs of places; one who has lost at TV stands at TQ only where another is past TV."""
-    yield from itertools.product((*BEFORE, *BEHIND), repeat=2)
-    yield from (("TQ", it) for it in BEHIND)
+def alike():
+    """Two and three at one place; who has lost at TV stands at TQ only where another is past TV."""
+    for count in (2, 3):
+        yield from ((it,) * count for it in (*BEFORE, *BEHIND))
+        yield from (("TQ",) * (count - 1) + (it,) for it in BEHIND)
+
+
+def unlike():
+    """Two at different places, in whatever order they come there."""
+    yield from itertools.permutations((*BEFORE, *BEHIND), 2)
     yield from ((it, "TQ") for it in BEHIND)
 
 
-def stops(first, second):
-    """The items by which threads 1 and 2 come to their places."""
-    if "TQ" not in (first, second):
-        return f"1@{first} 2@{second}"
-    return f"1@TV 2@{second} 1@TQ" if first == "TQ" else f"2@TV 1@{first} 2@TQ"
+def all_unlike():
+    """Three at different places."""
+    yield from itertools.combinations((*BEFORE, *BEHIND), 3)
+    yield from (("TQ", *it) for it in itertools.product(BEFORE, BEHIND))
 
 
-# What happens while they stand there: the items before and behind. Machine 4 is a helper, and 5 the control.
+def stops(places):
+    """The items by which threads 1, 2 and so on come to their places: those who are to find the old region shared before those who share
+    another one, and behind them those who have lost by that."""
+    numbered = list(enumerate(places, 1))
+    losers = [it for it, place in numbered if place == "TQ"]
+    found = [f"{it}@{place}" for group in (BEFORE, BEHIND) for it, place in numbered if place in group]
+    return [*(f"{it}@TV" for it in losers), *found, *(f"{it}@TQ" for it in losers)]
+
+
+# What happens while they stand there: the items before they make their first objects, those before and behind their stops, and those by
+# which the cycle goes on then; A is the thread that has asked for it, H a helper and C the control, and A=* are all replies of that
+# thread. The last number says how many buffers are carved for copies before they make their first objects.
 WHILE = {
-    "a unit of evacuation walks": ("5@EC 4@EF", "4:2 4@H0"),
-    "a unit of updating walks": ("5@UC 4@UG", "4:2 4@H0"),
-    "a pause asks": ("", "5@P2 5:3"),
-    "a copier gives back": ("5@EC 3@HX 4@XS 3@GB", "3:1"),
-    "a mutator ends": ("5@EC", "3@ML 3:1 5:30"),
+    "a unit of evacuation walks": ("C@EC", "H@EF", "H:2", "A=* C@UC C@I2", 0),
+    "a unit of updating walks": ("C@UC", "H@UG", "H:2", "A=* C@I2", 1),
+    "a pause asks": ("", "", "C@P2 C:3", "C@EC A=*", 0),
+    "a copier gives back": ("C@EC A@HX H@XS A@GB", "", "A:1", "A=* C@UC C@I2", 1),
+    "a mutator ends": ("C@EC", "", "A@ML A:1 C:30", "C@UC C@I2", 0),
 }
 
 
-def trace(size, places, what, turns):
-    """A trace in which the threads 1 and 2 meet. Region 1 is thread 3's, with one object that lives; the buffers behind it fill regions."""
-    each = size // BUFFER
-    more = next(it for it in itertools.count(1) if (2 + it) % each == 0)
-    third = ["new 1 0 1", "wr 1 0 6", "set 0 0 1", *[f"new 15 {LARGE}"] * (each + more), "drop 1", "drop 15", "gc", "get 1 0 0", "rd 1 0"]
-    filled, asked = 3 + each, 3 + each + more + 3
-    lines = ["shen 1", f"heap {8 if size < 1024 else 5} {size} 0", "threads 3 1", *(f"3 {it}" for it in third)]
-    for thread in (1, 2):
-        lines += [f"{thread} new 1 {LARGE}", f"{thread} new 2 {LARGE}", f"{thread} set 0 {thread} 2", f"{thread} get 3 0 {thread}", f"{thread} same 2 3"]
-    before, behind = WHILE[what]
-    items = f"3={filled} 1=1 2=1 3={asked} {before} {stops(*places)} {behind} {turns}"
-    return "\n".join([*lines, "! " + " ".join(items.split()), ""])
+def asking(each, more):
+    """The commands of the thread that asks for a cycle: it fills a region in which one object lives, and more buffers behind that."""
+    return ["new 1 0 1", "wr 1 0 6", "set 0 0 1", *[f"new 15 {LARGE}"] * (each + more), "drop 1", "drop 15", "gc", "get 1 0 0", "rd 1 0"]
+
+
+def trace(size, places, what, number):
+    """A trace in which threads meet at these places; the number says who goes on first."""
+    each, threads = size // BUFFER, range(1, len(places) + 1)
+    before, walking, behind, ends, copied = WHILE[what]
+    # The buffers up to those of the threads that meet fill regions.
+    more = next(it for it in itertools.count(1) if (it + copied + len(places)) % each == 0)
+    third = asking(each, more)
+    lines = ["shen 1", f"heap {({1: 12, 16: 8}).get(each, 10)} {size} 0", f"threads {len(places) + 1} 1"]
+    lines += [f"{len(places) + 1} {it}" for it in third]
+    for thread in threads:
+        lines += [f"{thread} {it}" for it in (f"new 1 {LARGE}", f"new 2 {LARGE}", f"set 0 {thread} 2", f"get 3 0 {thread}", "same 2 3")]
+    first = [f"{it}=1" for it in threads]
+    turns = [f"{threads[(number + it) % len(places)]}=2" for it in range(len(places))]
+    items = " ".join([f"A={len(third) - 2}", before, *first, walking, *stops(places), behind, *turns, "H@H0", ends])
+    return "\n".join([*lines, "! " + " ".join(named(it, len(places), len(third)) for it in items.split()), ""])
+
+
+def named(item, count, replies):
+    """An item with the number of its machine behind so many threads, and with all replies of the thread that asks."""
+    numbers = {"A": count + 1, "H": count + 2, "C": count + 3}
+    return f"{numbers.get(item[0], item[0])}{item[1:]}".replace("*", str(replies))
 
 
 def meetings():
-    """The traces of the table, with their titles."""
+    """The sizes, places and happenings of the table, with a number that says who goes on first."""
     for size in SIZES:
-        for number, (first, second) in enumerate(pairs()):
-            if size == MOST or first == second or "TQ" in (first, second):
-                for what in WHILE:
-                    turns = "1=2 2=2" if number % 2 else "2=2 1=2"
-                    yield f"{first} and {second} in regions of {size} words, while {what}", trace(size, (first, second), what, turns)
+        for number, places in enumerate((*alike(), *(unlike() if size == MOST else ()))):
+            yield from ((size, places, what, number + turn) for turn, what in enumerate(WHILE))
+    for number, places in enumerate(all_unlike()):
+        yield MOST, places, list(WHILE)[number % len(WHILE)], number
 
 
-# Three threads: two lose to the third, and both give a region back.
-THREE = """shen 1
+def table():
+    """The traces of the table, with their titles."""
+    for size, places, what, number in meetings():
+        yield f"{' and '.join(places)} in regions of {size} words, while {what}", trace(size, places, what, number)
+
+
+# Three threads, and no region is shared yet: two lose to the third, and both give a region back.
+FIRST = """shen 1
 heap 8 {size} 0
 threads 3 1
 1 new 1 1 1
@@ -90,10 +129,10 @@ threads 3 1
 """
 
 
-def threes():
-    """The traces of three threads at once."""
+def firsts():
+    """The traces of three threads where no region is shared yet."""
     for size, place, turns in itertools.product(SIZES, ("TT", "TX", "TS", "IW"), ("1=1 2=1 3=1", "2=1 3=1 1=1")):
-        yield f"three threads, the third at {place}, in regions of {size} words, then {turns}", THREE.format(size=size, place=place, turns=turns)
+        yield f"three threads, the third at {place}, in regions of {size} words, then {turns}", FIRST.format(size=size, place=place, turns=turns)
 
 
 def at_random(seed):
@@ -127,13 +166,35 @@ EXAMPLES = [
 
 
 class Judge:
-    """A graph that is answered beside the calls, in the order in which they are settled."""
+    """What has to be so besides the words. A graph is answered beside the calls, in the order in which they are settled; and a machine that
+    an item has stopped at a place stands there."""
 
     def __init__(self):
         self.graph, self.calls = Graph(), {}
+        self.goes, self.stops = {}, {}
 
-    def take(self, event):
-        """Takes an event; what is wrong with it, or None."""
+    def take(self, told):
+        """Takes an object of a listing; what is wrong with it, or None."""
+        kind = told["kind"]
+        if kind in ("item", "rounds"):
+            self.stops |= self.goes
+            number, _, place = told.get("text", "").partition("@")
+            self.goes = {int(number): place} if place else {}
+        if kind == "event":
+            return self.strayed(told) or self.answered(told)
+        if kind == "end" and self.stops:
+            return f"stops that never came: {self.stops}"
+        if kind == "graph" and not self.ends_as(told):
+            return "another graph than that of the calls"
+        return "an item never ends" if kind == "stuck" else None
+
+    def strayed(self, event):
+        """That a machine does not stand where it was stopped, or None. Of a pause that asks no event is listed."""
+        place = self.stops.pop(event["machine"], event["at"])
+        return None if place in (event["at"], "P2") else f"machine {event['machine']} is at {event['at']}, and was to be stopped at {place}"
+
+    def answered(self, event):
+        """What is wrong with a reply, or None."""
         who = machine(event)
         if "begins" in event:
             self.calls[who] = event["begins"]
@@ -146,54 +207,56 @@ class Judge:
     def ends_as(self, told):
         """Whether the objects of a listing's end, and its roots, are those of the graph."""
         roots = [self.graph.roots.get(str(it + 1), ["0.1"] + [None] * 15) for it in range(len(told["roots"]))]
-        named = {it["object"]: (it["fields"], it["numbers"]) for it in told["objects"]}
-        return roots == told["roots"] and all((list(self.graph.objects[it][0]), list(self.graph.objects[it][1])) == fields for it, fields in named.items())
+        named_ones = {it["object"]: (it["fields"], it["numbers"]) for it in told["objects"]}
+        return roots == told["roots"] and all((list(self.graph.objects[it][0]), list(self.graph.objects[it][1])) == parts for it, parts in named_ones.items())
 
 
 def judged(listing, judge):
-    """The objects of a listing, until one is not as a graph has it."""
+    """The objects of a listing, until one is wrong."""
     for it in listing:
-        why = judge.take(it) if it["kind"] == "event" else None
+        why = judge.take(it)
         if why:
-            raise Broken(f"event {it['event']}: {why}")
-        if it["kind"] == "graph" and not judge.ends_as(it):
-            raise Broken("another graph than that of the calls")
-        if it["kind"] == "stuck":
-            raise Broken("an item never ends")
+            raise Broken(f"event {it.get('event', '-')}: {why}")
         yield it
 
 
-def fails(title, text, seen, words=None):
-    """Whether something is wrong with a trace, which is printed; `words` are those that stand there behind the schedule."""
-    status, listing = objects(text, "--pauses", "full")
+def tried(case):
+    """What is wrong with a trace, or None, and how often each place was seen; the words that it may have are those behind its schedule."""
+    _, text, pauses, words = case
+    status, listing = objects(text, "--pauses", pauses)
     if words:
         listing = list(itertools.takewhile(lambda it: it["kind"] != "rounds", listing))
     try:
-        heap = follow(judged(listing, Judge()))
+        heap = follow(judged(listing, Judge()), pauses == "full")
     except (Broken, KeyError) as why:
-        print(f"{title}: {why!r}\n{text}")
-        return True
-    for name, word in (words or {}).items():
-        if heap.word(*name) != word:
-            print(f"{title}: {name} has {heap.word(*name)}, and not {word}")
-            return True
-    for place, count in heap.seen.items():
-        seen[place] = seen.get(place, 0) + count
-    return status != 0
+        return repr(why), {}
+    wrong = next((name for name, word in words.items() if heap.word(*name) != word), None)
+    if wrong:
+        return f"{wrong} has {heap.word(*wrong)}, and not {words[wrong]}", {}
+    return None if status == 0 else f"status {status}", heap.seen
+
+
+def every(count):
+    """All traces: the title, the text, how pauses are listed, and the words to come."""
+    yield from ((title, text, "full", words) for title, text, words in EXAMPLES)
+    yield from ((title, text, "changed", {}) for title, text in (*table(), *firsts()))
+    yield from ((f"random trace {it}", at_random(it), "full" if it % 4 == 0 else "changed", {}) for it in range(count))
 
 
 def main():
     if not program("shensteps"):
         print("test_carving.py: there is no proved program yet: rt ci makes it", file=sys.stderr)
         return 2
-    count = int(sys.argv[1]) if sys.argv[1:] else TRACES
-    seen, number, failed = {}, 0, 0
-    every = [*meetings(), *threes(), *((f"random trace {it}", at_random(it)) for it in range(count))]
-    for title, text, *words in [*EXAMPLES, *every]:
-        number += 1
-        failed += fails(title, text, seen, *words)
-    missing = [it for it in ("TC", "TR", "TT", "TX", "TF", "TG", "TV", "TQ", "TZ", "TS", "GB", "EF", "UG") if not seen.get(it)]
-    print(f"{number - failed} traces take room, walk and pause by the rules, {failed} do not")
+    cases = list(every(int(sys.argv[1]) if sys.argv[1:] else TRACES))
+    seen, failed = collections.Counter(), 0
+    with concurrent.futures.ProcessPoolExecutor(os.cpu_count()) as workers:
+        for case, (why, places) in zip(cases, workers.map(tried, cases, chunksize=8)):
+            seen.update(places)
+            if why:
+                failed += 1
+                print(f"{case[0]}: {why}\n{case[1]}")
+    missing = [it for it in (*TAKING, "GB", "EF", "UG") if not seen[it]]
+    print(f"{len(cases) - failed} traces take room, walk and pause by the rules, {failed} do not")
     if missing:
         print(f"no trace came by {' '.join(missing)}")
     return 1 if failed or missing else 0

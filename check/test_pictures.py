@@ -116,8 +116,11 @@ def wrong_heap(name, text, lines, number):
     if it.pausing:
         return
     told = next(json.loads(each) for each in objects(text, "--heap-at", str(number), "--from", str(number), "--to", str(number)) if '"kind":"heap"' in each)
-    # What a picture draws of a region from other words.
-    told["regions"] = [{key: each[key] for key in each if key not in ("live", "garbage", "shared", "machines", "others")} for each in told["regions"]]
+    # How much lives a picture does not say; and words that are carved it draws as room.
+    told["regions"] = [{key: each[key] for key in each if key not in ("live", "garbage")} for each in told["regions"]]
+    for region in told["regions"]:
+        pieces = [(each["kind"], each.get("machine", 0), each["offset"], each["words"]) for each in region["others"]]
+        region["others"] = [("room" if kind in ("carved", "in hand") else kind, *piece) for kind, *piece in pieces]
     told["copiers"], told["asked"] = told["copiers"]["word"], told["asked"]["word"]
     for key, value in heap.Heap(it.layout, it.table).state().items():
         if value != told[key]:

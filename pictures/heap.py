@@ -115,7 +115,8 @@ class Heap:
             "phase": self.phase, "set": bits_of(self.set), "copiers": self.word("copiers"), "asked": self.word("asked for"),
             "regions": [
                 {"region": it["region"], "free": it["free"], "top": it["top"], "mark_start": it["start"], "limit": it["limit"],
-                 "objects": [thing(each) for each in it["objects"]]} for it in self.regions
+                 "shared": it["shared"], "machines": it["owners"], "objects": [thing(each) for each in it["objects"]],
+                 "others": [(each["kind"], each["machine"], each["offset"], each["words"]) for each in it["others"]]} for it in self.regions
             ],
             "roots": [[place(self.word("root", thread * ROOTS + index)) for index in range(ROOTS)] for thread in range(layout.threads)],
         }
