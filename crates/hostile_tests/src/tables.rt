@@ -281,7 +281,8 @@ fn heap_word(scene: &Scene, address: usize) -> Option<u64> {
 fn next_of_seat(scene: &Scene, seat: usize) -> Option<u64> {
     let config = scene.config();
     if seat < config.seats() {
-        scene.word(config.cur_at(seat)).map(next_of)
+        let buffer = scene.word(config.cur_at(seat))?;
+        Some(next_of(buffer))
     } else {
         None
     }
