@@ -14,7 +14,7 @@ use Rattle.trace_runs.specs.Replayed.{IsWhole, IsUnfinished, events_of, history_
 use Rattle.find_grammar.specs.declared.test.Test.{Test}
 use Rattle.find_play.specs.Verdict.{IsVerdictOn, HasNoVerdict}
 use Rattle.find_play.specs.declared.verdict.Verdict.{Verdict}
-use Rattle.find_hunt.specs.Judged.{IsRunOf, HasVerdict, HasNone, IsLong, IsNoTrace, IsOfOther, IsCutOff, IsNoPlay}
+use Rattle.find_hunt.specs.Judged.{IsRunOf, HasVerdict, HasNoJudgement, IsLong, IsNoTrace, IsOfOther, IsCutOff, IsNoPlay}
 
 -- a trace of the heap of a test, whose replay comes to its end by this history and leaves this graph
 run_of : (test : Test) (bytes : List ℕ) (steps : ℕ) (config : Config) (scripts : Scripts) (items : List Item) (history : List Entry) (text : Text)
@@ -56,19 +56,19 @@ pub no_play : (test : Test) (bytes : List ℕ) (steps : ℕ) (config : Config) (
     → history ≡ history_of config scripts items steps
     → ShowsGraph text config.mutators (after (first_graph config) (history_of config scripts items steps))
     → HasNoVerdict test.programs.items test.bounds.returns (length test.notes) history
-    → HasNone test bytes steps
+    → HasNoJudgement test bytes steps
 no_play test bytes steps config scripts items history text same reads whole is shows none =
     IsNoPlay history text.rows (run_of test bytes steps config scripts items history text same reads whole is shows) none
 
-pub too_long : (test : Test) (bytes : List ℕ) (steps : ℕ) → most_bytes < length bytes → HasNone test bytes steps
+pub too_long : (test : Test) (bytes : List ℕ) (steps : ℕ) → most_bytes < length bytes → HasNoJudgement test bytes steps
 too_long test bytes steps more = IsLong more
 
-pub no_trace : (test : Test) (bytes : List ℕ) (steps n : ℕ) (why : Why) → Refused bytes n why → HasNone test bytes steps
+pub no_trace : (test : Test) (bytes : List ℕ) (steps n : ℕ) (why : Why) → Refused bytes n why → HasNoJudgement test bytes steps
 no_trace test bytes steps n why refused = IsNoTrace n why refused
 
 pub of_other : (test : Test) (bytes : List ℕ) (steps : ℕ) (config : Config) (scripts : Scripts) (items : List Item) → Reads bytes config scripts items → config ≢ test.config
-    → HasNone test bytes steps
+    → HasNoJudgement test bytes steps
 of_other test bytes steps config scripts items reads other = IsOfOther config scripts items reads other
 
-pub cut_off : (test : Test) (bytes : List ℕ) (steps : ℕ) → IsUnfinished bytes steps → HasNone test bytes steps
+pub cut_off : (test : Test) (bytes : List ℕ) (steps : ℕ) → IsUnfinished bytes steps → HasNoJudgement test bytes steps
 cut_off test bytes steps cut = IsCutOff cut

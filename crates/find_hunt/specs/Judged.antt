@@ -40,17 +40,17 @@ pub record HasVerdict (test : Test) (bytes : List ℕ) (steps : ℕ) (verdict : 
 -- Why a test has no verdict on a text: it has more bytes than a trace may have; it is no trace, by its first line that is refused; it is a
 -- trace of another heap; so many steps of its replay leave a machine that is not idle; or they lead to its end, and the test has no verdict
 -- on that history.
-pub data HasNone (test : Test) (bytes : List ℕ) (steps : ℕ) : Type 0 where
-  IsLong : most_bytes < length bytes → HasNone test bytes steps
-  IsNoTrace : (n : ℕ) (why : Why) → Refused bytes n why → HasNone test bytes steps
-  IsOfOther : (config : Config) (scripts : Scripts) (items : List Item) → Reads bytes config scripts items → config ≢ test.config → HasNone test bytes steps
-  IsCutOff : IsUnfinished bytes steps → HasNone test bytes steps
+pub data HasNoJudgement (test : Test) (bytes : List ℕ) (steps : ℕ) : Type 0 where
+  IsLong : most_bytes < length bytes → HasNoJudgement test bytes steps
+  IsNoTrace : (n : ℕ) (why : Why) → Refused bytes n why → HasNoJudgement test bytes steps
+  IsOfOther : (config : Config) (scripts : Scripts) (items : List Item) → Reads bytes config scripts items → config ≢ test.config → HasNoJudgement test bytes steps
+  IsCutOff : IsUnfinished bytes steps → HasNoJudgement test bytes steps
   IsNoPlay : (history : List Entry) (rows : List Row) → IsRunOf test.config bytes steps history rows
-      → HasNoVerdict test.programs.items test.bounds.returns (length test.notes) history → HasNone test bytes steps
+      → HasNoVerdict test.programs.items test.bounds.returns (length test.notes) history → HasNoJudgement test bytes steps
 
 abbrev pub IsJudged : Test → List ℕ → ℕ → Judged → Type 0
 IsJudged test bytes steps (Verdict verdict) = HasVerdict test bytes steps verdict
-IsJudged test bytes steps Nothing = HasNone test bytes steps
+IsJudged test bytes steps Nothing = HasNoJudgement test bytes steps
 
 -- a run of the test, as a trace, that does not have all that is claimed
 pub record IsBreak (test : Test) (bytes : List ℕ) (steps : ℕ) (verdict : Verdicts) : Type 0 where

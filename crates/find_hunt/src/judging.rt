@@ -36,7 +36,7 @@ fn are_same(one: Config, other: Config) -> bool
 }
 
 /// The verdict of the test on the replay of a trace, of so many steps at most.
-#[tactic(auto, using(crate::proofs::Verdicts::judged, crate::proofs::Verdicts::no_play, crate::proofs::Verdicts::too_long, crate::proofs::Verdicts::no_trace, crate::proofs::Verdicts::of_other, crate::proofs::Verdicts::cut_off))]
+#[tactic(auto, using(crate::proofs::Verdicts::judged, crate::proofs::Verdicts::too_long, crate::proofs::Verdicts::cut_off))]
 pub fn judge(alloc: Global, test: &Test, bytes: &[u8], steps: u64) -> Result<Judged, NoMemory>
     ensures { IfOk result (λ judged. IsJudged test.now bytes.now steps judged) }
 {
