@@ -1,5 +1,5 @@
--- The verdict on a run, from what is known of its parts.
-use Rattle.std.proofs.Common.{◌≡◌, ℕ, List, length, refl, sym, subst}
+-- The verdict on a run, or that there is none, from what is known of its parts.
+use Rattle.std.proofs.Common.{◌≡◌, ◌≢◌, ◌<◌, ℕ, List, length, refl, sym, subst}
 use Rattle.heap_words.specs.declared.config.Config.{Config}
 use Rattle.heap_words.specs.declared.schedule.Item.{Item}
 use Rattle.shen_graph.specs.GraphText.{Text}
@@ -7,26 +7,22 @@ use Rattle.shen_graph.specs.History.{Entry, after}
 use Rattle.heap_graph.specs.Shows.{ShowsGraph}
 use Rattle.step_core.specs.Begins.{first_graph}
 use Rattle.step_core.specs.Schedule.{Scripts}
-use Rattle.trace_grammar.specs.Grammar.{Reads}
-use Rattle.trace_runs.specs.Replayed.{IsWhole, events_of, history_of}
+use Rattle.trace_grammar.specs.Grammar.{Reads, most_bytes}
+use Rattle.trace_grammar.specs.declared.why.Why.{Why}
+use Rattle.trace_refusals.specs.Refused.{Refused}
+use Rattle.trace_runs.specs.Replayed.{IsWhole, IsUnfinished, events_of, history_of}
 use Rattle.find_grammar.specs.declared.test.Test.{Test}
-use Rattle.find_play.specs.Verdict.{IsVerdictOn}
+use Rattle.find_play.specs.Verdict.{IsVerdictOn, HasNoVerdict}
 use Rattle.find_play.specs.declared.verdict.Verdict.{Verdict}
-use Rattle.find_hunt.specs.Judged.{IsRunOf, HasVerdict}
+use Rattle.find_hunt.specs.Judged.{IsRunOf, HasVerdict, HasNoJudgement, IsLong, IsNoTrace, IsOfOther, IsCutOff, IsNoPlay}
 
--- a trace of the heap of the test, whose replay comes to its end by this history and leaves this graph, has the verdict on these
-pub judged : (test : Test) (bytes : List ℕ) (steps : ℕ) (config : Config) (scripts : Scripts) (items : List Item) (history : List Entry) (text : Text) (verdict : Verdict)
+-- a trace of the heap of a test, whose replay comes to its end by this history and leaves this graph
+run_of : (test : Test) (bytes : List ℕ) (steps : ℕ) (config : Config) (scripts : Scripts) (items : List Item) (history : List Entry) (text : Text)
     → config ≡ test.config → Reads bytes config scripts items → IsWhole config scripts (events_of config scripts items steps)
     → history ≡ history_of config scripts items steps
     → ShowsGraph text config.mutators (after (first_graph config) (history_of config scripts items steps))
-    → IsVerdictOn test.programs.items test.bounds.returns (length test.notes) test.places.items test.claims.items history text.rows verdict
-    → HasVerdict test bytes steps verdict
-judged test bytes steps config scripts items history text verdict same reads whole is shows on = record {
-  history = history;
-  rows = text.rows;
-  run = subst (λ (c : Config). IsRunOf c bytes steps history text.rows) same run;
-  verdict_on = on;
-}
+    → IsRunOf test.config bytes steps history text.rows
+run_of test bytes steps config scripts items history text same reads whole is shows = subst (λ (c : Config). IsRunOf c bytes steps history text.rows) same run
   where
     run : IsRunOf config bytes steps history text.rows
     run = record {
@@ -39,3 +35,40 @@ judged test bytes steps config scripts items history text verdict same reads who
       shows = subst (λ h. ShowsGraph text config.mutators (after (first_graph config) h)) (sym is) shows;
       rows_are = refl;
     }
+
+-- it has the verdict on that history and on that graph
+pub judged : (test : Test) (bytes : List ℕ) (steps : ℕ) (config : Config) (scripts : Scripts) (items : List Item) (history : List Entry) (text : Text) (verdict : Verdict)
+    → config ≡ test.config → Reads bytes config scripts items → IsWhole config scripts (events_of config scripts items steps)
+    → history ≡ history_of config scripts items steps
+    → ShowsGraph text config.mutators (after (first_graph config) (history_of config scripts items steps))
+    → IsVerdictOn test.programs.items test.bounds.returns (length test.notes) test.places.items test.claims.items history text.rows verdict
+    → HasVerdict test bytes steps verdict
+judged test bytes steps config scripts items history text verdict same reads whole is shows on = record {
+  history = history;
+  rows = text.rows;
+  run = run_of test bytes steps config scripts items history text same reads whole is shows;
+  verdict_on = on;
+}
+
+-- or none, where the test has none on that history
+pub no_play : (test : Test) (bytes : List ℕ) (steps : ℕ) (config : Config) (scripts : Scripts) (items : List Item) (history : List Entry) (text : Text)
+    → config ≡ test.config → Reads bytes config scripts items → IsWhole config scripts (events_of config scripts items steps)
+    → history ≡ history_of config scripts items steps
+    → ShowsGraph text config.mutators (after (first_graph config) (history_of config scripts items steps))
+    → HasNoVerdict test.programs.items test.bounds.returns (length test.notes) history
+    → HasNoJudgement test bytes steps
+no_play test bytes steps config scripts items history text same reads whole is shows none =
+    IsNoPlay history text.rows (run_of test bytes steps config scripts items history text same reads whole is shows) none
+
+pub too_long : (test : Test) (bytes : List ℕ) (steps : ℕ) → most_bytes < length bytes → HasNoJudgement test bytes steps
+too_long test bytes steps more = IsLong more
+
+pub no_trace : (test : Test) (bytes : List ℕ) (steps n : ℕ) (why : Why) → Refused bytes n why → HasNoJudgement test bytes steps
+no_trace test bytes steps n why refused = IsNoTrace n why refused
+
+pub of_other : (test : Test) (bytes : List ℕ) (steps : ℕ) (config : Config) (scripts : Scripts) (items : List Item) → Reads bytes config scripts items → config ≢ test.config
+    → HasNoJudgement test bytes steps
+of_other test bytes steps config scripts items reads other = IsOfOther config scripts items reads other
+
+pub cut_off : (test : Test) (bytes : List ℕ) (steps : ℕ) → IsUnfinished bytes steps → HasNoJudgement test bytes steps
+cut_off test bytes steps cut = IsCutOff cut

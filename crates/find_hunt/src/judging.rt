@@ -1,5 +1,5 @@
 //! The verdict on a trace of a test, by its own replay.
-ghost use Rattle.std.specs.Prelude.{◌≡◌, true, IfOk};
+ghost use Rattle.std.specs.Prelude.{◌≡◌, ◌≢◌, true, false, IfOk};
 ghost use Rattle.find_hunt.specs.Judged.{IsJudged};
 
 use find_grammar::Test;
@@ -14,7 +14,8 @@ use trace_runs::{Refusal, noted_answer_to};
 pub enum Judged {
     /// Its replay comes to its end, and this is the verdict of the test on it.
     Verdict(Verdict),
-    /// It is no trace of the heap of the test, its replay does not come to its end, or its commands are not those of the test.
+    /// It is longer than a trace may be, it is no trace of the heap of the test, its replay does not come to its end, its commands are not
+    /// those of the test, or a thread has more of them.
     Nothing,
 }
 
@@ -24,7 +25,8 @@ const MOST_BYTES: usize = 16_777_216;
 // Whether two heaps are of the same sizes.
 #[tactic(auto, using(trace_grammar::proofs::Once::same_config))]
 fn are_same(one: Config, other: Config) -> bool
-    ensures { result ≡ true → one ≡ other }
+    ensures same { result ≡ true → one ≡ other }
+    ensures other { result ≡ false → one ≢ other }
 {
     one.regions() == other.regions()
         && one.region_words() == other.region_words()
@@ -34,7 +36,7 @@ fn are_same(one: Config, other: Config) -> bool
 }
 
 /// The verdict of the test on the replay of a trace, of so many steps at most.
-#[tactic(auto, using(crate::proofs::Verdicts::judged))]
+#[tactic(auto, using(crate::proofs::Verdicts::judged, crate::proofs::Verdicts::too_long, crate::proofs::Verdicts::cut_off))]
 pub fn judge(alloc: Global, test: &Test, bytes: &[u8], steps: u64) -> Result<Judged, NoMemory>
     ensures { IfOk result (λ judged. IsJudged test.now bytes.now steps judged) }
 {
@@ -43,8 +45,8 @@ pub fn judge(alloc: Global, test: &Test, bytes: &[u8], steps: u64) -> Result<Jud
     }
     let trace = match trace_of(alloc, bytes) {
         Ok(trace) => trace,
-        Err(TraceFault::NoMemory) => return Err(NoMemory),
-        Err(_) => return Ok(Judged::Nothing),
+        Err(TraceFault::BadLine { .. }) => return Ok(Judged::Nothing),
+        Err(_) => return Err(NoMemory),
     };
     if !are_same(trace.config, test.config) {
         return Ok(Judged::Nothing);
