@@ -233,7 +233,7 @@ def steps_of(trace):
     with open(trace, "rb") as source:
         words = (SHENSTEPS, "--json", "--from", "4000000000")
         said = subprocess.run(words, stdin=source, stdout=subprocess.PIPE, text=True, check=False).stdout
-    return json.loads(said.splitlines()[-1])["events"]
+    return next(it["events"] for it in map(json.loads, said.splitlines()) if it["kind"] == "end")
 
 
 def barrier_trace(command, count, phase):
