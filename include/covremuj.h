@@ -160,7 +160,7 @@ typedef enum cvm_status {
     /* Refusals of a seat. */
     CVM_NOT_OPEN = 32,     /* the seat is empty: never opened, moved away, or closed */
     CVM_WRONG_SEAT = 33,   /* a mutator is wanted and this is a helper or the control, or the other way round */
-    CVM_BUSY = 34,         /* something is ordered, or a call is in progress; cvm_close_all: the control has not ended */
+    CVM_BUSY = 34,         /* something is ordered, or a call is in progress; cvm_close_all: a mutator or the control has not ended */
     CVM_SPENT = 35,        /* this mutator has made 4294967295 objects: it can only end */
     CVM_NO_COMMAND = 36,   /* no command has this number */
     CVM_OUT_OF_RANGE = 37, /* a root is not 0 to 15, a size not 0 to 16, or a field or index not 0 to 31 */
@@ -253,8 +253,9 @@ cvm_status cvm_close(cvm_seat *seat);
 
 /*
  * Gives all seats of a heap up that has come to its end, and frees it. `seats` and `count` as for cvm_open; no other
- * call is made on a seat of that heap meanwhile. Answers CVM_DONE, or CVM_NOT_OPEN, CVM_NOT_ALL, CVM_BUSY, and then
- * nothing has changed.
+ * call is made on a seat of that heap meanwhile. Answers CVM_NOT_OPEN where a seat is empty; else CVM_NOT_ALL where these
+ * are not as many as the heap has, each at the place of its number, or are of two heaps; else CVM_BUSY where a mutator or
+ * the control has not ended; and then nothing has changed. Or CVM_DONE.
  */
 cvm_status cvm_close_all(cvm_seat *seats, size_t count);
 

@@ -1,3 +1,4 @@
 mod HandleWords
 mod Orders
 mod HeldLists
+mod HandlesAsked

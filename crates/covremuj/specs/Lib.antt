@@ -3,3 +3,4 @@ pub mod StatusNumbers
 pub mod Answers
 pub mod Border
 pub mod OpenedHandles
+pub mod ClosedHandles

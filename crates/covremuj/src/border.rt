@@ -270,7 +270,7 @@ pub(crate) fn told_of(seat: &Seat) -> Told
 }
 
 // 1 a mutator, 2 a helper, 3 the control.
-fn kind_of(seat: &Seat) -> u64
+pub(crate) fn kind_of(seat: &Seat) -> u64
     ensures { result ≡ answers.kind_of seat.now }
 {
     let config = seat.config();
@@ -284,7 +284,7 @@ fn kind_of(seat: &Seat) -> u64
 }
 
 // 0 free, 1 at work, 2 ended.
-fn state_number(state: State) -> u64
+pub(crate) fn state_number(state: State) -> u64
     ensures { result ≡ answers.state_number state }
 {
     match state {

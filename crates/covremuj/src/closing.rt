@@ -1,9 +1,11 @@
 ghost use Rattle.std.specs.Prelude.{◌≡◌, ◌≢◌, false, None, MatchOption, length};
 ghost use Rattle.covremuj.specs.OpenedHandles.{seats_held, any_held};
+ghost use Rattle.covremuj.specs.ClosedHandles as closed;
 
-use crate::border::{BUSY, DONE, NOT_ALL, NOT_OPEN};
+use crate::asked::Asked;
+use crate::border::{BUSY, DONE, NOT_ALL, NOT_OPEN, kind_of, state_number};
 use crate::handle::Handle;
-use heap_seats::{Share, State};
+use heap_seats::{Seat, Share};
 use std::alloc::Global;
 
 /// Gives a seat up. The handle is empty afterwards.
@@ -19,9 +21,10 @@ pub extern "C" fn cvm_close(alloc: Global, handle: &mut Handle) -> u32
     DONE
 }
 
-/// Gives all seats of a heap up at once, as `cvm_open` gave them, and with them the heap, whose control has ended.
+/// Gives all seats of a heap up at once, as `cvm_open` gave them, and with them the heap, whose mutators and control have ended.
 #[unsafe(no_mangle)]
 pub extern "C" fn cvm_close_all(alloc: Global, handles: &mut [Handle]) -> u32
+    ensures answer { closed.AnswersClosing (seats_held handles.old) result }
     ensures unchanged { result ≢ 0 → seats_held handles.new ≡ seats_held handles.old }
     ensures empty { result ≡ 0 → any_held (seats_held handles.new) ≡ false }
 {
@@ -35,31 +38,72 @@ pub extern "C" fn cvm_close_all(alloc: Global, handles: &mut [Handle]) -> u32
 
 // Why not all seats of a heap are there, or it is not over.
 fn refuses(alloc: Global, handles: &mut [Handle]) -> u32
-    ensures { seats_held handles.new ≡ seats_held handles.old }
+    ensures held { seats_held handles.new ≡ seats_held handles.old }
+    ensures answer { closed.AnswersClosing (seats_held handles.old) result }
 {
-    if any_empty(alloc, handles) {
-        return NOT_OPEN;
-    }
-    if !are_all(alloc, handles) {
+    if handles.is_empty() {
         return NOT_ALL;
     }
-    if is_over(alloc, handles) { DONE } else { BUSY }
+    let filled = all_show(alloc, handles, Asked::Open);
+    let numbered = all_show(alloc, handles, Asked::Numbered);
+    let over = all_show(alloc, handles, Asked::Over);
+    let shared = are_shared(alloc, handles);
+    answer_by(filled, numbered, shared, over)
 }
 
-// Whether one of the handles is empty.
-fn any_empty(alloc: Global, handles: &mut [Handle]) -> bool
-    ensures { seats_held handles.new ≡ seats_held handles.old }
+// The first cause, or none.
+fn answer_by(filled: bool, numbered: bool, shared: bool, over: bool) -> u32
+    ensures { closed.AnswersBy filled numbered over result }
 {
+    if !filled {
+        NOT_OPEN
+    } else if !numbered || !shared {
+        NOT_ALL
+    } else if over {
+        DONE
+    } else {
+        BUSY
+    }
+}
+
+// Whether each handle shows what is asked.
+fn all_show(alloc: Global, handles: &mut [Handle], asked: Asked) -> bool
+    ensures held { seats_held handles.new ≡ seats_held handles.old }
+    ensures shown { result ≡ closed.each_shows asked (seats_held handles.old) }
+{
+    let seats = handles.len();
     for at in 0..handles.len() {
-        if !handles[at].is_open(alloc) {
-            return true;
+        if !shows(alloc, &mut handles[at], asked, seats, at) {
+            return false;
         }
     }
-    false
+    true
 }
 
-// Whether they hold all seats of one heap, in the order of their numbers.
-fn are_all(alloc: Global, handles: &mut [Handle]) -> bool
+fn shows(alloc: Global, handle: &mut Handle, asked: Asked, seats: usize, at: usize) -> bool
+    ensures held { handle.new.held ≡ handle.old.held }
+    ensures shown { result ≡ closed.shows asked seats at handle.old.held }
+{
+    let Some(seat) = handle.take(alloc) else {
+        return false;
+    };
+    let is = seat_shows(&seat, asked, seats, at);
+    handle.fill(seat);
+    is
+}
+
+fn seat_shows(seat: &Seat, asked: Asked, seats: usize, at: usize) -> bool
+    ensures { result ≡ closed.seat_shows asked seats at seat.now }
+{
+    match asked {
+        Asked::Open => true,
+        Asked::Numbered => seat.number() == at && seat.config().seats() == seats,
+        Asked::Over => kind_of(seat) == 2 || state_number(seat.state()) == 2,
+    }
+}
+
+// Whether all that the handles hold are seats of one heap, as far as its shares tell.
+fn are_shared(alloc: Global, handles: &mut [Handle]) -> bool
     ensures { seats_held handles.new ≡ seats_held handles.old }
 {
     if handles.is_empty() {
@@ -84,47 +128,24 @@ fn share_of(alloc: Global, handle: &mut Handle) -> Option<Share>
 fn all_of(alloc: Global, handles: &mut [Handle], share: &Share) -> bool
     ensures { seats_held handles.new ≡ seats_held handles.old }
 {
-    let seats = handles.len();
     for at in 0..handles.len() {
-        if !is_seat(alloc, &mut handles[at], share, at, seats) {
+        if !is_of(alloc, &mut handles[at], share) {
             return false;
         }
     }
     true
 }
 
-// Whether a handle holds the seat of this number of a heap of so many seats, which is that heap.
-fn is_seat(alloc: Global, handle: &mut Handle, share: &Share, at: usize, seats: usize) -> bool
+// Whether a handle holds a seat of that heap.
+fn is_of(alloc: Global, handle: &mut Handle, share: &Share) -> bool
     ensures { handle.new.held ≡ handle.old.held }
 {
     let Some(seat) = handle.take(alloc) else {
         return false;
     };
-    let is = seat.number() == at && seat.config().seats() == seats && seat.is_of(share);
+    let is = seat.is_of(share);
     handle.fill(seat);
     is
-}
-
-// Whether the last of them, the control, has ended.
-fn is_over(alloc: Global, handles: &mut [Handle]) -> bool
-    ensures { seats_held handles.new ≡ seats_held handles.old }
-{
-    let seats = handles.len();
-    if seats == 0 {
-        return false;
-    }
-    has_ended(alloc, &mut handles[seats - 1])
-}
-
-fn has_ended(alloc: Global, handle: &mut Handle) -> bool
-    ensures { handle.new.held ≡ handle.old.held }
-{
-    let Some(seat) = handle.take(alloc) else {
-        return false;
-    };
-    let state = seat.state();
-    handle.fill(seat);
-    state == State::Ended
 }
 
 // Gives each seat up.

@@ -2,6 +2,7 @@
 //! Nothing here waits, starts a thread or takes a lock.
 #![tactic(auto)]
 
+mod asked;
 mod border;
 mod closing;
 mod handle;

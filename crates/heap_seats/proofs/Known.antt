@@ -16,7 +16,7 @@ use Rattle.table_heap.specs.declared.heap.Heap.{Heap}
 use Rattle.table_heap.specs.declared.bundle.Bundle.{Bundle}
 use Rattle.table_heap.specs.Core.{heap_kind, heap_opening, machine_in}
 use Rattle.table_heap.specs.State.{heap_of, view_of, machines_of, orders_of, machine_at, order_at, has_turn, IsBundleOf, HasMachine, IsSameBundle, IsUnmoved, IsUnchanged, IsBundleStep}
-use Rattle.heap_seats.specs.Known.{HaveRun}
+use Rattle.heap_seats.specs.Known.{HaveRun, HasOnly}
 
 pub stays_of : (h : Heap) (old new : Bundle) → IsSameBundle old new → IsBundleOf old h → IsBundleOf new h
 stays_of h old new same of = record { table = same.table ∙ of.table; config = same.config ∙ of.config }
@@ -27,6 +27,9 @@ has_seen b number = ap (λ v. is_some (machine_of v number)) (sym b.kept) ∙ ke
 
 pub stays_here : (old new : Bundle) (number : ℕ) → IsSameBundle old new → HasMachine old number → HasMachine new number
 stays_here old new number same here = has_seen new number ∙ same.numbers.here number ∙ sym (has_seen old number) ∙ here
+
+pub stays_only : (old new : Bundle) (number : ℕ) → IsSameBundle old new → HasOnly old number → HasOnly new number
+stays_only old new number same only k here = only k (has_seen old k ∙ sym (same.numbers.here k) ∙ sym (has_seen new k) ∙ here)
 
 pub unmoved_run : (c : Config) (old new : Bundle) → IsUnmoved old new → HaveRun c old → HaveRun c new
 unmoved_run c old new unmoved run number a there = run number a (ap (λ v. machine_of v number) (sym unmoved.view) ∙ there)

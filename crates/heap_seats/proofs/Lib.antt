@@ -4,3 +4,4 @@ pub mod Histories
 pub mod Loops
 pub mod OrderRefusals
 pub mod Opened
+pub mod Joined

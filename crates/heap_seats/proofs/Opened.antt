@@ -1,5 +1,5 @@
 -- Seats of a heap before its first event.
-use Rattle.std.proofs.Common.{◌≡◌, ◌<◌, ℕ, zero, suc, ◌+◌, ◌-◌, Bool, true, List, [], ◌∷◌, ◌++◌, length, map, Option, Some, None, refl, sym, ap, ◌∙◌, subst, arith}
+use Rattle.std.proofs.Common.{◌≡◌, ◌<◌, ℕ, zero, suc, ◌+◌, ◌-◌, Bool, true, false, List, [], ◌∷◌, ◌++◌, length, map, Option, Some, None, refl, sym, ap, ◌∙◌, subst, arith}
 use Rattle.std.specs.Prelude.{slice_get, unwrap_or, ◌%◌, if◌then◌else◌}
 use Rattle.std.specs.List.{range_with_len}
 use mathlib.Core.List.{reverse}
@@ -14,6 +14,7 @@ use Rattle.heap_words.specs.Ranges.{seat_count}
 use Rattle.shared_table.specs.Views.{View, machine_of, whole, dealt_to, is_dealt_to}
 use Rattle.shared_table.proofs.Reached.{reached_opens, reached_picked}
 use Rattle.shared_table.proofs.ViewsShow.{machine_of-whole, machine_of-picked}
+use Rattle.heap_machines.proofs.Openings.{first_count}
 use Rattle.step_core.specs.Actor.{Actor}
 use Rattle.step_core.specs.Opening.{opening, opening_actor, opening_machine}
 use Rattle.shen_graph.specs.declared.order.Order.TheVariants.{Nothing}
@@ -23,8 +24,8 @@ use Rattle.table_heap.specs.Core.{heap_kind, heap_opening, nobody}
 use Rattle.table_heap.specs.State.{view_of, machine_at, order_at, steps_at, orders_of, steps_of, HasMachine, IsFresh}
 use Rattle.table_heap.proofs.Running.{at_number}
 use Rattle.heap_seats.specs.declared.seat.Seat.{Seat}
-use Rattle.heap_seats.specs.Known.{HaveRun}
 use Rattle.heap_seats.specs.FreshSeats.{IsFreshSeat}
+use Rattle.heap_seats.specs.Known.{HaveRun, HasOnly}
 use Rattle.heap_seats.proofs.Known.{has_seen}
 
 abbrev pub seats_in : Config → ℕ
@@ -49,6 +50,22 @@ dealt_there c number inside =
     machine_of-picked (is_dealt_to (seats_in c) number) (whole (heap_opening c).machines) number
     ∙ ap (λ (b : Bool). if b then machine_of (whole (heap_opening c).machines) number else None) is
     ∙ machine_of-whole (heap_opening c).machines number ∙ opening_there c number inside
+
+-- and no other one
+dealt_only : (c : Config) (number k : ℕ) (a : Actor) → machine_of (dealt_in c number) k ≡ Some a → k ≡ number
+dealt_only c number k a there = by_test (is_dealt_to (seats_in c) number k) refl (sym (machine_of-picked (is_dealt_to (seats_in c) number) (whole (heap_opening c).machines) k) ∙ there)
+  where
+    by_test : (b : Bool) → is_dealt_to (seats_in c) number k ≡ b → (if b then machine_of (whole (heap_opening c).machines) k else None) ≡ Some a → k ≡ number
+    by_test true is here =
+        let within = slice_get_within (heap_opening c).machines k a (sym (machine_of-whole (heap_opening c).machines k) ∙ here) in
+        let inside : k < seats_in c = omega (arith, within, first_count c) in
+        let same : k % seats_in c ≡ k = mod-eq_of_lt inside in
+        grind (arith, nat_tests, same, is)
+    by_test false is here = absurd cc
+
+some_of : {A : Type 0} (o : Option A) → is_some o ≡ true → (a : A) × (o ≡ Some a)
+some_of None is = absurd cc
+some_of (Some a) is = (a, refl)
 
 default_or : {A : Type 0} (o : Option A) (d : A) → ((x : A) → o ≡ Some x → x ≡ d) → unwrap_or o d ≡ d
 default_or None d each = refl
@@ -77,6 +94,11 @@ module _ (c : Config) (h : Heap) (b : Bundle) (number : ℕ) (inside : number < 
 
   pub fresh_calls : (unwrap_or (machine_of (view_of b) number) nobody).calls ≡ []
   fresh_calls = ap (λ o. (unwrap_or o nobody).calls) there
+
+pub fresh_only : (c : Config) (h : Heap) (b : Bundle) (number : ℕ) → IsFresh h b (dealt_in c number) → HasOnly b number
+fresh_only c h b number fresh k here =
+    let a = some_of (machine_of (view_of b) k) (sym (has_seen b k) ∙ here) in
+    dealt_only c number k a.0 (ap (λ v. machine_of v k) (sym fresh.machines) ∙ a.1)
 
 -- ---- lists
 

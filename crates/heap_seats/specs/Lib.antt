@@ -3,3 +3,4 @@ pub mod Known
 pub mod Ordering
 pub mod Going
 pub mod FreshSeats
+pub mod GivenUp

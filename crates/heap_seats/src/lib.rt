@@ -2,11 +2,13 @@
 //! asks. Nothing here waits, starts a thread or takes a lock.
 #![tactic(auto)]
 
+mod closing;
 mod opening;
 mod progress;
 mod seat;
 mod share;
 
+pub use closing::Closing;
 pub use opening::open_seats;
 pub use progress::{Progress, Refused, State};
 pub use seat::Seat;

@@ -1,7 +1,7 @@
 ghost use Rattle.std.specs.Prelude.{◌≡◌};
 ghost use Rattle.std.specs.Arc.{arc_value};
 ghost use Rattle.table_heap.specs.State.{IsBundleOf, HasMachine, heap_of};
-ghost use Rattle.heap_seats.specs.Known.{HaveRun};
+ghost use Rattle.heap_seats.specs.Known.{HaveRun, HasOnly};
 
 use crate::progress::{Progress, Refused, State};
 use heap_words::{Config, NoMemory};
@@ -19,6 +19,7 @@ pub struct Seat {
     pub(crate) number: usize,
     ghost fits: { IsBundleOf bundle (arc_value heap) },
     ghost here: { HasMachine bundle number },
+    ghost only: { HasOnly bundle number },
     ghost same_config: { heap_of bundle ≡ config },
     ghost reached: { HaveRun config bundle },
 }
@@ -60,6 +61,19 @@ impl Seat {
             bundle,
             number,
         })
+    }
+
+    // Its machine. The share of the heap is given up.
+    pub(crate) fn into_bundle(self) -> Bundle
+        ensures { result ≡ self.bundle }
+    {
+        let Seat {
+            heap: _,
+            config: _,
+            bundle,
+            number: _,
+        } = self;
+        bundle
     }
 
     /// The sizes of its heap.

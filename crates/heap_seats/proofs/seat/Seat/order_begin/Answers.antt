@@ -1,13 +1,27 @@
-use Rattle.std.proofs.Common.{refl, ap}
+use Rattle.std.proofs.Common.{◌∙◌, refl, ap}
 use Rattle.std.specs.Prelude.{unwrap_or}
+use Rattle.std.specs.Arc.{arc_value}
 use Rattle.shen_graph.specs.declared.order.Order.TheVariants.{Begin}
 use Rattle.shared_table.specs.Views.{machine_of}
 use Rattle.step_core.specs.Machines.{may_begin}
 use Rattle.table_heap.specs.Core.{nobody}
 use Rattle.table_heap.specs.State.{machine_at}
 use Rattle.heap_seats.specs.Seats.{state_by}
-use Rattle.heap_seats.proofs.Known.{given_order, takes_turn}
+use Rattle.heap_seats.proofs.Known.{stays_of, stays_here, stays_only, unmoved_run, given_order, takes_turn}
 use Rattle.heap_seats.proofs.seat.Seat.order_begin.Goals as goal
+
+pub invariant_of-self : goal.invariant_of-self
+invariant_of-self c =
+    let s = c.args.self.now in
+    let b = c.begin.new.self in
+    let made = c.begin.ensures.unmoved in
+    record {
+      fits = stays_of (arc_value s.heap) s.bundle b made.same s.fits;
+      here = stays_here s.bundle b s.number made.same s.here;
+      only = stays_only s.bundle b s.number made.same s.only;
+      same_config = made.same.config ∙ s.same_config;
+      reached = unmoved_run s.config s.bundle b made s.reached;
+    }
 
 pub returns : goal.returns
 returns c =

@@ -5,8 +5,8 @@ use Rattle.heap_machines.specs.declared.stepped.Stepped.{Stepped}
 use Rattle.heap_machines.specs.declared.stepped.Stepped.TheVariants as stepped
 use Rattle.table_heap.specs.State.{has_turn, machine_at}
 use Rattle.heap_seats.specs.Going.{HasWaited}
-use Rattle.heap_seats.proofs.Known.{stays_of, stays_here, goes_run}
 use Rattle.heap_seats.proofs.Stepped.{calls_go, doing_goes, order_then, steps_then, waited_then}
+use Rattle.heap_seats.proofs.Known.{stays_of, stays_here, stays_only, goes_run}
 use Rattle.heap_seats.proofs.seat.Seat.step.Goals as goal
 
 has_one : (turn : Bool) (said : Stepped) → (turn ≡ false → said ≡ stepped.Idle) → said ≢ stepped.Idle → turn ≡ true
@@ -21,6 +21,7 @@ invariant_of-self c =
     record {
       fits = stays_of (arc_value s.heap) s.bundle b made.same s.fits;
       here = stays_here s.bundle b s.number made.same s.here;
+      only = stays_only s.bundle b s.number made.same s.only;
       same_config = made.same.config ∙ s.same_config;
       reached = goes_run s.config s.bundle b s.number c.step.result s.same_config made.unchanged made.event s.reached;
     }

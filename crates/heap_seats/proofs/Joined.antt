@@ -1,0 +1,239 @@
+-- Seats of one heap whose machines are joined.
+use Rattle.std.proofs.Common.{◌≡◌, ◌<◌, ◌⊎◌, inl, inr, ℕ, zero, suc, ◌+◌, Bool, true, false, not, ◌&&◌, List, [], ◌∷◌, ◌++◌, length, Option, Some, None, refl, sym, ap, ◌∙◌, subst, arith}
+use Rattle.std.specs.Prelude.{slice_get, unwrap_or, nat_lt}
+use Rattle.std.specs.Arc.{arc_value}
+use Rattle.std.specs.Option.{is_some}
+use Rattle.std.proofs.lemmas.Bool.Decides.{nat_tests}
+use Rattle.heap_words.specs.declared.config.Config.{Config}
+use Rattle.heap_words.specs.Ranges.{seat_count}
+use Rattle.steps_base.specs.Steps.{IsReached}
+use Rattle.shen_graph.specs.declared.order.Order.TheVariants.{Nothing}
+use Rattle.shen_graph.specs.Order.{is_nothing}
+use Rattle.mutator.specs.Orders.{is_between_calls}
+use Rattle.shared_table.specs.Views.{machine_of, whole, merged, whichever_is_there}
+use Rattle.shared_table.proofs.Kept.{kept_here}
+use Rattle.shared_table.proofs.ViewsShow.{machine_of-merged, machine_of-whole}
+use Rattle.heap_machines.specs.Pause.{pause_image}
+use Rattle.heap_machines.proofs.Pauses.{heap_pauses}
+use Rattle.heap_machines.proofs.Turns.{turn_idle}
+use Rattle.heap_machines.proofs.RestedGraph.{entries_at_rest}
+use Rattle.step_core.specs.Actor.{Actor}
+use Rattle.step_core.specs.Begins.{Run}
+use Rattle.step_core.specs.Machines.{is_resting, takes_of, may_begin}
+use Rattle.step_core.specs.Settled.{control_number}
+use Rattle.step_core.proofs.Theorem.EveryList.{run_sound}
+use Rattle.table_heap.specs.declared.heap.Heap.{Heap}
+use Rattle.table_heap.specs.declared.bundle.Bundle.{Bundle}
+use Rattle.table_heap.specs.declared.closed.Closed.{Closed}
+use Rattle.table_heap.specs.Closed as closed
+use Rattle.table_heap.specs.Core.{heap_kind, heap_opening, nobody}
+use Rattle.table_heap.specs.State.{view_of, machines_of, IsBundleOf, has_turn, order_at}
+use Rattle.heap_machines.specs.Shown.{shown, order_of}
+use Rattle.heap_machines.specs.Roles.{is_mutating}
+use Rattle.heap_machines.specs.declared.machine.Machine as memory
+use Rattle.heap_machines.specs.declared.machine.Machine.TheVariants as memories
+use Rattle.table_heap.proofs.Core.{run_of}
+use Rattle.table_heap.proofs.MachineUnder.{shows_as}
+use Rattle.table_heap.proofs.Running.{at_number, in_view, in_memory, role_at}
+use Rattle.heap_seats.specs.declared.progress.State.TheVariants.{Ended}
+use Rattle.heap_seats.specs.declared.seat.Seat.{Seat}
+use Rattle.heap_seats.specs.Seats.{actor_in, machine_of_seat, state_in, state_by}
+use Rattle.heap_seats.specs.GivenUp.{AreJoined, AreAllSeats, AreOver, HaveNot, HaveOneHistory}
+use Rattle.heap_seats.proofs.Known.{has_seen}
+use Rattle.heap_seats.proofs.Opened.{get_last, get_init}
+
+-- the machine of a seat
+seat_there : (s : Seat) → machine_of (view_of s.bundle) s.number ≡ Some (actor_in s)
+seat_there s = let a = in_view s.bundle s.number s.here in a.1 ∙ ap (λ (x : Actor). Some x) (sym (ap (λ o. unwrap_or o nobody) a.1))
+
+seat_only : (s : Seat) (k : ℕ) (a : Actor) → machine_of (view_of s.bundle) k ≡ Some a → k ≡ s.number
+seat_only s k a there = s.only k (has_seen s.bundle k ∙ ap is_some there)
+
+none_at : {A : Type 0} (o : Option A) → ((a : A) → o ≡ Some a → ⊥) → o ≡ None
+none_at None never = refl
+none_at (Some a) never = absurd (never a refl)
+
+same_some : {A : Type 0} (x y : A) → Some x ≡ Some y → x ≡ y
+same_some x y is = cc
+
+one_of : {A : Type 0} (y : A) (k : ℕ) (x : A) → slice_get (y ∷ []) k ≡ Some x → y ≡ x
+one_of y zero x is = same_some y x is
+one_of y (suc k) x is = absurd cc
+
+-- one seat alone
+pub joined_one : (s : Seat) → AreJoined (arc_value s.heap) (s ∷ []) s.bundle
+joined_one s = record {
+  of = s.fits;
+  each = λ k t there. let seat = one_of s k t there in subst (λ (x : Seat). machine_of (view_of s.bundle) x.number ≡ Some (actor_in x)) seat (seat_there s);
+  only = λ number absent. none_at (machine_of (view_of s.bundle) number) (λ a is. absent 0 s refl (sym (seat_only s number a is)));
+}
+
+-- what is under a number where two are joined
+first_there : {A : Type 0} (o p : Option A) (a : A) → o ≡ Some a → whichever_is_there o p ≡ Some a
+first_there o p a is = ap (λ x. whichever_is_there x p) is
+
+second_there : {A : Type 0} (o p : Option A) (a : A) → o ≡ None → p ≡ Some a → whichever_is_there o p ≡ Some a
+second_there o p a none is = ap (λ x. whichever_is_there x p) none ∙ is
+
+-- a seat of two lists, one behind the other
+in_both : {A : Type 0} (xs ys : List A) (k : ℕ) (x : A) → slice_get (xs ++ ys) k ≡ Some x → (slice_get xs k ≡ Some x) ⊎ ((j : ℕ) × (slice_get ys j ≡ Some x))
+in_both [] ys k x is = inr (k, is)
+in_both (y ∷ xs) ys zero x is = inl is
+in_both (y ∷ xs) ys (suc k) x is = in_both xs ys k x is
+
+-- and one more behind it
+module _ (h : Heap) (before : List Seat) (s : Seat) (old new : Bundle) (joined : AreJoined h before old) (absent : HaveNot before s.number) (of : IsBundleOf new h) (view : view_of new ≡ merged (view_of old) (view_of s.bundle)) where
+  under : (k : ℕ) → machine_of (view_of new) k ≡ whichever_is_there (machine_of (view_of old) k) (machine_of (view_of s.bundle) k)
+  under k = ap (λ v. machine_of v k) view ∙ machine_of-merged (view_of old) (view_of s.bundle) k
+
+  new_there : machine_of (view_of old) s.number ≡ None
+  new_there = joined.only s.number absent
+
+  mine : machine_of (view_of new) s.number ≡ Some (actor_in s)
+  mine = under s.number ∙ second_there (machine_of (view_of old) s.number) (machine_of (view_of s.bundle) s.number) (actor_in s) new_there (seat_there s)
+
+  each_there : (k : ℕ) (t : Seat) → (slice_get before k ≡ Some t) ⊎ ((j : ℕ) × (slice_get (s ∷ []) j ≡ Some t)) → machine_of (view_of new) t.number ≡ Some (actor_in t)
+  each_there k t (inl is) = under t.number ∙ first_there (machine_of (view_of old) t.number) (machine_of (view_of s.bundle) t.number) (actor_in t) (joined.each k t is)
+  each_there k t (inr is) = subst (λ (x : Seat). machine_of (view_of new) x.number ≡ Some (actor_in x)) (one_of s is.0 t is.1) mine
+
+  none_there : (o p : Option Actor) → o ≡ None → p ≡ None → whichever_is_there o p ≡ None
+  none_there o p first second = ap (λ x. whichever_is_there x p) first ∙ second
+
+  only_these : (number : ℕ) → HaveNot (before ++ s ∷ []) number → machine_of (view_of new) number ≡ None
+  only_these number none =
+      under number ∙ none_there (machine_of (view_of old) number) (machine_of (view_of s.bundle) number) (joined.only number (λ k t is. none k t (get_init before (s ∷ []) k t is)))
+      (none_at (machine_of (view_of s.bundle) number) (λ a is. none (length before) s (get_last before s) (sym (seat_only s number a is))))
+
+  pub joined_more : AreJoined h (before ++ s ∷ []) new
+  joined_more = record {
+    of = of;
+    each = λ k t there. each_there k t (in_both before (s ∷ []) k t there);
+    only = only_these;
+  }
+
+-- ---- all of them
+
+some_at : {A : Type 0} (xs : List A) (k : ℕ) → k < length xs → (x : A) × (slice_get xs k ≡ Some x)
+some_at [] k below = absurd (omega (arith, below))
+some_at (x ∷ xs) zero below = (x, refl)
+some_at (x ∷ xs) (suc k) below = some_at xs k (omega (arith, below))
+
+-- a machine that is no mutator is given no order
+no_order : (m : memory.Machine) → is_mutating (shown m) ≡ false → order_of m ≡ Nothing
+no_order (memories.Mutator m) other = absurd cc
+no_order _ other = refl
+
+-- a mutator that makes no step is between two calls
+both_rest : (rest none : Bool) → not (rest && none) ≡ false → rest ≡ true
+both_rest true none is = refl
+both_rest false none is = absurd cc
+
+no_turn_rests : (m : memory.Machine) → is_mutating (shown m) ≡ true → takes_of (shown m) (order_of m) ≡ false → is_resting (shown m) ≡ true
+no_turn_rests (memories.Mutator m) role none = both_rest (is_between_calls m.spot) (is_nothing m.order) (sym (turn_idle m.spot m.made m.order m.allowed) ∙ none)
+no_turn_rests _ role none = absurd cc
+
+turn_ended : (turn may : Bool) → state_by turn may ≡ Ended → turn ≡ false
+turn_ended true may is = absurd cc
+turn_ended false may is = refl
+
+-- what memory has of a seat that has ended
+module _ (s : Seat) (over : state_in s ≡ Ended) where
+  there : machine_of (view_of s.bundle) s.number ≡ Some (actor_in s)
+  there = seat_there s
+
+  machine : machine_of_seat s ≡ (actor_in s).machine
+  machine = at_number s.bundle s.number (actor_in s) there
+
+  found : (m : memory.Machine) × (machine_of s.bundle.machines.items s.number ≡ Some m) × (shown m ≡ (actor_in s).machine)
+  found = kept_here shown s.bundle.machines.items s.number (actor_in s).machine (in_memory s.bundle s.number (actor_in s) there)
+
+  role : is_mutating (shown found.0) ≡ nat_lt s.number s.config.mutators
+  role = ap is_mutating found.2 ∙ role_at s.bundle s.number (actor_in s) there ∙ ap (λ (k : Config). nat_lt s.number k.mutators) s.same_config
+
+  order : order_at s.bundle s.number ≡ order_of found.0
+  order = shows_as order_of s.bundle.machines.items s.number found.0 Nothing found.1
+
+  takes_none : takes_of (shown found.0) (order_of found.0) ≡ false
+  takes_none =
+      ap (takes_of (shown found.0)) (sym order) ∙ ap (λ m. takes_of m (order_at s.bundle s.number)) (found.2 ∙ sym machine)
+      ∙ turn_ended (has_turn s.bundle s.number) (may_begin (machine_of_seat s)) over
+
+  -- where it is no mutator's, it takes no order
+  seat_idle : nat_lt s.number s.config.mutators ≡ false → takes_of (actor_in s).machine Nothing ≡ false
+  seat_idle other = ap (λ m. takes_of m Nothing) (sym found.2) ∙ ap (takes_of (shown found.0)) (sym (no_order found.0 (role ∙ other))) ∙ takes_none
+
+  -- where it is, no call is in progress
+  seat_rests : nat_lt s.number s.config.mutators ≡ true → is_resting (actor_in s).machine ≡ true
+  seat_rests is = subst (λ m. is_resting m ≡ true) found.2 (no_turn_rests found.0 (role ∙ is) takes_none)
+
+module _ (c : Config) (h : Heap) (all : List Seat) (b : Bundle) (seats : AreAllSeats c h all) (joined : AreJoined h all b) where
+  each_is : (k : ℕ) (s : Seat) → slice_get all k ≡ Some s → machine_of (view_of b) k ≡ Some (actor_in s)
+  each_is k s there = ap (machine_of (view_of b)) (sym (seats.number k s there)) ∙ joined.each k s there
+
+  -- the heap has these sizes
+  heap_is : (k : ℕ) (s : Seat) → slice_get all k ≡ Some s → h.config ≡ c
+  heap_is k s there = ap (λ (g : Heap). g.config) (sym (seats.heap k s there)) ∙ sym s.fits.config ∙ s.same_config ∙ seats.config k s there
+
+  first : (s : Seat) × (slice_get all 0 ≡ Some s)
+  first = some_at all 0 (let count = seats.count in omega (arith, count))
+
+  sizes : b.config ≡ c
+  sizes = joined.of.config ∙ heap_is 0 first.0 first.1
+
+  pub has_all : closed.HasAll b
+  has_all k below =
+      let inside : k < seat_count c.mutators c.helpers = subst (λ (x : Config). k < seat_count x.mutators x.helpers) sizes below in
+      let s = some_at all k (let count = seats.count in omega (arith, inside, count)) in
+      has_seen b k ∙ ap is_some (each_is k s.0 s.1)
+
+  pub control_idle : AreOver c all → closed.IsControlIdle b
+  control_idle over a there =
+      let at = control_number c in
+      let s = some_at all at (let count = seats.count in omega (arith, count)) in
+      let here : machine_of (view_of b) at ≡ Some a = ap (λ (x : Config). machine_of (view_of b) (control_number x)) (sym sizes) ∙ there in
+      let same : actor_in s.0 ≡ a = same_some (actor_in s.0) a (sym (each_is at s.0 s.1) ∙ here) in
+      let number = seats.number at s.0 s.1 in
+      let mutators : s.0.config.mutators ≡ c.mutators = ap (λ (x : Config). x.mutators) (seats.config at s.0 s.1) in
+      let other : nat_lt s.0.number s.0.config.mutators ≡ false = grind (arith, nat_tests, number, mutators) in
+      subst (λ (x : Actor). takes_of x.machine Nothing ≡ false) same (seat_idle s.0 (over at s.0 s.1 (inr refl)) other)
+
+  pub config_is : h.config ≡ c
+  config_is = heap_is 0 first.0 first.1
+
+  -- a mutator's seat has no call in progress
+  rests : AreOver c all → (k : ℕ) (s : Seat) → slice_get all k ≡ Some s → k < c.mutators → is_resting (actor_in s).machine ≡ true
+  rests over k s there below =
+      let number = seats.number k s there in
+      let mutators : s.config.mutators ≡ c.mutators = ap (λ (x : Config). x.mutators) (seats.config k s there) in
+      let is : nat_lt s.number s.config.mutators ≡ true = grind (arith, nat_tests, number, mutators, below) in
+      seat_rests s (over k s there (inl below)) is
+
+  -- what is left of the machines
+  module _ (left : Closed) (view : view_of b ≡ whole (closed.machines_of left)) where
+    left_there : (k : ℕ) → slice_get (closed.machines_of left) k ≡ machine_of (view_of b) k
+    left_there k = sym (machine_of-whole (closed.machines_of left) k) ∙ ap (λ v. machine_of v k) (sym view)
+
+    pub all_rest : closed.config_of left ≡ c → AreOver c all → closed.AllRest left
+    all_rest is over k a below there =
+        let mutators : (closed.config_of left).mutators ≡ c.mutators = ap (λ (x : Config). x.mutators) is in
+        let inside : k < c.mutators = omega (arith, below, mutators) in
+        let s = some_at all k (let count = seats.count in omega (arith, count, inside)) in
+        let same : actor_in s.0 ≡ a = same_some (actor_in s.0) a (sym (each_is k s.0 s.1) ∙ sym (left_there k) ∙ there) in
+        subst (λ (x : Actor). is_resting x.machine ≡ true) same (rests over k s.0 s.1 inside)
+
+    -- one history
+    pub one_history : AreOver c all → IsReached (heap_kind h.config) (heap_opening h.config) (closed.stage_of left) → HaveOneHistory c all left
+    one_history over reached_h =
+        let reached : IsReached (heap_kind c) (heap_opening c) (closed.stage_of left) = subst (λ (x : Config). IsReached (heap_kind x) (heap_opening x) (closed.stage_of left)) config_is reached_h in
+        let run : Run c = run_of c reached.events in
+        let sound = run_sound pause_image heap_pauses c run in
+        record {
+          events = reached.events;
+          ends = reached.ends;
+          legal = sound.legal;
+          crowded = sound.crowded;
+          entries = sound.entries;
+          parts = λ k s there below.
+              let here : slice_get (closed.machines_of left) k ≡ Some (actor_in s) = left_there k ∙ each_is k s there in
+              entries_at_rest c run k (actor_in s) (ap (λ st. slice_get st.machines k) reached.ends ∙ here) (rests over k s there below);
+        }

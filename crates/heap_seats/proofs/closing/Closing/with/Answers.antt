@@ -1,0 +1,14 @@
+use Rattle.std.proofs.Common.{ap, ◌∙◌, subst}
+use Rattle.std.specs.Arc.{arc_value}
+use Rattle.shared_table.specs.Views.{merged}
+use Rattle.table_heap.specs.declared.bundle.Bundle.{Bundle}
+use Rattle.table_heap.specs.State.{view_of, IsBundleOf}
+use Rattle.heap_seats.proofs.Joined.{joined_more}
+use Rattle.heap_seats.proofs.closing.Closing.with.Goals as goal
+
+pub returns-clause-given : goal.returns-clause-given
+returns-clause-given c before given absent =
+    let k = c.args.self in
+    let new = c.join-together.result in
+    joined_more (arc_value k.heap) before c.args.seat k.together new given absent (subst (IsBundleOf new) c.deref.ensures c.join-together.ensures.heap)
+    (c.join-together.ensures.view ∙ ap (λ (b : Bundle). merged (view_of k.together) (view_of b)) c.into_bundle.ensures)

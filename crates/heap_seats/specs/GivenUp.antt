@@ -1,0 +1,75 @@
+-- The end of a heap, by all its seats.
+use Rattle.std.specs.Prelude.{ℕ, ◌≡◌, ◌≢◌, ◌+◌, ◌<◌, ◌⊎◌, List, length, Some, None, All, slice_get}
+use Rattle.std.specs.Arc.{arc_value}
+use Rattle.heap_words.specs.declared.config.Config.{Config}
+use Rattle.heap_words.specs.Ranges.{seat_count}
+use Rattle.shen_graph.specs.declared.order.Order.{Order}
+use Rattle.shen_graph.specs.Crowd.{AreCrowded}
+use Rattle.shen_graph.specs.History.{EachIsLegal, of_thread}
+use Rattle.steps_base.specs.Steps.{Event}
+use Rattle.heap_machines.specs.Pause.{pause_image}
+use Rattle.shared_table.specs.Views.{machine_of}
+use Rattle.step_core.specs.Begins.{reached, first_graph, past}
+use Rattle.step_core.specs.Begun.{scripts_begun}
+use Rattle.step_core.specs.Settled.{control_number}
+use Rattle.step_core.specs.Threads.{IsSettled}
+use Rattle.table_heap.specs.declared.closed.Closed.{Closed as Left}
+use Rattle.table_heap.specs.declared.heap.Heap.{Heap}
+use Rattle.table_heap.specs.declared.bundle.Bundle.{Bundle}
+use Rattle.table_heap.specs.Closed as closed
+use Rattle.table_heap.specs.State.{config_of as heap_sizes, view_of, IsBundleOf}
+use Rattle.heap_seats.specs.declared.progress.State.TheVariants.{Ended}
+use Rattle.heap_seats.specs.declared.seat.Seat.{Seat}
+use Rattle.heap_seats.specs.declared.closing.Closing.{Closing}
+use Rattle.heap_seats.specs.Seats.{config_of, number_of, heap_shared, actor_in, calls_of, state_in}
+
+-- the heap of seats that are given up together
+abbrev pub heap_closing : Closing → Heap
+heap_closing closing = arc_value closing.heap
+
+-- and its sizes
+abbrev pub sizes_closing : Closing → Config
+sizes_closing closing = heap_sizes (heap_closing closing)
+
+-- none of them has this number
+abbrev pub HaveNot : List Seat → ℕ → Type 0
+HaveNot seats number = (k : ℕ) (s : Seat) → slice_get seats k ≡ Some s → number_of s ≢ number
+
+-- The bundle has the machine of each of these seats of one heap, and no other.
+pub record AreJoined (h : Heap) (seats : List Seat) (b : Bundle) : Type 0 where
+  pub of : IsBundleOf b h
+  pub each : (k : ℕ) (s : Seat) → slice_get seats k ≡ Some s → machine_of (view_of b) (number_of s) ≡ Some (actor_in s)
+  pub only : (number : ℕ) → HaveNot seats number → machine_of (view_of b) number ≡ None
+
+-- these are the seats that are given up
+abbrev pub AreGivenUp : List Seat → Closing → Type 0
+AreGivenUp seats closing = AreJoined (heap_closing closing) seats closing.together
+
+-- all seats of one heap, in the order of their numbers
+pub record AreAllSeats (c : Config) (h : Heap) (seats : List Seat) : Type 0 where
+  pub count : length seats ≡ seat_count c.mutators c.helpers
+  pub config : (k : ℕ) (s : Seat) → slice_get seats k ≡ Some s → config_of s ≡ c
+  pub heap : (k : ℕ) (s : Seat) → slice_get seats k ≡ Some s → heap_shared s ≡ h
+  pub number : (k : ℕ) (s : Seat) → slice_get seats k ≡ Some s → number_of s ≡ k
+
+-- each mutator and the control have ended
+abbrev pub AreOver : Config → List Seat → Type 0
+AreOver c seats = (k : ℕ) (s : Seat) → slice_get seats k ≡ Some s → (k < c.mutators) ⊎ (k ≡ control_number c) → state_in s ≡ Ended
+
+-- all seats of a heap are given up, by their numbers, and it is over
+pub record MayEndHeap (closing : Closing) : Type 0 where
+  pub seats : List Seat
+  pub given : AreGivenUp seats closing
+  pub all : AreAllSeats (sizes_closing closing) (heap_closing closing) seats
+  pub over : AreOver (sizes_closing closing) seats
+
+-- Some events lead from the opening to just the words and machines that are left. Their history is legal, and each allocation that it refuses
+-- was crowded out. Each of its entries is a mutator's, and the part of each mutator is the calls of its seat: each call stands there once, in
+-- the order in which the seat was answered, and no other.
+pub record HaveOneHistory (c : Config) (seats : List Seat) (left : Left) : Type 0 where
+  pub events : List (Event Order)
+  pub ends : reached pause_image c events ≡ closed.stage_of left
+  pub legal : EachIsLegal (first_graph c) (past pause_image c events)
+  pub crowded : AreCrowded c.regions c.region_words (first_graph c) (scripts_begun c (reached pause_image c events)) (past pause_image c events)
+  pub entries : All (IsSettled c.mutators) (past pause_image c events)
+  pub parts : (k : ℕ) (s : Seat) → slice_get seats k ≡ Some s → k < c.mutators → of_thread (past pause_image c events) (k + 1) ≡ calls_of s
