@@ -1,5 +1,5 @@
 -- Why no test is searched, and which line and which status say so.
-use Rattle.std.specs.Prelude.{ℕ, ◌≡◌, List, [], ◌∷◌, ◌++◌, codes}
+use Rattle.std.specs.Prelude.{ℕ, List, [], ◌∷◌, ◌++◌, codes}
 use Rattle.std.specs.Fmt.{decimal}
 use Rattle.trace_grammar.specs.Spelling.{newline}
 use Rattle.find_reading.specs.declared.fault.TestFault.{TestFault}

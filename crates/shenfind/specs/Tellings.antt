@@ -1,10 +1,10 @@
 -- What each status of the program means: what came in, and what was written.
-use Rattle.std.specs.Prelude.{ℕ, ◌≡◌, ◌≤◌, ◌+◌, ◌⊎◌, List, [], ◌∷◌, ◌++◌, codes, length, Option}
+use Rattle.std.specs.Prelude.{ℕ, ◌≡◌, ◌+◌, ◌⊎◌, List, [], ◌∷◌, ◌++◌, codes, length, Option}
 use Rattle.std.specs.Fmt.{decimal}
 use Rattle.std.specs.Io.KnownBytes.{Appends, Consumes}
 use Rattle.shen_base.specs.Count.{Rose}
 use Rattle.trace_grammar.specs.Grammar.{most_bytes}
-use Rattle.trace_grammar.specs.Spelling.{header, newline}
+use Rattle.trace_grammar.specs.Spelling.{newline}
 use Rattle.trace_runs.specs.Words.{usual_steps}
 use Rattle.trace_runs.specs.Answered.{Input, Output, HasRead}
 use Rattle.find_grammar.specs.declared.test.Test.{Test}
@@ -12,7 +12,7 @@ use Rattle.find_play.specs.declared.verdict.Verdict.{Verdict}
 use Rattle.find_play.specs.declared.verdict.Verdict.TheVariants as verdict
 use Rattle.find_reading.specs.declared.fault.TestWhy.{TestWhy}
 use Rattle.find_reading.specs.declared.fault.TestFault.TheVariants as fault
-use Rattle.find_reading.specs.TestFaults.{IsTraceRefusal}
+use Rattle.find_reading.specs.Tests.{test_said, IsTest, RefusesTest}
 use Rattle.find_hunt.specs.Judged.{IsBreak}
 use Rattle.shenfind.specs.FaultLines.{refusal_text}
 use Rattle.shenfind.specs.declared.status.Status.{Status}
@@ -63,17 +63,17 @@ HasSearched Fails test sink errors = FindsBreak Fails test sink errors
 HasSearched Stuck test sink errors = FindsBreak Stuck test sink errors
 HasSearched _ test sink errors = ⊥
 
--- A test came whole, whose first lines are the head of a trace of its heap; and this holds of it.
+-- What came whole is the text of a test, and this holds of the test.
 pub record HasTest (input : Input) (P : Test → Type 0) : Type 0 where
   pub test : Test
-  pub read : HasRead input (λ bytes. (rest : List ℕ) × (bytes ≡ header test.config ++ rest))
+  pub read : HasRead input (λ bytes. IsTest bytes (test_said test))
   pub is : P test
 
--- What came is refused, and the line says where and why. Where it has no head, a trace is refused there, too.
+-- What came whole is refused at this line, the first at fault, for the first cause that holds for it; and what is written says both.
 pub record IsTestRefused (input : Input) (sink errors : Output) : Type 0 where
   pub line : ℕ
   pub why : TestWhy
-  pub read : HasRead input (λ bytes. IsTraceRefusal bytes line why)
+  pub read : HasRead input (λ bytes. RefusesTest bytes line why)
   pub says : SaysLine (refusal_text (fault.BadLine line why)) sink errors
 
 -- more bytes came than a test may have

@@ -1,7 +1,7 @@
 use Rattle.std.proofs.Common.{refl}
 use Rattle.text_writer.specs.Sending.{outlet}
 use Rattle.trace_runs.specs.Answered.{Input, Output}
-use Rattle.shenfind.proofs.Told.{searched, refused, fault_is}
+use Rattle.shenfind.proofs.CallParts.{searched, refused, fault_is}
 use Rattle.shenfind.proofs.top.told.Goals as goal
 
 pub returns-in-Ok-clause-fits : goal.returns-in-Ok-clause-fits
@@ -15,8 +15,8 @@ returns-in-Ok-clause-fits g c =
       before = outlet (g.E.Sink.written c.args.errors.now) (g.E.Sink.faults c.args.errors.now) (g.E.Sink.calls c.args.errors.now);
       after = outlet (g.E.Sink.written c.search.new.errors) (g.E.Sink.faults c.search.new.errors) (g.E.Sink.calls c.search.new.errors);
     } in
-    let came = c.in-Ok.ensures.head in
-    searched c.search.result input sink errors c.in-Ok.test (record { bytes = came.0; came = came.1; is = (came.2, came.3); }) c.search.ensures.fits
+    let came = c.in-Ok.ensures.ok in
+    searched c.search.result input sink errors c.in-Ok.test (record { bytes = came.0; came = came.1; is = came.2 }) c.search.ensures.fits
 
 pub returns-in-Err-clause-fits : goal.returns-in-Err-clause-fits
 returns-in-Err-clause-fits g c =
@@ -31,7 +31,7 @@ returns-in-Err-clause-fits g c =
     } in
     refused c.refuse.result c.in-Err.fault input sink errors
     (fault_is c.in-Err.fault input
-    (λ n why e. let bad = c.in-Err.ensures.bad_line n why (cc) in record { bytes = bad.0; came = bad.1; is = bad.3; })
+    (λ n why e. let bad = c.in-Err.ensures.refused n why (cc) in record { bytes = bad.0; came = bad.1; is = bad.2 })
     (λ n e. (c.in-Err.ensures.too_long n (cc)).1)
     (λ e. c.in-Err.ensures.read_fault (cc)))
     refl c.refuse.ensures.status c.refuse.ensures.text
