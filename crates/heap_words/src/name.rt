@@ -196,7 +196,7 @@ impl Config {
         }
     }
 
-    // The name of a word of the regions, or of a current region, by how many words of these stand before it.
+    // The name of a word of the regions, or of a buffer, by how many words of these stand before it.
     fn region_name(&self, before: usize) -> WordName
         requires { image_start self.now + 6 + before < roots_start self.now }
         ensures word { IsWord self.now (word_of result) }
