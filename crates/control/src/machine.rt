@@ -1,7 +1,7 @@
 ghost use Rattle.std.specs.Prelude.{◌≡◌, ◌+◌, true};
 ghost use Rattle.heap_world.specs.Change.{image_words};
 ghost use Rattle.image_graph.specs.State.{config_of};
-ghost use Rattle.control_rows.specs.Ready.{is_ready};
+ghost use Rattle.control_rows.specs.Ready.{is_ready, IsHintFor};
 ghost use Rattle.control.specs.Clear.{IsClear};
 
 use crate::pause::{clear, load, put_word, take_found};
@@ -21,32 +21,38 @@ pub struct Control {
     image: Image,
     // The last word of the image, counted from 0 in the order of places.
     last_word: usize,
+    // The address of the heap that it was given as a hint, for its next step.
+    hint: Option<u64>,
+    // How many hints it has taken.
+    hints: u64,
     ghost ready: { is_ready (config_of image) spot ≡ true },
     ghost clear: { IsClear image },
+    ghost given: { IsHintFor (config_of image) spot hint },
     ghost last_is: { last_word + 1 ≡ image_words (config_of image) },
 }
 
 impl Control {
-    ghost use Rattle.std.specs.Prelude.{◌<◌, ◌≤◌, ◌↔◌, [], length, vec_len, slice_index, false};
+    ghost use Rattle.std.specs.Prelude.{◌<◌, ◌≤◌, ◌↔◌, [], length, vec_len, slice_index, false, Some, None, IfSome};
     ghost use Rattle.heap_words.specs.Access.{table_index};
     ghost use Rattle.steps_base.specs.Steps.{accessed};
-    ghost use Rattle.heap_words.specs.Words.{Free, Phase, Cset, table_words, heap_size};
+    ghost use Rattle.heap_words.specs.Words.{Free, Phase, Cset, Heap, IsWord, table_words, heap_size};
     ghost use Rattle.heap_world.specs.Change.{image_view};
     ghost use Rattle.image_graph.specs.State.{memory_of};
     ghost use Rattle.image_graph.specs.Holds.{HoldsSome};
     ghost use Rattle.image_graph.specs.Left.{StandsForSome, ShowsTheGraph};
-    ghost use Rattle.control_rows.specs.Rows.{is_gone, control_place, control_access, control_next, control_says};
+    ghost use Rattle.control_rows.specs.Rows.{is_gone, control_place, control_access, control_next, control_says, takes_hint, hinted_by, control_hinted, greys_at};
     ghost use Rattle.control_rows.specs.Waits.{WaitsAt};
     ghost use Rattle.cycle_pauses.specs.Collect.{collect_image};
     ghost use Rattle.control.specs.Fit.{IsFit};
     ghost use Rattle.control.specs.Image.{image_from, is_storing, is_inside_image, IsLoadedFrom};
-    ghost use Rattle.control.specs.Seen.{config_in, seen_control};
+    ghost use Rattle.control.specs.Seen.{config_in, seen_control, hint_of};
 
     /// The control of the image's heap. It has seen the image's phase, collection set and free word. Nothing else of the image
     /// matters.
     pub fn new(image: Image) -> Control
         ensures config { config_in result ≡ config_of image }
-        ensures seen { seen_control result ≡ record { spot = ControlSpot.LookLeft; seen = memory_of image Free; phase = memory_of image Phase; cset = memory_of image Cset; image = [] } }
+        ensures seen { seen_control result ≡ record { spot = ControlSpot.LookLeft; seen = memory_of image Free; phase = memory_of image Phase; cset = memory_of image Cset; image = []; hints = 0 } }
+        ensures hint { hint_of result ≡ None }
     {
         let mut image = image;
         let config = image.config();
@@ -61,12 +67,15 @@ impl Control {
             last,
             image,
             last_word: image_words(config) - 1,
+            hint: None,
+            hints: 0,
         }
     }
 
-    /// Whether it has ended.
+    /// Whether it has ended. A hint stands only where it is taken.
     pub fn is_idle(&self) -> bool
-        ensures { result ≡ is_gone (seen_control self.now).spot }
+        ensures gone { result ≡ is_gone (seen_control self.now).spot }
+        ensures given { IsHintFor (config_in self.now) (seen_control self.now).spot (hint_of self.now) }
     {
         self.spot.is_gone()
     }
@@ -90,6 +99,59 @@ impl Control {
         }
     }
 
+    /// Whether it takes hints: it is about to claim a unit of marking.
+    pub fn takes_hint(&self) -> bool
+        ensures { result ≡ takes_hint (seen_control self.now).spot }
+    {
+        self.spot.takes_hint()
+    }
+
+    /// Gives it the hint of an address of the heap, which its next step takes: it scans the word that has the address's mark, and
+    /// claims no unit. It is about to claim one.
+    pub fn give_hint(&mut self, address: u64)
+        requires takes { takes_hint (seen_control self.old).spot ≡ true }
+        requires heap { IsWord (config_in self.old) (Heap address) }
+        ensures hint { hint_of self.new ≡ Some address }
+        ensures same { seen_control self.new ≡ seen_control self.old }
+        ensures config { config_in self.new ≡ config_in self.old }
+    {
+        self.hint = Some(address);
+    }
+
+    /// The hint that it was given for its next step, if it was given one.
+    pub fn hint(&self) -> Option<u64>
+        ensures { result ≡ hint_of self.now }
+    {
+        self.hint
+    }
+
+    /// How many hints it has taken, up to `u64::MAX`.
+    pub fn hints(&self) -> u64
+        ensures { result ≡ (seen_control self.now).hints }
+    {
+        self.hints
+    }
+
+    /// The address that its next access makes grey, if it does so: one of the heap.
+    pub fn greys(&self) -> Option<u64>
+        ensures row { result ≡ greys_at (seen_control self.now).spot }
+        ensures heap { IfSome result (λ address. IsWord (config_in self.now) (Heap address)) }
+    {
+        self.spot.greys()
+    }
+
+    // Where it goes on: with a hint, at the word of that.
+    fn goes_on_at(&self) -> ControlSpot
+        ensures row { result ≡ hinted_by (config_in self.now) (hint_of self.now) (seen_control self.now).spot }
+        ensures ready { is_ready (config_in self.now) result ≡ true }
+        ensures gone { is_gone result ≡ is_gone (seen_control self.now).spot }
+    {
+        match self.hint {
+            Some(address) => self.spot.hinted(self.image.config(), address),
+            None => self.spot,
+        }
+    }
+
     /// The place of its next access.
     pub fn place(&self) -> Place
         requires { is_gone (seen_control self.now).spot ≡ false }
@@ -101,11 +163,11 @@ impl Control {
     /// The access of its next step.
     pub fn plan(&self) -> Access
         requires { is_gone (seen_control self.now).spot ≡ false }
-        ensures row { result ≡ control_access (config_in self.now) (seen_control self.now) }
+        ensures row { result ≡ control_access (config_in self.now) (control_hinted (config_in self.now) (hint_of self.now) (seen_control self.now)) }
         ensures inside { table_index result < table_words (config_in self.now) }
     {
         let config = self.image.config();
-        match self.spot {
+        match self.goes_on_at() {
             ControlSpot::LoadWord { index } => Access::Load {
                 at: config.image_start() + index,
             },
@@ -125,6 +187,8 @@ impl Control {
         requires busy { is_gone (seen_control self.old).spot ≡ false }
         requires fit { IsFit (config_in self.old) (seen_control self.old) got }
         ensures config { config_in self.new ≡ config_in self.old }
+        ensures hint { hint_of self.new ≡ hint_of self.old }
+        ensures none { result ≡ true → hint_of self.old ≡ None }
         ensures same { result ≡ false → seen_control self.new ≡ seen_control self.old }
         ensures row { result ≡ true → seen_control self.new ≡ control_next collect_image (config_in self.old) (seen_control self.old) got }
         ensures says { result ≡ true → control_says (config_in self.old) (seen_control self.old) got ≡ Took.More }
@@ -150,6 +214,8 @@ impl Control {
         requires inside { is_inside_image (config_in self.old) (seen_control self.old).spot ≡ true }
         requires words { vec_len words.old ≡ table_words (config_in self.old) }
         ensures config { config_in self.new ≡ config_in self.old }
+        ensures none { hint_of self.old ≡ None }
+        ensures hint { hint_of self.new ≡ None }
         ensures words { words.new.items ≡ accessed (control_access (config_in self.old) (seen_control self.old)) words.old.items }
         ensures row { seen_control self.new ≡ control_next collect_image (config_in self.old) (seen_control self.old) (slice_index words.old.items (table_index (control_access (config_in self.old) (seen_control self.old)))) }
     {
@@ -171,8 +237,37 @@ impl Control {
     /// Goes on with the word that its access has found. A pause goes on to the next phase of the cycle, or makes room.
     pub fn took(&mut self, got: u64) -> Took
         requires busy { is_gone (seen_control self.old).spot ≡ false }
+        requires fit { IsFit (config_in self.old) (control_hinted (config_in self.old) (hint_of self.old) (seen_control self.old)) got }
+        ensures config { config_in self.new ≡ config_in self.old }
+        ensures hint { hint_of self.new ≡ None }
+        ensures row { seen_control self.new ≡ control_next collect_image (config_in self.old) (control_hinted (config_in self.old) (hint_of self.old) (seen_control self.old)) got }
+        ensures says { result ≡ control_says (config_in self.old) (control_hinted (config_in self.old) (hint_of self.old) (seen_control self.old)) got }
+        ensures again { (result ≡ Took.Again) ↔ WaitsAt (config_in self.old) (control_hinted (config_in self.old) (hint_of self.old) (seen_control self.old)) got }
+    {
+        self.take_hint();
+        self.took_word(got)
+    }
+
+    // Goes on from where its hint leads, which it has taken then, if it has one.
+    fn take_hint(&mut self)
+        ensures config { config_in self.new ≡ config_in self.old }
+        ensures hint { hint_of self.new ≡ None }
+        ensures row { seen_control self.new ≡ control_hinted (config_in self.old) (hint_of self.old) (seen_control self.old) }
+    {
+        if self.hint.is_some() {
+            self.spot = self.goes_on_at();
+            self.hints = self.hints.saturating_add(1);
+            self.hint = None;
+        }
+    }
+
+    // Goes on with the word, where it has no hint.
+    fn took_word(&mut self, got: u64) -> Took
+        requires none { hint_of self.old ≡ None }
+        requires busy { is_gone (seen_control self.old).spot ≡ false }
         requires fit { IsFit (config_in self.old) (seen_control self.old) got }
         ensures config { config_in self.new ≡ config_in self.old }
+        ensures hint { hint_of self.new ≡ None }
         ensures row { seen_control self.new ≡ control_next collect_image (config_in self.old) (seen_control self.old) got }
         ensures says { result ≡ control_says (config_in self.old) (seen_control self.old) got }
         ensures again { (result ≡ Took.Again) ↔ WaitsAt (config_in self.old) (seen_control self.old) got }
@@ -198,6 +293,7 @@ impl Control {
         requires threads { length text.old.roots ≡ (config_in self.old).mutators }
         requires stand { StandsForSome (config_in self.old) words.now }
         ensures config { config_in self.new ≡ config_in self.old }
+        ensures hint { hint_of self.new ≡ hint_of self.old }
         ensures same { seen_control self.new ≡ seen_control self.old }
         ensures shows { ShowsTheGraph (config_in self.old) words.now text.new }
         ensures same_room { text.new.room ≡ text.old.room }
@@ -215,6 +311,8 @@ impl Control {
             spot: _,
             last: _,
             last_word: _,
+            hint: _,
+            hints: _,
             image,
         } = self;
         image

@@ -1,8 +1,9 @@
 -- Whether the control can make its next access.
-use Rattle.std.specs.Prelude.{ℕ, ◌≡◌, ◌<◌, Bool, true, false, ◌&&◌, nat_lt, if◌then◌else◌}
+use Rattle.std.specs.Prelude.{ℕ, ◌≡◌, ◌<◌, Bool, true, false, ◌&&◌, nat_lt, if◌then◌else◌, Option}
+use Rattle.std.specs.Option.{ForSome}
 use Rattle.heap_words.specs.declared.config.Config.{Config}
 use Rattle.heap_words.specs.Access.{table_index}
-use Rattle.heap_words.specs.Words.{table_words}
+use Rattle.heap_words.specs.Words.{Heap, IsWord, table_words}
 use Rattle.steps_base.specs.Fits.{touch_fits}
 use Rattle.handshake.specs.Rows.{stop_touch, is_stopped}
 use Rattle.unit_part.specs.Rows as units
@@ -10,7 +11,7 @@ use Rattle.unit_part.specs.Ready as unit
 use Rattle.heap_world.specs.Change.{image_words}
 use Rattle.control_rows.specs.declared.spot.ControlSpot.{ControlSpot}
 use Rattle.control_rows.specs.declared.spot.ControlSpot.TheVariants.{Working, Stopping, LoadWord, StoreWord}
-use Rattle.control_rows.specs.Rows.{control_seat, access_with, next_spot}
+use Rattle.control_rows.specs.Rows.{control_seat, access_with, next_spot, takes_hint}
 
 -- whether the numbers of a spot are in range: the next access of a unit can be made, a seat is one of a mutator or a helper, an
 -- index one of a word of the image
@@ -20,6 +21,10 @@ is_ready c (Stopping at) = touch_fits c (stop_touch at) && (if is_stopped at the
 is_ready c (LoadWord index) = nat_lt index (image_words c)
 is_ready c (StoreWord index) = nat_lt index (image_words c)
 is_ready c _ = true
+
+-- a hint may stand: it is the hint of an address of the heap, and the control takes hints; or there is none
+abbrev pub IsHintFor : Config → ControlSpot → Option ℕ → Type 0
+IsHintFor c spot hint = ForSome hint (λ address. IsWord c (Heap address) × (takes_hint spot ≡ true))
 
 -- so the access is of a word of the table
 abbrev pub AccessesAreInside : Type 0

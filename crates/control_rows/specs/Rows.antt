@@ -1,7 +1,7 @@
 -- The rows of the control: for each spot its place, the access that it makes and what follows. While objects are marked, in phase
 -- 1, while they are copied, in phase 2, and while references are updated, in phase 3, it works on units as helpers do, and once none
 -- is left it makes the pause that ends the phase.
-use Rattle.std.specs.Prelude.{ℕ, ◌+◌, ◌*◌, ◌==◌, Bool, true, false, ◌&&◌, ◌||◌, nat_lt, List, [], ◌∷◌, ◌++◌, slice_index, if◌then◌else◌}
+use Rattle.std.specs.Prelude.{ℕ, ◌+◌, ◌*◌, ◌==◌, Bool, true, false, ◌&&◌, ◌||◌, nat_lt, List, [], ◌∷◌, ◌++◌, slice_index, if◌then◌else◌, Option, Some, None}
 use Rattle.std.specs.Int.{bit_at}
 use Rattle.heap_words.specs.declared.config.Config.{Config}
 use Rattle.heap_words.specs.declared.access.Access.{Access}
@@ -20,6 +20,7 @@ use Rattle.heap_words.specs.declared.access.Unit.TheVariants.{Worked, NoneLeft}
 use Rattle.unit_part.specs.declared.spot.UnitSpot.{UnitSpot}
 use Rattle.unit_part.specs.declared.spot.UnitSpot.TheVariants.{Ended}
 use Rattle.unit_part.specs.Rows as units
+use Rattle.unit_part.specs.Hints.{one_more}
 use Rattle.heap_world.specs.Change.{Change, image_view, image_words}
 use Rattle.control_rows.specs.declared.spot.ControlSpot.{ControlSpot}
 use Rattle.control_rows.specs.declared.spot.ControlSpot.TheVariants.{LookLeft, StoreEnd, LookAsked, LookFree, Working, Stopping, LoadWord, StoreWord, Go, Gone}
@@ -34,6 +35,8 @@ pub record Controlling : Type 0 where
   pub cset : ℕ
   -- the words of the image that it has loaded so far, and those of the new image while it stores them; outside pauses none
   pub image : List ℕ
+  -- how many hints it has taken, up to 2^64 - 1
+  pub hints : ℕ
 
 -- the control's seat is behind those of the mutators and the helpers
 abbrev pub control_seat : Config → ℕ
@@ -43,6 +46,27 @@ control_seat c = c.mutators + c.helpers
 abbrev pub is_gone : ControlSpot → Bool
 is_gone Gone = true
 is_gone _ = false
+
+-- whether it takes hints: it is about to claim a unit of marking
+abbrev pub takes_hint : ControlSpot → Bool
+takes_hint (Working at) = units.takes_hint at
+takes_hint _ = false
+
+-- from where it goes on with a hint, if it has one
+abbrev pub hinted_by : Config → Option ℕ → ControlSpot → ControlSpot
+hinted_by c hint (Working at) = Working (units.hinted_by c hint at)
+hinted_by c hint spot = spot
+
+-- the control as it goes on with a hint, if it has one: the hint is one more that it has taken
+abbrev pub control_hinted : Config → Option ℕ → Controlling → Controlling
+control_hinted c None k = k
+control_hinted c (Some address) k =
+    record { spot = hinted_by c (Some address) k.spot; seen = k.seen; phase = k.phase; cset = k.cset; image = k.image; hints = one_more k.hints }
+
+-- the address that the next access makes grey, if it does so
+abbrev pub greys_at : ControlSpot → Option ℕ
+greys_at (Working at) = units.greys_at at
+greys_at _ = None
 
 -- the place of the next access. There is none at the end, where it is named as that of the last access
 abbrev pub control_place : ControlSpot → Place
@@ -152,6 +176,7 @@ control_next change c k got = record {
   phase = next_phase change c k.spot k.image k.phase got;
   cset = next_set change c k.spot k.image k.cset got;
   image = next_image change c k.spot k.image got;
+  hints = k.hints;
 }
 
 -- what a step of stopping says: again while the seat is not out

@@ -1,7 +1,7 @@
-ghost use Rattle.std.specs.Prelude.{◌≡◌, ◌<◌, ◌↔◌, ◌==◌, true, false};
+ghost use Rattle.std.specs.Prelude.{◌≡◌, ◌<◌, ◌↔◌, ◌==◌, true, false, Some, IfSome};
 ghost use Rattle.std.specs.Int.{bit_at};
 ghost use Rattle.heap_words.specs.Access.{table_index};
-ghost use Rattle.heap_words.specs.Words.{table_words};
+ghost use Rattle.heap_words.specs.Words.{Heap, IsWord, table_words};
 ghost use Rattle.heap_world.specs.Change.{image_words};
 ghost use Rattle.control_rows.specs.Rows as rows;
 ghost use Rattle.control_rows.specs.Ready.{is_ready, UnitGoesOn};
@@ -85,6 +85,43 @@ impl ControlSpot {
             ControlSpot::LoadWord { .. } => Place::PL,
             ControlSpot::StoreWord { .. } => Place::PS,
             ControlSpot::Go => Place::P3,
+        }
+    }
+
+    /// Whether the control takes hints: it is about to claim a unit of marking.
+    pub fn takes_hint(self) -> bool
+        ensures { result ≡ rows.takes_hint self }
+    {
+        match self {
+            ControlSpot::Working { at } => at.takes_hint(),
+            _ => false,
+        }
+    }
+
+    /// Where the control goes on with the hint of an address of the heap, where it takes hints.
+    pub fn hinted(self, config: Config, address: u64) -> ControlSpot
+        requires takes { rows.takes_hint self ≡ true }
+        requires heap { IsWord config (Heap address) }
+        ensures row { result ≡ rows.hinted_by config (Some address) self }
+        ensures ready { is_ready config result ≡ true }
+        ensures busy { rows.is_gone result ≡ false }
+    {
+        match self {
+            ControlSpot::Working { at } => ControlSpot::Working {
+                at: at.hinted(config, address),
+            },
+            _ => unreachable!(),
+        }
+    }
+
+    /// The address that the next access makes grey, if it does so: one of the heap.
+    pub fn greys(self) -> Option<u64>
+        ensures row { result ≡ rows.greys_at self }
+        ensures heap { (config : Config) → is_ready config self ≡ true → IfSome result (λ address. IsWord config (Heap address)) }
+    {
+        match self {
+            ControlSpot::Working { at } => at.greys(),
+            _ => None,
         }
     }
 

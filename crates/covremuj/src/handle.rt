@@ -1,5 +1,7 @@
 ghost use Rattle.std.specs.Prelude.{◌≡◌, Option, Some, None, MatchOption};
 ghost use Rattle.std.specs.Option.{is_some};
+ghost use Rattle.std.specs.Coded.{coded_option};
+ghost use Rattle.heap_seats.specs.contracts.seat.Seat.{the_row};
 ghost use Rattle.heap_seats.specs.declared.seat.Seat.{Seat as Seats};
 ghost use Rattle.covremuj.specs.HeldSeats.{held_owns};
 
@@ -16,7 +18,7 @@ pub struct Handle {
     at: *mut u8,
     is_open: bool,
     alloc: Global,
-    pub ghost held: { Option Seats },
+    pub ghost held: { Option Seats } by { coded_option the_row.coded },
     ghost told: { is_open ≡ is_some held },
 }
 

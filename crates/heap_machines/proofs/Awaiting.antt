@@ -180,8 +180,8 @@ module _ (c : Config) where
   mutator_awaits seat made kept _ there = absurd (false≢true there)
 
   -- a helper
-  helper_awaits : (seat : ℕ) (at : HelpSpot) → is_machine_at E4 (helping (record { seat = seat; spot = at })) (order_for None (helping (record { seat = seat; spot = at }))) ≡ true → Awaits c (helping (record { seat = seat; spot = at }))
-  helper_awaits seat (help.Entering enter.Await) there = record {
+  helper_awaits : (seat hints : ℕ) (at : HelpSpot) → is_machine_at E4 (helping (record { seat = seat; spot = at; hints = hints })) (order_for None (helping (record { seat = seat; spot = at; hints = hints }))) ≡ true → Awaits c (helping (record { seat = seat; spot = at; hints = hints }))
+  helper_awaits seat hints (help.Entering enter.Await) there = record {
     goes_on = λ next. refl;
     takes = refl;
     looks = refl;
@@ -190,14 +190,14 @@ module _ (c : Config) where
     settles = λ memory. refl;
     refuses = λ words. refl;
   }
-  helper_awaits seat (help.Entering _) there = absurd (false≢true there)
-  helper_awaits seat (help.Working at) there = absurd (false≢true (sym (unit_away at) ∙ there))
-  helper_awaits seat _ there = absurd (false≢true there)
+  helper_awaits seat hints (help.Entering _) there = absurd (false≢true there)
+  helper_awaits seat hints (help.Working at) there = absurd (false≢true (sym (unit_away at) ∙ there))
+  helper_awaits seat hints _ there = absurd (false≢true there)
 
   -- the control never does
   pub awaits_there : (machine : Machine) → is_machine_at E4 machine (order_for None machine) ≡ true → Awaits c machine
   awaits_there (mutating m) there = mutator_awaits m.seat m.made m.kept m.spot there
-  awaits_there (helping h) there = helper_awaits h.seat h.spot there
+  awaits_there (helping h) there = helper_awaits h.seat h.hints h.spot there
   awaits_there (controlling k) there = absurd (by_gone (is_gone k.spot) there)
     where
       by_gone : (gone : Bool) → is_machine_at E4 (controlling k) (if gone then None else Some Nothing) ≡ true → ⊥

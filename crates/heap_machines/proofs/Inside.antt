@@ -18,19 +18,19 @@ use Rattle.heap_machines.specs.Inside.{is_inside_image}
 pub record GoesInside (c : Config) (machine : Machine) : Type 0 where
   pub takes : takes_of machine Nothing ≡ true
   pub goes_on : (next : Option Command) → order_for next machine ≡ Some Nothing
-  pub says : (got : ℕ) → answer_of c machine got ≡ Some More
+  pub says : (got : ℕ) → answer_of c Nothing machine got ≡ Some More
   pub beside : word_at c Pause ≢ table_index (plan_of c Nothing machine)
 
 -- a word of the image is not the pause word
 apart : (c : Config) (index : ℕ) → 0 ≢ image_start c + index
 apart c index is = omega arith
 
-control_goes : (c : Config) (seen phase cset : ℕ) (image : List ℕ) (spot : ControlSpot) → controls.is_inside_image c spot ≡ true → GoesInside c (controlling (record { spot = spot; seen = seen; phase = phase; cset = cset; image = image }))
-control_goes c seen phase cset image (LoadWord index) inside = record { takes = refl; goes_on = λ next. refl; says = λ got. refl; beside = apart c index }
-control_goes c seen phase cset image (StoreWord index) inside = record { takes = refl; goes_on = λ next. refl; says = λ got. refl; beside = apart c index }
-control_goes c seen phase cset image _ inside = absurd (false≢true inside)
+control_goes : (c : Config) (seen phase cset hints : ℕ) (image : List ℕ) (spot : ControlSpot) → controls.is_inside_image c spot ≡ true → GoesInside c (controlling (record { spot = spot; seen = seen; phase = phase; cset = cset; hints = hints; image = image }))
+control_goes c seen phase cset hints image (LoadWord index) inside = record { takes = refl; goes_on = λ next. refl; says = λ got. refl; beside = apart c index }
+control_goes c seen phase cset hints image (StoreWord index) inside = record { takes = refl; goes_on = λ next. refl; says = λ got. refl; beside = apart c index }
+control_goes c seen phase cset hints image _ inside = absurd (false≢true inside)
 
 pub goes_inside : (c : Config) (machine : Machine) → is_inside_image c machine ≡ true → GoesInside c machine
 goes_inside c (mutating m) inside = absurd (false≢true inside)
 goes_inside c (helping h) inside = absurd (false≢true inside)
-goes_inside c (controlling k) inside = control_goes c k.seen k.phase k.cset k.image k.spot inside
+goes_inside c (controlling k) inside = control_goes c k.seen k.phase k.cset k.hints k.image k.spot inside

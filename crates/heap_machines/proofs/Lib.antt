@@ -9,3 +9,4 @@ pub mod Pauses
 pub mod Fit
 mod Awaiting
 pub mod Inside
+pub mod Hinting

@@ -6,7 +6,7 @@ use Rattle.heap_words.specs.declared.access.Took.TheVariants.{Done}
 use Rattle.shen_graph.specs.declared.command.Command.{Command}
 use Rattle.shen_graph.specs.declared.command.Reply.{Reply}
 use Rattle.shen_graph.specs.declared.order.Order.{Order}
-use Rattle.shen_graph.specs.declared.order.Order.TheVariants.{Nothing, Begin, End}
+use Rattle.shen_graph.specs.declared.order.Order.TheVariants.{Nothing, Begin, End, Hint}
 use Rattle.shen_graph.specs.History.{Entry}
 use Rattle.mutator.specs.declared.spot.Spot.{Spot}
 use Rattle.mutator.specs.declared.spot.Spot.TheVariants.{Rest, Ended, Recording, Making, Waiting, Leave}
@@ -28,18 +28,18 @@ use Rattle.step_core.proofs.Machines.Roles.{others_go_on}
 use Rattle.heap_machines.proofs.GoesOn.{call_goes_on}
 
 -- a step that ends a call gives a reply
-pub done_gives : (c : Config) (machine : Machine) (got : ℕ) → answer_of c machine got ≡ Some Done → (r : Reply) × (reply_of_step machine ≡ Some r)
-done_gives c (mutating m) got done = ends.done_gives c m.kept m.spot got (let said = done in cc)
-done_gives c other got done = absurd (others_go_on c other got refl done)
+pub done_gives : (c : Config) (order : Order) (machine : Machine) (got : ℕ) → answer_of c order machine got ≡ Some Done → (r : Reply) × (reply_of_step machine ≡ Some r)
+done_gives c order (mutating m) got done = ends.done_gives c m.kept m.spot got (let said = done in cc)
+done_gives c order other got done = absurd (others_go_on c order other got refl done)
 
 -- no other step does
-pub other_gives : (c : Config) (machine : Machine) (got : ℕ) → (answer_of c machine got ≡ Some Done → ⊥) → reply_of_step machine ≡ None
-other_gives c (mutating m) got other = by_spot m.spot other
+pub other_gives : (c : Config) (order : Order) (machine : Machine) (got : ℕ) → (answer_of c order machine got ≡ Some Done → ⊥) → reply_of_step machine ≡ None
+other_gives c order (mutating m) got other = by_spot m.spot other
   where
     by_spot : (spot : Spot) → (Some (answer_at c m.kept spot got) ≡ Some Done → ⊥) → given_at spot ≡ None
     by_spot (Leave r) other = absurd (other refl)
     by_spot _ other = refl
-other_gives c _ got other = refl
+other_gives c order _ got other = refl
 
 -- A machine that has given a reply: it has the reply, rests, and may go on. It has made no object, and the reply was at hand.
 pub record HasGiven (machine next : Machine) (r : Reply) : Type 0 where
@@ -103,6 +103,7 @@ begun_made : (order : Order) (m : Mutating) → (call_begun order m).made ≡ m.
 begun_made Nothing m = refl
 begun_made (Begin command) m = refl
 begun_made End m = refl
+begun_made (Hint address) m = refl
 
 -- who records what its Cas has overwritten has the reply at hand until it leaves
 stays_at_hand : (address : ℕ) (next : Overwritten) (at : RememberSpot) → recorded_at_hand next ≤ at_hand (after_remember address next at)

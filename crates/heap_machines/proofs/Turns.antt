@@ -4,7 +4,7 @@ use Rattle.std.specs.Prelude.{if◌then◌else◌, is_some, slice_get, length, L
 use Rattle.heap_words.specs.declared.config.Config.{Config}
 use Rattle.shen_graph.specs.declared.command.Command.{Command}
 use Rattle.shen_graph.specs.declared.order.Order.{Order}
-use Rattle.shen_graph.specs.declared.order.Order.TheVariants.{Nothing, Begin, End}
+use Rattle.shen_graph.specs.declared.order.Order.TheVariants.{Nothing, Begin, End, Hint}
 use Rattle.shen_graph.specs.Order.{is_nothing}
 use Rattle.shen_graph.specs.History.{Entry}
 use Rattle.mutator.specs.declared.spot.Spot.{Spot}
@@ -25,15 +25,19 @@ pub turn_idle : (spot : Spot) (made : ℕ) (order : Order) → is_pending spot m
 turn_idle Rest made Nothing pending = refl
 turn_idle Rest made (Begin command) pending = pending
 turn_idle Rest made End pending = refl
+turn_idle Rest made (Hint address) pending = absurd cc
 turn_idle (Ended reply) made Nothing pending = refl
 turn_idle (Ended reply) made (Begin command) pending = pending
 turn_idle (Ended reply) made End pending = refl
+turn_idle (Ended reply) made (Hint address) pending = absurd cc
 turn_idle Gone made Nothing pending = refl
 turn_idle Gone made (Begin command) pending = absurd cc
 turn_idle Gone made End pending = absurd cc
+turn_idle Gone made (Hint address) pending = absurd cc
 turn_idle _ made Nothing pending = refl
 turn_idle _ made (Begin command) pending = absurd cc
 turn_idle _ made End pending = absurd cc
+turn_idle _ made (Hint address) pending = absurd cc
 
 -- what is done by a script is what is done by its next command
 pub order_of_script : (script : List Command) (calls : List Entry) (machine : Machine) → order_by script calls machine ≡ order_for (slice_get script (length calls)) machine

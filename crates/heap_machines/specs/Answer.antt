@@ -3,6 +3,7 @@ use Rattle.std.specs.Prelude.{ℕ, Option, Some, None}
 use Rattle.heap_words.specs.declared.config.Config.{Config}
 use Rattle.heap_words.specs.declared.access.Took.{Took}
 use Rattle.heap_words.specs.declared.access.Took.TheVariants.{More, Again, Done}
+use Rattle.shen_graph.specs.declared.order.Order.{Order}
 use Rattle.step_core.specs.Actor.{Machine}
 use Rattle.step_core.specs.Machines.{answer_of}
 use Rattle.heap_machines.specs.declared.stepped.Stepped.{Stepped}
@@ -17,6 +18,6 @@ abbrev pub stepped_by : Option Took → Stepped
 stepped_by None = stepped.Idle
 stepped_by (Some said) = stepped_of said
 
--- what a machine says of the step that finds this word
-abbrev pub says : Config → Machine → ℕ → Stepped
-says c machine got = stepped_by (answer_of c machine got)
+-- what a machine says of the step under an order that finds this word
+abbrev pub says : Config → Order → Machine → ℕ → Stepped
+says c order machine got = stepped_by (answer_of c order machine got)

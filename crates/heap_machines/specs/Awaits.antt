@@ -17,6 +17,6 @@ pub record Awaits (c : Config) (machine : Machine) : Type 0 where
   pub takes : takes_of machine Nothing ≡ true
   pub looks : plan_of c Nothing machine ≡ placed c (touch Pause loads)
   pub stays : (got : ℕ) → got ≢ 0 → machine_after pause_image c Nothing got machine ≡ machine
-  pub waits : (got : ℕ) → got ≢ 0 → answer_of c machine got ≡ Some Again
+  pub waits : (got : ℕ) → got ≢ 0 → answer_of c Nothing machine got ≡ Some Again
   pub settles : (memory : Word → ℕ) → reply_settled memory machine ≡ None
   pub refuses : (words : List ℕ) → refused_by c words machine ≡ None

@@ -3,7 +3,7 @@
 use Rattle.std.specs.Prelude.{Bool}
 use Rattle.heap_words.specs.declared.config.Config.{Config}
 use Rattle.shen_graph.specs.declared.order.Order.{Order}
-use Rattle.shen_graph.specs.declared.order.Order.TheVariants.{Nothing}
+use Rattle.shen_graph.specs.Order.{hinting}
 use Rattle.mutator.specs.Seen as seen
 use Rattle.helper.specs.Seen as helpers
 use Rattle.control.specs.Seen as controls
@@ -24,8 +24,8 @@ no_machine = actors.fresh_helper 0
 -- the order that it was given
 abbrev pub order_of : Machine → Order
 order_of (Mutator m) = seen.order_of m
-order_of (Helper h) = Nothing
-order_of (Control k) = Nothing
+order_of (Helper h) = hinting (helpers.hint_of h)
+order_of (Control k) = hinting (controls.hint_of k)
 
 -- the heap that it is of
 abbrev pub heap_of : Machine → Config

@@ -1,7 +1,8 @@
-ghost use Rattle.std.specs.Prelude.{◌≡◌, IfOk};
-ghost use Rattle.control.specs.Seen.{config_in, seen_control};
+ghost use Rattle.std.specs.Prelude.{◌≡◌, None, IfOk};
+ghost use Rattle.control.specs.Seen.{config_in, seen_control, hint_of};
 ghost use Rattle.step_core.specs.Actor.{controlling, fresh_control};
 ghost use Rattle.step_core.specs.Opening.{first_free};
+ghost use Rattle.shen_graph.specs.Order.{hinting};
 ghost use Rattle.heap_machines.specs.Turn.{first_place_of};
 
 use crate::refusal::refused;
@@ -29,7 +30,7 @@ impl Machine {
     ghost use Rattle.std.specs.Prelude.{◌≡◌, ◌<◌, ◌≤◌, ◌↔◌, ◌≢◌, length, vec_len, slice_index, true, false, not, Option, Some, None, IfOk, IfSome, is_some, if◌then◌else◌};
     ghost use Rattle.heap_words.specs.Access.{table_index};
     ghost use Rattle.steps_base.specs.Steps.{accessed};
-    ghost use Rattle.heap_words.specs.Words.{Cset, table_words, heap_size, view};
+    ghost use Rattle.heap_words.specs.Words.{Cset, Heap, IsWord, table_words, heap_size, view};
     ghost use Rattle.heap_world.specs.Change.{image_view};
     ghost use Rattle.image_graph.specs.Holds.{HoldsSome};
     ghost use Rattle.image_graph.specs.Left.{StandsForSome, ShowsTheGraph};
@@ -39,7 +40,7 @@ impl Machine {
     ghost use Rattle.shen_graph.specs.declared.command.Command.{Command as Commands};
     ghost use Rattle.heap_machines.specs.Pause.{pause_image};
     ghost use Rattle.step_core.specs.Opening.{opening_machine};
-    ghost use Rattle.step_core.specs.Machines.{control_in, takes_of, plan_of, place_in, machine_after, answer_of, is_machine_at, reply_in, may_begin, made_of_machine, WaitsIn, IsFitFor, is_resting};
+    ghost use Rattle.step_core.specs.Machines.{control_in, takes_of, takes_hint, greys_of, hints_of, plan_of, place_in, machine_after, answer_of, is_machine_at, reply_in, may_begin, made_of_machine, WaitsIn, IsFitFor, is_resting};
     ghost use Rattle.heap_machines.specs.Shown.{shown, order_of, heap_of, has_turn};
     ghost use Rattle.heap_machines.specs.Roles.{is_mutating, CanShow};
     ghost use Rattle.heap_machines.specs.Settles.{command_in, reply_settled, refused_by};
@@ -111,6 +112,7 @@ impl Machine {
         requires inside { is_inside_image (heap_of self.old) (shown self.old) ≡ true }
         requires words { vec_len words.old ≡ table_words (heap_of self.old) }
         ensures words { words.new.items ≡ accessed (plan_of (heap_of self.old) (order_of self.old) (shown self.old)) words.old.items }
+        ensures none { order_of self.old ≡ Order.Nothing }
         ensures shown { shown self.new ≡ machine_after pause_image (heap_of self.old) (order_of self.old) (slice_index words.old.items (table_index (plan_of (heap_of self.old) (order_of self.old) (shown self.old)))) (shown self.old) }
         ensures order { order_of self.new ≡ Order.Nothing }
         ensures heap { heap_of self.new ≡ heap_of self.old }
@@ -127,7 +129,8 @@ impl Machine {
     {
         match self {
             Machine::Mutator(mutator) => mutator.order(),
-            Machine::Helper(_) | Machine::Control(_) => Order::Nothing,
+            Machine::Helper(helper) => hinting(helper.hint()),
+            Machine::Control(control) => hinting(control.hint()),
         }
     }
 
@@ -173,12 +176,12 @@ impl Machine {
         ensures shown { shown self.new ≡ machine_after pause_image (heap_of self.old) (order_of self.old) got (shown self.old) }
         ensures order { order_of self.new ≡ Order.Nothing }
         ensures heap { heap_of self.new ≡ heap_of self.old }
-        ensures answer { answer_of (heap_of self.old) (shown self.old) got ≡ Some result }
+        ensures answer { answer_of (heap_of self.old) (order_of self.old) (shown self.old) got ≡ Some result }
 
         // A call ends exactly where its mutator leaves the heap, and its reply is at hand then.
         ensures done { (result ≡ Took.Done) ↔ ((is_mutating (shown self.old) ≡ true) × (place_in (order_of self.old) (shown self.old) ≡ Place.LV)) }
         ensures replied { result ≡ Took.Done → reply_in (shown self.new) ≢ None }
-        ensures again { (result ≡ Took.Again) ↔ WaitsIn (heap_of self.old) (shown self.old) got }
+        ensures again { (result ≡ Took.Again) ↔ WaitsIn (heap_of self.old) (order_of self.old) (shown self.old) got }
     {
         match self {
             Machine::Mutator(mutator) => mutator.took(got),
@@ -214,6 +217,57 @@ impl Machine {
         match self {
             Machine::Mutator(mutator) => mutator.finish(),
             Machine::Helper(_) | Machine::Control(_) => unreachable!(),
+        }
+    }
+
+    /// Whether it takes hints: a helper or the control that is about to claim a unit of marking.
+    pub fn takes_hint(&self) -> bool
+        ensures { result ≡ takes_hint (shown self.now) }
+    {
+        match self {
+            Machine::Mutator(_) => false,
+            Machine::Helper(helper) => helper.takes_hint(),
+            Machine::Control(control) => control.takes_hint(),
+        }
+    }
+
+    /// Gives it the hint of an address of the heap, black, grey or white, or of none: its next step scans the word that has the
+    /// address's mark, and claims no unit. Of one that takes hints.
+    pub fn give_hint(&mut self, address: u64)
+        requires takes { takes_hint (shown self.old) ≡ true }
+        requires heap { IsWord (heap_of self.old) (Heap address) }
+        ensures order { order_of self.new ≡ Order.Hint address }
+        ensures takes { takes_of (shown self.old) (Order.Hint address) ≡ true }
+        ensures shown { shown self.new ≡ shown self.old }
+        ensures heap { heap_of self.new ≡ heap_of self.old }
+    {
+        match self {
+            Machine::Helper(helper) => helper.give_hint(address),
+            Machine::Control(control) => control.give_hint(address),
+            Machine::Mutator(_) => unreachable!(),
+        }
+    }
+
+    /// The address that its next access makes grey, if it does so: one of the heap.
+    pub fn greys(&self) -> Option<u64>
+        ensures row { result ≡ greys_of (shown self.now) }
+        ensures heap { IfSome result (λ address. IsWord (heap_of self.now) (Heap address)) }
+    {
+        match self {
+            Machine::Mutator(mutator) => mutator.greys(),
+            Machine::Helper(helper) => helper.greys(),
+            Machine::Control(control) => control.greys(),
+        }
+    }
+
+    /// How many hints it has taken, up to `u64::MAX`.
+    pub fn hints(&self) -> u64
+        ensures { result ≡ hints_of (shown self.now) }
+    {
+        match self {
+            Machine::Mutator(_) => 0,
+            Machine::Helper(helper) => helper.hints(),
+            Machine::Control(control) => control.hints(),
         }
     }
 
@@ -339,6 +393,16 @@ impl Machine {
     }
 }
 
+// The order that a hint is, if there is one.
+fn hinting(hint: Option<u64>) -> Order
+    ensures { result ≡ hinting hint }
+{
+    match hint {
+        Some(address) => Order::Hint(address),
+        None => Order::Nothing,
+    }
+}
+
 // The place of the access between two calls: a mutator begins the command, or ends where there is none.
 fn first_place(next: Option<Command>) -> Place
     ensures { result ≡ first_place_of next }
@@ -353,6 +417,7 @@ fn first_place(next: Option<Command>) -> Place
 fn open_control(alloc: Global, config: Config) -> Result<Control, NoMemory>
     ensures shown { IfOk result (λ control. controlling (seen_control control) ≡ fresh_control (first_free config.regions)) }
     ensures heap { IfOk result (λ control. config_in control ≡ config) }
+    ensures hint { IfOk result (λ control. hint_of control ≡ None) }
 {
     let mut image = Image::open(alloc, config)?;
     image.set_word(config.free_at(), first_free(config.regions()));

@@ -1,5 +1,5 @@
 -- Seats of one heap whose machines are joined.
-use Rattle.std.proofs.Common.{◌≡◌, ◌<◌, ◌⊎◌, inl, inr, ℕ, zero, suc, ◌+◌, Bool, true, false, not, ◌&&◌, List, [], ◌∷◌, ◌++◌, length, Option, Some, None, refl, sym, ap, ◌∙◌, subst, arith}
+use Rattle.std.proofs.Common.{◌≡◌, ◌<◌, ◌⊎◌, inl, inr, ℕ, zero, suc, Bool, true, false, not, ◌&&◌, List, [], ◌∷◌, ◌++◌, length, Option, Some, None, refl, sym, ap, ◌∙◌, subst, arith}
 use Rattle.std.specs.Prelude.{slice_get, unwrap_or, nat_lt}
 use Rattle.std.specs.Arc.{arc_value}
 use Rattle.std.specs.Option.{is_some}
@@ -8,7 +8,7 @@ use Rattle.heap_words.specs.declared.config.Config.{Config}
 use Rattle.heap_words.specs.Ranges.{seat_count}
 use Rattle.steps_base.specs.Steps.{IsReached}
 use Rattle.shen_graph.specs.declared.order.Order.TheVariants.{Nothing}
-use Rattle.shen_graph.specs.Order.{is_nothing}
+use Rattle.shen_graph.specs.Order.{is_nothing, hinting}
 use Rattle.mutator.specs.Orders.{is_between_calls}
 use Rattle.shared_table.specs.Views.{machine_of, whole, merged, whichever_is_there}
 use Rattle.shared_table.proofs.Kept.{kept_here}
@@ -19,7 +19,7 @@ use Rattle.heap_machines.proofs.Turns.{turn_idle}
 use Rattle.heap_machines.proofs.RestedGraph.{entries_at_rest}
 use Rattle.step_core.specs.Actor.{Actor}
 use Rattle.step_core.specs.Begins.{Run}
-use Rattle.step_core.specs.Machines.{is_resting, takes_of, may_begin}
+use Rattle.step_core.specs.Machines.{is_resting, is_for_working, takes_of, may_begin}
 use Rattle.step_core.specs.Settled.{control_number}
 use Rattle.step_core.proofs.Theorem.EveryList.{run_sound}
 use Rattle.table_heap.specs.declared.heap.Heap.{Heap}
@@ -27,7 +27,7 @@ use Rattle.table_heap.specs.declared.bundle.Bundle.{Bundle}
 use Rattle.table_heap.specs.declared.closed.Closed.{Closed}
 use Rattle.table_heap.specs.Closed as closed
 use Rattle.table_heap.specs.Core.{heap_kind, heap_opening, nobody}
-use Rattle.table_heap.specs.State.{view_of, machines_of, IsBundleOf, has_turn, order_at}
+use Rattle.table_heap.specs.State.{view_of, IsBundleOf, has_turn, order_at}
 use Rattle.heap_machines.specs.Shown.{shown, order_of}
 use Rattle.heap_machines.specs.Roles.{is_mutating}
 use Rattle.heap_machines.specs.declared.machine.Machine as memory
@@ -118,10 +118,15 @@ some_at [] k below = absurd (omega (arith, below))
 some_at (x ∷ xs) zero below = (x, refl)
 some_at (x ∷ xs) (suc k) below = some_at xs k (omega (arith, below))
 
--- a machine that is no mutator is given no order
-no_order : (m : memory.Machine) → is_mutating (shown m) ≡ false → order_of m ≡ Nothing
-no_order (memories.Mutator m) other = absurd cc
-no_order _ other = refl
+-- A machine that is no mutator and makes no step has ended, also where it was given a hint: a hint stands only where it is taken.
+no_hint_left : (hints : Bool) (hint : Option ℕ) (goes : Bool) → ((address : ℕ) → hint ≡ Some address → hints ≡ true) → (is_for_working hints (hinting hint) && goes) ≡ false → goes ≡ false
+no_hint_left hints None goes given none = none
+no_hint_left hints (Some address) goes given none = subst (λ b. (b && goes) ≡ false) (given address refl) none
+
+no_turn_ended : (m : memory.Machine) → is_mutating (shown m) ≡ false → takes_of (shown m) (order_of m) ≡ false → takes_of (shown m) Nothing ≡ false
+no_turn_ended (memories.Mutator m) other none = absurd cc
+no_turn_ended (memories.Helper h) other none = no_hint_left _ h.hint _ (λ address is. (h.given address is).1) none
+no_turn_ended (memories.Control k) other none = no_hint_left _ k.hint _ (λ address is. (k.given address is).1) none
 
 -- a mutator that makes no step is between two calls
 both_rest : (rest none : Bool) → not (rest && none) ≡ false → rest ≡ true
@@ -160,7 +165,7 @@ module _ (s : Seat) (over : state_in s ≡ Ended) where
 
   -- where it is no mutator's, it takes no order
   seat_idle : nat_lt s.number s.config.mutators ≡ false → takes_of (actor_in s).machine Nothing ≡ false
-  seat_idle other = ap (λ m. takes_of m Nothing) (sym found.2) ∙ ap (takes_of (shown found.0)) (sym (no_order found.0 (role ∙ other))) ∙ takes_none
+  seat_idle other = ap (λ m. takes_of m Nothing) (sym found.2) ∙ no_turn_ended found.0 (role ∙ other) takes_none
 
   -- where it is, no call is in progress
   seat_rests : nat_lt s.number s.config.mutators ≡ true → is_resting (actor_in s).machine ≡ true

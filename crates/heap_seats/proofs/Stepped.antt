@@ -7,7 +7,7 @@ use Rattle.heap_words.specs.declared.access.Took.TheVariants as took
 use Rattle.shen_graph.specs.declared.command.Command.{Command}
 use Rattle.shen_graph.specs.declared.command.Reply.{Reply}
 use Rattle.shen_graph.specs.declared.order.Order.{Order}
-use Rattle.shen_graph.specs.declared.order.Order.TheVariants.{Nothing, Begin, End}
+use Rattle.shen_graph.specs.declared.order.Order.TheVariants.{Nothing, Begin, End, Hint}
 use Rattle.steps_base.specs.Steps.{Finds}
 use Rattle.mutator.specs.declared.spot.Spot.{Spot}
 use Rattle.mutator.specs.declared.spot.Spot.TheVariants.{Leave}
@@ -47,6 +47,7 @@ leaves_free : (spot : Spot) (made : ℕ) (order : Order) (command : Command) (r 
 leaves_free (Leave q) made Nothing command r gives takes = refl
 leaves_free (Leave q) made (Begin other) command r gives takes = absurd cc
 leaves_free (Leave q) made End command r gives takes = refl
+leaves_free (Leave q) made (Hint address) command r gives takes = refl
 leaves_free _ made order command r gives takes = absurd cc
 
 -- the call that a step ends, where it gives this reply
@@ -110,15 +111,15 @@ module _ (old new : Bundle) (number : ℕ) (said : Stepped) (step : IsBundleStep
   pub steps_then : steps_at new number ≡ steps_at old number + 1
   steps_then = ap (λ v. unwrap_or (machine_of v number) 0) step.steps ∙ set_count old.seat.me.0 number (steps_at old number + 1) was step.took.here
 
-  said_is : said ≡ stepped_by (answer_of old.config was.machine step.got)
-  said_is = step.said_is ∙ ap (λ machine. says old.config machine step.got) machine_was
+  said_is : said ≡ stepped_by (answer_of old.config order was.machine step.got)
+  said_is = step.said_is ∙ ap (λ machine. says old.config order machine step.got) machine_was
 
   pub waited_then : said ≡ stepped.Again → HasWaited old.config (machine_at new number)
   waited_then is = record {
     before = was.machine;
     order = order;
     got = step.got;
-    waits = waits_by (answer_of old.config was.machine step.got) (sym said_is ∙ is);
+    waits = waits_by (answer_of old.config order was.machine step.got) (sym said_is ∙ is);
     comes = machine_then;
   }
 
@@ -128,12 +129,12 @@ module _ (old new : Bundle) (number : ℕ) (said : Stepped) (step : IsBundleStep
   ended : ended_by was.command was.machine ≡ entries_of number (command_by order was.command) (given_by said then_is.machine)
   ended = by_said said said_is
     where
-      none : (other : Stepped) → (other ≡ stepped.Done → ⊥) → other ≡ stepped_by (answer_of old.config was.machine step.got) → ended_by was.command was.machine ≡ []
-      none other not_done is = ended_none was.command was.machine (other_gives old.config was.machine step.got (λ done. not_done (is ∙ ap stepped_by done)))
+      none : (other : Stepped) → (other ≡ stepped.Done → ⊥) → other ≡ stepped_by (answer_of old.config order was.machine step.got) → ended_by was.command was.machine ≡ []
+      none other not_done is = ended_none was.command was.machine (other_gives old.config order was.machine step.got (λ done. not_done (is ∙ ap stepped_by done)))
 
-      by_said : (other : Stepped) → other ≡ stepped_by (answer_of old.config was.machine step.got) → ended_by was.command was.machine ≡ entries_of number (command_by order was.command) (given_by other then_is.machine)
+      by_said : (other : Stepped) → other ≡ stepped_by (answer_of old.config order was.machine step.got) → ended_by was.command was.machine ≡ entries_of number (command_by order was.command) (given_by other then_is.machine)
       by_said stepped.Done is =
-          let gives = done_gives old.config was.machine step.got (done_by (answer_of old.config was.machine step.got) (sym is)) in
+          let gives = done_gives old.config order was.machine step.got (done_by (answer_of old.config order was.machine step.got) (sym is)) in
           let given = given_after pause_image old.config order step.got was.machine gives.0 gives.1 in
           ended_with was.machine was.command number order gives.0 gives.1 takes (seat_found old.config number was order step.got step.took.finds)
           ∙ ap (entries_of number (command_by order was.command)) (sym given.replied)

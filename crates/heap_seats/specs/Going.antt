@@ -47,7 +47,7 @@ pub record HasWaited (c : Config) (machine : Machine) : Type 0 where
   pub before : Machine
   pub order : Order
   pub got : ℕ
-  pub waits : answer_of c before got ≡ Some Again
+  pub waits : answer_of c order before got ≡ Some Again
   pub comes : machine ≡ machine_after pause_image c order got before
 
 -- It has made one step, which said so. Where that ended its call, the call with its reply is the last of its calls, and else they are

@@ -1,14 +1,21 @@
 -- What is known of the bundle of a heap before the first event, and of one whose machines have made steps.
-use Rattle.std.proofs.Common.{◌≡◌, ℕ, ◌<◌, Some, ap, ◌∙◌, arith, ◌%◌, true, None, sym}
-use Rattle.std.specs.Prelude.{◌==◌, if◌then◌else◌, unwrap_or}
+use Rattle.std.proofs.Common.{◌≡◌, ℕ, ◌<◌, ◌≤◌, ◌%◌, true, List, [], length, All, Some, None, sym, ap, ◌∙◌, subst, arith}
+use Rattle.std.specs.Prelude.{◌==◌, if◌then◌else◌, unwrap_or, slice_index_or}
+use Rattle.std.proofs.lemmas.Option.{slice_get-get_or}
 use Rattle.shared_table.specs.Views.{whole, dealt_to, machine_of, kept_one, is_dealt_to}
 use Rattle.heap_words.specs.declared.config.Config.{Config}
-use Rattle.shen_graph.specs.Work.{begun}
+use Rattle.shen_graph.specs.declared.command.Command.{Command}
+use Rattle.shen_graph.specs.Work.{begun, opened, progress_of}
+use Rattle.shen_graph.proofs.Parts.{progress_of-opened}
+use Rattle.shen_core.specs.Progress.{IsRunnable}
 use Rattle.table_heap.specs.declared.bundle.Bundle.{Bundle}
 use Rattle.table_heap.specs.declared.heap.Heap.{Heap}
 use Rattle.table_heap.specs.Core.{heap_opening, machine_in}
-use Rattle.table_heap.specs.State.{IsBundleOf, IsFresh, view_of, machines_of, machine_at, HasMachine, IsSameBundle}
-use Rattle.std.specs.Option.{is_some}
+use Rattle.table_heap.specs.Closed.{HasAll}
+use Rattle.table_heap.specs.Running.{Jobs, CanStart}
+use Rattle.table_heap.specs.State.{config_of, IsBundleOf, IsFresh, view_of, machines_of, machine_at, HasMachine, IsSameBundle}
+use Rattle.table_heap.proofs.Starting.{fresh_can_start}
+use Rattle.std.specs.Option.{is_some, option_map}
 use Rattle.std.proofs.lemmas.Bool.Decides.{nat_tests}
 use Rattle.heap_words.specs.Ranges.{seat_count}
 use Rattle.shared_table.proofs.Kept.{machine_of-kept, kept_some}
@@ -28,7 +35,7 @@ has_in_view b number = ap (λ v. is_some (machine_of v number)) (sym b.kept) ∙
 pub same_has : (old new : Bundle) (number : ℕ) → IsSameBundle old new → HasMachine old number → HasMachine new number
 same_has old new number same has = has_in_view new number ∙ same.numbers.here number ∙ sym (has_in_view old number) ∙ has
 
--- a mutator before the first event
+-- a machine before the first event
 fresh_at : (c : Config) (b : Bundle) (bundles k number : ℕ) → view_of b ≡ dealt_to bundles k (whole (heap_opening c).machines) → number < seat_count c.mutators c.helpers → number % bundles ≡ k
     → machine_of (machines_of b) number ≡ Some (opening_machine c number)
 fresh_at c b bundles k number fresh within dealt =
@@ -57,3 +64,21 @@ fresh_can_call c h b bundles k number fresh within dealt =
       rest = ap (λ o. may_begin (unwrap_or o no_machine)) is ∙ first_free_to_begin c number within;
       made = ap (λ o. made_of_machine (unwrap_or o no_machine)) is ∙ first_made c number;
     }
+
+-- a bundle of all machines of a heap has them before the first event, and later
+pub fresh_has_all : (c : Config) (h : Heap) (b after : Bundle) → IsFresh h b (dealt_to 1 0 (whole (heap_opening c).machines)) → config_of h ≡ c → IsSameBundle b after → HasAll after
+fresh_has_all c h b after fresh config same number below =
+    let within : number < seat_count c.mutators c.helpers = subst (λ (k : Config). number < seat_count k.mutators k.helpers) (same.config ∙ fresh.of.config ∙ config) below in
+    same_has b after number same (ap is_some (fresh_at c b 1 0 number fresh.machines within (omega arith)))
+
+-- it can start with scripts that a mutator can be given
+pub fresh_can_run : (c : Config) (h : Heap) (b : Bundle) (scripts : List (List Command)) (jobs : Jobs) → IsFresh h b (dealt_to 1 0 (whole (heap_opening c).machines)) → length scripts ≡ c.mutators → length scripts ≤ 8
+    → All IsRunnable scripts → jobs ≡ opened scripts → CanStart b jobs
+fresh_can_run c h b scripts jobs fresh count few runnable is = fresh_can_start h b c 1 0 jobs fresh (λ number below dealt.
+    let within : number < length scripts = omega (arith, below, count) in
+    let script = slice_index_or scripts number [] in (
+      script,
+      ap (λ k. progress_of k number) is ∙ progress_of-opened scripts number few ∙ ap (option_map begun) (slice_get-get_or scripts number [] within),
+      (runnable number [] within).0,
+      (runnable number [] within).1,
+    ))

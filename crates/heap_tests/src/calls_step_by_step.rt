@@ -19,7 +19,12 @@ use std::test::Fail;
 
 // A call by what `begin`, `step` and `reply` promise alone: steps are made until one says that the call has ended, and the
 // reply is there then. No other machine moves. None where so many steps do not end it, or the command is not in range.
-fn call(plain: &mut Plain, number: usize, command: Command, limit: usize) -> Option<Reply>
+pub(crate) fn call(
+    plain: &mut Plain,
+    number: usize,
+    command: Command,
+    limit: usize,
+) -> Option<Reply>
     requires number { number < seats_of plain.old }
     requires rest { may_begin (machine_at plain.old number) ≡ true }
     requires made { made_of_machine (machine_at plain.old number) < 4294967295 }

@@ -10,6 +10,8 @@ mod copiers_of_a_heap;
 #[cfg(test)]
 mod handshakes;
 #[cfg(test)]
+mod hints;
+#[cfg(test)]
 mod parts_of_calls;
 #[cfg(test)]
 mod shared_heap;

@@ -3,7 +3,9 @@ ghost use Rattle.std.specs.Prelude.{◌≡◌, ◌<◌, ◌≤◌, true, length,
 ghost use Rattle.shen_graph.specs.Valid.{IsValid};
 ghost use Rattle.shen_graph.specs.Work.{HasScript};
 ghost use Rattle.step_core.specs.Machines.{may_begin, made_of_machine};
-ghost use Rattle.table_heap.specs.State.{IsBundleOf, HasMachine, machine_at};
+ghost use Rattle.shared_table.specs.Views.{whole, dealt_to};
+ghost use Rattle.table_heap.specs.Core.{heap_opening};
+ghost use Rattle.table_heap.specs.State.{config_of, IsBundleOf, IsFresh, HasMachine, machine_at};
 ghost use Rattle.table_heap.specs.Running.{CanStart};
 
 use heap_words::Config;
@@ -71,18 +73,30 @@ const ROWS: &[Row] = &[
     },
 ];
 
-// A script of those of these commands that are in range, a hundred at most.
-fn script(alloc: Global, commands: &[Command]) -> Result<Script, Fail>
+// A script of those of these commands that are in range, ten thousand at most.
+pub(crate) fn script(alloc: Global, commands: &[Command]) -> Result<Script, Fail>
     ensures valid { IfOk result (λ script. All IsValid script) }
     ensures few { IfOk result (λ script. length script < 4294967295) }
 {
     let mut script = Script::open(alloc)?;
-    for number in 0..commands.len().min(100) {
+    for number in 0..commands.len().min(10_000) {
         if commands[number].is_valid() {
             script.push(alloc, commands[number])?;
         }
     }
     Ok(script)
+}
+
+// A heap with all its machines in one bundle.
+pub(crate) fn open_alone(alloc: Global, config: Config) -> Result<(Heap, Bundle), Fail>
+    ensures config { IfOk result (λ made. config_of made.0 ≡ config) }
+    ensures fresh { IfOk result (λ made. IsFresh made.0 made.1 (dealt_to 1 0 (whole (heap_opening config).machines))) }
+{
+    let (heap, mut bundles) = Heap::open(alloc, config, 1)?;
+    let Some(bundle) = bundles.pop() else {
+        unreachable!()
+    };
+    Ok((heap, bundle))
 }
 
 // A heap of one mutator and so many helpers, all its machines in one bundle, and work in which the mutator does this.
@@ -93,10 +107,7 @@ fn opened(alloc: Global, helpers: usize, commands: &[Command]) -> Result<(Heap, 
     ensures call { IfOk result (λ made. HasMachine made.1 0 × (may_begin (machine_at made.1 0) ≡ true) × (made_of_machine (machine_at made.1 0) ≡ 0)) }
 {
     let config = Config::new(4, 64, 1, helpers, 0)?;
-    let (heap, mut bundles) = Heap::open(alloc, config, 1)?;
-    let Some(bundle) = bundles.pop() else {
-        unreachable!()
-    };
+    let (heap, bundle) = open_alone(alloc, config)?;
     let mut scripts = Vec::new(alloc);
     scripts.push(script(alloc, commands)?)?;
     let work = Work::open(alloc, &scripts)?;

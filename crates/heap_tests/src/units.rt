@@ -3,13 +3,13 @@ use scan_part::ScanUnit;
 use std::test::Fail;
 use update_part::UpdateUnit;
 
-// In the smallest heap, of 4 regions of 64 words, there are 8 units of marking and 4 of updating. The claim word is word 8.
+// In the smallest heap, of 4 regions of 64 words, there are 4 units of marking and 4 of updating. The claim word is word 8.
 
 #[test]
 fn no_unit_is_left(rt: HostRuntime) -> Result<(), Fail> {
     let config = Config::new(4, 64, 1, 0, 0)?;
     let mut scan = ScanUnit::new(config);
-    assert!(rt; scan.took(8) == Took::Done);
+    assert!(rt; scan.took(4) == Took::Done);
     assert!(rt; scan.answer() == Unit::NoneLeft);
     let mut update = UpdateUnit::new(config, 2);
     assert!(rt; update.took(4) == Took::Done);
@@ -17,13 +17,13 @@ fn no_unit_is_left(rt: HostRuntime) -> Result<(), Fail> {
     Ok(())
 }
 
-// In unit 6 nothing is grey.
+// In unit 2 nothing is grey.
 #[test]
 fn a_unit_is_scanned(rt: HostRuntime) -> Result<(), Fail> {
     let config = Config::new(4, 64, 1, 0, 0)?;
     let mut scan = ScanUnit::new(config);
-    let _ = scan.took(6);
-    let _ = scan.took(6);
+    let _ = scan.took(2);
+    let _ = scan.took(2);
     assert!(rt;
         !scan.is_done() && scan.place() == Place::MG && scan.plan() == Access::Load { at: 53 }
     );

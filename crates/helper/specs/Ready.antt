@@ -1,15 +1,16 @@
 -- Whether a helper can make its next access.
-use Rattle.std.specs.Prelude.{ℕ, ◌≡◌, ◌+◌, ◌<◌, Bool, true, false, ◌&&◌, nat_lt, if◌then◌else◌}
+use Rattle.std.specs.Prelude.{ℕ, ◌≡◌, ◌+◌, ◌<◌, Bool, true, false, ◌&&◌, nat_lt, if◌then◌else◌, Option}
+use Rattle.std.specs.Option.{ForSome}
 use Rattle.heap_words.specs.declared.config.Config.{Config}
 use Rattle.heap_words.specs.Access.{table_index}
-use Rattle.heap_words.specs.Words.{table_words}
+use Rattle.heap_words.specs.Words.{Heap, IsWord, table_words}
 use Rattle.steps_base.specs.Touch.{placed}
 use Rattle.handshake.specs.Rows.{is_entered}
 use Rattle.unit_part.specs.Rows as units
 use Rattle.unit_part.specs.Ready as unit
 use Rattle.helper.specs.declared.spot.HelpSpot.{HelpSpot}
 use Rattle.helper.specs.declared.spot.HelpSpot.TheVariants.{Entering, Working}
-use Rattle.helper.specs.Rows.{Helping, help_touch, help_next}
+use Rattle.helper.specs.Rows.{Helping, help_touch, help_next, takes_hint}
 
 -- whether the numbers of a spot are in range, for the helper of a seat: an entering or a unit has not ended, and its next access can
 -- be made
@@ -21,6 +22,10 @@ spot_fits c seat _ = true
 -- whether a helper's next access can be made: its seat is that of a mutator or a helper, and the numbers of its spot are in range
 abbrev pub help_ready : Config → Helping → Bool
 help_ready c h = nat_lt h.seat (c.mutators + c.helpers) && spot_fits c h.seat h.spot
+
+-- a hint may stand: it is the hint of an address of the heap, and the helper takes hints; or there is none
+abbrev pub IsHintFor : Config → HelpSpot → Option ℕ → Type 0
+IsHintFor c spot hint = ForSome hint (λ address. IsWord c (Heap address) × (takes_hint spot ≡ true))
 
 -- a unit can go on from a word
 abbrev pub UnitGoesOn : Config → ℕ → HelpSpot → ℕ → Type 0

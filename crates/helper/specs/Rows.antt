@@ -1,7 +1,7 @@
 -- The rows of a helper: for each spot its place, the access that it makes and what follows. In each round it looks whether the
 -- control has ended, enters the heap, loads phase and collection set, works on one unit of the phase and leaves the heap. In phase 0
 -- there is no unit, and it leaves at once.
-use Rattle.std.specs.Prelude.{ℕ, ◌==◌, Bool, true, false, if◌then◌else◌}
+use Rattle.std.specs.Prelude.{ℕ, ◌==◌, Bool, true, false, if◌then◌else◌, Option, Some, None}
 use Rattle.heap_words.specs.declared.config.Config.{Config}
 use Rattle.heap_words.specs.declared.place.Place.{Place}
 use Rattle.heap_words.specs.declared.place.Place.TheVariants as place
@@ -16,6 +16,7 @@ use Rattle.handshake.specs.Rows.{enter_place, enter_touch, enter_next, leave_tou
 use Rattle.unit_part.specs.declared.spot.UnitSpot.{UnitSpot}
 use Rattle.unit_part.specs.declared.spot.UnitSpot.TheVariants.{Ended}
 use Rattle.unit_part.specs.Rows as units
+use Rattle.unit_part.specs.Hints.{one_more}
 use Rattle.helper.specs.declared.spot.HelpSpot.{HelpSpot}
 use Rattle.helper.specs.declared.spot.HelpSpot.TheVariants.{LoadEnd, Entering, LoadPhase, LoadSet, Working, Leave, Gone}
 
@@ -23,15 +24,37 @@ use Rattle.helper.specs.declared.spot.HelpSpot.TheVariants.{LoadEnd, Entering, L
 pub record Helping : Type 0 where
   pub seat : ℕ
   pub spot : HelpSpot
+  -- how many hints it has taken, up to 2^64 - 1
+  pub hints : ℕ
 
 -- the helper of a seat before its first round
 abbrev pub fresh_helper : ℕ → Helping
-fresh_helper seat = record { seat = seat; spot = LoadEnd }
+fresh_helper seat = record { seat = seat; spot = LoadEnd; hints = 0 }
 
 -- whether it has ended
 abbrev pub is_gone : HelpSpot → Bool
 is_gone Gone = true
 is_gone _ = false
+
+-- whether it takes hints: it is about to claim a unit of marking
+abbrev pub takes_hint : HelpSpot → Bool
+takes_hint (Working at) = units.takes_hint at
+takes_hint _ = false
+
+-- from where it goes on with a hint, if it has one
+abbrev pub hinted_by : Config → Option ℕ → HelpSpot → HelpSpot
+hinted_by c hint (Working at) = Working (units.hinted_by c hint at)
+hinted_by c hint spot = spot
+
+-- the helper as it goes on with a hint, if it has one: the hint is one more that it has taken
+abbrev pub help_hinted : Config → Option ℕ → Helping → Helping
+help_hinted c None h = h
+help_hinted c (Some address) h = record { seat = h.seat; spot = hinted_by c (Some address) h.spot; hints = one_more h.hints }
+
+-- the address that the next access makes grey, if it does so
+abbrev pub greys_at : HelpSpot → Option ℕ
+greys_at (Working at) = units.greys_at at
+greys_at _ = None
 
 -- the place of the next access. There is none at the end, where it is named as that of the last access
 abbrev pub place_at : HelpSpot → Place
@@ -81,7 +104,7 @@ next_spot c Gone got = Gone
 
 -- what it is then
 abbrev pub help_next : Config → Helping → ℕ → Helping
-help_next c h got = record { seat = h.seat; spot = next_spot c h.spot got }
+help_next c h got = record { seat = h.seat; spot = next_spot c h.spot got; hints = h.hints }
 
 -- what a step of entering says: it waits while a pause is wanted
 abbrev pub entering_says : EnterSpot → ℕ → Took

@@ -1,6 +1,6 @@
-ghost use Rattle.std.specs.Prelude.{◌≡◌, ◌<◌, ◌+◌, ◌↔◌, true, false};
+ghost use Rattle.std.specs.Prelude.{ℕ, ◌≡◌, ◌<◌, ◌+◌, ◌↔◌, true, false, Some, IfSome};
 ghost use Rattle.heap_words.specs.Access.{table_index};
-ghost use Rattle.heap_words.specs.Words.{table_words};
+ghost use Rattle.heap_words.specs.Words.{Heap, IsWord, table_words};
 ghost use Rattle.steps_base.specs.Touch.{placed};
 ghost use Rattle.helper.specs.Rows as rows;
 ghost use Rattle.helper.specs.Ready.{spot_fits, UnitGoesOn};
@@ -55,6 +55,43 @@ impl HelpSpot {
             HelpSpot::LoadSet { .. } => Place::CS,
             HelpSpot::Working { at } => at.place(),
             HelpSpot::Leave => Place::LV,
+        }
+    }
+
+    /// Whether the helper takes hints: it is about to claim a unit of marking.
+    pub fn takes_hint(self) -> bool
+        ensures { result ≡ rows.takes_hint self }
+    {
+        match self {
+            HelpSpot::Working { at } => at.takes_hint(),
+            _ => false,
+        }
+    }
+
+    /// Where a helper that takes hints goes on with the hint of an address of the heap.
+    pub fn hinted(self, config: Config, address: u64) -> HelpSpot
+        requires takes { rows.takes_hint self ≡ true }
+        requires heap { IsWord config (Heap address) }
+        ensures row { result ≡ rows.hinted_by config (Some address) self }
+        ensures fits { (seat : ℕ) → spot_fits config seat result ≡ true }
+        ensures busy { rows.is_gone result ≡ false }
+    {
+        match self {
+            HelpSpot::Working { at } => HelpSpot::Working {
+                at: at.hinted(config, address),
+            },
+            _ => unreachable!(),
+        }
+    }
+
+    /// The address that the next access makes grey, if it does so: one of the heap.
+    pub fn greys(self) -> Option<u64>
+        ensures row { result ≡ rows.greys_at self }
+        ensures heap { (config : Config) (seat : ℕ) → spot_fits config seat self ≡ true → IfSome result (λ address. IsWord config (Heap address)) }
+    {
+        match self {
+            HelpSpot::Working { at } => at.greys(),
+            _ => None,
         }
     }
 

@@ -79,7 +79,7 @@ pub unordered : (b : Bundle) (next : Option Command) (number : ℕ) → HasMachi
 unordered b next number has none =
     let order = no_order_at b number has none in
     record {
-      unmoved = record { same = same_bundle b; view = refl; steps = refl };
+      unmoved = record { same = same_bundle b; view = refl; steps = refl; greyed = refl };
       turn = λ turn. goes_on (machine_at b number) next (sym (ap (takes_of (machine_at b number)) order) ∙ turn) ∙ ap (λ o. Some o) (sym order);
       orders = λ turn. sym (set_same (orders_of b) number (order_at b number) (order_there b number has));
       idle = λ none. refl;
@@ -132,7 +132,7 @@ replied_may _ some = absurd (some refl)
 
 -- its turn
 pub is_turn : (old mid new : Bundle) (next : Option Command) (number : ℕ) (said : Stepped) → IsOrdered old mid next number → has_turn mid number ≡ true → IsBundleStep mid new number said → IsTurn old new next number said
-is_turn old mid new next number said order turn step = record { ordered = mid; unmoved = order.unmoved; turn = order.turn turn; orders = order.orders turn; step = step }
+is_turn old mid new next number said order turn step = record { ordered = mid; unmoved = order.unmoved; turn = inl (order.turn turn); orders = order.orders turn; step = step }
 
 -- no other machine has changed
 pub others_stay : (old new : Bundle) (next : Option Command) (number : ℕ) (said : Stepped) → IsTurn old new next number said → (k : ℕ) → k ≢ number → machine_at new k ≡ machine_at old k

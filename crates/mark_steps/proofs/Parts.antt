@@ -4,7 +4,7 @@ use Rattle.mark_steps.specs.Laws.{RecordingSteps, ScanningSteps}
 use Rattle.satb_barrier.proofs.Remembering.{found_is_fit}
 use Rattle.mark_steps.proofs.Records.{each_records, takes_in_hand, can_record_stays, record_inside, record_noted}
 use Rattle.scan_part.proofs.Inside.{scan_inside}
-use Rattle.mark_steps.proofs.Scans.{each_scans, can_scan_stays}
+use Rattle.mark_steps.proofs.Scans.{each_scans, can_scan_stays, hint_scans}
 
 -- what the steps of recording owe
 pub recording_steps : RecordingSteps
@@ -21,6 +21,7 @@ recording_steps = record {
 pub scanning_steps : ScanningSteps
 scanning_steps = record {
   begins = λ c u seat seated marking unrecorded idle roomless. record { seated = seated; phase = marking; scanning = idle; records_none = unrecorded; ready = refl; hands = roomless; facts = tt };
+  hinted = λ c u seat address can. hint_scans c u seat address can;
   each = λ c u seat at going shared can. each_scans c u seat at going shared can;
   stays = λ c u w seat at rely can. can_scan_stays c u w seat rely at can;
   fits = λ c u seat at going shared can. (each_scans c u seat at going shared can).own.0.ready;

@@ -1,7 +1,7 @@
 -- The steps by which a machine scans a unit of marking.
-use Rattle.std.proofs.Common.{◌≡◌, ◌≢◌, ℕ, ◌+◌, ◌*◌, ◌%◌, ◌<◌, ◌≤◌, nat_lt, true, false, Option, Some, None, length, ⊎_elim, inl, inr, ◌⊎◌, refl, sym, ap, ◌∙◌, subst, arith, mod-lt}
+use Rattle.std.proofs.Common.{◌≡◌, ◌≢◌, ℕ, ◌+◌, ◌<◌, ◌≤◌, nat_lt, true, false, Option, Some, None, length, ⊎_elim, inl, inr, ◌⊎◌, refl, sym, ap, ◌∙◌, subst, arith}
 use Rattle.std.proofs.Math.Path.{fun_ext}
-use Rattle.std.specs.Prelude.{◌==◌}
+use Rattle.std.specs.Prelude.{◌==◌, Bool, if◌then◌else◌}
 use Rattle.std.proofs.lemmas.Bool.{cases_eq, cases_Bool, cond-true, cond-false, eq-eqb, eqb-true, ne_eqb, and_from, lt-ltb, ltb-true, ltb-false, le-leb}
 use Rattle.std.proofs.lemmas.Option.{slice_get-get_or}
 use Rattle.heap_words.specs.declared.config.Config.{Config}
@@ -9,6 +9,7 @@ use Rattle.heap_words.specs.declared.access.Unit.TheVariants.{Worked, NoneLeft}
 use Rattle.heap_words.specs.Encoding.{refs_in}
 use Rattle.heap_words.specs.Words.{Phase, Word, Claim, Count, Buffer, Grey, Black, Heap, IsWord, is_word, bit_words}
 use Rattle.heap_words.proofs.Shapes.{refs_in-shape_word}
+use Rattle.heap_words.proofs.Stores.{is_word_true}
 use Rattle.steps_base.specs.Touch.{touched}
 use Rattle.regions.specs.Marks.{mark_word, mark_bit, mark_at, address_at, lowest_address, HasMark}
 use Rattle.regions.proofs.MarksApart.{mark_set, mark_stays, word_inside}
@@ -21,7 +22,7 @@ use Rattle.heap_world.proofs.Unmoved.{unmoved}
 use Rattle.heap_world.proofs.Updates.{updated, updated_there, updated_else}
 use Rattle.scan_part.specs.declared.spot.ScanSpot.{ScanSpot}
 use Rattle.scan_part.specs.declared.spot.ScanSpot.TheVariants.{LoadClaim, ClaimUnit, LoadGrey, LoadBlack, SetBlack, LoadShape, LoadField, SetGrey, Ended}
-use Rattle.scan_part.specs.Rows.{touch_at, next_at, next_reference, has_unit, has_fields, unscanned_in, is_ended, is_ready}
+use Rattle.scan_part.specs.Rows.{touch_at, next_at, next_reference, has_unit, has_fields, unscanned_in, is_ended, is_ready, hinted}
 use Rattle.scan_part.proofs.Found.{unscanned_found}
 use Rattle.mark_steps.specs.Scanning.{scan_at, scanning_of, IsAtField, IsDoneOrFound, ScanFacts, CanScan}
 use Rattle.mark_steps.specs.Laws.{ScanStep}
@@ -168,9 +169,8 @@ module _ (c : Config) (u : World) (seat : ℕ) where
   at_claim_unit : (unit : ℕ) → Shared c u → CanScan c u seat (ClaimUnit unit) → ScanStep c u seat (ClaimUnit unit)
   at_claim_unit unit shared can = ⊎_elim
       (λ (won : (u.memory Claim == unit) ≡ true).
-      let less : unit < 2 * bit_words c = ltb-true _ _ can.ready in
-      leads_to (ClaimUnit unit) (LoadGrey (unit % bit_words c)) (cond-true (u.memory Claim == unit) _ _ won) (lt-ltb (unit % bit_words c) (bit_words c) (mod-lt unit (omega (arith, less)))) tt
-      (looks (ClaimUnit unit) (LoadGrey (unit % bit_words c)) (λ n. refl) can.scanning) shared can)
+      leads_to (ClaimUnit unit) (LoadGrey unit) (cond-true (u.memory Claim == unit) _ _ won) can.ready tt
+      (looks (ClaimUnit unit) (LoadGrey unit) (λ n. refl) can.scanning) shared can)
       (λ (lost : (u.memory Claim == unit) ≡ false).
       leads_to (ClaimUnit unit) LoadClaim (cond-false (u.memory Claim == unit) _ _ lost) refl tt (looks (ClaimUnit unit) LoadClaim (λ n. refl) can.scanning) shared can)
       (cases_Bool (u.memory Claim == unit))
@@ -402,3 +402,22 @@ module _ (c : Config) (u w : World) (seat : ℕ) (rely : Rely c seat u w) where
     hands = λ a words is. can.hands a words (rely.no_rooms a _ is refl);
     facts = facts_stay (λ two. (let one = can.phase in omega (arith, one, two))) at can.facts;
   }
+
+-- Who has claimed no unit may take any hint: of the spot behind it nothing is counted on.
+pub hint_scans : (c : Config) (u : World) (seat address : ℕ) → CanScan c u seat LoadClaim → CanScan c u seat (hinted c address)
+hint_scans c u seat address can = by_test (is_word c (Heap address)) refl
+  where
+    at_word : is_word c (Heap address) ≡ true → CanScan c u seat (LoadGrey (mark_word c address))
+    at_word there = record {
+      seated = can.seated;
+      phase = can.phase;
+      scanning = can.scanning;
+      records_none = can.records_none;
+      ready = lt-ltb (mark_word c address) (bit_words c) (word_inside c address (is_word_true c (Heap address) there));
+      hands = can.hands;
+      facts = tt;
+    }
+
+    by_test : (b : Bool) → is_word c (Heap address) ≡ b → CanScan c u seat (if b then LoadGrey (mark_word c address) else LoadClaim)
+    by_test true there = at_word there
+    by_test false outside = can

@@ -50,6 +50,8 @@ ScanStep c u seat at = PartStep c u seat (scan.touch_at c at) (λ w. CanScan c w
 -- A machine that scans makes grey what the fields of black objects name.
 pub record ScanningSteps : Type 0 where
   pub begins : (c : Config) (u : World) (seat : ℕ) → seat < seat_count c.mutators c.helpers → u.memory Phase ≡ 1 → u.ghost.recording seat ≡ None → u.ghost.scanning seat ≡ None → ((a words : ℕ) → u.block a ≡ Some (hand seat words) → ⊥) → CanScan c u seat LoadClaim
+  -- who has claimed no unit may take any hint
+  pub hinted : (c : Config) (u : World) (seat address : ℕ) → CanScan c u seat LoadClaim → CanScan c u seat (scan.hinted c address)
   pub each : (c : Config) (u : World) (seat : ℕ) (at : ScanSpot) → scan.is_ended at ≡ false → Shared c u → CanScan c u seat at → ScanStep c u seat at
   pub stays : (c : Config) (u w : World) (seat : ℕ) (at : ScanSpot) → Rely c seat u w → CanScan c u seat at → CanScan c w seat at
   pub fits : (c : Config) (u : World) (seat : ℕ) (at : ScanSpot) → scan.is_ended at ≡ false → Shared c u → CanScan c u seat at → seen.IsFit c at (u.memory (scan.touch_at c at).word)

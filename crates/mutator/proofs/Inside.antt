@@ -9,7 +9,7 @@ use Rattle.heap_words.proofs.Stores.{is_word_true, view_word}
 use Rattle.steps_base.specs.Touch.{Touch, placed}
 use Rattle.steps_base.proofs.Touches.{table_index-access_at}
 use Rattle.shen_graph.specs.declared.order.Order.{Order}
-use Rattle.shen_graph.specs.declared.order.Order.TheVariants.{Nothing, Begin, End}
+use Rattle.shen_graph.specs.declared.order.Order.TheVariants.{Nothing, Begin, End, Hint}
 use Rattle.mutator.specs.declared.spot.Kept.{Kept}
 use Rattle.mutator.specs.declared.spot.Spot.{Spot}
 use Rattle.mutator.specs.declared.spot.Spot.TheVariants.{Rest, Ended}
@@ -21,9 +21,11 @@ touch_word : (c : Config) (seat made : ℕ) (kept : Kept) (order : Order) (spot 
 touch_word c seat made kept End Rest is = tt
 touch_word c seat made kept Nothing Rest is = is_word_true c (touch_at c seat made kept Nothing Rest).word is
 touch_word c seat made kept (Begin command) Rest is = is_word_true c (touch_at c seat made kept Nothing Rest).word is
+touch_word c seat made kept (Hint address) Rest is = is_word_true c (touch_at c seat made kept Nothing Rest).word is
 touch_word c seat made kept End (Ended reply) is = tt
 touch_word c seat made kept Nothing (Ended reply) is = is_word_true c (touch_at c seat made kept Nothing Rest).word is
 touch_word c seat made kept (Begin command) (Ended reply) is = is_word_true c (touch_at c seat made kept Nothing Rest).word is
+touch_word c seat made kept (Hint address) (Ended reply) is = is_word_true c (touch_at c seat made kept Nothing Rest).word is
 touch_word c seat made kept order spot is = is_word_true c (touch_at c seat made kept Nothing spot).word is
 
 -- an access of a word is inside the table

@@ -7,7 +7,7 @@ use Rattle.mutator.specs.declared.spot.Spot.{Spot}
 use Rattle.mutator.specs.declared.spot.Spot.TheVariants.{Rest, Ended, Entering, Waiting, Gone}
 use Rattle.mutator.specs.declared.spot.Entered.TheVariants.{Waited}
 use Rattle.shen_graph.specs.declared.order.Order.{Order}
-use Rattle.shen_graph.specs.declared.order.Order.TheVariants.{Nothing, Begin, End}
+use Rattle.shen_graph.specs.declared.order.Order.TheVariants.{Nothing, Begin, End, Hint}
 
 -- whether the numbers of a command are in range, as those of each command of the code that is valid are
 abbrev pub is_valid : Command → Bool
@@ -41,15 +41,18 @@ abbrev pub takes_at : Spot → ℕ → Order → Bool
 takes_at Rest made Nothing = false
 takes_at Rest made (Begin command) = is_next made command
 takes_at Rest made End = true
+takes_at Rest made (Hint address) = false
 takes_at (Ended reply) made Nothing = false
 takes_at (Ended reply) made (Begin command) = is_next made command
 takes_at (Ended reply) made End = true
+takes_at (Ended reply) made (Hint address) = false
 takes_at Gone made order = false
 takes_at _ made Nothing = true
 takes_at _ made order = false
 
--- whether an order may stand: none, or where it takes commands one that is taken, or to end
+-- whether an order may stand: none, or where it takes commands one that is taken, or to end. A mutator is given no hints
 abbrev pub is_pending : Spot → ℕ → Order → Bool
 is_pending spot made Nothing = true
 is_pending spot made (Begin command) = takes_commands spot && is_next made command
 is_pending spot made End = takes_commands spot
+is_pending spot made (Hint address) = false

@@ -29,7 +29,7 @@ use Rattle.shen_graph.specs.declared.command.Command.TheVariants.{New, Get, Set,
 use Rattle.shen_graph.specs.declared.command.Reply.{Reply}
 use Rattle.shen_graph.specs.declared.command.Reply.TheVariants as reply
 use Rattle.shen_graph.specs.declared.order.Order.{Order}
-use Rattle.shen_graph.specs.declared.order.Order.TheVariants.{Nothing, Begin, End}
+use Rattle.shen_graph.specs.declared.order.Order.TheVariants.{Nothing, Begin, End, Hint}
 use Rattle.shen_graph.specs.Step.{yes_or_no}
 use Rattle.mutator.specs.declared.spot.Kept.{Kept}
 use Rattle.mutator.specs.declared.spot.Spot.{Spot}
@@ -94,6 +94,11 @@ abbrev pub make_place : MakeSpot → Place
 make_place (make.Taking take) = takes.place_at take
 make_place (make.StoreWord address done) = place.IW
 make_place (make.StoreRoot address) = place.RS
+
+-- the address that the next access makes grey, if it does so: an entry of the buffer that is full
+abbrev pub greys_at : Spot → Option ℕ
+greys_at (Recording at address next) = satb.greys_at at
+greys_at _ = None
 
 -- between two calls it is by the order: that of the first access of a call, or of the access by which a mutator ends
 abbrev pub first_place : Order → Place
@@ -328,6 +333,7 @@ abbrev pub call_begun : Order → Mutating → Mutating
 call_begun Nothing m = m
 call_begun (Begin command) m = record m { kept = record m.kept { command = command }; spot = Entering Look Call }
 call_begun End m = record m { spot = Gone }
+call_begun (Hint address) m = m
 
 -- what a mutator is after the access, by the word that it was told
 abbrev pub next_at : Config → Mutating → Order → ℕ → Spot → Mutating

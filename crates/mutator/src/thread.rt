@@ -31,12 +31,12 @@ pub struct Mutator {
 }
 
 impl Mutator {
-    ghost use Rattle.std.specs.Prelude.{◌↔◌, ◌≢◌, Some, None, false};
+    ghost use Rattle.std.specs.Prelude.{◌↔◌, ◌≢◌, Some, None, IfSome, false};
     ghost use Rattle.shen_graph.specs.Valid.{IsValid};
     ghost use Rattle.heap_words.specs.Access.{table_index};
-    ghost use Rattle.heap_words.specs.Words.{table_words, view};
+    ghost use Rattle.heap_words.specs.Words.{Heap, IsWord, table_words, view};
     ghost use Rattle.mutator.specs.Orders.{is_between_calls, takes_commands, takes_at};
-    ghost use Rattle.mutator.specs.Rows.{fresh_mutator, mutator_after, place_at, touch_of, call_begun, next_of, make_says, answer_at, reply_at};
+    ghost use Rattle.mutator.specs.Rows.{fresh_mutator, mutator_after, place_at, touch_of, call_begun, next_of, make_says, answer_at, reply_at, greys_at};
     ghost use Rattle.mutator.specs.WaitRows.{wait_says};
     ghost use Rattle.mutator.specs.Fit.{IsFit};
     ghost use Rattle.mutator.specs.Told.{told_of};
@@ -231,6 +231,17 @@ impl Mutator {
         }
     }
 
+    /// The address that its next access makes grey, if it does so: one of the heap.
+    pub fn greys(&self) -> Option<u64>
+        ensures row { result ≡ greys_at (seen self.now).spot }
+        ensures heap { IfSome result (λ address. IsWord (config_of self.now) (Heap address)) }
+    {
+        match self.spot {
+            Spot::Recording { at, .. } => at.greys(),
+            _ => None,
+        }
+    }
+
     /// Goes on with the word that its access has found.
     pub fn took(&mut self, got: u64) -> Took
         requires busy { is_idle self.old ≡ false }
@@ -326,7 +337,7 @@ impl Mutator {
                 };
             }
             Order::End => self.spot = Spot::Gone,
-            Order::Nothing => {}
+            Order::Nothing | Order::Hint(_) => {}
         }
     }
 

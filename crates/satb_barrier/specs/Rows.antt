@@ -1,7 +1,7 @@
 -- The rows of the steps by which a mutator records an address: for each spot its place, the access that it makes and what
 -- follows. A buffer has room for 8 entries. One that is full is emptied first: each entry is marked grey, and then the count
 -- is 0.
-use Rattle.std.specs.Prelude.{ℕ, ◌≤◌, ◌+◌, Bool, true, false, ◌&&◌, nat_lt, ⊤, if◌then◌else◌}
+use Rattle.std.specs.Prelude.{ℕ, ◌≤◌, ◌+◌, Bool, true, false, ◌&&◌, nat_lt, ⊤, if◌then◌else◌, Option, Some, None}
 use Rattle.heap_words.specs.declared.config.Config.{Config}
 use Rattle.heap_words.specs.declared.place.Place.{Place}
 use Rattle.heap_words.specs.declared.place.Place.TheVariants as place
@@ -47,6 +47,11 @@ next_at Recorded got = Recorded
 abbrev pub is_recorded : RememberSpot → Bool
 is_recorded Recorded = true
 is_recorded _ = false
+
+-- the address that the next access makes grey, if it does so
+abbrev pub greys_at : RememberSpot → Option ℕ
+greys_at (MarkEntry entry found) = Some found
+greys_at _ = None
 
 -- what the step says: it never waits, and ends with the count
 abbrev pub says_at : RememberSpot → Took

@@ -1,4 +1,4 @@
-ghost use Rattle.std.specs.Prelude.{◌≡◌, ◌<◌, true, false};
+ghost use Rattle.std.specs.Prelude.{◌≡◌, ◌<◌, true, false, IfSome};
 ghost use Rattle.heap_words.specs.Access.{table_index};
 ghost use Rattle.heap_words.specs.Words.{Heap, IsWord, table_words};
 ghost use Rattle.steps_base.specs.Touch.{placed};
@@ -57,6 +57,17 @@ impl RememberSpot {
             RememberSpot::ClearCount => Place::BZ,
             RememberSpot::StoreEntry { .. } => Place::BE,
             RememberSpot::StoreCount { .. } | RememberSpot::Recorded => Place::BN,
+        }
+    }
+
+    /// The address that the next access makes grey, if it does so: one of the heap.
+    pub fn greys(self) -> Option<u64>
+        ensures row { result ≡ rows.greys_at self }
+        ensures heap { (config : Config) → rows.is_ready config self ≡ true → IfSome result (λ address. IsWord config (Heap address)) }
+    {
+        match self {
+            RememberSpot::MarkEntry { found, .. } => Some(found),
+            _ => None,
         }
     }
 

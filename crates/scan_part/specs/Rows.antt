@@ -1,7 +1,7 @@
 -- The rows of the steps by which a machine claims a unit of marking and scans it: for each spot its place, the access that it
 -- makes and what follows. A unit is one word of grey bits. Each of its addresses that is grey and not black is made black, and
--- then each of its references grey. All units are gone over twice.
-use Rattle.std.specs.Prelude.{ℕ, ◌+◌, ◌*◌, ◌%◌, ◌==◌, Bool, true, false, ◌&&◌, nat_lt, bit_and, if◌then◌else◌}
+-- then each of its references grey. All units are gone over once. What is made grey behind that is left to hints, and to the pause.
+use Rattle.std.specs.Prelude.{ℕ, ◌+◌, ◌==◌, Bool, true, false, ◌&&◌, nat_lt, bit_and, if◌then◌else◌, Option, Some, None}
 use Rattle.std.specs.Int.{bit_at, bit_not, w64}
 use Rattle.heap_words.specs.declared.config.Config.{Config}
 use Rattle.heap_words.specs.declared.place.Place.{Place}
@@ -19,7 +19,7 @@ use Rattle.scan_part.specs.declared.spot.ScanSpot.TheVariants.{LoadClaim, ClaimU
 
 -- the units of marking
 abbrev pub unit_limit : Config → ℕ
-unit_limit c = 2 * bit_words c
+unit_limit c = bit_words c
 
 -- whether there is a unit of this number
 abbrev pub has_unit : Config → ℕ → Bool
@@ -62,10 +62,15 @@ after_bits c word unscanned = if unscanned == 0 then Ended Worked else SetBlack 
 abbrev pub next_reference : Config → ℕ → ℕ → ℕ → ScanSpot
 next_reference c address field refs = if nat_lt field refs then LoadField address field refs else LoadGrey (mark_word c address)
 
+-- Where a machine stands that has claimed no unit and takes the hint of an address of the heap: as behind the claim of the word that
+-- has the address's mark. A number that is no such address is no hint.
+abbrev pub hinted : Config → ℕ → ScanSpot
+hinted c address = if is_word c (Heap address) then LoadGrey (mark_word c address) else LoadClaim
+
 -- what follows, by the word that was found
 abbrev pub next_at : Config → ScanSpot → ℕ → ScanSpot
 next_at c LoadClaim got = if has_unit c got then ClaimUnit got else Ended NoneLeft
-next_at c (ClaimUnit unit) got = if got == unit then LoadGrey (unit % bit_words c) else LoadClaim
+next_at c (ClaimUnit unit) got = if got == unit then LoadGrey unit else LoadClaim
 next_at c (LoadGrey word) got = LoadBlack word got
 next_at c (LoadBlack word grey) got = after_bits c word (unscanned_in grey got)
 next_at c (SetBlack address) got = if bit_at got (mark_bit c address) == 1 then LoadGrey (mark_word c address) else LoadShape address
@@ -86,6 +91,18 @@ says_at c (ClaimUnit unit) got = if got == unit then More else Again
 says_at c (LoadBlack word grey) got = if unscanned_in grey got == 0 then Done else More
 says_at c (Ended unit) got = Done
 says_at c _ got = More
+
+-- whether a unit is claimed, or a hint taken: from there on it is done, and never was none left
+abbrev pub has_claimed : ScanSpot → Bool
+has_claimed LoadClaim = false
+has_claimed (ClaimUnit unit) = false
+has_claimed (Ended NoneLeft) = false
+has_claimed _ = true
+
+-- the address that the next access makes grey, if it does so
+abbrev pub greys_at : ScanSpot → Option ℕ
+greys_at (SetGrey address field refs found) = Some found
+greys_at _ = None
 
 -- whether an object with so many references lies in the heap, up to its last reference
 abbrev pub has_fields : Config → ℕ → ℕ → Bool

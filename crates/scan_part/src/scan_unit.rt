@@ -15,9 +15,9 @@ pub struct ScanUnit {
 impl ScanUnit {
     ghost use Rattle.std.specs.Prelude.{false, ◌<◌, ◌↔◌};
     ghost use Rattle.heap_words.specs.Access.{table_index};
-    ghost use Rattle.heap_words.specs.Words.{table_words};
+    ghost use Rattle.heap_words.specs.Words.{Heap, IsWord, table_words};
     ghost use Rattle.steps_base.specs.Touch.{placed};
-    ghost use Rattle.scan_part.specs.Rows.{place_at, touch_at, next_at, says_at, is_ended};
+    ghost use Rattle.scan_part.specs.Rows.{place_at, touch_at, next_at, says_at, is_ended, hinted, has_claimed};
     ghost use Rattle.scan_part.specs.Seen.{config_of, spot_of, IsFit};
     ghost use Rattle.scan_part.specs.Ends.{WaitsAt, HasNoneLeft, IsDoneAt};
 
@@ -29,6 +29,19 @@ impl ScanUnit {
         ScanUnit {
             config,
             spot: ScanSpot::LoadClaim,
+        }
+    }
+
+    /// A machine that takes the hint of an address of the heap: it scans the word that has the address's mark, and claims no unit.
+    pub fn hinted(config: Config, address: u64) -> ScanUnit
+        requires { IsWord config (Heap address) }
+        ensures config { config_of result ≡ config }
+        ensures spot { spot_of result ≡ hinted config address }
+        ensures claimed { has_claimed (spot_of result) ≡ true }
+    {
+        ScanUnit {
+            config,
+            spot: ScanSpot::hinted(config, address),
         }
     }
 
@@ -65,6 +78,9 @@ impl ScanUnit {
         ensures config { config_of self.new ≡ config_of self.old }
         ensures says { result ≡ says_at (config_of self.old) (spot_of self.old) got }
 
+        // Who has claimed a unit or taken a hint does so to its end.
+        ensures claimed { has_claimed (spot_of self.old) ≡ true → has_claimed (spot_of self.new) ≡ true }
+
         // It ends at MC where no unit is left, and at MB where the unit is done; again is said at KX alone.
         ensures done { (result ≡ Took.Done) ↔ (is_ended (spot_of self.new) ≡ true) }
         ensures none_left { (spot_of self.new ≡ ScanSpot.Ended Unit.NoneLeft) ↔ HasNoneLeft (config_of self.old) (spot_of self.old) got }
@@ -76,10 +92,11 @@ impl ScanUnit {
         before.says(self.config, got)
     }
 
-    /// Whether it has done a unit or none was left, once it is done.
+    /// Whether it has done a unit or none was left, once it is done. Who has taken a hint has done one.
     pub fn answer(&self) -> Unit
         requires { is_ended (spot_of self.now) ≡ true }
-        ensures { spot_of self.now ≡ ScanSpot.Ended result }
+        ensures which { spot_of self.now ≡ ScanSpot.Ended result }
+        ensures claimed { has_claimed (spot_of self.now) ≡ true → result ≡ Unit.Worked }
     {
         match self.spot {
             ScanSpot::Ended { unit } => unit,

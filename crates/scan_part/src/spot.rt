@@ -1,4 +1,4 @@
-ghost use Rattle.std.specs.Prelude.{◌≡◌, ◌<◌, ◌+◌, ◌↔◌, true, false};
+ghost use Rattle.std.specs.Prelude.{◌≡◌, ◌<◌, ◌+◌, ◌↔◌, true, false, IfSome};
 ghost use Rattle.heap_words.specs.Access.{table_index};
 ghost use Rattle.heap_words.specs.Words.{Claim, Heap, IsWord, table_words, word_at};
 ghost use Rattle.steps_base.specs.Touch.{placed};
@@ -71,6 +71,30 @@ pub enum ScanSpot {
 }
 
 impl ScanSpot {
+    /// Where a machine goes on that has claimed no unit and takes the hint of an address: at the word that has its mark, as if it
+    /// had claimed that.
+    pub fn hinted(config: Config, address: u64) -> ScanSpot
+        requires { IsWord config (Heap address) }
+        ensures row { result ≡ rows.hinted config address }
+        ensures claimed { rows.has_claimed result ≡ true }
+        ensures ready { rows.is_ready config result ≡ true }
+    {
+        ScanSpot::LoadGrey {
+            word: mark_word(config, address),
+        }
+    }
+
+    /// The address that the next access makes grey, if it does so: one of the heap.
+    pub fn greys(self) -> Option<u64>
+        ensures row { result ≡ rows.greys_at self }
+        ensures heap { (config : Config) → rows.is_ready config self ≡ true → IfSome result (λ address. IsWord config (Heap address)) }
+    {
+        match self {
+            ScanSpot::SetGrey { found, .. } => Some(found),
+            _ => None,
+        }
+    }
+
     /// The place of the next access. There is none at the end, where it is named as that of the last access.
     pub fn place(self) -> Place
         ensures { result ≡ rows.place_at self }
@@ -138,7 +162,7 @@ impl ScanSpot {
             ScanSpot::LoadClaim if has_unit(config, got) => ScanSpot::ClaimUnit { unit: got },
             ScanSpot::LoadClaim => NONE_LEFT,
             ScanSpot::ClaimUnit { unit } if got == unit => ScanSpot::LoadGrey {
-                word: unit as usize % mark_words(config),
+                word: unit as usize,
             },
             ScanSpot::ClaimUnit { .. } => ScanSpot::LoadClaim,
             ScanSpot::LoadGrey { word } => ScanSpot::LoadBlack { word, grey: got },
@@ -207,7 +231,7 @@ const NONE_LEFT: ScanSpot = ScanSpot::Ended {
 fn has_unit(config: Config, unit: u64) -> bool
     ensures { result ≡ rows.has_unit config unit }
 {
-    unit < 2 * mark_words(config) as u64
+    unit < mark_words(config) as u64
 }
 
 // The access that claims a unit.

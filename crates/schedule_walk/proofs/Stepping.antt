@@ -34,7 +34,7 @@ pub stepped : (p mid q : Plain) (jobs : Jobs) (number : ℕ) (has : Bool) (said 
     → words_of mid ≡ words_of p → machines_of mid ≡ machines_of p → config_of mid ≡ config_of p → orders_of mid ≡ slice_set (orders_of p) number (order_at mid number)
     → IsTurn p jobs number has (order_at mid number) → IsNextTurn p jobs number has (order_at mid number) → has_turn mid number ≡ has → has ≡ true
     → (has_turn mid number ≡ true → IsStep mid q number)
-    → (has_turn mid number ≡ true → said ≡ says (config_of mid) (machine_at mid number) (word_found_by mid number))
+    → (has_turn mid number ≡ true → said ≡ says (config_of mid) (order_at mid number) (machine_at mid number) (word_found_by mid number))
     → (has_turn mid number ≡ true → machines_of q ≡ slice_set (machines_of mid) number (next_machine mid number))
     → (has_turn mid number ≡ true → orders_of q ≡ slice_set (orders_of mid) number Nothing)
     → config_of q ≡ config_of mid → IsStepped p mid q jobs number said

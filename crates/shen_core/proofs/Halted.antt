@@ -74,7 +74,7 @@ module _ (p : Plain) (jobs : Jobs) (number : ℕ) (within : number < length (mac
         has = takes;
         event = subst (λ ws. IsOneEvent (config_of p) (words_of p) (machines_of p) ws (machines_of p) number (order_at p number)) same_words
             (subst (λ ms. IsOneEvent (config_of p) (words_of p) (machines_of p) (accessed (plan_of (config_of p) (order_at p number) machine) (words_of p)) ms number (order_at p number)) same_machines one);
-        says = sym (ap (λ got. stepped_by (answer_of (config_of p) machine got)) finds ∙ ap stepped_by (held.awaits.waits (slice_index (words_of p) (word_at (config_of p) Pause)) held.wanted));
+        says = sym (ap (λ got. stepped_by (answer_of (config_of p) (order_at p number) machine got)) finds ∙ ap (λ order. stepped_by (answer_of (config_of p) order machine (slice_index (words_of p) (word_at (config_of p) Pause)))) none ∙ ap stepped_by (held.awaits.waits (slice_index (words_of p) (word_at (config_of p) Pause)) held.wanted));
         machines = sym same_machines;
         orders = sym (ap (slice_set (orders_of p) number) (sym none) ∙ same_orders);
         config = refl;

@@ -66,7 +66,8 @@ module _ (p mid q : Plain) (number : ℕ) (within : number < length (machines_of
         next = next;
         has = ap (λ m. takes_of m (order_at mid number)) machine_mid ∙ ap (takes_of (machine_at p number)) order_mid ∙ goes.takes;
         event = facts.event;
-        says = sym (ap (λ c. stepped_by (answer_of c (machine_at mid number) got)) facts.mid_config ∙ ap (λ m. stepped_by (answer_of (config_of p) m got)) machine_mid ∙ ap stepped_by (goes.says got));
+        says = sym (ap (λ c. stepped_by (answer_of c (order_at mid number) (machine_at mid number) got)) facts.mid_config ∙ ap (λ m. stepped_by (answer_of (config_of p) (order_at mid number) m got)) machine_mid
+            ∙ ap (λ order. stepped_by (answer_of (config_of p) order (machine_at p number) got)) order_mid ∙ ap stepped_by (goes.says got));
         machines = facts.machines;
         orders = facts.orders;
         config = facts.config;

@@ -221,14 +221,15 @@ module _ (config : Config) (words : List ℕ) (machines : List Machine) (number 
       ∙ ap (λ order. plan_of config order (shown m)) (sym (order_here machines number m here))
       ∙ ap (λ x. plan_of config (slice_index_or (map order_of machines) number Nothing) x) (sym (machine_here machines number m here)))
 
-  pub says_here : answer_of (heap_of m) (shown m) found ≡ Some said
-      → result ≡ says config (slice_index_or (map shown machines) number no_machine) (slice_index words (table_index (plan_of config (slice_index_or (map order_of machines) number Nothing) (slice_index_or (map shown machines) number no_machine))))
+  pub says_here : answer_of (heap_of m) (order_of m) (shown m) found ≡ Some said
+      → result ≡ says config (slice_index_or (map order_of machines) number Nothing) (slice_index_or (map shown machines) number no_machine) (slice_index words (table_index (plan_of config (slice_index_or (map order_of machines) number Nothing) (slice_index_or (map shown machines) number no_machine))))
   says_here answer =
       is
       ∙ sym (ap stepped_by answer)
-      ∙ ap (λ k. says k (shown m) found) heap
-      ∙ ap (λ x. says config x found) (sym (machine_here machines number m here))
-      ∙ ap (λ got. says config (slice_index_or (map shown machines) number no_machine) got) found_here
+      ∙ ap (λ k. says k (order_of m) (shown m) found) heap
+      ∙ ap (λ order. says config order (shown m) found) (sym (order_here machines number m here))
+      ∙ ap (λ x. says config (slice_index_or (map order_of machines) number Nothing) x found) (sym (machine_here machines number m here))
+      ∙ ap (λ got. says config (slice_index_or (map order_of machines) number Nothing) (slice_index_or (map shown machines) number no_machine) got) found_here
 
   pub done_here : (said ≡ took.Done) ↔ ((is_mutating (shown m) ≡ true) × (place_in (order_of m) (shown m) ≡ LV))
       → (result ≡ stepped.Done) ↔ ((takes_of (slice_index_or (map shown machines) number no_machine) (slice_index_or (map order_of machines) number Nothing) ≡ true) × (is_mutating (slice_index_or (map shown machines) number no_machine) ≡ true) × (place_in (slice_index_or (map order_of machines) number Nothing) (slice_index_or (map shown machines) number no_machine) ≡ LV))
@@ -241,21 +242,24 @@ module _ (config : Config) (words : List ℕ) (machines : List Machine) (number 
         λ all. is ∙ ap stepped_of (done.1 (sym (ap is_mutating machine) ∙ all.1, sym place ∙ all.2)),
       )
 
-  pub again_here : (said ≡ took.Again) ↔ WaitsIn (heap_of m) (shown m) found
-      → (result ≡ stepped.Again) ↔ ((takes_of (slice_index_or (map shown machines) number no_machine) (slice_index_or (map order_of machines) number Nothing) ≡ true) × WaitsIn config (slice_index_or (map shown machines) number no_machine) (slice_index words (table_index (plan_of config (slice_index_or (map order_of machines) number Nothing) (slice_index_or (map shown machines) number no_machine)))))
+  pub again_here : (said ≡ took.Again) ↔ WaitsIn (heap_of m) (order_of m) (shown m) found
+      → (result ≡ stepped.Again) ↔ ((takes_of (slice_index_or (map shown machines) number no_machine) (slice_index_or (map order_of machines) number Nothing) ≡ true) × WaitsIn config (slice_index_or (map order_of machines) number Nothing) (slice_index_or (map shown machines) number no_machine) (slice_index words (table_index (plan_of config (slice_index_or (map order_of machines) number Nothing) (slice_index_or (map shown machines) number no_machine)))))
   again_here again =
+      let order = order_here machines number m here in
       let machine = machine_here machines number m here in (
         λ waits. (
           turn_here machines number m here ∙ takes,
-          subst (λ got. WaitsIn config (slice_index_or (map shown machines) number no_machine) got) found_here
-              (subst (λ x. WaitsIn config x found) (sym machine)
-              (subst (λ k. WaitsIn k (shown m) found) heap (again.0 (again_only said (sym is ∙ waits))))),
+          subst (λ got. WaitsIn config (slice_index_or (map order_of machines) number Nothing) (slice_index_or (map shown machines) number no_machine) got) found_here
+              (subst (λ x. WaitsIn config (slice_index_or (map order_of machines) number Nothing) x found) (sym machine)
+              (subst (λ given. WaitsIn config given (shown m) found) (sym order)
+              (subst (λ k. WaitsIn k (order_of m) (shown m) found) heap (again.0 (again_only said (sym is ∙ waits)))))),
         ),
         λ all.
             is
             ∙ ap stepped_of
             (again.1
-            (subst (λ k. WaitsIn k (shown m) found) (sym heap)
-            (subst (λ x. WaitsIn config x found) machine
-            (subst (λ got. WaitsIn config (slice_index_or (map shown machines) number no_machine) got) (sym found_here) all.1)))),
+            (subst (λ k. WaitsIn k (order_of m) (shown m) found) (sym heap)
+            (subst (λ given. WaitsIn config given (shown m) found) order
+            (subst (λ x. WaitsIn config (slice_index_or (map order_of machines) number Nothing) x found) machine
+            (subst (λ got. WaitsIn config (slice_index_or (map order_of machines) number Nothing) (slice_index_or (map shown machines) number no_machine) got) (sym found_here) all.1))))),
       )

@@ -94,11 +94,11 @@ tells_noted c words machines jobs number machine order reply scripts s shows tel
 
 -- whether the next step of a machine that memory shows says that it waits
 pub shown_waits : (c : Config) (words : List ℕ) (machines : List Machine) (number : ℕ) (machine : Machine) (order : Order) (s : Stage Actor) → WordsShow words machines s → slice_get machines number ≡ Some machine
-    → waits c s (event number order) ≡ again_by (answer_of c machine (slice_index words (table_index (plan_of c order machine))))
+    → waits c s (event number order) ≡ again_by (answer_of c order machine (slice_index words (table_index (plan_of c order machine))))
 shown_waits c words machines number machine order s shows here =
     let found = shown_actor words machines s number machine shows here in
     ap (waits_of c s order) found.1 ∙ ap (waits_in s c order) found.2
-    ∙ ap (λ ws. again_by (answer_of c machine (slice_index ws (table_index (plan_of c order machine))))) shows.words_are
+    ∙ ap (λ ws. again_by (answer_of c order machine (slice_index ws (table_index (plan_of c order machine))))) shows.words_are
 
 -- what a turn has done, by what its step said
 pub turned_from : (c : Config) (scripts : Scripts) (s : Stage Actor) (number : ℕ) (p : Plain) (jobs : Jobs) (said : Took) → IsMovedOn c scripts s number p jobs (is_again said) → Turned c scripts s number p jobs (stepped_of said)
@@ -171,7 +171,7 @@ pub record IsStepped (p mid q : Plain) (jobs : Jobs) (number : ℕ) (said : Step
   pub next : IsNextTurn p jobs number true (order_at mid number)
   pub has : has_turn mid number ≡ true
   pub event : IsStep mid q number
-  pub says : said ≡ says (config_of mid) (machine_at mid number) (slice_index (words_of mid) (table_index (plan_of (config_of mid) (order_at mid number) (machine_at mid number))))
+  pub says : said ≡ says (config_of mid) (order_at mid number) (machine_at mid number) (slice_index (words_of mid) (table_index (plan_of (config_of mid) (order_at mid number) (machine_at mid number))))
   pub machines : machines_of q ≡ slice_set (machines_of mid) number (next_machine mid number)
   pub orders : orders_of q ≡ slice_set (orders_of mid) number Nothing
   pub config : config_of q ≡ config_of mid
@@ -262,7 +262,7 @@ module _ (p mid q : Plain) (jobs : Jobs) (number : ℕ) (said : Stepped) (facts 
         event = event number (order_at mid number);
         is = facts.turn scripts s shows tells;
         waits_is = shown_waits (config_of p) (words_of mid) (machines_of mid) number (machine_at mid number) (order_at mid number) s (shows_mid s shows) here_mid
-            ∙ ap (λ c. again_by (answer_of c (machine_at mid number) (slice_index (words_of mid) (table_index (plan_of c (order_at mid number) (machine_at mid number)))))) (sym facts.mid_config)
+            ∙ ap (λ c. again_by (answer_of c (order_at mid number) (machine_at mid number) (slice_index (words_of mid) (table_index (plan_of c (order_at mid number) (machine_at mid number)))))) (sym facts.mid_config)
             ∙ ap again_by found.1;
         shows = subst (λ c. WordsShow (words_of q) (machines_of q) (act (kind pause_image c) s (event number (order_at mid number)))) facts.mid_config (facts.event.acts s (shows_mid s shows));
         tells = tells_later scripts s (shows_mid s shows) tells;
@@ -280,11 +280,11 @@ module _ (p mid q : Plain) (jobs : Jobs) (number : ℕ) (said : Stepped) (facts 
 
   -- a step that is not done gives no reply
   pub none_given : (said ≡ stepped.Done → ⊥) → reply_of_step (machine_at mid number) ≡ None
-  none_given other = other_gives (config_of mid) (machine_at mid number) got (λ is. other (facts.says ∙ ap stepped_by is))
+  none_given other = other_gives (config_of mid) (order_at mid number) (machine_at mid number) got (λ is. other (facts.says ∙ ap stepped_by is))
 
   -- a step that is done gives one
   some_given : said ≡ stepped.Done → (r : Reply) × (reply_of_step (machine_at mid number) ≡ Some r)
-  some_given done = done_gives (config_of mid) (machine_at mid number) got (done_of (answer_of (config_of mid) (machine_at mid number) got) (sym facts.says ∙ done))
+  some_given done = done_gives (config_of mid) (order_at mid number) (machine_at mid number) got (done_of (answer_of (config_of mid) (order_at mid number) (machine_at mid number) got) (sym facts.says ∙ done))
 
   -- the machine after its step
   now_next : machine_at q number ≡ next_machine mid number

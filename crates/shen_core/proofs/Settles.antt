@@ -20,7 +20,7 @@ use Rattle.shen_graph.specs.declared.command.Command.{Command}
 use Rattle.shen_graph.specs.declared.command.Reply.{Reply}
 use Rattle.shen_graph.specs.declared.command.Reply.TheVariants as reply
 use Rattle.shen_graph.specs.declared.order.Order.{Order}
-use Rattle.shen_graph.specs.declared.order.Order.TheVariants.{Nothing, Begin, End}
+use Rattle.shen_graph.specs.declared.order.Order.TheVariants.{Nothing, Begin, End, Hint}
 use Rattle.shen_graph.specs.History.{of_thread}
 use Rattle.handshake.specs.Standing.{is_within, is_pausing}
 use Rattle.mutator.specs.declared.spot.Spot.{Spot}
@@ -68,6 +68,7 @@ busy_order Gone made order busy takes = absurd cc
 busy_order _ made Nothing busy takes = refl
 busy_order _ made (Begin command) busy takes = absurd cc
 busy_order _ made End busy takes = absurd cc
+busy_order _ made (Hint address) busy takes = absurd cc
 
 -- who is out of the heap settles the same whatever its words are
 told_outside : (one two : Word → ℕ) (m : Mutating) → is_within (standing_at m.spot) ≡ false → told_of one m ≡ told_of two m
@@ -95,13 +96,16 @@ next_keeps c m command order got takes before busy = by_spot m.spot order takes 
     by_spot Rest (Begin k) takes before busy = refl
     by_spot Rest Nothing takes before busy = absurd cc
     by_spot Rest End takes before busy = absurd cc
+    by_spot Rest (Hint address) takes before busy = absurd cc
     by_spot (Ended r) (Begin k) takes before busy = refl
     by_spot (Ended r) Nothing takes before busy = absurd cc
     by_spot (Ended r) End takes before busy = absurd cc
+    by_spot (Ended r) (Hint address) takes before busy = absurd cc
     by_spot Gone order takes before busy = absurd cc
     by_spot spot Nothing takes before busy = before refl
     by_spot spot (Begin k) takes before busy = absurd cc
     by_spot spot End takes before busy = absurd cc
+    by_spot spot (Hint address) takes before busy = absurd cc
 
 -- all mutators do
 abbrev AllKeep : Stage Actor → Type 0
@@ -347,7 +351,8 @@ module _ (c : Config) (run : Run c) where
       → refused_at c s.words k.spot k.image ≡ Some t → IsRefused number order t
   refusal number order a k t here is takes some =
       let control : number ≡ c.mutators + c.helpers = subst (λ machine. HasNumber c number machine) is (sound.of_heap.roles number a here) in
-      let inside : table_index (plan_of c order (controlling k)) < table_words c = subst (λ machine. table_index (plan_of c order machine) < table_words c) is ((sound.fit number a here).inside order (subst (λ machine. takes_of machine order ≡ true) (sym is) takes)) in
+      let inside : takes_of (controlling k) Nothing ≡ true → table_index (plan_of c Nothing (controlling k)) < table_words c =
+      (λ goes. subst (λ machine. table_index (plan_of c Nothing machine) < table_words c) is ((sound.fit number a here).inside Nothing (subst (λ machine. takes_of machine Nothing ≡ true) (sym is) goes))) in
       let below : t < c.mutators = by_spot k.spot inside some in
       let found = sound.of_heap.mutators t below in
       let told_so = refusal_told number order a k t here is takes some in
@@ -363,10 +368,10 @@ module _ (c : Config) (run : Run c) where
             (ap command_at found.here.here ∙ commands_kept t found.actor found.mutator found.here.here found.here.is busy);
       }
     where
-      by_spot : (spot : ControlSpot) → table_index (plan_of c order (controlling (record k { spot = spot }))) < table_words c → refused_at c s.words spot k.image ≡ Some t → t < c.mutators
+      by_spot : (spot : ControlSpot) → (takes_of (controlling (record k { spot = spot })) Nothing ≡ true → table_index (plan_of c Nothing (controlling (record k { spot = spot }))) < table_words c) → refused_at c s.words spot k.image ≡ Some t → t < c.mutators
       by_spot (StoreWord index) inside some =
           let named = (told_some s.machines (name_of c (image_start c + index)) (slice_index s.words (image_start c + index)) (slice_index k.image index) t some).word_is in
-          subst (λ w. IsWord c w) named (are_named.is_word c (image_start c + index) inside)
+          subst (λ w. IsWord c w) named (are_named.is_word c (image_start c + index) (inside refl))
       by_spot _ inside some = absurd cc
 
 -- As memory sees it.

@@ -16,7 +16,7 @@ use Rattle.step_core.specs.Begins.{IsCalmOutside}
 
 -- a control that knows the phase and the collection set of these words and has seen their free word
 abbrev pub control_from : (Word → ℕ) → Machine
-control_from memory = controlling (record { spot = LookLeft; seen = memory Free; phase = memory Phase; cset = memory Cset; image = [] })
+control_from memory = controlling (record { spot = LookLeft; seen = memory Free; phase = memory Phase; cset = memory Cset; image = []; hints = 0 })
 
 -- The machine of a number in a heap of these words: the mutators come first, whose threads have made so many objects, then the
 -- helpers, then the control.

@@ -30,11 +30,12 @@ pub struct Plain {
 
 impl Plain {
     ghost use Rattle.std.specs.Prelude.{◌<◌, ◌↔◌, ◌≢◌, true, false, slice_set, slice_index, Some, None, IfOk, IfSome};
-    ghost use Rattle.shen_graph.specs.declared.order.Order.TheVariants.{Nothing, Begin, End};
+    ghost use Rattle.shen_graph.specs.declared.order.Order.TheVariants.{Nothing, Begin, End, Hint};
     ghost use Rattle.shen_graph.specs.Valid.{IsValid};
     ghost use Rattle.heap_machines.specs.Pause.{pause_image};
     ghost use Rattle.heap_words.specs.Access.{table_index};
-    ghost use Rattle.step_core.specs.Machines.{takes_of, plan_of, is_machine_at, reply_in, place_in, may_begin, made_of_machine, WaitsIn};
+    ghost use Rattle.heap_words.specs.Words.{Heap, IsWord};
+    ghost use Rattle.step_core.specs.Machines.{takes_of, takes_hint, plan_of, is_machine_at, reply_in, place_in, may_begin, made_of_machine, WaitsIn};
     ghost use Rattle.step_core.specs.Opening.{opening};
     ghost use Rattle.shen_graph.specs.Graph.{Graph};
     ghost use Rattle.image_graph.specs.State as images;
@@ -135,13 +136,36 @@ impl Plain {
         self.machines[number].finish();
     }
 
+    /// Whether the machine takes hints: a helper or the control that is about to claim a unit of marking.
+    pub fn takes_hint(&self, number: usize) -> bool
+        requires { number < seats_of self.now }
+        ensures { result ≡ takes_hint (machine_at self.now number) }
+    {
+        self.machines[number].takes_hint()
+    }
+
+    /// Gives the machine the hint of an address of the heap, for its next step: that scans the word that has the address's mark, and
+    /// claims no unit. The address may be grey, black or white, or that of no object. Of a machine that takes hints.
+    pub fn hint(&mut self, number: usize, address: u64)
+        requires number { number < seats_of self.old }
+        requires takes { takes_hint (machine_at self.old number) ≡ true }
+        requires heap { IsWord (config_of self.old) (Heap address) }
+        ensures order { orders_of self.new ≡ slice_set (orders_of self.old) number (Hint address) }
+        ensures takes { takes_of (machine_at self.old number) (Hint address) ≡ true }
+        ensures words { words_of self.new ≡ words_of self.old }
+        ensures machines { machines_of self.new ≡ machines_of self.old }
+        ensures config { config_of self.new ≡ config_of self.old }
+    {
+        self.machines[number].give_hint(address);
+    }
+
     /// Gives the machine of this number one step.
     pub fn step(&mut self, number: usize) -> Stepped
         requires { number < seats_of self.old }
         ensures idle { (result ≡ Stepped.Idle) ↔ (has_turn self.old number ≡ false) }
         ensures unchanged { has_turn self.old number ≡ false → IsUnchanged self.old self.new }
         ensures event { has_turn self.old number ≡ true → IsStep self.old self.new number }
-        ensures says { has_turn self.old number ≡ true → result ≡ says (config_of self.old) (machine_at self.old number) (word_found_by self.old number) }
+        ensures says { has_turn self.old number ≡ true → result ≡ says (config_of self.old) (order_at self.old number) (machine_at self.old number) (word_found_by self.old number) }
         ensures machines { has_turn self.old number ≡ true → machines_of self.new ≡ slice_set (machines_of self.old) number (next_machine self.old number) }
         ensures orders { has_turn self.old number ≡ true → orders_of self.new ≡ slice_set (orders_of self.old) number Nothing }
         ensures config { config_of self.new ≡ config_of self.old }
@@ -149,7 +173,7 @@ impl Plain {
         // A call ends exactly where its mutator leaves the heap, and its reply is at hand then.
         ensures done { (result ≡ Stepped.Done) ↔ ((has_turn self.old number ≡ true) × (is_mutating (machine_at self.old number) ≡ true) × (place_in (order_at self.old number) (machine_at self.old number) ≡ Place.LV)) }
         ensures replied { result ≡ Stepped.Done → reply_in (machine_at self.new number) ≢ None }
-        ensures again { (result ≡ Stepped.Again) ↔ ((has_turn self.old number ≡ true) × WaitsIn (config_of self.old) (machine_at self.old number) (word_found_by self.old number)) }
+        ensures again { (result ≡ Stepped.Again) ↔ ((has_turn self.old number ≡ true) × WaitsIn (config_of self.old) (order_at self.old number) (machine_at self.old number) (word_found_by self.old number)) }
         ensures notes { notes_of self.new ≡ notes_of self.old }
     {
         let machine = &mut self.machines[number];

@@ -9,4 +9,7 @@ pub enum Order {
     Begin(Command),
     /// Of a mutator that takes commands: it ends, and takes no order any more.
     End,
+    /// Of a helper or the control that is about to claim a unit of marking: it looks at the word that has the mark of this
+    /// address of the heap first, and claims none.
+    Hint(u64),
 }

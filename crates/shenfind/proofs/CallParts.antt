@@ -5,7 +5,7 @@ use Rattle.shen_base.specs.Count.{Rose}
 use Rattle.text_writer.specs.declared.send.WriteFault.{WriteFault}
 use Rattle.trace_grammar.specs.Grammar.{most_bytes}
 use Rattle.trace_runs.specs.Words.{usual_steps}
-use Rattle.trace_runs.specs.Answered.{Input, Output, HasRead}
+use Rattle.trace_runs.specs.Answered.{Input, Output, HasRead, SaysLine}
 use Rattle.find_grammar.specs.declared.test.Test.{Test}
 use Rattle.find_play.specs.declared.verdict.Verdict.{Verdict}
 use Rattle.find_play.specs.declared.verdict.Verdict.TheVariants as verdict
@@ -17,7 +17,7 @@ use Rattle.find_hunt.specs.Judged.{IsBreak}
 use Rattle.shenfind.specs.declared.status.Status.{Status}
 use Rattle.shenfind.specs.declared.status.Status.TheVariants.{Holds, BadWords, BadTest, Unfinished, ReadFault, WriteFault as Unwritten, NoMemory, Fails, Stuck}
 use Rattle.shenfind.specs.FaultLines.{refusal_text, refusal_status}
-use Rattle.shenfind.specs.Tellings.{status_of, SaysLine, Reports, HasSearched, StatusTells}
+use Rattle.shenfind.specs.Tellings.{status_of, Reports, HasSearched, StatusTells}
 
 -- which of these is meant by a result of a call: a status, where it did not fail
 pub found : (result : Result Status WriteFault) (test : Test) (text : List ℕ) (said : Verdict) (sink errors : Output)

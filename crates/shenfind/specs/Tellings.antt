@@ -6,7 +6,7 @@ use Rattle.shen_base.specs.Count.{Rose}
 use Rattle.trace_grammar.specs.Grammar.{most_bytes}
 use Rattle.trace_grammar.specs.Spelling.{newline}
 use Rattle.trace_runs.specs.Words.{usual_steps}
-use Rattle.trace_runs.specs.Answered.{Input, Output, HasRead}
+use Rattle.trace_runs.specs.Answered.{Input, Output, HasRead, SaysLine}
 use Rattle.find_grammar.specs.declared.test.Test.{Test}
 use Rattle.find_play.specs.declared.verdict.Verdict.{Verdict}
 use Rattle.find_play.specs.declared.verdict.Verdict.TheVariants as verdict
@@ -29,11 +29,6 @@ abbrev pub line_of_verdict : Verdict → List ℕ
 line_of_verdict verdict.Holds = codes "holds\n"
 line_of_verdict (verdict.Fails assertion) = codes "fails assertion " ++ (decimal assertion ++ newline ∷ [])
 line_of_verdict (verdict.Stuck thread) = codes "stuck thread " ++ (decimal thread ++ newline ∷ [])
-
--- the text was written among the errors, and nothing into the sink
-pub record SaysLine (text : List ℕ) (sink errors : Output) : Type 0 where
-  pub kept : sink.after ≡ sink.before
-  pub written : Appends errors.before.written errors.after.written text
 
 -- a report was written between these, whose last line is of this verdict
 pub record Reports (v : Verdict) (before after : Option (List ℕ)) : Type 0 where

@@ -9,3 +9,6 @@ pub mod Roles
 pub mod Answered
 pub mod Requests
 pub mod Seats
+pub mod Hinting
+pub mod Greying
+pub mod Counted

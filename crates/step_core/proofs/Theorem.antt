@@ -5,3 +5,5 @@ pub mod Induction
 pub mod Stands
 pub mod AtRest
 pub mod EveryList
+pub mod Hinted
+pub mod Fits

@@ -3,7 +3,7 @@ use Rattle.std.specs.Prelude.{ℕ, ◌+◌, List, [], ◌∷◌, Option, Some, N
 use Rattle.shen_graph.specs.declared.command.Command.{Command}
 use Rattle.shen_graph.specs.declared.command.Reply.{Reply}
 use Rattle.shen_graph.specs.declared.order.Order.{Order}
-use Rattle.shen_graph.specs.declared.order.Order.TheVariants.{Nothing, Begin, End}
+use Rattle.shen_graph.specs.declared.order.Order.TheVariants.{Nothing, Begin, End, Hint}
 use Rattle.shen_graph.specs.History.{Entry}
 use Rattle.mutator.specs.Rows.{Mutating}
 use Rattle.helper.specs.Rows as helpers
@@ -30,7 +30,7 @@ fresh_helper seat = helping (helpers.fresh_helper seat)
 
 -- and a control that has seen this free word
 abbrev pub fresh_control : ℕ → Machine
-fresh_control free = controlling (record { spot = LookLeft; seen = free; phase = 0; cset = 0; image = [] })
+fresh_control free = controlling (record { spot = LookLeft; seen = free; phase = 0; cset = 0; image = []; hints = 0 })
 
 -- the entry of a command of a seat, once its reply is settled
 abbrev pub entry_of : ℕ → Command → Reply → Entry
@@ -46,3 +46,4 @@ abbrev pub command_by : Order → Command → Command
 command_by Nothing command = command
 command_by (Begin command) before = command
 command_by End command = command
+command_by (Hint address) command = command

@@ -15,3 +15,4 @@ pub mod Pausing
 pub mod Schedule
 pub mod Ending
 pub mod AtRest
+pub mod Hints

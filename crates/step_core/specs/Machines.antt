@@ -18,8 +18,8 @@ use Rattle.shen_graph.specs.declared.command.Command.TheVariants.{Gc}
 use Rattle.shen_graph.specs.declared.command.Reply.{Reply}
 use Rattle.shen_graph.specs.declared.command.Reply.TheVariants.{Full}
 use Rattle.shen_graph.specs.declared.order.Order.{Order}
-use Rattle.shen_graph.specs.declared.order.Order.TheVariants.{Nothing, Begin, End}
-use Rattle.shen_graph.specs.Order.{is_nothing}
+use Rattle.shen_graph.specs.declared.order.Order.TheVariants.{Nothing, Begin, End, Hint}
+use Rattle.shen_graph.specs.Order.{hint_in}
 use Rattle.shen_graph.specs.Graph.{Graph}
 use Rattle.shen_graph.specs.History.{Entry}
 use Rattle.handshake.specs.Standing.{Standing}
@@ -30,36 +30,76 @@ use Rattle.mutator.specs.declared.overwrites.Overwritten.TheVariants as overwrit
 use Rattle.mutator.specs.declared.waits.WaitSpot.TheVariants as wait
 use Rattle.mutator.specs.Orders.{is_between_calls, takes_commands, takes_at}
 use Rattle.mutator.specs.Rows.{touch_of, next_of, given_at, answer_at, reply_at, place_at}
+use Rattle.mutator.specs.Rows as mutators
 use Rattle.mutator.specs.Told.{told_of}
 use Rattle.mutator.specs.Fit.{IsFit}
 use Rattle.mutator.specs.Waits.{WaitsAt}
 use Rattle.helper.specs.declared.spot.HelpSpot.TheVariants.{LoadEnd}
 use Rattle.helper.specs.Rows as help
-use Rattle.helper.specs.Rows.{help_place, help_touch, help_next, help_says}
+use Rattle.helper.specs.Rows.{Helping, help_place, help_touch, help_next, help_says, help_hinted}
 use Rattle.helper.specs.Waits as helpers
 use Rattle.helper.specs.Ready as ready
 use Rattle.control_rows.specs.declared.spot.ControlSpot.{ControlSpot}
 use Rattle.control_rows.specs.declared.spot.ControlSpot.TheVariants.{LookLeft, StoreWord}
-use Rattle.control_rows.specs.Rows.{Controlling, control_place, control_access, control_next, control_says, is_gone}
+use Rattle.control_rows.specs.Rows.{Controlling, control_place, control_access, control_next, control_says, is_gone, control_hinted}
+use Rattle.control_rows.specs.Rows as controls
 use Rattle.control_rows.specs.Waits as control
 use Rattle.control_rows.specs.Ready.{UnitGoesOn}
 use Rattle.step_core.specs.Actor.{Machine, mutating, helping, controlling, Actor, entries_of, command_by}
 use Rattle.step_core.specs.Fit.{IsWholeImage}
 use Rattle.step_core.specs.Standing.{standing_at, help_standing, control_standing}
 
+-- whether it takes hints: it stands at MC, about to claim a unit of marking
+abbrev pub takes_hint : Machine → Bool
+takes_hint (mutating m) = false
+takes_hint (helping h) = help.takes_hint h.spot
+takes_hint (controlling k) = controls.takes_hint k.spot
+
+-- whether an order is one for a helper or the control: none, or a hint where it takes hints
+abbrev pub is_for_working : Bool → Order → Bool
+is_for_working hints Nothing = true
+is_for_working hints (Begin command) = false
+is_for_working hints End = false
+is_for_working hints (Hint address) = hints
+
 -- whether it takes the order
 abbrev pub takes_of : Machine → Order → Bool
 takes_of (mutating m) order = takes_at m.spot m.made order
-takes_of (helping h) order = is_nothing order && (if help.is_gone h.spot then false else true)
-takes_of (controlling k) order = is_nothing order && (if is_gone k.spot then false else true)
+takes_of (helping h) order = is_for_working (help.takes_hint h.spot) order && (if help.is_gone h.spot then false else true)
+takes_of (controlling k) order = is_for_working (controls.takes_hint k.spot) order && (if is_gone k.spot then false else true)
+
+-- A helper, and the control, as it goes on under an order: with a hint at the word that has the mark of the hint's address.
+abbrev pub helping_by : Config → Order → Helping → Helping
+helping_by c order h = help_hinted c (hint_in order) h
+
+abbrev pub controlling_by : Config → Order → Controlling → Controlling
+controlling_by c order k = control_hinted c (hint_in order) k
+
+-- and any machine: what a mutator does under an order stands in its own rows
+abbrev pub ordered : Config → Order → Machine → Machine
+ordered c order (mutating m) = mutating m
+ordered c order (helping h) = helping (helping_by c order h)
+ordered c order (controlling k) = controlling (controlling_by c order k)
 
 -- its next access, under an order
 abbrev pub plan_of : Config → Order → Machine → Access
 plan_of c order (mutating m) = placed c (touch_of c m order)
-plan_of c order (helping h) = placed c (help_touch c h)
-plan_of c order (controlling k) = control_access c k
+plan_of c order (helping h) = placed c (help_touch c (helping_by c order h))
+plan_of c order (controlling k) = control_access c (controlling_by c order k)
 
--- the place of its next access
+-- the address that its next access makes grey, if it does so, as it does at GO alone
+abbrev pub greys_of : Machine → Option ℕ
+greys_of (mutating m) = mutators.greys_at m.spot
+greys_of (helping h) = help.greys_at h.spot
+greys_of (controlling k) = controls.greys_at k.spot
+
+-- how many hints it has taken, up to 2^64 - 1
+abbrev pub hints_of : Machine → ℕ
+hints_of (mutating m) = 0
+hints_of (helping h) = h.hints
+hints_of (controlling k) = k.hints
+
+-- the place of its next access. One that takes a hint stands where it would claim
 abbrev pub place_in : Order → Machine → Place
 place_in order (mutating m) = place_at order m.spot
 place_in order (helping h) = help_place h
@@ -68,14 +108,14 @@ place_in order (controlling k) = control_place k.spot
 -- what it is after the access, by the word that it found
 abbrev pub machine_after : Change → Config → Order → ℕ → Machine → Machine
 machine_after change c order got (mutating m) = mutating (next_of c m order got)
-machine_after change c order got (helping h) = helping (help_next c h got)
-machine_after change c order got (controlling k) = controlling (control_next change c k got)
+machine_after change c order got (helping h) = helping (help_next c (helping_by c order h) got)
+machine_after change c order got (controlling k) = controlling (control_next change c (controlling_by c order k) got)
 
--- what it says of the step that finds this word: nothing where it never makes one
-abbrev pub answer_of : Config → Machine → ℕ → Option Took
-answer_of c (mutating m) got = Some (answer_at c m.kept m.spot got)
-answer_of c (helping h) got = Some (help_says c h got)
-answer_of c (controlling k) got = Some (control_says c k got)
+-- what it says of the step under an order that finds this word: nothing where it never makes one
+abbrev pub answer_of : Config → Order → Machine → ℕ → Option Took
+answer_of c order (mutating m) got = Some (answer_at c m.kept m.spot got)
+answer_of c order (helping h) got = Some (help_says c (helping_by c order h) got)
+answer_of c order (controlling k) got = Some (control_says c (controlling_by c order k) got)
 
 -- the calls that its step ends, in a call of this command
 abbrev pub ended_by : Command → Machine → List Entry
@@ -177,14 +217,14 @@ standing_of (controlling k) = control_standing k.spot
 -- whether it can go on from a word
 abbrev pub IsFitFor : Config → Order → ℕ → Machine → Type 0
 IsFitFor c order got (mutating m) = IsFit c m order got
-IsFitFor c order got (helping h) = ready.IsFit c h got
-IsFitFor c order got (controlling k) = IsWholeImage c k.spot k.image got × UnitGoesOn c k.spot got
+IsFitFor c order got (helping h) = ready.IsFit c (helping_by c order h) got
+IsFitFor c order got (controlling k) = IsWholeImage c k.spot k.image got × UnitGoesOn c (controlling_by c order k).spot got
 
--- where its step that finds this word says that it waits
-abbrev pub WaitsIn : Config → Machine → ℕ → Type 0
-WaitsIn c (mutating m) got = WaitsAt m.spot got
-WaitsIn c (helping h) got = helpers.WaitsAt c h got
-WaitsIn c (controlling k) got = control.WaitsAt c k got
+-- where its step under an order that finds this word says that it waits
+abbrev pub WaitsIn : Config → Order → Machine → ℕ → Type 0
+WaitsIn c order (mutating m) got = WaitsAt m.spot got
+WaitsIn c order (helping h) got = helpers.WaitsAt c (helping_by c order h) got
+WaitsIn c order (controlling k) got = control.WaitsAt c (controlling_by c order k) got
 
 -- how many objects it has made
 abbrev pub made_of_machine : Machine → ℕ

@@ -15,6 +15,7 @@ use Rattle.control_rows.specs.Rows.{Controlling}
 use Rattle.heap_world.specs.Change.{image_words}
 use Rattle.helper.specs.Rows.{Helping, help_touch}
 use Rattle.step_core.specs.Actor.{helping, controlling, Actor}
+use Rattle.step_core.specs.Machines.{helping_by}
 use Rattle.step_core.specs.Settled.{control_number}
 use Rattle.step_core.specs.Sound.{IsMutator}
 use Rattle.step_core.specs.Standing.{standing_at, help_standing, control_standing}
@@ -37,7 +38,7 @@ pub record IsHelper (s : Stage Actor) (number : ℕ) (a : Actor) (h : Helping) :
 pub record IsEmpty (c : Config) (s : Stage Actor) : Type 0 where
   pub nobody : (number : ℕ) (a : Actor) (m : Mutating) → IsMutator s number a m → is_within (standing_at m.spot) ≡ false
   pub no_helper : (number : ℕ) (a : Actor) (h : Helping) → IsHelper s number a h → is_within (help_standing h.spot) ≡ false
-  pub no_access : (number : ℕ) (a : Actor) (h : Helping) → IsHelper s number a h → is_image (help_touch c h).word ≡ false
+  pub no_access : (number : ℕ) (a : Actor) (h : Helping) (order : Order) → IsHelper s number a h → is_image (help_touch c (helping_by c order h)).word ≡ false
   pub only_polls : (number : ℕ) (a : Actor) (m : Mutating) (order : Order) → IsMutator s number a m → takes_at m.spot m.made order ≡ true
       → (is_image (touch_of c m order).word ≡ false) ⊎ (m.spot ≡ Waiting wait.Poll)
 

@@ -37,7 +37,7 @@ abbrev pub turn : Scripts → Stage Actor → ℕ → Option (Event Order)
 turn scripts s number = turn_of scripts number (slice_get s.machines number)
 
 abbrev pub waits_in : Stage Actor → Config → Order → Machine → Bool
-waits_in s c order machine = again_by (answer_of c machine (slice_index s.words (table_index (plan_of c order machine))))
+waits_in s c order machine = again_by (answer_of c order machine (slice_index s.words (table_index (plan_of c order machine))))
 
 abbrev pub waits_of : Config → Stage Actor → Order → Option Actor → Bool
 waits_of c s order None = false

@@ -28,6 +28,7 @@ ghost use Rattle.step_core.specs.Pausing.{IsInPause, IsEmpty, IsAim};
 ghost use Rattle.step_core.specs.Seats.{looks_for};
 ghost use Rattle.step_core.specs.Sound.{IsSound};
 ghost use Rattle.step_core.specs.Ending.{has_ended};
+ghost use Rattle.step_core.specs.Hints.{HintsAreCounted, HintsHavePlaces};
 ghost use Rattle.handshake.specs.Ending.{IsEndWord};
 
 pub use opening::{first_free, open_words};
@@ -79,6 +80,17 @@ pub fn looks_for_room_in_need()
 /// stores the new ones the first of them are the table's.
 pub fn read_words_are_the_tables()
     ensures { (change : Change) → IsPause change → (c : Config) (s : Stage Actor) (g : Graph) → Begins c s g → (events : List (Event Order)) (number : ℕ) (a : Actor) (k : Controlling) → slice_get (go (kind change c) s events).machines number ≡ Some a → a.machine ≡ controlling k → IsAim c (go (kind change c) s events).words k.spot k.image }
+{}
+
+/// A law: a machine keeps how many hints it has taken, whatever the events are.
+pub fn hints_are_counted()
+    ensures { HintsAreCounted }
+{}
+
+/// A law: hints are taken where a machine is about to claim a unit of marking, and nowhere else; and where `greys_of` tells an address
+/// the machine is about to make that grey, and nowhere else.
+pub fn hints_have_places()
+    ensures { HintsHavePlaces }
 {}
 
 /// A law: where a heap is at rest, whatever happened before and in whichever phase it is, its words represent the graph after the history,

@@ -8,10 +8,6 @@ use Rattle.steps_base.specs.Steps.{Event, Finds}
 use Rattle.control_rows.specs.declared.spot.ControlSpot.{ControlSpot}
 use Rattle.control_rows.specs.declared.spot.ControlSpot.TheVariants.{StoreWord}
 use Rattle.control_rows.specs.Rows.{is_gone}
-use Rattle.heap_machines.specs.declared.machine.Machine as memory
-use Rattle.heap_machines.specs.declared.machine.Machine.TheVariants as memories
-use Rattle.heap_machines.specs.Shown.{shown, has_turn}
-use Rattle.heap_machines.specs.Roles.{is_mutating}
 use Rattle.step_core.specs.Actor.{Machine, controlling, Actor}
 use Rattle.heap_machines.specs.Pause.{pause_image}
 use Rattle.heap_machines.proofs.Pauses.{heap_pauses}
@@ -60,8 +56,3 @@ machine_is_calm _ idle = refl
 pub idle_is_calm : (o : Option Actor) → ((a : Actor) → o ≡ Some a → takes_of a.machine Nothing ≡ false) → image_of o ≡ None
 idle_is_calm None idle = refl
 idle_is_calm (Some a) idle = machine_is_calm a.machine (idle a refl)
-
--- a machine that is no mutator and has no turn takes no order
-pub no_turn : (m : memory.Machine) → is_mutating (shown m) ≡ false → has_turn m ≡ false → takes_of (shown m) Nothing ≡ false
-no_turn (memories.Mutator m) other none = absurd cc
-no_turn _ other none = none

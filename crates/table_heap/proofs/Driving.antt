@@ -136,7 +136,7 @@ module _ {D : Type 0} (next_of : D → Option Command) (replied : D → Reply �
 
       turn_is : order_for (next_of job.1) a.machine ≡ Some (order old new next number said made)
       turn_is =
-          ap (λ o. order_for o a.machine) (sym (next_is ∙ given_next old firsts drivers before number a job.1 at_old role job.3)) ∙ turn_was old new next number said made
+          ap (λ o. order_for o a.machine) (sym (next_is ∙ given_next old firsts drivers before number a job.1 at_old role job.3)) ∙ turn_was old new next number said made role
 
     -- the drivers are as they were
     pub driven_on : (said ≡ stepped.Done → ⊥) → AreDriving next_of replied to_come new firsts drivers

@@ -19,3 +19,7 @@ pub mod Rounds
 pub mod Starting
 pub mod Ended
 pub mod StepCounts
+pub mod Greyed
+pub mod Hinting
+pub mod HintTotals
+pub mod Thieves

@@ -7,7 +7,7 @@ use Rattle.heap_words.specs.declared.config.Config.{Config}
 use Rattle.shen_graph.specs.declared.command.Command.{Command}
 use Rattle.shen_graph.specs.declared.command.Reply.{Reply}
 use Rattle.shen_graph.specs.declared.order.Order.{Order}
-use Rattle.shen_graph.specs.declared.order.Order.TheVariants.{Nothing, Begin, End}
+use Rattle.shen_graph.specs.declared.order.Order.TheVariants.{Nothing, Begin, End, Hint}
 use Rattle.mutator.specs.declared.spot.Spot.{Spot}
 use Rattle.mutator.specs.declared.spot.Spot.TheVariants.{Rest, Ended, Making, Waiting}
 use Rattle.mutator.specs.Orders.{takes_commands}
@@ -62,6 +62,7 @@ begun_same : (order : Order) (m : Mutating) → (call_begun order m).made ≡ m.
 begun_same Nothing m = refl
 begun_same (Begin command) m = refl
 begun_same End m = refl
+begun_same (Hint address) m = refl
 
 -- between two calls nothing is made, whatever follows
 made_at_rest : (change : Change) (c : Config) (order : Order) (got : ℕ) (machine : Machine) → may_begin machine ≡ true

@@ -1,5 +1,5 @@
 -- One turn of a machine of a bundle that makes a step.
-use Rattle.std.proofs.Common.{◌≡◌, ◌≢◌, ◌<◌, ℕ, zero, suc, Bool, true, false, [], ◌∷◌, length, Option, Some, None, refl, sym, ap, ◌∙◌, subst, arith}
+use Rattle.std.proofs.Common.{◌≡◌, ◌≢◌, ◌<◌, ℕ, zero, suc, Bool, true, false, inl, inr, [], ◌∷◌, length, Option, Some, None, refl, sym, ap, ◌∙◌, subst, arith}
 use Rattle.std.specs.Prelude.{slice_get, slice_set, ◌==◌, nat_lt, if◌then◌else◌}
 use Rattle.std.proofs.lemmas.Bool.{false≢true}
 use Rattle.std.proofs.lemmas.Bool.Decides.{nat_tests}
@@ -12,7 +12,8 @@ use Rattle.shen_graph.specs.declared.command.Reply.{Reply}
 use Rattle.shen_graph.specs.declared.order.Order.{Order}
 use Rattle.shen_graph.specs.declared.order.Order.TheVariants.{Nothing}
 use Rattle.shen_graph.specs.Work.{HasScript, script_in, replies_of, next_of, answered, with_reply}
-use Rattle.step_core.specs.Actor.{Actor}
+use Rattle.heap_words.specs.declared.config.Config.{Config}
+use Rattle.step_core.specs.Actor.{Machine, mutating, helping, controlling, Actor}
 use Rattle.step_core.specs.Machines.{answer_of, took_of, reply_in}
 use Rattle.heap_machines.specs.Answer.{stepped_by, says}
 use Rattle.heap_machines.specs.declared.stepped.Stepped.{Stepped}
@@ -23,7 +24,7 @@ use Rattle.heap_machines.proofs.Replies.{done_gives, other_gives, given_after}
 use Rattle.heap_machines.proofs.Turns.{role_stays}
 use Rattle.table_heap.specs.declared.bundle.Bundle.{Bundle}
 use Rattle.table_heap.specs.State.{view_of, orders_of, machine_at, order_at}
-use Rattle.table_heap.specs.Turning.{IsTurn}
+use Rattle.table_heap.specs.Turning.{IsTurn, IsOrderFor}
 use Rattle.table_heap.specs.Running.{Jobs, HasNoOrder, EachMutator, IsAtWorkOn, AreAtWork, next_for, AreSameJobs}
 use Rattle.table_heap.proofs.Core.{kind_took}
 use Rattle.shen_graph.proofs.Noted.{progress_other, script_kept}
@@ -57,6 +58,13 @@ each_after view new number a b P Q here new_is each one others k x there role =
         let other : k ≢ number = grind (arith, nat_tests) in
         let there_before : machine_of view k ≡ Some x = rw is at found in
         others k x other there_before role (each k x there_before role)
+
+-- a mutator is given no hint
+turn_of : (c : Config) (next : Option Command) (machine : Machine) (order : Order) → is_mutating machine ≡ true → IsOrderFor c next machine order → order_for next machine ≡ Some order
+turn_of c next machine order role (inl turn) = turn
+turn_of c next (mutating m) order role (inr hinted) = absurd (let takes = hinted.0 in cc (takes))
+turn_of c next (helping h) order role (inr hinted) = absurd (cc (role))
+turn_of c next (controlling k) order role (inr hinted) = absurd (cc (role))
 
 module _ (old new : Bundle) (next : Option Command) (number : ℕ) (said : Stepped) (made : IsTurn old new next number said) where
   -- the bundle, where the machine has its order
@@ -93,9 +101,12 @@ module _ (old new : Bundle) (next : Option Command) (number : ℕ) (said : Stepp
       no_order_after (orders_of old) number none k x
       (ap (λ v. machine_of v k) (sym (made.step.orders ∙ ap (λ v. slice_set v number (Some Nothing)) made.orders ∙ set-set (orders_of old) number _ _)) ∙ there)
 
-  -- its order is by the command that would follow
-  pub turn_was : order_for next was.machine ≡ Some order
-  turn_was = ap (order_for next) (sym (at_number old number was here)) ∙ made.turn
+  -- that of a mutator is by the command that would follow
+  pub turn_was : is_mutating was.machine ≡ true → order_for next was.machine ≡ Some order
+  turn_was role = ap (order_for next) (sym is) ∙ turn_of old.config next (machine_at old number) order (ap is_mutating is ∙ role) made.turn
+    where
+      is : machine_at old number ≡ was.machine
+      is = at_number old number was here
 
   -- only a mutator has a command that follows
   below : is_mutating was.machine ≡ true → nat_lt number old.config.mutators ≡ true
@@ -105,16 +116,16 @@ module _ (old new : Bundle) (next : Option Command) (number : ℕ) (said : Stepp
   role_then = role_stays pause_image mid.config order got was.machine
 
   -- what its step said
-  said_is : said ≡ stepped_by (answer_of mid.config was.machine got)
-  said_is = made.step.said_is ∙ ap (λ machine. says mid.config machine got) (at_number mid number was made.step.took.here)
+  said_is : said ≡ stepped_by (answer_of mid.config (order_at mid number) was.machine got)
+  said_is = made.step.said_is ∙ ap (λ machine. says mid.config (order_at mid number) machine got) (at_number mid number was made.step.took.here)
 
   -- a step that is not done gives no reply
   pub none_given : (said ≡ stepped.Done → ⊥) → reply_of_step was.machine ≡ None
-  none_given other = other_gives mid.config was.machine got (λ is. other (said_is ∙ ap stepped_by is))
+  none_given other = other_gives mid.config (order_at mid number) was.machine got (λ is. other (said_is ∙ ap stepped_by is))
 
   -- a step that is done gives one
   pub some_given : said ≡ stepped.Done → (r : Reply) × (reply_of_step was.machine ≡ Some r)
-  some_given done = done_gives mid.config was.machine got (done_by (answer_of mid.config was.machine got) (sym said_is ∙ done))
+  some_given done = done_gives mid.config (order_at mid number) was.machine got (done_by (answer_of mid.config (order_at mid number) was.machine got) (sym said_is ∙ done))
 
   -- a machine that gives a reply is a mutator
   pub role_given : (r : Reply) → reply_of_step was.machine ≡ Some r → is_mutating was.machine ≡ true
@@ -136,7 +147,7 @@ module _ (old new : Bundle) (next : Option Command) (number : ℕ) (said : Stepp
       turn_is : order_for (slice_get job.0.script (length job.0.replies)) was.machine ≡ Some order
       turn_is =
           let follows : next ≡ slice_get job.0.script (length job.0.replies) = next_is ∙ ap (λ t. if t then next_of jobs number else None) (below role) ∙ next_here jobs number job.0 job.1 in
-          ap (λ o. order_for o was.machine) (sym follows) ∙ turn_was
+          ap (λ o. order_for o was.machine) (sym follows) ∙ turn_was role
 
     -- the work is as it was
     pub turned_on : (said ≡ stepped.Done → ⊥) → AreAtWork new jobs

@@ -1,11 +1,14 @@
 -- What memory knows of the machines of a bundle, each under its number.
-use Rattle.std.specs.Prelude.{ℕ, ◌≡◌, nat_lt, Some, true}
+use Rattle.std.specs.Prelude.{ℕ, ◌≡◌, nat_lt, List, Some, true, length, All}
 use Rattle.std.specs.Option.{is_some}
 use Rattle.heap_words.specs.declared.config.Config.{Config}
+use Rattle.heap_words.specs.Words.{Heap, IsWord}
 use Rattle.shared_table.specs.Views.{View, machine_of}
 use Rattle.heap_machines.specs.declared.machine.Machine.{Machine}
 use Rattle.heap_machines.specs.Shown.{shown, heap_of}
 use Rattle.heap_machines.specs.Roles.{is_mutating}
+use Rattle.hint_deque.specs.Seen.{config_in}
+use Rattle.hint_deque.specs.declared.hints.Thief.{Thief}
 use Rattle.step_core.specs.Machines.{control_in}
 use Rattle.step_core.specs.Settled.{control_number}
 
@@ -16,6 +19,15 @@ pub record IsMachineOfHeap (c : Config) (number : ℕ) (m : Machine) : Type 0 wh
 
 abbrev pub AreOfHeap : Config → View Machine → Type 0
 AreOfHeap c machines = (number : ℕ) (m : Machine) → machine_of machines number ≡ Some m → IsMachineOfHeap c number m
+
+-- Under each number stands an address of the heap or none, and none where there is no machine.
+pub record AreGreyedBy (c : Config) (machines : View Machine) (greyed : View ℕ) : Type 0 where
+  pub numbers : length greyed ≡ length machines
+  pub known : (number address : ℕ) → machine_of greyed number ≡ Some address → (is_some (machine_of machines number) ≡ true) × IsWord c (Heap address)
+
+-- those who steal hints of the heap
+abbrev pub AreThievesOf : Config → List Thief → Type 0
+AreThievesOf c thieves = All (λ thief. config_in thief ≡ c) thieves
 
 -- the control of the heap is under its number
 pub record HasTheControl (c : Config) (machines : View Machine) : Type 0 where

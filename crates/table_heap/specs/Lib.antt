@@ -7,3 +7,5 @@ pub mod Turning
 pub mod Makes
 pub mod Driven
 pub mod Driving
+pub mod Hinted
+pub mod Sharing

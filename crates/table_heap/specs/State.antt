@@ -1,5 +1,5 @@
 -- What callers know of a heap that threads share, and of a bundle of its machines.
-use Rattle.std.specs.Prelude.{ℕ, ◌≡◌, ◌+◌, Bool, true, Some, unwrap_or, slice_set}
+use Rattle.std.specs.Prelude.{ℕ, ◌≡◌, ◌+◌, Bool, true, List, Some, unwrap_or, slice_set}
 use Rattle.std.specs.Option.{is_some}
 use Rattle.heap_words.specs.declared.config.Config.{Config}
 use Rattle.shared_table.specs.Views.{View, machine_of, kept_in_view, SameNumbers}
@@ -11,7 +11,9 @@ use Rattle.heap_machines.specs.Answer.{says}
 use Rattle.heap_machines.specs.declared.stepped.Stepped.{Stepped}
 use Rattle.heap_machines.specs.Shown.{shown, order_of, no_machine}
 use Rattle.step_core.specs.Actor.{Machine, Actor}
-use Rattle.step_core.specs.Machines.{takes_of}
+use Rattle.step_core.specs.Machines.{takes_of, greys_of}
+use Rattle.hint_deque.specs.declared.hints.Hints.{Hints}
+use Rattle.hint_deque.specs.declared.hints.Thief.{Thief}
 use Rattle.table_heap.specs.declared.heap.Heap.{Heap}
 use Rattle.table_heap.specs.declared.bundle.Bundle.{Bundle}
 use Rattle.table_heap.specs.Core.{heap_kind, heap_opening}
@@ -38,6 +40,14 @@ machines_of b = kept_in_view shown b.machines.items
 -- the orders that they were given
 abbrev pub orders_of : Bundle → View Order
 orders_of b = kept_in_view order_of b.machines.items
+
+-- the address that each machine made grey with its last step, where it did so
+abbrev pub greyed_of : Bundle → View ℕ
+greyed_of b = b.greyed.items
+
+-- the bundle's deques: that of its own hints, and those of other bundles from which it steals
+abbrev pub deques_of : Bundle → Hints × List Thief
+deques_of b = (b.hints, b.thieves.items)
 
 -- the bundle is one of this heap
 pub record IsBundleOf (b : Bundle) (h : Heap) : Type 0 where
@@ -74,6 +84,7 @@ pub record IsUnmoved (old new : Bundle) : Type 0 where
   pub same : IsSameBundle old new
   pub view : view_of new ≡ view_of old
   pub steps : steps_of new ≡ steps_of old
+  pub greyed : greyed_of new ≡ greyed_of old
 
 -- and so are their orders
 pub record IsUnchanged (old new : Bundle) : Type 0 where
@@ -86,15 +97,17 @@ pub record IsBundleStep (old new : Bundle) (number : ℕ) (said : Stepped) : Typ
   pub got : ℕ
   pub took : Took (heap_kind old.config) (heap_opening old.config) number (order_at old number) (uncounted_seat old.seat.me) got (uncounted_seat new.seat.me)
   pub steps : steps_of new ≡ slice_set (steps_of old) number (Some (steps_at old number + 1))
-  pub said_is : said ≡ says old.config (machine_at old number) got
+  pub said_is : said ≡ says old.config (order_at old number) (machine_at old number) got
+  pub greyed : greyed_of new ≡ slice_set (greyed_of old) number (greys_of (machine_at old number))
   pub orders : orders_of new ≡ slice_set (orders_of old) number (Some Nothing)
 
--- A bundle of the heap before the first event: its machines are these, none has an order, and none has made a step.
+-- A bundle of the heap before the first event: its machines are these, none has an order, and none has made a step, nor an address grey.
 pub record IsFresh (h : Heap) (b : Bundle) (view : View Actor) : Type 0 where
   pub of : IsBundleOf b h
   pub machines : view_of b ≡ view
   pub orders : (number : ℕ) (order : Order) → machine_of (orders_of b) number ≡ Some order → order ≡ Nothing
   pub steps : (number made : ℕ) → machine_of (steps_of b) number ≡ Some made → made ≡ 0
+  pub greyed : (number address : ℕ) → machine_of (greyed_of b) number ≡ Some address → ⊥
 
 -- What a step promises is one event: it is not met where none was made, nor by two, of whatever machines of the bundle
 pub record StepsAreEvents : Type 0 where

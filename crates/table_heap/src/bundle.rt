@@ -4,12 +4,14 @@ ghost use Rattle.heap_machines.specs.Shown.{shown};
 ghost use Rattle.shared_table.specs.Views.{kept_in_view};
 ghost use Rattle.shared_table.specs.Counted.{uncounted_view};
 ghost use Rattle.table_heap.specs.Core.{machine_in};
-ghost use Rattle.table_heap.specs.Known.{AreOfHeap};
+ghost use Rattle.hint_deque.specs.Seen.{config_of};
+ghost use Rattle.table_heap.specs.Known.{AreOfHeap, AreGreyedBy, AreThievesOf};
 
 use crate::heap::Heap;
 use crate::machines::{Acting, OfHeaps};
 use heap_machines::{Machine, Stepped};
 use heap_words::{Config, NoMemory};
+use hint_deque::{Hints, Thief};
 use shared_table::{ViewSeat, deal_bundle, deal_machines, join_bundle, join_machines, make_step};
 use shen_graph::{Command, Order, Reply};
 use std::alloc::Global;
@@ -22,22 +24,31 @@ pub struct Bundle {
     pub(crate) config: Config,
     pub(crate) seat: ViewSeat<Acting>,
     pub(crate) machines: Vec<Option<Machine>>,
+    // The address that each machine made grey with its last step, under its number, where it did so.
+    pub(crate) greyed: Vec<Option<u64>>,
+    // The hints of this bundle's own, and who steals from the other bundles.
+    pub(crate) hints: Hints,
+    pub(crate) thieves: Vec<Thief>,
     ghost seats: { length machines.items ≡ seat_count config.mutators config.helpers },
     ghost kept: { kept_in_view machine_in (uncounted_view seat.me.0) ≡ kept_in_view shown machines.items },
     ghost slots: { seat.me.1 ≡ [] },
     ghost of_heap: { AreOfHeap config machines.items },
+    ghost greys: { AreGreyedBy config machines.items greyed.items },
+    ghost hints_of_heap: { config_of hints ≡ config },
+    ghost thieves_of_heap: { AreThievesOf config thieves.items },
 }
 
 impl Bundle {
-    ghost use Rattle.std.specs.Prelude.{◌<◌, ◌↔◌, ◌≢◌, true, false, not, Some, None, IfOk, slice_set};
+    ghost use Rattle.std.specs.Prelude.{◌<◌, ◌↔◌, ◌≢◌, true, false, not, Some, None, IfOk, IfSome, slice_set};
     ghost use Rattle.std.specs.Option.{is_some};
     ghost use Rattle.heap_words.specs.declared.place.Place.TheVariants as places;
+    ghost use Rattle.heap_words.specs.Words as words;
     ghost use Rattle.shared_table.specs.Views.{machine_of, merged, dealt_to, machines_left, is_dealt_to};
     ghost use Rattle.shen_graph.specs.Valid.{IsValid};
     ghost use Rattle.heap_machines.specs.Roles.{is_mutating};
-    ghost use Rattle.step_core.specs.Machines.{takes_of, reply_in, place_in, may_begin, made_of_machine};
+    ghost use Rattle.step_core.specs.Machines.{takes_of, takes_hint, reply_in, place_in, may_begin, made_of_machine};
     ghost use Rattle.heap_machines.specs.Roles.{is_mutating};
-    ghost use Rattle.table_heap.specs.State.{heap_of, view_of, machines_of, orders_of, steps_of, IsBundleOf, HasMachine, machine_at, order_at, has_turn, IsSameBundle, IsUnmoved, IsUnchanged, IsBundleStep};
+    ghost use Rattle.table_heap.specs.State.{heap_of, view_of, machines_of, orders_of, steps_of, greyed_of, deques_of, IsBundleOf, HasMachine, machine_at, order_at, has_turn, IsSameBundle, IsUnmoved, IsUnchanged, IsBundleStep};
 
     /// Gives the machines of one bundle, of so many, to a bundle of their own: those whose numbers have the remainder `bundle`.
     /// The error is that memory was refused.
@@ -50,10 +61,14 @@ impl Bundle {
     ) -> Result<Bundle, NoMemory>
         requires heap { IsBundleOf self.old heap.now }
         requires some { 0 < bundles }
-        ensures dealt { IfOk result (λ dealt. IsBundleOf dealt heap.now × (view_of dealt ≡ dealt_to bundles bundle (view_of self.old)) × (orders_of dealt ≡ dealt_to bundles bundle (orders_of self.old)) × (steps_of dealt ≡ dealt_to bundles bundle (steps_of self.old))) }
+        ensures dealt { IfOk result (λ dealt. IsBundleOf dealt heap.now × (view_of dealt ≡ dealt_to bundles bundle (view_of self.old)) × (orders_of dealt ≡ dealt_to bundles bundle (orders_of self.old)) × (steps_of dealt ≡ dealt_to bundles bundle (steps_of self.old)) × (greyed_of dealt ≡ dealt_to bundles bundle (greyed_of self.old))) }
         ensures heap { IsBundleOf self.new heap.now }
-        ensures left { IfOk result (λ _. (view_of self.new ≡ machines_left (is_dealt_to bundles bundle) (view_of self.old)) × (orders_of self.new ≡ machines_left (is_dealt_to bundles bundle) (orders_of self.old)) × (steps_of self.new ≡ machines_left (is_dealt_to bundles bundle) (steps_of self.old))) }
+        ensures left { IfOk result (λ _. (view_of self.new ≡ machines_left (is_dealt_to bundles bundle) (view_of self.old)) × (orders_of self.new ≡ machines_left (is_dealt_to bundles bundle) (orders_of self.old)) × (steps_of self.new ≡ machines_left (is_dealt_to bundles bundle) (steps_of self.old)) × (greyed_of self.new ≡ machines_left (is_dealt_to bundles bundle) (greyed_of self.old))) }
     {
+        let hints = Hints::open(alloc, self.config)?;
+        let Ok(greyed) = deal_machines(alloc, &mut self.greyed, bundles, bundle) else {
+            return Err(NoMemory);
+        };
         let Ok(machines) = deal_machines(alloc, &mut self.machines, bundles, bundle) else {
             return Err(NoMemory);
         };
@@ -67,6 +82,9 @@ impl Bundle {
             config: self.config,
             seat,
             machines,
+            greyed,
+            hints,
+            thieves: Vec::new(alloc),
         })
     }
 
@@ -111,6 +129,43 @@ impl Bundle {
         machine.is_idle()
     }
 
+    /// Whether the machine takes hints: a helper or the control that is about to claim a unit of marking.
+    pub fn takes_hint(&self, number: usize) -> bool
+        requires here { HasMachine self.now number }
+        ensures { result ≡ takes_hint (machine_at self.now number) }
+    {
+        let Some(machine) = &self.machines[number] else {
+            unreachable!()
+        };
+        machine.takes_hint()
+    }
+
+    /// Gives the machine the hint of an address of the heap, for its next step: that scans the word that has the address's mark, and
+    /// claims no unit. The address may be grey, black or white, or that of no object. Of a machine that takes hints.
+    pub fn hint(&mut self, number: usize, address: u64)
+        requires here { HasMachine self.old number }
+        requires takes { takes_hint (machine_at self.old number) ≡ true }
+        requires heap { words.IsWord (heap_of self.old) (words.Heap address) }
+        ensures order { orders_of self.new ≡ slice_set (orders_of self.old) number (Some (Order.Hint address)) }
+        ensures takes { takes_of (machine_at self.old number) (Order.Hint address) ≡ true }
+        ensures unmoved { IsUnmoved self.old self.new }
+        ensures deques { deques_of self.new ≡ deques_of self.old }
+    {
+        let Some(machine) = self.machines[number].as_mut() else {
+            unreachable!()
+        };
+        machine.give_hint(address);
+    }
+
+    /// The address, of the heap, that the machine's last step made grey, or None where that step did not do so, or there was none.
+    pub fn greyed(&self, number: usize) -> Option<u64>
+        requires here { HasMachine self.now number }
+        ensures row { result ≡ machine_of (greyed_of self.now) number }
+        ensures heap { IfSome result (λ address. words.IsWord (heap_of self.now) (words.Heap address)) }
+    {
+        self.greyed[number]
+    }
+
     /// Orders the command, which the mutator's next step begins. Between two calls only.
     pub fn begin(&mut self, number: usize, command: Command)
         requires here { HasMachine self.old number }
@@ -142,7 +197,7 @@ impl Bundle {
     }
 
     /// Gives a machine of the bundle one step, which is one access of the heap's table, and exactly one event. It waits for
-    /// nothing, and takes no memory.
+    /// nothing, touches no hints, and takes no memory.
     pub fn step(&mut self, heap: &Heap, number: usize) -> Stepped
         requires heap { IsBundleOf self.old heap.now }
         requires here { HasMachine self.old number }
@@ -150,6 +205,7 @@ impl Bundle {
         ensures unchanged { has_turn self.old number ≡ false → IsUnchanged self.old self.new }
         ensures event { has_turn self.old number ≡ true → IsBundleStep self.old self.new number result }
         ensures same { IsSameBundle self.old self.new }
+        ensures deques { deques_of self.new ≡ deques_of self.old }
 
         // A call ends exactly where its mutator leaves the heap, and its reply is at hand then.
         ensures done { (result ≡ Stepped.Done) ↔ ((has_turn self.old number ≡ true) × (is_mutating (machine_at self.old number) ≡ true) × (place_in (order_at self.old number) (machine_at self.old number) ≡ places.LV)) }
@@ -168,7 +224,9 @@ impl Bundle {
             &machine.order(),
             machine.plan(),
         );
+        let greyed = machine.greys();
         let said = machine.took(got);
+        self.greyed[number] = greyed;
         Stepped::of(said)
     }
 
@@ -184,7 +242,7 @@ impl Bundle {
         machine.reply()
     }
 
-    /// The machines of both bundles. None makes a step.
+    /// The machines of both bundles. None makes a step. The hints are those of the first bundle, which steals from whom it stole; those of the other are dropped.
     pub fn join(mut self, heap: &Heap, other: Bundle) -> Bundle
         requires this { IsBundleOf self heap.now }
         requires other { IsBundleOf other heap.now }
@@ -192,13 +250,19 @@ impl Bundle {
         ensures view { view_of result ≡ merged (view_of self) (view_of other) }
         ensures orders { orders_of result ≡ merged (orders_of self) (orders_of other) }
         ensures steps { steps_of result ≡ merged (steps_of self) (steps_of other) }
+        ensures greyed { greyed_of result ≡ merged (greyed_of self) (greyed_of other) }
+        ensures deques { deques_of result ≡ deques_of self }
     {
         let Bundle {
             config: _,
             seat,
             machines,
+            greyed,
+            hints: _,
+            thieves: _,
         } = other;
         join_machines(&mut self.machines, machines);
+        join_machines(&mut self.greyed, greyed);
         join_bundle::<Acting, Order, Config, OfHeaps>(&heap.table.shared, &mut self.seat, seat);
         self
     }

@@ -1,12 +1,15 @@
-ghost use Rattle.std.specs.Prelude.{◌≡◌, None, length, slice_get};
+ghost use Rattle.std.specs.Prelude.{◌≡◌, None, List, length, slice_get};
 ghost use Rattle.std.specs.Slots.{slots_items, slots_len, IsFull};
 ghost use Rattle.heap_words.specs.Words.{table_words, heap_size};
 ghost use Rattle.image_graph.specs.State as images;
 ghost use Rattle.steps_base.specs.Steps.{IsReached};
-ghost use Rattle.shared_table.specs.Views.{machines_of};
+ghost use Rattle.shared_table.specs.Views.{machines_of, whole, kept_in_view};
+ghost use Rattle.heap_machines.specs.Shown.{shown};
+ghost use Rattle.step_core.specs.Actor.{Actor};
+ghost use Rattle.table_heap.specs.Hinted.{place_hints, hints_in};
 ghost use Rattle.shared_table.specs.Counted.{uncounted_view};
 ghost use Rattle.step_core.specs.Settled.{image_of, control_number};
-ghost use Rattle.table_heap.specs.Core.{heap_kind, heap_opening};
+ghost use Rattle.table_heap.specs.Core.{heap_kind, heap_opening, machine_in};
 ghost use Rattle.table_heap.specs.Known.{HasTheControl};
 
 use crate::bundle::Bundle;
@@ -28,6 +31,9 @@ pub struct Closed {
     image: Image,
     // Which machines led to the words.
     seat: Snapshot<ViewSeat<Acting>>,
+    // How many hints the machines took.
+    hinted: u64,
+    ghost counted: { hinted ≡ hints_in (machines_of (uncounted_view seat.value.me.0)) },
     ghost reached: { ∥ IsReached (heap_kind (images.config_of image)) (heap_opening (images.config_of image)) (record { words = images.words_of image; machines = machines_of (uncounted_view seat.value.me.0) }) ∥₁ },
     ghost calm: { image_of (slice_get (machines_of (uncounted_view seat.value.me.0)) (control_number (images.config_of image))) ≡ None },
 }
@@ -56,6 +62,27 @@ fn control_image(config: Config, mut machines: Vec<Option<Machine>>) -> Image
     control.into_image()
 }
 
+// How many hints a machine took, if there is one.
+fn hints_at(place: &Option<Machine>) -> u64
+    ensures { result ≡ place_hints place.now }
+{
+    match place {
+        Some(machine) => machine.hints(),
+        None => 0,
+    }
+}
+
+// How many hints the machines took, up to `u64::MAX`.
+fn hints_taken(machines: &[Option<Machine>]) -> u64
+    ensures { (actors : List Actor) → kept_in_view shown machines.now ≡ kept_in_view machine_in (whole actors) → result ≡ hints_in actors }
+{
+    let mut taken: u64 = 0;
+    for place in machines.iter() {
+        taken = taken.saturating_add(hints_at(place));
+    }
+    taken
+}
+
 impl Heap {
     ghost use Rattle.shared_table.specs.Views.{whole};
     ghost use Rattle.table_heap.specs.State as state;
@@ -78,13 +105,21 @@ impl Heap {
             config: _,
             seat,
             machines,
+            greyed: _,
+            hints: _,
+            thieves: _,
         } = bundle;
+        let hinted = hints_taken(&machines);
         let last = Snapshot::of(&seat);
         let rows = close_table::<Acting, Order, Config, OfHeaps>(table, seat);
         let mut image = control_image(config, machines);
         read_words(&rows, &mut image);
         rows.free();
-        Closed { image, seat: last }
+        Closed {
+            image,
+            seat: last,
+            hinted,
+        }
     }
 }
 
@@ -93,7 +128,7 @@ impl Closed {
     ghost use Rattle.heap_machines.specs.Pause.{pause_image};
     ghost use Rattle.step_core.specs.Begins.{Run, ending, graph_after};
     ghost use Rattle.heap_graph.specs.Shows.{ShowsGraph};
-    ghost use Rattle.table_heap.specs.Closed.{config_of, words_of, stage_of, AllRest, IsUnchanged};
+    ghost use Rattle.table_heap.specs.Closed.{config_of, words_of, machines_of as actors_of, stage_of, AllRest, IsUnchanged};
 
     /// The word at an index of the table.
     pub fn word(&self, at: usize) -> u64
@@ -101,6 +136,13 @@ impl Closed {
         ensures { result ≡ slice_index (words_of self.now) at }
     {
         self.image.word(at)
+    }
+
+    /// How many hints the machines took, or `u64::MAX` where there were more.
+    pub fn hinted(&self) -> u64
+        ensures { result ≡ hints_in (actors_of self.now) }
+    {
+        self.hinted
     }
 
     /// Writes the graph that words and machines stand for: the objects that the mutators' roots lead to, in the order of

@@ -118,7 +118,7 @@ impl Bundle {
 
     /// Runs the bundle's mutators by drivers, one for each in the order of their numbers, until all machines of the bundle are
     /// idle. It is as `run`, where each mutator between two calls begins what its driver gives next, ends where that is `None`,
-    /// and hands each reply to its driver. No memory is taken.
+    /// and hands each reply to its driver.
     pub fn drive<R: Wait, D: Driver, G: Gate>(
         &mut self,
         rt: &R,

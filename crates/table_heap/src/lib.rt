@@ -10,6 +10,7 @@ mod heap;
 mod laws;
 mod machines;
 mod run;
+mod sharing;
 
 pub use bundle::Bundle;
 pub use closed::Closed;

@@ -116,8 +116,12 @@ impl Bundle {
         if !self.order_next(next, number) {
             return Stepped::Idle;
         }
+        self.take_hint(gate, number);
         gate.pass(number);
-        self.step(heap, number)
+        let said = self.step(heap, number);
+        gate.leave(number);
+        self.share_greyed(number);
+        said
     }
 
     // One turn of a machine by its script.
@@ -190,7 +194,9 @@ impl Bundle {
     /// In a round each machine that is not idle makes one step, in the order of their numbers, when it has passed the gate; the
     /// control then goes on from word to word of its image, by steps that pass the gate too. A mutator between two calls begins the next command of its script, and ends where there is none; the control ends when
     /// all mutators of the heap have, and a helper when the control has. After a round in which every step waits for another
-    /// machine the thread backs off, each time for longer, until several rounds in a row went on. No memory is taken.
+    /// machine the thread backs off, each time for longer, until several rounds in a row went on. What a step makes grey is added to
+    /// the bundle's hints, and a helper or the control that is about to claim a unit of marking takes the latest of these, or one of
+    /// another bundle. Memory is taken for hints alone, and a hint for which there is none is dropped.
     pub fn run<R: Wait, G: Gate>(&mut self, rt: &R, heap: &Heap, work: &mut Work, gate: &G)
         requires heap { IsBundleOf self.old heap.now }
         requires start { CanStart self.old work.old }

@@ -16,3 +16,4 @@ pub mod Texts
 pub mod Righted
 pub mod Dumping
 pub mod FromRead
+pub mod Enough

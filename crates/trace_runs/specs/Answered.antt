@@ -32,6 +32,11 @@ pub record Output : Type 0 where
   pub before : Outlet
   pub after : Outlet
 
+-- the text was written among the errors, and nothing into the sink
+pub record SaysLine (text : List ℕ) (sink errors : Output) : Type 0 where
+  pub kept : sink.after ≡ sink.before
+  pub written : Appends errors.before.written errors.after.written text
+
 -- All that the source had was read, and of these bytes this holds.
 pub record HasRead (input : Input) (P : List ℕ → Type 0) : Type 0 where
   pub bytes : List ℕ

@@ -129,7 +129,7 @@ pub(crate) fn graph_of(
 }
 
 /// The answer to a trace.
-fn answer_to(alloc: Global, trace: Trace, steps: u64) -> Result<Answer, Refusal>
+pub fn replayed_answer(alloc: Global, trace: Trace, steps: u64) -> Result<Answer, Refusal>
     requires { (bytes : List ℕ) × Reads bytes trace.config trace.scripts trace.schedule }
     ensures ok { IfOk result (λ answer. (bytes : List ℕ) → Reads bytes trace.config trace.scripts trace.schedule → IsReplayed bytes steps (spelled_answer answer)) }
     ensures scripts { IfOk result (λ answer. (mutator : ℕ) → mutator < length answer.graph.roots → HasScript answer.replies mutator) }
@@ -197,7 +197,7 @@ pub fn replay<S: Source, K: Sink>(alloc: Global, steps: u64, source: &mut S, sin
         Ok(trace) => trace,
         Err(status) => return status,
     };
-    let answer = match answer_to(alloc, trace, steps) {
+    let answer = match replayed_answer(alloc, trace, steps) {
         Ok(answer) => answer,
         Err(Refusal::Unfinished) => {
             return say(sink, Line::Unfinished { steps }, Status::Unfinished);

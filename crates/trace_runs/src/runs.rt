@@ -75,7 +75,7 @@ pub fn graph_of(alloc: Global, config: Config, heap: &mut Closed) -> Result<Grap
 }
 
 /// The answer to a trace.
-fn answer_to<R: Threads + Wait + Sync, G: Gate>(
+pub fn run_answer<R: Threads + Wait + Sync, G: Gate>(
     rt: &R,
     alloc: Global,
     trace: Trace,
@@ -112,7 +112,7 @@ pub fn run<R: Threads + Wait + Sync, S: Source, K: Sink, G: Gate>(
         Ok(trace) => trace,
         Err(status) => return status,
     };
-    match answer_to(rt, alloc, trace, workers, gate) {
+    match run_answer(rt, alloc, trace, workers, gate) {
         Ok(answer) => give(sink, &answer),
         Err(NoMemory) => say(sink, Line::NoMemory, Status::NoMemory),
     }

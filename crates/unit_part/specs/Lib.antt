@@ -1,3 +1,4 @@
 pub mod Rows
 pub mod Ready
 pub mod Ends
+pub mod Hints

@@ -1,6 +1,6 @@
 -- The rows of the steps by which a machine claims a unit and works on it: for each spot its place, the access that it makes and what
 -- follows. In phase 1 it scans, in phase 2 it evacuates, and in phase 3 it updates.
-use Rattle.std.specs.Prelude.{ℕ, ◌==◌, Bool, true, false, if◌then◌else◌}
+use Rattle.std.specs.Prelude.{ℕ, ◌==◌, Bool, true, false, if◌then◌else◌, Option, Some, None}
 use Rattle.heap_words.specs.declared.config.Config.{Config}
 use Rattle.heap_words.specs.declared.place.Place.{Place}
 use Rattle.heap_words.specs.declared.place.Place.TheVariants.{KX}
@@ -24,6 +24,22 @@ use Rattle.unit_part.specs.declared.spot.UnitSpot.TheVariants.{Scanning, Evacuat
 -- and in phase 3 references are updated
 abbrev pub begins : (phase cset : ℕ) → UnitSpot
 begins phase cset = if phase == 1 then Scanning scan.LoadClaim else (if phase == 2 then Evacuating cset evac.LoadClaim else Updating cset update.LoadClaim)
+
+-- whether it takes hints: it marks, and has claimed no unit yet
+abbrev pub takes_hint : UnitSpot → Bool
+takes_hint (Scanning scan.LoadClaim) = true
+takes_hint _ = false
+
+-- from where it goes on with a hint, if it has one: who takes hints scans the word of the hint's address, and claims no unit
+abbrev pub hinted_by : Config → Option ℕ → UnitSpot → UnitSpot
+hinted_by c None at = at
+hinted_by c (Some address) (Scanning scan.LoadClaim) = Scanning (scans.hinted c address)
+hinted_by c (Some address) at = at
+
+-- the address that the next access makes grey, if it does so
+abbrev pub greys_at : UnitSpot → Option ℕ
+greys_at (Scanning at) = scans.greys_at at
+greys_at _ = None
 
 -- the place of the next access. There is none at the end, where it is named as that of the claim
 abbrev pub place_at : UnitSpot → Place

@@ -1,7 +1,7 @@
-ghost use Rattle.std.specs.Prelude.{◌≡◌, ◌<◌, ◌↔◌, true, false};
+ghost use Rattle.std.specs.Prelude.{ℕ, ◌≡◌, ◌<◌, ◌↔◌, true, false, Some, IfSome};
 ghost use Rattle.heap_words.specs.Ranges.{seat_count};
 ghost use Rattle.heap_words.specs.Access.{table_index};
-ghost use Rattle.heap_words.specs.Words.{table_words};
+ghost use Rattle.heap_words.specs.Words.{Heap, IsWord, table_words};
 ghost use Rattle.steps_base.specs.Touch.{placed};
 ghost use Rattle.update_part.specs.Rows as updates;
 ghost use Rattle.update_part.specs.Ends as updating;
@@ -69,6 +69,42 @@ impl UnitSpot {
                 cset,
                 at: UpdateSpot::LoadClaim,
             },
+        }
+    }
+
+    /// Whether it takes hints: it marks, and has claimed no unit yet.
+    pub fn takes_hint(self) -> bool
+        ensures { result ≡ rows.takes_hint self }
+    {
+        matches!(
+            self,
+            UnitSpot::Scanning {
+                at: ScanSpot::LoadClaim
+            }
+        )
+    }
+
+    /// Where a machine that takes hints goes on with the hint of an address of the heap: at the word that has its mark.
+    pub fn hinted(self, config: Config, address: u64) -> UnitSpot
+        requires takes { rows.takes_hint self ≡ true }
+        requires heap { IsWord config (Heap address) }
+        ensures row { result ≡ rows.hinted_by config (Some address) self }
+        ensures ready { (seat : ℕ) → is_ready config seat result ≡ true }
+        ensures busy { rows.is_ended result ≡ false }
+    {
+        UnitSpot::Scanning {
+            at: ScanSpot::hinted(config, address),
+        }
+    }
+
+    /// The address that the next access makes grey, if it does so: one of the heap.
+    pub fn greys(self) -> Option<u64>
+        ensures row { result ≡ rows.greys_at self }
+        ensures heap { (config : Config) (seat : ℕ) → is_ready config seat self ≡ true → IfSome result (λ address. IsWord config (Heap address)) }
+    {
+        match self {
+            UnitSpot::Scanning { at } => at.greys(),
+            _ => None,
         }
     }
 

@@ -7,6 +7,7 @@ use Rattle.heap_words.specs.declared.config.Config.{Config}
 use Rattle.heap_words.specs.Access.{table_index}
 use Rattle.heap_words.specs.Encoding.{is_forwarded, forwardee_in}
 use Rattle.heap_words.specs.Ranges.{seat_count}
+use Rattle.heap_words.specs.declared.access.Access.{Access}
 use Rattle.heap_words.specs.declared.access.Access.TheVariants.{Load}
 use Rattle.heap_words.specs.Words.{Cset, Heap, IsWord, image_start, word_at}
 use Rattle.heap_words.proofs.Rows.{words_differ}
@@ -28,13 +29,16 @@ use Rattle.mutator.specs.Rows.{Mutating, touch_of}
 use Rattle.control_rows.specs.declared.spot.ControlSpot.{ControlSpot}
 use Rattle.control_rows.specs.declared.spot.ControlSpot.TheVariants.{LookFree, Working, Stopping, LoadWord, StoreWord}
 use Rattle.control_rows.specs.Ready.{is_ready}
-use Rattle.control_rows.specs.Rows.{control_seat}
+use Rattle.control_rows.specs.Rows.{Controlling, control_seat, control_access, control_touch}
+use Rattle.control_rows.proofs.Hinted.{control_hinted_ready}
+use Rattle.shen_graph.specs.Order.{hint_in}
 use Rattle.unit_part.proofs.Inside.{unit_inside}
 use Rattle.handshake.specs.Rows.{stop_touch}
 use Rattle.step_core.specs.Actor.{Machine, mutating, helping, controlling, Actor}
 use Rattle.step_core.specs.Begins.{Begins}
 use Rattle.step_core.specs.History.{history}
-use Rattle.step_core.specs.Machines.{takes_of, plan_of, kind}
+use Rattle.step_core.specs.Machines.{takes_of, helping_by, controlling_by, plan_of, kind}
+use Rattle.step_core.proofs.Machines.Hinting.{help_hinted_is, control_hinted_image}
 use Rattle.step_core.specs.Pausing.{IsInPause}
 use Rattle.step_core.specs.Settled.{stored_image, image_read, settled, control_number}
 use Rattle.step_core.specs.Sound.{world_of, IsMutator, StandsFor}
@@ -83,21 +87,26 @@ module _ (c : Config) (g : Graph) (s : Stage Actor) (h : List Entry) (goes : Goe
   }
 
   -- The access of a machine that stores no word of an image is one of a word by its name, or loads one of the image.
-  abbrev IsNamed : Order → Machine → Type 0
-  IsNamed order machine = ((plan_of c order machine ≡ placed c (touch_in c order machine)) × IsWord c (touch_in c order machine).word) ⊎ ((at : ℕ) × (plan_of c order machine ≡ Load at))
+  abbrev IsNamedBy : Access → Touch → Type 0
+  IsNamedBy access t = ((access ≡ placed c t) × IsWord c t.word) ⊎ ((at : ℕ) × (access ≡ Load at))
 
-  control_named : (order : Order) (seen phase cset : ℕ) (image : List ℕ) (spot : ControlSpot) → is_ready c spot ≡ true → stored_image spot image ≡ None
-      → IsNamed order (controlling (record { spot = spot; seen = seen; phase = phase; cset = cset; image = image }))
-  control_named order seen phase cset image (Working at) ready out = inl (refl, unit_inside c (control_seat c) at (omega arith) (and_parts _ _ ready).0)
-  control_named order seen phase cset image (Stopping at) ready out = inl (refl, is_word_true c (stop_touch at).word (and_parts _ _ (and_parts _ _ ready).0).0)
-  control_named order seen phase cset image (LoadWord index) ready out = inr (image_start c + index, refl)
-  control_named order seen phase cset image (StoreWord index) ready out = absurd (cc (out))
-  control_named order seen phase cset image _ ready out = inl (refl, tt)
+  abbrev IsNamed : Order → Machine → Type 0
+  IsNamed order machine = IsNamedBy (plan_of c order machine) (touch_in c order machine)
+
+  control_named : (seen phase cset hints : ℕ) (image : List ℕ) (spot : ControlSpot) → is_ready c spot ≡ true → stored_image spot image ≡ None
+      → IsNamedBy (control_access c (record { spot = spot; seen = seen; phase = phase; cset = cset; hints = hints; image = image })) (control_touch c spot)
+  control_named seen phase cset hints image (Working at) ready out = inl (refl, unit_inside c (control_seat c) at (omega arith) (and_parts _ _ ready).0)
+  control_named seen phase cset hints image (Stopping at) ready out = inl (refl, is_word_true c (stop_touch at).word (and_parts _ _ (and_parts _ _ ready).0).0)
+  control_named seen phase cset hints image (LoadWord index) ready out = inr (image_start c + index, refl)
+  control_named seen phase cset hints image (StoreWord index) ready out = absurd (cc (out))
+  control_named seen phase cset hints image _ ready out = inl (refl, tt)
 
   named : (number : ℕ) (order : Order) (x : Actor) (machine : Machine) → IsMachine c s.words the_world (of_thread h (number + 1)) number x machine → takes_of machine order ≡ true → image_read machine ≡ None → IsNamed order machine
   named number order x (mutating m) facts takes out = inl (refl, is_word_true c (touch_of c m order).word (order_word c m.seat m.made m.kept order m.spot facts.mine.seated.below facts.mine.ready takes))
-  named number order x (helping m) facts takes out = inl (refl, help_word c the_world number m goes.follows.shared facts)
-  named number order x (controlling m) facts takes out = control_named order m.seen m.phase m.cset m.image m.spot facts.ready out
+  named number order x (helping m) facts takes out = inl (refl, help_word c the_world number (helping_by c order m) goes.follows.shared (help_hinted_is c the_world number (hint_in order) m facts))
+  named number order x (controlling m) facts takes out =
+      let k : Controlling = controlling_by c order m in
+      control_named k.seen k.phase k.cset k.hints k.image k.spot (control_hinted_ready c (hint_in order) m facts.ready) (control_hinted_image c (hint_in order) m ∙ out)
 
   module _ (number : ℕ) (order : Order) (a k : ℕ) (b : Body) (inside : IsCollected c (settled c s Cset) a) (is : body_at (goes.follows.block a) ≡ Some b) (below : k < body_words b) (machine : Machine)
       (same : table_index (plan_of c order machine) ≡ word_at c (Heap (a + k))) where

@@ -9,7 +9,7 @@ use Rattle.shen_graph.specs.declared.name.Name.{Name}
 use Rattle.shen_graph.specs.declared.command.Command.{Command}
 use Rattle.shen_graph.specs.declared.command.Reply.{Reply}
 use Rattle.shen_graph.specs.declared.order.Order.{Order}
-use Rattle.shen_graph.specs.declared.order.Order.TheVariants.{Nothing, Begin, End}
+use Rattle.shen_graph.specs.declared.order.Order.TheVariants.{Nothing, Begin, End, Hint}
 use Rattle.shen_graph.specs.History.{Entry}
 use Rattle.heap_words.specs.Counter.{IsQuiet}
 use Rattle.handshake.specs.declared.enter_spot.EnterSpot.{EnterSpot}
@@ -68,12 +68,16 @@ use Rattle.unit_part.specs.Rows as units
 use Rattle.helper.specs.declared.spot.HelpSpot.{HelpSpot}
 use Rattle.helper.specs.declared.spot.HelpSpot.TheVariants as help
 use Rattle.helper.specs.Rows as helps
+use Rattle.helper.specs.Rows.{Helping}
 use Rattle.control_rows.specs.declared.spot.ControlSpot.{ControlSpot}
 use Rattle.control_rows.specs.declared.spot.ControlSpot.TheVariants as control
-use Rattle.control_rows.specs.Rows.{control_seat, control_touch}
+use Rattle.control_rows.specs.Rows.{Controlling, control_seat, control_touch}
+use Rattle.shen_graph.specs.Order.{hint_in}
+use Rattle.step_core.specs.Machines.{helping_by, controlling_by}
+use Rattle.step_core.proofs.Machines.Hinting.{help_hinted_is, control_hinted_is}
 use Rattle.step_core.specs.Actor.{Machine, mutating, helping, controlling, Actor}
 use Rattle.step_core.proofs.Machines.Stepped.{FieldFacts, NumberFacts, MakeFacts, IsResolving, SpotFacts}
-use Rattle.step_core.proofs.Machines.Owed.{CanWork, HelpFacts, ControlFacts, IsMachine}
+use Rattle.step_core.proofs.Machines.Owed.{CanWork, HelpFacts, ControlFacts, IsHelper, IsControl, IsMachine}
 use Rattle.cycle_runs.specs.Evacuation.Runs.{is_write}
 
 -- the words that are looked at here: those of the heap, and the word of the copiers
@@ -110,8 +114,8 @@ pub data Writes (c : Config) (w : World) (seat : ℕ) (t : Touch) (Work : Type 0
 -- the access of a machine by the name of its word: of the control, where it is of no word of an image
 abbrev pub touch_in : Config → Order → Machine → Touch
 touch_in c order (mutating m) = touch_of c m order
-touch_in c order (helping h) = helps.help_touch c h
-touch_in c order (controlling k) = control_touch c k.spot
+touch_in c order (helping h) = helps.help_touch c (helping_by c order h)
+touch_in c order (controlling k) = control_touch c (controlling_by c order k).spot
 
 -- whether it may write fields and numbers of objects: only a mutator does, at the places of these writes
 abbrev pub WorkIn : Order → Machine → Type 0
@@ -303,6 +307,7 @@ module _ (c : Config) (w : World) (shared : Shared c w) where
   first_writes seat Nothing Work = Writes.elsewhere refl
   first_writes seat (Begin command) Work = Writes.elsewhere refl
   first_writes seat End Work = Writes.elsewhere refl
+  first_writes seat (Hint address) Work = Writes.elsewhere refl
 
   -- of a mutator
   spot_writes : (seat made : ℕ) (kept : Kept) (command : Command) (fixed : Option Reply) (order : Order) (spot : Spot) → SpotFacts c w seat made kept command fixed spot
@@ -329,7 +334,11 @@ module _ (c : Config) (w : World) (shared : Shared c w) where
   pub machine_writes : (words : List ℕ) (entries : List Entry) (number : ℕ) (x : Actor) (order : Order) (machine : Machine) → IsMachine c words w entries number x machine → Writes c w number (touch_in c order machine) (WorkIn order machine)
   machine_writes words entries number x order (mutating m) facts =
       subst (λ seat. Writes c w seat (touch_of c m order) (is_write (place_at order m.spot) ≡ true)) facts.number_is (spot_writes m.seat m.made m.kept x.command facts.fixed order m.spot facts.mine.facts)
-  machine_writes words entries number x order (helping h) facts =
-      subst (λ seat. Writes c w seat (helps.help_touch c h) ⊥) facts.number_is (help_writes h.seat h.spot ⊥ (subst (λ seat. HelpFacts c w seat h.spot) (sym facts.number_is) facts.facts))
-  machine_writes words entries number x order (controlling k) facts =
-      subst (λ seat. Writes c w seat (control_touch c k.spot) ⊥) (sym facts.number_is) (control_writes k.spot ⊥ (subst (λ seat. ControlFacts c w seat k.spot) facts.number_is facts.facts))
+  machine_writes words entries number x order (helping h) facts = helper_writes (helping_by c order h) (help_hinted_is c w number (hint_in order) h facts)
+    where
+      helper_writes : (y : Helping) → IsHelper c w number y → Writes c w number (helps.help_touch c y) ⊥
+      helper_writes y known = subst (λ seat. Writes c w seat (helps.help_touch c y) ⊥) known.number_is (help_writes y.seat y.spot ⊥ (subst (λ seat. HelpFacts c w seat y.spot) (sym known.number_is) known.facts))
+  machine_writes words entries number x order (controlling k) facts = the_control_writes (controlling_by c order k) (control_hinted_is c w number words (hint_in order) k facts)
+    where
+      the_control_writes : (y : Controlling) → IsControl c words w number y → Writes c w number (control_touch c y.spot) ⊥
+      the_control_writes y known = subst (λ seat. Writes c w seat (control_touch c y.spot) ⊥) (sym known.number_is) (control_writes y.spot ⊥ (subst (λ seat. ControlFacts c w seat y.spot) known.number_is known.facts))

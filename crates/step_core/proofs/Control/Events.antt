@@ -106,10 +106,10 @@ module _ (change : Change) (law : IsPause change) (c : Config) (g : Graph) (s : 
       pause_empty c (λ a. standing_of a.machine) s shaken (ap (λ a. is_pausing (standing_of a.machine)) (sym same) ∙ pausing) j b (omega (arith, less, other)) there
 
 -- by its spot
-module _ (change : Change) (law : IsPause change) (c : Config) (g : Graph) (s : Stage Actor) (past : List Entry) (number seen phase cset : ℕ) (image : List ℕ) (command : Command) (calls : List Entry)
+module _ (change : Change) (law : IsPause change) (c : Config) (g : Graph) (s : Stage Actor) (past : List Entry) (number seen phase cset hints : ℕ) (image : List ℕ) (command : Command) (calls : List Entry)
     (follows : Follows c g s past) (shaken : IsKept c s) where
   abbrev control_at : ControlSpot → Controlling
-  control_at spot = record { spot = spot; seen = seen; phase = phase; cset = cset; image = image }
+  control_at spot = record { spot = spot; seen = seen; phase = phase; cset = cset; hints = hints; image = image }
 
   abbrev Here : ControlSpot → Type 0
   Here spot = slice_get s.machines number ≡ Some (record { machine = controlling (control_at spot); command = command; calls = calls })
@@ -182,6 +182,7 @@ module _ (change : Change) (law : IsPause change) (c : Config) (g : Graph) (s : 
       seen = if more then seen else seen_after seen (image_view c (change c (image ++ loaded index ∷ [])));
       phase = if more then phase else image_view c (change c (image ++ loaded index ∷ [])) Phase;
       cset = if more then cset else image_view c (change c (image ++ loaded index ∷ [])) Cset;
+      hints = hints;
       image = if more then image ++ loaded index ∷ [] else change c (image ++ loaded index ∷ []);
     });
     command = command;
@@ -193,7 +194,7 @@ module _ (change : Change) (law : IsPause change) (c : Config) (g : Graph) (s : 
       → Owes c s.words s.words open_now past (control_number c) s.machines (settled_by c s.words (image_read (after_word index more).machine)) [] (after_word index more)
   loaded_owes index here shared known true more =
       read_owes c s.words follows.block follows.ghost (after g past) past s.machines command calls
-      (record { spot = LoadWord (index + 1); seen = seen; phase = phase; cset = cset; image = image ++ loaded index ∷ [] }) shared follows.promised_to
+      (record { spot = LoadWord (index + 1); seen = seen; phase = phase; cset = cset; hints = hints; image = image ++ loaded index ∷ [] }) shared follows.promised_to
       (record {
         number_is = refl;
         ready = more;
@@ -209,7 +210,7 @@ module _ (change : Change) (law : IsPause change) (c : Config) (g : Graph) (s : 
       (length-snoc image (loaded index) ∙ ap (λ n. n + 1) known.aims.0 ∙ less) shared follows.promised_to follows.no_more
       (known_held change law c g s past number (control_at (LoadWord index)) command calls follows shaken here)
       (all_outside change law c g s past number (control_at (LoadWord index)) command calls follows shaken here refl)
-      (seen_after seen (image_view c (change c (image ++ loaded index ∷ [])))) command calls
+      (seen_after seen (image_view c (change c (image ++ loaded index ∷ [])))) hints command calls
 
   -- a word of the image that is loaded
   load_word : (index : ℕ) → Here (LoadWord index) → ControlGoal (LoadWord index)
@@ -227,7 +228,7 @@ module _ (change : Change) (law : IsPause change) (c : Config) (g : Graph) (s : 
       let k = control_at (StoreWord index) in
       let known = facts change law c g s past number k command calls follows shaken here in
       from_owes change law c g s past number k command calls follows shaken here (told_storing c s (StoreWord index) image)
-      (stored_owes change c s.words follows.block follows.ghost (after g past) past s.machines image index seen phase cset command calls known.ready follows.words known.aims.0 known.aims.1 follows.seats
+      (stored_owes change c s.words follows.block follows.ghost (after g past) past s.machines image index seen phase cset hints command calls known.ready follows.words known.aims.0 known.aims.1 follows.seats
       (shared_held change law c g s past number k command calls follows shaken here) follows.promised_to (control_held change law c g s past number k command calls follows shaken here)
       (known_held change law c g s past number k command calls follows shaken here))
 
@@ -250,26 +251,26 @@ module _ (change : Change) (law : IsPause change) (c : Config) (g : Graph) (s : 
       (λ n. Owes c s.words (words_after c s.words (units.touch_at c (control_number c) at)) open_now past (control_number c) s.machines
       (settled_by c (words_after c s.words (units.touch_at c (control_number c) at)) (image_read (took_of change c (record { machine = controlling (control_at (Working at)); command = command; calls = calls }) Nothing n (controlling (control_at (Working at)))).machine)) []
       (took_of change c (record { machine = controlling (control_at (Working at)); command = command; calls = calls }) Nothing n (controlling (control_at (Working at))))) (sym (work_found at here))
-      (pauses.work_unit c s.words follows.block follows.ghost (after g past) past s.machines command calls change seen phase cset image follows.words shared follows.promised_to at known))
+      (pauses.work_unit c s.words follows.block follows.ghost (after g past) past s.machines command calls change seen phase cset hints image follows.words shared follows.promised_to at known))
 
   -- wherever it stands
   pub by_spot : (spot : ControlSpot) → is_gone spot ≡ false → Here spot → ControlGoal spot
   by_spot LookLeft going here = quiet LookLeft here refl refl (λ shared known.
-      pauses.look_left c s.words follows.block follows.ghost (after g past) past s.machines command calls change seen phase cset image follows.words shared follows.promised_to (got LookLeft) known)
+      pauses.look_left c s.words follows.block follows.ghost (after g past) past s.machines command calls change seen phase cset hints image follows.words shared follows.promised_to (got LookLeft) known)
   by_spot StoreEnd going here = quiet StoreEnd here refl refl (λ shared known.
-      pauses.store_end c s.words follows.block follows.ghost (after g past) past s.machines command calls change seen phase cset image follows.words shared follows.promised_to (got StoreEnd) known)
+      pauses.store_end c s.words follows.block follows.ghost (after g past) past s.machines command calls change seen phase cset hints image follows.words shared follows.promised_to (got StoreEnd) known)
   by_spot LookAsked going here = quiet LookAsked here refl refl (λ shared known.
-      pauses.look_asked c s.words follows.block follows.ghost (after g past) past s.machines command calls change seen phase cset image follows.words shared follows.promised_to (got LookAsked) (found-placed c s.words (touch Ask loads) refl) known)
+      pauses.look_asked c s.words follows.block follows.ghost (after g past) past s.machines command calls change seen phase cset hints image follows.words shared follows.promised_to (got LookAsked) (found-placed c s.words (touch Ask loads) refl) known)
   by_spot LookFree going here = quiet LookFree here refl refl (λ shared known.
-      pauses.look_free c s.words follows.block follows.ghost (after g past) past s.machines command calls change seen phase cset image follows.words shared follows.promised_to (got LookFree) known)
+      pauses.look_free c s.words follows.block follows.ghost (after g past) past s.machines command calls change seen phase cset hints image follows.words shared follows.promised_to (got LookFree) known)
   by_spot (Working at) going here = work_word at here
   by_spot (Stopping stop.Raise) going here = quiet (Stopping stop.Raise) here refl refl (λ shared known.
-      pauses.raise_pause c s.words follows.block follows.ghost (after g past) past s.machines command calls change seen phase cset image follows.words shared follows.promised_to (got (Stopping stop.Raise)) known)
+      pauses.raise_pause c s.words follows.block follows.ghost (after g past) past s.machines command calls change seen phase cset hints image follows.words shared follows.promised_to (got (Stopping stop.Raise)) known)
   by_spot (Stopping (stop.Check seat)) going here = quiet (Stopping (stop.Check seat)) here refl refl (λ shared known.
-      pauses.check_seat c s.words follows.block follows.ghost (after g past) past s.machines command calls change seen phase cset image follows.words shared follows.promised_to seat (got (Stopping (stop.Check seat))) known)
+      pauses.check_seat c s.words follows.block follows.ghost (after g past) past s.machines command calls change seen phase cset hints image follows.words shared follows.promised_to seat (got (Stopping (stop.Check seat))) known)
   by_spot (Stopping stop.Stopped) going here = absurd (let ready = ready_at (Stopping stop.Stopped) here in cc (ready))
   by_spot (LoadWord index) going here = load_word index here
   by_spot (StoreWord index) going here = store_word index here
   by_spot Go going here = quiet Go here refl refl (λ shared known.
-      pauses.let_go c s.words follows.block follows.ghost (after g past) past s.machines command calls change seen phase cset image follows.words shared follows.promised_to (got Go) known)
+      pauses.let_go c s.words follows.block follows.ghost (after g past) past s.machines command calls change seen phase cset hints image follows.words shared follows.promised_to (got Go) known)
   by_spot Gone going here = absurd (cc (going))

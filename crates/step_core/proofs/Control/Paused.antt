@@ -445,9 +445,9 @@ module _ (c : Config) (words : List ℕ) (block : Plot) (ghost : Ghost) (g : Gra
           (λ m role. mutator_then k b m there (is ∙ role) (ap (λ x. is_within (standing_of x)) (sym role) ∙ out)) facts
 
       -- what the control owes
-      pub paused_owes : (seen : ℕ) (command : Command) (calls : List Entry) → Owes c words words before past (control_number c) machines (settled_by c words (Some (change c image))) []
-          (record { machine = controlling (record { spot = StoreWord 0; seen = seen; phase = image_view c (change c image) Phase; cset = image_view c (change c image) Cset; image = change c image }); command = command; calls = calls ++ [] })
-      paused_owes seen command calls = record {
+      pub paused_owes : (seen hints : ℕ) (command : Command) (calls : List Entry) → Owes c words words before past (control_number c) machines (settled_by c words (Some (change c image))) []
+          (record { machine = controlling (record { spot = StoreWord 0; seen = seen; phase = image_view c (change c image) Phase; cset = image_view c (change c image) Cset; hints = hints; image = change c image }); command = command; calls = calls ++ [] })
+      paused_owes seen hints command calls = record {
         world = then_world;
         memory_is = refl;
         graph_is = refl;

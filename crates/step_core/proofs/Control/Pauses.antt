@@ -110,9 +110,9 @@ module _ (c : Config) (words : List ℕ) (block : Plot) (ghost : Ghost) (g : Gra
   unit_facts w _ can = can
 
   -- What it owes that stands at a spot outside the image, and finds a word.
-  module _ (change : Change) (seen phase cset : ℕ) (image : List ℕ) (long : length words ≡ table_words c) (shared : Shared c u) (promised_to : PromisedToMutators c block) where
+  module _ (change : Change) (seen phase cset hints : ℕ) (image : List ℕ) (long : length words ≡ table_words c) (shared : Shared c u) (promised_to : PromisedToMutators c block) where
     abbrev at_spot : ControlSpot → Controlling
-    at_spot spot = record { spot = spot; seen = seen; phase = phase; cset = cset; image = image }
+    at_spot spot = record { spot = spot; seen = seen; phase = phase; cset = cset; hints = hints; image = image }
 
     abbrev then_at : ControlSpot → ℕ → Controlling
     then_at spot got = control_next change c (at_spot spot) got

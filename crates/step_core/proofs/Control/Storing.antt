@@ -37,7 +37,7 @@ use Rattle.step_core.proofs.Control.Pauses.{no_other_control}
 use Rattle.step_core.proofs.Mutators.Refusing.{refused_new, refused_mine}
 use Rattle.step_core.proofs.Machines.Roles.{machine_stays, mutator_there}
 
-module _ (change : Change) (c : Config) (words : List ℕ) (block : Plot) (ghost : Ghost) (g : Graph) (past : List Entry) (machines : List Actor) (image : List ℕ) (index seen phase cset : ℕ) (command : Command) (calls : List Entry)
+module _ (change : Change) (c : Config) (words : List ℕ) (block : Plot) (ghost : Ghost) (g : Graph) (past : List Entry) (machines : List Actor) (image : List ℕ) (index seen phase cset hints : ℕ) (command : Command) (calls : List Entry)
     (ready : is_ready c (StoreWord index) ≡ true) (long : length words ≡ table_words c) (image_long : length image ≡ image_words c) (read : AreRead c words image index)
     (seats : length machines ≡ seat_count c.mutators c.helpers) where
   -- where the word stands, what was there, and what is stored
@@ -60,7 +60,7 @@ module _ (change : Change) (c : Config) (words : List ℕ) (block : Plot) (ghost
 
   -- the control, and the control then
   abbrev pub storing : Controlling
-  storing = record { spot = StoreWord index; seen = seen; phase = phase; cset = cset; image = image }
+  storing = record { spot = StoreWord index; seen = seen; phase = phase; cset = cset; hints = hints; image = image }
 
   abbrev control_then : Controlling
   control_then = control_next change c storing raw

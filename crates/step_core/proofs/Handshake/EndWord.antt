@@ -34,7 +34,7 @@ use Rattle.control_rows.specs.declared.spot.ControlSpot.{ControlSpot}
 use Rattle.control_rows.specs.declared.spot.ControlSpot.TheVariants as control
 use Rattle.control_rows.specs.Rows.{control_seat, is_gone, access_with, next_spot, stopping, after_unit, begins_pause, unasked, wants_pause}
 use Rattle.control_rows.specs.Ready.{is_ready}
-use Rattle.step_core.proofs.Handshake.Mutator.{StaysIn, stays_in, waits_in, given_order, given_ended}
+use Rattle.step_core.proofs.Handshake.Mutator.{StaysIn, stays_in, waits_in, IsGiven, given_order, given_ended}
 use Rattle.step_core.proofs.Handshake.Control.{unit_above}
 
 module _ (c : Config) (m : Mutating) (given : Order) where
@@ -48,10 +48,11 @@ module _ (c : Config) (m : Mutating) (given : Order) where
   of_image : (spot : Spot) → StaysIn c m given spot → IsWord c (touch_at c m.seat m.made m.kept given spot).word → NotEnd spot
   of_image spot stays word = inr (λ e. (let above = placed_above c (touch_at c m.seat m.made m.kept given spot) word stays.image in omega (arith, e, above)))
 
-  first_not : (o : Order) → (o ≡ order.Nothing → ⊥) → (is_load (placed c (first_touch m.seat o)) ≡ true) ⊎ (table_index (placed c (first_touch m.seat o)) ≢ word_at c End)
-  first_not order.Nothing some = absurd (some refl)
-  first_not (order.Begin command) some = inr (λ e. omega (arith, e))
-  first_not order.End some = inr (λ e. omega (arith, e))
+  first_not : (o : Order) → IsGiven o → (is_load (placed c (first_touch m.seat o)) ≡ true) ⊎ (table_index (placed c (first_touch m.seat o)) ≢ word_at c End)
+  first_not order.Nothing given = absurd given
+  first_not (order.Begin command) given = inr (λ e. omega (arith, e))
+  first_not order.End given = inr (λ e. omega (arith, e))
+  first_not (order.Hint address) given = absurd given
 
   enter_not : (at : EnterSpot) (next : Entered) → NotEnd (Entering at next)
   enter_not enter.Raise next = inr (λ e. omega (arith, e))

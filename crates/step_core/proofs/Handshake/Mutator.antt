@@ -7,7 +7,7 @@ use Rattle.heap_words.proofs.Stores.{is_word_true}
 use Rattle.std.proofs.lemmas.Bool.{and_parts}
 use Rattle.steps_base.specs.Touch.{placed}
 use Rattle.shen_graph.specs.declared.order.Order.{Order}
-use Rattle.shen_graph.specs.declared.order.Order.TheVariants.{Nothing, Begin, End}
+use Rattle.shen_graph.specs.declared.order.Order.TheVariants.{Nothing, Begin, End, Hint}
 use Rattle.shen_graph.specs.declared.command.Reply.{Reply}
 use Rattle.heap_words.specs.Words.{Left}
 use Rattle.steps_base.specs.Touch.{touch, subtracts}
@@ -113,15 +113,24 @@ not_entered : (at : EnterSpot) → is_still_outside at ≡ true → is_entered a
 not_entered Inside on = absurd (cc (on))
 not_entered _ on = refl
 
+-- an order that a mutator may be given between two calls: a command, or the end
+abbrev pub IsGiven : Order → Type 0
+IsGiven Nothing = ⊥
+IsGiven (Begin command) = Unit {0}
+IsGiven End = Unit {0}
+IsGiven (Hint address) = ⊥
+
 -- a mutator between two calls: it enters, or ends
-begins : (c : Config) (m : Mutating) (order : Order) → (order ≡ Nothing → ⊥)
+begins : (c : Config) (m : Mutating) (order : Order) → IsGiven order
     → Obeys c m.seat outside (placed c (first_touch m.seat order)) (λ got. standing_at (call_begun order m).spot)
-begins c m Nothing given = absurd (given refl)
+begins c m Nothing given = absurd given
+begins c m (Hint address) given = absurd given
 begins c m (Begin command) given = inl (record { access_is = refl; next_is = λ got. refl })
 begins c m End given = inr (record { harmless = inr (placed_elsewhere c (touch Left (subtracts 1)) tt refl, omega arith); next_is = λ got. refl })
 
-begins_count : (c : Config) (m : Mutating) (order : Order) → (order ≡ Nothing → ⊥) → Counts c true (placed c (first_touch m.seat order)) (λ got. has_not_ended (call_begun order m).spot)
-begins_count c m Nothing given = absurd (given refl)
+begins_count : (c : Config) (m : Mutating) (order : Order) → IsGiven order → Counts c true (placed c (first_touch m.seat order)) (λ got. has_not_ended (call_begun order m).spot)
+begins_count c m Nothing given = absurd given
+begins_count c m (Hint address) given = absurd given
 begins_count c m (Begin command) given = inr (record { not_written = inr (λ e. omega (arith, e)); same = λ got. refl })
 begins_count c m End given = inl (record { access_is = refl; was_left = refl; has_ended = λ got. refl })
 
@@ -188,15 +197,17 @@ module _ (c : Config) (m : Mutating) (order : Order) where
   waits_obey (wait.StoreRoot address) word = on (Waiting (wait.StoreRoot address)) (waits_in (wait.StoreRoot address) refl) word
   waits_obey (wait.ClearAnswer reply) word = on (Waiting (wait.ClearAnswer reply)) (waits_in (wait.ClearAnswer reply) refl) word
 
-  pub given_order : (o : Order) → takes_at Rest m.made o ≡ true → o ≡ Nothing → ⊥
-  given_order Nothing takes is = cc
-  given_order (Begin command) takes is = cc
-  given_order End takes is = cc
+  pub given_order : (o : Order) → takes_at Rest m.made o ≡ true → IsGiven o
+  given_order Nothing takes = absurd (cc (takes))
+  given_order (Begin command) takes = tt
+  given_order End takes = tt
+  given_order (Hint address) takes = absurd (cc (takes))
 
-  pub given_ended : (reply : Reply) (o : Order) → takes_at (Ended reply) m.made o ≡ true → o ≡ Nothing → ⊥
-  given_ended reply Nothing takes is = cc
-  given_ended reply (Begin command) takes is = cc
-  given_ended reply End takes is = cc
+  pub given_ended : (reply : Reply) (o : Order) → takes_at (Ended reply) m.made o ≡ true → IsGiven o
+  given_ended reply Nothing takes = absurd (cc (takes))
+  given_ended reply (Begin command) takes = tt
+  given_ended reply End takes = tt
+  given_ended reply (Hint address) takes = absurd (cc (takes))
 
   spot_obeys : (spot : Spot) → takes_at spot m.made order ≡ true → numbers_fit c m.seat m.made m.kept spot ≡ true → IsWord c (touch_at c m.seat m.made m.kept Nothing spot).word → ObeysAt spot
   spot_obeys Rest takes going word = begins c (record m { spot = Rest }) order (given_order order takes)

@@ -26,10 +26,10 @@ use Rattle.step_core.proofs.Helpers.Stable.{is_off}
 use Rattle.step_core.proofs.Helpers.Units.{step_with, work_begins, work_fits, work_step}
 use Rattle.step_core.proofs.Mutators.WhileMarking.{world_with}
 
-module _ (c : Config) (u : World) (seat : ℕ) (shared : Shared c u) where
+module _ (c : Config) (u : World) (seat hints : ℕ) (shared : Shared c u) where
   -- the helper at a spot
   abbrev helper_at : HelpSpot → Helping
-  helper_at spot = record { seat = seat; spot = spot }
+  helper_at spot = record { seat = seat; spot = spot; hints = hints }
 
   -- the word that it finds
   abbrev got : HelpSpot → ℕ
@@ -116,4 +116,4 @@ pub help_step : (c : Config) (u : World) (number : ℕ) (h : Helping) → Shared
     → PartStep c u number (help_touch c h) (λ w. IsHelper c w number (help_next c h (u.memory (help_touch c h).word)))
 help_step c u number h shared is going =
     subst (λ j. PartStep c u j (help_touch c h) (λ w. IsHelper c w j (help_next c h (u.memory (help_touch c h).word)))) is.number_is
-    (by_spot c u h.seat shared h.spot going (subst (λ j. IsHelper c u j h) (sym is.number_is) is))
+    (by_spot c u h.seat h.hints shared h.spot going (subst (λ j. IsHelper c u j h) (sym is.number_is) is))

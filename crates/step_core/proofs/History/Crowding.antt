@@ -184,10 +184,10 @@ module _ (change : Change) (c : Config) (g : Graph) (s : Stage Actor) (past : Li
   none = quiet [] (All-nil (λ e. e.reply ≢ Full))
 
   -- a word of the new image that the control stores
-  module _ (number index seen phase cset : ℕ) (image : List ℕ) (command : Command) (calls : List Entry)
-      (here : slice_get s.machines number ≡ Some (record { machine = controlling (record { spot = StoreWord index; seen = seen; phase = phase; cset = cset; image = image }); command = command; calls = calls })) where
-    control_facts : IsControl c s.words now number (record { spot = StoreWord index; seen = seen; phase = phase; cset = cset; image = image })
-    control_facts = goes.follows.machines number (record { machine = controlling (record { spot = StoreWord index; seen = seen; phase = phase; cset = cset; image = image }); command = command; calls = calls }) here
+  module _ (number index seen phase cset hints : ℕ) (image : List ℕ) (command : Command) (calls : List Entry)
+      (here : slice_get s.machines number ≡ Some (record { machine = controlling (record { spot = StoreWord index; seen = seen; phase = phase; cset = cset; hints = hints; image = image }); command = command; calls = calls })) where
+    control_facts : IsControl c s.words now number (record { spot = StoreWord index; seen = seen; phase = phase; cset = cset; hints = hints; image = image })
+    control_facts = goes.follows.machines number (record { machine = controlling (record { spot = StoreWord index; seen = seen; phase = phase; cset = cset; hints = hints; image = image }); command = command; calls = calls }) here
 
     held : held_image c s ≡ Some image
     held = ap (λ n. image_of (slice_get s.machines n)) (sym control_facts.number_is) ∙ ap image_of here
@@ -201,11 +201,11 @@ module _ (change : Change) (c : Config) (g : Graph) (s : Stage Actor) (past : Li
         let block = goes.follows.block in
         let ghost = goes.follows.ghost in
         let within : t < c.mutators = subst (λ w. IsWord c w) is
-        (storing.name_is_word change c s.words block ghost (after g past) past s.machines image index seen phase cset command calls control_facts.ready goes.follows.words control_facts.aims.0 control_facts.aims.1 goes.follows.seats) in
+        (storing.name_is_word change c s.words block ghost (after g past) past s.machines image index seen phase cset hints command calls control_facts.ready goes.follows.words control_facts.aims.0 control_facts.aims.1 goes.follows.seats) in
         let raw : view c s.words (Answer t) ≡ slice_index s.words at = ap (view c s.words) (sym is)
-        ∙ storing.view_raw change c s.words block ghost (after g past) past s.machines image index seen phase cset command calls control_facts.ready goes.follows.words control_facts.aims.0 control_facts.aims.1 goes.follows.seats in
+        ∙ storing.view_raw change c s.words block ghost (after g past) past s.machines image index seen phase cset hints command calls control_facts.ready goes.follows.words control_facts.aims.0 control_facts.aims.1 goes.follows.seats in
         let value : settled c s (Answer t) ≡ slice_index image index = ap (λ o. settled_by c s.words o (Answer t)) held ∙ ap (mixed c s.words image) (sym is)
-        ∙ storing.now_is change c s.words block ghost (after g past) past s.machines image index seen phase cset command calls control_facts.ready goes.follows.words control_facts.aims.0 control_facts.aims.1 goes.follows.seats in
+        ∙ storing.now_is change c s.words block ghost (after g past) past s.machines image index seen phase cset hints command calls control_facts.ready goes.follows.words control_facts.aims.0 control_facts.aims.1 goes.follows.seats in
         let there = mutator_there c s.words now past s.machines goes.follows.seats goes.follows.machines t within in
         subst (λ k. Crowded (entries_of t k (if (slice_index s.words at == 0) && (slice_index image index == 1) then Some Full else None))) (ap command_at (sym there.2))
         (by_test there.0 there.1 t there.4 raw value ((slice_index s.words at == 0) && (slice_index image index == 1)) refl)
@@ -224,16 +224,16 @@ module _ (change : Change) (c : Config) (g : Graph) (s : Stage Actor) (past : Li
     by_word _ is = none
 
   -- a step of the control
-  by_spot : (number seen phase cset : ℕ) (image : List ℕ) (command : Command) (calls : List Entry) (spot : ControlSpot)
-      → slice_get s.machines number ≡ Some (record { machine = controlling (record { spot = spot; seen = seen; phase = phase; cset = cset; image = image }); command = command; calls = calls }) → Crowded (told_storing c s spot image)
-  by_spot number seen phase cset image command calls (StoreWord index) here = by_word number index seen phase cset image command calls here (name_of c (image_start c + index)) refl
-  by_spot number seen phase cset image command calls _ here = none
+  by_spot : (number seen phase cset hints : ℕ) (image : List ℕ) (command : Command) (calls : List Entry) (spot : ControlSpot)
+      → slice_get s.machines number ≡ Some (record { machine = controlling (record { spot = spot; seen = seen; phase = phase; cset = cset; hints = hints; image = image }); command = command; calls = calls }) → Crowded (told_storing c s spot image)
+  by_spot number seen phase cset hints image command calls (StoreWord index) here = by_word number index seen phase cset hints image command calls here (name_of c (image_start c + index)) refl
+  by_spot number seen phase cset hints image command calls _ here = none
 
   -- a step of any machine
   by_role : (number : ℕ) (order : Order) (command : Command) (calls : List Entry) (machine : Machine) → slice_get s.machines number ≡ Some (record { machine = machine; command = command; calls = calls })
       → Crowded (told_by c s (record { machine = machine; command = command; calls = calls }) order machine)
   by_role number order command calls (mutating m) here = quiet _ (mutator_not_full (settled c s) m (command_by order command))
-  by_role number order command calls (controlling k) here = by_spot number k.seen k.phase k.cset k.image command calls k.spot here
+  by_role number order command calls (controlling k) here = by_spot number k.seen k.phase k.cset k.hints k.image command calls k.spot here
   by_role number order command calls _ here = none
 
   told_crowded : (e : Event Order) → Crowded (told c s e)

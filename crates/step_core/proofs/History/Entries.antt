@@ -10,7 +10,7 @@ use Rattle.shen_graph.specs.Graph.{Graph}
 use Rattle.shen_graph.specs.History.{Entry, after_entry, after, EachIsLegal, of_thread}
 use Rattle.std.proofs.lemmas.Bool.{and_parts}
 use Rattle.shen_graph.specs.declared.order.Order.{Order}
-use Rattle.shen_graph.specs.declared.order.Order.TheVariants.{Nothing, Begin, End}
+use Rattle.shen_graph.specs.declared.order.Order.TheVariants.{Nothing, Begin, End, Hint}
 use Rattle.mutator.specs.declared.spot.Spot.{Spot}
 use Rattle.mutator.specs.declared.spot.Spot.TheVariants.{Rest, Ended}
 use Rattle.mutator.specs.Orders.{is_valid, takes_at}
@@ -65,6 +65,7 @@ pub command_valid : (spot : Spot) (made : ℕ) (order : Order) (command : Comman
 command_valid spot made Nothing command takes valid = valid
 command_valid spot made (Begin k) command takes valid = begun_valid spot made k takes
 command_valid spot made End command takes valid = valid
+command_valid spot made (Hint address) command takes valid = valid
 
 -- the entry of a mutator
 pub entries_settled : (threads seat : ℕ) (k : Command) (r : Option Reply) → seat < threads → is_valid k ≡ true → All (IsSettled threads) (entries_of seat k r)

@@ -11,7 +11,7 @@ use Rattle.steps_base.specs.Steps.{Stage, Event, accessed, moved, act_of, act}
 use Rattle.steps_base.proofs.Places.{slice_get-set_same, slice_get-set_other}
 use Rattle.shen_graph.specs.declared.command.Command.{Command}
 use Rattle.shen_graph.specs.declared.order.Order.{Order}
-use Rattle.shen_graph.specs.declared.order.Order.TheVariants.{Nothing, Begin, End}
+use Rattle.shen_graph.specs.declared.order.Order.TheVariants.{Nothing, Begin, End, Hint}
 use Rattle.shen_graph.specs.History.{Entry, commands_of}
 use Rattle.handshake.specs.declared.enter_spot.EnterSpot.{EnterSpot}
 use Rattle.handshake.specs.declared.enter_spot.EnterSpot.TheVariants.{Inside}
@@ -32,7 +32,7 @@ use Rattle.step_core.specs.Actor.{Machine, mutating, Actor, entry_of, entries_of
 use Rattle.step_core.specs.Begun.{begun_by, scripts_begun}
 use Rattle.step_core.specs.Machines.{takes_of, plan_of, took_of, kind}
 use Rattle.step_core.specs.Standing.{standing_at}
-use Rattle.step_core.proofs.Machines.Roles.{takes_nothing}
+use Rattle.step_core.proofs.Machines.Roles.{takes_no_command}
 use Rattle.step_core.proofs.History.Crowds.{get_left, Extends, AreLonger}
 use Rattle.step_core.proofs.Mutators.Within.{IsIn, goes_on_in}
 
@@ -78,6 +78,7 @@ module _ (c : Config) (m : Mutating) (order : Order) (got : ℕ) (command : Comm
   in_progress Nothing is false no_call = extends_same _ _ (ap (λ es. commands_of es ++ command ∷ []) (sym (append-nil calls)))
   in_progress (Begin k) is b no_call = absurd (cc (is))
   in_progress End is b no_call = absurd (cc (is))
+  in_progress (Hint address) is b no_call = absurd (cc (is))
 
   call_grows : (spot : Spot) → is_between_calls spot ≡ false → takes_at spot m.made order ≡ true → is_between_calls (next_at c m order got spot).spot ≡ false
       → Extends (commands_of calls ++ command ∷ []) (commands_of (calls ++ []) ++ (if is_between_calls (next_at c m order got spot).spot then [] else command_by order command ∷ []))
@@ -89,6 +90,7 @@ module _ (c : Config) (m : Mutating) (order : Order) (got : ℕ) (command : Comm
   rest_grows (Begin k) takes =
       subst (λ xs. Extends xs (commands_of (calls ++ []) ++ k ∷ [])) (ap commands_of (append-nil calls) ∙ sym (append-nil (commands_of calls))) (extends_more (commands_of (calls ++ [])) (k ∷ []))
   rest_grows End takes = extends_same _ _ (ap (λ es. commands_of es ++ []) (sym (append-nil calls)))
+  rest_grows (Hint address) takes = absurd (cc (takes))
 
   -- where a call ends
   leave_grows : (e : Entry) → e.command ≡ command → Extends (commands_of calls ++ command ∷ []) (commands_of (calls ++ e ∷ []) ++ [])
@@ -118,17 +120,16 @@ module _ (c : Config) (m : Mutating) (order : Order) (got : ℕ) (command : Comm
   grows_at (Making at) takes = call_grows (Making at) refl takes (stays_in_call (Making at) refl)
   grows_at AskCycle takes = call_grows AskCycle refl takes (stays_in_call AskCycle refl)
 
--- who takes no order begins nothing
-others_grow : (order : Order) (command : Command) (calls : List Entry) → order ≡ Nothing → Extends (commands_of calls ++ command ∷ []) (commands_of (calls ++ []) ++ command_by order command ∷ [])
-others_grow Nothing command calls none = extends_same _ _ (ap (λ es. commands_of es ++ command ∷ []) (sym (append-nil calls)))
-others_grow (Begin k) command calls none = absurd (cc (none))
-others_grow End command calls none = absurd (cc (none))
+-- who begins no command begins nothing
+others_grow : (order : Order) (command : Command) (calls : List Entry) → command_by order command ≡ command → Extends (commands_of calls ++ command ∷ []) (commands_of (calls ++ []) ++ command_by order command ∷ [])
+others_grow order command calls same =
+    extends_same _ _ (ap (λ es. commands_of es ++ command ∷ []) (sym (append-nil calls)) ∙ ap (λ k. commands_of (calls ++ []) ++ k ∷ []) (sym same))
 
 -- the commands of a machine
 machine_grows : (change : Change) (c : Config) (order : Order) (got : ℕ) (command : Command) (calls : List Entry) (machine : Machine) → takes_of machine order ≡ true
     → Extends (begun_by (record { machine = machine; command = command; calls = calls })) (begun_by (took_of change c (record { machine = machine; command = command; calls = calls }) order got machine))
 machine_grows change c order got command calls (mutating m) takes = grows_at c m order got command calls m.spot takes
-machine_grows change c order got command calls other takes = others_grow order command calls (takes_nothing other order refl takes)
+machine_grows change c order got command calls other takes = others_grow order command calls (takes_no_command other order command refl takes)
 
 -- The scripts of a stage, by the numbers of its mutators.
 module _ (c : Config) (s : Stage Actor) (seats : length s.machines ≡ seat_count c.mutators c.helpers) where

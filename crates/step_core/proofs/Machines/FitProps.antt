@@ -3,7 +3,7 @@ use Rattle.std.proofs.Common.{ℕ, List}
 use Rattle.std.proofs.Math.Bool.{Bool-set}
 use Rattle.heap_words.specs.declared.config.Config.{Config}
 use Rattle.shen_graph.specs.declared.order.Order.{Order}
-use Rattle.shen_graph.specs.declared.order.Order.TheVariants.{Nothing, Begin, End}
+use Rattle.shen_graph.specs.declared.order.Order.TheVariants.{Nothing, Begin, End, Hint}
 use Rattle.load_barrier.specs.declared.spot.ResolveSpot.{ResolveSpot}
 use Rattle.load_barrier.specs.declared.spot.ResolveSpot.TheVariants.{Leaving}
 use Rattle.load_barrier.specs.declared.evac_spot.EvacSpot.{EvacSpot}
@@ -67,3 +67,4 @@ pub ends_is_prop : (order : Order) (got : ℕ) → IsProp (EndsFit order got)
 ends_is_prop Nothing got = hlevel
 ends_is_prop (Begin command) got = hlevel
 ends_is_prop End got = hlevel
+ends_is_prop (Hint address) got = hlevel

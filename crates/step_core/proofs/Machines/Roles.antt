@@ -18,8 +18,8 @@ use Rattle.packing.specs.Tops.{sum_below}
 use Rattle.shen_graph.specs.History.{Entry, of_thread}
 use Rattle.shen_graph.specs.Crowd.{words_asked}
 use Rattle.shen_graph.specs.declared.order.Order.{Order}
-use Rattle.shen_graph.specs.declared.order.Order.TheVariants.{Nothing, Begin, End}
-use Rattle.shen_graph.specs.Order.{is_nothing}
+use Rattle.shen_graph.specs.declared.order.Order.TheVariants.{Nothing, Begin, End, Hint}
+use Rattle.shen_graph.specs.Order.{hint_in}
 use Rattle.shen_graph.specs.Graph.{Graph}
 use Rattle.handshake.specs.Standing.{outside, is_within, control_seat}
 use Rattle.handshake.specs.Obeys.{Obeys}
@@ -42,15 +42,21 @@ use Rattle.heap_world.specs.Represents.{NobodyMarks, NobodyCopies}
 use Rattle.heap_world.specs.Rely.{Rely}
 use Rattle.heap_world.specs.Change.{Change}
 use Rattle.helper.specs.Rows as help
+use Rattle.helper.specs.Rows.{Helping}
+use Rattle.helper.proofs.Hinted.{help_hinted_ready}
+use Rattle.control_rows.proofs.Hinted.{control_hinted_ready}
+use Rattle.control_rows.specs.Rows as controls
+use Rattle.heap_words.specs.declared.access.Access.{Access}
+use Rattle.step_core.proofs.Machines.Hinting.{help_hinted_is, help_hinted_stands, help_hinted_seat, help_hinted_gone, control_hinted_stands, control_hinted_gone}
 use Rattle.helper.specs.Ready.{spot_fits, help_ready}
 use Rattle.control_rows.specs.Rows.{Controlling, is_gone, control_says, word_stored}
 use Rattle.control_rows.specs.Ready.{is_ready}
-use Rattle.step_core.specs.Actor.{Machine, mutating, helping, controlling, Actor, fresh_helper}
-use Rattle.step_core.specs.Machines.{takes_of, plan_of, machine_after, answer_of, next_order, order_for, is_mutating, may_begin, has_ended_of, standing_of, HasNumber, IsIdle, IsFitFor}
+use Rattle.step_core.specs.Actor.{Machine, mutating, helping, controlling, Actor, fresh_helper, command_by}
+use Rattle.step_core.specs.Machines.{takes_of, is_for_working, helping_by, controlling_by, plan_of, machine_after, answer_of, next_order, order_for, is_mutating, may_begin, has_ended_of, standing_of, HasNumber, IsIdle, IsFitFor}
 use Rattle.step_core.specs.Settled.{control_number}
 use Rattle.step_core.specs.Standing.{standing_at, help_standing}
 use Rattle.step_core.proofs.Machines.Stepped.{HasMarkingBy, HasCopyingBy, Mine}
-use Rattle.step_core.proofs.Machines.Owed.{IsSeen, IsShort, IsThread, IsResting, HelpFacts, ControlFacts, IsAim, IsMachine, words_promised}
+use Rattle.step_core.proofs.Machines.Owed.{IsSeen, IsShort, IsThread, IsHelper, IsResting, HelpFacts, ControlFacts, IsAim, IsMachine, words_promised}
 use Rattle.step_core.proofs.Helpers.Stable.{help_stays, control_stays, rests_outside, help_outside, help_word, help_leaves_image, is_off}
 use Rattle.step_core.proofs.Mutators.Ordered.{order_word}
 use Rattle.step_core.proofs.Mutators.Outside.{outside_touch}
@@ -153,17 +159,18 @@ role_of c number (mutating m) has = grind (arith, nat_tests, has.1)
 role_of c number (helping h) has = grind (arith, nat_tests, has.0)
 role_of c number (controlling k) has = grind (arith, nat_tests, has)
 
--- an order that is taken only where it is none
-no_order : (order : Order) (b : Bool) → (is_nothing order && b) ≡ true → order ≡ Nothing
-no_order Nothing b takes = refl
-no_order (Begin command) b takes = absurd (cc (takes))
-no_order End b takes = absurd (cc (takes))
+-- an order for who works begins no command
+no_command : (hints : Bool) (order : Order) (b : Bool) (command : Command) → (is_for_working hints order && b) ≡ true → command_by order command ≡ command
+no_command hints Nothing b command takes = refl
+no_command hints (Begin begun) b command takes = absurd (cc (takes))
+no_command hints End b command takes = refl
+no_command hints (Hint address) b command takes = refl
 
--- only a mutator takes an order that is not none
-pub takes_nothing : (machine : Machine) (order : Order) → is_mutating machine ≡ false → takes_of machine order ≡ true → order ≡ Nothing
-takes_nothing (mutating m) order other takes = absurd (cc (other))
-takes_nothing (helping h) order other takes = no_order order _ takes
-takes_nothing (controlling k) order other takes = no_order order _ takes
+-- only a mutator takes a command
+pub takes_no_command : (machine : Machine) (order : Order) (command : Command) → is_mutating machine ≡ false → takes_of machine order ≡ true → command_by order command ≡ command
+takes_no_command (mutating m) order command other takes = absurd (cc (other))
+takes_no_command (helping h) order command other takes = no_command (help.takes_hint h.spot) order _ command takes
+takes_no_command (controlling k) order command other takes = no_command (controls.takes_hint k.spot) order _ command takes
 
 -- a mutator that takes commands is outside
 takes_outside : (spot : Spot) → takes_commands spot ≡ true → standing_at spot ≡ outside
@@ -336,22 +343,43 @@ module _ (change : Change) (c : Config) (number : ℕ) (order : Order) where
       subst (λ seat. Obeys c seat (standing_of (mutating m)) (plan_of c order (mutating m)) (λ got. standing_of (machine_after change c order got (mutating m)))) has.0
       (mutator_obeys c m order takes can)
   machine_obeys (helping h) has takes can =
-      subst (λ seat. Obeys c seat (standing_of (helping h)) (plan_of c order (helping h)) (λ got. standing_of (machine_after change c order got (helping h)))) has.0
-      (help_obeys c h.seat (ltb-true _ _ (and_parts _ _ can).0) h.spot (and_parts _ _ can).1 (is_off (help.is_gone h.spot) (and_parts _ _ takes).1))
-  machine_obeys (controlling k) has takes can = control_obeys c number k.phase k.cset k.seen (word_stored k.spot k.image) k.spot can
+      subst (λ stands. Obeys c number stands (plan_of c order (helping h)) (λ got. standing_of (machine_after change c order got (helping h)))) (help_hinted_stands c (hint_in order) h)
+      (helper_obeys (helping_by c order h) (help_hinted_seat c (hint_in order) h ∙ has.0) (help_hinted_ready c (hint_in order) h can)
+      (help_hinted_gone c (hint_in order) h ∙ is_off (help.is_gone h.spot) (and_parts _ _ takes).1))
+    where
+      helper_obeys : (x : Helping) → x.seat ≡ number → help_ready c x ≡ true → help.is_gone x.spot ≡ false
+          → Obeys c number (help_standing x.spot) (placed c (help.help_touch c x)) (λ got. help_standing (help.next_spot c x.spot got))
+      helper_obeys x seat ready going =
+          subst (λ j. Obeys c j (help_standing x.spot) (placed c (help.help_touch c x)) (λ got. help_standing (help.next_spot c x.spot got))) seat
+          (let fits = and_parts (nat_lt x.seat (c.mutators + c.helpers)) (spot_fits c x.seat x.spot) ready in help_obeys c x.seat (ltb-true x.seat (c.mutators + c.helpers) fits.0) x.spot fits.1 going)
+  machine_obeys (controlling k) has takes can =
+      let x : Controlling = controlling_by c order k in
+      subst (λ stands. Obeys c number stands (plan_of c order (controlling k)) (λ got. standing_of (machine_after change c order got (controlling k)))) (control_hinted_stands c (hint_in order) k)
+      (control_obeys c number x.phase x.cset x.seen (word_stored x.spot x.image) x.spot (control_hinted_ready c (hint_in order) k can))
 
   pub machine_counts : (machine : Machine) → takes_of machine order ≡ true → CanGo c machine
       → Counts c (is_left_of machine) (plan_of c order machine) (λ got. is_left_of (machine_after change c order got machine))
   machine_counts (mutating m) takes can = mutator_counts c m order takes can
-  machine_counts (helping h) takes can = help_counts c h.seat (ltb-true _ _ (and_parts _ _ can).0) h.spot (and_parts _ _ can).1
-  machine_counts (controlling k) takes can = control_counts c (word_stored k.spot k.image) k.spot can
+  machine_counts (helping h) takes can =
+      let x : Helping = helping_by c order h in
+      let ready = and_parts _ _ (help_hinted_ready c (hint_in order) h can) in
+      help_counts c x.seat (ltb-true _ _ ready.0) x.spot ready.1
+  machine_counts (controlling k) takes can =
+      let x : Controlling = controlling_by c order k in
+      control_counts c (word_stored x.spot x.image) x.spot (control_hinted_ready c (hint_in order) k can)
 
 -- a step of the control writes the word of the end where it ends, and no other does
 pub machine_keeps_end : (change : Change) (c : Config) (given : Order) (machine : Machine) → takes_of machine given ≡ true → CanGo c machine
     → KeepsEnd c (has_ended_of machine) (plan_of c given machine) (λ got. has_ended_of (machine_after change c given got machine))
 machine_keeps_end change c given (mutating m) takes can = inr (record { not_written = not_end c m given m.spot takes (ready_fits c m can) (ready_word c m can); same = λ got. refl })
-machine_keeps_end change c given (helping h) takes can = inr (record { not_written = help_not_end c h.seat (ltb-true _ _ (and_parts _ _ can).0) h.spot (and_parts _ _ can).1; same = λ got. refl })
-machine_keeps_end change c given (controlling k) takes can = control_keeps_end c k.phase k.cset k.seen (word_stored k.spot k.image) k.spot can
+machine_keeps_end change c given (helping h) takes can =
+    let x : Helping = helping_by c given h in
+    let ready = and_parts _ _ (help_hinted_ready c (hint_in given) h can) in
+    inr (record { not_written = help_not_end c x.seat (ltb-true _ _ ready.0) x.spot ready.1; same = λ got. refl })
+machine_keeps_end change c given (controlling k) takes can =
+    let x : Controlling = controlling_by c given k in
+    subst (λ gone. KeepsEnd c gone (plan_of c given (controlling k)) (λ got. has_ended_of (machine_after change c given got (controlling k)))) (control_hinted_gone c (hint_in given) k)
+    (control_keeps_end c x.phase x.cset x.seen (word_stored x.spot x.image) x.spot (control_hinted_ready c (hint_in given) k can))
 
 -- who is told nothing goes on, unless it has ended
 turn_by_gone : (b : Bool) → ◌≡◌ {A = Option Order} (if b then None else Some Nothing) (if (if b then false else true) then Some Nothing else None)
@@ -372,10 +400,10 @@ turn_in_call (helping h) next busy = turn_by_gone (help.is_gone h.spot)
 turn_in_call (controlling k) next busy = turn_by_gone (is_gone k.spot)
 
 -- a machine that makes a step says something
-pub says_some : (c : Config) (machine : Machine) (order : Order) (got : ℕ) → takes_of machine order ≡ true → (said : Took) × (answer_of c machine got ≡ Some said)
+pub says_some : (c : Config) (machine : Machine) (order : Order) (got : ℕ) → takes_of machine order ≡ true → (said : Took) × (answer_of c order machine got ≡ Some said)
 says_some c (mutating m) order got takes = (answer_at c m.kept m.spot got, refl)
-says_some c (helping h) order got takes = (help.help_says c h got, refl)
-says_some c (controlling k) order got takes = (control_says c k got, refl)
+says_some c (helping h) order got takes = (help.help_says c (helping_by c order h) got, refl)
+says_some c (controlling k) order got takes = (control_says c (controlling_by c order k) got, refl)
 
 -- a number but the control's is below it
 pub below_control : (c : Config) (k : ℕ) (machine : Machine) → HasNumber c k machine → (k ≡ control_number c → ⊥) → k < control_number c
@@ -389,11 +417,14 @@ free_stays memory Free form out = absurd (cc (out))
 free_stays memory _ form out = refl
 
 -- The access of a machine to a word of the table leaves the free word as it is.
-pub record LeavesFree (c : Config) (order : Order) (machine : Machine) : Type 0 where
+pub record LeavesFreeBy (c : Config) (access : Access) : Type 0 where
   pub touch : Touch
   pub inside : is_word c touch.word ≡ true
-  pub plan : plan_of c order machine ≡ placed c touch
+  pub plan : access ≡ placed c touch
   pub free : (memory : Word → ℕ) → touched memory touch Free ≡ memory Free
+
+abbrev pub LeavesFree : Config → Order → Machine → Type 0
+LeavesFree c order machine = LeavesFreeBy c (plan_of c order machine)
 
 -- So it is with a machine but the control that is not in the heap.
 pub outside_access : (c : Config) (words : List ℕ) (w : World) (entries : List Entry) (k : ℕ) (b : Actor) (order : Order) (machine : Machine) → Shared c w → k ≢ control_number c → is_within (standing_of machine) ≡ false
@@ -407,22 +438,25 @@ outside_access c words w entries k b order (mutating m) shared other out takes i
       (λ (polls : m.spot ≡ Waiting wait.Poll). subst (λ spot. touched memory (touch_at c m.seat m.made m.kept order spot) Free ≡ memory Free) (sym polls) refl)
       (outside_touch c m.seat m.made m.kept order m.spot out takes);
 }
-outside_access c words w entries k b order (helping h) shared other out takes is = record {
-  touch = help.help_touch c h;
-  inside = is_word_from c (help.help_touch c h).word (help_word c w k h shared is);
-  plan = refl;
-  free = λ memory. free_stays memory (help.help_touch c h).word (help.help_touch c h).form (help_leaves_image c h.seat h.spot out);
-}
+outside_access c words w entries k b order (helping h) shared other out takes is = helper_access (helping_by c order h) (help_hinted_is c w k (hint_in order) h is) (ap is_within (help_hinted_stands c (hint_in order) h) ∙ out)
+  where
+    helper_access : (x : Helping) → IsHelper c w k x → is_within (help_standing x.spot) ≡ false → LeavesFreeBy c (placed c (help.help_touch c x))
+    helper_access x known apart = record {
+      touch = help.help_touch c x;
+      inside = is_word_from c (help.help_touch c x).word (help_word c w k x shared known);
+      plan = refl;
+      free = λ memory. free_stays memory (help.help_touch c x).word (help.help_touch c x).form (help_leaves_image c x.seat x.spot apart);
+    }
 outside_access c words w entries k b order (controlling h) shared other out takes is = absurd (other is.number_is)
 
 -- no step but a mutator's ends a call
-pub others_go_on : (c : Config) (machine : Machine) (got : ℕ) → is_mutating machine ≡ false → answer_of c machine got ≡ Some Done → ⊥
-others_go_on c (mutating m) got other done = absurd (cc (other))
-others_go_on c (helping h) got other done = helps_on c h.spot got (let said = done in cc)
-others_go_on c (controlling k) got other done = goes_on c k.seen k.spot got (let said = done in cc)
+pub others_go_on : (c : Config) (order : Order) (machine : Machine) (got : ℕ) → is_mutating machine ≡ false → answer_of c order machine got ≡ Some Done → ⊥
+others_go_on c order (mutating m) got other done = absurd (cc (other))
+others_go_on c order (helping h) got other done = helps_on c (helping_by c order h).spot got (let said = done in cc)
+others_go_on c order (controlling k) got other done = goes_on c (controlling_by c order k).seen (controlling_by c order k).spot got (let said = done in cc)
 
 -- that a word is fit is one fact
 pub fit_is_prop : (c : Config) (order : Order) (got : ℕ) (machine : Machine) → IsProp (IsFitFor c order got machine)
 fit_is_prop c order got (mutating m) = hlevel (Bool-set, part_is_prop c m.seat m.kept m.spot got, ends_is_prop order got)
-fit_is_prop c order got (helping h) = helpers_is_prop c h.seat h.spot got
-fit_is_prop c order got (controlling k) = hlevel (whole_is_prop c k.spot k.image got, unit_is_prop c k.spot got)
+fit_is_prop c order got (helping h) = helpers_is_prop c (helping_by c order h).seat (helping_by c order h).spot got
+fit_is_prop c order got (controlling k) = hlevel (whole_is_prop c k.spot k.image got, unit_is_prop c (controlling_by c order k).spot got)

@@ -11,7 +11,7 @@ use Rattle.shen_graph.specs.declared.command.Command.{Command}
 use Rattle.shen_graph.specs.declared.command.Reply.{Reply}
 use Rattle.shen_graph.specs.declared.command.Reply.TheVariants.{Full}
 use Rattle.shen_graph.specs.declared.order.Order.{Order}
-use Rattle.shen_graph.specs.declared.order.Order.TheVariants.{Nothing, Begin, End}
+use Rattle.shen_graph.specs.declared.order.Order.TheVariants.{Nothing, Begin, End, Hint}
 use Rattle.shen_graph.specs.Crowd.{words_asked}
 use Rattle.shen_graph.specs.Graph.{Graph}
 use Rattle.shen_graph.specs.History.{Entry, after, of_thread}
@@ -57,6 +57,7 @@ command_stays : (c : Config) (w : World) (seat : ℕ) (kept : Kept) (command : C
 command_stays c w seat kept command fixed spot made Nothing takes facts = inr refl
 command_stays c w seat kept command fixed spot made (Begin k) takes facts = inl (orders_unsettled c w seat kept command fixed spot made (Begin k) (λ e. cc) takes facts)
 command_stays c w seat kept command fixed spot made End takes facts = inr refl
+command_stays c w seat kept command fixed spot made (Hint address) takes facts = inr refl
 
 -- the entries of a mutator after a step that settles a reply, gives one, or does neither
 entries_step : (calls : List Entry) (seat : ℕ) (command after : Command) (fixed told given : Option Reply)
@@ -78,9 +79,11 @@ next_seat : (c : Config) (m : Mutating) (order : Order) (got : ℕ) (spot : Spot
 next_seat c m Nothing got Rest = refl
 next_seat c m (Begin k) got Rest = refl
 next_seat c m End got Rest = refl
+next_seat c m (Hint address) got Rest = refl
 next_seat c m Nothing got (Ended r) = refl
 next_seat c m (Begin k) got (Ended r) = refl
 next_seat c m End got (Ended r) = refl
+next_seat c m (Hint address) got (Ended r) = refl
 next_seat c m order got _ = refl
 
 -- The adapter. While an image counts, the mutator is outside, and its access is of no word of the image.

@@ -11,7 +11,7 @@ use Rattle.mutator.specs.declared.spot.Spot.{Spot}
 use Rattle.mutator.specs.declared.spot.Spot.TheVariants.{Rest, Ended, AskCycle, Leave}
 use Rattle.mutator.specs.declared.spot.Kept.{Kept}
 use Rattle.shen_graph.specs.declared.order.Order.{Order}
-use Rattle.shen_graph.specs.declared.order.Order.TheVariants.{Nothing, Begin, End}
+use Rattle.shen_graph.specs.declared.order.Order.TheVariants.{Nothing, Begin, End, Hint}
 use Rattle.mutator.specs.Rows.{Mutating, call_begun}
 use Rattle.mutator.specs.Orders.{is_next}
 use Rattle.heap_world.specs.World.{World, Points}
@@ -43,6 +43,7 @@ module _ (c : Config) (u : World) (seat made : ℕ) (kept : Kept) (command : Com
   -- a mutator that has not begun a call begins one, or ends
   pub at_rest : (order : Order) → OrderedRow c u (at_spot Rest) command order fixed
   at_rest Nothing shared mine takes = cc
+  at_rest (Hint address) shared mine takes = cc
   at_rest (Begin k) shared mine takes = record {
     world = accessed_by c u (at_spot Rest) (Begin k);
     memory = refl;
@@ -67,6 +68,7 @@ module _ (c : Config) (u : World) (seat made : ℕ) (kept : Kept) (command : Com
   -- so does one that has ended a call
   pub at_ended : (r : Reply) (order : Order) → OrderedRow c u (at_spot (Ended r)) command order fixed
   at_ended r Nothing shared mine takes = cc
+  at_ended r (Hint address) shared mine takes = cc
   at_ended r (Begin k) shared mine takes = record {
     world = accessed_by c u (at_spot (Ended r)) (Begin k);
     memory = refl;

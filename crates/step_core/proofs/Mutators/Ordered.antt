@@ -5,7 +5,7 @@ use Rattle.std.proofs.lemmas.Bool.Decides.{nat_tests}
 use Rattle.heap_words.specs.declared.config.Config.{Config}
 use Rattle.heap_words.specs.Words.{is_word}
 use Rattle.shen_graph.specs.declared.order.Order.{Order}
-use Rattle.shen_graph.specs.declared.order.Order.TheVariants.{Nothing, Begin, End}
+use Rattle.shen_graph.specs.declared.order.Order.TheVariants.{Nothing, Begin, End, Hint}
 use Rattle.mutator.specs.declared.spot.Kept.{Kept}
 use Rattle.mutator.specs.declared.spot.Spot.{Spot}
 use Rattle.mutator.specs.declared.spot.Spot.TheVariants.{Rest, Ended, Gone}
@@ -24,3 +24,7 @@ order_word c seat made kept End Rest below ready takes = refl
 order_word c seat made kept End (Ended r) below ready takes = refl
 order_word c seat made kept End Gone below ready takes = absurd (cc (takes))
 order_word c seat made kept End _ below ready takes = absurd (cc (takes))
+order_word c seat made kept (Hint address) Rest below ready takes = absurd (cc (takes))
+order_word c seat made kept (Hint address) (Ended r) below ready takes = absurd (cc (takes))
+order_word c seat made kept (Hint address) Gone below ready takes = absurd (cc (takes))
+order_word c seat made kept (Hint address) _ below ready takes = absurd (cc (takes))

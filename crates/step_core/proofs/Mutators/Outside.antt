@@ -5,7 +5,7 @@ use Rattle.std.proofs.lemmas.Bool.{eq-eqb, cond-true}
 use Rattle.heap_words.specs.declared.config.Config.{Config}
 use Rattle.heap_words.specs.Words.{Word, Answer, is_image}
 use Rattle.shen_graph.specs.declared.order.Order.{Order}
-use Rattle.shen_graph.specs.declared.order.Order.TheVariants.{Nothing, Begin, End}
+use Rattle.shen_graph.specs.declared.order.Order.TheVariants.{Nothing, Begin, End, Hint}
 use Rattle.handshake.specs.declared.enter_spot.EnterSpot.TheVariants as enter
 use Rattle.handshake.specs.Standing.{is_within}
 use Rattle.mutator.specs.declared.spot.Kept.{Kept}
@@ -46,9 +46,11 @@ pub outside_touch : (c : Config) (seat made : ℕ) (kept : Kept) (order : Order)
 outside_touch c seat made kept Nothing Rest out takes = cc
 outside_touch c seat made kept (Begin k) Rest out takes = inl refl
 outside_touch c seat made kept End Rest out takes = inl refl
+outside_touch c seat made kept (Hint address) Rest out takes = cc
 outside_touch c seat made kept Nothing (Ended reply) out takes = cc
 outside_touch c seat made kept (Begin k) (Ended reply) out takes = inl refl
 outside_touch c seat made kept End (Ended reply) out takes = inl refl
+outside_touch c seat made kept (Hint address) (Ended reply) out takes = cc
 outside_touch c seat made kept order (Entering enter.Raise then_on) out takes = inl refl
 outside_touch c seat made kept order (Entering enter.Look then_on) out takes = inl refl
 outside_touch c seat made kept order (Entering enter.Lower then_on) out takes = inl refl
@@ -112,9 +114,11 @@ pub answer_before : (c : Config) (memory : Word → ℕ) (seat made : ℕ) (kept
 answer_before c memory seat made kept Nothing Rest now = now
 answer_before c memory seat made kept (Begin k) Rest now = now
 answer_before c memory seat made kept End Rest now = now
+answer_before c memory seat made kept (Hint address) Rest now = now
 answer_before c memory seat made kept Nothing (Ended reply) now = now
 answer_before c memory seat made kept (Begin k) (Ended reply) now = now
 answer_before c memory seat made kept End (Ended reply) now = now
+answer_before c memory seat made kept (Hint address) (Ended reply) now = now
 answer_before c memory seat made kept order (Entering enter.Raise then_on) now = now
 answer_before c memory seat made kept order (Entering enter.Look then_on) now = now
 answer_before c memory seat made kept order (Entering enter.Lower then_on) now = now

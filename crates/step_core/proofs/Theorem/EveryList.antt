@@ -1,12 +1,12 @@
 -- The theorem over every list of events.
-use Rattle.std.proofs.Common.{◌≡◌, ◌≢◌, ℕ, ◌+◌, ◌<◌, Bool, true, false, List, [], ◌++◌, ⊎_elim, Some, refl, sym, ap, ◌∙◌, subst, arith}
+use Rattle.std.proofs.Common.{◌≡◌, ◌≢◌, ℕ, ◌+◌, ◌<◌, true, false, List, [], ◌++◌, ⊎_elim, Some, refl, sym, ap, ◌∙◌, subst, arith}
 use Rattle.std.specs.Prelude.{slice_get, slice_index}
 use Rattle.std.proofs.lemmas.Option.{same_Some}
 use Rattle.std.proofs.lemmas.Bool.{cases_Bool, false≢true}
 use Rattle.heap_words.specs.declared.config.Config.{Config}
 use Rattle.heap_words.specs.Access.{table_index}
 use Rattle.heap_words.specs.Words.{Left, Answer, word_at, view, table_words}
-use Rattle.heap_words.proofs.Stores.{is_word_true, is_word_from}
+use Rattle.heap_words.proofs.Stores.{is_word_true}
 use Rattle.heap_words.proofs.Rows.{word_inside}
 use Rattle.steps_base.specs.Touch.{touch, subtracts, placed}
 use Rattle.steps_base.specs.Steps.{Stage, Event, act, go, HasReached, Finds}
@@ -15,7 +15,8 @@ use Rattle.steps_base.proofs.Places.{slice_get-set_same}
 use Rattle.steps_base.proofs.Runs.{reached_has}
 use Rattle.steps_base.proofs.Touches.{table_index-access_at}
 use Rattle.shen_graph.specs.declared.order.Order.{Order}
-use Rattle.shen_graph.specs.declared.order.Order.TheVariants.{Nothing, Begin, End}
+use Rattle.shen_graph.specs.declared.order.Order.TheVariants.{Nothing, Begin, End, Hint}
+use Rattle.shen_graph.specs.Order.{hint_in}
 use Rattle.shen_graph.specs.Graph.{Graph}
 use Rattle.shen_graph.specs.Crowd.{AreCrowded}
 use Rattle.shen_graph.specs.History.{Entry, after, of_thread}
@@ -31,19 +32,14 @@ use Rattle.mutator.specs.Fit.{IsReady, PartFit, EndsFit, IsFit}
 use Rattle.alloc_buffers.specs.Facts.{HasLess}
 use Rattle.heap_world.specs.World.{World}
 use Rattle.heap_world.specs.Change.{Change, IsPause}
-use Rattle.control_rows.specs.declared.spot.ControlSpot.{ControlSpot}
-use Rattle.control_rows.specs.declared.spot.ControlSpot.TheVariants.{Working, LoadWord}
-use Rattle.control_rows.specs.Ready.{is_ready, UnitGoesOn}
-use Rattle.helper.specs.Rows.{Helping, help_touch}
-use Rattle.helper.specs.Ready as help
-use Rattle.control_rows.specs.Rows.{Controlling, control_access, word_stored}
-use Rattle.control_rows.proofs.Ready.{accesses_inside}
+use Rattle.control_rows.specs.Ready.{is_ready}
+use Rattle.helper.specs.Rows.{Helping}
+use Rattle.control_rows.specs.Rows.{Controlling}
 use Rattle.step_core.specs.Actor.{Machine, mutating, helping, controlling, Actor}
 use Rattle.step_core.specs.Begins.{Begins, Run, ending, history_in, first_graph, reached, past}
 use Rattle.step_core.specs.Begun.{scripts_begun}
-use Rattle.step_core.specs.Fit.{IsWholeImage}
 use Rattle.step_core.specs.History.{told, history}
-use Rattle.step_core.specs.Machines.{takes_of, plan_of, took_of, machine_after, kind, IsFitFor, standing_of}
+use Rattle.step_core.specs.Machines.{takes_of, plan_of, took_of, machine_after, kind, IsFitFor, standing_of, helping_by}
 use Rattle.step_core.specs.Pausing.{IsInPause, IsHelper, IsEmpty}
 use Rattle.step_core.specs.Seats.{taking_of, looks_for}
 use Rattle.step_core.specs.Settled.{settled, control_number}
@@ -54,14 +50,15 @@ use Rattle.step_core.proofs.History.Crowding.{run_crowded}
 use Rattle.step_core.proofs.Machines.Owed.{IsSeen, IsThread, IsAim, IsMachine}
 use Rattle.step_core.proofs.Theorem.FirstFacts.{opening_run}
 use Rattle.step_core.proofs.Control.Images.{found-placed}
-use Rattle.step_core.proofs.Control.Events.{whole_stands, work_fit}
-use Rattle.step_core.proofs.Helpers.Stable.{help_leaves_image, help_word, help_fits, help_fits_outside}
+use Rattle.step_core.proofs.Helpers.Stable.{help_leaves_image}
 use Rattle.step_core.proofs.Mutators.PartFits.{part_fits, part_outside, within_call}
 use Rattle.step_core.proofs.Control.Held.{IsKept, held_image, outside_held}
 use Rattle.step_core.proofs.Control.Images.{settled_found}
 use Rattle.mutator.proofs.Orders.{in_call}
 use Rattle.step_core.proofs.Theorem.Induction.{Goes, goes_event, goes_run}
+use Rattle.step_core.proofs.Theorem.Fits.{helper_inside, helper_fit, control_inside, control_fit}
 use Rattle.step_core.proofs.Handshake.Machines.{standing, is_left}
+use Rattle.step_core.proofs.Machines.Hinting.{help_hinted_stands}
 use Rattle.step_core.proofs.Handshake.Mutator.{has_not_ended}
 use Rattle.step_core.proofs.Mutators.Ordered.{order_word}
 use Rattle.step_core.proofs.Mutators.Outside.{outside_touch}
@@ -151,45 +148,18 @@ module _ (change : Change) (law : IsPause change) (c : Config) (g : Graph) (s : 
       ends : (o : Order) → takes_at m.spot m.made o ≡ true → EndsFit o (slice_index s.words (table_index (placed c (touch_of c m o))))
       ends Nothing takes_it = tt
       ends (Begin command) takes_it = tt
+      ends (Hint address) takes_it = tt
       ends End takes_it = subst (λ t. slice_index s.words (table_index (placed c t)) ≢ 0) (sym (ends_at c m.seat m.made m.kept m.spot takes_it))
           (subst (λ got. got ≢ 0) (sym (found-placed c s.words (touch Left (subtracts 1)) refl))
           (left_some c is_left s number a goes.counted here (ap (λ machine. is_left (record { machine = machine; command = a.command; calls = a.calls })) is ∙ ends_left m.spot m.made takes_it)))
-
-  -- so is one that a helper finds
-  fit_helper : (number : ℕ) (a : Actor) (m : Helping) → slice_get s.machines number ≡ Some a → a.machine ≡ helping m → help.IsFit c m (slice_index s.words (table_index (placed c (help_touch c m))))
-  fit_helper number a m here is =
-      let facts = subst (λ machine. IsMachine c s.words the_world (of_thread h (number + 1)) number a machine) is (known number a here) in
-      ⊎_elim
-      (λ (within : is_within (help_standing m.spot) ≡ true).
-      subst (λ got. help.IsFit c m got) (sym (settled_found c s.words (help_touch c m) (held_image c s) (is_word_from c (help_touch c m).word (help_word c the_world number m goes.follows.shared facts))
-      (λ image held. absurd (false≢true (sym (sym (ap standing_within is) ∙ outside_held c s goes.shaken image held number a facts.below here) ∙ within)))))
-      (help_fits c the_world number m goes.follows.shared facts))
-      (λ (out : is_within (help_standing m.spot) ≡ false). help_fits_outside c m.seat m.spot _ out)
-      (cases_Bool (is_within (help_standing m.spot)))
-    where
-      standing_within : Machine → Bool
-      standing_within machine = is_within (standing_of machine)
-
-  -- and one that the control finds
-  fit_control : (number seen phase cset : ℕ) (image : List ℕ) (a : Actor) (spot : ControlSpot) → slice_get s.machines number ≡ Some a → a.machine ≡ controlling (record { spot = spot; seen = seen; phase = phase; cset = cset; image = image })
-      → IsWholeImage c spot image (slice_index s.words (table_index (control_access c (record { spot = spot; seen = seen; phase = phase; cset = cset; image = image }))))
-  fit_control number seen phase cset image a (LoadWord index) here is =
-      λ last. whole_stands change law c g s h number seen phase cset image a.command a.calls goes.follows goes.shaken index
-      (here ∙ ap (λ machine. Some (record { machine = machine; command = a.command; calls = a.calls })) is) last
-  fit_control number seen phase cset image a _ here is = tt
-
-  -- also while it works on a unit
-  fit_unit : (number seen phase cset : ℕ) (image : List ℕ) (a : Actor) (spot : ControlSpot) → slice_get s.machines number ≡ Some a → a.machine ≡ controlling (record { spot = spot; seen = seen; phase = phase; cset = cset; image = image })
-      → UnitGoesOn c spot (slice_index s.words (table_index (control_access c (record { spot = spot; seen = seen; phase = phase; cset = cset; image = image }))))
-  fit_unit number seen phase cset image a (Working at) here is =
-      work_fit change law c g s h number seen phase cset image a.command a.calls goes.follows goes.shaken at
-      (here ∙ ap (λ machine. Some (record { machine = machine; command = a.command; calls = a.calls })) is)
-  fit_unit number seen phase cset image a _ here is = tt
 
   -- a machine finds a fit word
   finds_fit : (number : ℕ) (a : Actor) → slice_get s.machines number ≡ Some a → FindsFit c s a
   finds_fit number a here = by_machine a.machine refl
     where
+      named : {machine : Machine} → a.machine ≡ machine → Some a ≡ Some (record { machine = machine; command = a.command; calls = a.calls })
+      named is = ap (λ machine. Some (record { machine = machine; command = a.command; calls = a.calls })) is
+
       by_machine : (machine : Machine) → a.machine ≡ machine → FindsFit c s a
       by_machine (mutating m) is =
           let thread = thread_of number a m (record { here = here; is = is }) in
@@ -203,25 +173,18 @@ module _ (change : Change) (law : IsPause change) (c : Config) (g : Graph) (s : 
                 subst (λ machine. IsFitFor c order (slice_index s.words (table_index (plan_of c order machine))) machine) (sym is)
                 (fit_mutator number a m order here is (ap (λ machine. takes_of machine order) (sym is) ∙ takes));
           }
-      by_machine (helping m) is =
-          let facts = subst (λ machine. IsMachine c s.words the_world (of_thread h (number + 1)) number a machine) is (known number a here) in
-          record {
-            inside = λ order takes.
-                subst (λ machine. table_index (plan_of c order machine) < table_words c) (sym is)
-                (subst (λ k. k < table_words c) (sym (table_index-access_at (word_at c (help_touch c m).word) (help_touch c m).form)) (word_inside c (help_touch c m).word (help_word c the_world number m goes.follows.shared facts)));
-            fit = λ order takes.
-                subst (λ machine. IsFitFor c order (slice_index s.words (table_index (plan_of c order machine))) machine) (sym is)
-                (fit_helper number a m here is);
-          }
-      by_machine (controlling k) is =
-          let facts = subst (λ machine. IsMachine c s.words the_world (of_thread h (number + 1)) number a machine) is (known number a here) in
-          record {
-            inside = λ order takes.
-                subst (λ machine. table_index (plan_of c order machine) < table_words c) (sym is) (accesses_inside c k.spot (word_stored k.spot k.image) facts.ready);
-            fit = λ order takes.
-                subst (λ machine. IsFitFor c order (slice_index s.words (table_index (plan_of c order machine))) machine) (sym is)
-                (fit_control number k.seen k.phase k.cset k.image a k.spot here is, fit_unit number k.seen k.phase k.cset k.image a k.spot here is);
-          }
+      by_machine (helping m) is = record {
+        inside = λ order takes. subst (λ machine. table_index (plan_of c order machine) < table_words c) (sym is)
+            (helper_inside change law c g s h goes.follows goes.shaken number order m a.command a.calls (here ∙ named is) (ap (λ machine. takes_of machine order) (sym is) ∙ takes));
+        fit = λ order takes. subst (λ machine. IsFitFor c order (slice_index s.words (table_index (plan_of c order machine))) machine) (sym is)
+            (helper_fit change law c g s h goes.follows goes.shaken number order m a.command a.calls (here ∙ named is) (ap (λ machine. takes_of machine order) (sym is) ∙ takes));
+      }
+      by_machine (controlling k) is = record {
+        inside = λ order takes. subst (λ machine. table_index (plan_of c order machine) < table_words c) (sym is)
+            (control_inside change law c g s h goes.follows goes.shaken number order k a.command a.calls (here ∙ named is) (ap (λ machine. takes_of machine order) (sym is) ∙ takes));
+        fit = λ order takes. subst (λ machine. IsFitFor c order (slice_index s.words (table_index (plan_of c order machine))) machine) (sym is)
+            (control_fit change law c g s h goes.follows goes.shaken number order k a.command a.calls (here ∙ named is) (ap (λ machine. takes_of machine order) (sym is) ∙ takes));
+      }
 
   -- of its machines
   of_heap : IsOfHeap c s
@@ -281,7 +244,9 @@ pause_is_empty : (change : Change) → IsPause change → (c : Config) (g : Grap
 pause_is_empty change law c g s h goes pause = record {
   nobody = out;
   no_helper = help_out;
-  no_access = λ number a m here. help_leaves_image c m.seat m.spot (help_out number a m here);
+  no_access = λ number a m order here.
+      let x : Helping = helping_by c order m in
+      help_leaves_image c x.seat x.spot (ap is_within (help_hinted_stands c (hint_in order) m) ∙ help_out number a m here);
   only_polls = λ number a m order here takes. outside_touch c m.seat m.made m.kept order m.spot (out number a m here) takes;
 }
   where

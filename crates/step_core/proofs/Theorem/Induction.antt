@@ -1,13 +1,14 @@
 -- The induction over events: each event leads from a stage that follows its history, and in which the handshake is kept, to one
 -- of which both hold.
-use Rattle.std.proofs.Common.{◌≡◌, ℕ, ◌+◌, Bool, true, false, List, [], ◌∷◌, ◌++◌, Option, Some, None, refl, sym, subst, append_assoc}
+use Rattle.std.proofs.Common.{◌≡◌, ℕ, ◌+◌, Bool, true, false, List, [], ◌∷◌, ◌++◌, Option, Some, None, refl, sym, ◌∙◌, subst, append_assoc}
 use Rattle.std.specs.Prelude.{slice_get, if◌then◌else◌}
+use Rattle.std.proofs.lemmas.Bool.{and_parts}
 use Rattle.std.proofs.lemmas.List.{append-nil}
 use Rattle.heap_words.specs.declared.config.Config.{Config}
 use Rattle.steps_base.specs.Steps.{Stage, Event, moved, act_of, act, go}
 use Rattle.shen_graph.specs.declared.command.Command.{Command}
 use Rattle.shen_graph.specs.declared.order.Order.{Order}
-use Rattle.shen_graph.specs.declared.order.Order.TheVariants.{Nothing, Begin, End}
+use Rattle.shen_graph.specs.declared.order.Order.TheVariants.{Nothing, Begin, End, Hint}
 use Rattle.shen_graph.specs.Graph.{Graph}
 use Rattle.shen_graph.specs.History.{Entry, after, of_thread}
 use Rattle.handshake.proofs.Shaking.{shaken_step}
@@ -15,9 +16,13 @@ use Rattle.handshake.proofs.Counting.{counted_step}
 use Rattle.handshake.specs.Left.{AreLeftCounted}
 use Rattle.heap_world.specs.Change.{Change, IsPause}
 use Rattle.helper.specs.Rows as help
-use Rattle.control_rows.specs.Rows.{is_gone}
+use Rattle.helper.specs.Rows.{Helping}
+use Rattle.control_rows.specs.declared.spot.ControlSpot.{ControlSpot}
+use Rattle.control_rows.specs.declared.spot.ControlSpot.TheVariants.{Working}
+use Rattle.control_rows.specs.Rows as controls
+use Rattle.control_rows.specs.Rows.{Controlling, is_gone}
 use Rattle.step_core.specs.Actor.{Machine, mutating, helping, controlling, Actor}
-use Rattle.step_core.specs.Machines.{takes_of, kind}
+use Rattle.step_core.specs.Machines.{takes_of, helping_by, controlling_by, told_storing, kind}
 use Rattle.step_core.specs.History.{told_of_machine, told, history, told_by}
 use Rattle.step_core.specs.Sound.{world_of}
 use Rattle.step_core.proofs.Machines.Owed.{IsMachine, Follows}
@@ -28,6 +33,8 @@ use Rattle.step_core.proofs.Machines.Roles.{number_of, can_go}
 use Rattle.step_core.proofs.Mutators.Events.{follows_mutator}
 use Rattle.step_core.proofs.Helpers.Events.{follows_helper}
 use Rattle.step_core.proofs.Control.Events.{by_spot}
+use Rattle.step_core.proofs.Machines.Hinting.{help_hinted_gone, control_hinted_gone}
+use Rattle.step_core.proofs.Theorem.Hinted.{TakesPlace, replaced, there, follows_replaced, kept_replaced, counted_replaced, moved_replaced, helper_takes_place, control_takes_place}
 
 -- an event of a machine, by its role
 follows_order : (change : Change) → IsPause change → (c : Config) (g : Graph) (s : Stage Actor) (past : List Entry) (number : ℕ) (order : Order) (command : Command) (calls : List Entry) (machine : Machine)
@@ -41,7 +48,37 @@ follows_order change law c g s past number Nothing command calls (helping h) her
 follows_order change law c g s past number (Begin begun) command calls (helping h) here takes follows shaken = absurd (cc (takes))
 follows_order change law c g s past number End command calls (helping h) here takes follows shaken = absurd (cc (takes))
 follows_order change law c g s past number Nothing command calls (controlling k) here takes follows shaken =
-    by_spot change law c g s past number k.seen k.phase k.cset k.image command calls follows shaken k.spot (is_off (is_gone k.spot) takes) here
+    by_spot change law c g s past number k.seen k.phase k.cset k.hints k.image command calls follows shaken k.spot (is_off (is_gone k.spot) takes) here
+follows_order change law c g s past number (Hint address) command calls (helping h) here takes follows shaken =
+    let next : Helping = helping_by c (Hint address) h in
+    let place = helper_takes_place c number (Hint address) h command calls in
+    let stage : Stage Actor = replaced c s number (actor_of (helping h)) (actor_of (helping next)) here place in
+    subst (λ t. Follows c g t (past ++ [])) (moved_replaced c s number (actor_of (helping h)) (actor_of (helping next)) here place change (Hint address) refl (λ got. refl))
+    (follows_helper change c g stage past number next command calls
+    (follows_replaced c s number (actor_of (helping h)) (actor_of (helping next)) here place g past follows) (kept_replaced c s number (actor_of (helping h)) (actor_of (helping next)) here place shaken)
+    (there c s number (actor_of (helping h)) (actor_of (helping next)) here place)
+    (help_hinted_gone c (Some address) h ∙ is_off (help.is_gone h.spot) (and_parts _ _ takes).1))
+  where
+    actor_of : Machine → Actor
+    actor_of machine = record { machine = machine; command = command; calls = calls }
+follows_order change law c g s past number (Hint address) command calls (controlling k) here takes follows shaken =
+    let next : Controlling = controlling_by c (Hint address) k in
+    let place = control_takes_place c number (Hint address) k command calls in
+    let stage : Stage Actor = replaced c s number (actor_of (controlling k)) (actor_of (controlling next)) here place in
+    subst (λ t. Follows c g t (past ++ told_storing c s k.spot k.image)) (moved_replaced c s number (actor_of (controlling k)) (actor_of (controlling next)) here place change (Hint address) refl (λ got. refl))
+    (subst (λ es. Follows c g (moved (kind change c) stage number (actor_of (controlling next)) Nothing) (past ++ es)) (told_hinted stage k.spot (and_parts _ _ takes).0)
+    (by_spot change law c g stage past number next.seen next.phase next.cset next.hints next.image command calls
+    (follows_replaced c s number (actor_of (controlling k)) (actor_of (controlling next)) here place g past follows) (kept_replaced c s number (actor_of (controlling k)) (actor_of (controlling next)) here place shaken)
+    next.spot (control_hinted_gone c (Some address) k ∙ is_off (is_gone k.spot) (and_parts _ _ takes).1)
+    (there c s number (actor_of (controlling k)) (actor_of (controlling next)) here place)))
+  where
+    actor_of : Machine → Actor
+    actor_of machine = record { machine = machine; command = command; calls = calls }
+
+    -- it stores no word of an image, with the hint and without
+    told_hinted : (t : Stage Actor) (spot : ControlSpot) → controls.takes_hint spot ≡ true → told_storing c t (controls.hinted_by c (Some address) spot) k.image ≡ told_storing c s spot k.image
+    told_hinted t (Working at) takes_it = refl
+    told_hinted t _ takes_it = absurd (cc (takes_it))
 follows_order change law c g s past number (Begin begun) command calls (controlling k) here takes follows shaken = absurd (cc (takes))
 follows_order change law c g s past number End command calls (controlling k) here takes follows shaken = absurd (cc (takes))
 
@@ -50,6 +87,15 @@ pub record Goes (c : Config) (g : Graph) (s : Stage Actor) (past : List Entry) :
   pub follows : Follows c g s past
   pub shaken : IsKept c s
   pub counted : AreLeftCounted c is_left s
+
+-- so it goes where a machine is replaced by one that takes its place
+pub goes_replaced : (c : Config) (g : Graph) (s : Stage Actor) (past : List Entry) (number : ℕ) (before next : Actor) (here : slice_get s.machines number ≡ Some before) (takes : TakesPlace c number before next)
+    → Goes c g s past → Goes c g (replaced c s number before next here takes) past
+goes_replaced c g s past number before next here takes goes = record {
+  follows = follows_replaced c s number before next here takes g past goes.follows;
+  shaken = kept_replaced c s number before next here takes goes.shaken;
+  counted = counted_replaced c s number before next here takes goes.counted;
+}
 
 -- an event, of a machine that is there or not
 pub goes_event : (change : Change) → IsPause change → (c : Config) (g : Graph) (s : Stage Actor) (past : List Entry) (e : Event Order) → Goes c g s past → Goes c g (act (kind change c) s e) (past ++ told c s e)

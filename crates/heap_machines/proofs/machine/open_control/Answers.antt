@@ -15,6 +15,6 @@ returns-clause-shown c =
     let phase : memory_of c.set_word.new.self Phase ≡ 0 = ap (λ (m : Word → ℕ). m Phase) named ∙ c.in_ok-image.ensures.words Phase in
     let cset : memory_of c.set_word.new.self Cset ≡ 0 = ap (λ (m : Word → ℕ). m Cset) named ∙ c.in_ok-image.ensures.words Cset in
     ap controlling c.new.ensures.seen
-    ∙ ap (λ (n : ℕ). controlling (record { spot = LookLeft; seen = n; phase = memory_of c.set_word.new.self Phase; cset = memory_of c.set_word.new.self Cset; image = [] })) free
-    ∙ ap (λ (n : ℕ). controlling (record { spot = LookLeft; seen = first_free c.args.config.regions; phase = n; cset = memory_of c.set_word.new.self Cset; image = [] })) phase
-    ∙ ap (λ (n : ℕ). controlling (record { spot = LookLeft; seen = first_free c.args.config.regions; phase = 0; cset = n; image = [] })) cset
+    ∙ ap (λ (n : ℕ). controlling (record { spot = LookLeft; seen = n; phase = memory_of c.set_word.new.self Phase; cset = memory_of c.set_word.new.self Cset; image = []; hints = 0 })) free
+    ∙ ap (λ (n : ℕ). controlling (record { spot = LookLeft; seen = first_free c.args.config.regions; phase = n; cset = memory_of c.set_word.new.self Cset; image = []; hints = 0 })) phase
+    ∙ ap (λ (n : ℕ). controlling (record { spot = LookLeft; seen = first_free c.args.config.regions; phase = 0; cset = n; image = []; hints = 0 })) cset

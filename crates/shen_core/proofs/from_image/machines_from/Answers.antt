@@ -1,7 +1,8 @@
-use Rattle.std.proofs.Common.{◌≡◌, ◌+◌, ap, sym, ◌∙◌, map, All, refl, subst, arith}
+use Rattle.std.proofs.Common.{◌≡◌, ◌+◌, ap, sym, ◌∙◌, map, All, subst, arith}
 use Rattle.std.specs.List.{range_with_len}
 use Rattle.std.proofs.lemmas.List.Elements.{All-push}
 use Rattle.shen_graph.specs.declared.order.Order.TheVariants.{Nothing}
+use Rattle.shen_graph.specs.Order.{hinting}
 use Rattle.image_graph.specs.State.{config_of, memory_of}
 use Rattle.step_core.specs.Actor.{controlling}
 use Rattle.heap_machines.specs.Shown.{shown, order_of, heap_of}
@@ -43,4 +44,4 @@ returns-clause-heap c =
 pub returns-clause-orders : goal.returns-clause-orders
 returns-clause-orders c =
     subst (λ xs. All (λ m. order_of m ≡ Nothing) xs) (sym c.in-Ok-push.ensures.items)
-    (All-push (λ m. order_of m ≡ Nothing) c.loop-number.machines.items _ c.loop-number.invariant.orders refl)
+    (All-push (λ m. order_of m ≡ Nothing) c.loop-number.machines.items _ c.loop-number.invariant.orders (ap hinting c.new.ensures.hint))

@@ -57,3 +57,8 @@ pub returns : goal.returns
 returns c = λ assigned workers ready.
     let none : length c.loop-part.parts.items ≡ 0 = search rules in
     subst (λ n. PartIsReady c.args.heap.now assigned workers n (length c.args.parts.items) c.loop-part.own) none (c.loop-part.invariant.ready assigned workers ready)
+
+pub join-own-requires-clause-other : goal.join-own-requires-clause-other
+join-own-requires-clause-other c =
+    let r = c.requires.ready in
+    (c.loop-part.invariant.ready r.0 r.1 r.2).has.of

@@ -40,8 +40,8 @@ returns g c = λ words asked.
       before = outlet (g.K.Sink.written c.args.sink.now) (g.K.Sink.faults c.args.sink.now) (g.K.Sink.calls c.args.sink.now);
       after = outlet (g.K.Sink.written c.give.new.sink) (g.K.Sink.faults c.give.new.sink) (g.K.Sink.calls c.give.new.sink);
     } in
-    said words input output (spelled_answer c.in-Ok-answer_to.answer) Ok c.give.result (Replay c.args.steps, asked, record { bytes = read.0; came = read.1; is = c.in-Ok-answer_to.ensures.ok read.0 read.2 })
-    (subst (λ s. EndsWith (spelled_answer c.in-Ok-answer_to.answer) Ok c.give.result (outlet (g.K.Sink.written s) (g.K.Sink.faults s) (g.K.Sink.calls s)) output.after) c.in-Ok.ensures.unused c.give.ensures)
+    said words input output (spelled_answer c.in-Ok-replayed_answer.answer) Ok c.give.result (Replay c.args.steps, asked, record { bytes = read.0; came = read.1; is = c.in-Ok-replayed_answer.ensures.ok read.0 read.2 })
+    (subst (λ s. EndsWith (spelled_answer c.in-Ok-replayed_answer.answer) Ok c.give.result (outlet (g.K.Sink.written s) (g.K.Sink.faults s) (g.K.Sink.calls s)) output.after) c.in-Ok.ensures.unused c.give.ensures)
 
 pub returns-in-Err : goal.returns-in-Err
 returns-in-Err g c = λ words asked. c.in-Err.ensures.refused words (Replay c.args.steps, asked, refl)

@@ -10,8 +10,8 @@ use Rattle.trace_runs.specs.declared.status.Status.TheVariants.{Ok, NoMemory}
 use Rattle.trace_runs.proofs.CallEnds.{said}
 use Rattle.trace_runs.proofs.runs.run.Goals as goal
 
-pub returns-in-Err-answer_to : goal.returns-in-Err-answer_to
-returns-in-Err-answer_to g c = λ words asked.
+pub returns-in-Err-run_answer : goal.returns-in-Err-run_answer
+returns-in-Err-run_answer g c = λ words asked.
     let input : Input = record { before = g.S.Source.left c.args.source.now; after = g.S.Source.left c.taken.new.source; faults_before = g.S.Source.faults c.args.source.now; faults_after = g.S.Source.faults c.taken.new.source } in
     let output : Output = record {
       before = outlet (g.K.Sink.written c.args.sink.now) (g.K.Sink.faults c.args.sink.now) (g.K.Sink.calls c.args.sink.now);
@@ -20,16 +20,16 @@ returns-in-Err-answer_to g c = λ words asked.
     said words input output (line_text line.NoMemory) NoMemory c.say.result ((Run c.args.workers, asked), refl)
     (subst (λ s. EndsWith (line_text line.NoMemory) NoMemory c.say.result (outlet (g.K.Sink.written s) (g.K.Sink.faults s) (g.K.Sink.calls s)) output.after) c.in-Ok.ensures.unused c.say.ensures)
 
-pub returns-in-Ok-answer_to : goal.returns-in-Ok-answer_to
-returns-in-Ok-answer_to g c = λ words asked.
+pub returns-in-Ok-run_answer : goal.returns-in-Ok-run_answer
+returns-in-Ok-run_answer g c = λ words asked.
     let read = c.in-Ok.ensures.ok in
     let input : Input = record { before = g.S.Source.left c.args.source.now; after = g.S.Source.left c.taken.new.source; faults_before = g.S.Source.faults c.args.source.now; faults_after = g.S.Source.faults c.taken.new.source } in
     let output : Output = record {
       before = outlet (g.K.Sink.written c.args.sink.now) (g.K.Sink.faults c.args.sink.now) (g.K.Sink.calls c.args.sink.now);
       after = outlet (g.K.Sink.written c.give.new.sink) (g.K.Sink.faults c.give.new.sink) (g.K.Sink.calls c.give.new.sink);
     } in
-    said words input output (spelled_answer c.in-Ok-answer_to.answer) Ok c.give.result (Run c.args.workers, asked, record { bytes = read.0; came = read.1; is = c.in-Ok-answer_to.ensures.ok read.0 read.2 })
-    (subst (λ s. EndsWith (spelled_answer c.in-Ok-answer_to.answer) Ok c.give.result (outlet (g.K.Sink.written s) (g.K.Sink.faults s) (g.K.Sink.calls s)) output.after) c.in-Ok.ensures.unused c.give.ensures)
+    said words input output (spelled_answer c.in-Ok-run_answer.answer) Ok c.give.result (Run c.args.workers, asked, record { bytes = read.0; came = read.1; is = c.in-Ok-run_answer.ensures.ok read.0 read.2 })
+    (subst (λ s. EndsWith (spelled_answer c.in-Ok-run_answer.answer) Ok c.give.result (outlet (g.K.Sink.written s) (g.K.Sink.faults s) (g.K.Sink.calls s)) output.after) c.in-Ok.ensures.unused c.give.ensures)
 
 pub returns-in-Err : goal.returns-in-Err
 returns-in-Err g c = λ words asked. c.in-Err.ensures.refused words (Run c.args.workers, asked, refl)

@@ -2,6 +2,8 @@ use Rattle.std.proofs.Common.{sym, ap, ◌∙◌}
 use Rattle.std.specs.Prelude.{slice_index}
 use Rattle.heap_words.specs.Access.{table_index}
 use Rattle.steps_base.specs.Steps.{accessed}
+use Rattle.shen_graph.specs.Order.{hinting}
+use Rattle.control.specs.Seen.{config_in, seen_control}
 use Rattle.step_core.specs.Actor.{controlling}
 use Rattle.step_core.specs.Machines.{machine_after, plan_of}
 use Rattle.heap_machines.specs.declared.machine.Machine.{Machine}
@@ -11,12 +13,23 @@ use Rattle.heap_machines.proofs.machine.Machine.step_inside_image.Goals as goal
 
 pub returns-clause-words : goal.returns-clause-words
 returns-clause-words c =
-    c.step_inside_image.ensures.words ∙ ap (λ (m : Machine). accessed (plan_of (heap_of m) (order_of m) (shown m)) c.args.words.now.items) (sym c.in-Control.is)
+    c.step_inside_image.ensures.words
+    ∙ ap (λ o. accessed (plan_of (config_in c.in-Control.control) (hinting o) (controlling (seen_control c.in-Control.control))) c.args.words.now.items) (sym c.step_inside_image.ensures.none)
+    ∙ ap (λ (m : Machine). accessed (plan_of (heap_of m) (order_of m) (shown m)) c.args.words.now.items) (sym c.in-Control.is)
 
 pub returns-clause-shown : goal.returns-clause-shown
 returns-clause-shown c =
     ap controlling c.step_inside_image.ensures.row
+    ∙ ap (λ o. machine_after pause_image (config_in c.in-Control.control) (hinting o)
+    (slice_index c.args.words.now.items (table_index (plan_of (config_in c.in-Control.control) (hinting o) (controlling (seen_control c.in-Control.control))))) (controlling (seen_control c.in-Control.control)))
+    (sym c.step_inside_image.ensures.none)
     ∙ ap (λ (m : Machine). machine_after pause_image (heap_of m) (order_of m) (slice_index c.args.words.now.items (table_index (plan_of (heap_of m) (order_of m) (shown m)))) (shown m)) (sym c.in-Control.is)
 
 pub returns-clause-heap : goal.returns-clause-heap
 returns-clause-heap c = c.step_inside_image.ensures.config ∙ ap heap_of (sym c.in-Control.is)
+
+pub returns-clause-order : goal.returns-clause-order
+returns-clause-order c = ap hinting c.step_inside_image.ensures.hint
+
+pub returns-clause-none : goal.returns-clause-none
+returns-clause-none c = ap order_of c.in-Control.is ∙ ap hinting c.step_inside_image.ensures.none

@@ -1,7 +1,15 @@
 use Rattle.std.proofs.Common.{◌≡◌, true, Some, refl, sym, ap, ◌∙◌, subst}
 use Rattle.std.specs.Prelude.{◌↔◌}
 use Rattle.std.proofs.lemmas.Bool.{false≢true}
-use Rattle.control.specs.Seen.{config_in, seen_control}
+use Rattle.shen_graph.specs.Order.{hinting}
+use Rattle.control.specs.Seen.{config_in, seen_control, hint_of}
+use Rattle.control_rows.specs.Rows.{Controlling, control_hinted, control_next, control_says}
+use Rattle.control_rows.specs.Ready.{UnitGoesOn}
+use Rattle.control_rows.specs.Waits as control
+use Rattle.helper.specs.Rows.{Helping, help_hinted, help_next, help_says}
+use Rattle.helper.specs.Ready.{IsFit}
+use Rattle.helper.specs.Waits.{WaitsAt}
+use Rattle.heap_machines.proofs.Hinting.{helped, controlled, whole_with_hint, goes_with_hint}
 use Rattle.helper.specs.Seen as helpers
 use Rattle.heap_words.specs.declared.access.Took.TheVariants as took
 use Rattle.heap_words.specs.declared.place.Place.TheVariants.{LV}
@@ -10,20 +18,23 @@ use Rattle.step_core.specs.Machines.{machine_after, answer_of, place_in, WaitsIn
 use Rattle.heap_machines.specs.declared.machine.Machine.{Machine}
 use Rattle.heap_machines.specs.Pause.{pause_image}
 use Rattle.heap_machines.specs.Roles.{is_mutating}
-use Rattle.heap_machines.specs.Shown.{shown, order_of, heap_of}
+use Rattle.heap_machines.specs.Shown.{shown, order_of, heap_of, has_turn}
 use Rattle.heap_machines.proofs.Fit.{fit_for_control}
 use Rattle.step_core.proofs.Helpers.GoOn.{goes_on, helps_on}
 use Rattle.heap_machines.proofs.machine.Machine.took.Goals as goal
 
 pub took-requires-in-Control-clause-fit : goal.took-requires-in-Control-clause-fit
 took-requires-in-Control-clause-fit c =
-    let k = seen_control c.in-Control.control in
+    let h = config_in c.in-Control.control in
+    let hint = hint_of c.in-Control.control in
+    let k : Controlling = control_hinted h hint (seen_control c.in-Control.control) in
     let fit = subst (λ (m : Machine). IsFitFor (heap_of m) (order_of m) c.args.got (shown m)) c.in-Control.is c.requires.fit in
-    fit_for_control (config_in c.in-Control.control) k.spot k.image c.args.got fit.0 fit.1
+    fit_for_control h k.spot k.image c.args.got (whole_with_hint h hint (seen_control c.in-Control.control) c.args.got fit.0)
+    (subst (λ (x : Controlling). UnitGoesOn h x.spot c.args.got) (controlled h hint (seen_control c.in-Control.control)) fit.1)
 
 pub returns-in-Control-clause-replied : goal.returns-in-Control-clause-replied
 returns-in-Control-clause-replied c = λ done.
-    let k = seen_control c.in-Control.control in
+    let k : Controlling = control_hinted (config_in c.in-Control.control) (hint_of c.in-Control.control) (seen_control c.in-Control.control) in
     absurd (goes_on (config_in c.in-Control.control) k.seen k.spot c.args.got (sym c.took-in-Control.ensures.says ∙ done))
 
 pub took-requires-clause-fit : goal.took-requires-clause-fit
@@ -41,7 +52,7 @@ returns-in-Mutator-clause-heap c = c.took.ensures.config ∙ ap heap_of (sym c.i
 
 pub returns-in-Mutator-clause-answer : goal.returns-in-Mutator-clause-answer
 returns-in-Mutator-clause-answer c =
-    ap (λ (m : Machine). answer_of (heap_of m) (shown m) c.args.got) c.in-Mutator.is ∙ ap Some (sym c.took.ensures.answer)
+    ap (λ (m : Machine). answer_of (heap_of m) (order_of m) (shown m) c.args.got) c.in-Mutator.is ∙ ap Some (sym c.took.ensures.answer)
 
 pub returns-in-Mutator-clause-done : goal.returns-in-Mutator-clause-done
 returns-in-Mutator-clause-done c =
@@ -53,58 +64,79 @@ returns-in-Mutator-clause-replied c = c.took.ensures.replied
 
 pub returns-in-Mutator-clause-again : goal.returns-in-Mutator-clause-again
 returns-in-Mutator-clause-again c =
-    subst (λ (m : Machine). (c.took.result ≡ took.Again) ↔ WaitsIn (heap_of m) (shown m) c.args.got) (sym c.in-Mutator.is) c.took.ensures.again
+    subst (λ (m : Machine). (c.took.result ≡ took.Again) ↔ WaitsIn (heap_of m) (order_of m) (shown m) c.args.got) (sym c.in-Mutator.is) c.took.ensures.again
 
 pub took-requires-in-Helper-clause-fit : goal.took-requires-in-Helper-clause-fit
-took-requires-in-Helper-clause-fit c = subst (λ (m : Machine). IsFitFor (heap_of m) (order_of m) c.args.got (shown m)) c.in-Helper.is c.requires.fit
+took-requires-in-Helper-clause-fit c =
+    let h = c.in-Helper.helper in
+    subst (λ (x : Helping). IsFit (helpers.config_of h) x c.args.got) (helped (helpers.config_of h) (helpers.hint_of h) (helpers.seen_helper h))
+    (subst (λ (m : Machine). IsFitFor (heap_of m) (order_of m) c.args.got (shown m)) c.in-Helper.is c.requires.fit)
 
 pub returns-in-Helper-clause-shown : goal.returns-in-Helper-clause-shown
 returns-in-Helper-clause-shown c =
-    ap helping c.took-in-Helper.ensures.row ∙ ap (λ (m : Machine). machine_after pause_image (heap_of m) (order_of m) c.args.got (shown m)) (sym c.in-Helper.is)
+    ap helping c.took-in-Helper.ensures.row
+    ∙ ap (λ (x : Helping). helping (help_next (helpers.config_of c.in-Helper.helper) x c.args.got)) (sym (helped (helpers.config_of c.in-Helper.helper) (helpers.hint_of c.in-Helper.helper) (helpers.seen_helper c.in-Helper.helper)))
+    ∙ ap (λ (m : Machine). machine_after pause_image (heap_of m) (order_of m) c.args.got (shown m)) (sym c.in-Helper.is)
 
 pub returns-in-Helper-clause-order : goal.returns-in-Helper-clause-order
-returns-in-Helper-clause-order c = refl
+returns-in-Helper-clause-order c = ap hinting c.took-in-Helper.ensures.hint
 
 pub returns-in-Helper-clause-heap : goal.returns-in-Helper-clause-heap
 returns-in-Helper-clause-heap c = c.took-in-Helper.ensures.config ∙ ap heap_of (sym c.in-Helper.is)
 
 pub returns-in-Helper-clause-answer : goal.returns-in-Helper-clause-answer
 returns-in-Helper-clause-answer c =
-    ap (λ (m : Machine). answer_of (heap_of m) (shown m) c.args.got) c.in-Helper.is ∙ ap Some (sym c.took-in-Helper.ensures.says)
+    ap (λ (m : Machine). answer_of (heap_of m) (order_of m) (shown m) c.args.got) c.in-Helper.is
+    ∙ ap (λ (x : Helping). Some (help_says (helpers.config_of c.in-Helper.helper) x c.args.got)) (helped (helpers.config_of c.in-Helper.helper) (helpers.hint_of c.in-Helper.helper) (helpers.seen_helper c.in-Helper.helper))
+    ∙ ap Some (sym c.took-in-Helper.ensures.says)
 
 pub returns-in-Helper-clause-done : goal.returns-in-Helper-clause-done
 returns-in-Helper-clause-done c =
     subst (λ (m : Machine). (c.took-in-Helper.result ≡ took.Done) ↔ ((is_mutating (shown m) ≡ true) × (place_in (order_of m) (shown m) ≡ LV))) (sym c.in-Helper.is)
-    (λ done. absurd (helps_on (helpers.config_of c.in-Helper.helper) (helpers.seen_helper c.in-Helper.helper).spot c.args.got (sym c.took-in-Helper.ensures.says ∙ done)), λ both. absurd (false≢true both.0))
+    (λ done. absurd (helps_on (helpers.config_of c.in-Helper.helper) (help_hinted (helpers.config_of c.in-Helper.helper) (helpers.hint_of c.in-Helper.helper) (helpers.seen_helper c.in-Helper.helper)).spot c.args.got (sym c.took-in-Helper.ensures.says ∙ done)), λ both. absurd (false≢true both.0))
 
 pub returns-in-Helper-clause-replied : goal.returns-in-Helper-clause-replied
 returns-in-Helper-clause-replied c = λ done.
-    absurd (helps_on (helpers.config_of c.in-Helper.helper) (helpers.seen_helper c.in-Helper.helper).spot c.args.got (sym c.took-in-Helper.ensures.says ∙ done))
+    absurd (helps_on (helpers.config_of c.in-Helper.helper) (help_hinted (helpers.config_of c.in-Helper.helper) (helpers.hint_of c.in-Helper.helper) (helpers.seen_helper c.in-Helper.helper)).spot c.args.got (sym c.took-in-Helper.ensures.says ∙ done))
 
 pub returns-in-Helper-clause-again : goal.returns-in-Helper-clause-again
 returns-in-Helper-clause-again c =
-    subst (λ (m : Machine). (c.took-in-Helper.result ≡ took.Again) ↔ WaitsIn (heap_of m) (shown m) c.args.got) (sym c.in-Helper.is) c.took-in-Helper.ensures.again
+    subst (λ (m : Machine). (c.took-in-Helper.result ≡ took.Again) ↔ WaitsIn (heap_of m) (order_of m) (shown m) c.args.got) (sym c.in-Helper.is)
+    (subst (λ (x : Helping). (c.took-in-Helper.result ≡ took.Again) ↔ WaitsAt (helpers.config_of c.in-Helper.helper) x c.args.got)
+    (sym (helped (helpers.config_of c.in-Helper.helper) (helpers.hint_of c.in-Helper.helper) (helpers.seen_helper c.in-Helper.helper))) c.took-in-Helper.ensures.again)
 
 pub returns-in-Control-clause-shown : goal.returns-in-Control-clause-shown
 returns-in-Control-clause-shown c =
-    ap controlling c.took-in-Control.ensures.row ∙ ap (λ (m : Machine). machine_after pause_image (heap_of m) (order_of m) c.args.got (shown m)) (sym c.in-Control.is)
+    ap controlling c.took-in-Control.ensures.row
+    ∙ ap (λ (x : Controlling). controlling (control_next pause_image (config_in c.in-Control.control) x c.args.got)) (sym (controlled (config_in c.in-Control.control) (hint_of c.in-Control.control) (seen_control c.in-Control.control)))
+    ∙ ap (λ (m : Machine). machine_after pause_image (heap_of m) (order_of m) c.args.got (shown m)) (sym c.in-Control.is)
 
 pub returns-in-Control-clause-order : goal.returns-in-Control-clause-order
-returns-in-Control-clause-order c = refl
+returns-in-Control-clause-order c = ap hinting c.took-in-Control.ensures.hint
 
 pub returns-in-Control-clause-heap : goal.returns-in-Control-clause-heap
 returns-in-Control-clause-heap c = c.took-in-Control.ensures.config ∙ ap heap_of (sym c.in-Control.is)
 
 pub returns-in-Control-clause-answer : goal.returns-in-Control-clause-answer
 returns-in-Control-clause-answer c =
-    ap (λ (m : Machine). answer_of (heap_of m) (shown m) c.args.got) c.in-Control.is ∙ ap Some (sym c.took-in-Control.ensures.says)
+    ap (λ (m : Machine). answer_of (heap_of m) (order_of m) (shown m) c.args.got) c.in-Control.is
+    ∙ ap (λ (x : Controlling). Some (control_says (config_in c.in-Control.control) x c.args.got)) (controlled (config_in c.in-Control.control) (hint_of c.in-Control.control) (seen_control c.in-Control.control))
+    ∙ ap Some (sym c.took-in-Control.ensures.says)
 
 pub returns-in-Control-clause-done : goal.returns-in-Control-clause-done
 returns-in-Control-clause-done c =
-    let k = seen_control c.in-Control.control in
+    let k : Controlling = control_hinted (config_in c.in-Control.control) (hint_of c.in-Control.control) (seen_control c.in-Control.control) in
     subst (λ (m : Machine). (c.took-in-Control.result ≡ took.Done) ↔ ((is_mutating (shown m) ≡ true) × (place_in (order_of m) (shown m) ≡ LV))) (sym c.in-Control.is)
     (λ done. absurd (goes_on (config_in c.in-Control.control) k.seen k.spot c.args.got (sym c.took-in-Control.ensures.says ∙ done)), λ both. absurd (false≢true both.0))
 
 pub returns-in-Control-clause-again : goal.returns-in-Control-clause-again
 returns-in-Control-clause-again c =
-    subst (λ (m : Machine). (c.took-in-Control.result ≡ took.Again) ↔ WaitsIn (heap_of m) (shown m) c.args.got) (sym c.in-Control.is) c.took-in-Control.ensures.again
+    subst (λ (m : Machine). (c.took-in-Control.result ≡ took.Again) ↔ WaitsIn (heap_of m) (order_of m) (shown m) c.args.got) (sym c.in-Control.is)
+    (subst (λ (x : Controlling). (c.took-in-Control.result ≡ took.Again) ↔ control.WaitsAt (config_in c.in-Control.control) x c.args.got)
+    (sym (controlled (config_in c.in-Control.control) (hint_of c.in-Control.control) (seen_control c.in-Control.control))) c.took-in-Control.ensures.again)
+
+pub took-requires-in-Helper-clause-busy : goal.took-requires-in-Helper-clause-busy
+took-requires-in-Helper-clause-busy c = goes_with_hint _ _ (ap has_turn (sym c.in-Helper.is) ∙ c.requires.busy)
+
+pub took-requires-in-Control-clause-busy : goal.took-requires-in-Control-clause-busy
+took-requires-in-Control-clause-busy c = goes_with_hint _ _ (ap has_turn (sym c.in-Control.is) ∙ c.requires.busy)

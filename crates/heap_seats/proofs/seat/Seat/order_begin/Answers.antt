@@ -1,14 +1,23 @@
-use Rattle.std.proofs.Common.{◌∙◌, refl, ap}
+use Rattle.std.proofs.Common.{◌≡◌, Bool, true, false, ◌∙◌, refl, ap}
 use Rattle.std.specs.Prelude.{unwrap_or}
 use Rattle.std.specs.Arc.{arc_value}
 use Rattle.shen_graph.specs.declared.order.Order.TheVariants.{Begin}
 use Rattle.shared_table.specs.Views.{machine_of}
 use Rattle.step_core.specs.Machines.{may_begin}
 use Rattle.table_heap.specs.Core.{nobody}
-use Rattle.table_heap.specs.State.{machine_at}
+use Rattle.table_heap.specs.State.{machine_at, has_turn}
+use Rattle.heap_seats.specs.declared.progress.State.TheVariants.{Free}
 use Rattle.heap_seats.specs.Seats.{state_by}
 use Rattle.heap_seats.proofs.Known.{stays_of, stays_here, stays_only, unmoved_run, given_order, takes_turn}
 use Rattle.heap_seats.proofs.seat.Seat.order_begin.Goals as goal
+
+free_may_begin : (turn may : Bool) → state_by turn may ≡ Free → may ≡ true
+free_may_begin turn true free = refl
+free_may_begin true false free = absurd cc
+free_may_begin false false free = absurd cc
+
+pub begin-requires-clause-rest : goal.begin-requires-clause-rest
+begin-requires-clause-rest c = let s = c.args.self.now in free_may_begin (has_turn s.bundle s.number) (may_begin (machine_at s.bundle s.number)) c.requires.free
 
 pub invariant_of-self : goal.invariant_of-self
 invariant_of-self c =

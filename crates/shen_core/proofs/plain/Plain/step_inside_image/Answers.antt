@@ -1,21 +1,19 @@
 use Rattle.std.proofs.Common.{◌≡◌, true, length, refl, sym, ap, ◌∙◌, arith}
-use Rattle.std.proofs.lemmas.Bool.{false≢true}
 use Rattle.std.proofs.lemmas.List.{length-set}
 use Rattle.std.proofs.Math.Logic.{∥∥₁_map}
 use Rattle.heap_words.specs.declared.config.Config.{Config}
+use Rattle.shen_graph.specs.declared.order.Order.TheVariants.{Nothing}
+use Rattle.step_core.specs.Machines.{takes_of}
 use Rattle.heap_machines.specs.declared.machine.Machine.{Machine}
-use Rattle.heap_machines.specs.declared.machine.Machine.TheVariants.{Mutator, Helper, Control}
 use Rattle.heap_machines.specs.Inside.{is_inside_image}
-use Rattle.heap_machines.specs.Shown.{shown, has_turn}
+use Rattle.heap_machines.specs.Shown.{shown, order_of, has_turn}
 use Rattle.heap_machines.proofs.Inside.{goes_inside}
 use Rattle.shen_core.proofs.Memory.{from_read, machine_here, made_from, made_step, made_shown, made_heap, made_orders, made_machines}
 use Rattle.shen_core.proofs.plain.Plain.step_inside_image.Goals as goal
 
 -- it has a turn
-turn_of : (c : Config) (m : Machine) → is_inside_image c (shown m) ≡ true → has_turn m ≡ true
-turn_of c (Mutator m) inside = absurd (false≢true inside)
-turn_of c (Helper h) inside = absurd (false≢true inside)
-turn_of c (Control k) inside = (goes_inside c (shown (Control k)) inside).takes
+turn_of : (c : Config) (m : Machine) → order_of m ≡ Nothing → is_inside_image c (shown m) ≡ true → has_turn m ≡ true
+turn_of c m none inside = ap (takes_of (shown m)) none ∙ (goes_inside c (shown m) inside).takes
 
 pub invariant_of-self : goal.invariant_of-self
 invariant_of-self c =
@@ -25,7 +23,7 @@ invariant_of-self c =
     let here = from_read p.machines.items c.args.number m (omega (arith, p.all_machines, c.requires.number)) c.index_mut.ensures.value in
     let inside = ap (is_inside_image p.config) (sym (machine_here p.machines.items c.args.number m here)) ∙ c.requires.inside in
     let made = made_from p.config p.words.items c.step_inside_image.new.words.items p.machines.items c.args.number m n _ _
-    (omega (arith, p.all_machines, c.requires.number)) c.index_mut.ensures.value p.one_heap (turn_of p.config m inside) refl
+    (omega (arith, p.all_machines, c.requires.number)) c.index_mut.ensures.value p.one_heap (turn_of p.config m c.step_inside_image.ensures.none inside) refl
     c.step_inside_image.ensures.words refl c.step_inside_image.ensures.shown in
     record {
       all_words = ap length c.step_inside_image.ensures.words ∙ length-set p.words.items _ _ ∙ p.all_words;
@@ -43,7 +41,7 @@ returns-clause-event c =
     let inside = ap (is_inside_image p.config) (sym (machine_here p.machines.items c.args.number m here)) ∙ c.requires.inside in
     made_step _ _ _ _ _ _ _
     (made_from p.config p.words.items c.step_inside_image.new.words.items p.machines.items c.args.number m n _ _
-    (omega (arith, p.all_machines, c.requires.number)) c.index_mut.ensures.value p.one_heap (turn_of p.config m inside) refl
+    (omega (arith, p.all_machines, c.requires.number)) c.index_mut.ensures.value p.one_heap (turn_of p.config m c.step_inside_image.ensures.none inside) refl
     c.step_inside_image.ensures.words refl c.step_inside_image.ensures.shown)
 
 pub returns-clause-machines : goal.returns-clause-machines
@@ -55,7 +53,7 @@ returns-clause-machines c =
     let inside = ap (is_inside_image p.config) (sym (machine_here p.machines.items c.args.number m here)) ∙ c.requires.inside in
     made_machines _ _ _ _ _ _ _
     (made_from p.config p.words.items c.step_inside_image.new.words.items p.machines.items c.args.number m n _ _
-    (omega (arith, p.all_machines, c.requires.number)) c.index_mut.ensures.value p.one_heap (turn_of p.config m inside) refl
+    (omega (arith, p.all_machines, c.requires.number)) c.index_mut.ensures.value p.one_heap (turn_of p.config m c.step_inside_image.ensures.none inside) refl
     c.step_inside_image.ensures.words refl c.step_inside_image.ensures.shown)
 
 pub returns-clause-orders : goal.returns-clause-orders
@@ -67,6 +65,6 @@ returns-clause-orders c =
     let inside = ap (is_inside_image p.config) (sym (machine_here p.machines.items c.args.number m here)) ∙ c.requires.inside in
     made_orders _ _ _ _ _ _ _
     (made_from p.config p.words.items c.step_inside_image.new.words.items p.machines.items c.args.number m n _ _
-    (omega (arith, p.all_machines, c.requires.number)) c.index_mut.ensures.value p.one_heap (turn_of p.config m inside) refl
+    (omega (arith, p.all_machines, c.requires.number)) c.index_mut.ensures.value p.one_heap (turn_of p.config m c.step_inside_image.ensures.none inside) refl
     c.step_inside_image.ensures.words refl c.step_inside_image.ensures.shown)
     c.step_inside_image.ensures.order

@@ -12,6 +12,7 @@ use Rattle.step_core.specs.Machines.{takes_of, may_begin}
 use Rattle.table_heap.specs.State.{view_of}
 use Rattle.table_heap.proofs.MachineUnder.{within, read_here, never_none, shows_as, put_same}
 use Rattle.table_heap.proofs.Stepping.{heap_put}
+use Rattle.table_heap.proofs.Greyed.{greys_put}
 use Rattle.table_heap.proofs.bundle.Bundle.finish.Goals as goal
 
 pub index_mut-requires : goal.index_mut-requires
@@ -42,6 +43,9 @@ invariant_of-self c =
       kept = b.kept ∙ sym (put_same shown b.machines.items c.args.number m n here c.finish.ensures.shown);
       slots = b.slots;
       of_heap = heap_put b.config b.machines.items c.args.number m n here c.finish.ensures.heap (ap is_mutating c.finish.ensures.shown) b.of_heap;
+      greys = greys_put b.config b.machines.items b.greyed.items c.args.number m n here b.greys;
+      hints_of_heap = b.hints_of_heap;
+      thieves_of_heap = b.thieves_of_heap;
     }
 
 pub returns-clause-order : goal.returns-clause-order
@@ -57,4 +61,4 @@ returns-clause-takes c =
     ap (λ x. takes_of x (End)) (shows_as shown b.machines.items c.args.number m no_machine here) ∙ c.finish.ensures.takes
 
 pub returns-clause-unmoved : goal.returns-clause-unmoved
-returns-clause-unmoved c = record { same = record { table = refl; config = refl; numbers = same_none (view_of c.args.self.now) }; view = refl; steps = refl }
+returns-clause-unmoved c = record { same = record { table = refl; config = refl; numbers = same_none (view_of c.args.self.now) }; view = refl; steps = refl; greyed = refl }

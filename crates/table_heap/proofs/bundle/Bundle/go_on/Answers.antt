@@ -3,6 +3,7 @@ use Rattle.std.specs.Prelude.{if◌then◌else◌}
 use Rattle.std.proofs.lemmas.Bool.{false≢true}
 use Rattle.table_heap.specs.State.{order_at}
 use Rattle.table_heap.proofs.Running.{same_bundle_more}
+use Rattle.table_heap.proofs.Hinting.{after_hint, same_after, stepped_after, here_still}
 use Rattle.table_heap.proofs.bundle.Bundle.go_on.Goals as goal
 
 pub returns-then-not-order_next-clause-same : goal.returns-then-not-order_next-clause-same
@@ -15,23 +16,50 @@ pub returns-then-not-order_next-clause-idle : goal.returns-then-not-order_next-c
 returns-then-not-order_next-clause-idle g c = λ _.
     c.order_next.ensures.turn ∙ ap (λ has. if has then Some (order_at c.order_next.new.self c.args.number) else None) c.if-not-order_next.true
 
-pub returns-clause-same : goal.returns-clause-same
-returns-clause-same g c = same_bundle_more c.args.self.now c.order_next.new.self c.step.new.self c.order_next.ensures.unmoved.same c.step.ensures.same
-
-pub returns-clause-turn : goal.returns-clause-turn
-returns-clause-turn g c = λ _. record {
-  ordered = c.order_next.new.self;
-  unmoved = c.order_next.ensures.unmoved;
-  turn = c.order_next.ensures.turn ∙ ap (λ has. if has then Some (order_at c.order_next.new.self c.args.number) else None) c.if-not-order_next.false;
-  orders = c.order_next.ensures.orders;
-  step = c.step.ensures.event (c.order_next.ensures.has ∙ c.if-not-order_next.false);
+pub step-said-requires-clause-heap : goal.step-said-requires-clause-heap
+step-said-requires-clause-heap g c = record {
+  table = c.take_hint.ensures.unmoved.same.table ∙ c.order_next.ensures.unmoved.same.table ∙ c.requires.heap.table;
+  config = c.take_hint.ensures.unmoved.same.config ∙ c.order_next.ensures.unmoved.same.config ∙ c.requires.heap.config;
 }
 
+pub returns-clause-same : goal.returns-clause-same
+returns-clause-same g c =
+    same_bundle_more c.args.self.now c.step-said.new.self c.share_greyed.new.self
+    (same_bundle_more c.args.self.now c.take_hint.new.self c.step-said.new.self
+    (same_bundle_more c.args.self.now c.order_next.new.self c.take_hint.new.self c.order_next.ensures.unmoved.same c.take_hint.ensures.unmoved.same) c.step-said.ensures.same)
+    (same_after c.step-said.new.self c.share_greyed.new.self c.share_greyed.ensures)
+
+-- with its order it has a turn, and with a hint in place of none too
+pub returns-clause-turn : goal.returns-clause-turn
+returns-clause-turn g c = λ _.
+    let given = c.order_next.ensures.turn ∙ ap (λ has. if has then Some (order_at c.order_next.new.self c.args.number) else None) c.if-not-order_next.false in
+    let hinted = after_hint c.args.self.now c.order_next.new.self c.take_hint.new.self c.args.next c.args.number c.requires.here c.order_next.ensures.unmoved c.take_hint.ensures.unmoved given
+    c.order_next.ensures.orders (c.order_next.ensures.has ∙ c.if-not-order_next.false) c.take_hint.ensures.order in
+    record {
+      ordered = c.take_hint.new.self;
+      unmoved = hinted.unmoved;
+      turn = hinted.turn;
+      orders = hinted.orders;
+      step = stepped_after c.take_hint.new.self c.step-said.new.self c.share_greyed.new.self c.args.number c.step-said.result c.share_greyed.ensures (c.step-said.ensures.event hinted.has);
+    }
+
 pub returns-clause-unchanged : goal.returns-clause-unchanged
-returns-clause-unchanged g c = λ is. absurd (false≢true (sym (c.step.ensures.idle.0 is) ∙ c.order_next.ensures.has ∙ c.if-not-order_next.false))
+returns-clause-unchanged g c = λ idle.
+    let given = c.order_next.ensures.turn ∙ ap (λ has. if has then Some (order_at c.order_next.new.self c.args.number) else None) c.if-not-order_next.false in
+    let hinted = after_hint c.args.self.now c.order_next.new.self c.take_hint.new.self c.args.next c.args.number c.requires.here c.order_next.ensures.unmoved c.take_hint.ensures.unmoved given
+    c.order_next.ensures.orders (c.order_next.ensures.has ∙ c.if-not-order_next.false) c.take_hint.ensures.order in
+    absurd (false≢true (sym (c.step-said.ensures.idle.0 idle) ∙ hinted.has))
 
 pub returns-clause-idle : goal.returns-clause-idle
-returns-clause-idle g c = λ is. absurd (false≢true (sym (c.step.ensures.idle.0 is) ∙ c.order_next.ensures.has ∙ c.if-not-order_next.false))
+returns-clause-idle g c = λ idle.
+    let given = c.order_next.ensures.turn ∙ ap (λ has. if has then Some (order_at c.order_next.new.self c.args.number) else None) c.if-not-order_next.false in
+    let hinted = after_hint c.args.self.now c.order_next.new.self c.take_hint.new.self c.args.next c.args.number c.requires.here c.order_next.ensures.unmoved c.take_hint.ensures.unmoved given
+    c.order_next.ensures.orders (c.order_next.ensures.has ∙ c.if-not-order_next.false) c.take_hint.ensures.order in
+    absurd (false≢true (sym (c.step-said.ensures.idle.0 idle) ∙ hinted.has))
 
-pub returns-clause-replied : goal.returns-clause-replied
-returns-clause-replied g c = c.step.ensures.replied
+pub share_greyed-requires : goal.share_greyed-requires
+share_greyed-requires g c = record {
+  here = here_still c.take_hint.new.self c.step-said.new.self c.args.number c.step-said.ensures.same
+      (here_still c.order_next.new.self c.take_hint.new.self c.args.number c.take_hint.ensures.unmoved.same
+      (here_still c.args.self.now c.order_next.new.self c.args.number c.order_next.ensures.unmoved.same c.requires.here));
+}

@@ -1,8 +1,8 @@
-use Rattle.std.proofs.Common.{Bool, not, ap, ◌∙◌, arith}
+use Rattle.std.proofs.Common.{ap, ◌∙◌, arith}
 use Rattle.shen_graph.specs.declared.order.Order.TheVariants.{Nothing}
 use Rattle.heap_machines.specs.Shown.{shown, order_of, no_machine}
 use Rattle.step_core.specs.Machines.{takes_of}
-use Rattle.table_heap.specs.State.{machine_at, order_at}
+use Rattle.table_heap.specs.State.{order_at}
 use Rattle.table_heap.proofs.MachineUnder.{within, read_here, never_none, shows_as}
 use Rattle.table_heap.proofs.bundle.Bundle.is_idle.Goals as goal
 

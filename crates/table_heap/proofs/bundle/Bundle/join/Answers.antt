@@ -7,13 +7,19 @@ use Rattle.shared_table.proofs.Kept.{kept-merged}
 use Rattle.heap_machines.specs.Shown.{shown, order_of}
 use Rattle.table_heap.specs.Core.{machine_in}
 use Rattle.table_heap.specs.State.{view_of}
-use Rattle.table_heap.specs.Known.{AreOfHeap}
+use Rattle.table_heap.specs.Known.{AreOfHeap, AreGreyedBy}
 use Rattle.table_heap.proofs.Stepping.{heap_merged}
+use Rattle.table_heap.proofs.Greyed.{greys_as, greys_merged}
 use Rattle.table_heap.proofs.bundle.Bundle.join.Goals as goal
 
 pub join_machines-requires : goal.join_machines-requires
 join_machines-requires c =
     c.args.self.seats ∙ ap (λ k. seat_count k.mutators k.helpers) (c.requires.this.config ∙ sym c.requires.other.config) ∙ sym c.args.other.seats
+
+pub join_machines-requires-2 : goal.join_machines-requires-2
+join_machines-requires-2 c =
+    c.args.self.greys.numbers ∙ c.args.self.seats ∙ ap (λ k. seat_count k.mutators k.helpers) (c.requires.this.config ∙ sym c.requires.other.config)
+    ∙ sym (c.args.other.greys.numbers ∙ c.args.other.seats)
 
 pub invariant_of-self : goal.invariant_of-self
 invariant_of-self c =
@@ -29,6 +35,11 @@ invariant_of-self c =
       slots = ap (λ me. me.1) c.join_bundle.ensures.1 ∙ a.slots;
       of_heap = subst (AreOfHeap a.config) (sym c.join_machines.ensures)
           (heap_merged a.config a.machines.items b.machines.items a.of_heap (subst (λ k. AreOfHeap k b.machines.items) (c.requires.other.config ∙ sym c.requires.this.config) b.of_heap));
+      greys = greys_as a.config _ _ _ _ c.join_machines.ensures c.join_machines-2.ensures
+          (greys_merged a.config a.machines.items b.machines.items a.greyed.items b.greyed.items long a.greys
+          (subst (λ k. AreGreyedBy k b.machines.items b.greyed.items) (c.requires.other.config ∙ sym c.requires.this.config) b.greys));
+      hints_of_heap = a.hints_of_heap;
+      thieves_of_heap = a.thieves_of_heap;
     }
 
 pub returns-clause-view : goal.returns-clause-view

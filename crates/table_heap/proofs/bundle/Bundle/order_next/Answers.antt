@@ -14,6 +14,7 @@ use Rattle.heap_machines.specs.Turn.{order_for}
 use Rattle.table_heap.specs.State.{view_of}
 use Rattle.table_heap.proofs.MachineUnder.{within, read_here, never_none, shows_here, shows_as, put_same, put_there}
 use Rattle.table_heap.proofs.Stepping.{heap_put}
+use Rattle.table_heap.proofs.Greyed.{greys_put}
 use Rattle.table_heap.proofs.bundle.Bundle.order_next.Goals as goal
 
 pub index_mut-requires : goal.index_mut-requires
@@ -53,6 +54,9 @@ invariant_of-self c =
       kept = b.kept ∙ sym (put_same shown b.machines.items c.args.number m n here c.order_next.ensures.shown);
       slots = b.slots;
       of_heap = heap_put b.config b.machines.items c.args.number m n here c.order_next.ensures.heap (ap is_mutating c.order_next.ensures.shown) b.of_heap;
+      greys = greys_put b.config b.machines.items b.greyed.items c.args.number m n here b.greys;
+      hints_of_heap = b.hints_of_heap;
+      thieves_of_heap = b.thieves_of_heap;
     }
 
 pub returns-clause-turn : goal.returns-clause-turn
@@ -98,9 +102,9 @@ returns-clause-unchanged c = λ none.
     let n = c.order_next.new.self in
     let was = c.requires.orders c.args.number (order_of m) (shows_here order_of b.machines.items c.args.number m here) in
     record {
-      unmoved = record { same = record { table = refl; config = refl; numbers = same_none (view_of b) }; view = refl; steps = refl };
+      unmoved = record { same = record { table = refl; config = refl; numbers = same_none (view_of b) }; view = refl; steps = refl; greyed = refl };
       orders = put_same order_of b.machines.items c.args.number m n here (c.order_next.ensures.idle none ∙ sym was);
     }
 
 pub returns-clause-unmoved : goal.returns-clause-unmoved
-returns-clause-unmoved c = record { same = record { table = refl; config = refl; numbers = same_none (view_of c.args.self.now) }; view = refl; steps = refl }
+returns-clause-unmoved c = record { same = record { table = refl; config = refl; numbers = same_none (view_of c.args.self.now) }; view = refl; steps = refl; greyed = refl }

@@ -21,10 +21,20 @@ use Rattle.table_heap.specs.State.{order_at}
 use Rattle.table_heap.proofs.MachineUnder.{within, read_here, never_none, shows_as, put_same, put_there}
 use Rattle.table_heap.proofs.Said.{never_idle, done_only}
 use Rattle.table_heap.proofs.Stepping.{can, can_as, took_as, took_in, step_counted, fits, numbers_stay, kept_after, role_after, heap_put}
+use Rattle.std.specs.Prelude.{IfSome}
+use Rattle.heap_words.specs.Words.{Heap, IsWord}
+use Rattle.step_core.specs.Machines.{greys_of}
+use Rattle.table_heap.proofs.Greyed.{greys_put, greys_step}
 use Rattle.table_heap.proofs.bundle.Bundle.step.Goals as goal
 
 pub index_mut-requires : goal.index_mut-requires
 index_mut-requires c = let inside = within shown c.args.self.now.machines.items c.args.number c.requires.here in omega arith
+
+pub index_mut-requires-2 : goal.index_mut-requires-2
+index_mut-requires-2 c =
+    let b = c.args.self.now in
+    let inside = within shown b.machines.items c.args.number c.requires.here in
+    omega (arith, inside, b.greys.numbers)
 
 pub unreachable-requires : goal.unreachable-requires
 unreachable-requires c =
@@ -44,6 +54,9 @@ invariant_of-self c =
       kept = b.kept ∙ sym (put_same shown b.machines.items c.args.number m m here refl);
       slots = b.slots;
       of_heap = heap_put b.config b.machines.items c.args.number m m here refl refl b.of_heap;
+      greys = greys_put b.config b.machines.items b.greyed.items c.args.number m m here b.greys;
+      hints_of_heap = b.hints_of_heap;
+      thieves_of_heap = b.thieves_of_heap;
     }
 
 pub returns-then-is_idle-clause-idle : goal.returns-then-is_idle-clause-idle
@@ -75,7 +88,7 @@ returns-then-is_idle-clause-unchanged c = λ none.
     let inside = within shown b.machines.items c.args.number c.requires.here in
     let here = read_here shown b.machines.items c.args.number c.index_mut.result.now m inside c.index_mut.ensures.value (sym c.as_mut.ensures.value ∙ ap option_copied_mut c.in-Some.is) in
     record {
-      unmoved = record { same = record { table = refl; config = refl; numbers = same_none (State.view_of b) }; view = refl; steps = refl };
+      unmoved = record { same = record { table = refl; config = refl; numbers = same_none (State.view_of b) }; view = refl; steps = refl; greyed = refl };
       orders = put_same order_of b.machines.items c.args.number m m here refl;
     }
 
@@ -147,6 +160,10 @@ invariant_of-self-2 c =
       slots = took.slots ∙ b.slots;
       of_heap = heap_put b.config b.machines.items c.args.number m n here c.took-said.ensures.heap
           (role_after b.config b.machines.items (uncounted_seat b.seat.me) b.kept c.args.number m here c.make_step-got.result (uncounted_seat c.make_step-got.new.seat.me) took n c.took-said.ensures.shown heap) b.of_heap;
+      greys = (greys_step b.config b.machines.items b.greyed.items c.args.number m n c.greys-greyed.result here
+          (subst (λ k. IfSome c.greys-greyed.result (λ address. IsWord k (Heap address))) heap c.greys-greyed.ensures.heap) b.greys);
+      hints_of_heap = b.hints_of_heap;
+      thieves_of_heap = b.thieves_of_heap;
     }
 
 pub returns-clause-event : goal.returns-clause-event
@@ -165,7 +182,9 @@ returns-clause-event c = λ _.
       got = c.make_step-got.result;
       took = took_uncounted (heap_kind b.config) (heap_opening b.config) c.args.number (order_at b c.args.number) b.seat.me c.make_step-got.new.seat.me c.make_step-got.result took;
       steps = step_counted b.config c.args.number (order_at b c.args.number) b.seat.me c.make_step-got.new.seat.me c.make_step-got.result took;
-      said_is = c.of.ensures ∙ ap stepped_by (sym c.took-said.ensures.answer) ∙ ap (λ k. says k (shown m) c.make_step-got.result) heap ∙ ap (λ x. says b.config x c.make_step-got.result) (sym at);
+      said_is = c.of.ensures ∙ ap stepped_by (sym c.took-said.ensures.answer) ∙ ap (λ k. says k (order_of m) (shown m) c.make_step-got.result) heap
+          ∙ ap (λ order. says b.config order (shown m) c.make_step-got.result) (sym given) ∙ ap (λ x. says b.config (order_at b c.args.number) x c.make_step-got.result) (sym at);
+      greyed = ap (λ x. slice_set b.greyed.items c.args.number x) (c.greys-greyed.ensures.row ∙ ap greys_of (sym at));
       orders = kept-set order_of b.machines.items c.args.number (Some n) ∙ ap (λ o. slice_set (kept_in_view order_of b.machines.items) c.args.number (Some o)) c.took-said.ensures.order;
     }
 

@@ -1,5 +1,5 @@
 use Rattle.std.proofs.Common.{◌≡◌, length, refl, sym, ap, ◌∙◌, subst, arith}
-use Rattle.std.specs.Slots.{slots_items, slots_counts}
+use Rattle.std.specs.Slots.{slots_items}
 use Rattle.std.proofs.lemmas.List.{length-map}
 use Rattle.heap_words.specs.declared.config.Config.{Config}
 use Rattle.shared_table.specs.Views.{View, machines_of, whole, kept_in_view, HasAllMachines}
@@ -10,7 +10,8 @@ use Rattle.heap_machines.specs.Shown.{shown}
 use Rattle.step_core.specs.Actor.{Actor}
 use Rattle.step_core.specs.Settled.{image_of, control_number}
 use Rattle.std.specs.Prelude.{slice_get, None}
-use Rattle.table_heap.specs.Core.{heap_kind, heap_opening, table_opening}
+use Rattle.table_heap.specs.Core.{heap_kind, heap_opening, table_opening, machine_in}
+use Rattle.table_heap.specs.Hinted.{hints_in}
 use Rattle.table_heap.specs.State.{view_of}
 use Rattle.image_graph.specs.State.{config_of, words_of}
 use Rattle.table_heap.specs.Known.{HasTheControl}
@@ -50,6 +51,7 @@ invariant_of-result c =
     let image = c.read_words.new.image in
     let config : h.config ≡ config_of image = sym (c.read_words.ensures.config ∙ c.control_image-image.ensures) in
     record {
+      counted = c.hints_taken-hinted.ensures (machines_of view) (ap (kept_in_view shown) c.deref.ensures.value ∙ sym b.kept ∙ ap (kept_in_view machine_in) all.all) ∙ ap (λ (v : View Actor). hints_in (machines_of v)) seen;
       reached = ∣ reached_as h.table.shared.key (config_of image) (slots_items c.close_table-rows.result.words) (words_of image) view last (h.key ∙ config) (sym c.read_words.ensures.words) seen
           (view_reached (heap_kind h.table.shared.key) (heap_opening h.table.shared.key) (slots_items c.close_table-rows.result.words) b.seat.me.0 c.close_table-rows.ensures.reached) ∣₁;
       calm =

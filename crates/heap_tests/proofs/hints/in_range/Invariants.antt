@@ -1,0 +1,9 @@
+use Rattle.std.proofs.Common.{◌≡◌, length, All}
+use Rattle.shen_core.specs.Progress.{IsRunnable}
+use Rattle.heap_tests.proofs.hints.in_range.Given as goal
+
+abbrev pub invariant-loop-commands : goal.invariant-loop-commands
+invariant-loop-commands l = record {
+  count : length l.made.items ≡ l.commands-index;
+  runnable : All IsRunnable l.made.items;
+}

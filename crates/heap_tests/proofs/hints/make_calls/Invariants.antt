@@ -1,0 +1,10 @@
+use Rattle.std.proofs.Common.{◌≡◌, true}
+use Rattle.shen_core.specs.State.{config_of, machine_at}
+use Rattle.step_core.specs.Machines.{may_begin}
+use Rattle.heap_tests.proofs.hints.make_calls.Given as goal
+
+abbrev pub invariant-loop-command : goal.invariant-loop-command
+invariant-loop-command g l = record {
+  config : config_of l.plain ≡ config_of l.fn.plain;
+  rest : may_begin (machine_at l.plain 0) ≡ true;
+}

@@ -1,0 +1,56 @@
+use Rattle.shen_graph.specs.declared.order.Order.TheVariants.{Hint}
+use Rattle.std.proofs.Common.{sym, ap, ◌∙◌, subst, arith, refl}
+use Rattle.std.proofs.lemmas.List.{length-set}
+use Rattle.std.proofs.Math.Logic.{∥∥₁_map}
+use Rattle.heap_words.specs.Words.{Heap, IsWord}
+use Rattle.step_core.specs.Machines.{takes_hint, takes_of}
+use Rattle.shen_core.specs.Runs.{IsShownBySome}
+use Rattle.shen_core.proofs.Memory.{from_read, machine_here, heap_here, ordered_machines, ordered_orders, ordered_heap}
+use Rattle.shen_core.proofs.plain.Plain.hint.Goals as goal
+
+pub give_hint-requires-clause-takes : goal.give_hint-requires-clause-takes
+give_hint-requires-clause-takes c =
+    let here = from_read c.args.self.now.machines.items c.args.number c.index_mut.result.now (omega (arith, c.args.self.now.all_machines, c.requires.number)) c.index_mut.ensures.value in
+    ap takes_hint (sym (machine_here c.args.self.now.machines.items c.args.number c.index_mut.result.now here)) ∙ c.requires.takes
+
+pub give_hint-requires-clause-heap : goal.give_hint-requires-clause-heap
+give_hint-requires-clause-heap c =
+    let p = c.args.self.now in
+    let here = from_read p.machines.items c.args.number c.index_mut.result.now (omega (arith, p.all_machines, c.requires.number)) c.index_mut.ensures.value in
+    subst (λ k. IsWord k (Heap c.args.address)) (sym (heap_here p.config p.machines.items c.args.number c.index_mut.result.now p.one_heap here)) c.requires.heap
+
+pub invariant_of-self : goal.invariant_of-self
+invariant_of-self c =
+    let p = c.args.self.now in
+    let here = from_read p.machines.items c.args.number c.index_mut.result.now (omega (arith, p.all_machines, c.requires.number)) c.index_mut.ensures.value in
+    record {
+      all_words = p.all_words;
+      all_machines = length-set p.machines.items _ _ ∙ p.all_machines;
+      one_heap = ordered_heap p.config p.machines.items c.args.number c.index_mut.result.now c.give_hint.new.self here c.give_hint.ensures.heap p.one_heap;
+      reached = ∥∥₁_map p.reached (subst (λ machines. IsShownBySome p.config p.words.items machines)
+          (sym (ordered_machines p.machines.items c.args.number c.index_mut.result.now c.give_hint.new.self here c.give_hint.ensures.shown)));
+    }
+
+pub returns-clause-order : goal.returns-clause-order
+returns-clause-order c = ordered_orders c.args.self.now.machines.items c.args.number c.give_hint.new.self _ c.give_hint.ensures.order
+
+pub returns-clause-machines : goal.returns-clause-machines
+returns-clause-machines c =
+    let here = from_read c.args.self.now.machines.items c.args.number c.index_mut.result.now (omega (arith, c.args.self.now.all_machines, c.requires.number)) c.index_mut.ensures.value in
+    ordered_machines c.args.self.now.machines.items c.args.number c.index_mut.result.now c.give_hint.new.self here c.give_hint.ensures.shown
+
+pub index_mut-requires : goal.index_mut-requires
+index_mut-requires c =
+    let p = c.args.self.now in
+    omega (arith, p.all_machines, c.requires.number)
+
+pub returns-clause-takes : goal.returns-clause-takes
+returns-clause-takes c =
+    let here = from_read c.args.self.now.machines.items c.args.number c.index_mut.result.now (omega (arith, c.args.self.now.all_machines, c.requires.number)) c.index_mut.ensures.value in
+    ap (λ x. takes_of x (Hint c.args.address)) (machine_here c.args.self.now.machines.items c.args.number c.index_mut.result.now here) ∙ c.give_hint.ensures.takes
+
+pub returns-clause-words : goal.returns-clause-words
+returns-clause-words c = refl
+
+pub returns-clause-config : goal.returns-clause-config
+returns-clause-config c = refl

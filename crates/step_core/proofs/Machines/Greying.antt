@@ -1,0 +1,238 @@
+-- At which places hints are taken and addresses made grey: each place of a machine is one of three kinds.
+use Rattle.std.proofs.Common.{◌≡◌, ℕ, Bool, true, false, Option, Some, None, refl, sym, ap, ◌∙◌, arith}
+use Rattle.std.specs.Prelude.{◌↔◌, not}
+use Rattle.heap_words.specs.declared.place.Place.{Place}
+use Rattle.heap_words.specs.declared.place.Place.TheVariants.{MC, GO, KX}
+use Rattle.shen_graph.specs.declared.order.Order.TheVariants.{Nothing}
+use Rattle.handshake.specs.declared.enter_spot.EnterSpot.{EnterSpot}
+use Rattle.handshake.specs.declared.enter_spot.EnterSpot.TheVariants as enter
+use Rattle.handshake.specs.declared.stop_spot.StopSpot.{StopSpot}
+use Rattle.handshake.specs.declared.stop_spot.StopSpot.TheVariants as stop
+use Rattle.handshake.specs.Rows as enters
+use Rattle.alloc_buffers.specs.declared.spot.TakeSpot.{TakeSpot}
+use Rattle.alloc_buffers.specs.declared.spot.TakeSpot.TheVariants as take
+use Rattle.alloc_buffers.specs.Rows as takes
+use Rattle.evac_room.specs.declared.spot.RoomSpot.{RoomSpot}
+use Rattle.evac_room.specs.declared.spot.RoomSpot.TheVariants as room
+use Rattle.evac_room.specs.Rows as rooms
+use Rattle.satb_barrier.specs.declared.spot.RememberSpot.{RememberSpot}
+use Rattle.satb_barrier.specs.declared.spot.RememberSpot.TheVariants as remember
+use Rattle.satb_barrier.specs.Rows as satb
+use Rattle.load_barrier.specs.declared.copying.CopySpot.{CopySpot}
+use Rattle.load_barrier.specs.declared.copying.CopySpot.TheVariants as copy
+use Rattle.load_barrier.specs.declared.spot.ResolveSpot.{ResolveSpot}
+use Rattle.load_barrier.specs.declared.spot.ResolveSpot.TheVariants as resolve
+use Rattle.load_barrier.specs.Rows as resolves
+use Rattle.load_barrier.specs.declared.evac_spot.EvacSpot.{EvacSpot}
+use Rattle.load_barrier.specs.declared.evac_spot.EvacSpot.TheVariants as evac
+use Rattle.load_barrier.specs.UnitRows as evacs
+use Rattle.update_part.specs.declared.spot.UpdateSpot.{UpdateSpot}
+use Rattle.update_part.specs.declared.spot.UpdateSpot.TheVariants as update
+use Rattle.update_part.specs.Rows as updates
+use Rattle.heap_words.specs.declared.access.Unit.TheVariants.{Worked, NoneLeft}
+use Rattle.scan_part.specs.declared.spot.ScanSpot.{ScanSpot}
+use Rattle.scan_part.specs.declared.spot.ScanSpot.TheVariants as scan
+use Rattle.scan_part.specs.Rows as scans
+use Rattle.unit_part.specs.declared.spot.UnitSpot.{UnitSpot}
+use Rattle.unit_part.specs.declared.spot.UnitSpot.TheVariants.{Scanning, Evacuating, Updating, Ended}
+use Rattle.unit_part.specs.Rows as units
+use Rattle.mutator.specs.declared.loads.LoadSpot.{LoadSpot}
+use Rattle.mutator.specs.declared.loads.LoadSpot.TheVariants as load
+use Rattle.mutator.specs.declared.fields.FieldSpot.{FieldSpot}
+use Rattle.mutator.specs.declared.fields.FieldSpot.TheVariants as fields
+use Rattle.mutator.specs.declared.numbers.NumberSpot.{NumberSpot}
+use Rattle.mutator.specs.declared.numbers.NumberSpot.TheVariants as number
+use Rattle.mutator.specs.declared.shows.ShowSpot.{ShowSpot}
+use Rattle.mutator.specs.declared.shows.ShowSpot.TheVariants as show
+use Rattle.mutator.specs.declared.makes.MakeSpot.{MakeSpot}
+use Rattle.mutator.specs.declared.makes.MakeSpot.TheVariants as make
+use Rattle.mutator.specs.declared.waits.WaitSpot.{WaitSpot}
+use Rattle.mutator.specs.declared.waits.WaitSpot.TheVariants as wait
+use Rattle.mutator.specs.WaitRows.{wait_place}
+use Rattle.mutator.specs.declared.spot.Spot.{Spot}
+use Rattle.mutator.specs.declared.spot.Spot.TheVariants.{Entering, Loading, OnField, Resolving, Recording, OnNumber, Showing, Making, Waiting}
+use Rattle.mutator.specs.Rows as mutators
+use Rattle.helper.specs.declared.spot.HelpSpot.{HelpSpot}
+use Rattle.helper.specs.declared.spot.HelpSpot.TheVariants as help
+use Rattle.helper.specs.Rows as helpers
+use Rattle.control_rows.specs.declared.spot.ControlSpot.{ControlSpot}
+use Rattle.control_rows.specs.declared.spot.ControlSpot.TheVariants as control
+use Rattle.control_rows.specs.Rows as controls
+use Rattle.step_core.specs.Actor.{Machine, mutating, helping, controlling}
+use Rattle.step_core.specs.Machines.{takes_hint, greys_of, place_in}
+use Rattle.step_core.specs.Seats.{unit_in, help_unit, control_unit}
+use Rattle.step_core.specs.Hints.{scans_on, HintsHavePlaces}
+
+-- the kind of a place: where units of marking are claimed, where an address is made grey, or another one
+abbrev kind : Place → ℕ
+kind MC = 1
+kind GO = 2
+kind _ = 0
+
+kind_claims : (p : Place) → kind p ≡ 1 → p ≡ MC
+kind_claims MC is = refl
+kind_claims _ is = absurd (cc (is))
+
+kind_greys : (p : Place) → kind p ≡ 2 → p ≡ GO
+kind_greys GO is = refl
+kind_greys _ is = absurd (cc (is))
+
+-- the kind that goes with an address that is made grey
+abbrev by_greyed : Option ℕ → ℕ
+by_greyed None = 0
+by_greyed (Some address) = 2
+
+-- the parts of a call
+enter_kind : (at : EnterSpot) → kind (enters.enter_place at) ≡ 0
+enter_kind enter.Raise = refl
+enter_kind _ = refl
+
+take_kind : (at : TakeSpot) → kind (takes.place_at at) ≡ 0
+take_kind take.LoadBuffer = refl
+take_kind _ = refl
+
+room_kind : (at : RoomSpot) → kind (rooms.place_at at) ≡ 0
+room_kind room.Outside = refl
+room_kind _ = refl
+
+copy_kind : (at : CopySpot) → kind (resolves.copy_place at) ≡ 0
+copy_kind (copy.LoadWord words index) = refl
+copy_kind _ = refl
+
+resolve_kind : (at : ResolveSpot) → kind (resolves.place_at at) ≡ 0
+resolve_kind (resolve.Entering at) = room_kind at
+resolve_kind (resolve.Taking words at) = take_kind at
+resolve_kind (resolve.Copying copy end at) = copy_kind at
+resolve_kind (resolve.Stopping at) = room_kind at
+resolve_kind _ = refl
+
+load_kind : (at : LoadSpot) → kind (mutators.load_place at) ≡ 0
+load_kind load.First = refl
+load_kind _ = refl
+
+field_kind : (at : FieldSpot) → kind (mutators.field_place at) ≡ 0
+field_kind fields.Load = refl
+field_kind _ = refl
+
+number_kind : (at : NumberSpot) → kind (mutators.number_place at) ≡ 0
+number_kind number.Load = refl
+number_kind _ = refl
+
+show_kind : (at : ShowSpot) → kind (mutators.show_place at) ≡ 0
+show_kind show.LoadName = refl
+show_kind _ = refl
+
+make_kind : (at : MakeSpot) → kind (mutators.make_place at) ≡ 0
+make_kind (make.Taking take) = take_kind take
+make_kind _ = refl
+
+wait_kind : (at : WaitSpot) → kind (wait_place at) ≡ 0
+wait_kind wait.StoreRequest = refl
+wait_kind _ = refl
+
+remember_kind : (at : RememberSpot) → kind (satb.place_at at) ≡ by_greyed (satb.greys_at at)
+remember_kind remember.LoadCount = refl
+remember_kind _ = refl
+
+-- a mutator
+spot_kind : (spot : Spot) → kind (mutators.place_at Nothing spot) ≡ by_greyed (mutators.greys_at spot)
+spot_kind (Entering at next) = enter_kind at
+spot_kind (Loading at) = load_kind at
+spot_kind (OnField object at) = field_kind at
+spot_kind (Resolving address at next) = resolve_kind at
+spot_kind (Recording at address next) = remember_kind at
+spot_kind (OnNumber object refs at) = number_kind at
+spot_kind (Showing value at) = show_kind at
+spot_kind (Making at) = make_kind at
+spot_kind (Waiting at) = wait_kind at
+spot_kind _ = refl
+
+-- the kind that goes with who works on a unit: it claims, or makes an address grey, or neither
+abbrev by_work : Bool → Option ℕ → ℕ
+by_work true greyed = 1
+by_work false greyed = by_greyed greyed
+
+evac_kind : (at : EvacSpot) → kind (evacs.place_at at) ≡ 0
+evac_kind (evac.Resolving address end next at) = resolve_kind at
+evac_kind _ = refl
+
+update_kind : (at : UpdateSpot) → kind (updates.place_at at) ≡ 0
+update_kind (update.Ended Worked) = refl
+update_kind (update.Ended NoneLeft) = refl
+update_kind _ = refl
+
+scan_kind : (at : ScanSpot) → not (scans.is_ended at) ≡ true → kind (scans.place_at at) ≡ by_work (units.takes_hint (Scanning at)) (scans.greys_at at)
+scan_kind (scan.Ended unit) goes = absurd (cc (goes))
+scan_kind _ goes = refl
+
+unit_kind : (at : UnitSpot) → scans_on at ≡ true → kind (units.place_at at) ≡ by_work (units.takes_hint at) (units.greys_at at)
+unit_kind (Scanning at) goes = scan_kind at goes
+unit_kind (Evacuating cset at) goes = evac_kind at
+unit_kind (Updating cset at) goes = update_kind at
+unit_kind (Ended unit) goes = refl
+
+stop_kind : (at : StopSpot) → kind (enters.stop_place at) ≡ 0
+stop_kind stop.Raise = refl
+stop_kind _ = refl
+
+help_kind : (spot : HelpSpot) → scans_on (help_unit spot) ≡ true → kind (helpers.place_at spot) ≡ by_work (helpers.takes_hint spot) (helpers.greys_at spot)
+help_kind (help.Working at) goes = unit_kind at goes
+help_kind (help.Entering at) goes = enter_kind at
+help_kind _ goes = refl
+
+control_kind : (spot : ControlSpot) → scans_on (control_unit spot) ≡ true → kind (controls.control_place spot) ≡ by_work (controls.takes_hint spot) (controls.greys_at spot)
+control_kind (control.Working at) goes = unit_kind at goes
+control_kind (control.Stopping at) goes = stop_kind at
+control_kind _ goes = refl
+
+-- a machine
+machine_kind : (machine : Machine) → scans_on (unit_in machine) ≡ true → kind (place_in Nothing machine) ≡ by_work (takes_hint machine) (greys_of machine)
+machine_kind (mutating m) goes = spot_kind m.spot
+machine_kind (helping h) goes = help_kind h.spot goes
+machine_kind (controlling k) goes = control_kind k.spot goes
+
+claims_by : (b : Bool) (greyed : Option ℕ) → by_work b greyed ≡ 1 → b ≡ true
+claims_by true greyed is = refl
+claims_by false None is = absurd (cc (is))
+claims_by false (Some address) is = absurd (cc (is))
+
+taken_there : (machine : Machine) → scans_on (unit_in machine) ≡ true → (takes_hint machine ≡ true) ↔ (place_in Nothing machine ≡ MC)
+taken_there machine goes = (
+  (λ takes_it. kind_claims (place_in Nothing machine) (machine_kind machine goes ∙ ap (λ b. by_work b (greys_of machine)) takes_it)),
+  (λ there. claims_by (takes_hint machine) (greys_of machine) (sym (machine_kind machine goes) ∙ ap kind there)),
+)
+
+-- where a scan has ended no address is made grey either
+scan_greys : (at : ScanSpot) → (scans.greys_at at ≡ None) ↔ (scans.place_at at ≡ GO → ⊥)
+scan_greys (scan.SetGrey address field refs found) = ((λ none. absurd (cc (none))), (λ not_there. absurd (not_there refl)))
+scan_greys (scan.Ended Worked) = ((λ none there. cc), (λ not_there. refl))
+scan_greys (scan.Ended NoneLeft) = ((λ none there. cc), (λ not_there. refl))
+scan_greys _ = ((λ none there. cc), (λ not_there. refl))
+
+greyed_by : (place : Place) (greyed : Option ℕ) → kind place ≡ by_greyed greyed → (greyed ≡ None) ↔ (place ≡ GO → ⊥)
+greyed_by place None is = ((λ none there. (let a = is in let two = ap kind there in omega (arith, a, two))), (λ not_there. refl))
+greyed_by place (Some address) is = ((λ none. absurd (cc (none))), (λ not_there. absurd (not_there (kind_greys place is))))
+
+unit_greys : (at : UnitSpot) → (units.greys_at at ≡ None) ↔ (units.place_at at ≡ GO → ⊥)
+unit_greys (Scanning at) = scan_greys at
+unit_greys (Evacuating cset at) = greyed_by (evacs.place_at at) None (evac_kind at)
+unit_greys (Updating cset at) = greyed_by (updates.place_at at) None (update_kind at)
+unit_greys (Ended unit) = greyed_by KX None refl
+
+help_greys : (spot : HelpSpot) → (helpers.greys_at spot ≡ None) ↔ (helpers.place_at spot ≡ GO → ⊥)
+help_greys (help.Working at) = unit_greys at
+help_greys (help.Entering at) = greyed_by (enters.enter_place at) None (enter_kind at)
+help_greys spot = greyed_by (helpers.place_at spot) None refl
+
+control_greys : (spot : ControlSpot) → (controls.greys_at spot ≡ None) ↔ (controls.control_place spot ≡ GO → ⊥)
+control_greys (control.Working at) = unit_greys at
+control_greys (control.Stopping at) = greyed_by (enters.stop_place at) None (stop_kind at)
+control_greys spot = greyed_by (controls.control_place spot) None refl
+
+greyed_there : (machine : Machine) → (greys_of machine ≡ None) ↔ (place_in Nothing machine ≡ GO → ⊥)
+greyed_there (mutating m) = greyed_by (mutators.place_at Nothing m.spot) (mutators.greys_at m.spot) (spot_kind m.spot)
+greyed_there (helping h) = help_greys h.spot
+greyed_there (controlling k) = control_greys k.spot
+
+pub places_of_hints : HintsHavePlaces
+places_of_hints = record { taken = taken_there; greyed = greyed_there }

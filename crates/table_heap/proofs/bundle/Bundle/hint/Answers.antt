@@ -1,0 +1,73 @@
+use Rattle.std.proofs.Common.{refl, Some, sym, ap, ◌∙◌, subst, arith}
+use Rattle.std.specs.Prelude.{slice_set}
+use Rattle.std.proofs.lemmas.List.{length-set}
+use Rattle.shared_table.specs.Views.{kept_in_view}
+use Rattle.shared_table.proofs.Kept.{kept-set}
+use Rattle.shared_table.proofs.Numbers.{same_none}
+use Rattle.heap_machines.specs.Shown.{shown, order_of, no_machine}
+use Rattle.std.specs.Option.{option_copied_mut}
+use Rattle.shen_graph.specs.declared.order.Order.TheVariants.{Hint}
+use Rattle.heap_machines.specs.Roles.{is_mutating}
+use Rattle.heap_words.specs.Words.{Heap, IsWord}
+use Rattle.step_core.specs.Machines.{takes_of, takes_hint}
+use Rattle.table_heap.specs.State.{view_of}
+use Rattle.table_heap.proofs.MachineUnder.{within, read_here, never_none, shows_as, put_same}
+use Rattle.table_heap.proofs.Stepping.{heap_put}
+use Rattle.table_heap.proofs.Greyed.{greys_put}
+use Rattle.table_heap.proofs.bundle.Bundle.hint.Goals as goal
+
+pub index_mut-requires : goal.index_mut-requires
+index_mut-requires c = let inside = within shown c.args.self.now.machines.items c.args.number c.requires.here in omega arith
+
+pub unreachable-requires : goal.unreachable-requires
+unreachable-requires c =
+    never_none shown c.args.self.now.machines.items c.args.number c.index_mut.result.now c.requires.here c.index_mut.ensures.value
+    (sym c.as_mut.ensures.value ∙ ap option_copied_mut c.in_default.is)
+
+pub give_hint-requires-clause-takes : goal.give_hint-requires-clause-takes
+give_hint-requires-clause-takes c =
+    let b = c.args.self.now in
+    let m = c.in-Some.machine.now in
+    let inside = within shown b.machines.items c.args.number c.requires.here in
+    let here = read_here shown b.machines.items c.args.number c.index_mut.result.now m inside c.index_mut.ensures.value (sym c.as_mut.ensures.value ∙ ap option_copied_mut c.in-Some.is) in
+    ap takes_hint (sym (shows_as shown b.machines.items c.args.number m no_machine here)) ∙ c.requires.takes
+
+pub give_hint-requires-clause-heap : goal.give_hint-requires-clause-heap
+give_hint-requires-clause-heap c =
+    let b = c.args.self.now in
+    let m = c.in-Some.machine.now in
+    let inside = within shown b.machines.items c.args.number c.requires.here in
+    let here = read_here shown b.machines.items c.args.number c.index_mut.result.now m inside c.index_mut.ensures.value (sym c.as_mut.ensures.value ∙ ap option_copied_mut c.in-Some.is) in
+    subst (λ k. IsWord k (Heap c.args.address)) (sym (b.of_heap c.args.number m here).heap) c.requires.heap
+
+pub invariant_of-self : goal.invariant_of-self
+invariant_of-self c =
+    let b = c.args.self.now in
+    let m = c.in-Some.machine.now in
+    let inside = within shown b.machines.items c.args.number c.requires.here in
+    let here = read_here shown b.machines.items c.args.number c.index_mut.result.now m inside c.index_mut.ensures.value (sym c.as_mut.ensures.value ∙ ap option_copied_mut c.in-Some.is) in
+    let n = c.give_hint.new.self in
+    record {
+      seats = length-set b.machines.items _ _ ∙ b.seats;
+      kept = b.kept ∙ sym (put_same shown b.machines.items c.args.number m n here c.give_hint.ensures.shown);
+      slots = b.slots;
+      of_heap = heap_put b.config b.machines.items c.args.number m n here c.give_hint.ensures.heap (ap is_mutating c.give_hint.ensures.shown) b.of_heap;
+      greys = greys_put b.config b.machines.items b.greyed.items c.args.number m n here b.greys;
+      hints_of_heap = b.hints_of_heap;
+      thieves_of_heap = b.thieves_of_heap;
+    }
+
+pub returns-clause-order : goal.returns-clause-order
+returns-clause-order c =
+    kept-set order_of c.args.self.now.machines.items c.args.number (Some c.give_hint.new.self) ∙ ap (λ o. slice_set (kept_in_view order_of c.args.self.now.machines.items) c.args.number (Some o)) c.give_hint.ensures.order
+
+pub returns-clause-takes : goal.returns-clause-takes
+returns-clause-takes c =
+    let b = c.args.self.now in
+    let m = c.in-Some.machine.now in
+    let inside = within shown b.machines.items c.args.number c.requires.here in
+    let here = read_here shown b.machines.items c.args.number c.index_mut.result.now m inside c.index_mut.ensures.value (sym c.as_mut.ensures.value ∙ ap option_copied_mut c.in-Some.is) in
+    ap (λ x. takes_of x (Hint c.args.address)) (shows_as shown b.machines.items c.args.number m no_machine here) ∙ c.give_hint.ensures.takes
+
+pub returns-clause-unmoved : goal.returns-clause-unmoved
+returns-clause-unmoved c = record { same = record { table = refl; config = refl; numbers = same_none (view_of c.args.self.now) }; view = refl; steps = refl; greyed = refl }

@@ -1,0 +1,39 @@
+-- Who steals whose hints.
+use Rattle.std.specs.Prelude.{ℕ, ◌≡◌, ◌≢◌, ◌<◌, List, length, Some, slice_get}
+use Rattle.heap_words.specs.declared.config.Config.{Config}
+use Rattle.hint_deque.specs.Seen.{IsThiefOf, IsSameDeque}
+use Rattle.hint_deque.specs.declared.hints.Thief.{Thief}
+use Rattle.table_heap.specs.declared.bundle.Bundle.{Bundle}
+use Rattle.table_heap.specs.State.{heap_of}
+use Rattle.table_heap.specs.Turning.{OnlyHintsDiffer}
+
+-- one of the bundle's thieves steals the other's hints
+pub record StealsFrom (b other : Bundle) : Type 0 where
+  pub place : ℕ
+  pub thief : Thief
+  pub there : slice_get b.thieves.items place ≡ Some thief
+  pub steals : IsThiefOf other.hints thief
+
+-- each bundle with a lower number than this steals the hints of the bundle under the other number, if it is another
+abbrev pub StealFrom : (below : ℕ) → List Bundle → (number : ℕ) → Type 0
+StealFrom below bundles number =
+    (k : ℕ) (b other : Bundle) → k < below → k ≢ number → slice_get bundles k ≡ Some b → slice_get bundles number ≡ Some other → StealsFrom b other
+
+-- each of the bundles steals the hints of each other one
+abbrev pub StealFromEachOther : List Bundle → Type 0
+StealFromEachOther bundles = (number : ℕ) → number < length bundles → StealFrom (length bundles) bundles number
+
+-- some bundles are of heaps with one configuration
+abbrev pub HaveConfig : Config → List Bundle → Type 0
+HaveConfig c bundles = (k : ℕ) (b : Bundle) → slice_get bundles k ≡ Some b → heap_of b ≡ c
+
+-- The bundle has all thieves that it had, and its own hints are in the same deque. Nothing else has changed.
+pub record SharesMore (old new : Bundle) : Type 0 where
+  pub only : OnlyHintsDiffer old new
+  pub deque : IsSameDeque old.hints new.hints
+  pub thieves : (place : ℕ) (thief : Thief) → slice_get old.thieves.items place ≡ Some thief → slice_get new.thieves.items place ≡ Some thief
+
+-- so it is of each of some bundles
+pub record AllShareMore (old new : List Bundle) : Type 0 where
+  pub count : length new ≡ length old
+  pub each : (k : ℕ) (b : Bundle) → slice_get new k ≡ Some b → (a : Bundle) × (slice_get old k ≡ Some a) × SharesMore a b

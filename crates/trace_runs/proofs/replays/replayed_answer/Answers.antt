@@ -1,0 +1,28 @@
+use Rattle.std.proofs.Common.{arith}
+use Rattle.trace_runs.proofs.Scripts.{count_scripts}
+use Rattle.trace_runs.proofs.Whole.{all_rest, replayed}
+use Rattle.step_core.proofs.Theorem.FirstFacts.{opening_run}
+use Rattle.trace_runs.specs.Replayed.{events_of}
+use Rattle.trace_runs.proofs.replays.replayed_answer.Goals as goal
+
+pub graph_of-requires-clause-rest : goal.graph_of-requires-clause-rest
+graph_of-requires-clause-rest c =
+    all_rest c.args.trace.config c.args.trace.scripts c.args.trace.schedule c.args.steps c.in_ok-replies.replies c.in_ok-replies.plain c.in_ok-replies.ensures.finished
+
+pub returns-clause-ok : goal.returns-clause-ok
+returns-clause-ok c = λ bytes reads.
+    let config = c.args.trace.config in
+    let scripts = c.args.trace.scripts in
+    let items = c.args.trace.schedule in
+    let done = c.in_ok-replies.ensures.finished in
+    replayed bytes config scripts items c.args.steps c.in_ok-replies.replies c.in_ok-replies.plain c.in_ok-graph.graph reads (count_scripts bytes config scripts items reads) done c.in_ok-graph.ensures.threads
+    (c.in_ok-graph.ensures.shows (opening_run config (events_of config scripts items c.args.steps)) done.shows)
+
+pub run-requires : goal.run-requires
+run-requires c = c.requires
+
+pub graph_of-requires-clause-config : goal.graph_of-requires-clause-config
+graph_of-requires-clause-config c = c.in_ok-replies.ensures.finished.config
+
+pub returns-clause-scripts : goal.returns-clause-scripts
+returns-clause-scripts c = λ mutator below. c.in_ok-replies.ensures.finished.jobs_are mutator (omega (arith, below, c.in_ok-graph.ensures.threads))

@@ -1,0 +1,101 @@
+-- Where a machine goes on with a hint its next access can be made, and the unit has not ended.
+use Rattle.std.proofs.Common.{◌≡◌, ℕ, Bool, true, false, Option, Some, None, refl, sym, ap, ◌∙◌, arith}
+use Rattle.std.specs.Prelude.{◌&&◌, if◌then◌else◌}
+use Rattle.std.proofs.lemmas.Bool.{and_parts, and_from, lt-ltb}
+use Rattle.heap_words.specs.declared.config.Config.{Config}
+use Rattle.heap_words.specs.Words.{Heap, is_word, bit_words}
+use Rattle.heap_words.proofs.Stores.{is_word_true}
+use Rattle.regions.specs.Marks.{mark_word}
+use Rattle.regions.proofs.MarksApart.{word_inside}
+use Rattle.scan_part.specs.declared.spot.ScanSpot.{ScanSpot}
+use Rattle.scan_part.specs.declared.spot.ScanSpot.TheVariants.{LoadClaim, ClaimUnit, LoadGrey, LoadBlack, SetBlack, LoadShape, LoadField, SetGrey, Ended}
+use Rattle.scan_part.specs.Rows as scans
+use Rattle.unit_part.specs.declared.spot.UnitSpot.{UnitSpot}
+use Rattle.unit_part.specs.declared.spot.UnitSpot.TheVariants.{Scanning, Evacuating, Updating}
+use Rattle.unit_part.specs.declared.spot.UnitSpot.TheVariants as unit
+use Rattle.unit_part.specs.Rows.{hinted_by, takes_hint, is_ended}
+use Rattle.unit_part.specs.Ready.{is_ready}
+
+module _ (c : Config) where
+  -- of a scan
+  scan_ready : (address : ℕ) → scans.is_ready c (scans.hinted c address) ≡ true
+  scan_ready address = by_test (is_word c (Heap address)) refl
+    where
+      by_test : (b : Bool) → is_word c (Heap address) ≡ b → scans.is_ready c (if b then LoadGrey (mark_word c address) else LoadClaim) ≡ true
+      by_test true there = lt-ltb (mark_word c address) (bit_words c) (word_inside c address (is_word_true c (Heap address) there))
+      by_test false outside = refl
+
+  scan_goes : (address : ℕ) → scans.is_ended (scans.hinted c address) ≡ false
+  scan_goes address = by_test (is_word c (Heap address))
+    where
+      by_test : (b : Bool) → scans.is_ended (if b then LoadGrey (mark_word c address) else LoadClaim) ≡ false
+      by_test true = refl
+      by_test false = refl
+
+  scan_works : (seat address : ℕ) → is_ready c seat (Scanning (scans.hinted c address)) ≡ true
+  scan_works seat address = and_from _ _ (scan_ready address) (ap (λ b. if b then false else true) (scan_goes address))
+
+  -- of a unit
+  pub hinted_ready : (hint : Option ℕ) (seat : ℕ) (at : UnitSpot) → is_ready c seat at ≡ true → is_ready c seat (hinted_by c hint at) ≡ true
+  hinted_ready None seat at ready = ready
+  hinted_ready (Some address) seat (Scanning LoadClaim) ready = scan_works seat address
+  hinted_ready (Some address) seat (Scanning (ClaimUnit k)) ready = ready
+  hinted_ready (Some address) seat (Scanning (LoadGrey word)) ready = ready
+  hinted_ready (Some address) seat (Scanning (LoadBlack word grey)) ready = ready
+  hinted_ready (Some address) seat (Scanning (SetBlack a)) ready = ready
+  hinted_ready (Some address) seat (Scanning (LoadShape a)) ready = ready
+  hinted_ready (Some address) seat (Scanning (LoadField a field refs)) ready = ready
+  hinted_ready (Some address) seat (Scanning (SetGrey a field refs found)) ready = ready
+  hinted_ready (Some address) seat (Scanning (Ended which)) ready = ready
+  hinted_ready (Some address) seat (Evacuating cset at) ready = ready
+  hinted_ready (Some address) seat (Updating cset at) ready = ready
+  hinted_ready (Some address) seat (unit.Ended which) ready = ready
+
+  -- who takes no hints goes on as it is
+  pub hinted_not : (hint : Option ℕ) (at : UnitSpot) → takes_hint at ≡ false → hinted_by c hint at ≡ at
+  hinted_not None at none = refl
+  hinted_not (Some address) (Scanning LoadClaim) none = absurd (cc (none))
+  hinted_not (Some address) (Scanning (ClaimUnit k)) none = refl
+  hinted_not (Some address) (Scanning (LoadGrey word)) none = refl
+  hinted_not (Some address) (Scanning (LoadBlack word grey)) none = refl
+  hinted_not (Some address) (Scanning (SetBlack a)) none = refl
+  hinted_not (Some address) (Scanning (LoadShape a)) none = refl
+  hinted_not (Some address) (Scanning (LoadField a field refs)) none = refl
+  hinted_not (Some address) (Scanning (SetGrey a field refs found)) none = refl
+  hinted_not (Some address) (Scanning (Ended which)) none = refl
+  hinted_not (Some address) (Evacuating cset at) none = refl
+  hinted_not (Some address) (Updating cset at) none = refl
+  hinted_not (Some address) (unit.Ended which) none = refl
+
+  -- a unit that goes on has not ended behind the hint
+  ended_same : (hint : Option ℕ) (at : UnitSpot) → is_ended (hinted_by c hint at) ≡ is_ended at
+  ended_same hint at = by_test (takes_hint at) refl
+    where
+      claims : (address : ℕ) (at : UnitSpot) → takes_hint at ≡ true → is_ended (hinted_by c (Some address) at) ≡ is_ended at
+      claims address (Scanning LoadClaim) takes = refl
+      claims address (Scanning (ClaimUnit k)) takes = absurd (cc (takes))
+      claims address (Scanning (LoadGrey word)) takes = absurd (cc (takes))
+      claims address (Scanning (LoadBlack word grey)) takes = absurd (cc (takes))
+      claims address (Scanning (SetBlack a)) takes = absurd (cc (takes))
+      claims address (Scanning (LoadShape a)) takes = absurd (cc (takes))
+      claims address (Scanning (LoadField a field refs)) takes = absurd (cc (takes))
+      claims address (Scanning (SetGrey a field refs found)) takes = absurd (cc (takes))
+      claims address (Scanning (Ended which)) takes = absurd (cc (takes))
+      claims address (Evacuating cset evacuates) takes = absurd (cc (takes))
+      claims address (Updating cset updates) takes = absurd (cc (takes))
+      claims address (unit.Ended which) takes = absurd (cc (takes))
+
+      of_hint : (hint : Option ℕ) → takes_hint at ≡ true → is_ended (hinted_by c hint at) ≡ is_ended at
+      of_hint None takes = refl
+      of_hint (Some address) takes = claims address at takes
+
+      by_test : (b : Bool) → takes_hint at ≡ b → is_ended (hinted_by c hint at) ≡ is_ended at
+      by_test true takes = of_hint hint takes
+      by_test false none = ap is_ended (hinted_not hint at none)
+
+  -- so it is of who works on one
+  pub working : (hint : Option ℕ) (seat : ℕ) (at : UnitSpot) → (is_ready c seat at && (if is_ended at then false else true)) ≡ true
+      → (is_ready c seat (hinted_by c hint at) && (if is_ended (hinted_by c hint at) then false else true)) ≡ true
+  working hint seat at works =
+      let both = and_parts _ _ works in
+      and_from _ _ (hinted_ready hint seat at both.0) (ap (λ b. if b then false else true) (ended_same hint at) ∙ both.1)
