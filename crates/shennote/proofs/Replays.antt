@@ -1,0 +1,61 @@
+-- What is noted of a run, from what is known of its parts.
+use Rattle.std.proofs.Common.{◌≡◌, ℕ, ◌≤◌, List, Result, Ok, Err, IfOk, sym, subst, ◌∙◌, arith}
+use Rattle.std.specs.List.{AllByRecursion}
+use Rattle.heap_words.specs.declared.config.Config.{Config}
+use Rattle.heap_words.specs.declared.schedule.Item.{Item}
+use Rattle.step_core.specs.Schedule.{Scripts}
+use Rattle.trace_grammar.specs.Grammar.{Reads}
+use Rattle.trace_runs.specs.Words.{usual_steps}
+use Rattle.trace_runs.specs.Replayed.{IsRun, IsReplayed}
+use Rattle.trace_runs.proofs.Enough.{more_steps}
+use Rattle.shennote.specs.declared.note.Noted.{Noted}
+use Rattle.shennote.specs.declared.note.Noted.TheVariants.{Text, Long, Other}
+use Rattle.shennote.specs.Noted.{IsOfSteps, steps_named, IsReplayText, IsReplayIn, IsNotedAs}
+
+-- some bytes are a trace
+pub some_bytes : (bytes : List ℕ) (config : Config) (scripts : Scripts) (items : List Item) → Reads bytes config scripts items → (some : List ℕ) × Reads some config scripts items
+some_bytes bytes config scripts items reads = (bytes, reads)
+
+-- the replay of a text has the answer of a run, where both were seen to be the same
+pub replay_text : (config : Config) (scripts : Scripts) (items : List Item) (steps : ℕ) (text found wanted replayed answer : List ℕ) → Reads text config scripts items
+    → ((bytes : List ℕ) → Reads bytes config scripts items → IsReplayed bytes steps replayed) → found ≡ replayed → wanted ≡ answer → found ≡ wanted
+    → IsReplayText config scripts items steps answer text
+replay_text config scripts items steps text found wanted replayed answer reads replays is was same = record {
+  reads = reads;
+  replayed = subst (IsReplayed text steps) (sym is ∙ same ∙ was) (replays text reads);
+}
+
+-- a text whose replay has the answer of a run is noted of the trace that was run
+noted_text : (bytes answer : List ℕ) (ran again config : Config) (scripts both others : Scripts) (items more schedule named : List Item) (steps : ℕ) (found : Noted)
+    → Reads bytes ran scripts items → ((some : List ℕ) → Reads some ran scripts items → IsRun some answer) → Reads bytes again both more
+    → (config ≡ again) × (others ≡ both) × (named ≡ schedule)
+    → AllByRecursion IsOfSteps schedule → steps ≡ steps_named schedule → steps ≤ usual_steps
+    → IsReplayIn config others named steps answer found → IsNotedAs bytes found
+noted_text bytes answer ran again config scripts both others items more schedule named steps (Text text) reads run same is of_steps count few it = record {
+  config = again;
+  scripts = both;
+  items = more;
+  reads = same;
+  answer = answer;
+  run = run bytes reads;
+  replay = record {
+    items = schedule;
+    reads =
+        subst (λ (c : Config). Reads text.stored c both schedule) is.0
+        (subst (λ (ss : Scripts). Reads text.stored config ss schedule) is.1 (subst (λ (all : List Item). Reads text.stored config others all) is.2 it.reads));
+    of_steps = of_steps;
+    few = subst (λ (n : ℕ). n ≤ usual_steps) count few;
+    replayed = λ limit enough. more_steps text.stored steps limit answer (omega (arith, count, enough)) it.replayed;
+  };
+}
+noted_text bytes answer ran again config scripts both others items more schedule named steps Long reads run same is of_steps count few it = tt
+noted_text bytes answer ran again config scripts both others items more schedule named steps Other reads run same is of_steps count few it = tt
+
+pub noted_as : {E : Type 0} (result : Result Noted E) (bytes answer : List ℕ) (ran again config : Config) (scripts both others : Scripts) (items more schedule named : List Item) (steps : ℕ)
+    → Reads bytes ran scripts items → ((some : List ℕ) → Reads some ran scripts items → IsRun some answer) → Reads bytes again both more
+    → (config ≡ again) × (others ≡ both) × (named ≡ schedule)
+    → AllByRecursion IsOfSteps schedule → steps ≡ steps_named schedule → steps ≤ usual_steps
+    → IfOk result (λ found. IsReplayIn config others named steps answer found) → IfOk result (IsNotedAs bytes)
+noted_as (Ok found) bytes answer ran again config scripts both others items more schedule named steps reads run same is of_steps count few it =
+    noted_text bytes answer ran again config scripts both others items more schedule named steps found reads run same is of_steps count few it
+noted_as (Err e) bytes answer ran again config scripts both others items more schedule named steps reads run same is of_steps count few it = tt
