@@ -92,7 +92,7 @@ def trace(seed):
     items = [f"1={len(first)}", f"{control}@{phase}"]
     if rand.random() < 0.25:
         # All units but the last one.
-        items += [f"{control}@KX", f"{control}:1"] * ((regions * 64 + 63) // 64 * (2 if phase == "MC" else 1) - 1)
+        items += [f"{control}@KX", f"{control}:1"] * (regions - 1)
     for _ in range(rand.randint(1, 3)):
         machines = rand.sample(range(1, control + 1), rand.randint(1, min(3, control)))
         items += [stop(rand, who, threads, control, phase) for who in machines]

@@ -16,7 +16,7 @@ import sys
 TOP = os.path.dirname(os.path.dirname(os.path.abspath(__file__)))
 TABLE = os.path.join(TOP, "crates.txt")
 # The crates of the kit that a line may name.
-KIT = {"arrayvec", "atomic_table", "crossbeam_utils"}
+KIT = {"arrayvec", "atomic_table", "crossbeam_deque", "crossbeam_utils"}
 CODE_PATH = re.compile(r"(?<![\w:])(\w+)::")
 PROOF_PATH = re.compile(r"\bRattle\.(\w+)\.")
 QUIET = re.compile(r'//[^\n]*|--[^\n]*|"(?:\\.|[^"\\])*"')

@@ -27,6 +27,7 @@ FILES = {
     "Waits": "where a step says that it waits",
     "Ends": "by which words a unit ends",
     "Inside": "that the accesses of a machine are of words of the table",
+    "Hinted": "how a machine goes on with a hint",
     "Laws": "the statements of a crate's laws",
     "Steps": "what the steps of a pause make of words",
     "Reading": "words of an image that are read at their places",
@@ -37,9 +38,10 @@ FILES = {
 # Words of rows, that each part or role has.
 ROWS = """place_at touch_at next_at says_at says_of says_by says takes_at answer_at is_ended is_ready IsFit PartFit WaitsAt waits_at HasNoneLeft
 IsDoneAt has_unit next_spot spot_then numbers_fit begins_unit is_gone take_next after_enter after_evacuation after_resolve after_scan after_shape
-after_take after_first after_words after_updating after_word evacuating_says scanning_says updating_says AccessesAreInside StaysReady UnitGoesOn""".split()
-# What callers see of a type: its configuration, words, machines, spot; that it is inside its image; and that nothing of it changes.
-READERS = """config_of config_of_stop spot_of spot_of_enter spot_of_stop words_of machines_of machine_at order_of order_at orders_of heap_of has_turn
+after_take after_first after_words after_updating after_word evacuating_says scanning_says updating_says AccessesAreInside StaysReady UnitGoesOn
+takes_hint hinted_by greys_at IsHintFor""".split()
+# What callers see of a type: its configuration, words, machines, spot, hint; that it is inside its image; and that nothing of it changes.
+READERS = """config_of config_in config_of_stop spot_of spot_of_enter spot_of_stop words_of machines_of machine_at order_of order_at orders_of heap_of hint_of has_turn
 IsUnchanged is_inside_image""".split()
 # A part by itself, between the steps of others.
 ALONE = "Move IsMove AreMoves after_move after_moves word_found".split()

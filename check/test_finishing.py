@@ -34,11 +34,11 @@ heap 4 64 1, threads {threads} 0, {steps} steps, {pauses} pauses
 STANDS = {
     "MC": (1, "MC", False, 1492),
     "MG": (1, "MC", False, 1492),
-    "EC": (2, "EC", False, 2172),
-    "ET": (2, "EC", True, 2206),
-    "HX": (2, "EC", True, 2206),
-    "UC": (3, "UC", True, 2871),
-    "UX": (3, "UC", True, 2871),
+    "EC": (2, "EC", False, 2148),
+    "ET": (2, "EC", True, 2182),
+    "HX": (2, "EC", True, 2182),
+    "UC": (3, "UC", True, 2847),
+    "UX": (3, "UC", True, 2847),
 }
 # The words of the hub, of the object, of the garbage that is left in region 2, and of what each thread wants.
 HUB, OBJECT, GARBAGE, WANTED = 19, 4, 61, 35
