@@ -22,7 +22,7 @@ MOMENTS = {
     "stack_gap": 107, "queue_race": 203, "queue_again": 8713, "limits": 109, "eight": 217, "cut": 54, "no_room": 4152, "collects": 11004,
     "one_pause": 3737, "pause": 778, "inside": 17, "wait": 174, "crowded": 6884, "one_dropped": 6896, "reserve": 307,
     "exchanged": 679, "two_stores": 747, "let_go": 776, "copy_race": 2752, "no_room_to_copy": 1645, "updated": 3926,
-    "recycled": 3839, "finished": 1710, "half_evacuated": 2616, "threads": 7028,
+    "inserts": 100, "recycled": 3839, "finished": 1710, "half_evacuated": 2616, "threads": 7028,
 }
 
 
