@@ -5,13 +5,14 @@ use Rattle.std.proofs.lemmas.Bool.{cases_Bool, cond-true, cond-false, eqb-true, 
 use Rattle.std.proofs.lemmas.Option.{none-some}
 use Rattle.heap_words.specs.declared.config.Config.{Config}
 use Rattle.heap_words.specs.Encoding.{next_in, end_in, filler_header}
-use Rattle.heap_words.specs.Words.{Phase, Cset, Free, Evac, Claim, Top, Tams, Limit, Current, Count, Buffer, Grey, Black, Heap, Share, is_word, write}
+use Rattle.heap_words.specs.Words.{Phase, Cset, Free, Evac, Claim, Top, Tams, Limit, Current, Count, Buffer, Grey, Black, Heap, Share, Pin, is_word, write}
 use Rattle.regions.specs.Place.{base_of}
 use Rattle.regions.specs.Sets.{IsIn}
 use Rattle.shen_graph.specs.declared.name.Name.{Name}
-use Rattle.heap_world.specs.World.{World, Block, thing, moved, spent, promised, dead, filler, spare, carved, name_at, Shared}
+use Rattle.heap_world.specs.World.{World, Block, thing, moved, spent, promised, dead, filler, spare, carved, name_at, Target, Shared}
 use Rattle.heap_world.specs.Rely.{Keeps, RelyMarks, Rely}
 use Rattle.heap_world.proofs.Updates.{updated, updated_there, updated_else}
+use Rattle.heap_world.proofs.Pins.{pins_stay}
 use Rattle.heap_world.proofs.Pointing.{piece_word}
 use Rattle.heap_world.proofs.NewPiece.{CanGrow, names_stay, stays, old_room, own_room, old_promise, parsable_more, contents_more, owned_more, unwritten_more, markable_more, marking_more, evacuating_more, updating_more, same_but_loose}
 use Rattle.heap_world.proofs.Copies.{CopiesStay, keeps_copies, rely_copies}
@@ -50,6 +51,14 @@ module _ (c : Config) (u : World) (seat words : ℕ) (kind : Kind) (buffer regio
     some = (let least = can.least in let long = numbers.1 in omega (arith, least, long));
   }
 
+  -- each piece stays
+  stays_there : (a : ℕ) (b : Block) → u.block a ≡ Some b → carved_world.block a ≡ Some b
+  stays_there = stays c tops u.block region top room seat grows
+
+  -- what may be used still may
+  targets_stay : (a refs nums : ℕ) (n : Name) → Target c (u.memory Cset) (u.memory Evac) u.block a refs nums n → Target c (u.memory Cset) (u.memory Evac) carved_world.block a refs nums n
+  targets_stay a refs nums n has = record { piece = stays_there a (thing n refs nums) has.piece; safe = has.safe }
+
   -- machines share what they should
   shared_carved : Shared c carved_world
   shared_carved = record {
@@ -63,15 +72,12 @@ module _ (c : Config) (u : World) (seat words : ℕ) (kind : Kind) (buffer regio
     evacuated = evacuating_more c tops u.block region top room seat grows (u.memory Phase) (u.memory Cset) (u.memory Evac) (u.memory Claim) (u.memory Free) (λ r. u.memory (Tams r)) (λ a. u.memory (Heap a)) (λ n. u.memory (Black n))
         u.ghost.owner u.ghost.copying u.ghost.working can.facts.1.outside shared.evacuated;
     updated = λ on. updating_more c tops u.block region top room seat grows (u.memory Cset) (u.memory Claim) (λ r. u.memory (Limit r)) (λ a. u.memory (Heap a)) u.ghost.scanning (shared.updated on);
+    pinned = pins_stay c (u.memory Cset) (u.memory Evac) (u.memory Cset) (u.memory Evac) u.block carved_world.block (λ t i. u.memory (Pin t i)) u.graph.pin targets_stay shared.pinned;
   }
 
   -- what a word stands for it still stands for
   names : (a : ℕ) (n : Name) → name_at (u.block a) ≡ Some n → name_at (carved_world.block a) ≡ Some n
   names = names_stay c tops u.block region top room seat grows
-
-  -- each piece stays
-  stays_there : (a : ℕ) (b : Block) → u.block a ≡ Some b → carved_world.block a ≡ Some b
-  stays_there = stays c tops u.block region top room seat grows
 
   -- marking goes on
   marks_carved : (j : ℕ) → RelyMarks c j u carved_world
@@ -94,12 +100,14 @@ module _ (c : Config) (u : World) (seat words : ℕ) (kind : Kind) (buffer regio
   keeps_carved : Keeps c seat u carved_world
   keeps_carved = record {
     names = names;
-    targets = λ a refs nums n has. record { piece = stays_there a (thing n refs nums) has.piece; safe = has.safe };
+    targets = targets_stay;
     promises = λ a more is. stays_there a (promised seat more) is;
     no_promises = λ a more is. old_promise c tops u.block region top room seat grows a seat more is;
     promise_words = λ a more k is below. refl;
     root_words = λ i. refl;
     roots = λ i. refl;
+    pin_words = λ i. refl;
+    pins = λ i. refl;
     count = refl;
     wait = refl;
     answer = refl;
@@ -111,7 +119,7 @@ module _ (c : Config) (u : World) (seat words : ℕ) (kind : Kind) (buffer regio
   others_carved : (j : ℕ) → j ≢ seat → Rely c j u carved_world
   others_carved j differs = record {
     names = names;
-    targets = λ a refs nums n has. record { piece = stays_there a (thing n refs nums) has.piece; safe = has.safe };
+    targets = targets_stay;
     rooms = λ a x is of. stays_there a x is;
     no_rooms = λ a x is of. old_room c tops u.block region top room seat grows a j x differs is of;
     room_words = λ a k x is of below. refl;
@@ -124,6 +132,8 @@ module _ (c : Config) (u : World) (seat words : ℕ) (kind : Kind) (buffer regio
     tops = λ r is. updated_else tops region (top + room) r (λ same. none-some j (sym can.facts.1.nobodys ∙ ap u.ghost.owner same ∙ is));
     root_words = λ i. refl;
     roots = λ i. refl;
+    pin_words = λ i. refl;
+    pins = λ i. refl;
     count = refl;
     wait = refl;
     answer = refl;

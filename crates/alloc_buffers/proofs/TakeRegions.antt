@@ -89,6 +89,7 @@ module _ (c : Config) (u : World) (seat words : ℕ) (kind : Kind) where
                 (λ (differs : region ≢ r). shared.evacuated.aside.nobodys r other (sym (updated_else u.ghost.owner region (Some seat) r differs) ∙ is) inside)
                 (cases_eq region r));
             updated = shared.updated;
+            pinned = shared.pinned;
           };
           own = (
             subst (λ s. CanTake c w seat words s)
@@ -130,6 +131,7 @@ module _ (c : Config) (u : World) (seat words : ℕ) (kind : Kind) where
             marked = shared.marked;
             evacuated = evacuating without u.ghost.owner shared not_set shared.evacuated.aside.nobodys;
             updated = shared.updated;
+            pinned = shared.pinned;
           };
           own = (
             subst (λ s. CanTake c w seat words s)
@@ -214,6 +216,7 @@ module _ (c : Config) (u : World) (seat words : ℕ) (kind : Kind) where
             marked = shared.marked;
             evacuated = evacuating (u.memory Free) (given_up region shared own) shared shared.evacuated.aside.in_use (λ r other is inside. shared.evacuated.aside.nobodys r other (had region shared own r other is) inside);
             updated = shared.updated;
+            pinned = shared.pinned;
           };
           own = (
             subst (λ s. CanTake c w seat words s)
@@ -278,6 +281,7 @@ module _ (c : Config) (u : World) (seat words : ℕ) (kind : Kind) where
               (cases_eq r region))
               (λ r other is inside. shared.evacuated.aside.nobodys r other (had region shared own r other is) inside);
           updated = shared.updated;
+          pinned = shared.pinned;
         };
         own = (
           can_at c u seat words kind (GiveBack buffer region) (LoadShared buffer) w can refl refl refl (record { is = can.facts.0.is; less = can.facts.0.less }) can.rooms,

@@ -67,4 +67,5 @@ module _ (Asks : (Word → ℕ) → Plot → Type 0) (of_roots : IsOfRoots Asks)
         marked = r.shared.marked;
         evacuated = r.shared.evacuated;
         updated = r.shared.updated;
+        pinned = r.shared.pinned;
       })

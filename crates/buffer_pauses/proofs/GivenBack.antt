@@ -5,17 +5,18 @@ use Rattle.std.proofs.lemmas.Bool.{cases_eq, true≢false}
 use Rattle.std.proofs.lemmas.Option.{same_Some}
 use Rattle.heap_words.specs.declared.config.Config.{Config}
 use Rattle.heap_words.specs.Encoding.{next_in, end_in}
-use Rattle.heap_words.specs.Words.{Word, Phase, Cset, Free, Evac, Claim, Top, Tams, Limit, Current, Count, Buffer, Grey, Black, Heap}
+use Rattle.heap_words.specs.Words.{Word, Phase, Cset, Free, Evac, Claim, Top, Tams, Limit, Current, Count, Buffer, Grey, Black, Heap, Pin}
 use Rattle.regions.specs.Place.{base_of, region_with}
 use Rattle.regions.specs.Sets.{IsIn}
 use Rattle.regions.proofs.PlaceLemmas.{regions_tile}
 use Rattle.shen_graph.specs.Graph.{Graph}
-use Rattle.heap_world.specs.World.{Block, spent, hand, promised, dead, filler, spare, carved, Plot, is_loose, IsYoung, AreBuffers, Shared}
+use Rattle.heap_world.specs.World.{Block, thing, spent, hand, promised, dead, filler, spare, carved, Plot, is_loose, IsYoung, AreBuffers, Shared}
 use Rattle.heap_world.specs.Asking.{Asking}
 use Rattle.heap_world.specs.Represents.{RepresentsWith}
 use Rattle.heap_world.proofs.Updates.{updated}
 use Rattle.heap_world.proofs.Loose.{SameButLoose, marked_loose, evacuated_loose, updated_loose, contents_loose}
 use Rattle.heap_world.proofs.Pieces.{some_words}
+use Rattle.heap_world.proofs.Pins.{pins_stay}
 use Rattle.buffer_pauses.proofs.Refitted.{refitted}
 use Rattle.buffer_pauses.proofs.StandsStill.{IsOfRoots, stands_still}
 use Rattle.buffer_pauses.proofs.Emptied.{fewer_outside, without_fewer}
@@ -143,6 +144,8 @@ module _ (Asks : (Word → ℕ) → Plot → Type 0) (of_roots : IsOfRoots Asks)
     updated = λ on. updated_loose c r.block after same (m Cset) (m Claim) tops tops_then (λ q. m (Limit q)) (λ x. m (Heap x)) r.ghost.scanning (r.shared.updated on)
         (λ x s b is room. (r.shared.updated on).young x s b (was x b is).1 room)
         (floors (λ q. m (Limit q)) ((r.shared.updated on).young a seat (spare seat words) here refl) (r.shared.updated on).limits);
+    pinned = pins_stay c (m Cset) (m Evac) (m Cset) (m Evac) r.block after (λ t i. m (Pin t i)) g.pin
+        (λ x refs nums name has. record { piece = same.stays x (thing name refs nums) refl has.piece; safe = has.safe }) r.shared.pinned;
   }
     where
       -- without a snapshot its tops are 0

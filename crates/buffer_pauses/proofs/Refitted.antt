@@ -1,7 +1,7 @@
 -- A memory with other tops, words of the heap, and buffers.
 use Rattle.std.proofs.Common.{◌≡◌, ℕ, refl}
 use Rattle.std.proofs.Math.Path.{fun_ext}
-use Rattle.heap_words.specs.Words.{Word, Pause, Left, End, State, Phase, Cset, Free, Evac, Claim, Ask, Top, Tams, Limit, Current, Root, Count, Buffer, Wait, Answer, Grey, Black, Heap, Share, write}
+use Rattle.heap_words.specs.Words.{Word, Pause, Left, End, State, Phase, Cset, Free, Evac, Claim, Ask, Top, Tams, Limit, Current, Root, Count, Buffer, Wait, Answer, Grey, Black, Heap, Share, Pin, write}
 use Rattle.heap_world.proofs.Updates.{updated}
 
 -- the memory
@@ -50,6 +50,7 @@ module _ (m : Word → ℕ) where
       by_word (Black n) = refl
       by_word (Heap a) = refl
       by_word Share = refl
+      by_word (Pin t i) = refl
 
   module _ (top heap current : ℕ → ℕ) where
     -- others once more
@@ -80,6 +81,7 @@ module _ (m : Word → ℕ) where
         by_word (Black n) = refl
         by_word (Heap a) = refl
         by_word Share = refl
+        by_word (Pin t i) = refl
 
     -- a word of it is written
     pub refit_heap : (at value : ℕ) → write (refitted m top heap current) (Heap at) value ≡ refitted m top (updated heap at value) current
@@ -109,6 +111,7 @@ module _ (m : Word → ℕ) where
         by_word (Black n) = refl
         by_word (Heap a) = refl
         by_word Share = refl
+        by_word (Pin t i) = refl
 
     pub refit_top : (at value : ℕ) → write (refitted m top heap current) (Top at) value ≡ refitted m (updated top at value) heap current
     refit_top at value = fun_ext by_word
@@ -137,6 +140,7 @@ module _ (m : Word → ℕ) where
         by_word (Black n) = refl
         by_word (Heap a) = refl
         by_word Share = refl
+        by_word (Pin t i) = refl
 
     pub refit_current : (at value : ℕ) → write (refitted m top heap current) (Current at) value ≡ refitted m top heap (updated current at value)
     refit_current at value = fun_ext by_word
@@ -165,3 +169,4 @@ module _ (m : Word → ℕ) where
         by_word (Black n) = refl
         by_word (Heap a) = refl
         by_word Share = refl
+        by_word (Pin t i) = refl

@@ -63,4 +63,5 @@ module _ (Asks : (Word → ℕ) → Plot → Type 0) (of_roots : IsOfRoots Asks)
       unmarking = r.unmarking;
       uncopying = r.uncopying;
       no_more = r.no_more;
+      no_more_pins = r.no_more_pins;
     }

@@ -64,6 +64,7 @@ pub record Tidy (g : Graph) : Type 0 where
   pub small : (t n : ℕ) → IsThread t → size (named g (Some (own t n))) ≤ 19
   pub no_count : (t : ℕ) → (IsThread t → ⊥) → g.count t ≡ 0
   pub no_object : (m : Name) → (IsThread m.thread → ⊥) → same_name m hub ≡ false → g.object m ≡ None
+  pub no_pin : (t s : ℕ) → g.pin t s ≡ None
 
 -- what may be the n-th object of a thread
 pub record Fits (t n : ℕ) (o : Object) : Type 0 where

@@ -6,11 +6,11 @@ use Rattle.std.proofs.lemmas.List.Elements.{Contains-append_left, Contains-appen
 use Rattle.std.proofs.lemmas.List.Sums.{sum_by-le}
 use Rattle.std.proofs.lemmas.Map.Made.{length-le_from_is_member}
 use Rattle.std.proofs.lemmas.Map.Views.{Contains-from_any, list_any-from_Contains}
-use Rattle.std.proofs.lemmas.Option.{get_or_from_slice_get}
+use Rattle.std.proofs.lemmas.Option.{get_or_from_slice_get, none-some}
 use Rattle.shen_graph.specs.declared.name.Name.{Name}
 use Rattle.shen_graph.specs.Graph.{Graph, Reference, named, hub}
 use Rattle.shen_graph.specs.Reach.{IsReachable, IsReach, Live, size}
-use Rattle.shen_graph.specs.Reach.IsReachable.{from_root, from_field}
+use Rattle.shen_graph.specs.Reach.IsReachable.{from_root, from_pin, from_field}
 use Rattle.shen_graph.proofs.Distinct.{distinct}
 use Rattle.shen_graph.proofs.PlainLemmas.{same_name-true}
 use Rattle.shen_graph.proofs.ReachLemmas.{same_name-laws, names_held, Contains-names_held, Contains-from_slice_get}
@@ -77,6 +77,7 @@ known_reachable g tidy _ (from_root t r n is) =
       | inl thread ↦ by_root g tidy t r n thread is
       | inr out ↦ let never : None ≡ Some n = sym (tidy.no_root t r out) ∙ is in absurd cc
     ]
+known_reachable g tidy _ (from_pin t s held is) = absurd (none-some held (sym (tidy.no_pin t s) ∙ is))
 known_reachable g tidy _ (from_field m n f reached is) = by_field g tidy m n f (known_reachable g tidy m reached) is
 
 -- each is small

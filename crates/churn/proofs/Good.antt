@@ -20,9 +20,9 @@ use Rattle.churn.specs.Laws.{NoneIsBad}
 use Rattle.churn.proofs.Belongings.{IsThread, own, fields_of, field_of, Tidy, Same-itself}
 use Rattle.churn.proofs.Moves.{root_case, object_case, field_case, with_slot, with_value, hub_with, eqb_itself, none_in}
 use Rattle.churn.proofs.Commands.{first-step}
-use Rattle.churn.proofs.BelowTheHub.{IsGiven, thread_or_not, of_thread-here, of_thread-there, after_given, solo}
+use Rattle.churn.proofs.BelowTheHub.{IsGiven, thread_or_not, of_thread-here, of_thread-there, after_given, replied, solo}
 use Rattle.churn.proofs.Opening.{begins_none, tidy_opening, going_opening, script_is}
-use Rattle.churn.proofs.OneAfterAnother.{AreOf, of_thread-are, given_of, replied, run_given}
+use Rattle.churn.proofs.OneAfterAnother.{AreOf, of_thread-are, given_of, run_given}
 
 -- null, or an object with a number
 abbrev pub IsFilled : Graph → Reference → Type 0
@@ -291,7 +291,7 @@ script_good seed count t is =
 abbrev pub IsGood : Entry → Type 0
 IsGood e = e.reply ≢ reply.Bad
 
-part_good : (t : ℕ) (g : Graph) (es : List Entry) → AreOf t es → EachIsLegal g es → AllByRecursion IsGiven es → AllGood t g (commands_of es) → AllByRecursion IsGood es
+part_good : (t : ℕ) (g : Graph) (es : List Entry) → AreOf t es → EachIsLegal 16 256 g es → AllByRecursion IsGiven es → AllGood t g (commands_of es) → AllByRecursion IsGood es
 part_good t g [] of legal given good = tt
 part_good t g (e ∷ es) of legal given good =
     let told = replied g (after_entry g e) e legal.0 given.0 in

@@ -47,6 +47,7 @@ with_root-tidy g t r v tidy thread low high box leaf = record {
   small = tidy.small;
   no_count = tidy.no_count;
   no_object = tidy.no_object;
+  no_pin = tidy.no_pin;
 }
 
 with_root-same : (g h : Graph) (t r : ℕ) (v : Reference) → Same t g h → Same t (with_root g t r v) (with_root h t r v)
@@ -123,6 +124,7 @@ own_object-tidy g t n o tidy thread fits =
       small = λ u k is. object_case (λ x. size x ≤ 19) g (own u k) (own t n) o (λ e. fits.small) (tidy.small u k is);
       no_count = tidy.no_count;
       no_object = λ m out apart. object_none m out apart;
+      no_pin = tidy.no_pin;
     }
   where
     object_none : (m : Name) → (IsThread m.thread → ⊥) → same_name m hub ≡ false → (if same_name m (own t n) then Some o else g.object m) ≡ None
@@ -178,6 +180,7 @@ with_fresh-tidy g t o tidy thread fits =
       small = w.small;
       no_count = λ u out. rw (eqb_other u out) (tidy.no_count u out);
       no_object = w.no_object;
+      no_pin = w.no_pin;
     }
   where
     eqb_other : (u : ℕ) → (IsThread u → ⊥) → eqb u t ≡ false
@@ -249,6 +252,7 @@ hub-tidy g t v tidy thread box = record {
   small = λ u k is. subst (λ (x : Object). size x ≤ 19) (sym (named_other g (own u k) hub (hub_with g t v) (not_hub_too u k is))) (tidy.small u k is);
   no_count = tidy.no_count;
   no_object = λ m out apart. rw apart (tidy.no_object m out apart);
+  no_pin = tidy.no_pin;
 } where
   link : (v : Reference) → IsBox t v → IsLink t v
   link None box = tt

@@ -8,11 +8,11 @@ use Rattle.std.proofs.lemmas.List.{get_or_past, get_or-replicate, length-replica
 use Rattle.std.proofs.lemmas.List.Sums.{sum_by-cons}
 use Rattle.std.proofs.lemmas.Option.{get_or_from_slice_get}
 use Rattle.shen_graph.specs.declared.command.Command.{Command}
-use Rattle.shen_graph.specs.declared.command.Command.TheVariants.{New, Get, Set, Cas, Xchg, Rd, Wr, Copy, Drop, Same, Gc}
+use Rattle.shen_graph.specs.declared.command.Command.TheVariants.{New, Get, Set, Cas, Xchg, Rd, Wr, Copy, Drop, Same, Gc, Pin, Unpin}
 use Rattle.shen_graph.specs.declared.command.Reply.{Reply}
 use Rattle.shen_graph.specs.declared.command.Reply.TheVariants as reply
 use Rattle.shen_graph.specs.declared.name.Name.{Name}
-use Rattle.shen_graph.specs.Graph.{Graph, Object, Reference, named, same_reference, field_at, number_at, with_root, with_object, with_named, with_field, with_number, fresh, blank, hub, same_name, opening}
+use Rattle.shen_graph.specs.Graph.{Graph, Object, Reference, named, same_reference, field_at, number_at, with_root, with_object, with_named, with_field, with_number, with_pin, fresh, blank, hub, same_name, opening}
 use Rattle.shen_graph.specs.Step.{Outcome, IsLegal, outcome, answers, on, shown, yes_or_no}
 use Rattle.shen_graph.specs.History.{Entry, after_entry, EachIsLegal, of_thread, commands_of, replies_of, Follows}
 use Rattle.churn.specs.Script.{round, churn_script, churn_scripts}
@@ -113,20 +113,29 @@ outcome_below most g t (Copy dst src) below w = record { told = omega arith; lef
 outcome_below most g t (Drop dst) below w = record { told = omega arith; left = below }
 outcome_below most g t (Same a b) below w = record { told = either_below most (same_reference (g.root t a) (g.root t b)); left = below }
 outcome_below most g t Gc below w = record { told = omega arith; left = below }
+outcome_below most g t (Pin slot obj) below w = record { told = omega arith; left = below }
+outcome_below most g t (Unpin slot) below w =
+    on_below most (g.pin t slot) g (λ _. answers reply.Ok (with_pin g t slot None)) below (λ v _. record { told = omega arith; left = below })
 
 -- an entry
 
-legal_below : (most : ℕ) (g h : Graph) (t : ℕ) (c : Command) (r : Reply) → IsBelow most g → WritesBelow most c → IsLegal g t c r h → Below most (answers r h)
+legal_below : (most : ℕ) (g h : Graph) (t : ℕ) (c : Command) (r : Reply) → IsBelow most g → WritesBelow most c → IsLegal 16 256 g t c r h → Below most (answers r h)
 legal_below most g h t c r below writes legal =
     elim legal [
-      | inl done ↦ subst (Below most) (sym done) (outcome_below most g t c below writes)
-      | inr full ↦ record {
-        told = subst (λ (x : Reply). number_summed x ≤ most) (sym full.1) (omega arith);
-        left = subst (IsBelow most) (sym full.2) below;
-      }
+      | inl done ↦ subst (Below most) (sym done.1) (outcome_below most g t c below writes)
+      | inr later ↦ elim later [
+        | inl full ↦ record {
+          told = subst (λ (x : Reply). number_summed x ≤ most) (sym full.1) (omega arith);
+          left = subst (IsBelow most) (sym full.2) below;
+        }
+        | inr pinning ↦ record {
+          told = subst (λ (x : Reply). number_summed x ≤ most) (sym pinning.reply) (omega arith);
+          left = subst (IsBelow most) (sym pinning.graph) below;
+        }
+      ]
     ]
 
-told_below : (most : ℕ) (g : Graph) (es : List Entry) → IsBelow most g → AllByRecursion (λ e. WritesBelow most e.command) es → EachIsLegal g es → AllByRecursion (λ r. number_summed r ≤ most) (replies_of es)
+told_below : (most : ℕ) (g : Graph) (es : List Entry) → IsBelow most g → AllByRecursion (λ e. WritesBelow most e.command) es → EachIsLegal 16 256 g es → AllByRecursion (λ r. number_summed r ≤ most) (replies_of es)
 told_below most g [] below writes legal = tt
 told_below most g (e ∷ es) below writes legal =
     let b = legal_below most g (after_entry g e) e.thread e.command e.reply below writes.0 legal.0 in
@@ -179,7 +188,7 @@ begins_below most n = at (same_name n hub) refl
     at false is i = rw is (subst (λ (k : ℕ). k ≤ most) (sym (get_or_past [] i 0 (omega arith))) (omega arith))
 
 -- the sum of the numbers that a run tells
-pub run_below : (seed count : ℕ) (es : List Entry) → Follows (churn_scripts seed count) es → EachIsLegal (opening 3) es
+pub run_below : (seed count : ℕ) (es : List Entry) → Follows (churn_scripts seed count) es → EachIsLegal 16 256 (opening 3) es
     → sum_by number_summed (replies_of es) ≤ length (replies_of es) * (seed + count)
 run_below seed count es follows legal =
     sum_below (seed + count) (replies_of es) (told_below (seed + count) (opening 3) es (begins_below (seed + count)) (commands_below seed count es follows) legal)

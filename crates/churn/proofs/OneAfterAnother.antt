@@ -5,15 +5,16 @@ use Rattle.std.specs.List.{AllByRecursion}
 use Rattle.std.proofs.lemmas.Bool.Decides.{eqb_tells}
 use Rattle.std.proofs.lemmas.List.{append-nil, ext_get_or}
 use Rattle.std.proofs.lemmas.List.Elements.{filter-append, All-nil, All-cons}
+use Rattle.shen_graph.specs.declared.command.Reply.TheVariants as reply
 use Rattle.shen_graph.specs.declared.name.Name.{Name}
 use Rattle.shen_graph.specs.Graph.{Graph, Reference, named, hub, opening, same_name}
-use Rattle.shen_graph.specs.Step.{Outcome, IsLegal, outcome}
+use Rattle.shen_graph.specs.Step.{outcome}
 use Rattle.shen_graph.specs.History.{Entry, after_entry, after, EachIsLegal, of_thread, commands_of, IsWithoutFull}
 use Rattle.shen_graph.proofs.PlainLemmas.{fun_ext, same_name-true}
 use Rattle.churn.specs.Laws.{IsWorkloadRun, in_turn, NoneIsFull, RunsAreInTurn, OneInTurn}
 use Rattle.churn.proofs.Belongings.{IsThread, fields_of, field_of, IsLink, Same, Tidy, Same-itself, Same-join}
 use Rattle.churn.proofs.Moves.{eqb_itself, eqb_apart}
-use Rattle.churn.proofs.BelowTheHub.{IsGiven, Going, solo, thread_or_not}
+use Rattle.churn.proofs.BelowTheHub.{IsGiven, Going, solo, thread_or_not, replied}
 use Rattle.churn.proofs.Opening.{tidy_opening, going_opening, thread_cases}
 use Rattle.churn.proofs.Refusals.{none_from, after-append, legal-append}
 
@@ -40,7 +41,8 @@ same_graph g h tidy other same =
     let object = fun_ext g.object h.object object_at in
     let root = fun_ext g.root h.root (λ t. fun_ext (g.root t) (h.root t) (root_at t)) in
     let count = fun_ext g.count h.count count_at in
-    λ i. record { object = object i; root = root i; count = count i }
+    let pin = fun_ext g.pin h.pin (λ t. fun_ext (g.pin t) (h.pin t) (λ s. tidy.no_pin t s ∙ sym (other.no_pin t s))) in
+    λ i. record { object = object i; root = root i; count = count i; pin = pin i }
   where
     object_at : (m : Name) → g.object m ≡ h.object m
     object_at m = elim (thread_or_not m.thread) [
@@ -61,9 +63,12 @@ same_graph g h tidy other same =
 
 -- a fact of each entry
 
+abbrev IsNotFull : Entry → Type 0
+IsNotFull e = e.reply ≢ reply.Full
+
 all_given : (es : List Entry) → AllByRecursion IsGiven es → IsWithoutFull es
-all_given [] h = All-nil IsGiven
-all_given (e ∷ es) h = All-cons IsGiven e es h.0 (all_given es h.1)
+all_given [] h = All-nil IsNotFull
+all_given (e ∷ es) h = All-cons IsNotFull e es h.0.0 (all_given es h.1)
 
 pub given_append : (xs ys : List Entry) → AllByRecursion IsGiven xs → AllByRecursion IsGiven ys → AllByRecursion IsGiven (xs ++ ys)
 given_append [] ys h k = k
@@ -141,10 +146,10 @@ in_turn-thread g es going t =
 
 -- The three parts, one after the other.
 pub record InTurn (es : List Entry) : Type 0 where
-  pub legal : EachIsLegal (opening 3) (in_turn es)
+  pub legal : EachIsLegal 16 256 (opening 3) (in_turn es)
   pub graph : after (opening 3) es ≡ after (opening 3) (in_turn es)
 
-pub turns : (es : List Entry) → Going (opening 3) es → EachIsLegal (opening 3) es → AllByRecursion IsGiven es → InTurn es
+pub turns : (es : List Entry) → Going (opening 3) es → EachIsLegal 16 256 (opening 3) es → AllByRecursion IsGiven es → InTurn es
 turns es going legal given =
     let g = opening 3 in
     let is_one : IsThread 1 = (omega arith, omega arith) in
@@ -186,7 +191,7 @@ runs_are_in_turn seed count es run =
       record {
         run = record {
           follows = λ u. ap commands_of (thread u) ∙ run.follows u;
-          legal = record { each = t.legal; crowded = λ k e at full. absurd (given_at (in_turn es) k e given_too at full) };
+          legal = record { each = t.legal; crowded = λ k e at full. absurd ((given_at (in_turn es) k e given_too at).0 full) };
         };
         turns = sym (ap (λ l. l ++ (of_thread (in_turn es) 2 ++ of_thread (in_turn es) 3)) (thread 1)
             ∙ ap (λ l. of_thread es 1 ++ (l ++ of_thread (in_turn es) 3)) (thread 2) ∙ ap (λ l. of_thread es 1 ++ (of_thread es 2 ++ l)) (thread 3));
@@ -218,10 +223,7 @@ ask_one t (x ∷ xs) (y ∷ ys) h k same =
     let rest : commands_of xs ≡ commands_of ys = cc in
     (h.0 ∙ sym k.0, head, ask_one t xs ys h.1 k.1 rest)
 
-pub replied : (g h : Graph) (e : Entry) → IsLegal g e.thread e.command e.reply h → IsGiven e → e.reply ≡ (outcome g e.thread e.command).reply
-replied g h e legal given = elim legal [ inl done ↦ ap (λ (o : Outcome). o.reply) done | inr full ↦ absurd (given full.1) ]
-
-one_answer : (g : Graph) (xs ys : List Entry) → AskTheSame xs ys → EachIsLegal g xs → EachIsLegal g ys → AllByRecursion IsGiven xs → AllByRecursion IsGiven ys → xs ≡ ys
+one_answer : (g : Graph) (xs ys : List Entry) → AskTheSame xs ys → EachIsLegal 16 256 g xs → EachIsLegal 16 256 g ys → AllByRecursion IsGiven xs → AllByRecursion IsGiven ys → xs ≡ ys
 one_answer g [] [] ask a b c d = refl
 one_answer g [] (y ∷ ys) ask a b c d = absurd ask
 one_answer g (x ∷ xs) [] ask a b c d = absurd ask
@@ -230,7 +232,7 @@ one_answer g (x ∷ xs) (y ∷ ys) ask a b c d =
     ap (λ t. (outcome g t x.command).reply) ask.0 ∙ ap (λ k. (outcome g y.thread k).reply) ask.1 in
     let reply : x.reply ≡ y.reply = replied g (after_entry g x) x a.0 c.0 ∙ outcomes ∙ sym (replied g (after_entry g y) y b.0 d.0) in
     let same : x ≡ y = λ i. record { thread = ask.0 i; command = ask.1 i; reply = reply i } in
-    let legal : EachIsLegal (after_entry g x) ys = subst (λ (e : Entry). EachIsLegal (after_entry g e) ys) (sym same) b.1 in
+    let legal : EachIsLegal 16 256 (after_entry g x) ys = subst (λ (e : Entry). EachIsLegal 16 256 (after_entry g e) ys) (sym same) b.1 in
     let rest = one_answer (after_entry g x) xs ys ask.2 a.1 legal c.1 d.1 in
     ap (λ e. e ∷ xs) same ∙ ap (λ l. y ∷ l) rest
 

@@ -77,6 +77,7 @@ tidy_opening = record {
   small = λ t n is. subst (λ (o : Object). size o ≤ 19) (sym (begins_bare t n is)) (omega arith);
   no_count = λ t out. refl;
   no_object = λ m out apart. rw apart refl;
+  no_pin = λ t s. refl;
 }
 
 -- the commands after a thread's first

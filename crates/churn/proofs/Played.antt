@@ -1,73 +1,50 @@
 -- There is a run: the commands of the threads, one thread after the other, each with its outcome.
-use Rattle.std.proofs.Common.{ℕ, ◌≡◌, Bool, true, false, List, [], ◌∷◌, ◌++◌, Option, Some, None, refl, ap, ◌∙◌, sym, subst, inl, inr, arith}
-use Rattle.std.specs.Prelude.{◌==◌, if◌then◌else◌}
-use Rattle.std.specs.List.{AllByRecursion}
+use Rattle.std.proofs.Common.{ℕ, ◌≡◌, true, false, List, [], ◌∷◌, ◌++◌, refl, ap, ◌∙◌, sym, subst, inl, inr, arith}
+use Rattle.std.specs.Prelude.{◌==◌}
+use Rattle.std.specs.List.{AllByRecursion, flat_map, range_with_len}
 use Rattle.std.proofs.lemmas.List.{append-nil}
 use Rattle.std.proofs.lemmas.List.Elements.{filter-append}
 use Rattle.shen_graph.specs.declared.command.Command.{Command}
-use Rattle.shen_graph.specs.declared.command.Command.TheVariants.{New, Get, Set, Cas, Xchg, Rd, Wr, Copy, Drop, Same, Gc}
-use Rattle.shen_graph.specs.declared.command.Reply.TheVariants as reply
-use Rattle.shen_graph.specs.Graph.{Graph, Reference, field_at, number_at, same_reference, with_root, with_field, with_number, opening}
-use Rattle.shen_graph.specs.Step.{Outcome, IsLegal, outcome, answers, on, shown, yes_or_no}
+use Rattle.shen_graph.specs.declared.command.Command.TheVariants.{Set}
+use Rattle.shen_graph.specs.Graph.{Graph, opening}
+use Rattle.shen_graph.specs.Step.{IsLegal, IsPin, outcome}
 use Rattle.shen_graph.specs.History.{Entry, is_full, after_entry, after, EachIsLegal, of_thread, commands_of, script_of, Follows}
-use Rattle.churn.specs.Script.{churn_script, churn_scripts}
+use Rattle.shen_graph.proofs.Outcomes.{pins_none, leaves_outcome, outcome_given}
+use Rattle.churn.specs.Script.{round, churn_script, churn_scripts}
 use Rattle.churn.specs.Laws.{IsWorkloadRun, in_turn, ThereIsOneInTurn}
 use Rattle.churn.proofs.Belongings.{IsThread}
-use Rattle.churn.proofs.BelowTheHub.{IsGiven, thread_or_not}
-use Rattle.churn.proofs.Opening.{thread_cases, script_none}
+use Rattle.churn.proofs.BelowTheHub.{IsGiven, thread_or_not, all_pin_none}
+use Rattle.churn.proofs.Opening.{thread_cases, script_later, script_none}
 use Rattle.churn.proofs.Refusals.{legal-append}
 use Rattle.churn.proofs.OneAfterAnother.{AreOf, all_of, none_of, given_append, given_at, runs_are_in_turn}
-
--- an outcome is never Full
-
-shown_given : (r : Reference) → is_full (shown r) ≡ false
-shown_given None = refl
-shown_given (Some n) = refl
-
-either_given : (b : Bool) → is_full (yes_or_no b) ≡ false
-either_given true = refl
-either_given false = refl
-
-on_given : {A : Type 0} (x : Option A) (g : Graph) (f : A → Outcome) → ((v : A) → is_full (f v).reply ≡ false) → is_full (on x g f).reply ≡ false
-on_given None g f h = refl
-on_given (Some v) g f h = h v
-
-outcome_given : (g : Graph) (t : ℕ) (c : Command) → is_full (outcome g t c).reply ≡ false
-outcome_given g t (New dst refs nums) = refl
-outcome_given g t (Get dst src field) = on_given (field_at g t src field) g (λ v. answers (shown v) (with_root g t dst v)) shown_given
-outcome_given g t (Set obj field val) = on_given (field_at g t obj field) g (λ _. answers reply.Ok (with_field g t obj field (g.root t val))) (λ _. refl)
-outcome_given g t (Cas obj field expect val) =
-    on_given (field_at g t obj field) g (λ v. if same_reference v (g.root t expect) then answers reply.Yes (with_field g t obj field (g.root t val)) else answers reply.No g)
-    (λ v. elim (same_reference v (g.root t expect)) as (λ b. is_full (if b then answers reply.Yes (with_field g t obj field (g.root t val)) else answers reply.No g).reply ≡ false) [ true ↦ refl | false ↦ refl ])
-outcome_given g t (Xchg dst obj field val) = on_given (field_at g t obj field) g (λ v. answers (shown v) (with_root (with_field g t obj field (g.root t val)) t dst v)) shown_given
-outcome_given g t (Rd obj index) = on_given (number_at g t obj index) g (λ n. answers (reply.Number n) g) (λ _. refl)
-outcome_given g t (Wr obj index value) = on_given (number_at g t obj index) g (λ _. answers reply.Ok (with_number g t obj index value)) (λ _. refl)
-outcome_given g t (Copy dst src) = refl
-outcome_given g t (Drop dst) = refl
-outcome_given g t (Same a b) = either_given (same_reference (g.root t a) (g.root t b))
-outcome_given g t Gc = refl
 
 -- the commands of a thread, each with its outcome
 abbrev pub played : Graph → ℕ → List Command → List Entry
 played g t [] = []
 played g t (c ∷ cs) = record { thread = t; command = c; reply = (outcome g t c).reply } ∷ played (outcome g t c).graph t cs
 
-played_after : (g : Graph) (t : ℕ) (c : Command) → after_entry g (record { thread = t; command = c; reply = (outcome g t c).reply }) ≡ (outcome g t c).graph
-played_after g t c = rw (outcome_given g t c) refl
+-- none of them is to pin an object
+abbrev PinNone : List Command → Type 0
+PinNone cs = AllByRecursion (λ c. IsPin c → ⊥) cs
 
-played_legal : (g : Graph) (t : ℕ) (cs : List Command) → EachIsLegal g (played g t cs)
-played_legal g t [] = tt
-played_legal g t (c ∷ cs) =
-    let e : Entry = record { thread = t; command = c; reply = (outcome g t c).reply } in
-    let left = played_after g t c in (
-      subst (λ (h : Graph). IsLegal g t c (outcome g t c).reply h) (sym left) (inl refl),
-      subst (λ (h : Graph). EachIsLegal h (played (outcome g t c).graph t cs)) (sym left) (played_legal (outcome g t c).graph t cs),
+played_after : (g : Graph) (t : ℕ) (c : Command) → (IsPin c → ⊥) → after_entry g (record { thread = t; command = c; reply = (outcome g t c).reply }) ≡ (outcome g t c).graph
+played_after g t c never = rw (outcome_given g t c) (leaves_outcome g t c (outcome g t c).reply never)
+
+played_legal : (g : Graph) (t : ℕ) (cs : List Command) → PinNone cs → EachIsLegal 16 256 g (played g t cs)
+played_legal g t [] none = tt
+played_legal g t (c ∷ cs) none =
+    let left = played_after g t c none.0 in (
+      subst (λ (h : Graph). IsLegal 16 256 g t c (outcome g t c).reply h) (sym left) (inl (pins_none g t c none.0, refl)),
+      subst (λ (h : Graph). EachIsLegal 16 256 h (played (outcome g t c).graph t cs)) (sym left) (played_legal (outcome g t c).graph t cs none.1),
     )
 
-played_given : (g : Graph) (t : ℕ) (cs : List Command) → AllByRecursion IsGiven (played g t cs)
-played_given g t [] = tt
-played_given g t (c ∷ cs) =
-    (λ full. let e : true ≡ false = ap is_full (sym full) ∙ outcome_given g t c in cc, played_given (outcome g t c).graph t cs)
+played_given : (g : Graph) (t : ℕ) (cs : List Command) → PinNone cs → AllByRecursion IsGiven (played g t cs)
+played_given g t [] none = tt
+played_given g t (c ∷ cs) none =
+    ((λ full. let e : true ≡ false = ap is_full (sym full) ∙ outcome_given g t c in cc, none.0), played_given (outcome g t c).graph t cs none.1)
+
+script_pins_none : (seed count t : ℕ) → PinNone (churn_script seed count t)
+script_pins_none seed count t = (λ is. is, all_pin_none t (Set 0 t 1 ∷ flat_map (round seed) (range_with_len 0 count)) (script_later seed count t))
 
 played_of : (g : Graph) (t : ℕ) (cs : List Command) → AreOf t (played g t cs)
 played_of g t [] = tt
@@ -143,16 +120,16 @@ whole_follows seed count t =
 
 whole_given : (seed count : ℕ) → AllByRecursion IsGiven (whole seed count)
 whole_given seed count =
-    given_append (first_part seed count) (second_part seed count ++ third_part seed count) (played_given (opening 3) 1 (churn_script seed count 1))
-    (given_append (second_part seed count) (third_part seed count) (played_given (after_first seed count) 2 (churn_script seed count 2)) (played_given (after_second seed count) 3 (churn_script seed count 3)))
+    given_append (first_part seed count) (second_part seed count ++ third_part seed count) (played_given (opening 3) 1 (churn_script seed count 1) (script_pins_none seed count 1))
+    (given_append (second_part seed count) (third_part seed count) (played_given (after_first seed count) 2 (churn_script seed count 2) (script_pins_none seed count 2)) (played_given (after_second seed count) 3 (churn_script seed count 3) (script_pins_none seed count 3)))
 
 whole_run : (seed count : ℕ) → IsWorkloadRun seed count (whole seed count)
 whole_run seed count = record {
   follows = whole_follows seed count;
   legal = record {
-    each = legal-append (opening 3) (first_part seed count) (second_part seed count ++ third_part seed count) (played_legal (opening 3) 1 (churn_script seed count 1))
-        (legal-append (after_first seed count) (second_part seed count) (third_part seed count) (played_legal (after_first seed count) 2 (churn_script seed count 2)) (played_legal (after_second seed count) 3 (churn_script seed count 3)));
-    crowded = λ k e at full. absurd (given_at (whole seed count) k e (whole_given seed count) at full);
+    each = legal-append (opening 3) (first_part seed count) (second_part seed count ++ third_part seed count) (played_legal (opening 3) 1 (churn_script seed count 1) (script_pins_none seed count 1))
+        (legal-append (after_first seed count) (second_part seed count) (third_part seed count) (played_legal (after_first seed count) 2 (churn_script seed count 2) (script_pins_none seed count 2)) (played_legal (after_second seed count) 3 (churn_script seed count 3) (script_pins_none seed count 3)));
+    crowded = λ k e at full. absurd ((given_at (whole seed count) k e (whole_given seed count) at).0 full);
   };
 }
 

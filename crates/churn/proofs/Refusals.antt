@@ -1,5 +1,5 @@
 -- No allocation of the workload is refused: too few words are in use.
-use Rattle.std.proofs.Common.{ℕ, zero, suc, ◌≡◌, ◌-◌, ◌<◌, ◌≤◌, Bool, true, false, List, [], ◌∷◌, ◌++◌, length, get_or, Option, Some, refl, ap, ◌∙◌, sym, subst, inl, inr, arith, append_assoc}
+use Rattle.std.proofs.Common.{ℕ, zero, suc, ◌≡◌, ◌+◌, ◌-◌, ◌*◌, ◌<◌, ◌≤◌, Bool, true, false, List, [], ◌∷◌, ◌++◌, length, get_or, Option, Some, refl, ap, ◌∙◌, sym, subst, inl, inr, arith, append_assoc}
 use Rattle.std.proofs.Math.Seq.{take-append_seam}
 use Rattle.std.specs.Prelude.{◌≢◌, ◌==◌, if◌then◌else◌, All, slice_get}
 use Rattle.std.specs.List.{AllByRecursion, flat_map, range_with_len}
@@ -7,19 +7,19 @@ use Rattle.std.proofs.lemmas.Bool.{cases_lt}
 use Rattle.std.proofs.lemmas.List.{get_or_past}
 use Rattle.std.proofs.lemmas.List.Elements.{All-nil, All-cons}
 use Rattle.std.proofs.lemmas.List.Sums.{sum_by-le}
-use Rattle.std.proofs.lemmas.Option.{slice_get-get_or, slice_get_past}
+use Rattle.std.proofs.lemmas.Option.{none-some, slice_get-get_or, slice_get_past}
 use Rattle.shen_graph.specs.declared.command.Command.{Command}
 use Rattle.shen_graph.specs.declared.command.Command.TheVariants.{New, Set}
 use Rattle.shen_graph.specs.declared.command.Reply.{Reply}
 use Rattle.shen_graph.specs.declared.command.Reply.TheVariants as reply
 use Rattle.shen_graph.specs.Graph.{Graph, opening}
 use Rattle.shen_graph.specs.History.{Entry, is_full, after_entry, after, EachIsLegal, of_thread, commands_of}
-use Rattle.shen_graph.specs.Crowd.{words_asked, next_command, words_open, IsCrowded, AreCrowded}
+use Rattle.shen_graph.specs.Crowd.{words_asked, next_command, words_open, PinnedRegions, IsCrowded, AreCrowded}
 use Rattle.churn.specs.Script.{round, churn_script, churn_scripts}
 use Rattle.churn.proofs.Belongings.{Tidy, Same-itself}
 use Rattle.churn.proofs.Commands.{IsLater}
 use Rattle.churn.proofs.Commands.IsLater.{makes, writes, links, stores, drops, loads, reads, swaps, exchanges}
-use Rattle.churn.proofs.BelowTheHub.{IsGiven, Ahead, Going, going-here, entry-step}
+use Rattle.churn.proofs.BelowTheHub.{IsGiven, Ahead, Going, ahead_pins_none, going-here, entry-step}
 use Rattle.churn.proofs.Opening.{script_later}
 use Rattle.churn.proofs.Bounds.{few_live}
 
@@ -85,10 +85,25 @@ few_open seed count before thread =
           | false ↦ asked_at (get_or (churn_scripts seed count) (t - 1) []) (length (of_thread before t)) (scripts_few seed count (t - 1))
         ]
 
+-- no region has a pinned object
+none_pinned : (g : Graph) (count : ℕ) → Tidy g → PinnedRegions 256 g count → count ≡ 0
+none_pinned g count tidy ([], are, is) = is
+none_pinned g count tidy (r ∷ regions, are, is) =
+    let has = are.only r (0, omega arith, refl) in
+    absurd (none-some has.2 (sym (tidy.no_pin has.0 has.1) ∙ has.3))
+
 -- an allocation is not crowded out
 not_crowded : (seed count : ℕ) (before : List Entry) (e : Entry) → Tidy (after (opening 3) before) → AsksFew e.command → IsCrowded 16 256 (opening 3) (churn_scripts seed count) before e → ⊥
 not_crowded seed count before e tidy few crowded =
-    omega (arith, few_live (after (opening 3) before) crowded.0 tidy crowded.1, few_open seed count before e.thread, crowded.2)
+    let g = after (opening 3) before in
+    let live = crowded.0 in
+    let held = crowded.1 in
+    let pinned = crowded.2 in
+    let few_words = few_live g live tidy crowded.3 in
+    let none : pinned ≡ 0 = none_pinned g pinned tidy crowded.5 in
+    let all : 16 * (256 - words_asked (Some e.command) + 1) ≤ live - held + words_open (churn_scripts seed count) before e.thread =
+    subst (λ (p : ℕ). (16 - p) * (256 - words_asked (Some e.command) + 1) ≤ live - held + words_open (churn_scripts seed count) before e.thread) none crowded.6 in
+    omega (arith, few, few_words, few_open seed count before e.thread, all)
 
 -- two histories one after the other
 
@@ -96,7 +111,7 @@ pub after-append : (g : Graph) (past more : List Entry) → after g (past ++ mor
 after-append g [] more = refl
 after-append g (e ∷ past) more = after-append (after_entry g e) past more
 
-pub legal-append : (g : Graph) (past more : List Entry) → EachIsLegal g past → EachIsLegal (after g past) more → EachIsLegal g (past ++ more)
+pub legal-append : (g : Graph) (past more : List Entry) → EachIsLegal 16 256 g past → EachIsLegal 16 256 (after g past) more → EachIsLegal 16 256 g (past ++ more)
 legal-append g [] more legal rest = rest
 legal-append g (e ∷ past) more legal rest = (legal.0, legal-append (after_entry g e) past more legal.1 rest)
 
@@ -109,6 +124,7 @@ full_is reply.Yes is = cc
 full_is reply.No is = cc
 full_is (reply.Number n) is = cc
 full_is reply.Bad is = cc
+full_is (reply.At place) is = cc
 
 not_full_is : (r : Reply) → is_full r ≡ false → r ≢ reply.Full
 not_full_is r is full = let e : true ≡ false = ap is_full (sym full) ∙ is in cc
@@ -120,7 +136,7 @@ seam (x ∷ before) es e = seam before es e
 -- What a history says of its refusals, from one of its places on.
 abbrev pub NoneFrom : ℕ → ℕ → List Entry → Type 0
 NoneFrom seed count es = (before : List Entry) → AreCrowded 16 256 (opening 3) (churn_scripts seed count) (before ++ es) → Tidy (after (opening 3) before)
-    → Going (after (opening 3) before) es → EachIsLegal (after (opening 3) before) es → AllByRecursion IsGiven es
+    → Going (after (opening 3) before) es → EachIsLegal 16 256 (after (opening 3) before) es → AllByRecursion IsGiven es
 
 pub none_from : (seed count : ℕ) (es : List Entry) → NoneFrom seed count es
 none_from seed count [] before crowded tidy going legal = tt
@@ -135,10 +151,11 @@ none_from seed count (e ∷ es) before crowded tidy going legal = by_reply (is_f
         absurd (not_crowded seed count before e tidy (ahead_few g e.thread e.command (commands_of (of_thread es e.thread)) (going-here g e es going)) here)
     by_reply false is rest =
         let g = after (opening 3) before in
-        let given : IsGiven e = not_full_is e.reply is in
+        let given : IsGiven e =
+        (not_full_is e.reply is, ahead_pins_none g e.thread e.command (commands_of (of_thread es e.thread)) (going-here g e es going)) in
         let w = entry-step g g e es tidy tidy (Same-itself e.thread g) going legal.0 given in
         let now : after (opening 3) (before ++ e ∷ []) ≡ after_entry g e = after-append (opening 3) before (e ∷ []) in (
           given,
           rest (before ++ e ∷ []) (subst (AreCrowded 16 256 (opening 3) (churn_scripts seed count)) (sym (append_assoc before (e ∷ []) es)) crowded)
-              (subst Tidy (sym now) w.moved.tidy) (subst (λ (k : Graph). Going k es) (sym now) w.going) (subst (λ (k : Graph). EachIsLegal k es) (sym now) legal.1),
+              (subst Tidy (sym now) w.moved.tidy) (subst (λ (k : Graph). Going k es) (sym now) w.going) (subst (λ (k : Graph). EachIsLegal 16 256 k es) (sym now) legal.1),
         )

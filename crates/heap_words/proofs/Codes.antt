@@ -15,7 +15,7 @@ use Rattle.heap_words.specs.Place.{code_of, same_place}
 abbrev pub row_of : Place → ℕ
 row_of place = tag_of the_type place
 
-pub row_of_lt : (p : Place) → row_of p < 87
+pub row_of_lt : (p : Place) → row_of p < 89
 row_of_lt E1 = lit< tt
 row_of_lt _ = lit< tt
 
@@ -46,7 +46,7 @@ code_of-row_in (row ∷ rows) (suc k) good below =
     code_of-row_in rows k (second_true (bytes_eq (code_of row.0) row.1) (spells rows) good) (omega arith)
 
 -- each row has a place with its code
-pub code_of-row : (k : ℕ) → k < 87 → code_of (get_or CODES k (E1, [])).0 ≡ (get_or CODES k (E1, [])).1
+pub code_of-row : (k : ℕ) → k < 89 → code_of (get_or CODES k (E1, [])).0 ≡ (get_or CODES k (E1, [])).1
 code_of-row k below = code_of-row_in CODES k refl below
 
 -- the first place with a code
@@ -90,13 +90,13 @@ sameb-same_place p q =
     (λ e. true_same the_type p q (same_place-true p q e))
 
 -- one of the rows that was found by its code
-pub row_found : (code : List ℕ) (k : ℕ) → k < 87 → (get_or CODES k (E1, [])).1 ≡ code → code_of (get_or CODES k (E1, [])).0 ≡ code
+pub row_found : (code : List ℕ) (k : ℕ) → k < 89 → (get_or CODES k (E1, [])).1 ≡ code → code_of (get_or CODES k (E1, [])).0 ≡ code
 row_found code k below e = code_of-row k below ∙ e
 
 -- a place with the code is that of the row
-pub row_only : (code : List ℕ) (k : ℕ) → k < 87 → (get_or CODES k (E1, [])).1 ≡ code → (p : Place) → code_of p ≡ code → (get_or CODES k (E1, [])).0 ≡ p
+pub row_only : (code : List ℕ) (k : ℕ) → k < 89 → (get_or CODES k (E1, [])).1 ≡ code → (p : Place) → code_of p ≡ code → (get_or CODES k (E1, [])).0 ≡ p
 row_only code k below e p spelled = same_code (get_or CODES k (E1, [])).0 p (row_found code k below e ∙ sym spelled)
 
 -- where no row has a code, no place has it
-pub row_none : (code : List ℕ) → ((k : ℕ) → k < 87 → (get_or CODES k (E1, [])).1 ≡ code → ⊥) → (p : Place) → code_of p ≡ code → ⊥
+pub row_none : (code : List ℕ) → ((k : ℕ) → k < 89 → (get_or CODES k (E1, [])).1 ≡ code → ⊥) → (p : Place) → code_of p ≡ code → ⊥
 row_none code none p spelled = none (row_of p) (row_of_lt p) (ap (λ row. row.1) (row-row_of p) ∙ spelled)

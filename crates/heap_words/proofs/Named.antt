@@ -85,7 +85,7 @@ rows_stand c = (
                                         λ k h. (h, omega arith),
                                         (
                                           λ k h. (h, omega arith),
-                                          (λ k h. ((omega arith, omega arith), omega arith), (alone c _ Share tt (omega arith), tt)),
+                                          (λ k h. ((omega arith, omega arith), omega arith), (alone c _ Share tt (omega arith), (λ k h. ((omega arith, omega arith), omega arith), tt))),
                                         ),
                                       ),
                                     ),

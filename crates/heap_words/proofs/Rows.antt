@@ -2,7 +2,7 @@
 use Rattle.std.proofs.Common.{leb, ◌≡◌, ℕ, ◌+◌, ◌-◌, ◌*◌, ◌/◌, ◌%◌, ◌<◌, ◌≤◌, ⊎_elim, List, [], ◌∷◌, get_or, refl, sym, ap, ◌∙◌, arith, zero, suc}
 use Rattle.std.proofs.lemmas.Bool.{cases_order, le-leb, lt-leb}
 use Rattle.heap_words.specs.declared.config.Config.{Config}
-use Rattle.heap_words.specs.Words.{Word, Pause, Left, End, State, Phase, Cset, Free, Evac, Claim, Ask, Top, Tams, Limit, Current, Root, Count, Buffer, Wait, Answer, Grey, Black, Heap, Share, IsWord, word_at, table_words, heap_size, bit_words, image_start, is_image}
+use Rattle.heap_words.specs.Words.{Word, Pause, Left, End, State, Phase, Cset, Free, Evac, Claim, Ask, Top, Tams, Limit, Current, Root, Count, Buffer, Wait, Answer, Grey, Black, Heap, Share, Pin, IsWord, word_at, table_words, heap_size, bit_words, image_start, is_image}
 
 -- where a row begins, by the sizes of all rows
 abbrev pub row_start : List ℕ → ℕ → ℕ
@@ -43,7 +43,7 @@ abbrev pub sizes : Config → List ℕ
 sizes c =
     1 ∷ 1 ∷ 1 ∷ (c.mutators + c.helpers) ∷ 1 ∷ 1 ∷ 1 ∷ 1 ∷ 1 ∷ 1 ∷ c.regions ∷ c.regions ∷ c.regions
     ∷ (c.mutators + c.helpers + 1) ∷ (16 * c.mutators) ∷ c.mutators ∷ (8 * c.mutators) ∷ c.mutators ∷ c.mutators
-    ∷ bit_words c ∷ bit_words c ∷ heap_size c ∷ 1 ∷ []
+    ∷ bit_words c ∷ bit_words c ∷ heap_size c ∷ 1 ∷ (4 * c.mutators) ∷ []
 
 -- the row of a word
 abbrev pub row : Word → ℕ
@@ -70,6 +70,7 @@ row (Grey k) = 19
 row (Black k) = 20
 row (Heap a) = 21
 row Share = 22
+row (Pin t i) = 23
 
 -- its place in the row
 abbrev pub offset : Config → Word → ℕ
@@ -86,6 +87,7 @@ offset c (Answer t) = t
 offset c (Grey k) = k
 offset c (Black k) = k
 offset c (Heap a) = a - c.region_words
+offset c (Pin t i) = 4 * t + i
 offset c _ = 0
 
 -- the word of each row at an offset
@@ -93,7 +95,7 @@ abbrev pub words_at : Config → ℕ → List Word
 words_at c x =
     Pause ∷ Left ∷ End ∷ State x ∷ Phase ∷ Cset ∷ Free ∷ Evac ∷ Claim ∷ Ask ∷ Top x ∷ Tams x ∷ Limit x
     ∷ Current x ∷ Root (x / 16) (x % 16) ∷ Count x ∷ Buffer (x / 8) (x % 8) ∷ Wait x ∷ Answer x
-    ∷ Grey x ∷ Black x ∷ Heap (x + c.region_words) ∷ Share ∷ []
+    ∷ Grey x ∷ Black x ∷ Heap (x + c.region_words) ∷ Share ∷ Pin (x / 4) (x % 4) ∷ []
 
 pub word_at-row : (c : Config) (w : Word) → IsWord c w → word_at c w ≡ row_start (sizes c) (row w) + offset c w
 word_at-row c Pause h = refl
@@ -119,6 +121,7 @@ word_at-row c (Grey k) h = omega arith
 word_at-row c (Black k) h = omega arith
 word_at-row c (Heap a) h = omega arith
 word_at-row c Share h = omega arith
+word_at-row c (Pin t i) h = omega arith
 
 pub table_words-rows : (c : Config) → table_words c ≡ row_total (sizes c)
 table_words-rows c = omega arith
@@ -148,6 +151,7 @@ in_row c (Grey k) h = h
 in_row c (Black k) h = h
 in_row c (Heap a) h = omega arith
 in_row c Share h = omega arith
+in_row c (Pin t i) h = omega arith
 
 -- the row and the place in it name the word
 pub named : (c : Config) (w : Word) → IsWord c w → get_or (words_at c (offset c w)) (row w) Pause ≡ w
@@ -174,6 +178,7 @@ named c (Grey k) h = refl
 named c (Black k) h = refl
 named c (Heap a) h = let r : a - c.region_words + c.region_words ≡ a = omega arith in cc
 named c Share h = refl
+named c (Pin t i) h = let q : (4 * t + i) / 4 ≡ t = omega arith in let r : (4 * t + i) % 4 ≡ i = omega arith in cc
 
 -- each word stands in the table
 pub word_inside : (c : Config) (w : Word) → IsWord c w → word_at c w < table_words c

@@ -3,7 +3,7 @@ use Rattle.std.proofs.Common.{◌≡◌, ℕ, ◌+◌, ◌*◌, ◌<◌, true, f
 use Rattle.std.proofs.lemmas.Bool.{cases_Bool, eqb-true, eq-eqb, ltb-true, lt-ltb, leb-true, le-leb, and_parts, and_from, cond-true, cond-false, false≢true}
 use Rattle.std.proofs.Math.Path.{fun_ext}
 use Rattle.heap_words.specs.declared.config.Config.{Config}
-use Rattle.heap_words.specs.Words.{Word, Pause, Left, End, State, Phase, Cset, Free, Evac, Claim, Ask, Top, Tams, Limit, Current, Root, Count, Buffer, Wait, Answer, Grey, Black, Heap, Share, same_word, IsWord, is_word, word_at, table_words, view, write, AreApart, IsStoreOfOne}
+use Rattle.heap_words.specs.Words.{Word, Pause, Left, End, State, Phase, Cset, Free, Evac, Claim, Ask, Top, Tams, Limit, Current, Root, Count, Buffer, Wait, Answer, Grey, Black, Heap, Share, Pin, same_word, IsWord, is_word, word_at, table_words, view, write, AreApart, IsStoreOfOne}
 use Rattle.heap_words.proofs.Rows.{word_inside, words_differ, is_image-word_at}
 
 pub same_word_refl : (w : Word) → same_word w w ≡ true
@@ -30,6 +30,7 @@ same_word_refl (Grey k) = eq-eqb k k refl
 same_word_refl (Black k) = eq-eqb k k refl
 same_word_refl (Heap a) = eq-eqb a a refl
 same_word_refl Share = refl
+same_word_refl (Pin t i) = and_from _ _ (eq-eqb t t refl) (eq-eqb i i refl)
 
 -- a test of two pairs of numbers
 pub both_equal : (a b x y : ℕ) → (eqb a b && eqb x y) ≡ true → (a ≡ b) × (x ≡ y)
@@ -59,6 +60,7 @@ same_word_true (Grey k) (Grey l) e = ap Grey (eqb-true k l e)
 same_word_true (Black k) (Black l) e = ap Black (eqb-true k l e)
 same_word_true (Heap a) (Heap b) e = ap Heap (eqb-true a b e)
 same_word_true Share Share e = refl
+same_word_true (Pin t i) (Pin u j) e = let p = both_equal t u i j e in cc
 same_word_true _ _ e = absurd (false≢true e)
 
 -- the test of a name says that there is such a word
@@ -78,6 +80,7 @@ is_word_true c (Black k) e = ltb-true _ _ e
 is_word_true c (Heap a) e =
     let p = and_parts (leb c.region_words a) (ltb a ((c.regions + 1) * c.region_words)) e in
     (leb-true _ _ p.0, ltb-true _ _ p.1)
+is_word_true c (Pin t i) e = let p = and_parts (ltb t c.mutators) (ltb i 4) e in (ltb-true _ _ p.0, ltb-true _ _ p.1)
 is_word_true c _ e = tt
 
 pub is_word_from : (c : Config) (w : Word) → IsWord c w → is_word c w ≡ true
@@ -94,6 +97,7 @@ is_word_from c (Answer t) h = lt-ltb _ _ h
 is_word_from c (Grey k) h = lt-ltb _ _ h
 is_word_from c (Black k) h = lt-ltb _ _ h
 is_word_from c (Heap a) h = and_from _ _ (le-leb _ _ h.0) (lt-ltb _ _ h.1)
+is_word_from c (Pin t i) h = and_from _ _ (lt-ltb _ _ h.0) (lt-ltb _ _ h.1)
 is_word_from c _ h = refl
 
 -- what a word reads

@@ -2,7 +2,7 @@
 use Rattle.std.specs.Prelude.{ℕ, Bool, ◌==◌, List, [], ◌∷◌}
 use Rattle.std.specs.Cmp.Lexicographic.{pointwise}
 use Rattle.std.specs.Ordering.{on}
-use Rattle.heap_words.specs.Words.{Word, Pause, Left, End, State, Phase, Cset, Free, Evac, Claim, Ask, Top, Tams, Limit, Current, Root, Count, Buffer, Wait, Answer, Grey, Black, Heap, Share}
+use Rattle.heap_words.specs.Words.{Word, Pause, Left, End, State, Phase, Cset, Free, Evac, Claim, Ask, Top, Tams, Limit, Current, Root, Count, Buffer, Wait, Answer, Grey, Black, Heap, Share, Pin}
 use Rattle.heap_words.specs.declared.name.WordName.{WordName}
 use Rattle.heap_words.specs.declared.name.WordName.TheVariants as code
 
@@ -31,6 +31,7 @@ word_of (code.Grey word) = Grey word
 word_of (code.Black word) = Black word
 word_of (code.Heap address) = Heap address
 word_of code.Share = Share
+word_of (code.Pin mutator slot) = Pin mutator slot
 
 -- a name as its kind and its numbers
 abbrev pub name_numbers : WordName → List ℕ
@@ -57,6 +58,7 @@ name_numbers (code.Grey word) = 19 ∷ word ∷ 0 ∷ []
 name_numbers (code.Black word) = 20 ∷ word ∷ 0 ∷ []
 name_numbers (code.Heap address) = 21 ∷ address ∷ 0 ∷ []
 name_numbers code.Share = 22 ∷ 0 ∷ 0 ∷ []
+name_numbers (code.Pin mutator slot) = 23 ∷ mutator ∷ slot ∷ []
 
 -- whether two names are one
 abbrev pub same_name : WordName → WordName → Bool

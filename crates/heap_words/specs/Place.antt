@@ -1,7 +1,7 @@
 -- The codes of the places, by which two places are told apart.
 use Rattle.std.specs.Prelude.{ℕ, Bool, ◌==◌, ◌&&◌, List, [], ◌∷◌, slice_index}
 use Rattle.heap_words.specs.declared.place.Place.{Place}
-use Rattle.heap_words.specs.declared.place.Place.TheVariants.{E1, E2, E3, E4, PH, CS, LV, ML, H0, RL, SH, FL, FS, FX, CX, NL, NS, NM, RS, AK, BC, BL, GO, BZ, BE, BN, TC, TR, TT, TX, TF, TG, TV, TQ, TZ, TS, IW, WS, WK, WO, WP, WL, WC, HL, XL, XC, SL, CL, CP, HI, HX, GB, XS, OL, OX, XW, HR, MC, EC, UC, KX, MG, MB, MO, MS, MF, ET, EF, ES, EB, UL, UT, UG, US, UB, UF, UH, UX, I0, IE, I1, I2, P1, P2, PL, PS, P3}
+use Rattle.heap_words.specs.declared.place.Place.TheVariants.{E1, E2, E3, E4, PH, CS, LV, ML, H0, RL, SH, FL, FS, FX, CX, NL, NS, NM, RS, AK, PB, PN, BC, BL, GO, BZ, BE, BN, TC, TR, TT, TX, TF, TG, TV, TQ, TZ, TS, IW, WS, WK, WO, WP, WL, WC, HL, XL, XC, SL, CL, CP, HI, HX, GB, XS, OL, OX, XW, HR, MC, EC, UC, KX, MG, MB, MO, MS, MF, ET, EF, ES, EB, UL, UT, UG, US, UB, UF, UH, UX, I0, IE, I1, I2, P1, P2, PL, PS, P3}
 
 -- the two letters or digits of a place's code, in ASCII
 abbrev pub code_of : Place → List ℕ
@@ -25,6 +25,8 @@ code_of NS = 78 ∷ 83 ∷ []
 code_of NM = 78 ∷ 77 ∷ []
 code_of RS = 82 ∷ 83 ∷ []
 code_of AK = 65 ∷ 75 ∷ []
+code_of PB = 80 ∷ 66 ∷ []
+code_of PN = 80 ∷ 78 ∷ []
 code_of BC = 66 ∷ 67 ∷ []
 code_of BL = 66 ∷ 76 ∷ []
 code_of GO = 71 ∷ 79 ∷ []

@@ -2,7 +2,7 @@
 use Rattle.std.specs.Prelude.{◌≡◌, ℕ, ◌+◌, ◌-◌, ◌*◌, ◌/◌, ◌%◌, ◌<◌, nat_lt, if◌then◌else◌, List, [], ◌∷◌, length}
 use Rattle.heap_words.specs.Ranges.{seat_count}
 use Rattle.heap_words.specs.declared.config.Config.{Config}
-use Rattle.heap_words.specs.Words.{Word, Pause, Left, End, State, Phase, Cset, Free, Evac, Claim, Ask, Top, Tams, Limit, Current, Root, Count, Buffer, Wait, Answer, Grey, Black, Heap, Share, IsWord, word_at, table_words, bit_words, heap_size, view}
+use Rattle.heap_words.specs.Words.{Word, Pause, Left, End, State, Phase, Cset, Free, Evac, Claim, Ask, Top, Tams, Limit, Current, Root, Count, Buffer, Wait, Answer, Grey, Black, Heap, Share, Pin, IsWord, word_at, table_words, bit_words, heap_size, view}
 
 -- words that stand one after another: how many there are, and each by how many of them stand before it
 pub record Row : Type 0 where
@@ -28,7 +28,8 @@ rows c =
     ∷ many (8 * c.mutators) (λ k. Buffer (k / 8) (k % 8))
     ∷ many c.mutators (λ k. Wait k) ∷ many c.mutators (λ k. Answer k)
     ∷ many (bit_words c) (λ k. Grey k) ∷ many (bit_words c) (λ k. Black k)
-    ∷ many (heap_size c) (λ k. Heap (c.region_words + k)) ∷ one Share ∷ []
+    ∷ many (heap_size c) (λ k. Heap (c.region_words + k)) ∷ one Share
+    ∷ many (4 * c.mutators) (λ k. Pin (k / 4) (k % 4)) ∷ []
 
 -- the word in rows that has so many words before it; Pause behind all of them
 abbrev pub word_in : List Row → ℕ → Word

@@ -28,6 +28,7 @@ pub data Word : Type 0 where
   Black : (number : ℕ) → Word
   Heap : (address : ℕ) → Word
   Share : Word
+  Pin : (mutator slot : ℕ) → Word
 
 -- whether two names are one
 abbrev pub same_word : Word → Word → Bool
@@ -54,6 +55,7 @@ same_word (Grey k) (Grey l) = k == l
 same_word (Black k) (Black l) = k == l
 same_word (Heap a) (Heap b) = a == b
 same_word Share Share = true
+same_word (Pin t i) (Pin u j) = (t == u) && (i == j)
 same_word _ _ = false
 
 -- the words of the heap
@@ -80,9 +82,13 @@ marks_start config = roots_start config + 27 * config.mutators
 abbrev pub heap_start : Config → ℕ
 heap_start config = marks_start config + 2 * bit_words config
 
+-- where the pin slots begin, behind the heap and the word of the shared region
+abbrev pub pins_start : Config → ℕ
+pins_start config = heap_start config + heap_size config + 1
+
 -- the words of the table
 abbrev pub table_words : Config → ℕ
-table_words config = heap_start config + heap_size config + 1
+table_words config = pins_start config + 4 * config.mutators
 
 -- the words of the heap in a table, from the first address on
 abbrev pub heap_in : Config → List ℕ → List ℕ
@@ -91,6 +97,10 @@ heap_in config words = slice_range words (heap_start config) (heap_start config 
 -- the words of the roots in a table, 16 for each mutator
 abbrev pub roots_in : Config → List ℕ → List ℕ
 roots_in config words = slice_range words (roots_start config) (roots_start config + 16 * config.mutators)
+
+-- the words of the pin slots in a table, 4 for each mutator
+abbrev pub pins_in : Config → List ℕ → List ℕ
+pins_in config words = slice_range words (pins_start config) (pins_start config + 4 * config.mutators)
 
 -- where a word stands
 abbrev pub word_at : Config → Word → ℕ
@@ -117,6 +127,7 @@ word_at config (Grey number) = marks_start config + number
 word_at config (Black number) = marks_start config + bit_words config + number
 word_at config (Heap address) = heap_start config + address - config.region_words
 word_at config Share = heap_start config + heap_size config
+word_at config (Pin mutator slot) = pins_start config + 4 * mutator + slot
 
 -- the numbers of a name are in range: there is such a word
 abbrev pub IsWord : Config → Word → Type 0
@@ -133,6 +144,7 @@ IsWord config (Answer mutator) = mutator < config.mutators
 IsWord config (Grey number) = number < bit_words config
 IsWord config (Black number) = number < bit_words config
 IsWord config (Heap address) = (config.region_words ≤ address) × (address < (config.regions + 1) * config.region_words)
+IsWord config (Pin mutator slot) = (mutator < config.mutators) × (slot < 4)
 IsWord config _ = ⊤
 
 -- whether there is such a word
@@ -150,6 +162,7 @@ is_word config (Answer mutator) = nat_lt mutator config.mutators
 is_word config (Grey number) = nat_lt number (bit_words config)
 is_word config (Black number) = nat_lt number (bit_words config)
 is_word config (Heap address) = nat_le config.region_words address && nat_lt address ((config.regions + 1) * config.region_words)
+is_word config (Pin mutator slot) = nat_lt mutator config.mutators && nat_lt slot 4
 is_word config _ = true
 
 -- a table as a memory: what each name reads, 0 where there is no such word

@@ -20,4 +20,4 @@ pub use encoding::{
 pub use name::{WordName, words_named};
 pub use place::Place;
 pub use schedule::{Item, NoMemory, Schedule};
-pub use words::{heap_in, roots_in, words_apart};
+pub use words::{heap_in, pins_in, roots_in, words_apart};

@@ -58,13 +58,15 @@ pub enum WordName {
     Heap { address: u64 },
     /// The region that all seats carve buffers out of.
     Share,
+    /// A pin slot of a mutator.
+    Pin { mutator: usize, slot: usize },
 }
 
 // The kinds of names, in their order.
-const KINDS: [&str; 23] = [
+const KINDS: [&str; 24] = [
     "Pause", "Left", "End", "State", "Phase", "Cset", "Free", "Evac", "Claim", "Ask", "Top",
     "Tams", "Limit", "Current", "Root", "Count", "Buffer", "Wait", "Answer", "Grey", "Black",
-    "Heap", "Share",
+    "Heap", "Share", "Pin",
 ];
 
 impl WordName {
@@ -96,6 +98,7 @@ impl WordName {
             WordName::Black { word } => [20, word as u64, 0],
             WordName::Heap { address } => [21, address, 0],
             WordName::Share => [22, 0, 0],
+            WordName::Pin { mutator, slot } => [23, mutator as u64, slot as u64],
         }
     }
 }
@@ -119,7 +122,7 @@ impl Debug for WordName {
     fn fmt<W: Write>(&self, f: &mut Formatter<W>) -> fmt::Result {
         let [kind, first, second] = self.numbers();
         let kinds = &KINDS;
-        (kinds[kind as usize % 23], first, second).fmt(f)
+        (kinds[kind as usize % 24], first, second).fmt(f)
     }
 }
 
@@ -160,8 +163,14 @@ impl Config {
             WordName::Heap {
                 address: address as u64,
             }
-        } else {
+        } else if at == self.share_at() {
             WordName::Share
+        } else {
+            let before = at - self.share_at() - 1;
+            WordName::Pin {
+                mutator: before / 4,
+                slot: before % 4,
+            }
         }
     }
 

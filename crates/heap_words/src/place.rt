@@ -48,6 +48,10 @@ pub enum Place {
     RS,
     /// Asks for a cycle.
     AK,
+    /// Loads a pin slot.
+    PB,
+    /// Stores a pin slot.
+    PN,
     /// Store barrier: loads the count of the SATB buffer.
     BC,
     /// Store barrier: loads an entry of the full SATB buffer.
@@ -185,7 +189,7 @@ pub enum Place {
 }
 
 /// Each place with its code, in the order of the places.
-const CODES: [(Place, [u8; 2]); 87] = [
+const CODES: [(Place, [u8; 2]); 89] = [
     (Place::E1, *b"E1"),
     (Place::E2, *b"E2"),
     (Place::E3, *b"E3"),
@@ -206,6 +210,8 @@ const CODES: [(Place, [u8; 2]); 87] = [
     (Place::NM, *b"NM"),
     (Place::RS, *b"RS"),
     (Place::AK, *b"AK"),
+    (Place::PB, *b"PB"),
+    (Place::PN, *b"PN"),
     (Place::BC, *b"BC"),
     (Place::BL, *b"BL"),
     (Place::GO, *b"GO"),

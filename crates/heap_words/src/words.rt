@@ -1,5 +1,5 @@
 ghost use Rattle.std.specs.Prelude.{◌≡◌, ◌≤◌, length};
-ghost use Rattle.heap_words.specs.Words.{Pause, Left, End, State, Phase, Cset, Free, Evac, Claim, Ask, Top, Tams, Limit, Current, Root, Count, Buffer, Wait, Answer, Grey, Black, Heap, Share, IsWord, word_at, table_words, heap_size, bit_words, image_start, roots_start, marks_start, heap_start, heap_in, roots_in, AreApart, IsStoreOfOne};
+ghost use Rattle.heap_words.specs.Words.{Pause, Left, End, State, Phase, Cset, Free, Evac, Claim, Ask, Top, Tams, Limit, Current, Root, Count, Buffer, Wait, Answer, Grey, Black, Heap, Share, Pin, IsWord, word_at, table_words, heap_size, bit_words, image_start, roots_start, marks_start, heap_start, pins_start, heap_in, roots_in, pins_in, AreApart, IsStoreOfOne};
 
 use super::config::Config;
 
@@ -43,12 +43,20 @@ impl Config {
         self.roots_start() + 27 * self.mutators
     }
 
-    /// Where the words of the heap begin in the table. Behind them stands the word of the shared region alone.
+    /// Where the words of the heap begin in the table. Behind them stand the word of the shared region and the pin slots.
     pub fn heap_start(&self) -> usize
         ensures value { result ≡ heap_start self.now }
         ensures bound { result ≤ 67109304 }
     {
         self.marks_start() + 2 * self.bit_words()
+    }
+
+    /// Where the pin slots begin in the table. They end it.
+    pub fn pins_start(&self) -> usize
+        ensures value { result ≡ pins_start self.now }
+        ensures bound { result ≤ 2214592953 }
+    {
+        self.heap_start() + self.heap_size() + 1
     }
 }
 
@@ -221,18 +229,26 @@ impl Config {
         self.heap_start() + (address as usize - self.region_words)
     }
 
-    /// The word of the region that all seats carve buffers out of: 0 for none, else one more than its number. It ends the table.
+    /// The word of the region that all seats carve buffers out of: 0 for none, else one more than its number. It stands behind the heap.
     pub fn share_at(&self) -> usize
         ensures { result ≡ word_at self.now Share }
     {
         self.heap_start() + self.heap_size()
     }
 
+    /// The word of this pin slot of a mutator: 0, or the address of the object that it holds.
+    pub fn pin_at(&self, mutator: usize, slot: usize) -> usize
+        requires { IsWord self.now (Pin mutator slot) }
+        ensures { result ≡ word_at self.now (Pin mutator slot) }
+    {
+        self.pins_start() + 4 * mutator + slot
+    }
+
     /// The words of the table.
     pub fn table_words(&self) -> usize
         ensures { result ≡ table_words self.now }
     {
-        self.heap_start() + self.heap_size() + 1
+        self.pins_start() + 4 * self.mutators
     }
 }
 
@@ -251,6 +267,14 @@ pub fn roots_in(config: Config, words: &[u64]) -> &[u64]
 {
     let start = config.roots_start();
     &words[start..start + 16 * config.mutators()]
+}
+
+/// The words of the pin slots in a table of this configuration, 4 for each mutator.
+pub fn pins_in(config: Config, words: &[u64]) -> &[u64]
+    requires { length words.now ≡ table_words config }
+    ensures { result.now ≡ pins_in config words.now }
+{
+    &words[config.pins_start()..config.table_words()]
 }
 
 /// A law: each word stands inside the table and apart from every other, and a store changes one.

@@ -3,6 +3,7 @@ pub mod Updates
 pub mod Pointing
 pub mod Apart
 pub mod Pieces
+pub mod Pins
 pub mod Joined
 pub mod Unwritten
 pub mod Traced

@@ -127,7 +127,7 @@ stored u at value g = record { memory = write u.memory (Heap at) value; block = 
 
 -- the graph in which the object of a name is another, and the roots
 abbrev pub changed : Graph → Name → Object → (ℕ → ℕ → Reference) → Graph
-changed g name o root = record { object = where_object g.object name o; root = root; count = g.count }
+changed g name o root = record { object = where_object g.object name o; root = root; count = g.count; pin = g.pin }
 
 module _ (c : Config) (u : World) (a refs nums at value : ℕ) (name : Name) (o : Object) (root : ℕ → ℕ → Reference) (shared : Shared c u) (target : TargetIn c u a refs nums name) where
   -- the words of another piece stay
@@ -222,6 +222,7 @@ module _ (c : Config) (u : World) (a refs nums at value : ℕ) (name : Name) (o 
         (λ b words to is_old. let long = shared.parsable.spents b words to is_old in (head_stays from_start to_end b (spent words to) is_old (λ differ. cc) (omega (arith, long)), else_stays from_start to_end b 1 (spent words to) is_old (λ differ. cc) (omega (arith, long))));
     updated = λ on. updated_stored c (u.memory Cset) (u.memory Claim) (λ r. u.memory (Top r)) (λ r. u.memory (Limit r)) (λ b. u.memory (Heap b)) u.block u.ghost.scanning (shared.updated on)
         (updated (λ b. u.memory (Heap b)) at value) (current_field from_start to_end current);
+    pinned = shared.pinned;
   }
 
   -- the shape of an object stays
@@ -255,6 +256,8 @@ module _ (c : Config) (u : World) (a refs nums at value : ℕ) (name : Name) (o 
     tops = λ r is. refl;
     root_words = λ i. refl;
     roots = roots;
+    pin_words = λ i. refl;
+    pins = λ i. refl;
     count = refl;
     wait = refl;
     answer = refl;

@@ -7,12 +7,13 @@ use Rattle.std.specs.Int.{bit_at}
 use Rattle.regions.specs.Sets.{IsIn}
 use Rattle.heap_words.specs.declared.config.Config.{Config}
 use Rattle.heap_words.specs.Encoding.{filler_header, object_words}
-use Rattle.heap_words.specs.Words.{Word, Phase, Cset, Free, Evac, Claim, Ask, State, Top, Tams, Limit, Current, Root, Count, Buffer, Wait, Answer, Grey, Black, Heap, Share}
+use Rattle.heap_words.specs.Words.{Word, Phase, Cset, Free, Evac, Claim, Ask, State, Top, Tams, Limit, Current, Root, Count, Buffer, Wait, Answer, Grey, Black, Heap, Share, Pin}
 use Rattle.heap_words.specs.Counter.{IsQuiet}
 use Rattle.shen_graph.specs.declared.name.Name.{Name}
 use Rattle.heap_world.specs.World.{World, Block, thing, moved, spent, promised, dead, filler, Plot, words_of, room_of, is_loose, Body, body_at, body_words, IsCollected, IsMarkable, AreBuffers, AreBuffersOutside, TargetIn, SharedFacts, Shared}
 use Rattle.heap_world.specs.Rely.{Keeps, RelyMarks, Rely}
 use Rattle.heap_world.proofs.Unwritten.{blank_stays}
+use Rattle.heap_world.proofs.Pins.{pins_stay}
 use Rattle.heap_world.proofs.Pointing.{copy_cases}
 use Rattle.heap_world.proofs.Pieces.{object_reads}
 use Rattle.heap_world.proofs.Marked.{rely_marks, marked_elsewhere}
@@ -69,7 +70,7 @@ module _ (c : Config) (u : World) (new : Plot) (seat a words : ℕ) (shared : Sh
     -- lies outside the collection set.
     pub shared_recut : (current : ℕ → ℕ) → ((x more : ℕ) → new x ≡ Some (filler more) → heap x ≡ filler_header more) → AreBuffers c tops current after → AreBuffersOutside c (u.memory Cset) current
         → SharedFacts c tops heap after u.ghost u.graph.object u.graph.count (u.memory Phase) (u.memory Cset) (u.memory Evac) (u.memory Free) current (λ n. u.memory (Grey n)) (λ n. u.memory (Black n)) (λ t. u.memory (Count t))
-        (λ t k. u.memory (Buffer t k)) (λ r. u.memory (Tams r)) (u.memory Claim) (λ r. u.memory (Limit r)) (u.memory Share)
+        (λ t k. u.memory (Buffer t k)) (λ r. u.memory (Tams r)) (u.memory Claim) (λ r. u.memory (Limit r)) (u.memory Share) (λ t i. u.memory (Pin t i)) u.graph.pin
     shared_recut current headers buffers outside =
         let same = same_but_loose c tops u.block new seat a words can in
         record {
@@ -141,6 +142,8 @@ module _ (c : Config) (u : World) (new : Plot) (seat a words : ℕ) (shared : Sh
               (rooms_young c tops u.block new seat a words can (λ r. u.memory (Limit r)) (shared.updated on).young) (shared.updated on).limits)
               heap
               (λ x refs nums k name is below. field_stays x refs nums k name (same.came x (thing name refs nums) refl is) below);
+          pinned = pins_stay c (u.memory Cset) (u.memory Evac) (u.memory Cset) (u.memory Evac) u.block after (λ t i. u.memory (Pin t i)) u.graph.pin
+              (λ x refs nums name has. record { piece = same.stays x (thing name refs nums) refl has.piece; safe = has.safe }) shared.pinned;
         }
 
   module _ (m : Word → ℕ) (others : (at : Word) → is_of_room at ≡ false → m at ≡ u.memory at) (heap : (x : ℕ) → (x < a) ⊎ (a + words ≤ x) → m (Heap x) ≡ u.memory (Heap x)) where
@@ -202,6 +205,8 @@ module _ (c : Config) (u : World) (new : Plot) (seat a words : ℕ) (shared : Sh
           promise_words = λ x more k is below. fixed_stay (λ b. m (Heap b)) heap x k (promised seat more) refl is below;
           root_words = λ i. others (Root seat i) refl;
           roots = λ i. refl;
+          pin_words = λ i. others (Pin seat i) refl;
+          pins = λ i. refl;
           count = refl;
           wait = others (Wait seat) refl;
           answer = others (Answer seat) refl;
@@ -260,6 +265,8 @@ module _ (c : Config) (u : World) (new : Plot) (seat a words : ℕ) (shared : Sh
           tops = λ r is. others (Top r) refl;
           root_words = λ i. others (Root j i) refl;
           roots = λ i. refl;
+          pin_words = λ i. others (Pin j i) refl;
+          pins = λ i. refl;
           count = refl;
           wait = others (Wait j) refl;
           answer = others (Answer j) refl;

@@ -3,7 +3,7 @@
 use Rattle.std.proofs.Common.{◌≡◌, ℕ, ◌+◌, Bool, true, false, Option, Some, refl, sym, ap, ◌∙◌, subst}
 use Rattle.std.specs.Int.{bit_at}
 use Rattle.heap_words.specs.declared.config.Config.{Config}
-use Rattle.heap_words.specs.Words.{Word, Phase, Cset, Free, Evac, Claim, Ask, State, Top, Tams, Limit, Current, Root, Count, Buffer, Wait, Answer, Grey, Heap, Share}
+use Rattle.heap_words.specs.Words.{Word, Phase, Cset, Free, Evac, Claim, Ask, State, Top, Tams, Limit, Current, Root, Count, Buffer, Wait, Answer, Grey, Heap, Share, Pin}
 use Rattle.heap_words.specs.Counter.{IsQuiet}
 use Rattle.shen_graph.specs.declared.name.Name.{Name}
 use Rattle.heap_world.specs.World.{World, with_owner, IsCollected, IsOpenIn, TargetIn}
@@ -48,6 +48,8 @@ module _ (c : Config) (u : World) (m : Word → ℕ) (owner : ℕ → Option ℕ
     promise_words = λ a words k is below. others (Heap (a + k)) refl;
     root_words = λ i. others (Root seat i) refl;
     roots = λ i. refl;
+    pin_words = λ i. others (Pin seat i) refl;
+    pins = λ i. refl;
     count = refl;
     wait = others (Wait seat) refl;
     answer = others (Answer seat) refl;
@@ -72,6 +74,8 @@ module _ (c : Config) (u : World) (m : Word → ℕ) (owner : ℕ → Option ℕ
     tops = λ r is. others (Top r) refl;
     root_words = λ i. others (Root j i) refl;
     roots = λ i. refl;
+    pin_words = λ i. others (Pin j i) refl;
+    pins = λ i. refl;
     count = refl;
     wait = others (Wait j) refl;
     answer = others (Answer j) refl;

@@ -7,6 +7,7 @@ use Rattle.packing.specs.Tops.{sum_below}
 use Rattle.shen_graph.specs.declared.name.Name.{Name}
 use Rattle.shen_graph.specs.Graph.{Graph, named}
 use Rattle.shen_graph.specs.Reach.{IsReach, size}
+use Rattle.shen_graph.specs.Crowd.{Held, PinnedRegions}
 use Rattle.heap_world.specs.Asking.{Asking, nothing, asks, refused, given}
 use Rattle.heap_world.specs.Represents.{Represents}
 
@@ -36,12 +37,12 @@ abbrev pub words_given : Asking → ℕ
 words_given (given refs nums) = 3 + refs + nums
 words_given _ = 0
 
--- Live objects and objects made for other mutators crowd the regions: were each region short of so many words, so many would
--- be in use.
+-- Live objects that are not pinned and objects made for other mutators crowd the regions without a pinned object: were each of these short of
+-- so many words, so many would be in use there.
 abbrev pub IsCrowded : Config → Graph → (ℕ → Asking) → ℕ → ℕ → Type 0
 IsCrowded c g asking t words =
-    (names : List Name) × IsReach g names
-    × (c.regions * (c.region_words - words + 1) ≤ sum_by (λ n. size (named g (Some n))) names + sum_below (λ u. if u == t then 0 else words_given (asking u)) c.mutators)
+    (names : List Name) × (held : ℕ) × (pinned : ℕ) × IsReach g names × Held g held × PinnedRegions c.region_words g pinned
+    × ((c.regions - pinned) * (c.region_words - words + 1) ≤ sum_by (λ n. size (named g (Some n))) names - held + sum_below (λ u. if u == t then 0 else words_given (asking u)) c.mutators)
 
 -- What a pause owes whose words before it stand for a graph: those after it stand for the same graph, each mutator that asks is
 -- answered, and it is refused an object only where the heap is crowded.

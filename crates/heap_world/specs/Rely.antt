@@ -3,7 +3,7 @@ use Rattle.std.specs.Prelude.{ℕ, ◌≡◌, ◌≢◌, ◌⊎◌, ◌+◌, ◌
 use Rattle.std.specs.Int.{bit_at}
 use Rattle.heap_words.specs.declared.config.Config.{Config}
 use Rattle.heap_words.specs.Ranges.{seat_count}
-use Rattle.heap_words.specs.Words.{Top, Tams, Limit, Current, Root, Heap, Phase, Cset, Evac, Claim, Ask, State, Wait, Answer, Count, Buffer, Grey}
+use Rattle.heap_words.specs.Words.{Top, Tams, Limit, Current, Root, Pin, Heap, Phase, Cset, Evac, Claim, Ask, State, Wait, Answer, Count, Buffer, Grey}
 use Rattle.regions.specs.Sets.{IsIn}
 use Rattle.heap_words.specs.Counter.{is_out_of_room, IsQuiet}
 use Rattle.regions.specs.Marks.{HasMark}
@@ -34,7 +34,7 @@ pub record KeepsCopies (c : Config) (u w : World) : Type 0 where
   pub quiet : IsQuiet (u.memory Evac) → IsQuiet (w.memory Evac)
 
 -- What the facts of a seat stand on, whoever steps, also the machine of the seat itself: objects stay where they are, and
--- the roots, the count, what is asked and what is promised of the seat stay as they are. Room in hand is the machine's own: what it
+-- the roots, the pin slots, the count, what is asked and what is promised of the seat stay as they are. Room in hand is the machine's own: what it
 -- copies into it becomes an object, or is given back.
 pub record Keeps (c : Config) (seat : ℕ) (u w : World) : Type 0 where
   pub names : (a : ℕ) (name : Name) → name_at (u.block a) ≡ Some name → name_at (w.block a) ≡ Some name
@@ -44,6 +44,8 @@ pub record Keeps (c : Config) (seat : ℕ) (u w : World) : Type 0 where
   pub promise_words : (a words k : ℕ) → u.block a ≡ Some (promised seat words) → k < words → w.memory (Heap (a + k)) ≡ u.memory (Heap (a + k))
   pub root_words : (i : ℕ) → w.memory (Root seat i) ≡ u.memory (Root seat i)
   pub roots : (i : ℕ) → w.graph.root (seat + 1) i ≡ u.graph.root (seat + 1) i
+  pub pin_words : (i : ℕ) → w.memory (Pin seat i) ≡ u.memory (Pin seat i)
+  pub pins : (i : ℕ) → w.graph.pin (seat + 1) i ≡ u.graph.pin (seat + 1) i
   pub count : w.graph.count (seat + 1) ≡ u.graph.count (seat + 1)
   pub wait : w.memory (Wait seat) ≡ u.memory (Wait seat)
   pub answer : w.memory (Answer seat) ≡ u.memory (Answer seat)
@@ -97,6 +99,8 @@ pub record Rely (c : Config) (seat : ℕ) (u w : World) : Type 0 where
   pub tops : (r : ℕ) → u.ghost.owner r ≡ Some seat → w.memory (Top r) ≡ u.memory (Top r)
   pub root_words : (i : ℕ) → w.memory (Root seat i) ≡ u.memory (Root seat i)
   pub roots : (i : ℕ) → w.graph.root (seat + 1) i ≡ u.graph.root (seat + 1) i
+  pub pin_words : (i : ℕ) → w.memory (Pin seat i) ≡ u.memory (Pin seat i)
+  pub pins : (i : ℕ) → w.graph.pin (seat + 1) i ≡ u.graph.pin (seat + 1) i
   pub count : w.graph.count (seat + 1) ≡ u.graph.count (seat + 1)
   pub wait : w.memory (Wait seat) ≡ u.memory (Wait seat)
   pub answer : w.memory (Answer seat) ≡ u.memory (Answer seat)

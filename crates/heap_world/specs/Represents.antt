@@ -7,7 +7,7 @@ use Rattle.heap_words.specs.Words.{Word, Cset, Evac, Ask, Root}
 use Rattle.shen_graph.specs.Graph.{Graph}
 use Rattle.heap_world.specs.World.{hand, carved, Plot, Ghost, Points, AreUsable, Shared}
 use Rattle.heap_world.specs.Asking.{Asking, asks, IsAsked, PromisedToMutators}
-use Rattle.heap_world.specs.Roots.{HasNoMore}
+use Rattle.heap_world.specs.Roots.{HasNoMore, HasNoMorePins}
 
 -- no machine is about to record an address, or scans an object
 pub record NobodyMarks (c : Config) (ghost : Ghost) : Type 0 where
@@ -21,7 +21,7 @@ pub record NobodyCopies (c : Config) (ghost : Ghost) : Type 0 where
 
 -- There is a way to divide the regions into objects of the graph and objects promised to mutators, with no room but that of buffers, and
 -- nobody marks or copies; each mutator's roots stand for its thread's roots, and it has asked for what is said; the word of what is asked has
--- the bit that a mutator waits, where one does; and the graph has no other roots. What is asked of the root words besides is a variable, of
+-- the bit that a mutator waits, where one does; and the graph has no other roots and pin slots. What is asked of the root words besides is a variable, of
 -- the division.
 pub record RepresentsWith (AsksOfRoots : Plot → Type 0) (c : Config) (memory : Word → ℕ) (g : Graph) (asking : ℕ → Asking) : Type 0 where
   pub block : Plot
@@ -37,6 +37,7 @@ pub record RepresentsWith (AsksOfRoots : Plot → Type 0) (c : Config) (memory :
   pub unmarking : NobodyMarks c ghost
   pub uncopying : NobodyCopies c ghost
   pub no_more : HasNoMore c.mutators g
+  pub no_more_pins : HasNoMorePins c.mutators g
 
 -- words represent a graph: each root word may be used besides
 abbrev pub Represents : Config → (Word → ℕ) → Graph → (ℕ → Asking) → Type 0

@@ -1,4 +1,4 @@
--- The roots that the threads of a heap have.
+-- The roots and the pin slots that the threads of a heap have.
 use Rattle.std.specs.Prelude.{ℕ, ◌≡◌, Bool, false, ◌&&◌, nat_le, nat_lt, None}
 use Rattle.shen_graph.specs.Graph.{Graph}
 
@@ -6,6 +6,14 @@ use Rattle.shen_graph.specs.Graph.{Graph}
 abbrev pub is_root_of : ℕ → ℕ → ℕ → Bool
 is_root_of threads thread index = nat_le 1 thread && (nat_le thread threads && nat_lt index 16)
 
+-- whether there is such a pin slot: 4 of each of them
+abbrev pub is_slot_of : ℕ → ℕ → ℕ → Bool
+is_slot_of threads thread slot = nat_le 1 thread && (nat_le thread threads && nat_lt slot 4)
+
 -- where there is no such root, the graph has null
 abbrev pub HasNoMore : ℕ → Graph → Type 0
 HasNoMore threads g = (thread index : ℕ) → is_root_of threads thread index ≡ false → g.root thread index ≡ None
+
+-- and where there is no such slot, it is empty
+abbrev pub HasNoMorePins : ℕ → Graph → Type 0
+HasNoMorePins threads g = (thread slot : ℕ) → is_slot_of threads thread slot ≡ false → g.pin thread slot ≡ None

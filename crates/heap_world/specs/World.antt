@@ -2,12 +2,13 @@
 use Rattle.std.specs.Prelude.{ℕ, ◌≡◌, ◌≢◌, ◌⊎◌, ◌+◌, ◌-◌, ◌<◌, ◌≤◌, ◌^◌, Bool, true, false, if◌then◌else◌, Option, Some, None, zero, suc}
 use Rattle.std.specs.Int.{bit_at}
 use Rattle.heap_words.specs.declared.config.Config.{Config}
-use Rattle.heap_words.specs.Words.{Word, Phase, Cset, Free, Evac, Claim, Top, Tams, Limit, Current, Count, Buffer, Grey, Black, Heap, Share}
+use Rattle.heap_words.specs.Words.{Word, Phase, Cset, Free, Evac, Claim, Top, Tams, Limit, Current, Count, Buffer, Grey, Black, Heap, Share, Pin}
 use Rattle.heap_words.specs.Encoding.{plain_header, header_word, filler_header, next_in, end_in, shape_word, name_code, object_words}
 use Rattle.heap_words.specs.Ranges.{seat_count}
 use Rattle.regions.specs.Place.{base_of, region_with}
 use Rattle.regions.specs.Sets.{IsIn}
 use Rattle.shen_graph.specs.declared.name.Name.{Name}
+use Rattle.shen_graph.specs.declared.pin.Pinned.{Pinned}
 use Rattle.shen_graph.specs.Graph.{Reference, Object, Graph}
 use Rattle.regions.specs.Marks.{address_at, mark_at, HasMark}
 use Rattle.heap_words.specs.Counter.{count_of, is_out_of_room, IsQuiet}
@@ -74,8 +75,8 @@ is_loose (carved seat words) = true
 abbrev pub Plot : Type 0
 Plot = ℕ → Option Block
 
--- The heap as marking from a snapshot at the beginning has it: the pieces and words that it begins with, whether a root or an
--- answer names an address then, and the tops at mark start.
+-- The heap as marking from a snapshot at the beginning has it: the pieces and words that it begins with, whether a root, an answer or a
+-- pin slot holds an address then, and the tops at mark start.
 pub record Snapshot : Type 0 where
   pub block : Plot
   pub heap : ℕ → ℕ
@@ -190,6 +191,15 @@ pub record Target (c : Config) (cset evac : ℕ) (block : Plot) (address refs nu
 -- a word may be used as a reference: it is null, or the object's current copy is there, and may be used
 abbrev pub IsUsable : Config → (cset evac : ℕ) → Plot → ℕ → Type 0
 IsUsable c cset evac block word = (word ≡ 0) ⊎ ((name : Name) × (refs : ℕ) × (nums : ℕ) × Target c cset evac block word refs nums name)
+
+-- A pin word stands for what its slot holds: 0 for nothing, and else it is the object's place, where its current copy is, and may be used.
+abbrev pub PinStands : Config → (cset evac : ℕ) → Plot → ℕ → Option Pinned → Type 0
+PinStands c cset evac block word None = word ≡ 0
+PinStands c cset evac block word (Some p) = (word ≡ p.place) × (refs : ℕ) × (nums : ℕ) × Target c cset evac block word refs nums p.name
+
+-- so do the pin words of all mutators
+abbrev pub ArePinned : Config → (cset evac : ℕ) → Plot → (words : ℕ → ℕ → ℕ) → (pin : ℕ → ℕ → Option Pinned) → Type 0
+ArePinned c cset evac block words pin = (t i : ℕ) → t < c.mutators → i < 4 → PinStands c cset evac block (words t i) (pin (t + 1) i)
 
 -- so many words from an address on lie in the part of a region that is in use
 pub record IsInUse (c : Config) (top : ℕ → ℕ) (address words : ℕ) : Type 0 where
@@ -544,7 +554,7 @@ pub record IsUpdating (c : Config) (cset claim : ℕ) (top limit heap : ℕ → 
 -- The facts that all machines share, in groups, each over the words that it speaks of: a step that changes none of these words
 -- hands the group on as it is.
 pub record SharedFacts (c : Config) (top heap : ℕ → ℕ) (block : Plot) (ghost : Ghost) (object : Name → Option Object) (count : ℕ → ℕ) (phase cset evac free : ℕ) (current : ℕ → ℕ)
-    (grey black entries : ℕ → ℕ) (buffer : ℕ → ℕ → ℕ) (tams : ℕ → ℕ) (claim : ℕ) (limit : ℕ → ℕ) (share : ℕ) : Type 0 where
+    (grey black entries : ℕ → ℕ) (buffer : ℕ → ℕ → ℕ) (tams : ℕ → ℕ) (claim : ℕ) (limit : ℕ → ℕ) (share : ℕ) (pin_words : ℕ → ℕ → ℕ) (pin : ℕ → ℕ → Option Pinned) : Type 0 where
   pub parsable : IsParsable c top block
   pub contents : HasContents c heap block object count
   pub owned : AreOwned c top share free cset current block ghost.owner
@@ -553,11 +563,12 @@ pub record SharedFacts (c : Config) (top heap : ℕ → ℕ) (block : Plot) (gho
   pub marked : KeepsSnapshot c phase grey black entries buffer top tams heap block ghost.snapshot ghost.recording ghost.scanning
   pub evacuated : IsEvacuating c phase cset evac claim free top tams heap black block ghost.owner ghost.copying ghost.working
   pub updated : phase ≡ 3 → IsUpdating c cset claim top limit heap block ghost.scanning
+  pub pinned : ArePinned c cset evac block pin_words pin
 
 abbrev pub Shared : Config → World → Type 0
 Shared c w = SharedFacts c (λ r. w.memory (Top r)) (λ a. w.memory (Heap a)) w.block w.ghost w.graph.object w.graph.count (w.memory Phase) (w.memory Cset) (w.memory Evac)
     (w.memory Free) (λ s. w.memory (Current s)) (λ n. w.memory (Grey n)) (λ n. w.memory (Black n)) (λ t. w.memory (Count t)) (λ t k. w.memory (Buffer t k)) (λ r. w.memory (Tams r))
-    (w.memory Claim) (λ r. w.memory (Limit r)) (w.memory Share)
+    (w.memory Claim) (λ r. w.memory (Limit r)) (w.memory Share) (λ t i. w.memory (Pin t i)) w.graph.pin
 
 -- a region of a world may be carved
 abbrev pub IsOpenIn : Config → World → ℕ → Type 0

@@ -15,13 +15,13 @@ use Rattle.managed_queue.specs.declared.operation.QueueReply.{QueueReply}
 use Rattle.managed_queue.specs.declared.operation.QueueReply.TheVariants as queue_reply
 use Rattle.managed_queue.specs.declared.user.Plan.{Plan}
 use Rattle.managed_queue.specs.declared.user.Plan.TheVariants.{Puts, Takes}
-use Rattle.managed_queue.specs.Spots.{next_spot, ended_at, after_join, behind_tail, after_link, after_unlink, after_same, after_rest, on_full, on_yes}
+use Rattle.managed_queue.specs.Spots.{next_spot, operation_ended, after_join, behind_tail, after_link, after_unlink, after_same, after_rest, on_full, on_yes}
 use Rattle.managed_queue.specs.Spots.Operation.{got, empty}
-use Rattle.managed_queue.specs.Machines.{command_at, first_command, answer_of}
-use Rattle.managed_queue.specs.Users.{Use, chosen, is_rest, left_of, has_ended, next_of, plan_after, is_refused, used, makings_ahead, puts_left, to_come}
+use Rattle.managed_queue.specs.Machines.{command_coming, first_command, answer_told}
+use Rattle.managed_queue.specs.Users.{Use, chosen, is_rest, left_in_plan, has_ended, next_of, plan_after, is_refused, used, makings_ahead, puts_left, to_come}
 use Rattle.managed_queue.proofs.Driven.{going, onward, used_is, more_left}
 
-pub command_valid : (c : Choice) (s : Spot) → IsValid (command_at c s)
+pub command_valid : (c : Choice) (s : Spot) → IsValid (command_coming c s)
 command_valid c MakesAnchor = (omega arith, omega arith, omega arith)
 command_valid c MakesFirst = (omega arith, omega arith, omega arith)
 command_valid c SetsHead = (omega arith, omega arith, omega arith)
@@ -46,7 +46,7 @@ command_valid c (Unlinks value) = (omega arith, omega arith, omega arith, omega 
 
 -- what is ahead after a reply, of the plan that is then left
 abbrev ahead : Plan → Spot → Reply → ℕ
-ahead p s r = makings_ahead (next_spot s (command_at (chosen p) s) r) (puts_left (plan_after p (answer_of (ended_at s r))))
+ahead p s r = makings_ahead (next_spot s (command_coming (chosen p) s) r) (puts_left (plan_after p (answer_told (operation_ended s r))))
 
 -- a plan after a reply has not more to put
 fewer_puts : (p : Plan) (a : Option QueueReply) → puts_left (plan_after p a) ≤ puts_left p
@@ -82,6 +82,7 @@ join_ahead reply.Yes x = refl
 join_ahead reply.No x = refl
 join_ahead (reply.Number n) x = refl
 join_ahead reply.Bad x = refl
+join_ahead (reply.At place) x = refl
 join_ahead reply.Full x = refl
 
 behind_ahead : (value : ℕ) (r : Reply) (x : ℕ) → makings_ahead (behind_tail value r) x ≡ x - 1
@@ -92,6 +93,7 @@ behind_ahead value reply.Yes x = refl
 behind_ahead value reply.No x = refl
 behind_ahead value (reply.Number n) x = refl
 behind_ahead value reply.Bad x = refl
+behind_ahead value (reply.At place) x = refl
 behind_ahead value reply.Full x = refl
 
 link_ahead : (value : ℕ) (r : Reply) (x : ℕ) → makings_ahead (after_link value r) x ≡ x - 1
@@ -102,6 +104,7 @@ link_ahead value reply.Yes x = refl
 link_ahead value reply.No x = refl
 link_ahead value (reply.Number n) x = refl
 link_ahead value reply.Bad x = refl
+link_ahead value (reply.At place) x = refl
 link_ahead value reply.Full x = refl
 
 unlink_ahead : (r : Reply) (x : ℕ) → makings_ahead (after_unlink r) x ≡ x
@@ -112,6 +115,7 @@ unlink_ahead reply.Yes x = refl
 unlink_ahead reply.No x = refl
 unlink_ahead (reply.Number n) x = refl
 unlink_ahead reply.Bad x = refl
+unlink_ahead (reply.At place) x = refl
 unlink_ahead reply.Full x = refl
 
 same_ahead : (nothing : Bool) (r : Reply) (x : ℕ) → makings_ahead (after_same nothing r) x ≡ x
@@ -122,6 +126,7 @@ same_ahead true reply.Yes x = refl
 same_ahead true reply.No x = refl
 same_ahead true (reply.Number n) x = refl
 same_ahead true reply.Bad x = refl
+same_ahead true (reply.At place) x = refl
 same_ahead true reply.Full x = refl
 same_ahead false (reply.Ref n) x = refl
 same_ahead false reply.Null x = refl
@@ -130,6 +135,7 @@ same_ahead false reply.Yes x = refl
 same_ahead false reply.No x = refl
 same_ahead false (reply.Number n) x = refl
 same_ahead false reply.Bad x = refl
+same_ahead false (reply.At place) x = refl
 same_ahead false reply.Full x = refl
 
 rest_ahead : (c : Choice) (r : Reply) (x : ℕ) → makings_ahead (after_rest (first_command c) r) x ≤ x
@@ -140,6 +146,7 @@ rest_ahead (choice.Put value) reply.Yes x = omega arith
 rest_ahead (choice.Put value) reply.No x = omega arith
 rest_ahead (choice.Put value) (reply.Number n) x = omega arith
 rest_ahead (choice.Put value) reply.Bad x = omega arith
+rest_ahead (choice.Put value) (reply.At place) x = omega arith
 rest_ahead (choice.Put value) reply.Full x = omega arith
 rest_ahead choice.Take r x = omega arith
 
@@ -152,8 +159,8 @@ ahead_falls p SetsTail r = fewer_puts p None
 ahead_falls p Shows r = fewer_puts p None
 ahead_falls p Joins r = let low = fewer_puts p None in let is = join_ahead r (puts_left (plan_after p None)) in omega (arith, low, is)
 ahead_falls p Rests r =
-    let low = fewer_puts p (answer_of (on_full r)) in
-    let is = rest_ahead (chosen p) r (puts_left (plan_after p (answer_of (on_full r)))) in
+    let low = fewer_puts p (answer_told (on_full r)) in
+    let is = rest_ahead (chosen p) r (puts_left (plan_after p (answer_told (on_full r)))) in
     omega (arith, low, is)
 ahead_falls p Fills r = let low = fewer_puts p None in omega (arith, low)
 ahead_falls p (Looks value) r = let low = fewer_puts p None in omega (arith, low)
@@ -165,21 +172,21 @@ ahead_falls p Turns r = fewer_puts p None
 ahead_falls p TookHead r = fewer_puts p None
 ahead_falls p TookTail r = fewer_puts p None
 ahead_falls p (Compares true) r =
-    let low = fewer_puts p (answer_of (on_yes empty r)) in
-    let is = same_ahead true r (puts_left (plan_after p (answer_of (on_yes empty r)))) in
+    let low = fewer_puts p (answer_told (on_yes empty r)) in
+    let is = same_ahead true r (puts_left (plan_after p (answer_told (on_yes empty r)))) in
     omega (arith, low, is)
 ahead_falls p (Compares false) r = let low = fewer_puts p None in let is = same_ahead false r (puts_left (plan_after p None)) in omega (arith, low, is)
 ahead_falls p Pushes r = fewer_puts p None
 ahead_falls p Reads r = fewer_puts p None
 ahead_falls p (Unlinks value) r =
-    let low = fewer_puts p (answer_of (on_yes (got value) r)) in
-    let is = unlink_ahead r (puts_left (plan_after p (answer_of (on_yes (got value) r)))) in
+    let low = fewer_puts p (answer_told (on_yes (got value) r)) in
+    let is = unlink_ahead r (puts_left (plan_after p (answer_told (on_yes (got value) r)))) in
     omega (arith, low, is)
 
 -- an allocation that is refused ends the user, and another is one less to come
 record Pays (p : Plan) (s : Spot) (r : Reply) : Type 0 where
   some : 0 < makings_ahead s (puts_left p)
-  less : (is_refused (command_at (chosen p) s) r ≡ true) ⊎ (ahead p s r < makings_ahead s (puts_left p))
+  less : (is_refused (command_coming (chosen p) s) r ≡ true) ⊎ (ahead p s r < makings_ahead s (puts_left p))
 
 put_pays : (next left : ℕ) (r : Reply) → 1 ≤ left → Pays (Puts next left) Rests r
 put_pays next left (reply.Ref n) some = record { some = some; less = inr (omega (arith, some)) }
@@ -189,9 +196,10 @@ put_pays next left reply.Yes some = record { some = some; less = inr (omega (ari
 put_pays next left reply.No some = record { some = some; less = inr (omega (arith, some)) }
 put_pays next left (reply.Number n) some = record { some = some; less = inr (omega (arith, some)) }
 put_pays next left reply.Bad some = record { some = some; less = inr (omega (arith, some)) }
+put_pays next left (reply.At place) some = record { some = some; less = inr (omega (arith, some)) }
 put_pays next left reply.Full some = record { some = some; less = inl refl }
 
-pays_at : (p : Plan) (s : Spot) (r : Reply) → IsNew (command_at (chosen p) s) → (is_rest s ≡ true → 1 ≤ left_of p) → Pays p s r
+pays_at : (p : Plan) (s : Spot) (r : Reply) → IsNew (command_coming (chosen p) s) → (is_rest s ≡ true → 1 ≤ left_in_plan p) → Pays p s r
 pays_at p MakesAnchor r new more = let low = fewer_puts p None in record { some = omega arith; less = inr (omega (arith, low)) }
 pays_at p MakesFirst r new more = let low = fewer_puts p None in record { some = omega arith; less = inr (omega (arith, low)) }
 pays_at (Puts next left) Rests r new more = put_pays next left r (more refl)
@@ -227,7 +235,7 @@ come_is : (u : Use) → has_ended u ≡ false → to_come u ≡ makings_ahead u.
 come_is u on = ap (λ b. if b then 0 else makings_ahead u.spot (puts_left u.plan)) on
 
 refused_none : (u : Use) → u.refused ≡ true → to_come u ≡ 0
-refused_none u is = ap (λ b. if b || (is_rest u.spot && (left_of u.plan == 0)) then 0 else makings_ahead u.spot (puts_left u.plan)) is
+refused_none u is = ap (λ b. if b || (is_rest u.spot && (left_in_plan u.plan == 0)) then 0 else makings_ahead u.spot (puts_left u.plan)) is
 
 pub user_falls : (u : Use) (r : Reply) → to_come (used u r) ≤ to_come u
 user_falls u r = at (has_ended u) refl
@@ -252,9 +260,9 @@ user_pays u c r is new =
       | inr less ↦ let low = come_low (onward u r) in omega (arith, at_once, before, less, low)
     ]
   where
-    unfinished : (u : Use) → has_ended u ≡ false → is_rest u.spot ≡ true → 1 ≤ left_of u.plan
+    unfinished : (u : Use) → has_ended u ≡ false → is_rest u.spot ≡ true → 1 ≤ left_in_plan u.plan
     unfinished u on = at u.refused on
       where
-        at : (b : Bool) → (b || (is_rest u.spot && (left_of u.plan == 0))) ≡ false → is_rest u.spot ≡ true → 1 ≤ left_of u.plan
+        at : (b : Bool) → (b || (is_rest u.spot && (left_in_plan u.plan == 0))) ≡ false → is_rest u.spot ≡ true → 1 ≤ left_in_plan u.plan
         at true never rest = absurd (false≢true (sym never))
-        at false on rest = more_left u.spot (left_of u.plan) on rest
+        at false on rest = more_left u.spot (left_in_plan u.plan) on rest

@@ -7,7 +7,7 @@ use Rattle.std.proofs.lemmas.Bool.Decides.{eqb_tells}
 use Rattle.std.proofs.lemmas.List.Elements.{All-head, All-tail}
 use Rattle.std.proofs.lemmas.List.Sums.{sum_by-append}
 use Rattle.shen_graph.specs.declared.command.Command.{Command}
-use Rattle.shen_graph.specs.declared.command.Command.TheVariants.{New, Get, Set, Cas, Xchg, Rd, Wr, Copy, Drop, Same, Gc}
+use Rattle.shen_graph.specs.declared.command.Command.TheVariants.{New, Get, Set, Cas, Xchg, Rd, Wr, Copy, Drop, Same, Gc, Pin, Unpin}
 use Rattle.shen_graph.specs.declared.command.Reply.{Reply}
 use Rattle.shen_graph.specs.declared.command.Reply.TheVariants as reply
 use Rattle.shen_graph.specs.History.{Entry, IsWithoutFull, is_full}
@@ -16,10 +16,10 @@ use Rattle.managed_queue.specs.declared.spot.Spot.TheVariants.{MakesAnchor, Make
 use Rattle.managed_queue.specs.declared.operation.Choice.TheVariants as choice
 use Rattle.managed_queue.specs.declared.user.Plan.TheVariants.{Puts, Takes}
 use Rattle.managed_queue.specs.declared.user.Gotten.{Gotten}
-use Rattle.managed_queue.specs.Spots.{Operation, IsNext, IsAnswered, next_spot, ended_at, on_full, after_join, after_rest, behind_tail, after_link}
+use Rattle.managed_queue.specs.Spots.{Operation, MayCome, IsGranted, next_spot, operation_ended, on_full, after_join, after_rest, behind_tail, after_link}
 use Rattle.managed_queue.specs.Spots.Operation.{put, got, empty, full}
 use Rattle.managed_queue.specs.Queue.{IsPlayed, spot_after, ended_in, puts_of, gots_of}
-use Rattle.managed_queue.specs.Machines.{command_at, answer_of}
+use Rattle.managed_queue.specs.Machines.{command_coming, answer_told}
 use Rattle.managed_queue.specs.Users.{Use, chosen, is_rest, has_ended, command_of, next_of, plan_after, got_after, is_refused, used, nothing_got, IsDriven, use_after, UsersPlay, TakersTake, PuttersPut}
 use Rattle.managed_queue.proofs.Table.{command_is_next}
 
@@ -27,8 +27,8 @@ use Rattle.managed_queue.proofs.Table.{command_is_next}
 abbrev pub onward : Use → Reply → Use
 onward u r = record {
   spot = next_spot u.spot (command_of u) r;
-  plan = plan_after u.plan (answer_of (ended_at u.spot r));
-  got = got_after u.plan u.got (answer_of (ended_at u.spot r));
+  plan = plan_after u.plan (answer_told (operation_ended u.spot r));
+  got = got_after u.plan u.got (answer_told (operation_ended u.spot r));
   refused = is_refused (command_of u) r;
 }
 
@@ -55,6 +55,7 @@ not_full reply.Yes given = refl
 not_full reply.No given = refl
 not_full (reply.Number n) given = refl
 not_full reply.Bad given = refl
+not_full (reply.At place) given = refl
 not_full reply.Full given = absurd (given refl)
 
 nothing_full : (r : Reply) → r ≢ reply.Full → on_full r ≡ []
@@ -65,6 +66,7 @@ nothing_full reply.Yes given = refl
 nothing_full reply.No given = refl
 nothing_full (reply.Number n) given = refl
 nothing_full reply.Bad given = refl
+nothing_full (reply.At place) given = refl
 nothing_full reply.Full given = absurd (given refl)
 
 pub not_refused : (c : Command) (r : Reply) → r ≢ reply.Full → is_refused c r ≡ false
@@ -79,8 +81,10 @@ not_refused (Copy dst src) r given = refl
 not_refused (Drop dst) r given = refl
 not_refused (Same a b) r given = refl
 not_refused Gc r given = refl
+not_refused (Pin slot obj) r given = refl
+not_refused (Unpin slot) r given = refl
 
-answered : (s : Spot) (r : Reply) → r ≢ reply.Full → IsAnswered s r
+answered : (s : Spot) (r : Reply) → r ≢ reply.Full → IsGranted s r
 answered MakesAnchor r given = given
 answered MakesFirst r given = given
 answered _ r given = tt
@@ -104,7 +108,7 @@ users_play u (e ∷ es) fine given driven =
     let still : (used u e.reply).refused ≡ false = ap (λ x. x.refused) (used_is u e.reply goes.on) ∙ not_refused (command_of u) e.reply first in
     let later = users_play (used u e.reply) es still (given_later e es given) driven.1 in (
       (
-        subst (λ (c : Command). IsNext u.spot c) goes.command (command_is_next (chosen u.plan) u.spot),
+        subst (λ (c : Command). MayCome u.spot c) goes.command (command_is_next (chosen u.plan) u.spot),
         answered u.spot e.reply first,
         subst (λ (s : Spot). IsPlayed s es) on later.0,
       ),
@@ -149,22 +153,22 @@ InTake _ left = ⊥
 record TakeStep (s : Spot) (left : ℕ) (have : Gotten) (r : Reply) : Type 0 where
   left' : ℕ
   have' : Gotten
-  plan : plan_after (Takes left) (answer_of (ended_at s r)) ≡ Takes left'
-  count : left ≡ left' + length (gots_of (ended_at s r))
-  counted : got_after (Takes left) have (answer_of (ended_at s r)) ≡ have'
-  items : have'.items ≡ have.items + length (gots_of (ended_at s r))
-  total : have'.sum ≡ have.sum + sum (gots_of (ended_at s r))
-  no_put : puts_of (ended_at s r) ≡ []
-  inside : InTake (next_spot s (command_at choice.Take s) r) left'
+  plan : plan_after (Takes left) (answer_told (operation_ended s r)) ≡ Takes left'
+  count : left ≡ left' + length (gots_of (operation_ended s r))
+  counted : got_after (Takes left) have (answer_told (operation_ended s r)) ≡ have'
+  items : have'.items ≡ have.items + length (gots_of (operation_ended s r))
+  total : have'.sum ≡ have.sum + sum (gots_of (operation_ended s r))
+  no_put : puts_of (operation_ended s r) ≡ []
+  inside : InTake (next_spot s (command_coming choice.Take s) r) left'
 
 -- the reply ends nothing that counts
-idle : (s : Spot) (left : ℕ) (have : Gotten) (r : Reply) → ended_at s r ≡ [] → InTake (next_spot s (command_at choice.Take s) r) left → TakeStep s left have r
+idle : (s : Spot) (left : ℕ) (have : Gotten) (r : Reply) → operation_ended s r ≡ [] → InTake (next_spot s (command_coming choice.Take s) r) left → TakeStep s left have r
 idle s left have r none inside = record {
   left' = left;
   have' = have;
-  plan = ap (λ o. plan_after (Takes left) (answer_of o)) none;
+  plan = ap (λ o. plan_after (Takes left) (answer_told o)) none;
   count = let e = ap (λ o. length (gots_of o)) none in omega (arith, e);
-  counted = ap (λ o. got_after (Takes left) have (answer_of o)) none;
+  counted = ap (λ o. got_after (Takes left) have (answer_told o)) none;
   items = let e = ap (λ o. length (gots_of o)) none in omega (arith, e);
   total = let e = ap (λ o. sum (gots_of o)) none in omega (arith, e);
   no_put = ap puts_of none;
@@ -179,6 +183,7 @@ joins_on left reply.Yes = tt
 joins_on left reply.No = tt
 joins_on left (reply.Number n) = tt
 joins_on left reply.Bad = tt
+joins_on left (reply.At place) = tt
 joins_on left reply.Full = tt
 
 take_step : (s : Spot) (left : ℕ) (have : Gotten) (r : Reply) → InTake s left → (is_rest s ≡ true → 1 ≤ left) → r ≢ reply.Full → TakeStep s left have r
@@ -206,6 +211,7 @@ take_step (Compares true) left have reply.Ok inside more given = idle (Compares 
 take_step (Compares true) left have reply.No inside more given = idle (Compares true) left have reply.No refl inside
 take_step (Compares true) left have (reply.Number n) inside more given = idle (Compares true) left have (reply.Number n) refl inside
 take_step (Compares true) left have reply.Bad inside more given = idle (Compares true) left have reply.Bad refl inside
+take_step (Compares true) left have (reply.At place) inside more given = idle (Compares true) left have (reply.At place) refl inside
 take_step (Compares true) left have reply.Full inside more given = idle (Compares true) left have reply.Full refl inside
 take_step (Compares false) left have reply.Yes inside more given = idle (Compares false) left have reply.Yes refl inside
 take_step (Compares false) left have (reply.Ref n) inside more given = idle (Compares false) left have (reply.Ref n) refl inside
@@ -214,6 +220,7 @@ take_step (Compares false) left have reply.Ok inside more given = idle (Compares
 take_step (Compares false) left have reply.No inside more given = idle (Compares false) left have reply.No refl inside
 take_step (Compares false) left have (reply.Number n) inside more given = idle (Compares false) left have (reply.Number n) refl inside
 take_step (Compares false) left have reply.Bad inside more given = idle (Compares false) left have reply.Bad refl inside
+take_step (Compares false) left have (reply.At place) inside more given = idle (Compares false) left have (reply.At place) refl inside
 take_step (Compares false) left have reply.Full inside more given = idle (Compares false) left have reply.Full refl inside
 take_step Pushes left have r inside more given = idle Pushes left have r refl inside
 take_step Reads left have r inside more given = idle Reads left have r refl inside
@@ -236,6 +243,7 @@ take_step (Unlinks value) left have reply.Ok inside more given = idle (Unlinks v
 take_step (Unlinks value) left have reply.No inside more given = idle (Unlinks value) left have reply.No refl inside
 take_step (Unlinks value) left have (reply.Number n) inside more given = idle (Unlinks value) left have (reply.Number n) refl inside
 take_step (Unlinks value) left have reply.Bad inside more given = idle (Unlinks value) left have reply.Bad refl inside
+take_step (Unlinks value) left have (reply.At place) inside more given = idle (Unlinks value) left have (reply.At place) refl inside
 take_step (Unlinks value) left have reply.Full inside more given = idle (Unlinks value) left have reply.Full refl inside
 
 -- what all of a taker's entries make of it
@@ -269,20 +277,20 @@ take_all (e ∷ es) s left have inside given driven =
     let first = given_first e es given in
     let step = take_step s left have e.reply inside (more_left s left goes.on) first in
     let here : used (taking s left have) e.reply ≡ taking (next_spot s e.command e.reply) step.left' step.have' =
-    used_is (taking s left have) e.reply goes.on ∙ same step goes.command (not_refused (command_at choice.Take s) e.reply first) in
+    used_is (taking s left have) e.reply goes.on ∙ same step goes.command (not_refused (command_coming choice.Take s) e.reply first) in
     let later = take_all es (next_spot s e.command e.reply) step.left' step.have'
     (subst (λ (c : Command). InTake (next_spot s c e.reply) step.left') goes.command step.inside) (given_later e es given) (subst (λ (u : Use). IsDriven u es) here driven.1) in
-    let gots = gots-append (ended_at s e.reply) (ended_in (next_spot s e.command e.reply) es) in
-    let long = ap (length {A = ℕ}) gots ∙ length-append (gots_of (ended_at s e.reply)) (gots_of (ended_in (next_spot s e.command e.reply) es)) in
-    let whole = ap sum gots ∙ sum_by-append (λ x. x) (gots_of (ended_at s e.reply)) (gots_of (ended_in (next_spot s e.command e.reply) es)) in
+    let gots = gots-append (operation_ended s e.reply) (ended_in (next_spot s e.command e.reply) es) in
+    let long = ap (length {A = ℕ}) gots ∙ length-append (gots_of (operation_ended s e.reply)) (gots_of (ended_in (next_spot s e.command e.reply) es)) in
+    let whole = ap sum gots ∙ sum_by-append (λ x. x) (gots_of (operation_ended s e.reply)) (gots_of (ended_in (next_spot s e.command e.reply) es)) in
     record {
       items = ap (λ (u : Use). (use_after u es).got.items) here ∙ later.items ∙ omega (arith, step.items, long);
       total = ap (λ (u : Use). (use_after u es).got.sum) here ∙ later.total ∙ omega (arith, step.total, whole);
-      no_put = puts-append (ended_at s e.reply) (ended_in (next_spot s e.command e.reply) es) ∙ ap (λ l. l ++ puts_of (ended_in (next_spot s e.command e.reply) es)) step.no_put ∙ later.no_put;
+      no_put = puts-append (operation_ended s e.reply) (ended_in (next_spot s e.command e.reply) es) ∙ ap (λ l. l ++ puts_of (ended_in (next_spot s e.command e.reply) es)) step.no_put ∙ later.no_put;
       all = λ ended. let rest = later.all (ap (λ (u : Use). next_of (use_after u es)) (sym here) ∙ ended) in omega (arith, rest, long, step.count);
     }
   where
-    same : (step : TakeStep s left have e.reply) → command_at choice.Take s ≡ e.command → is_refused (command_at choice.Take s) e.reply ≡ false
+    same : (step : TakeStep s left have e.reply) → command_coming choice.Take s ≡ e.command → is_refused (command_coming choice.Take s) e.reply ≡ false
         → onward (taking s left have) e.reply ≡ taking (next_spot s e.command e.reply) step.left' step.have'
     same step command fine = λ i. record { spot = next_spot s (command i) e.reply; plan = step.plan i; got = step.counted i; refused = fine i }
 
@@ -317,15 +325,15 @@ InPut _ next left = ⊥
 record PutStep (s : Spot) (next left : ℕ) (r : Reply) : Type 0 where
   next' : ℕ
   left' : ℕ
-  plan : plan_after (Puts next left) (answer_of (ended_at s r)) ≡ Puts next' left'
-  puts : puts_of (ended_at s r) ++ range_with_len next' left' ≡ range_with_len next left
-  inside : InPut (next_spot s (command_at (choice.Put next) s) r) next' left'
+  plan : plan_after (Puts next left) (answer_told (operation_ended s r)) ≡ Puts next' left'
+  puts : puts_of (operation_ended s r) ++ range_with_len next' left' ≡ range_with_len next left
+  inside : InPut (next_spot s (command_coming (choice.Put next) s) r) next' left'
 
-waits : (s : Spot) (next left : ℕ) (r : Reply) → ended_at s r ≡ [] → InPut (next_spot s (command_at (choice.Put next) s) r) next left → PutStep s next left r
+waits : (s : Spot) (next left : ℕ) (r : Reply) → operation_ended s r ≡ [] → InPut (next_spot s (command_coming (choice.Put next) s) r) next left → PutStep s next left r
 waits s next left r none inside = record {
   next' = next;
   left' = left;
-  plan = ap (λ o. plan_after (Puts next left) (answer_of o)) none;
+  plan = ap (λ o. plan_after (Puts next left) (answer_told o)) none;
   puts = ap (λ o. puts_of o ++ range_with_len next left) none;
   inside = inside;
 }
@@ -338,6 +346,7 @@ joins_in next left reply.Yes = tt
 joins_in next left reply.No = tt
 joins_in next left (reply.Number n) = tt
 joins_in next left reply.Bad = tt
+joins_in next left (reply.At place) = tt
 joins_in next left reply.Full = tt
 
 begins_in : (next left : ℕ) (r : Reply) → r ≢ reply.Full → 1 ≤ left → InPut (after_rest (New 3 1 1) r) next left
@@ -348,6 +357,7 @@ begins_in next left reply.Yes given some = some
 begins_in next left reply.No given some = some
 begins_in next left (reply.Number n) given some = some
 begins_in next left reply.Bad given some = some
+begins_in next left (reply.At place) given some = some
 begins_in next left reply.Full given some = absurd (given refl)
 
 follows_in : (value next left : ℕ) (r : Reply) → (value ≡ next) × (1 ≤ left) → InPut (behind_tail value r) next left
@@ -358,6 +368,7 @@ follows_in value next left reply.Yes is = is
 follows_in value next left reply.No is = is
 follows_in value next left (reply.Number n) is = is
 follows_in value next left reply.Bad is = is
+follows_in value next left (reply.At place) is = is
 follows_in value next left reply.Full is = is
 
 links_in : (value next left : ℕ) (r : Reply) → (value ≡ next) × (1 ≤ left) → InPut (after_link value r) next left
@@ -368,6 +379,7 @@ links_in value next left reply.Yes is = is
 links_in value next left reply.No is = is
 links_in value next left (reply.Number n) is = is
 links_in value next left reply.Bad is = is
+links_in value next left (reply.At place) is = is
 links_in value next left reply.Full is = is
 
 -- the last reply of a put
@@ -425,10 +437,10 @@ put_all (e ∷ es) s next left inside given driven =
     let first = given_first e es given in
     let step = put_step s next left e.reply inside (more_left s left goes.on) first in
     let here : used (putting s next left) e.reply ≡ putting (next_spot s e.command e.reply) step.next' step.left' =
-    used_is (putting s next left) e.reply goes.on ∙ same step goes.command (not_refused (command_at (choice.Put next) s) e.reply first) in
+    used_is (putting s next left) e.reply goes.on ∙ same step goes.command (not_refused (command_coming (choice.Put next) s) e.reply first) in
     let later = put_all es (next_spot s e.command e.reply) step.next' step.left'
     (subst (λ (c : Command). InPut (next_spot s c e.reply) step.next' step.left') goes.command step.inside) (given_later e es given) (subst (λ (u : Use). IsDriven u es) here driven.1) in
-    let now = ended_at s e.reply in
+    let now = operation_ended s e.reply in
     let behind = ended_in (next_spot s e.command e.reply) es in
     record {
       rest = later.rest;
@@ -436,7 +448,7 @@ put_all (e ∷ es) s next left inside given driven =
       all = λ ended. later.all (ap (λ (u : Use). next_of (use_after u es)) (sym here) ∙ ended);
     }
   where
-    same : (step : PutStep s next left e.reply) → command_at (choice.Put next) s ≡ e.command → is_refused (command_at (choice.Put next) s) e.reply ≡ false
+    same : (step : PutStep s next left e.reply) → command_coming (choice.Put next) s ≡ e.command → is_refused (command_coming (choice.Put next) s) e.reply ≡ false
         → onward (putting s next left) e.reply ≡ putting (next_spot s e.command e.reply) step.next' step.left'
     same step command fine = λ i. record { spot = next_spot s (command i) e.reply; plan = step.plan i; got = nothing_got; refused = fine i }
 

@@ -4,18 +4,20 @@ use Rattle.std.specs.Prelude.{Contains, if◌then◌else◌}
 use Rattle.std.specs.List.{AllByRecursion}
 use Rattle.std.proofs.lemmas.Bool.{cases_eq}
 use Rattle.std.proofs.lemmas.List.Sums.{sum_by-cons}
+use Rattle.std.proofs.lemmas.Option.{none-some}
 use Rattle.std.proofs.lemmas.Map.Made.{length-le_from_is_member}
 use Rattle.std.proofs.lemmas.Map.Views.{Contains-from_any, list_any-from_Contains}
 use Rattle.shen_graph.specs.declared.name.Name.{Name}
 use Rattle.shen_graph.specs.Graph.{Graph, hub, named, same_name, opening}
 use Rattle.shen_graph.specs.History.{Entry, after, after_entry, of_thread}
+use Rattle.shen_graph.specs.Crowd.{PinnedRegions}
 use Rattle.shen_graph.specs.Reach.{IsReachable, InOrder, size}
-use Rattle.shen_graph.specs.Reach.IsReachable.{from_root, from_field}
+use Rattle.shen_graph.specs.Reach.IsReachable.{from_root, from_pin, from_field}
 use Rattle.shen_graph.proofs.Distinct.{distinct, order_first, order_rest}
 use Rattle.shen_graph.proofs.PlainLemmas.{same_name-true}
 use Rattle.shen_graph.proofs.ReachLemmas.{same_name-laws}
 use Rattle.managed_queue.specs.declared.spot.Spot.{Spot}
-use Rattle.managed_queue.specs.Queue.{IsPlayed, moved, first_spot}
+use Rattle.managed_queue.specs.Queue.{IsPlayed, ArePlayed, spot_moved, entry_spot}
 use Rattle.managed_queue.specs.Live.{makings, FewAreLive}
 use Rattle.managed_queue.proofs.Rising.{on_here, on_there}
 use Rattle.managed_queue.proofs.Playing.{of_here, of_there}
@@ -24,6 +26,7 @@ use Rattle.managed_queue.proofs.Small.{most, AreSmall, Stays, next_small, entry_
 -- what can be reached was given
 reached : (g : Graph) (names : List Name) → AreSmall g names → (n : Name) → IsReachable g n → Contains names n
 reached g names small _ (from_root t r n is) = small.roots t r n is
+reached g names small _ (from_pin t s held is) = absurd (none-some held (sym (small.no_pin t s) ∙ is))
 reached g names small _ (from_field m n f from is) = small.fields m f n is
 
 -- the hub counts once
@@ -74,16 +77,24 @@ all_stay [] g names spots small played = record { names' = names; small = small;
 all_stay (e ∷ es) g names spots small played =
     let mine : IsPlayed (spots e.thread) (e ∷ of_thread es e.thread) = subst (IsPlayed (spots e.thread)) (of_here e es) (played e.thread) in
     let step = entry_stays g names e (next_small (spots e.thread) e.command mine.0) small in
-    let later = all_stay es (after_entry g e) step.names' (moved spots e) step.small (λ t. elim (cases_eq t e.thread) [
-      | inl same ↦ subst (λ (k : ℕ). IsPlayed (moved spots e k) (of_thread es k)) (sym same) (subst (λ (s : Spot). IsPlayed s (of_thread es e.thread)) (sym (on_here spots e.thread e.command e.reply)) mine.2)
+    let later = all_stay es (after_entry g e) step.names' (spot_moved spots e) step.small (λ t. elim (cases_eq t e.thread) [
+      | inl same ↦ subst (λ (k : ℕ). IsPlayed (spot_moved spots e k) (of_thread es k)) (sym same) (subst (λ (s : Spot). IsPlayed s (of_thread es e.thread)) (sym (on_here spots e.thread e.command e.reply)) mine.2)
       | inr other ↦ subst (λ (s : Spot). IsPlayed s (of_thread es t)) (sym (on_there spots e.thread e.command e.reply t other)) (subst (IsPlayed (spots t)) (of_there e es t other) (played t))
     ]) in
     record { names' = later.names'; small = later.small; count = later.count ∙ omega (arith, step.count) }
 
+-- no region has a pinned object
+pub none_pinned : (threads region_words pinned : ℕ) (history : List Entry) → ArePlayed history → PinnedRegions region_words (after (opening threads) history) pinned → pinned ≡ 0
+none_pinned threads region_words pinned history played ([], are, is) = is
+none_pinned threads region_words pinned history played (r ∷ regions, are, is) =
+    let has = are.only r (0, omega arith, refl) in
+    let all = all_stay history (opening threads) (hub ∷ []) entry_spot (small_opening threads) played in
+    absurd (none-some has.2 (sym (all.small.no_pin has.0 has.1) ∙ has.3))
+
 pub few_are_live : FewAreLive
 few_are_live threads words history played live =
     let g = after (opening threads) history in
-    let all = all_stay history (opening threads) (hub ∷ []) first_spot (small_opening threads) played in
+    let all = all_stay history (opening threads) (hub ∷ []) entry_spot (small_opening threads) played in
     let ns = live.0 in
     let fewer = length-le_from_is_member same_name-laws ns all.names' (distinct ns live.1.in_order)
     (λ q there. list_any-from_Contains same_name-laws q all.names' (reached g all.names' all.small q (live.1.only q (Contains-from_any same_name-true q ns there)))) in

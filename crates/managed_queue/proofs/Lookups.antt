@@ -1,5 +1,5 @@
 -- What each command answers and leaves, once it is known what its roots name.
-use Rattle.std.proofs.Common.{ℕ, ◌≡◌, Bool, true, false, Option, Some, None, [], slice_get, slice_set, refl, sym, ap, ◌∙◌, subst, inl, inr, eqb}
+use Rattle.std.proofs.Common.{ℕ, ◌≡◌, ◌⊎◌, Bool, true, false, Option, Some, None, [], slice_get, slice_set, refl, sym, ap, ◌∙◌, subst, inl, inr, eqb}
 use Rattle.std.specs.Prelude.{◌≢◌, ◌==◌, ◌&&◌, unwrap_or, if◌then◌else◌}
 use Rattle.std.proofs.lemmas.Bool.{false≢true, ne_eqb}
 use Rattle.std.proofs.lemmas.Bool.Decides.{Decides-eqb}
@@ -9,7 +9,7 @@ use Rattle.shen_graph.specs.declared.command.Command.TheVariants.{Get, Set, Cas,
 use Rattle.shen_graph.specs.declared.command.Reply.{Reply}
 use Rattle.shen_graph.specs.declared.command.Reply.TheVariants as reply
 use Rattle.shen_graph.specs.Graph.{Graph, Object, Reference, named, same_reference, with_root, with_object, with_named}
-use Rattle.shen_graph.specs.Step.{Outcome, outcome, answers, on, shown, yes_or_no, IsNew, IsLegal}
+use Rattle.shen_graph.specs.Step.{Outcome, outcome, answers, on, shown, yes_or_no, IsNew}
 use Rattle.shen_graph.proofs.PlainLemmas.{fun_ext, same_name-true, same_name-itself}
 
 pub eqb_itself : (t : ℕ) → eqb t t ≡ true
@@ -38,8 +38,12 @@ own_root g t dst value = fun_ext _ _ (λ r. ap (λ b. if b && (r == dst) then va
 pub other_root : (g : Graph) (t dst u : ℕ) (value : Reference) → u ≢ t → (with_root g t dst value).root u ≡ g.root u
 other_root g t dst u value other = fun_ext _ _ (λ r. ap (λ b. if b && (r == dst) then value else g.root u r) (ne_eqb u t other))
 
+-- what a command that is to pin no object may be answered and leave
+abbrev pub IsPlain : Graph → ℕ → Command → Reply → Graph → Type 0
+IsPlain g t c r h = (answers r h ≡ outcome g t c) ⊎ (IsNew c × (r ≡ reply.Full) × (h ≡ g))
+
 -- a command that makes nothing has its outcome
-pub by_outcome : (P : Outcome → Type 0) (g : Graph) (t : ℕ) (c : Command) (r : Reply) (h : Graph) → (IsNew c → ⊥) → IsLegal g t c r h → P (outcome g t c) → P (answers r h)
+pub by_outcome : (P : Outcome → Type 0) (g : Graph) (t : ℕ) (c : Command) (r : Reply) (h : Graph) → (IsNew c → ⊥) → IsPlain g t c r h → P (outcome g t c) → P (answers r h)
 by_outcome P g t c r h old legal holds = elim legal [ inl is ↦ subst P (sym is) holds | inr full ↦ absurd (old full.0) ]
 
 -- what a root names

@@ -5,16 +5,18 @@ use Rattle.std.proofs.lemmas.Bool.{cases_eq, ne_eqb}
 use Rattle.shen_graph.specs.declared.command.Command.{Command}
 use Rattle.shen_graph.specs.declared.command.Reply.{Reply}
 use Rattle.shen_graph.specs.Graph.{Graph, Reference, opening}
-use Rattle.shen_graph.specs.Step.{Outcome, answers, IsLegal}
+use Rattle.shen_graph.specs.Step.{Outcome, answers}
 use Rattle.shen_graph.specs.History.{Entry, after_entry, of_thread, EachIsLegal}
+use Rattle.shen_graph.proofs.Outcomes.{legal_plain}
 use Rattle.managed_queue.specs.declared.spot.Spot.{Spot}
 use Rattle.managed_queue.specs.declared.spot.Spot.TheVariants.{MakesAnchor, Joins}
-use Rattle.managed_queue.specs.Spots.{Operation, IsNext, IsAnswered, next_spot, fixed_at, ended_at, open_at}
+use Rattle.managed_queue.specs.Spots.{Operation, MayCome, IsGranted, next_spot, fixed_at, operation_ended, open_at}
 use Rattle.managed_queue.specs.Spots.Operation.{put, got, empty, full}
-use Rattle.managed_queue.specs.Queue.{Leads, puts_of, gots_of, IsPlayed, spot_after, fixed_in, ended_in, moved, fixed, first_spot, EveryHistory}
+use Rattle.managed_queue.specs.Queue.{Leads, puts_of, gots_of, IsPlayed, spot_after, fixed_in, ended_in, spot_moved, fixed, entry_spot, EveryHistory}
 use Rattle.managed_queue.proofs.Facts.{Chain, Facts}
 use Rattle.managed_queue.proofs.Stable.{facts_stay}
-use Rattle.managed_queue.proofs.Lookups.{eqb_itself}
+use Rattle.managed_queue.proofs.Lookups.{IsPlain, eqb_itself}
+use Rattle.managed_queue.proofs.Small.{next_pins_none}
 use Rattle.managed_queue.proofs.Steps.{waiting, Goes, goes}
 use Rattle.managed_queue.proofs.Rising.{goes_on, on_here, on_there, State, rises, rising_opening}
 use Rattle.managed_queue.proofs.Rising.State.{rising, shown}
@@ -24,7 +26,7 @@ pub record Steps (g : Graph) (spots : ℕ → Spot) (queue : List ℕ) (t : ℕ)
   pub queue' : List ℕ
   pub state : State o.graph (goes_on spots t c o.reply) queue'
   pub run : Leads queue (fixed_at (spots t) o.reply) queue'
-  pub replies : open_at (spots t) ++ fixed_at (spots t) o.reply ≡ ended_at (spots t) o.reply ++ open_at (next_spot (spots t) c o.reply)
+  pub replies : open_at (spots t) ++ fixed_at (spots t) o.reply ≡ operation_ended (spots t) o.reply ++ open_at (next_spot (spots t) c o.reply)
 
 -- all users after one's step
 stands : (g : Graph) (spots : ℕ → Spot) (w : Chain) (t : ℕ) (c : Command) (o : Outcome) → ((u : ℕ) → Facts u g.object w (g.root u) (spots u)) → (step : Goes t g w (spots t) c o)
@@ -38,7 +40,7 @@ stands g spots w t c o users step u =
           (facts_stay u g.object w o.graph.object step.after (g.root u) (spots u) (step.rely u other) (users u)))
     ]
 
-stepped : (g : Graph) (spots : ℕ → Spot) (queue : List ℕ) (t : ℕ) (c : Command) (r : Reply) (h : Graph) → State g spots queue → IsNext (spots t) c → IsAnswered (spots t) r → IsLegal g t c r h → Steps g spots queue t c (answers r h)
+stepped : (g : Graph) (spots : ℕ → Spot) (queue : List ℕ) (t : ℕ) (c : Command) (r : Reply) (h : Graph) → State g spots queue → MayCome (spots t) c → IsGranted (spots t) r → IsPlain g t c r h → Steps g spots queue t c (answers r h)
 stepped g spots queue t c r h (rising is none) next given legal =
     let step = rises g spots t c r h is next given legal in
     record { queue' = []; state = step.0; run = subst (λ (ops : List Operation). Leads queue ops []) (sym step.1) none; replies = step.2 }
@@ -71,34 +73,35 @@ of_there e es t apart = rw (ne_eqb e.thread t (λ is. apart (sym is))) refl
 abbrev Answers : Spot → List Entry → Type 0
 Answers spot es = open_at spot ++ fixed_in spot es ≡ ended_in spot es ++ open_at (spot_after spot es)
 
-answers_on : (spot : Spot) (e : Entry) (es : List Entry) → open_at spot ++ fixed_at spot e.reply ≡ ended_at spot e.reply ++ open_at (next_spot spot e.command e.reply)
+answers_on : (spot : Spot) (e : Entry) (es : List Entry) → open_at spot ++ fixed_at spot e.reply ≡ operation_ended spot e.reply ++ open_at (next_spot spot e.command e.reply)
     → Answers (next_spot spot e.command e.reply) es → Answers spot (e ∷ es)
 answers_on spot e es here later =
     let next = next_spot spot e.command e.reply in
     sym (append_assoc (open_at spot) (fixed_at spot e.reply) (fixed_in next es))
     ∙ ap (λ l. l ++ fixed_in next es) here
-    ∙ append_assoc (ended_at spot e.reply) (open_at next) (fixed_in next es)
-    ∙ ap (λ l. ended_at spot e.reply ++ l) later
-    ∙ sym (append_assoc (ended_at spot e.reply) (ended_in next es) (open_at (spot_after next es)))
+    ∙ append_assoc (operation_ended spot e.reply) (open_at next) (fixed_in next es)
+    ∙ ap (λ l. operation_ended spot e.reply ++ l) later
+    ∙ sym (append_assoc (operation_ended spot e.reply) (ended_in next es) (open_at (spot_after next es)))
 
 pub record Plays (spots : ℕ → Spot) (es : List Entry) (queue : List ℕ) : Type 0 where
   pub left : List ℕ
   pub run : Leads queue (fixed spots es) left
   pub replies : (t : ℕ) → Answers (spots t) (of_thread es t)
 
-pub plays : (es : List Entry) (g : Graph) (spots : ℕ → Spot) (queue : List ℕ) → State g spots queue → EachIsLegal g es → ((t : ℕ) → IsPlayed (spots t) (of_thread es t)) → Plays spots es queue
-plays [] g spots queue state legal played = record { left = queue; run = refl; replies = λ t. append-nil (open_at (spots t)) }
-plays (e ∷ es) g spots queue state legal played =
+pub plays : (regions region_words : ℕ) (es : List Entry) (g : Graph) (spots : ℕ → Spot) (queue : List ℕ) → State g spots queue → EachIsLegal regions region_words g es → ((t : ℕ) → IsPlayed (spots t) (of_thread es t)) → Plays spots es queue
+plays regions region_words [] g spots queue state legal played = record { left = queue; run = refl; replies = λ t. append-nil (open_at (spots t)) }
+plays regions region_words (e ∷ es) g spots queue state legal played =
     let mine : IsPlayed (spots e.thread) (e ∷ of_thread es e.thread) = subst (IsPlayed (spots e.thread)) (of_here e es) (played e.thread) in
-    let step = stepped g spots queue e.thread e.command e.reply (after_entry g e) state mine.0 mine.1 legal.0 in
-    let ahead : (t : ℕ) → IsPlayed (moved spots e t) (of_thread es t) = λ t. elim (cases_eq t e.thread) [
-      | inl same ↦ subst (λ (k : ℕ). IsPlayed (moved spots e k) (of_thread es k)) (sym same) (subst (λ (s : Spot). IsPlayed s (of_thread es e.thread)) (sym (on_here spots e.thread e.command e.reply)) mine.2)
+    let here = legal_plain regions region_words g e.thread e.command e.reply (after_entry g e) (next_pins_none (spots e.thread) e.command mine.0) legal.0 in
+    let step = stepped g spots queue e.thread e.command e.reply (after_entry g e) state mine.0 mine.1 here in
+    let ahead : (t : ℕ) → IsPlayed (spot_moved spots e t) (of_thread es t) = λ t. elim (cases_eq t e.thread) [
+      | inl same ↦ subst (λ (k : ℕ). IsPlayed (spot_moved spots e k) (of_thread es k)) (sym same) (subst (λ (s : Spot). IsPlayed s (of_thread es e.thread)) (sym (on_here spots e.thread e.command e.reply)) mine.2)
       | inr other ↦ subst (λ (s : Spot). IsPlayed s (of_thread es t)) (sym (on_there spots e.thread e.command e.reply t other)) (subst (IsPlayed (spots t)) (of_there e es t other) (played t))
     ] in
-    let later = plays es (after_entry g e) (moved spots e) step.queue' step.state legal.1 ahead in
+    let later = plays regions region_words es (after_entry g e) (spot_moved spots e) step.queue' step.state legal.1 ahead in
     record {
       left = later.left;
-      run = leads_join queue step.queue' later.left (fixed_at (spots e.thread) e.reply) (fixed (moved spots e) es) step.run later.run;
+      run = leads_join queue step.queue' later.left (fixed_at (spots e.thread) e.reply) (fixed (spot_moved spots e) es) step.run later.run;
       replies = λ t. elim (cases_eq t e.thread) [
         | inl same ↦ subst (λ (k : ℕ). Answers (spots k) (of_thread (e ∷ es) k)) (sym same)
             (subst (Answers (spots e.thread)) (sym (of_here e es))
@@ -118,7 +121,7 @@ leads_order queue left (empty ∷ ops) is = leads_order queue left ops is.1
 leads_order queue left (full ∷ ops) is = leads_order queue left ops is
 
 -- no operation is open where a thread begins
-begins_closed : (t : ℕ) → open_at (first_spot t) ≡ []
+begins_closed : (t : ℕ) → open_at (entry_spot t) ≡ []
 begins_closed t = at (t == 1)
   where
     at : (b : Bool) → open_at (if b then MakesAnchor else Joins) ≡ []
@@ -126,11 +129,11 @@ begins_closed t = at (t == 1)
     at false = refl
 
 pub every_history : EveryHistory
-every_history threads history some legal played =
-    let all = plays history (opening threads) first_spot [] (rising (rising_opening threads some) refl) legal played in
+every_history regions region_words threads history some legal played =
+    let all = plays regions region_words history (opening threads) entry_spot [] (rising (rising_opening threads some) refl) legal played in
     record {
       left = all.left;
       run = all.run;
-      order = leads_order [] all.left (fixed first_spot history) all.run;
-      replies = λ t. ap (λ l. l ++ fixed_in (first_spot t) (of_thread history t)) (sym (begins_closed t)) ∙ all.replies t;
+      order = leads_order [] all.left (fixed entry_spot history) all.run;
+      replies = λ t. ap (λ l. l ++ fixed_in (entry_spot t) (of_thread history t)) (sym (begins_closed t)) ∙ all.replies t;
     }

@@ -1,12 +1,12 @@
 -- No allocation of the workload is refused: too little is live.
-use Rattle.std.proofs.Common.{ℕ, zero, suc, ◌≡◌, ◌⊎◌, ◌+◌, ◌-◌, ◌<◌, ◌≤◌, ⊎_elim, Bool, true, false, List, [], ◌∷◌, ◌++◌, length, take, Some, refl, sym, ap, ◌∙◌, subst, inl, inr, arith, append_assoc, append-nil}
+use Rattle.std.proofs.Common.{ℕ, zero, suc, ◌≡◌, ◌⊎◌, ◌+◌, ◌-◌, ◌*◌, ◌<◌, ◌≤◌, ⊎_elim, Bool, true, false, List, [], ◌∷◌, ◌++◌, length, take, Some, refl, sym, ap, ◌∙◌, subst, inl, inr, arith, append_assoc, append-nil}
 use Rattle.std.specs.Prelude.{◌≢◌, ◌==◌, slice_get, slice_index_or, sum_by, if◌then◌else◌}
 use Rattle.std.specs.List.{range_with_len}
 use Rattle.std.proofs.lemmas.Bool.{cases_eq, cases_lt}
 use Rattle.std.proofs.lemmas.List.Elements.{All-push, All-filter, All-nil, filter-append}
 use Rattle.std.proofs.lemmas.List.Sums.{sum_by-cons}
 use Rattle.shen_graph.specs.declared.command.Command.{Command}
-use Rattle.shen_graph.specs.declared.command.Command.TheVariants.{New, Get, Set, Cas, Xchg, Rd, Wr, Copy, Drop, Same, Gc}
+use Rattle.shen_graph.specs.declared.command.Command.TheVariants.{New, Get, Set, Cas, Xchg, Rd, Wr, Copy, Drop, Same, Gc, Pin, Unpin}
 use Rattle.shen_graph.specs.declared.command.Reply.TheVariants as reply
 use Rattle.shen_graph.specs.Graph.{opening}
 use Rattle.shen_graph.specs.Crowd.{words_asked, next_command, words_open, IsCrowded}
@@ -17,14 +17,14 @@ use Rattle.managed_queue.specs.declared.spot.Spot.TheVariants.{MakesAnchor, Make
 use Rattle.managed_queue.specs.declared.operation.Choice.{Choice}
 use Rattle.managed_queue.specs.declared.operation.Choice.TheVariants as choice
 use Rattle.managed_queue.specs.Live.{made_by, makings}
-use Rattle.managed_queue.specs.Machines.{command_at}
-use Rattle.managed_queue.specs.Queue.{IsPlayed, first_spot, ArePlayed}
+use Rattle.managed_queue.specs.Machines.{command_coming}
+use Rattle.managed_queue.specs.Queue.{IsPlayed, entry_spot, ArePlayed}
 use Rattle.managed_queue.specs.Shares.{AreOf}
 use Rattle.managed_queue.specs.Users.{Use, chosen, used, to_come, IsDriven, use_after}
 use Rattle.managed_queue.specs.Workload.{queue_user, IsQueueRun}
 use Rattle.managed_queue.proofs.Coming.{user_falls, user_pays}
 use Rattle.managed_queue.proofs.Driven.{going, users_play}
-use Rattle.managed_queue.proofs.Few.{few_are_live}
+use Rattle.managed_queue.proofs.Few.{few_are_live, none_pinned}
 use Rattle.managed_queue.proofs.Playing.{of_here, of_there}
 
 -- ---- lists
@@ -48,7 +48,7 @@ driven_front u [] ys driven = tt
 driven_front u (e ∷ xs) ys driven = (driven.0, driven_front (used u e.reply) xs ys driven.1)
 
 -- a command of the table asks for 5 words at most
-few_asked : (c : Choice) (s : Spot) → words_asked (Some (command_at c s)) ≤ 5
+few_asked : (c : Choice) (s : Spot) → words_asked (Some (command_coming c s)) ≤ 5
 few_asked (choice.Put value) Rests = omega arith
 few_asked choice.Take Rests = omega arith
 few_asked c MakesAnchor = omega arith
@@ -96,6 +96,8 @@ one_made (Copy dst src) = inl refl
 one_made (Drop dst) = inl refl
 one_made (Same a b) = inl refl
 one_made Gc = inl refl
+one_made (Pin slot obj) = inl refl
+one_made (Unpin slot) = inl refl
 
 made_low : (e : Entry) → (if is_full e.reply then 0 else made_by e.command) ≤ made_by e.command
 made_low e = by_test (is_full e.reply)
@@ -196,7 +198,7 @@ module _ (count : ℕ) (history : List Entry) (small : count ≤ 390) (run : IsQ
     driven : (m : ℕ) → m < 4 → IsDriven (queue_user count m) (of_thread before (m + 1))
     driven m low = driven_front (queue_user count m) (of_thread before (m + 1)) (of_thread rest (m + 1)) (subst (IsDriven (queue_user count m)) (parts (m + 1)) (run.driven m low))
 
-    plays : (m : ℕ) → m < 4 → (queue_user count m).refused ≡ false → (queue_user count m).spot ≡ first_spot (m + 1) → IsPlayed (first_spot (m + 1)) (of_thread before (m + 1))
+    plays : (m : ℕ) → m < 4 → (queue_user count m).refused ≡ false → (queue_user count m).spot ≡ entry_spot (m + 1) → IsPlayed (entry_spot (m + 1)) (of_thread before (m + 1))
     plays m low fine spot = subst (λ s. IsPlayed s (of_thread before (m + 1))) spot
         (users_play (queue_user count m) (of_thread before (m + 1)) fine (All-filter (λ e. e.thread == (m + 1)) (λ e. e.reply ≢ reply.Full) before given) (driven m low)).0
 
@@ -208,12 +210,12 @@ module _ (count : ℕ) (history : List Entry) (small : count ≤ 390) (run : IsQ
         front_empty (x ∷ xs) ys none = absurd cc
 
     played : ArePlayed before
-    played zero = subst (IsPlayed (first_spot 0)) (sym (none_before 0 (inl refl))) tt
+    played zero = subst (IsPlayed (entry_spot 0)) (sym (none_before 0 (inl refl))) tt
     played (suc zero) = plays 0 (omega arith) refl refl
     played (suc (suc zero)) = plays 1 (omega arith) refl refl
     played (suc (suc (suc zero))) = plays 2 (omega arith) refl refl
     played (suc (suc (suc (suc zero)))) = plays 3 (omega arith) refl refl
-    played (suc (suc (suc (suc (suc t))))) = subst (IsPlayed (first_spot (suc (suc (suc (suc (suc t))))))) (sym (none_before (suc (suc (suc (suc (suc t))))) (inr (omega arith)))) tt
+    played (suc (suc (suc (suc (suc t))))) = subst (IsPlayed (entry_spot (suc (suc (suc (suc (suc t))))))) (sym (none_before (suc (suc (suc (suc (suc t))))) (inr (omega arith)))) tt
 
     makings_low : makings before ≤ 782
     makings_low =
@@ -264,11 +266,13 @@ module _ (count : ℕ) (history : List Entry) (small : count ≤ 390) (run : IsQ
       let here : slice_get history (length before) ≡ Some e = ap (λ es. slice_get es (length before)) (sym split) ∙ behind_is before rest e in
       let front : take (length before) history ≡ before = ap (take (length before)) (sym split) ∙ front_is before (e ∷ rest) in
       let crowd = subst (λ es. IsCrowded 16 256 (opening (length run.scripts)) run.scripts es e) front (run.legal.crowded (length before) e here full) in
-      let live = few_are_live (length run.scripts) crowd.0 before (played before (e ∷ rest) split given) crowd.1 in
+      let live = few_are_live (length run.scripts) crowd.0 before (played before (e ∷ rest) split given) crowd.3 in
       let makes = makings_low before (e ∷ rest) split given in
       let waiting = open_low before (e ∷ rest) split given e.thread in
       let asked = asked_low before rest e split in
-      let full_regions = crowd.2 in
+      let none : crowd.2 ≡ 0 = none_pinned (length run.scripts) 256 crowd.2 before (played before (e ∷ rest) split given) crowd.5 in
+      let full_regions : 16 * (256 - words_asked (Some e.command) + 1) ≤ crowd.0 - crowd.1 + words_open run.scripts before e.thread =
+      subst (λ (p : ℕ). (16 - p) * (256 - words_asked (Some e.command) + 1) ≤ crowd.0 - crowd.1 + words_open run.scripts before e.thread) none crowd.6 in
       absurd (omega (arith, live, makes, waiting, asked, full_regions))
     where
       asked_low : (before rest : List Entry) (e : Entry) → before ++ e ∷ rest ≡ history → words_asked (Some e.command) ≤ 5

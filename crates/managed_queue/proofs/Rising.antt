@@ -8,16 +8,16 @@ use Rattle.shen_graph.specs.declared.command.Command.TheVariants.{New, Get, Set}
 use Rattle.shen_graph.specs.declared.command.Reply.{Reply}
 use Rattle.shen_graph.specs.declared.command.Reply.TheVariants as reply
 use Rattle.shen_graph.specs.Graph.{Graph, Object, Reference, hub, opening, same_name, with_root, with_object, with_fresh, fresh, blank}
-use Rattle.shen_graph.specs.Step.{Outcome, outcome, answers, IsLegal}
+use Rattle.shen_graph.specs.Step.{Outcome, outcome, answers}
 use Rattle.managed_queue.specs.declared.spot.Spot.{Spot}
 use Rattle.managed_queue.specs.declared.spot.Spot.TheVariants.{MakesAnchor, MakesFirst, SetsHead, SetsTail, Shows, Joins}
-use Rattle.managed_queue.specs.Spots.{IsNext, IsAnswered, next_spot, fixed_at, ended_at, open_at}
-use Rattle.managed_queue.specs.Spots.IsNext.{anchor_made, first_made, head_set, tail_set, anchor_shown, joined, put_begun, take_begun, filled, looked, followed, linked, helped, swung, turned, tail_taken, next_taken, compared, pushed, read, unlinked}
-use Rattle.managed_queue.specs.Queue.{first_spot}
+use Rattle.managed_queue.specs.Spots.{MayCome, IsGranted, next_spot, fixed_at, operation_ended, open_at}
+use Rattle.managed_queue.specs.Spots.MayCome.{anchor_made, first_made, head_set, tail_set, anchor_shown, joined, put_begun, take_begun, filled, looked, followed, linked, helped, swung, turned, tail_taken, next_taken, compared, pushed, read, unlinked}
+use Rattle.managed_queue.specs.Queue.{entry_spot}
 use Rattle.managed_queue.proofs.Facts.{Objects, anchor, first, cell, ends, shown_hub, Chain, IsChain, AreMade, IsJoining, Facts}
 use Rattle.managed_queue.proofs.Facts.IsLinked.{end}
 use Rattle.managed_queue.proofs.Moves.{but, but_there, by_name, made_but}
-use Rattle.managed_queue.proofs.Lookups.{own_root, other_root, by_outcome, gets, gets_bad, sets, eqb_itself}
+use Rattle.managed_queue.proofs.Lookups.{IsPlain, own_root, other_root, by_outcome, gets, gets_bad, sets, eqb_itself}
 use Rattle.managed_queue.proofs.Steps.{waiting, made_fresh, fresh_none, nothing_there}
 
 -- one thread's spot goes on by a command and its reply
@@ -260,11 +260,11 @@ shows_anchor g spots is at raised =
 -- one thread's step
 
 -- a New that was not refused
-by_made : (P : Outcome → Type 0) (g : Graph) (t : ℕ) (c : Command) (r : Reply) (h : Graph) → r ≢ reply.Full → IsLegal g t c r h → P (outcome g t c) → P (answers r h)
+by_made : (P : Outcome → Type 0) (g : Graph) (t : ℕ) (c : Command) (r : Reply) (h : Graph) → r ≢ reply.Full → IsPlain g t c r h → P (outcome g t c) → P (answers r h)
 by_made P g t c r h given legal holds = elim legal [ inl is ↦ subst P (sym is) holds | inr full ↦ absurd (given full.1) ]
 
-rises_one : (g : Graph) (spots : ℕ → Spot) (spot : Spot) (c : Command) (r : Reply) (h : Graph) → IsRising g spots → spots 1 ≡ spot → IsRaised g.object (g.root 1) (g.count 1) spot → IsNext spot c → IsAnswered spot r → IsLegal g 1 c r h
-    → Rises g spots 1 c (answers r h) × (fixed_at spot r ≡ []) × (open_at spot ++ fixed_at spot r ≡ ended_at spot r ++ open_at (next_spot spot c r))
+rises_one : (g : Graph) (spots : ℕ → Spot) (spot : Spot) (c : Command) (r : Reply) (h : Graph) → IsRising g spots → spots 1 ≡ spot → IsRaised g.object (g.root 1) (g.count 1) spot → MayCome spot c → IsGranted spot r → IsPlain g 1 c r h
+    → Rises g spots 1 c (answers r h) × (fixed_at spot r ≡ []) × (open_at spot ++ fixed_at spot r ≡ operation_ended spot r ++ open_at (next_spot spot c r))
 rises_one g spots _ _ r h is at raised anchor_made given legal = (by_made (Rises g spots 1 (New 1 2 0)) g 1 (New 1 2 0) r h given legal (makes_anchor g spots is at raised), refl, refl)
 rises_one g spots _ _ r h is at raised first_made given legal = (by_made (Rises g spots 1 (New 2 1 1)) g 1 (New 2 1 1) r h given legal (makes_first g spots is at raised), refl, refl)
 rises_one g spots _ _ r h is at raised head_set given legal = (by_outcome (Rises g spots 1 (Set 1 0 2)) g 1 (Set 1 0 2) r h (λ never. never) legal (sets_head g spots is at raised), refl, refl)
@@ -287,26 +287,26 @@ rises_one g spots _ _ r h is at raised pushed given legal = absurd raised
 rises_one g spots _ _ r h is at raised read given legal = absurd raised
 rises_one g spots _ _ r h is at raised (unlinked value) given legal = absurd raised
 
-rises_other : (g : Graph) (spots : ℕ → Spot) (t : ℕ) (spot : Spot) (c : Command) (r : Reply) (h : Graph) → IsRising g spots → t ≢ 1 → Joins ≡ spot → IsNext spot c → IsLegal g t c r h → Rises g spots t c (answers r h)
+rises_other : (g : Graph) (spots : ℕ → Spot) (t : ℕ) (spot : Spot) (c : Command) (r : Reply) (h : Graph) → IsRising g spots → t ≢ 1 → Joins ≡ spot → MayCome spot c → IsPlain g t c r h → Rises g spots t c (answers r h)
 rises_other g spots t spot c r h is apart at next legal =
-    let one : c ≡ Get 1 0 0 = only_joins c (subst (λ (s : Spot). IsNext s c) (sym at) next) in
+    let one : c ≡ Get 1 0 0 = only_joins c (subst (λ (s : Spot). MayCome s c) (sym at) next) in
     subst (λ (x : Command). Rises g spots t x (answers r h)) (sym one)
-    (by_outcome (Rises g spots t (Get 1 0 0)) g t (Get 1 0 0) r h (λ never. never) (subst (λ (x : Command). IsLegal g t x r h) one legal) (rises_join g spots t is apart))
+    (by_outcome (Rises g spots t (Get 1 0 0)) g t (Get 1 0 0) r h (λ never. never) (subst (λ (x : Command). IsPlain g t x r h) one legal) (rises_join g spots t is apart))
   where
-    only_joins : (c : Command) → IsNext Joins c → c ≡ Get 1 0 0
+    only_joins : (c : Command) → MayCome Joins c → c ≡ Get 1 0 0
     only_joins _ joined = refl
 
 -- the replies stay those of the run
 abbrev Replies : Command → Reply → Spot → Type 0
-Replies c r s = open_at s ++ fixed_at s r ≡ ended_at s r ++ open_at (next_spot s c r)
+Replies c r s = open_at s ++ fixed_at s r ≡ operation_ended s r ++ open_at (next_spot s c r)
 
 -- any thread's
-pub rises : (g : Graph) (spots : ℕ → Spot) (t : ℕ) (c : Command) (r : Reply) (h : Graph) → IsRising g spots → IsNext (spots t) c → IsAnswered (spots t) r → IsLegal g t c r h
-    → Rises g spots t c (answers r h) × (fixed_at (spots t) r ≡ []) × (open_at (spots t) ++ fixed_at (spots t) r ≡ ended_at (spots t) r ++ open_at (next_spot (spots t) c r))
+pub rises : (g : Graph) (spots : ℕ → Spot) (t : ℕ) (c : Command) (r : Reply) (h : Graph) → IsRising g spots → MayCome (spots t) c → IsGranted (spots t) r → IsPlain g t c r h
+    → Rises g spots t c (answers r h) × (fixed_at (spots t) r ≡ []) × (open_at (spots t) ++ fixed_at (spots t) r ≡ operation_ended (spots t) r ++ open_at (next_spot (spots t) c r))
 rises g spots t c r h is next given legal =
     elim (cases_eq t 1) [
       | inl same ↦ subst (λ (k : ℕ). Rises g spots k c (answers r h) × (fixed_at (spots k) r ≡ []) × Replies c r (spots k)) (sym same) (rises_one g spots (spots 1) c r h is refl is.raised
-          (subst (λ (k : ℕ). IsNext (spots k) c) same next) (subst (λ (k : ℕ). IsAnswered (spots k) r) same given) (subst (λ (k : ℕ). IsLegal g k c r h) same legal))
+          (subst (λ (k : ℕ). MayCome (spots k) c) same next) (subst (λ (k : ℕ). IsGranted (spots k) r) same given) (subst (λ (k : ℕ). IsPlain g k c r h) same legal))
       | inr apart ↦ let at = (is.others t apart).0 in
           (rises_other g spots t (spots t) c r h is apart (sym at) next legal, subst (λ (s : Spot). fixed_at s r ≡ []) (sym at) refl, subst (Replies c r) (sym at) quiet)
     ]
@@ -319,6 +319,7 @@ rises g spots t c r h is next given legal =
     nothing_open reply.No = refl
     nothing_open (reply.Number n) = refl
     nothing_open reply.Bad = refl
+    nothing_open (reply.At place) = refl
     nothing_open reply.Full = refl
 
     quiet : Replies c r Joins
@@ -335,7 +336,7 @@ no_other_root : (b : Bool) → ◌≡◌ {A = Reference} (if b && false then Som
 no_other_root true = refl
 no_other_root false = refl
 
-pub rising_opening : (threads : ℕ) → 0 < threads → IsRising (opening threads) first_spot
+pub rising_opening : (threads : ℕ) → 0 < threads → IsRising (opening threads) entry_spot
 rising_opening threads some = record {
   hub_is = refl;
   made = λ n o. by_name (λ x. x ≡ Some o → (n ≡ hub) ⊎ (n.count ≤ 0)) n hub (Some (blank 16 0)) None (λ same _. inl same) (λ _ is. let never : None ≡ Some o = is in absurd cc);

@@ -7,7 +7,7 @@ use Rattle.std.proofs.lemmas.List.Sums.{sum_by-append, sum_by-cons}
 use Rattle.shen_graph.specs.History.{Entry, of_thread}
 use Rattle.managed_queue.specs.declared.spot.Spot.{Spot}
 use Rattle.managed_queue.specs.Spots.{Operation, next_spot, fixed_at}
-use Rattle.managed_queue.specs.Queue.{fixed, fixed_in, moved, first_spot}
+use Rattle.managed_queue.specs.Queue.{fixed, fixed_in, spot_moved, entry_spot}
 use Rattle.managed_queue.specs.Shares.{AreOf, FixedAreShared}
 use Rattle.managed_queue.proofs.Rising.{on_here, on_there}
 use Rattle.managed_queue.proofs.Playing.{of_here, of_there}
@@ -46,8 +46,8 @@ shared weight threads (e ∷ es) spots of =
     let t = e.thread in
     let now = fixed_at (spots t) e.reply in
     let f = λ (u : ℕ). sum_by weight (fixed_in (spots u) (of_thread (e ∷ es) u)) in
-    let g = λ (u : ℕ). sum_by weight (fixed_in (moved spots e u) (of_thread es u)) in
-    let later = shared weight threads es (moved spots e) of.2 in
+    let g = λ (u : ℕ). sum_by weight (fixed_in (spot_moved spots e u) (of_thread es u)) in
+    let later = shared weight threads es (spot_moved spots e) of.2 in
     let here : f t ≡ sum_by weight now + g t =
     ap (λ l. sum_by weight (fixed_in (spots t) l)) (of_here e es)
     ∙ sum_by-append weight now (fixed_in (next_spot (spots t) e.command e.reply) (of_thread es t))
@@ -55,9 +55,9 @@ shared weight threads (e ∷ es) spots of =
     let there : (u : ℕ) → u ≢ t → f u ≡ g u = λ u other.
     ap (λ l. sum_by weight (fixed_in (spots u) l)) (of_there e es u other)
     ∙ ap (λ s. sum_by weight (fixed_in s (of_thread es u))) (sym (on_there spots t e.command e.reply u other)) in
-    sum_by-append weight now (fixed (moved spots e) es)
+    sum_by-append weight now (fixed (spot_moved spots e) es)
     ∙ ap (λ n. sum_by weight now + n) later
     ∙ sym (one_term f g (sum_by weight now) t 1 threads of.0 (omega (arith, of.1)) here there)
 
 pub fixed_are_shared : FixedAreShared
-fixed_are_shared weight threads history of = shared weight threads history first_spot of
+fixed_are_shared weight threads history of = shared weight threads history entry_spot of

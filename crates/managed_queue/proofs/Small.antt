@@ -5,15 +5,16 @@ use Rattle.std.proofs.lemmas.List.{length-replicate}
 use Rattle.std.proofs.lemmas.List.Elements.{Contains-append_left, Contains-append_right}
 use Rattle.shen_graph.specs.declared.name.Name.{Name}
 use Rattle.shen_graph.specs.declared.command.Command.{Command}
-use Rattle.shen_graph.specs.declared.command.Command.TheVariants.{New, Get, Set, Cas, Xchg, Rd, Wr, Copy, Drop, Same, Gc}
+use Rattle.shen_graph.specs.declared.command.Command.TheVariants.{New, Get, Set, Cas, Xchg, Rd, Wr, Copy, Drop, Same, Gc, Pin, Unpin}
 use Rattle.shen_graph.specs.declared.command.Reply.TheVariants as reply
 use Rattle.shen_graph.specs.Graph.{Graph, Object, Reference, hub, named, same_name, same_reference, field_at, number_at, with_root, with_object, with_named, with_field, with_number, with_fresh, fresh, blank, opening}
-use Rattle.shen_graph.specs.Step.{Outcome, outcome, answers, on, shown}
-use Rattle.shen_graph.specs.History.{Entry, after_entry, is_full}
+use Rattle.shen_graph.specs.Step.{Outcome, outcome, answers, on, shown, IsPin}
+use Rattle.shen_graph.specs.History.{Entry, after_entry, after_reply, is_full}
 use Rattle.shen_graph.specs.Reach.{size}
+use Rattle.shen_graph.proofs.Outcomes.{leaves_outcome}
 use Rattle.managed_queue.specs.declared.spot.Spot.{Spot}
-use Rattle.managed_queue.specs.Spots.{IsNext}
-use Rattle.managed_queue.specs.Spots.IsNext.{anchor_made, first_made, head_set, tail_set, anchor_shown, joined, put_begun, take_begun, filled, looked, followed, linked, helped, swung, turned, tail_taken, next_taken, compared, pushed, read, unlinked}
+use Rattle.managed_queue.specs.Spots.{MayCome}
+use Rattle.managed_queue.specs.Spots.MayCome.{anchor_made, first_made, head_set, tail_set, anchor_shown, joined, put_begun, take_begun, filled, looked, followed, linked, helped, swung, turned, tail_taken, next_taken, compared, pushed, read, unlinked}
 use Rattle.managed_queue.specs.Live.{made_by}
 use Rattle.managed_queue.proofs.Moves.{by_name}
 
@@ -28,11 +29,12 @@ five_most n = at (same_name hub n)
     at true = omega arith
     at false = omega arith
 
--- All names that are held are among these, and objects are small.
+-- All names that are held are among these, objects are small, and no pin slot holds one.
 pub record AreSmall (g : Graph) (names : List Name) : Type 0 where
   pub roots : (t r : ℕ) (n : Name) → g.root t r ≡ Some n → Contains names n
   pub fields : (m : Name) (f : ℕ) (n : Name) → slice_get (named g (Some m)).refs f ≡ Some (Some n) → Contains names n
   pub sizes : (m : Name) → size (named g (Some m)) ≤ most m
+  pub no_pin : (t s : ℕ) → g.pin t s ≡ None
 
 more : (x : Name) (names : List Name) (n : Name) → Contains names n → Contains (x ∷ names) n
 more x names n there = Contains-append_right (x ∷ []) names n there
@@ -42,6 +44,7 @@ small_more g names x small = record {
   roots = λ t r n is. more x names n (small.roots t r n is);
   fields = λ m f n is. more x names n (small.fields m f n is);
   sizes = small.sizes;
+  no_pin = small.no_pin;
 }
 
 -- a root is another
@@ -50,6 +53,7 @@ small_root g names t r v small held = record {
   roots = λ u s n. at ((u == t) && (s == r)) u s n;
   fields = small.fields;
   sizes = small.sizes;
+  no_pin = small.no_pin;
 }
   where
     at : (b : Bool) (u s : ℕ) (n : Name) → (if b then v else g.root u s) ≡ Some n → Contains names n
@@ -62,6 +66,7 @@ small_object g names name o small held low = record {
   roots = small.roots;
   fields = λ m f n. by_name (λ (x : Option Object). slice_get (unwrap_or {T = Object} x (record { refs = []; nums = [] })).refs f ≡ Some (Some n) → Contains names n) m name (Some o) (g.object m) (λ _ is. held f n is) (λ _ is. small.fields m f n is);
   sizes = λ m. by_name (λ (x : Option Object). size (unwrap_or {T = Object} x (record { refs = []; nums = [] })) ≤ most m) m name (Some o) (g.object m) (λ e. subst (λ (k : Name). size o ≤ most k) (sym e) low) (λ _. small.sizes m);
+  no_pin = small.no_pin;
 }
 
 -- a field that was set is the new one, or was there
@@ -96,7 +101,7 @@ small_fresh g names t dst refs nums small few =
     let least = five_most (fresh g t) in
     omega (arith, few, least, length-replicate {A = Reference} refs None, length-replicate {A = ℕ} nums 0) in
     let made = small_object g (fresh g t ∷ names) (fresh g t) (blank refs nums) (small_more g names (fresh g t) small) (λ f n is. absurd (blank_holds refs f n is)) low in
-    small_root (with_fresh g t (blank refs nums)) (fresh g t ∷ names) t dst (Some (fresh g t)) (record { roots = made.roots; fields = made.fields; sizes = made.sizes })
+    small_root (with_fresh g t (blank refs nums)) (fresh g t ∷ names) t dst (Some (fresh g t)) (record { roots = made.roots; fields = made.fields; sizes = made.sizes; no_pin = made.no_pin })
     (λ n is. let same : fresh g t ≡ n = cc in Contains-append_left (fresh g t ∷ []) names n (0, omega arith, same))
 
 -- the commands of the table
@@ -106,9 +111,11 @@ IsSmall (Xchg dst obj field val) = ⊥
 IsSmall (Copy dst src) = ⊥
 IsSmall (Drop dst) = ⊥
 IsSmall Gc = ⊥
+IsSmall (Pin slot obj) = ⊥
+IsSmall (Unpin slot) = ⊥
 IsSmall _ = Unit {0}
 
-pub next_small : (s : Spot) (c : Command) → IsNext s c → IsSmall c
+pub next_small : (s : Spot) (c : Command) → MayCome s c → IsSmall c
 next_small _ _ anchor_made = omega arith
 next_small _ _ first_made = omega arith
 next_small _ _ head_set = tt
@@ -130,6 +137,26 @@ next_small _ _ (compared nothing) = tt
 next_small _ _ pushed = tt
 next_small _ _ read = tt
 next_small _ _ (unlinked value) = tt
+
+-- none of them is to pin an object
+
+small_pins_none : (c : Command) → IsSmall c → IsPin c → ⊥
+small_pins_none (Pin slot obj) few is = few
+small_pins_none (New dst refs nums) few is = is
+small_pins_none (Get dst src field) few is = is
+small_pins_none (Set obj field val) few is = is
+small_pins_none (Cas obj field expect val) few is = is
+small_pins_none (Xchg dst obj field val) few is = is
+small_pins_none (Rd obj index) few is = is
+small_pins_none (Wr obj index value) few is = is
+small_pins_none (Copy dst src) few is = is
+small_pins_none (Drop dst) few is = is
+small_pins_none (Same a b) few is = is
+small_pins_none Gc few is = is
+small_pins_none (Unpin slot) few is = is
+
+pub next_pins_none : (s : Spot) (c : Command) → MayCome s c → IsPin c → ⊥
+next_pins_none s c next = small_pins_none c (next_small s c next)
 
 on_small : {A : Type 0} (g : Graph) (names : List Name) (o : Option A) (f : A → Outcome) → AreSmall g names → ((v : A) → o ≡ Some v → AreSmall (f v).graph names) → AreSmall (on o g f).graph names
 on_small g names None f small step = small
@@ -174,14 +201,16 @@ small_stays g names t (Xchg dst obj field val) few small = absurd few
 small_stays g names t (Copy dst src) few small = absurd few
 small_stays g names t (Drop dst) few small = absurd few
 small_stays g names t Gc few small = absurd few
+small_stays g names t (Pin slot obj) few small = absurd few
+small_stays g names t (Unpin slot) few small = absurd few
 
 -- after an entry
 pub entry_stays : (g : Graph) (names : List Name) (e : Entry) → IsSmall e.command → AreSmall g names → Stays (after_entry g e) names (if is_full e.reply then 0 else made_by e.command)
 entry_stays g names e few small = at (is_full e.reply)
   where
-    at : (b : Bool) → Stays (if b then g else (outcome g e.thread e.command).graph) names (if b then 0 else made_by e.command)
+    at : (b : Bool) → Stays (if b then g else after_reply g e.thread e.command e.reply) names (if b then 0 else made_by e.command)
     at true = same_names g names small
-    at false = small_stays g names e.thread e.command few small
+    at false = subst (λ (h : Graph). Stays h names (made_by e.command)) (sym (leaves_outcome g e.thread e.command e.reply (small_pins_none e.command few))) (small_stays g names e.thread e.command few small)
 
 -- at the start there is the hub alone
 pub small_opening : (threads : ℕ) → AreSmall (opening threads) (hub ∷ [])
@@ -191,6 +220,7 @@ small_opening threads = record {
       (λ _ is. absurd (blank_holds 16 f n is)) (λ _ is. absurd (empty_holds f n is));
   sizes = λ m. by_name (λ (x : Option Object). size (unwrap_or {T = Object} x (record { refs = []; nums = [] })) ≤ most m) m hub (Some (blank 16 0)) None
       (λ e. subst (λ (k : Name). 19 ≤ most k) (sym e) (omega arith)) (λ _. let least = five_most m in omega (arith, least));
+  no_pin = λ t s. refl;
 }
   where
     only : (b : Bool) (n : Name) → (if b then Some hub else None) ≡ Some n → Contains (hub ∷ []) n

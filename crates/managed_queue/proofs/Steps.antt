@@ -9,18 +9,18 @@ use Rattle.shen_graph.specs.declared.command.Command.TheVariants.{New, Get, Cas,
 use Rattle.shen_graph.specs.declared.command.Reply.{Reply}
 use Rattle.shen_graph.specs.declared.command.Reply.TheVariants as reply
 use Rattle.shen_graph.specs.Graph.{Graph, Object, Reference, hub, with_root, with_object, with_fresh, fresh, blank}
-use Rattle.shen_graph.specs.Step.{Outcome, outcome, answers, IsLegal}
+use Rattle.shen_graph.specs.Step.{Outcome, outcome, answers}
 use Rattle.managed_queue.specs.declared.spot.Spot.{Spot}
 use Rattle.managed_queue.specs.declared.spot.Spot.TheVariants.{Joins, Rests, Fills, Looks, Follows, Links, Helps, Swings, Turns, TookHead, TookTail, Compares, Pushes, Reads, Unlinks}
-use Rattle.managed_queue.specs.Spots.{IsNext, next_spot, fixed_at, ended_at, open_at}
-use Rattle.managed_queue.specs.Spots.IsNext.{anchor_made, first_made, head_set, tail_set, anchor_shown, joined, put_begun, take_begun, filled, looked, followed, linked, helped, swung, turned, tail_taken, next_taken, compared, pushed, read, unlinked}
+use Rattle.managed_queue.specs.Spots.{MayCome, next_spot, fixed_at, operation_ended, open_at}
+use Rattle.managed_queue.specs.Spots.MayCome.{anchor_made, first_made, head_set, tail_set, anchor_shown, joined, put_begun, take_begun, filled, looked, followed, linked, helped, swung, turned, tail_taken, next_taken, compared, pushed, read, unlinked}
 use Rattle.managed_queue.specs.Queue.{Leads}
 use Rattle.managed_queue.proofs.Facts.{Objects, anchor, cell, ends, shown_hub, Chain, IsLinked, IsChain, AreMade, IsUser, IsEdge, Facts, Rely}
 use Rattle.managed_queue.proofs.Facts.IsLinked.{inner, end}
 use Rattle.managed_queue.proofs.Stable.{facts_stay}
 use Rattle.managed_queue.proofs.Moves.{but, but_here, by_name, apart_by_tag, same_place, stays, chain_but, rely_but, made_but, with_ends, ends_chain, ends_rely}
 use Rattle.managed_queue.proofs.Linking.{with_last, CanLink, link_chain, link_rely, link_edge}
-use Rattle.managed_queue.proofs.Lookups.{root_put, own_root, other_root, by_outcome, gets, gets_bad, swaps, reads, writes, compares, eqb_itself}
+use Rattle.managed_queue.proofs.Lookups.{IsPlain, root_put, own_root, other_root, by_outcome, gets, gets_bad, swaps, reads, writes, compares, eqb_itself}
 
 -- the numbers in the queue
 abbrev pub waiting : Chain → List ℕ
@@ -34,12 +34,12 @@ pub record Goes (t : ℕ) (g : Graph) (w : Chain) (spot : Spot) (c : Command) (o
   pub others : (u : ℕ) → u ≢ t → o.graph.root u ≡ g.root u
   pub facts : Facts t o.graph.object after (o.graph.root t) (next_spot spot c o.reply)
   pub run : Leads (waiting w) (fixed_at spot o.reply) (waiting after)
-  pub replies : open_at spot ++ fixed_at spot o.reply ≡ ended_at spot o.reply ++ open_at (next_spot spot c o.reply)
+  pub replies : open_at spot ++ fixed_at spot o.reply ≡ operation_ended spot o.reply ++ open_at (next_spot spot c o.reply)
 
 -- the reply fixes an operation that changes nothing, and the replies stay those of the run
 pub record Tells (w : Chain) (spot : Spot) (c : Command) (r : Reply) : Type 0 where
   pub run : Leads (waiting w) (fixed_at spot r) (waiting w)
-  pub replies : open_at spot ++ fixed_at spot r ≡ ended_at spot r ++ open_at (next_spot spot c r)
+  pub replies : open_at spot ++ fixed_at spot r ≡ operation_ended spot r ++ open_at (next_spot spot c r)
 
 -- the graph stays
 keeps : (t : ℕ) (g : Graph) (w : Chain) (spot : Spot) (c : Command) (r : Reply) → IsChain g.object g.count w → Facts t g.object w (g.root t) (next_spot spot c r) → Tells w spot c r → Goes t g w spot c (answers r g)
@@ -386,7 +386,7 @@ goes_joins t g w chain facts =
     ]
 
 -- all spots together
-pub goes : (t : ℕ) (g : Graph) (w : Chain) (spot : Spot) (c : Command) (r : Reply) (h : Graph) → IsChain g.object g.count w → Facts t g.object w (g.root t) spot → IsNext spot c → IsLegal g t c r h → Goes t g w spot c (answers r h)
+pub goes : (t : ℕ) (g : Graph) (w : Chain) (spot : Spot) (c : Command) (r : Reply) (h : Graph) → IsChain g.object g.count w → Facts t g.object w (g.root t) spot → MayCome spot c → IsPlain g t c r h → Goes t g w spot c (answers r h)
 goes t g w _ _ r h chain facts anchor_made legal = absurd facts
 goes t g w _ _ r h chain facts first_made legal = absurd facts
 goes t g w _ _ r h chain facts head_set legal = absurd facts

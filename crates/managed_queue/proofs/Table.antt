@@ -3,11 +3,11 @@ use Rattle.managed_queue.specs.declared.spot.Spot.{Spot}
 use Rattle.managed_queue.specs.declared.spot.Spot.TheVariants.{MakesAnchor, MakesFirst, SetsHead, SetsTail, Shows, Joins, Rests, Fills, Looks, Follows, Links, Helps, Swings, Turns, TookHead, TookTail, Compares, Pushes, Reads, Unlinks}
 use Rattle.managed_queue.specs.declared.operation.Choice.{Choice}
 use Rattle.managed_queue.specs.declared.operation.Choice.TheVariants as choice
-use Rattle.managed_queue.specs.Spots.{IsNext}
-use Rattle.managed_queue.specs.Spots.IsNext.{anchor_made, first_made, head_set, tail_set, anchor_shown, joined, put_begun, take_begun, filled, looked, followed, linked, helped, swung, turned, tail_taken, next_taken, compared, pushed, read, unlinked}
-use Rattle.managed_queue.specs.Machines.{command_at}
+use Rattle.managed_queue.specs.Spots.{MayCome}
+use Rattle.managed_queue.specs.Spots.MayCome.{anchor_made, first_made, head_set, tail_set, anchor_shown, joined, put_begun, take_begun, filled, looked, followed, linked, helped, swung, turned, tail_taken, next_taken, compared, pushed, read, unlinked}
+use Rattle.managed_queue.specs.Machines.{command_coming}
 
-pub command_is_next : (c : Choice) (s : Spot) → IsNext s (command_at c s)
+pub command_is_next : (c : Choice) (s : Spot) → MayCome s (command_coming c s)
 command_is_next c MakesAnchor = anchor_made
 command_is_next c MakesFirst = first_made
 command_is_next c SetsHead = head_set

@@ -12,8 +12,8 @@ use Rattle.managed_queue.specs.declared.spot.Spot.{Spot}
 use Rattle.managed_queue.specs.declared.spot.Spot.TheVariants.{MakesAnchor, Joins, Rests}
 use Rattle.managed_queue.specs.Spots.{Operation, open_at}
 use Rattle.managed_queue.specs.Spots.Operation.{put, got, empty, full}
-use Rattle.managed_queue.specs.Queue.{puts_of, gots_of, fixed, fixed_in, ended_in, spot_after, first_spot, IsRun}
-use Rattle.managed_queue.specs.Users.{Use, next_of, used, is_rest, left_of, command_of, IsDriven, use_after, Took, DidPut}
+use Rattle.managed_queue.specs.Queue.{puts_of, gots_of, fixed, fixed_in, ended_in, spot_after, entry_spot, IsOfQueue}
+use Rattle.managed_queue.specs.Users.{Use, next_of, used, is_rest, left_in_plan, command_of, IsDriven, use_after, TookInAll, DidPut}
 use Rattle.managed_queue.specs.Workload.{queue_user, IsQueueRun, got_in, TellsQueue, QueueRunsTell}
 use Rattle.managed_queue.proofs.Driven.{going, used_is, users_play, takers_take, putters_put, not_refused}
 use Rattle.managed_queue.proofs.Playing.{every_history}
@@ -142,7 +142,7 @@ rests_at Rests rest = refl
 rests_at _ rest = absurd cc
 
 at_end : (u : Use) → u.refused ≡ false → next_of u ≡ None → is_rest u.spot ≡ true
-at_end u fine ended = by_tests (is_rest u.spot) (left_of u.plan == 0) (ap (λ b. if b || (is_rest u.spot && (left_of u.plan == 0)) then None else Some (command_of u)) (sym fine) ∙ ended)
+at_end u fine ended = by_tests (is_rest u.spot) (left_in_plan u.plan == 0) (ap (λ b. if b || (is_rest u.spot && (left_in_plan u.plan == 0)) then None else Some (command_of u)) (sym fine) ∙ ended)
   where
     by_tests : (x y : Bool) → (if false || (x && y) then None else Some (command_of u)) ≡ None → x ≡ true
     by_tests true y is = refl
@@ -155,29 +155,29 @@ module _ (count : ℕ) (history : List Entry) (small : count ≤ 390) (run : IsQ
   given : (m : ℕ) → IsWithoutFull (entries m)
   given m = All-filter (λ e. e.thread == (m + 1)) (λ e. e.reply ≢ reply.Full) history (none_is_refused count history small run)
 
-  of_queue : IsRun history
+  of_queue : IsOfQueue history
   of_queue =
       let legal = run.legal.each in
-      every_history (length run.scripts) history (let long = run.threads in omega (arith, long)) legal (all_played count history small run)
+      every_history 16 256 (length run.scripts) history (let long = run.threads in omega (arith, long)) legal (all_played count history small run)
 
   -- what a user has ended is what took effect
-  all_ended : (m : ℕ) → m < 4 → (queue_user count m).refused ≡ false → (queue_user count m).spot ≡ first_spot (m + 1) → fixed_in (first_spot (m + 1)) (entries m) ≡ ended_in (first_spot (m + 1)) (entries m)
+  all_ended : (m : ℕ) → m < 4 → (queue_user count m).refused ≡ false → (queue_user count m).spot ≡ entry_spot (m + 1) → fixed_in (entry_spot (m + 1)) (entries m) ≡ ended_in (entry_spot (m + 1)) (entries m)
   all_ended m low fine spot =
       let u = queue_user count m in
       let plays = users_play u (entries m) fine (given m) (run.driven m low) in
-      let after : spot_after (first_spot (m + 1)) (entries m) ≡ (use_after u (entries m)).spot = ap (λ s. spot_after s (entries m)) (sym spot) ∙ plays.1 in
+      let after : spot_after (entry_spot (m + 1)) (entries m) ≡ (use_after u (entries m)).spot = ap (λ s. spot_after s (entries m)) (sym spot) ∙ plays.1 in
       let rests = at_end (use_after u (entries m)) (never_refused u (entries m) fine (given m) (run.driven m low)) (run.ended m low) in
-      of_queue.replies (m + 1) ∙ ap (λ s. ended_in (first_spot (m + 1)) (entries m) ++ open_at s) after
-      ∙ ap (λ os. ended_in (first_spot (m + 1)) (entries m) ++ os) (rests_at (use_after u (entries m)).spot rests) ∙ append-nil (ended_in (first_spot (m + 1)) (entries m))
+      of_queue.replies (m + 1) ∙ ap (λ s. ended_in (entry_spot (m + 1)) (entries m) ++ open_at s) after
+      ∙ ap (λ os. ended_in (entry_spot (m + 1)) (entries m) ++ os) (rests_at (use_after u (entries m)).spot rests) ∙ append-nil (ended_in (entry_spot (m + 1)) (entries m))
 
-  shared : (weight : Operation → ℕ) → sum_by weight (fixed first_spot history)
+  shared : (weight : Operation → ℕ) → sum_by weight (fixed entry_spot history)
       ≡ sum_by weight (ended_in MakesAnchor (entries 0)) + (sum_by weight (ended_in Joins (entries 1)) + (sum_by weight (ended_in Joins (entries 2)) + sum_by weight (ended_in Joins (entries 3))))
   shared weight =
-      let all : sum_by weight (fixed first_spot history) ≡ sum_by (λ thread. sum_by weight (fixed_in (first_spot thread) (of_thread history thread))) (range_with_len 1 4) =
+      let all : sum_by weight (fixed entry_spot history) ≡ sum_by (λ thread. sum_by weight (fixed_in (entry_spot thread) (of_thread history thread))) (range_with_len 1 4) =
       fixed_are_shared weight 4 history (threads_are count history small run) in
-      let four : sum_by (λ thread. sum_by weight (fixed_in (first_spot thread) (of_thread history thread))) (range_with_len 1 4)
+      let four : sum_by (λ thread. sum_by weight (fixed_in (entry_spot thread) (of_thread history thread))) (range_with_len 1 4)
       ≡ sum_by weight (fixed_in MakesAnchor (entries 0)) + (sum_by weight (fixed_in Joins (entries 1)) + (sum_by weight (fixed_in Joins (entries 2)) + sum_by weight (fixed_in Joins (entries 3)))) =
-      four_terms (λ thread. sum_by weight (fixed_in (first_spot thread) (of_thread history thread))) in
+      four_terms (λ thread. sum_by weight (fixed_in (entry_spot thread) (of_thread history thread))) in
       let one : sum_by weight (fixed_in MakesAnchor (entries 0)) ≡ sum_by weight (ended_in MakesAnchor (entries 0)) = ap (sum_by weight) (all_ended 0 (omega arith) refl refl) in
       let two : sum_by weight (fixed_in Joins (entries 1)) ≡ sum_by weight (ended_in Joins (entries 1)) = ap (sum_by weight) (all_ended 1 (omega arith) refl refl) in
       let three : sum_by weight (fixed_in Joins (entries 2)) ≡ sum_by weight (ended_in Joins (entries 2)) = ap (sum_by weight) (all_ended 2 (omega arith) refl refl) in
@@ -190,10 +190,10 @@ module _ (count : ℕ) (history : List Entry) (small : count ≤ 390) (run : IsQ
   second_put : DidPut false 2000001 count (entries 1)
   second_put = putters_put false 2000001 count (entries 1) (given 1) (run.driven 1 (omega arith))
 
-  third_took : Took count (entries 2)
+  third_took : TookInAll count (entries 2)
   third_took = takers_take count (entries 2) (given 2) (run.driven 2 (omega arith))
 
-  fourth_took : Took count (entries 3)
+  fourth_took : TookInAll count (entries 3)
   fourth_took = takers_take count (entries 3) (given 3) (run.driven 3 (omega arith))
 
   puts_first : puts_of (ended_in MakesAnchor (entries 0)) ≡ range_with_len 1000001 count
@@ -220,7 +220,7 @@ module _ (count : ℕ) (history : List Entry) (small : count ≤ 390) (run : IsQ
 
   all_got : AllGot
   all_got =
-      let fixed_all = fixed first_spot history in
+      let fixed_all = fixed entry_spot history in
       let order = ap (length {A = ℕ}) of_queue.order ∙ length-append (gots_of fixed_all) of_queue.left in
       let puts = puts_count fixed_all in
       let gots = gots_count fixed_all in
@@ -250,7 +250,7 @@ module _ (count : ℕ) (history : List Entry) (small : count ≤ 390) (run : IsQ
   all_weigh : (weight : ℕ → ℕ) → sum_by weight (gots_of (ended_in Joins (entries 2))) + sum_by weight (gots_of (ended_in Joins (entries 3)))
       ≡ sum_by weight (range_with_len 1000001 count) + sum_by weight (range_with_len 2000001 count)
   all_weigh weight =
-      let fixed_all = fixed first_spot history in
+      let fixed_all = fixed entry_spot history in
       let order : sum_by weight (puts_of fixed_all) ≡ sum_by weight (gots_of fixed_all) + sum_by weight of_queue.left = ap (sum_by weight) of_queue.order ∙ sum_by-append weight (gots_of fixed_all) of_queue.left in
       let left : sum_by weight of_queue.left ≡ 0 = ap (sum_by weight) all_got.left in
       let puts = puts_weigh weight fixed_all in
@@ -277,7 +277,7 @@ module _ (count : ℕ) (history : List Entry) (small : count ≤ 390) (run : IsQ
   tells_queue = record {
     no_full = none_is_refused count history small run;
     order =
-        let gots = gots_of (fixed first_spot history) in
+        let gots = gots_of (fixed entry_spot history) in
         sym (of_queue.order ∙ ap (λ l. gots ++ l) all_got.left ∙ append-nil gots);
     numbers = λ value.
         let weight : ℕ → ℕ = λ n. if n == value then 1 else 0 in

@@ -10,7 +10,7 @@ use Rattle.managed_queue.specs.declared.operation.Choice.TheVariants as choice
 use Rattle.managed_queue.specs.declared.operation.QueueReply.{QueueReply}
 use Rattle.managed_queue.specs.declared.operation.QueueReply.TheVariants as queue_reply
 use Rattle.managed_queue.specs.declared.operation.Course.{Course}
-use Rattle.managed_queue.specs.Spots.{Operation, next_spot, ended_at}
+use Rattle.managed_queue.specs.Spots.{Operation, next_spot, operation_ended}
 use Rattle.managed_queue.specs.Spots.Operation.{put, got, empty, full}
 
 -- the command that begins an operation
@@ -23,27 +23,27 @@ number_put (choice.Put value) = value
 number_put choice.Take = 0
 
 -- The command of the table that comes next, where an operation was chosen.
-abbrev pub command_at : Choice → Spot → Command
-command_at c MakesAnchor = New 1 2 0
-command_at c MakesFirst = New 2 1 1
-command_at c SetsHead = Set 1 0 2
-command_at c SetsTail = Set 1 1 2
-command_at c Shows = Set 0 0 1
-command_at c Joins = Get 1 0 0
-command_at c Rests = first_command c
-command_at c Fills = Wr 3 0 (number_put c)
-command_at c (Looks value) = Get 4 1 1
-command_at c (Follows value) = Get 5 4 0
-command_at c (Links value) = Cas 4 0 7 3
-command_at c (Helps value) = Cas 1 1 4 5
-command_at c (Swings value) = Cas 1 1 4 3
-command_at c Turns = Get 4 1 0
-command_at c TookHead = Get 5 1 1
-command_at c TookTail = Get 6 4 0
-command_at c (Compares nothing) = Same 4 5
-command_at c Pushes = Cas 1 1 5 6
-command_at c Reads = Rd 6 0
-command_at c (Unlinks value) = Cas 1 0 4 6
+abbrev pub command_coming : Choice → Spot → Command
+command_coming c MakesAnchor = New 1 2 0
+command_coming c MakesFirst = New 2 1 1
+command_coming c SetsHead = Set 1 0 2
+command_coming c SetsTail = Set 1 1 2
+command_coming c Shows = Set 0 0 1
+command_coming c Joins = Get 1 0 0
+command_coming c Rests = first_command c
+command_coming c Fills = Wr 3 0 (number_put c)
+command_coming c (Looks value) = Get 4 1 1
+command_coming c (Follows value) = Get 5 4 0
+command_coming c (Links value) = Cas 4 0 7 3
+command_coming c (Helps value) = Cas 1 1 4 5
+command_coming c (Swings value) = Cas 1 1 4 3
+command_coming c Turns = Get 4 1 0
+command_coming c TookHead = Get 5 1 1
+command_coming c TookTail = Get 6 4 0
+command_coming c (Compares nothing) = Same 4 5
+command_coming c Pushes = Cas 1 1 5 6
+command_coming c Reads = Rd 6 0
+command_coming c (Unlinks value) = Cas 1 0 4 6
 
 -- what an operation answers
 abbrev pub answer : Operation → QueueReply
@@ -53,17 +53,17 @@ answer empty = queue_reply.Empty
 answer full = queue_reply.Full
 
 -- the answer of the operation that ended, if one did
-abbrev pub answer_of : List Operation → Option QueueReply
-answer_of [] = None
-answer_of (o ∷ os) = Some (answer o)
+abbrev pub answer_told : List Operation → Option QueueReply
+answer_told [] = None
+answer_told (o ∷ os) = Some (answer o)
 
 -- an operation of which nothing was done
-abbrev pub begun : Choice → Course
-begun c = record { choice = c; spot = Rests; done = None }
+abbrev pub untouched : Choice → Course
+untouched c = record { choice = c; spot = Rests; done = None }
 
 -- It goes on by a reply, unless it has answered.
 abbrev pub replied : Course → Reply → Course
 replied c r = elim (c.done) [
-  | None ↦ record { choice = c.choice; spot = next_spot c.spot (command_at c.choice c.spot) r; done = answer_of (ended_at c.spot r) }
+  | None ↦ record { choice = c.choice; spot = next_spot c.spot (command_coming c.choice c.spot) r; done = answer_told (operation_ended c.spot r) }
   | Some a ↦ c
 ]

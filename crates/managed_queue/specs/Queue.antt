@@ -4,7 +4,7 @@ use Rattle.shen_graph.specs.Graph.{opening}
 use Rattle.shen_graph.specs.History.{Entry, of_thread, EachIsLegal}
 use Rattle.managed_queue.specs.declared.spot.Spot.{Spot}
 use Rattle.managed_queue.specs.declared.spot.Spot.TheVariants.{MakesAnchor, Joins}
-use Rattle.managed_queue.specs.Spots.{Operation, IsNext, IsAnswered, next_spot, fixed_at, ended_at, open_at}
+use Rattle.managed_queue.specs.Spots.{Operation, MayCome, IsGranted, next_spot, fixed_at, operation_ended, open_at}
 use Rattle.managed_queue.specs.Spots.Operation.{put, got, empty, full}
 
 -- From a queue these operations, in their order, leave another: a put appends, a take gets the first, it answers that
@@ -37,7 +37,7 @@ gots_of (full ∷ rest) = gots_of rest
 -- From a spot on, each command is the next by the replies before it.
 abbrev pub IsPlayed : Spot → List Entry → Type 0
 IsPlayed spot [] = Unit {0}
-IsPlayed spot (e ∷ es) = IsNext spot e.command × IsAnswered spot e.reply × IsPlayed (next_spot spot e.command e.reply) es
+IsPlayed spot (e ∷ es) = MayCome spot e.command × IsGranted spot e.reply × IsPlayed (next_spot spot e.command e.reply) es
 
 abbrev pub spot_after : Spot → List Entry → Spot
 spot_after spot [] = spot
@@ -49,35 +49,35 @@ fixed_in spot (e ∷ es) = fixed_at spot e.reply ++ fixed_in (next_spot spot e.c
 
 abbrev pub ended_in : Spot → List Entry → List Operation
 ended_in spot [] = []
-ended_in spot (e ∷ es) = ended_at spot e.reply ++ ended_in (next_spot spot e.command e.reply) es
+ended_in spot (e ∷ es) = operation_ended spot e.reply ++ ended_in (next_spot spot e.command e.reply) es
 
 -- All threads' entries.
 
 -- one thread's spot goes on
-abbrev pub moved : (ℕ → Spot) → Entry → ℕ → Spot
-moved spots e thread = if e.thread == thread then next_spot (spots thread) e.command e.reply else spots thread
+abbrev pub spot_moved : (ℕ → Spot) → Entry → ℕ → Spot
+spot_moved spots e thread = if e.thread == thread then next_spot (spots thread) e.command e.reply else spots thread
 
 -- the operations in the order in which they take effect
 abbrev pub fixed : (ℕ → Spot) → List Entry → List Operation
 fixed spots [] = []
-fixed spots (e ∷ es) = fixed_at (spots e.thread) e.reply ++ fixed (moved spots e) es
+fixed spots (e ∷ es) = fixed_at (spots e.thread) e.reply ++ fixed (spot_moved spots e) es
 
 -- thread 1 begins with the set-up, and each other with the join
-abbrev pub first_spot : ℕ → Spot
-first_spot thread = if thread == 1 then MakesAnchor else Joins
+abbrev pub entry_spot : ℕ → Spot
+entry_spot thread = if thread == 1 then MakesAnchor else Joins
 
 abbrev pub ArePlayed : List Entry → Type 0
-ArePlayed history = (thread : ℕ) → IsPlayed (first_spot thread) (of_thread history thread)
+ArePlayed history = (thread : ℕ) → IsPlayed (entry_spot thread) (of_thread history thread)
 
 -- A history is one of a queue, of which these numbers are left: its operations are a run; each number comes out at most
 -- once, first in, first out; and a thread's replies are those of the run, with one that it may not have had yet.
-pub record IsRun (history : List Entry) : Type 0 where
+pub record IsOfQueue (history : List Entry) : Type 0 where
   pub left : List ℕ
-  pub run : Leads [] (fixed first_spot history) left
-  pub order : puts_of (fixed first_spot history) ≡ gots_of (fixed first_spot history) ++ left
-  pub replies : (thread : ℕ) → fixed_in (first_spot thread) (of_thread history thread)
-      ≡ ended_in (first_spot thread) (of_thread history thread) ++ open_at (spot_after (first_spot thread) (of_thread history thread))
+  pub run : Leads [] (fixed entry_spot history) left
+  pub order : puts_of (fixed entry_spot history) ≡ gots_of (fixed entry_spot history) ++ left
+  pub replies : (thread : ℕ) → fixed_in (entry_spot thread) (of_thread history thread)
+      ≡ ended_in (entry_spot thread) (of_thread history thread) ++ open_at (spot_after (entry_spot thread) (of_thread history thread))
 
--- Each legal history of threads that use the queue is one of a queue.
+-- Each legal history of threads that use the queue, in a heap of whatever sizes, is one of a queue.
 abbrev pub EveryHistory : Type 0
-EveryHistory = (threads : ℕ) (history : List Entry) → 0 < threads → EachIsLegal (opening threads) history → ArePlayed history → IsRun history
+EveryHistory = (regions region_words threads : ℕ) (history : List Entry) → 0 < threads → EachIsLegal regions region_words (opening threads) history → ArePlayed history → IsOfQueue history

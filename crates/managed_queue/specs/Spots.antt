@@ -16,28 +16,28 @@ pub data Operation : Type 0 where
 
 -- The commands that may come at a spot. Between two operations a put or a take begins.
 -- Roots: 0 hub, 1 anchor, 3 a put's node, 4 tail or head, 5 what follows the tail, or the tail, 6 what follows the head, 7 null.
-pub data IsNext : Spot → Command → Type 0 where
-  anchor_made : IsNext MakesAnchor (New 1 2 0)
-  first_made : IsNext MakesFirst (New 2 1 1)
-  head_set : IsNext SetsHead (Set 1 0 2)
-  tail_set : IsNext SetsTail (Set 1 1 2)
-  anchor_shown : IsNext Shows (Set 0 0 1)
-  joined : IsNext Joins (Get 1 0 0)
-  put_begun : IsNext Rests (New 3 1 1)
-  take_begun : IsNext Rests (Get 4 1 0)
-  filled : (value : ℕ) → IsNext Fills (Wr 3 0 value)
-  looked : (value : ℕ) → IsNext (Looks value) (Get 4 1 1)
-  followed : (value : ℕ) → IsNext (Follows value) (Get 5 4 0)
-  linked : (value : ℕ) → IsNext (Links value) (Cas 4 0 7 3)
-  helped : (value : ℕ) → IsNext (Helps value) (Cas 1 1 4 5)
-  swung : (value : ℕ) → IsNext (Swings value) (Cas 1 1 4 3)
-  turned : IsNext Turns (Get 4 1 0)
-  tail_taken : IsNext TookHead (Get 5 1 1)
-  next_taken : IsNext TookTail (Get 6 4 0)
-  compared : (is_null : Bool) → IsNext (Compares is_null) (Same 4 5)
-  pushed : IsNext Pushes (Cas 1 1 5 6)
-  read : IsNext Reads (Rd 6 0)
-  unlinked : (value : ℕ) → IsNext (Unlinks value) (Cas 1 0 4 6)
+pub data MayCome : Spot → Command → Type 0 where
+  anchor_made : MayCome MakesAnchor (New 1 2 0)
+  first_made : MayCome MakesFirst (New 2 1 1)
+  head_set : MayCome SetsHead (Set 1 0 2)
+  tail_set : MayCome SetsTail (Set 1 1 2)
+  anchor_shown : MayCome Shows (Set 0 0 1)
+  joined : MayCome Joins (Get 1 0 0)
+  put_begun : MayCome Rests (New 3 1 1)
+  take_begun : MayCome Rests (Get 4 1 0)
+  filled : (value : ℕ) → MayCome Fills (Wr 3 0 value)
+  looked : (value : ℕ) → MayCome (Looks value) (Get 4 1 1)
+  followed : (value : ℕ) → MayCome (Follows value) (Get 5 4 0)
+  linked : (value : ℕ) → MayCome (Links value) (Cas 4 0 7 3)
+  helped : (value : ℕ) → MayCome (Helps value) (Cas 1 1 4 5)
+  swung : (value : ℕ) → MayCome (Swings value) (Cas 1 1 4 3)
+  turned : MayCome Turns (Get 4 1 0)
+  tail_taken : MayCome TookHead (Get 5 1 1)
+  next_taken : MayCome TookTail (Get 6 4 0)
+  compared : (is_null : Bool) → MayCome (Compares is_null) (Same 4 5)
+  pushed : MayCome Pushes (Cas 1 1 5 6)
+  read : MayCome Reads (Rd 6 0)
+  unlinked : (value : ℕ) → MayCome (Unlinks value) (Cas 1 0 4 6)
 
 -- where a put goes once it knows what follows the tail
 abbrev pub behind_tail : ℕ → Reply → Spot
@@ -127,12 +127,12 @@ fixed_at (Unlinks value) r = on_yes (got value) r
 fixed_at _ r = []
 
 -- the operation that ends with this reply
-abbrev pub ended_at : Spot → Reply → List Operation
-ended_at Rests r = on_full r
-ended_at (Swings value) r = put value ∷ []
-ended_at (Compares true) r = on_yes empty r
-ended_at (Unlinks value) r = on_yes (got value) r
-ended_at _ r = []
+abbrev pub operation_ended : Spot → Reply → List Operation
+operation_ended Rests r = on_full r
+operation_ended (Swings value) r = put value ∷ []
+operation_ended (Compares true) r = on_yes empty r
+operation_ended (Unlinks value) r = on_yes (got value) r
+operation_ended _ r = []
 
 -- the operation that took effect, and has not ended
 abbrev pub open_at : Spot → List Operation
@@ -141,7 +141,7 @@ open_at (Compares true) = empty ∷ []
 open_at _ = []
 
 -- the two allocations of the set-up are not refused
-abbrev pub IsAnswered : Spot → Reply → Type 0
-IsAnswered MakesAnchor r = r ≢ reply.Full
-IsAnswered MakesFirst r = r ≢ reply.Full
-IsAnswered _ r = Unit {0}
+abbrev pub IsGranted : Spot → Reply → Type 0
+IsGranted MakesAnchor r = r ≢ reply.Full
+IsGranted MakesFirst r = r ≢ reply.Full
+IsGranted _ r = Unit {0}

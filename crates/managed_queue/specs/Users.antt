@@ -14,9 +14,9 @@ use Rattle.managed_queue.specs.declared.operation.QueueReply.TheVariants as queu
 use Rattle.managed_queue.specs.declared.user.Plan.{Plan}
 use Rattle.managed_queue.specs.declared.user.Plan.TheVariants.{Puts, Takes}
 use Rattle.managed_queue.specs.declared.user.Gotten.{Gotten}
-use Rattle.managed_queue.specs.Spots.{next_spot, ended_at}
+use Rattle.managed_queue.specs.Spots.{next_spot, operation_ended}
 use Rattle.managed_queue.specs.Queue.{IsPlayed, spot_after, ended_in, puts_of, gots_of}
-use Rattle.managed_queue.specs.Machines.{command_at, answer_of}
+use Rattle.managed_queue.specs.Machines.{command_coming, answer_told}
 
 -- Where a user stands, what it has left to do, what its takes got, and whether an allocation was refused.
 pub record Use : Type 0 where
@@ -30,9 +30,9 @@ abbrev pub chosen : Plan → Choice
 chosen (Puts next left) = choice.Put next
 chosen (Takes left) = choice.Take
 
-abbrev pub left_of : Plan → ℕ
-left_of (Puts next left) = left
-left_of (Takes left) = left
+abbrev pub left_in_plan : Plan → ℕ
+left_in_plan (Puts next left) = left
+left_in_plan (Takes left) = left
 
 abbrev pub is_rest : Spot → Bool
 is_rest Rests = true
@@ -40,10 +40,10 @@ is_rest _ = false
 
 -- it ends between two operations where none is left, and where an allocation is refused
 abbrev pub has_ended : Use → Bool
-has_ended u = u.refused || (is_rest u.spot && (left_of u.plan == 0))
+has_ended u = u.refused || (is_rest u.spot && (left_in_plan u.plan == 0))
 
 abbrev pub command_of : Use → Command
-command_of u = command_at (chosen u.plan) u.spot
+command_of u = command_coming (chosen u.plan) u.spot
 
 -- its next command
 abbrev pub next_of : Use → Option Command
@@ -68,8 +68,8 @@ is_refused _ r = false
 abbrev pub used : Use → Reply → Use
 used u r = if has_ended u then u else record {
   spot = next_spot u.spot (command_of u) r;
-  plan = plan_after u.plan (answer_of (ended_at u.spot r));
-  got = got_after u.plan u.got (answer_of (ended_at u.spot r));
+  plan = plan_after u.plan (answer_told (operation_ended u.spot r));
+  got = got_after u.plan u.got (answer_told (operation_ended u.spot r));
   refused = is_refused (command_of u) r;
 }
 
@@ -122,14 +122,14 @@ abbrev pub UsersPlay : Type 0
 UsersPlay = (u : Use) (es : List Entry) → u.refused ≡ false → IsWithoutFull es → IsDriven u es → IsPlayed u.spot es × (spot_after u.spot es ≡ (use_after u es).spot)
 
 -- What a user counted is what its takes got, none of its operations is a put, and once it has no next command it got so many.
-pub record Took (count : ℕ) (es : List Entry) : Type 0 where
+pub record TookInAll (count : ℕ) (es : List Entry) : Type 0 where
   pub items : (use_after (taker count) es).got.items ≡ length (gots_of (ended_in Joins es))
   pub sum : (use_after (taker count) es).got.sum ≡ sum (gots_of (ended_in Joins es))
   pub no_put : puts_of (ended_in Joins es) ≡ []
   pub all : next_of (use_after (taker count) es) ≡ None → length (gots_of (ended_in Joins es)) ≡ count
 
 abbrev pub TakersTake : Type 0
-TakersTake = (count : ℕ) (es : List Entry) → IsWithoutFull es → IsDriven (taker count) es → Took count es
+TakersTake = (count : ℕ) (es : List Entry) → IsWithoutFull es → IsDriven (taker count) es → TookInAll count es
 
 -- A putter puts its numbers in a row, and all of them once it has no next command.
 pub record DidPut (sets_up : Bool) (first count : ℕ) (es : List Entry) : Type 0 where

@@ -5,7 +5,7 @@ use Rattle.shen_graph.specs.Crowd.{IsLegalHistory}
 use Rattle.shen_graph.specs.History.{Entry, of_thread, Follows, IsWithoutFull}
 use Rattle.shen_graph.specs.declared.command.Command.{Command}
 use Rattle.managed_queue.specs.declared.user.Gotten.{Gotten}
-use Rattle.managed_queue.specs.Queue.{puts_of, gots_of, fixed, ended_in, first_spot}
+use Rattle.managed_queue.specs.Queue.{puts_of, gots_of, fixed, ended_in, entry_spot}
 use Rattle.managed_queue.specs.Users.{Use, next_of, putter, taker, IsDriven, use_after}
 
 -- The user of a mutator, counted from 0, as it begins. Thread t, counted from 1, is mutator t - 1: threads 1 and 2 put 1000000 t + 1 and
@@ -30,7 +30,7 @@ got_in count history mutator = (use_after (queue_user count mutator) (of_thread 
 
 -- the numbers that its takes got, in order
 abbrev pub taken_by : List Entry → ℕ → List ℕ
-taken_by history mutator = gots_of (ended_in (first_spot (mutator + 1)) (of_thread history (mutator + 1)))
+taken_by history mutator = gots_of (ended_in (entry_spot (mutator + 1)) (of_thread history (mutator + 1)))
 
 -- how often a number comes among some; and two lists have the same numbers, each as often
 abbrev pub times : ℕ → List ℕ → ℕ
@@ -43,7 +43,7 @@ HaveTheSame numbers others = (value : ℕ) → times value numbers ≡ times val
 -- was put, and each other never, and counted twice as many as each user put or took, of this sum.
 pub record TellsQueue (count : ℕ) (history : List Entry) : Type 0 where
   pub no_full : IsWithoutFull history
-  pub order : gots_of (fixed first_spot history) ≡ puts_of (fixed first_spot history)
+  pub order : gots_of (fixed entry_spot history) ≡ puts_of (fixed entry_spot history)
   pub numbers : HaveTheSame (taken_by history 2 ++ taken_by history 3) (range_with_len 1000001 count ++ range_with_len 2000001 count)
   pub items : (got_in count history 2).items + (got_in count history 3).items ≡ 2 * count
   pub sum : (got_in count history 2).sum + (got_in count history 3).sum ≡ 3000000 * count + count * (count + 1)

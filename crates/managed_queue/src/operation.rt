@@ -1,9 +1,9 @@
 ghost use Rattle.std.specs.Prelude.{◌≡◌, Some, None};
 ghost use Rattle.shen_graph.specs.Valid.{IsValid};
-ghost use Rattle.managed_queue.specs.Spots.{IsNext};
+ghost use Rattle.managed_queue.specs.Spots.{MayCome};
 ghost use Rattle.managed_queue.specs.Spots as spots;
 ghost use Rattle.managed_queue.specs.declared.operation.Choice.TheVariants as choice;
-ghost use Rattle.managed_queue.specs.Machines.{command_at, first_command, number_put, begun, replied};
+ghost use Rattle.managed_queue.specs.Machines.{command_coming, first_command, number_put, untouched, replied};
 
 use crate::spot::Spot;
 use shen_graph::{Command, Reply};
@@ -86,7 +86,7 @@ pub struct Course {
 impl Course {
     /// An operation of which nothing was done.
     pub(crate) fn new(choice: Choice) -> Course
-        ensures { result ≡ begun choice }
+        ensures { result ≡ untouched choice }
     {
         Course {
             choice,
@@ -127,7 +127,7 @@ impl Model for Put {
 impl Put {
     /// A put of a number.
     pub fn new(value: u64) -> Put
-        ensures { result ≡ begun (choice.Put value) }
+        ensures { result ≡ untouched (choice.Put value) }
     {
         Put {
             course: Course::new(Choice::Put(value)),
@@ -137,8 +137,8 @@ impl Put {
     /// Its next command.
     pub fn next(&self) -> Command
         requires { self.now.done ≡ None }
-        ensures table { IsNext self.now.spot result }
-        ensures chosen { result ≡ command_at self.now.choice self.now.spot }
+        ensures table { MayCome self.now.spot result }
+        ensures chosen { result ≡ command_coming self.now.choice self.now.spot }
         ensures valid { IsValid result }
     {
         self.course.spot.next(self.course.choice)
@@ -176,7 +176,7 @@ impl Model for Take {
 impl Take {
     /// A take.
     pub fn new() -> Take
-        ensures { result ≡ begun choice.Take }
+        ensures { result ≡ untouched choice.Take }
     {
         Take {
             course: Course::new(Choice::Take),
@@ -186,8 +186,8 @@ impl Take {
     /// Its next command.
     pub fn next(&self) -> Command
         requires { self.now.done ≡ None }
-        ensures table { IsNext self.now.spot result }
-        ensures chosen { result ≡ command_at self.now.choice self.now.spot }
+        ensures table { MayCome self.now.spot result }
+        ensures chosen { result ≡ command_coming self.now.choice self.now.spot }
         ensures valid { IsValid result }
     {
         self.course.spot.next(self.course.choice)

@@ -2,8 +2,8 @@ ghost use Rattle.std.specs.Prelude.{◌≡◌};
 ghost use Rattle.shen_graph.specs.declared.command.Command.TheVariants as command;
 ghost use Rattle.managed_queue.specs.Spots as spots;
 ghost use Rattle.shen_graph.specs.Valid.{IsValid};
-ghost use Rattle.managed_queue.specs.Spots.{IsNext, next_spot, ended_at};
-ghost use Rattle.managed_queue.specs.Machines.{command_at, answer_of};
+ghost use Rattle.managed_queue.specs.Spots.{MayCome, next_spot, operation_ended};
+ghost use Rattle.managed_queue.specs.Machines.{command_coming, answer_told};
 
 use crate::operation::{Choice, QueueReply};
 use shen_graph::{Command, Reply};
@@ -56,8 +56,8 @@ pub enum Spot {
 impl Spot {
     // The next command, where an operation was chosen.
     pub(crate) fn next(&self, choice: Choice) -> Command
-        ensures table { IsNext self.now result }
-        ensures chosen { result ≡ command_at choice self.now }
+        ensures table { MayCome self.now result }
+        ensures chosen { result ≡ command_coming choice self.now }
         ensures valid { IsValid result }
     {
         self.command(choice)
@@ -65,7 +65,7 @@ impl Spot {
 
     // The same, by the table alone.
     fn command(&self, choice: Choice) -> Command
-        ensures { result ≡ command_at choice self.now }
+        ensures { result ≡ command_coming choice self.now }
     {
         match *self {
             Spot::MakesAnchor => Command::New {
@@ -105,7 +105,7 @@ impl Spot {
 
     // Where the reply to that command leads.
     pub(crate) fn after(&self, choice: Choice, reply: &Reply) -> Spot
-        ensures { result ≡ next_spot self.now (command_at choice self.now) reply.now }
+        ensures { result ≡ next_spot self.now (command_coming choice self.now) reply.now }
     {
         match *self {
             Spot::MakesAnchor => Spot::MakesFirst,
@@ -132,7 +132,7 @@ impl Spot {
 
     // The reply of the operation that ends with this one.
     pub(crate) fn answer(&self, reply: &Reply) -> Option<QueueReply>
-        ensures { result ≡ answer_of (ended_at self.now reply.now) }
+        ensures { result ≡ answer_told (operation_ended self.now reply.now) }
     {
         match (*self, *reply) {
             (Spot::Rests, Reply::Full) => Some(QueueReply::Full),

@@ -2,8 +2,8 @@ ghost use Rattle.std.specs.Prelude.{◌≡◌, ◌<◌, ◌≤◌, ◌^◌, ◌*
 ghost use Rattle.shen_graph.specs.declared.command.Command.{Command};
 ghost use Rattle.shen_graph.specs.Step.{IsNew};
 ghost use Rattle.shen_graph.specs.Valid.{IsValid};
-ghost use Rattle.managed_queue.specs.Spots.{IsNext};
-ghost use Rattle.managed_queue.specs.Users.{left_of, next_of, to_come, has_ended, used, plan_after, got_after, IsWithin, is_refused, chosen};
+ghost use Rattle.managed_queue.specs.Spots.{MayCome};
+ghost use Rattle.managed_queue.specs.Users.{left_in_plan, next_of, to_come, has_ended, used, plan_after, got_after, IsWithin, is_refused, chosen};
 ghost use Rattle.managed_queue.specs.Users as users;
 
 use crate::operation::{Choice, QueueReply};
@@ -42,7 +42,7 @@ impl Plan {
 
     // How many operations are left.
     fn left(&self) -> u64
-        ensures { result ≡ left_of self.now }
+        ensures { result ≡ left_in_plan self.now }
     {
         match *self {
             Plan::Puts { left, .. } | Plan::Takes { left } => left,
@@ -160,7 +160,7 @@ impl Driver for User {
     /// Its next command; `None` when it has done all, or an allocation was refused.
     fn next(&self) -> Option<Command>
         ensures next { result ≡ next_of self.now }
-        ensures table { IfSome result (λ command. IsNext self.now.spot command) }
+        ensures table { IfSome result (λ command. MayCome self.now.spot command) }
         ensures valid { IfSome result (λ command. IsValid command) }
         ensures due { IfSome result (λ command. IsNew command → 1 ≤ to_come self.now) }
     {

@@ -137,6 +137,7 @@ module _ (c : Config) (u : World) (seat : ℕ) (marking : Word → ℕ) (recordi
       marked = snapshot_after;
       evacuated = evacuating_after;
       updated = λ on. (let is = step.phase in absurd (omega (arith, is, on)));
+      pinned = shared.pinned;
     }
 
     -- what holds of marking holds
@@ -153,6 +154,8 @@ module _ (c : Config) (u : World) (seat : ℕ) (marking : Word → ℕ) (recordi
       promise_words = λ a words k is below. refl;
       root_words = λ i. refl;
       roots = λ i. refl;
+      pin_words = λ i. refl;
+      pins = λ i. refl;
       count = refl;
       wait = refl;
       answer = refl;
@@ -177,6 +180,8 @@ module _ (c : Config) (u : World) (seat : ℕ) (marking : Word → ℕ) (recordi
       tops = λ r is. refl;
       root_words = λ i. refl;
       roots = λ i. refl;
+      pin_words = λ i. refl;
+      pins = λ i. refl;
       count = refl;
       wait = refl;
       answer = refl;

@@ -25,7 +25,7 @@ use Rattle.load_barrier.specs.declared.spot.ResolveSpot.TheVariants as resolve
 use Rattle.load_barrier.specs.Rows as resolves
 use Rattle.mutator.specs.declared.spot.Kept.{Kept}
 use Rattle.mutator.specs.declared.spot.Spot.{Spot}
-use Rattle.mutator.specs.declared.spot.Spot.TheVariants.{Rest, Ended, Entering, Loading, OnField, Resolving, Recording, OnNumber, Showing, Making, Waiting, Leave}
+use Rattle.mutator.specs.declared.spot.Spot.TheVariants.{Rest, Ended, Entering, Loading, OnField, Resolving, Recording, OnNumber, Showing, Making, Pinning, Waiting, Leave}
 use Rattle.mutator.specs.declared.loads.LoadSpot.{LoadSpot}
 use Rattle.mutator.specs.declared.loads.LoadSpot.TheVariants as load
 use Rattle.mutator.specs.declared.fields.FieldSpot.{FieldSpot}
@@ -36,9 +36,11 @@ use Rattle.mutator.specs.declared.shows.ShowSpot.{ShowSpot}
 use Rattle.mutator.specs.declared.shows.ShowSpot.TheVariants as show
 use Rattle.mutator.specs.declared.makes.MakeSpot.{MakeSpot}
 use Rattle.mutator.specs.declared.makes.MakeSpot.TheVariants as make
+use Rattle.mutator.specs.declared.pins.PinSpot.{PinSpot}
+use Rattle.mutator.specs.declared.pins.PinSpot.TheVariants as pin
 use Rattle.mutator.specs.declared.waits.WaitSpot.{WaitSpot}
 use Rattle.mutator.specs.declared.waits.WaitSpot.TheVariants as wait
-use Rattle.mutator.specs.Rows.{Mutating, load_place, field_place, number_place, show_place, make_place, first_place, place_at, answer_at, given_at, next_at, reply_at}
+use Rattle.mutator.specs.Rows.{Mutating, load_place, field_place, number_place, show_place, make_place, pin_place, first_place, place_at, answer_at, given_at, next_at, reply_at}
 use Rattle.mutator.specs.WaitRows.{wait_place}
 use Rattle.mutator.proofs.Done.{done_gives}
 
@@ -113,6 +115,10 @@ makes_elsewhere : (at : MakeSpot) → make_place at ≡ LV → ⊥
 makes_elsewhere (make.Taking take) is = takes_elsewhere take is
 makes_elsewhere _ is = cc
 
+pins_elsewhere : (at : PinSpot) → pin_place at ≡ LV → ⊥
+pins_elsewhere pin.Look is = cc
+pins_elsewhere pin.Store is = cc
+
 waits_elsewhere : (at : WaitSpot) → wait_place at ≡ LV → ⊥
 waits_elsewhere wait.StoreRequest is = cc
 waits_elsewhere wait.AskRoom is = cc
@@ -139,6 +145,7 @@ leaves order (Recording at address next) is = absurd (records_elsewhere at is)
 leaves order (OnNumber object refs at) is = absurd (is_on_number at is)
 leaves order (Showing value at) is = absurd (shows_elsewhere at is)
 leaves order (Making at) is = absurd (makes_elsewhere at is)
+leaves order (Pinning value at) is = absurd (pins_elsewhere at is)
 leaves order (Waiting at) is = absurd (waits_elsewhere at is)
 leaves order _ is = absurd (cc)
 

@@ -1,8 +1,10 @@
 -- The parts of a command that the steps of its call need.
-use Rattle.std.specs.Prelude.{ℕ, ◌==◌, Bool, true, false, ◌&&◌, nat_lt, List, [], ◌∷◌, slice_index}
+use Rattle.std.specs.Prelude.{ℕ, ◌==◌, Bool, true, false, not, ◌&&◌, nat_lt, List, [], ◌∷◌, slice_index}
 use Rattle.heap_words.specs.Encoding.{refs_in, nums_in}
 use Rattle.shen_graph.specs.declared.command.Command.{Command}
-use Rattle.shen_graph.specs.declared.command.Command.TheVariants.{New, Get, Set, Cas, Xchg, Rd, Wr, Copy, Drop, Same}
+use Rattle.shen_graph.specs.declared.command.Command.TheVariants.{New, Get, Set, Cas, Xchg, Rd, Wr, Copy, Drop, Same, Pin}
+use Rattle.shen_graph.specs.declared.command.Reply.{Reply}
+use Rattle.shen_graph.specs.declared.command.Reply.TheVariants as reply
 
 -- the roots that a command loads, in this order; for a command on an object that of the object comes first
 abbrev pub command_roots : Command → List ℕ
@@ -14,6 +16,7 @@ command_roots (Rd obj index) = obj ∷ []
 command_roots (Wr obj index value) = obj ∷ []
 command_roots (Copy dst src) = src ∷ []
 command_roots (Same a b) = a ∷ b ∷ []
+command_roots (Pin slot obj) = obj ∷ []
 command_roots _ = []
 
 abbrev pub command_root : Command → ℕ → ℕ
@@ -60,7 +63,18 @@ is_on_object (Cas obj field expect val) = true
 is_on_object (Xchg dst obj field val) = true
 is_on_object (Rd obj index) = true
 is_on_object (Wr obj index value) = true
+is_on_object (Pin slot obj) = true
 is_on_object _ = false
+
+-- whether a command goes on that has found this word in its pin slot: a Pin where it is empty, an Unpin where not
+abbrev pub fits_slot : Command → ℕ → Bool
+fits_slot (Pin slot obj) found = found == 0
+fits_slot _ found = not (found == 0)
+
+-- the reply of a command that stores this reference into its slot: the place of the object, or that it is done
+abbrev pub pin_reply : Command → ℕ → Reply
+pin_reply (Pin slot obj) value = reply.At value
+pin_reply _ value = reply.Ok
 
 -- whether there is nothing that the command works on: the object's root is null
 abbrev pub lacks_object : Command → ℕ → Bool

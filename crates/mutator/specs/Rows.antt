@@ -7,6 +7,7 @@ use Rattle.heap_words.specs.declared.place.Place.TheVariants as place
 use Rattle.heap_words.specs.declared.access.Took.{Took}
 use Rattle.heap_words.specs.declared.access.Took.TheVariants.{More, Again, Done}
 use Rattle.heap_words.specs.Words.{Left, State, Phase, Cset, Ask, Root, Heap}
+use Rattle.heap_words.specs.Words as words
 use Rattle.heap_words.specs.Encoding.{refs_in, thread_in, count_in, fresh_word}
 use Rattle.steps_base.specs.Touch.{Touch, touch, loads, stores, swaps, subtracts, sets_bits, exchanges}
 use Rattle.handshake.specs.declared.enter_spot.EnterSpot.TheVariants.{Raise, Look}
@@ -25,15 +26,15 @@ use Rattle.load_barrier.specs.declared.spot.ResolveSpot.{ResolveSpot}
 use Rattle.load_barrier.specs.declared.spot.ResolveSpot.TheVariants.{LoadHeader, Resolved}
 use Rattle.shen_graph.specs.declared.name.Name.{Name}
 use Rattle.shen_graph.specs.declared.command.Command.{Command}
-use Rattle.shen_graph.specs.declared.command.Command.TheVariants.{New, Get, Set, Cas, Xchg, Rd, Wr, Copy, Drop, Same, Gc}
+use Rattle.shen_graph.specs.declared.command.Command.TheVariants.{New, Get, Set, Cas, Xchg, Rd, Wr, Copy, Drop, Same, Gc, Pin, Unpin}
 use Rattle.shen_graph.specs.declared.command.Reply.{Reply}
 use Rattle.shen_graph.specs.declared.command.Reply.TheVariants as reply
 use Rattle.shen_graph.specs.declared.order.Order.{Order}
 use Rattle.shen_graph.specs.declared.order.Order.TheVariants.{Nothing, Begin, End, Hint}
-use Rattle.shen_graph.specs.Step.{yes_or_no}
+use Rattle.shen_graph.specs.Step.{yes_or_no, slot_of}
 use Rattle.mutator.specs.declared.spot.Kept.{Kept}
 use Rattle.mutator.specs.declared.spot.Spot.{Spot}
-use Rattle.mutator.specs.declared.spot.Spot.TheVariants.{Rest, Ended, Entering, LoadPhase, LoadSet, Loading, OnField, Resolving, Recording, OnNumber, Showing, StoreRoot, Making, AskCycle, Waiting, Leave, Gone}
+use Rattle.mutator.specs.declared.spot.Spot.TheVariants.{Rest, Ended, Entering, LoadPhase, LoadSet, Loading, OnField, Resolving, Recording, OnNumber, Showing, StoreRoot, Making, AskCycle, Pinning, Waiting, Leave, Gone}
 use Rattle.mutator.specs.declared.spot.Entered.TheVariants.{Call}
 use Rattle.mutator.specs.declared.loads.LoadSpot.{LoadSpot}
 use Rattle.mutator.specs.declared.loads.LoadSpot.TheVariants as load
@@ -49,8 +50,10 @@ use Rattle.mutator.specs.declared.shows.ShowSpot.{ShowSpot}
 use Rattle.mutator.specs.declared.shows.ShowSpot.TheVariants as show
 use Rattle.mutator.specs.declared.makes.MakeSpot.{MakeSpot}
 use Rattle.mutator.specs.declared.makes.MakeSpot.TheVariants as make
+use Rattle.mutator.specs.declared.pins.PinSpot.{PinSpot}
+use Rattle.mutator.specs.declared.pins.PinSpot.TheVariants as pin
 use Rattle.mutator.specs.declared.waits.WaitSpot.TheVariants as wait
-use Rattle.mutator.specs.Commands.{command_roots, command_root, dst_of, index_of, stored_number, refs_of, nums_of, lacks_object, has_part}
+use Rattle.mutator.specs.Commands.{command_roots, command_root, dst_of, index_of, stored_number, refs_of, nums_of, lacks_object, has_part, fits_slot, pin_reply}
 use Rattle.mutator.specs.WaitRows.{call_says, after_enter, next_name, wait_place, wait_touch, wait_next, wait_made, wait_says}
 
 -- A mutator between two accesses: its number, how many objects it has made, what its call has kept, and where it stands.
@@ -90,6 +93,10 @@ abbrev pub show_place : ShowSpot → Place
 show_place show.LoadName = place.NM
 show_place (show.StoreRoot reply) = place.RS
 
+abbrev pub pin_place : PinSpot → Place
+pin_place pin.Look = place.PB
+pin_place pin.Store = place.PN
+
 abbrev pub make_place : MakeSpot → Place
 make_place (make.Taking take) = takes.place_at take
 make_place (make.StoreWord address done) = place.IW
@@ -121,6 +128,7 @@ place_at order (Showing value at) = show_place at
 place_at order (StoreRoot value) = place.RS
 place_at order (Making at) = make_place at
 place_at order AskCycle = place.AK
+place_at order (Pinning value at) = pin_place at
 place_at order (Waiting at) = wait_place at
 place_at order (Leave reply) = place.LV
 place_at order Gone = place.ML
@@ -152,6 +160,10 @@ abbrev pub show_touch : ℕ → ℕ → Command → ShowSpot → Touch
 show_touch seat value command show.LoadName = touch (Heap (value + 2)) loads
 show_touch seat value command (show.StoreRoot reply) = touch (Root seat (dst_of command)) (stores value)
 
+abbrev pub pin_touch : ℕ → ℕ → Command → PinSpot → Touch
+pin_touch seat value command pin.Look = touch (words.Pin seat (slot_of command)) loads
+pin_touch seat value command pin.Store = touch (words.Pin seat (slot_of command)) (stores value)
+
 abbrev pub make_touch : ℕ → ℕ → Command → MakeSpot → Touch
 make_touch seat made command (make.Taking take) = takes.touch_at seat (words_made command) take
 make_touch seat made command (make.StoreWord address done) = touch (Heap (address + done)) (stores (fresh_word seat made (refs_of command) (nums_of command) done))
@@ -178,6 +190,7 @@ touch_at c seat made kept order (Showing value at) = show_touch seat value kept.
 touch_at c seat made kept order (StoreRoot value) = touch (Root seat (dst_of kept.command)) (stores value)
 touch_at c seat made kept order (Making at) = make_touch seat made kept.command at
 touch_at c seat made kept order AskCycle = touch Ask (sets_bits 1)
+touch_at c seat made kept order (Pinning value at) = pin_touch seat value kept.command at
 touch_at c seat made kept order (Waiting at) = wait_touch seat made kept.command at
 touch_at c seat made kept order (Leave reply) = touch (State seat) (stores 0)
 touch_at c seat made kept order Gone = touch Left loads
@@ -190,11 +203,13 @@ abbrev pub first_spot : Command → Spot
 first_spot (New dst refs nums) = Making (make.Taking take_spot.LoadBuffer)
 first_spot (Drop dst) = StoreRoot 0
 first_spot Gc = AskCycle
+first_spot (Unpin slot) = Pinning 0 pin.Look
 first_spot command = Loading load.First
 
 -- where it goes on once all its roots were loaded
 abbrev pub after_roots : Command → ℕ → ℕ → ℕ → Spot
 after_roots (Copy dst src) first second third = StoreRoot first
+after_roots (Pin slot obj) first second third = Pinning first pin.Look
 after_roots (Same a b) first second third = Leave (yes_or_no (first == second))
 after_roots command first second third = Loading (load.Shape first second third)
 
@@ -318,6 +333,10 @@ abbrev pub show_next : ℕ → ShowSpot → ℕ → Spot
 show_next value show.LoadName got = Showing value (show.StoreRoot (reply.Ref (name_in got)))
 show_next value (show.StoreRoot reply) got = Leave reply
 
+abbrev pub pin_next : ℕ → Command → PinSpot → ℕ → Spot
+pin_next value command pin.Look got = if fits_slot command got then Pinning value pin.Store else Leave reply.Bad
+pin_next value command pin.Store got = Leave (pin_reply command value)
+
 abbrev pub make_next : Config → ℕ → ℕ → Command → MakeSpot → ℕ → Spot
 make_next c seat made command (make.Taking take) got = after_take (take_next c command take got)
 make_next c seat made command (make.StoreWord address done) got = after_word (words_made command) address (done + 1)
@@ -351,6 +370,7 @@ next_at c m order got (Showing value at) = record m { spot = show_next value at 
 next_at c m order got (StoreRoot value) = record m { spot = Leave reply.Ok }
 next_at c m order got (Making at) = record m { made = made_after m.made at; spot = make_next c m.seat m.made m.kept.command at got }
 next_at c m order got AskCycle = record m { spot = Leave reply.Ok }
+next_at c m order got (Pinning value at) = record m { spot = pin_next value m.kept.command at got }
 next_at c m order got (Waiting at) = record m { made = wait_made m.made at; spot = wait_next m.seat m.made at got }
 next_at c m order got (Leave reply) = record m { spot = Ended reply }
 next_at c m order got Gone = m

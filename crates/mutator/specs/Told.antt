@@ -1,14 +1,14 @@
 -- The entries that a mutator's steps fix: at which spot, for which words, the reply of its command is settled.
 use Rattle.std.specs.Prelude.{ℕ, ◌+◌, ◌==◌, Bool, ◌||◌, Option, Some, None, if◌then◌else◌}
-use Rattle.heap_words.specs.Words.{Word, Root, Heap}
+use Rattle.heap_words.specs.Words.{Word, Root, Heap, Pin}
 use Rattle.shen_graph.specs.declared.command.Command.{Command}
 use Rattle.shen_graph.specs.declared.command.Command.TheVariants.{Same}
 use Rattle.shen_graph.specs.declared.command.Reply.{Reply}
 use Rattle.shen_graph.specs.declared.command.Reply.TheVariants as reply
-use Rattle.shen_graph.specs.Step.{yes_or_no}
+use Rattle.shen_graph.specs.Step.{yes_or_no, slot_of}
 use Rattle.mutator.specs.declared.spot.Kept.{Kept}
 use Rattle.mutator.specs.declared.spot.Spot.{Spot}
-use Rattle.mutator.specs.declared.spot.Spot.TheVariants.{Loading, OnField, OnNumber, StoreRoot, Making, AskCycle, Waiting}
+use Rattle.mutator.specs.declared.spot.Spot.TheVariants.{Loading, OnField, OnNumber, StoreRoot, Making, AskCycle, Pinning, Waiting}
 use Rattle.mutator.specs.declared.loads.LoadSpot.{LoadSpot}
 use Rattle.mutator.specs.declared.loads.LoadSpot.TheVariants as load
 use Rattle.mutator.specs.declared.fields.FieldSpot.{FieldSpot}
@@ -16,8 +16,10 @@ use Rattle.mutator.specs.declared.fields.FieldSpot.TheVariants as fields
 use Rattle.mutator.specs.declared.numbers.NumberSpot.{NumberSpot}
 use Rattle.mutator.specs.declared.numbers.NumberSpot.TheVariants as number
 use Rattle.mutator.specs.declared.makes.MakeSpot.TheVariants as make
+use Rattle.mutator.specs.declared.pins.PinSpot.{PinSpot}
+use Rattle.mutator.specs.declared.pins.PinSpot.TheVariants as pin
 use Rattle.mutator.specs.declared.waits.WaitSpot.TheVariants as wait
-use Rattle.mutator.specs.Commands.{command_root, index_of, lacks_object, has_part}
+use Rattle.mutator.specs.Commands.{command_root, index_of, lacks_object, has_part, fits_slot, pin_reply}
 use Rattle.mutator.specs.WaitRows.{next_name}
 use Rattle.mutator.specs.Rows.{Mutating, name_in}
 
@@ -57,6 +59,10 @@ abbrev pub number_told : (Word → ℕ) → ℕ → ℕ → Command → NumberSp
 number_told memory object refs command number.Load = Some (reply.Number (memory (Heap (object + 3 + refs + index_of command))))
 number_told memory object refs command number.Store = Some reply.Ok
 
+abbrev pub pin_told : (Word → ℕ) → ℕ → ℕ → Command → PinSpot → Option Reply
+pin_told memory seat value command pin.Look = if fits_slot command (memory (Pin seat (slot_of command))) then None else Some reply.Bad
+pin_told memory seat value command pin.Store = Some (pin_reply command value)
+
 -- The reply that the access of a mutator settles, by its seat, how many objects it has made, what its call keeps, and the
 -- memory that it finds. That the heap is full is settled by the pause that says so.
 abbrev pub told_at : (Word → ℕ) → ℕ → ℕ → Kept → Spot → Option Reply
@@ -67,6 +73,7 @@ told_at memory seat made kept (StoreRoot value) = Some reply.Ok
 told_at memory seat made kept (Making (make.StoreRoot address)) = Some (reply.Ref (next_name seat made))
 told_at memory seat made kept (Waiting (wait.StoreRoot address)) = Some (reply.Ref (next_name seat made))
 told_at memory seat made kept AskCycle = Some reply.Ok
+told_at memory seat made kept (Pinning value at) = pin_told memory seat value kept.command at
 told_at memory seat made kept _ = None
 
 abbrev pub told_of : (Word → ℕ) → Mutating → Option Reply

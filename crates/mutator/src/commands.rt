@@ -1,4 +1,5 @@
 ghost use Rattle.std.specs.Prelude.{◌≡◌, length};
+ghost use Rattle.shen_graph.specs.Step.{slot_of};
 ghost use Rattle.mutator.specs.Commands as parts;
 
 use heap_words::{nums_of, refs_of};
@@ -9,8 +10,12 @@ pub(crate) fn root_count(command: Command) -> usize
     ensures { result ≡ length (parts.command_roots command) }
 {
     match command {
-        Command::New { .. } | Command::Drop { .. } | Command::Gc => 0,
-        Command::Get { .. } | Command::Rd { .. } | Command::Wr { .. } | Command::Copy { .. } => 1,
+        Command::New { .. } | Command::Drop { .. } | Command::Gc | Command::Unpin { .. } => 0,
+        Command::Get { .. }
+        | Command::Rd { .. }
+        | Command::Wr { .. }
+        | Command::Copy { .. }
+        | Command::Pin { .. } => 1,
         Command::Set { .. } | Command::Xchg { .. } | Command::Same { .. } => 2,
         Command::Cas { .. } => 3,
     }
@@ -26,9 +31,10 @@ pub(crate) fn first_root(command: Command) -> u32
         | Command::Cas { obj, .. }
         | Command::Xchg { obj, .. }
         | Command::Rd { obj, .. }
-        | Command::Wr { obj, .. } => obj,
+        | Command::Wr { obj, .. }
+        | Command::Pin { obj, .. } => obj,
         Command::Same { a, .. } => a,
-        Command::New { .. } | Command::Drop { .. } | Command::Gc => 0,
+        Command::New { .. } | Command::Drop { .. } | Command::Gc | Command::Unpin { .. } => 0,
     }
 }
 
@@ -113,8 +119,29 @@ pub(crate) fn is_on_object(command: Command) -> bool
         | Command::Cas { .. }
         | Command::Xchg { .. }
         | Command::Rd { .. }
-        | Command::Wr { .. } => true,
+        | Command::Wr { .. }
+        | Command::Pin { .. } => true,
         _ => false,
+    }
+}
+
+/// The pin slot that a command is about, if it is about one.
+pub(crate) fn slot_of(command: Command) -> u32
+    ensures { result ≡ slot_of command }
+{
+    match command {
+        Command::Pin { slot, .. } | Command::Unpin { slot } => slot,
+        _ => 0,
+    }
+}
+
+/// Whether a command goes on that has found this word in its pin slot: a Pin where it is empty, an Unpin where not.
+pub(crate) fn fits_slot(command: Command, found: u64) -> bool
+    ensures { result ≡ parts.fits_slot command found }
+{
+    match command {
+        Command::Pin { .. } => found == 0,
+        _ => found != 0,
     }
 }
 

@@ -7,6 +7,7 @@ use crate::commands::{first_root, has_part, is_on_object, root_count, second_roo
 use crate::fields::FieldSpot;
 use crate::makes::MakeSpot;
 use crate::numbers::NumberSpot;
+use crate::pins::PinSpot;
 use crate::spot::Spot;
 use alloc_buffers::TakeSpot;
 use heap_words::{Access, Config, Place, refs_of};
@@ -103,6 +104,10 @@ pub(crate) fn first_spot(command: Command) -> Spot
         },
         Command::Drop { .. } => Spot::StoreRoot { value: 0 },
         Command::Gc => Spot::AskCycle,
+        Command::Unpin { .. } => Spot::Pinning {
+            value: 0,
+            at: PinSpot::Look,
+        },
         _ => Spot::Loading {
             at: LoadSpot::First,
         },
@@ -144,6 +149,10 @@ fn after_roots(command: Command, first: u64, second: u64, third: u64) -> Spot
 {
     match command {
         Command::Copy { .. } => Spot::StoreRoot { value: first },
+        Command::Pin { .. } => Spot::Pinning {
+            value: first,
+            at: PinSpot::Look,
+        },
         Command::Same { .. } => {
             let reply = if first == second {
                 Reply::Yes

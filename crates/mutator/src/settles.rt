@@ -4,10 +4,11 @@ ghost use Rattle.heap_words.specs.Words.{table_words, view};
 ghost use Rattle.mutator.specs.Rows as rows;
 ghost use Rattle.mutator.specs.Told as told;
 
-use crate::commands::{has_part, is_on_object};
+use crate::commands::{fits_slot, has_part, is_on_object};
 use crate::fields::FieldSpot;
 use crate::loads::LoadSpot;
 use crate::numbers::NumberSpot;
+use crate::pins::{PinSpot, pin_reply};
 use crate::shows::name_in;
 use heap_words::Config;
 use shen_graph::{Command, Reply};
@@ -132,6 +133,16 @@ pub(crate) fn number_settles(at: NumberSpot, found: u64) -> Reply
     match at {
         NumberSpot::Load => Reply::Number(found),
         NumberSpot::Store => Reply::Ok,
+    }
+}
+
+/// What is settled where a call works on the pin slot of its command, and finds this word there.
+pub(crate) fn pin_settles(value: u64, command: Command, at: PinSpot, found: u64) -> Option<Reply>
+    ensures { result ≡ told.pin_told (λ _. found) 0 value command at }
+{
+    match at {
+        PinSpot::Look => bad_if(!fits_slot(command, found)),
+        PinSpot::Store => Some(pin_reply(command, value)),
     }
 }
 

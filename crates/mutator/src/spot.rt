@@ -7,6 +7,7 @@ use crate::loads::LoadSpot;
 use crate::makes::MakeSpot;
 use crate::numbers::NumberSpot;
 use crate::overwrites::Overwritten;
+use crate::pins::PinSpot;
 use crate::resolves::Loaded;
 use crate::shows::ShowSpot;
 use crate::waits::WaitSpot;
@@ -143,6 +144,13 @@ pub enum Spot {
     },
     /// It asks for a cycle.
     AskCycle,
+    /// It works on the command's pin slot.
+    Pinning {
+        /// The reference that is to be stored there.
+        value: u64,
+        /// What it does to the slot.
+        at: PinSpot,
+    },
     /// It waits for an object that a pause makes, which the command's root names then.
     Waiting {
         /// Where the waiting stands.
@@ -177,6 +185,7 @@ impl Spot {
             Spot::StoreRoot { .. } => Place::RS,
             Spot::Making { at } => at.place(),
             Spot::AskCycle => Place::AK,
+            Spot::Pinning { at, .. } => at.place(),
             Spot::Waiting { at } => at.place(),
             Spot::Leave { .. } => Place::LV,
             Spot::Gone => Place::ML,

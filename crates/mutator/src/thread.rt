@@ -8,7 +8,7 @@ use crate::commands::dst_of;
 use crate::loads::first_spot;
 use crate::makes::{MakeSpot, next_name};
 use crate::resolves::Loaded;
-use crate::settles::{field_settles, load_settles, number_settles};
+use crate::settles::{field_settles, load_settles, number_settles, pin_settles};
 use crate::spot::{Entered, Kept, Spot, call_says};
 use crate::waits::WaitSpot;
 use handshake::{EnterSpot, leave_access};
@@ -158,6 +158,7 @@ impl Mutator {
             }
             Spot::OnNumber { at, .. } => Some(number_settles(at, self.found(words))),
             Spot::StoreRoot { .. } | Spot::AskCycle => Some(Reply::Ok),
+            Spot::Pinning { value, at } => pin_settles(value, command, at, self.found(words)),
             Spot::Making {
                 at: MakeSpot::StoreRoot { .. },
             }
@@ -225,6 +226,7 @@ impl Mutator {
                 at: config.ask_at(),
                 value: 1,
             },
+            Spot::Pinning { value, at } => at.access(config, seat, value, command),
             Spot::Waiting { at } => at.access(config, seat, self.made, command),
             Spot::Leave { .. } => leave_access(config, seat),
             Spot::Gone => unreachable!(),
@@ -310,6 +312,7 @@ impl Mutator {
             Spot::OnNumber { at, .. } => self.spot = at.after(got),
             Spot::Showing { value, at } => self.spot = at.after(value, got),
             Spot::StoreRoot { .. } | Spot::AskCycle => self.spot = Spot::Leave { reply: Reply::Ok },
+            Spot::Pinning { value, at } => self.spot = at.after(value, self.kept.command, got),
             Spot::Making { at } => return self.make(at, got),
             Spot::Waiting { at } => return self.wait(at, got),
             Spot::Leave { reply } => {

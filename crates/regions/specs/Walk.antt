@@ -18,6 +18,13 @@ stride header shape = if is_filler header then header / 4 else object_words shap
 abbrev pub stride_at : (ℕ → ℕ) → ℕ → ℕ
 stride_at heap address = stride (heap address) (heap (address + 1))
 
+-- Objects, and words that only fill, stand one after another from an address on: how far behind it the one begins that has the word at a
+-- distance.
+unfoldable pub start_of : (heap : ℕ → ℕ) (base : ℕ) → ℕ → ℕ
+start_of heap base zero = 0
+start_of heap base (suc k) =
+    if start_of heap base k + stride_at heap (base + start_of heap base k) == suc k then suc k else start_of heap base k
+
 -- From one address one comes to the end, and the list has the addresses met, in order. Each step goes on.
 abbrev pub Walks : (ℕ → ℕ) → ℕ → ℕ → List ℕ → Type 0
 Walks words from end [] = from ≡ end

@@ -7,3 +7,5 @@ pub mod Noted
 pub mod Parts
 pub mod RowLemmas
 pub mod Distinct
+pub mod PinLemmas
+pub mod Outcomes

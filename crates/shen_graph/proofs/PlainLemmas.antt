@@ -9,11 +9,12 @@ use Rattle.std.proofs.lemmas.List.Quantifiers.{position-Some}
 use Rattle.std.proofs.lemmas.Option.{slice_get_within}
 use Rattle.std.proofs.lemmas.Iterator.Adapters.{position_from-zero}
 use Rattle.shen_graph.specs.declared.name.Name.{Name}
-use Rattle.shen_graph.specs.Graph.{Graph, Object, Reference, same_name, named, field_at, number_at, with_root, with_named, with_field, with_number, with_fresh, blank, hub, opening}
+use Rattle.shen_graph.specs.declared.pin.Pinned.{Pinned}
+use Rattle.shen_graph.specs.Graph.{Graph, Object, Reference, same_name, named, field_at, number_at, with_root, with_named, with_field, with_number, with_fresh, with_pin, blank, hub, opening}
 use Rattle.shen_graph.specs.GraphText.{Row, Text, row_in, with_row, with_whole_row}
 use Rattle.shen_graph.specs.Reach.{size}
 use Rattle.shen_graph.proofs.OrderLemmas.{same_name-flip, same_name-Decides}
-use Rattle.shen_graph.specs.PlainGraph.{Plain, object_in, root_in, graph_of, place_of}
+use Rattle.shen_graph.specs.PlainGraph.{Plain, object_in, root_in, pin_in, graph_of, place_of}
 
 pub fun_ext : {A B : Type 0} (f g : A → B) → ((x : A) → f x ≡ g x) → f ≡ g
 fun_ext f g h = λ i x. h x i
@@ -86,6 +87,10 @@ pub root-graph_of : (p : Plain) (thread root : ℕ) → (graph_of p).root thread
 unfolding graph_of
 root-graph_of p thread root = refl
 
+pub pin-graph_of : (p : Plain) (thread slot : ℕ) → (graph_of p).pin thread slot ≡ pin_in p.pins thread slot
+unfolding graph_of
+pin-graph_of p thread slot = refl
+
 pub count-graph_of : (p : Plain) (thread : ℕ) → (graph_of p).count thread ≡ slice_index p.counts thread
 unfolding graph_of
 count-graph_of p thread = refl
@@ -151,13 +156,30 @@ unfolding graph_of
 graph_of-with_root p thread root value row in_threads is in_roots =
     let same : root_in (set p.roots thread (set row root value)) ≡ (λ t r. if (t == thread) && (r == root) then value else root_in p.roots t r) =
     fun_ext _ _ (λ t. fun_ext _ _ (λ r. at t r)) in
-    λ i. record { object = object_in p.rows; root = same i; count = slice_index p.counts }
+    λ i. record { object = object_in p.rows; root = same i; count = slice_index p.counts; pin = pin_in p.pins }
   where
     at : (t r : ℕ) → root_in (set p.roots thread (set row root value)) t r ≡ (if (t == thread) && (r == root) then value else root_in p.roots t r)
     at t r =
         rw (get_or-set p.roots thread t (set row root value) [] in_threads)
         (elim (eqb_tells t thread) [
           | inl w ↦ rw (w.0, w.1, ← is) (get_or-set row root r value None in_roots)
+          | inr w ↦ rw w.0 refl
+        ])
+
+-- a pin slot holds another
+pub graph_of-with_pin : (p : Plain) (thread slot : ℕ) (held : Option Pinned) (row : List (Option Pinned)) → thread < length p.pins → row ≡ get_or p.pins thread [] → slot < length row
+    → graph_of (record p { pins = set p.pins thread (set row slot held) }) ≡ with_pin (graph_of p) thread slot held
+unfolding graph_of
+graph_of-with_pin p thread slot held row in_threads is in_slots =
+    let same : pin_in (set p.pins thread (set row slot held)) ≡ (λ t s. if (t == thread) && (s == slot) then held else pin_in p.pins t s) =
+    fun_ext _ _ (λ t. fun_ext _ _ (λ s. at t s)) in
+    λ i. record { object = object_in p.rows; root = root_in p.roots; count = slice_index p.counts; pin = same i }
+  where
+    at : (t s : ℕ) → pin_in (set p.pins thread (set row slot held)) t s ≡ (if (t == thread) && (s == slot) then held else pin_in p.pins t s)
+    at t s =
+        rw (get_or-set p.pins thread t (set row slot held) [] in_threads)
+        (elim (eqb_tells t thread) [
+          | inl w ↦ rw (w.0, w.1, ← is) (get_or-set row slot s held None in_slots)
           | inr w ↦ rw w.0 refl
         ])
 
@@ -174,12 +196,13 @@ graph_of-with_object p thread root k o =
             (λ q. object_in-set p.rows n k o q (IsFirst-position p.rows n k found)) i;
         root = root_in p.roots;
         count = slice_index p.counts;
+        pin = pin_in p.pins;
       }
     ]
 
 -- an object more
 pub graph_of-with_fresh : (p : Plain) (thread refs nums : ℕ) → thread < length p.counts
-    → graph_of (record { rows = record { name = record { thread = thread; count = slice_index p.counts thread + 1 }; refs = replicate refs None; nums = replicate nums 0 } ∷ p.rows; roots = p.roots; counts = set p.counts thread (slice_index p.counts thread + 1) })
+    → graph_of (record { rows = record { name = record { thread = thread; count = slice_index p.counts thread + 1 }; refs = replicate refs None; nums = replicate nums 0 } ∷ p.rows; roots = p.roots; counts = set p.counts thread (slice_index p.counts thread + 1); pins = p.pins })
     ≡ with_fresh (graph_of p) thread (blank refs nums)
 unfolding graph_of
 graph_of-with_fresh p thread refs nums within =
@@ -187,6 +210,7 @@ graph_of-with_fresh p thread refs nums within =
       object = (with_fresh (graph_of p) thread (blank refs nums)).object;
       root = root_in p.roots;
       count = fun_ext (slice_index (set p.counts thread (slice_index p.counts thread + 1))) (λ t. if t == thread then slice_index p.counts t + 1 else slice_index p.counts t) (λ t. at t) i;
+      pin = pin_in p.pins;
     }
   where
     at : (t : ℕ) → slice_index (set p.counts thread (slice_index p.counts thread + 1)) t ≡ (if t == thread then slice_index p.counts t + 1 else slice_index p.counts t)
@@ -255,16 +279,28 @@ null_at n k a =
 abbrev pub first_roots : List Reference
 first_roots = Some hub ∷ replicate 15 None
 
+-- four empty pin slots
+abbrev pub no_pins : List (Option Pinned)
+no_pins = replicate 4 None
+
 pub graph_of-opening : (threads : ℕ) →
-    graph_of (record { rows = record { name = hub; refs = replicate 16 None; nums = [] } ∷ []; roots = replicate 16 None ∷ replicate threads first_roots; counts = replicate (threads + 1) 0 }) ≡ opening threads
+    graph_of (record { rows = record { name = hub; refs = replicate 16 None; nums = [] } ∷ []; roots = replicate 16 None ∷ replicate threads first_roots; counts = replicate (threads + 1) 0; pins = replicate (threads + 1) no_pins }) ≡ opening threads
 unfolding graph_of
 graph_of-opening threads =
     λ i. record {
       object = (opening threads).object;
       root = fun_ext (root_in (replicate 16 None ∷ replicate threads first_roots)) (opening threads).root (λ t. fun_ext (root_in (replicate 16 None ∷ replicate threads first_roots) t) ((opening threads).root t) (λ r. at t r)) i;
       count = fun_ext (slice_index (replicate (threads + 1) 0)) (λ _. 0) (λ t. null_at (threads + 1) t 0) i;
+      pin = fun_ext (pin_in (replicate (threads + 1) no_pins)) (opening threads).pin (λ t. fun_ext (pin_in (replicate (threads + 1) no_pins) t) ((opening threads).pin t) (λ s. empty_at t s)) i;
     }
   where
+    empty_at : (t s : ℕ) → pin_in (replicate (threads + 1) no_pins) t s ≡ None
+    empty_at t s =
+        elim (cases_lt t (threads + 1)) [
+          | inl within ↦ rw (get_or-replicate (threads + 1) t no_pins [] within) (null_at 4 s None)
+          | inr past ↦ rw (get_or_past (replicate (threads + 1) no_pins) t [] (omega (arith, length-replicate (threads + 1) no_pins))) refl
+        ]
+
     of_first : (r : ℕ) → get_or first_roots r None ≡ (if r == 0 then Some hub else None)
     of_first zero = refl
     of_first (suc r) = rw (ne_eqb (suc r) 0 (λ (no : suc r ≡ 0). omega arith)) (null_at 15 r None)

@@ -1,5 +1,5 @@
 -- The search for the names that can be reached.
-use Rattle.std.proofs.Common.{ℕ, zero, suc, ◌≡◌, ◌+◌, ◌<◌, ◌≤◌, ◌⊎◌, Bool, true, false, List, [], ◌∷◌, ◌++◌, length, get_or, Some, None, refl, sym, ap, ◌∙◌, arith, inl, inr, append_assoc, length-append}
+use Rattle.std.proofs.Common.{ℕ, zero, suc, ◌≡◌, ◌+◌, ◌<◌, ◌≤◌, ◌⊎◌, Bool, true, false, List, [], ◌∷◌, ◌++◌, map, length, get_or, Option, Some, None, subst, refl, sym, ap, ◌∙◌, arith, inl, inr, append_assoc, length-append}
 use Rattle.std.specs.Prelude.{slice_get, unwrap_or, Contains, if◌then◌else◌}
 use Rattle.std.specs.Cmp.{IsEquivalence}
 use Rattle.std.specs.List.{list_any, flat_map, filter_map, IsDistinct}
@@ -11,14 +11,16 @@ use Rattle.std.proofs.lemmas.Map.Made.{length-le_from_is_member}
 use Rattle.std.proofs.lemmas.Map.Views.{Contains-from_any, list_any-from_Contains}
 use Rattle.std.proofs.lemmas.Option.{slice_get_within, slice_get-get_or, get_or_from_slice_get, none-some}
 use Rattle.shen_graph.specs.declared.name.Name.{Name}
+use Rattle.shen_graph.specs.declared.pin.Pinned.{Pinned}
 use Rattle.shen_graph.specs.Graph.{Reference, same_name, named}
 use Rattle.shen_graph.specs.GraphText.{Row}
 use Rattle.shen_graph.specs.Reach.{IsReachable}
-use Rattle.shen_graph.specs.Reach.IsReachable.{from_root, from_field}
-use Rattle.shen_graph.specs.PlainGraph.{Plain, object_in, root_in, graph_of}
+use Rattle.shen_graph.specs.Reach.IsReachable.{from_root, from_pin, from_field}
+use Rattle.shen_graph.specs.Step.{name_in}
+use Rattle.shen_graph.specs.PlainGraph.{Plain, object_in, graph_of}
 use Rattle.shen_graph.specs.Found.{with_name, with_names}
 use Rattle.shen_graph.proofs.OrderLemmas.{same_name-flip}
-use Rattle.shen_graph.proofs.PlainLemmas.{same_name-true, same_name-itself, root-graph_of}
+use Rattle.shen_graph.proofs.PlainLemmas.{same_name-true, same_name-itself, root-graph_of, pin-graph_of}
 
 pub same_name-laws : IsEquivalence same_name
 same_name-laws = record {
@@ -139,9 +141,21 @@ pub with_names-distinct : (xs : List Name) (refs : List Reference) → IsDistinc
 with_names-distinct xs [] distinct = distinct
 with_names-distinct xs (r ∷ refs) distinct = with_names-distinct (with_name xs r) refs (with_name-distinct xs r distinct)
 
+-- names are added in one go or in two
+pub with_names-append : (xs : List Name) (refs more : List Reference) → with_names (with_names xs refs) more ≡ with_names xs (refs ++ more)
+with_names-append xs [] more = refl
+with_names-append xs (r ∷ refs) more = with_names-append (with_name xs r) refs more
+
+-- where a search begins: with roots and what pin slots hold
+abbrev pub held_in_slots : Plain → List (Option Pinned)
+held_in_slots p = flat_map (λ row. row) p.pins
+
+abbrev pub starts_of : Plain → List Reference
+starts_of p = flat_map (λ row. row) p.roots ++ map name_in (held_in_slots p)
+
 -- every reference that the graph has
 abbrev pub references_of : Plain → List Reference
-references_of p = flat_map (λ row. row) p.roots ++ flat_map (λ r. r.refs) p.rows
+references_of p = starts_of p ++ flat_map (λ r. r.refs) p.rows
 
 -- no search finds more names than these
 abbrev pub names_of : Plain → List Name
@@ -151,6 +165,7 @@ names_of p = names_held (references_of p)
 pub record IsSearched (p : Plain) (found : List Name) (next : ℕ) : Type 0 where
   pub reached : (n : Name) → Contains found n → IsReachable (graph_of p) n
   pub roots : (thread root : ℕ) (n : Name) → (graph_of p).root thread root ≡ Some n → Contains found n
+  pub pins : (thread slot : ℕ) (held : Pinned) → (graph_of p).pin thread slot ≡ Some held → Contains found held.name
   pub fields : (k : ℕ) (m : Name) → k < next → get_or found k m ≡ m → (field : ℕ) (n : Name) → slice_get (named (graph_of p) (Some m)).refs field ≡ Some (Some n) → Contains found n
   pub distinct : IsDistinct same_name found
   pub known : (n : Name) → Contains found n → Contains (names_of p) n
@@ -172,40 +187,81 @@ object_in-refs (x ∷ rows) n r there =
 named-refs : (p : Plain) (m n : Name) → Contains (named (graph_of p) (Some m)).refs (Some n) → Contains (names_of p) n
 named-refs p m n there =
     Contains-names_held (references_of p) n
-    (Contains-append_right (flat_map (λ row. row) p.roots) (flat_map (λ (r : Row). r.refs) p.rows) (Some n)
+    (Contains-append_right (starts_of p) (flat_map (λ (r : Row). r.refs) p.rows) (Some n)
     (object_in-refs p.rows m (Some n) (rw (object-graph_of p m) at there)))
 
--- a root, by its place in the rows of roots
-root_in-Contains : (roots : List (List Reference)) (thread root : ℕ) (n : Name) → root_in roots thread root ≡ Some n → Contains (flat_map (λ row. row) roots) (Some n)
-root_in-Contains roots thread root n is =
-    elim (cases_lt thread (length roots)) [
-      | inl in_roots ↦ elim (cases_lt root (length (get_or roots thread []))) [
-        | inl in_row ↦ Contains-flat_map (λ row. row) roots thread [] (Some n) in_roots (root, in_row, get_or_default (get_or roots thread []) root (Some n) None in_row ∙ is)
-        | inr past ↦ absurd (none-some n (sym (get_or_past (get_or roots thread []) root None past) ∙ is))
+-- a root or a pin slot, by its place in the rows
+placed-Contains : {A : Type 0} (rows : List (List (Option A))) (thread k : ℕ) (x : A) → get_or (get_or rows thread []) k None ≡ Some x → Contains (flat_map (λ row. row) rows) (Some x)
+placed-Contains rows thread k x is =
+    elim (cases_lt thread (length rows)) [
+      | inl in_rows ↦ elim (cases_lt k (length (get_or rows thread []))) [
+        | inl in_row ↦ Contains-flat_map (λ row. row) rows thread [] (Some x) in_rows (k, in_row, get_or_default (get_or rows thread []) k (Some x) None in_row ∙ is)
+        | inr past ↦ absurd (none-some x (sym (get_or_past (get_or rows thread []) k None past) ∙ is))
       ]
-      | inr past ↦ absurd (none-some n (sym (ap (λ (row : List Reference). get_or row root None) (get_or_past roots thread [] past)) ∙ is))
+      | inr past ↦ absurd (none-some x (sym (ap (λ row. get_or row k None) (get_or_past rows thread [] past)) ∙ is))
+    ]
+
+-- a row and a place in it, of a root or a pin slot that is in the rows
+Contains-placed : {A : Type 0} (rows : List (List (Option A))) (x : A) → Contains (flat_map (λ row. row) rows) (Some x) → (thread : ℕ) × (k : ℕ) × (get_or (get_or rows thread []) k None ≡ Some x)
+Contains-placed rows x there =
+    let row = Contains-from_flat_map (λ row. row) rows [] (Some x) there in
+    let place = row.2 in
+    (row.0, place.0, get_or_default (get_or rows row.0 []) place.0 None (Some x) place.1 ∙ place.2)
+
+-- the names of what slots hold
+Contains-names_in : (slots : List (Option Pinned)) (held : Pinned) → Contains slots (Some held) → Contains (map name_in slots) (Some held.name)
+Contains-names_in [] held there = absurd (Contains-nil (Some held) there)
+Contains-names_in (slot ∷ slots) held there =
+    elim (Contains-cons_cases slot slots (Some held) there) [
+      | inl is ↦ (0, omega arith, ap name_in is)
+      | inr later ↦ Contains-append_right (name_in slot ∷ []) (map name_in slots) (Some held.name) (Contains-names_in slots held later)
+    ]
+
+Contains-from_names_in : (slots : List (Option Pinned)) (n : Name) → Contains (map name_in slots) (Some n) → (held : Pinned) × Contains slots (Some held) × (held.name ≡ n)
+Contains-from_names_in [] n there = absurd (Contains-nil (Some n) there)
+Contains-from_names_in (None ∷ slots) n there =
+    elim (Contains-cons_cases None (map name_in slots) (Some n) there) [
+      | inl never ↦ cc
+      | inr later ↦ let w = Contains-from_names_in slots n later in (w.0, Contains-append_right (None ∷ []) slots (Some w.0) w.1, w.2)
+    ]
+Contains-from_names_in (Some held ∷ slots) n there =
+    elim (Contains-cons_cases (Some held.name) (map name_in slots) (Some n) there) [
+      | inl is ↦ let same : held.name ≡ n = cc in (held, (0, omega arith, refl), same)
+      | inr later ↦ let w = Contains-from_names_in slots n later in (w.0, Contains-append_right (Some held ∷ []) slots (Some w.0) w.1, w.2)
+    ]
+
+-- a name that a search begins with
+starts-reached : (p : Plain) (n : Name) → Contains (starts_of p) (Some n) → IsReachable (graph_of p) n
+starts-reached p n there =
+    elim (Contains-append_cases (flat_map (λ row. row) p.roots) (map name_in (held_in_slots p)) (Some n) there) [
+      | inl root ↦ let place = Contains-placed p.roots n root in from_root place.0 place.1 n (root-graph_of p place.0 place.1 ∙ place.2)
+      | inr slot ↦
+          let held = Contains-from_names_in (held_in_slots p) n slot in
+          let place = Contains-placed p.pins held.0 held.1 in
+          subst (IsReachable (graph_of p)) held.2 (from_pin place.0 place.1 held.0 (pin-graph_of p place.0 place.1 ∙ place.2))
     ]
 
 none_distinct : IsDistinct same_name []
 unfolding IsDistinct
 none_distinct = tt
 
--- the search begins with the roots
-pub IsSearched-roots : (p : Plain) → IsSearched p (with_names [] (flat_map (λ row. row) p.roots)) 0
-IsSearched-roots p = record {
-  reached = λ n there. elim (with_names-only [] (flat_map (λ row. row) p.roots) n there) [
+-- the search begins with the roots and what pin slots hold
+pub IsSearched-starts : (p : Plain) → IsSearched p (with_names [] (starts_of p)) 0
+IsSearched-starts p = record {
+  reached = λ n there. elim (with_names-only [] (starts_of p) n there) [
     | inl never ↦ absurd (Contains-nil n never)
-    | inr held ↦
-        let row = Contains-from_flat_map (λ row. row) p.roots [] (Some n) held in
-        let place = row.2 in
-        from_root row.0 place.0 n (root-graph_of p row.0 place.0 ∙ get_or_default (get_or p.roots row.0 []) place.0 None (Some n) place.1 ∙ place.2)
+    | inr held ↦ starts-reached p n held
   ];
-  roots = λ thread root n is. with_names-has [] (flat_map (λ row. row) p.roots) n (root_in-Contains p.roots thread root n (sym (root-graph_of p thread root) ∙ is));
+  roots = λ thread root n is. with_names-has [] (starts_of p) n
+      (Contains-append_left (flat_map (λ row. row) p.roots) (map name_in (held_in_slots p)) (Some n) (placed-Contains p.roots thread root n (sym (root-graph_of p thread root) ∙ is)));
+  pins = λ thread slot held is. with_names-has [] (starts_of p) held.name
+      (Contains-append_right (flat_map (λ row. row) p.roots) (map name_in (held_in_slots p)) (Some held.name)
+      (Contains-names_in (held_in_slots p) held (placed-Contains p.pins thread slot held (sym (pin-graph_of p thread slot) ∙ is))));
   fields = λ k m below at field n is. absurd (omega arith);
-  distinct = with_names-distinct [] (flat_map (λ row. row) p.roots) none_distinct;
-  known = λ n there. elim (with_names-only [] (flat_map (λ row. row) p.roots) n there) [
+  distinct = with_names-distinct [] (starts_of p) none_distinct;
+  known = λ n there. elim (with_names-only [] (starts_of p) n there) [
     | inl never ↦ absurd (Contains-nil n never)
-    | inr held ↦ Contains-names_held (references_of p) n (Contains-append_left (flat_map (λ row. row) p.roots) (flat_map (λ (r : Row). r.refs) p.rows) (Some n) held)
+    | inr held ↦ Contains-names_held (references_of p) n (Contains-append_left (starts_of p) (flat_map (λ (r : Row). r.refs) p.rows) (Some n) held)
   ];
   within = omega arith;
 }
@@ -222,6 +278,7 @@ IsSearched-more p found next m s within is =
         | inr held ↦ let f = slice_get-from_Contains refs (Some n) held in from_field m n f.0 (s.reached m (next, within, sym is)) f.1
       ];
       roots = λ thread root n h. with_names-keeps found refs n (s.roots thread root n h);
+      pins = λ thread slot held h. with_names-keeps found refs held.name (s.pins thread slot held h);
       fields = fields;
       distinct = with_names-distinct found refs s.distinct;
       known = λ n there. elim (with_names-only found refs n there) [ inl before ↦ s.known n before | inr held ↦ named-refs p m n held ];
@@ -251,6 +308,7 @@ IsSearched-bound p found next s =
 -- where all names were followed, those that can be reached were found
 pub IsSearched-all : (p : Plain) (found : List Name) (next : ℕ) → IsSearched p found next → length found ≤ next → (n : Name) → IsReachable (graph_of p) n → Contains found n
 IsSearched-all p found next s done _ (from_root thread root n is) = s.roots thread root n is
+IsSearched-all p found next s done _ (from_pin thread slot held is) = s.pins thread slot held is
 IsSearched-all p found next s done _ (from_field m n field reached is) =
     let there = IsSearched-all p found next s done m reached in
     s.fields there.0 m (omega (arith, there.1)) there.2 field n is

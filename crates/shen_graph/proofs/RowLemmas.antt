@@ -4,7 +4,8 @@ use Rattle.std.proofs.lemmas.List.{append_assoc, append-nil}
 use Rattle.shen_graph.specs.declared.name.Name.{Name}
 use Rattle.shen_graph.specs.Graph.{Graph, Reference}
 use Rattle.shen_graph.specs.Reach.{IsReach}
-use Rattle.shen_graph.specs.GraphText.{Text, Row, change_last, add_reference, add_number, with_row, with_reference, with_number, with_references, with_numbers, with_whole_row, names_of, root_of, row_in, IsTextOf}
+use Rattle.shen_graph.specs.GraphText.{Text, Row, change_last, add_reference, add_number, with_row, with_reference, with_number, with_references, with_numbers, with_whole_row, names_of, root_of, pin_of, row_in, IsTextOf}
+use Rattle.shen_graph.specs.Step.{name_in}
 
 pub length-change_last : {A : Type 0} (f : A → A) (xs : List A) → length (change_last f xs) ≡ length xs
 length-change_last f [] = refl
@@ -25,8 +26,8 @@ with_numbers-push t [] x = refl
 with_numbers-push t (y ∷ xs) x = with_numbers-push (with_number t y) xs x
 
 -- a text whose last row is known
-abbrev pub ending : List Row → List (List Reference) → ℕ → ℕ → Row → Text
-ending rows roots room spare r = record { rows = rows ++ r ∷ []; roots = roots; spare = spare; room = room }
+abbrev pub ending : List Row → List (List Reference) → List (List Reference) → ℕ → ℕ → Row → Text
+ending rows roots pins room spare r = record { rows = rows ++ r ∷ []; roots = roots; pins = pins; spare = spare; room = room }
 
 all : (a : ℕ) → a ≡ a - 0
 all a = omega arith
@@ -34,31 +35,31 @@ all a = omega arith
 less : (a n : ℕ) → a - 1 - n ≡ a - suc n
 less a n = omega arith
 
-with_references-ending : (rs : List Reference) (rows : List Row) (roots : List (List Reference)) (room spare : ℕ) (r : Row)
-    → with_references (ending rows roots room spare r) rs
-    ≡ ending rows roots room (spare - length rs) (record r { refs = r.refs ++ rs })
-with_references-ending [] rows roots room spare r =
-    ap (λ qs. ending rows roots room spare (record r { refs = qs })) (sym (append-nil r.refs))
-    ∙ ap (λ n. ending rows roots room n (record r { refs = r.refs ++ [] })) (all spare)
-with_references-ending (q ∷ rs) rows roots room spare r =
-    ap (λ us. with_references (record { rows = us; roots = roots; spare = spare - 1; room = room }) rs)
+with_references-ending : (rs : List Reference) (rows : List Row) (roots pins : List (List Reference)) (room spare : ℕ) (r : Row)
+    → with_references (ending rows roots pins room spare r) rs
+    ≡ ending rows roots pins room (spare - length rs) (record r { refs = r.refs ++ rs })
+with_references-ending [] rows roots pins room spare r =
+    ap (λ qs. ending rows roots pins room spare (record r { refs = qs })) (sym (append-nil r.refs))
+    ∙ ap (λ n. ending rows roots pins room n (record r { refs = r.refs ++ [] })) (all spare)
+with_references-ending (q ∷ rs) rows roots pins room spare r =
+    ap (λ us. with_references (record { rows = us; roots = roots; pins = pins; spare = spare - 1; room = room }) rs)
     (change_last-push (add_reference q) rows r)
-    ∙ with_references-ending rs rows roots room (spare - 1) (add_reference q r)
-    ∙ ap (λ n. ending rows roots room n (record r { refs = r.refs ++ q ∷ [] ++ rs })) (less spare (length rs))
-    ∙ ap (λ qs. ending rows roots room (spare - length (q ∷ rs)) (record r { refs = qs })) (append_assoc r.refs (q ∷ []) rs)
+    ∙ with_references-ending rs rows roots pins room (spare - 1) (add_reference q r)
+    ∙ ap (λ n. ending rows roots pins room n (record r { refs = r.refs ++ q ∷ [] ++ rs })) (less spare (length rs))
+    ∙ ap (λ qs. ending rows roots pins room (spare - length (q ∷ rs)) (record r { refs = qs })) (append_assoc r.refs (q ∷ []) rs)
 
-with_numbers-ending : (xs : List ℕ) (rows : List Row) (roots : List (List Reference)) (room spare : ℕ) (r : Row)
-    → with_numbers (ending rows roots room spare r) xs
-    ≡ ending rows roots room (spare - length xs) (record r { nums = r.nums ++ xs })
-with_numbers-ending [] rows roots room spare r =
-    ap (λ ys. ending rows roots room spare (record r { nums = ys })) (sym (append-nil r.nums))
-    ∙ ap (λ n. ending rows roots room n (record r { nums = r.nums ++ [] })) (all spare)
-with_numbers-ending (x ∷ xs) rows roots room spare r =
-    ap (λ us. with_numbers (record { rows = us; roots = roots; spare = spare - 1; room = room }) xs)
+with_numbers-ending : (xs : List ℕ) (rows : List Row) (roots pins : List (List Reference)) (room spare : ℕ) (r : Row)
+    → with_numbers (ending rows roots pins room spare r) xs
+    ≡ ending rows roots pins room (spare - length xs) (record r { nums = r.nums ++ xs })
+with_numbers-ending [] rows roots pins room spare r =
+    ap (λ ys. ending rows roots pins room spare (record r { nums = ys })) (sym (append-nil r.nums))
+    ∙ ap (λ n. ending rows roots pins room n (record r { nums = r.nums ++ [] })) (all spare)
+with_numbers-ending (x ∷ xs) rows roots pins room spare r =
+    ap (λ us. with_numbers (record { rows = us; roots = roots; pins = pins; spare = spare - 1; room = room }) xs)
     (change_last-push (add_number x) rows r)
-    ∙ with_numbers-ending xs rows roots room (spare - 1) (add_number x r)
-    ∙ ap (λ n. ending rows roots room n (record r { nums = r.nums ++ x ∷ [] ++ xs })) (less spare (length xs))
-    ∙ ap (λ ys. ending rows roots room (spare - length (x ∷ xs)) (record r { nums = ys })) (append_assoc r.nums (x ∷ []) xs)
+    ∙ with_numbers-ending xs rows roots pins room (spare - 1) (add_number x r)
+    ∙ ap (λ n. ending rows roots pins room n (record r { nums = r.nums ++ x ∷ [] ++ xs })) (less spare (length xs))
+    ∙ ap (λ ys. ending rows roots pins room (spare - length (x ∷ xs)) (record r { nums = ys })) (append_assoc r.nums (x ∷ []) xs)
 
 -- a row, its references and its numbers are a whole row
 pub whole : (t : Text) (name : Name) (refs : List Reference) (nums : List ℕ)
@@ -67,9 +68,9 @@ pub whole : (t : Text) (name : Name) (refs : List Reference) (nums : List ℕ)
 whole t name refs nums =
     let e : t.spare - 3 - length refs - length nums ≡ t.spare - (3 + length refs + length nums) = omega arith in
     ap (λ u. with_numbers u nums)
-    (with_references-ending refs t.rows t.roots t.room (t.spare - 3) (record { name = name; refs = []; nums = [] }))
-    ∙ with_numbers-ending nums t.rows t.roots t.room (t.spare - 3 - length refs) (record { name = name; refs = refs; nums = [] })
-    ∙ ap (λ n. ending t.rows t.roots t.room n (record { name = name; refs = refs; nums = nums })) e
+    (with_references-ending refs t.rows t.roots t.pins t.room (t.spare - 3) (record { name = name; refs = []; nums = [] }))
+    ∙ with_numbers-ending nums t.rows t.roots t.pins t.room (t.spare - 3 - length refs) (record { name = name; refs = refs; nums = [] })
+    ∙ ap (λ n. ending t.rows t.roots t.pins t.room n (record { name = name; refs = refs; nums = nums })) e
 
 pub rows_left : (t : Text) (rs : List Reference) → length (with_references t rs).rows ≡ length t.rows
 rows_left t [] = refl
@@ -86,12 +87,15 @@ names-rows g [] = refl
 names-rows g (n ∷ ns) = ap (λ (l : List Name). n ∷ l) (names-rows g ns)
 
 pub text_of_graph : (g : Graph) (threads : ℕ) (t : Text) (names : List Name) → IsReach g names → t.rows ≡ map (row_in g) names → length t.roots ≡ threads
-    → ((thread index : ℕ) → 1 ≤ thread → thread ≤ threads → root_of t thread index ≡ g.root thread index) → IsTextOf g threads t
-text_of_graph g threads t names reach rows each roots =
+    → ((thread index : ℕ) → 1 ≤ thread → thread ≤ threads → root_of t thread index ≡ g.root thread index) → length t.pins ≡ threads
+    → ((thread slot : ℕ) → 1 ≤ thread → thread ≤ threads → pin_of t thread slot ≡ name_in (g.pin thread slot)) → IsTextOf g threads t
+text_of_graph g threads t names reach rows each roots pinned pins =
     let same : names_of t ≡ names = ap (map (λ (r : Row). r.name)) rows ∙ names-rows g names in
     record {
       reach = subst (IsReach g) (sym same) reach;
       rows = rows ∙ ap (map (row_in g)) (sym same);
       each = each;
       roots = roots;
+      pinned = pinned;
+      pins = pins;
     }

@@ -5,11 +5,14 @@ use Rattle.std.specs.Bool.{Decides}
 use Rattle.std.proofs.lemmas.Bool.{false≢true, le-leb}
 use Rattle.std.proofs.lemmas.Bool.Decides.{Decides-and, Decides-like, Decides-ltb, leb_tells}
 use Rattle.shen_graph.specs.declared.command.Command.{Command}
-use Rattle.shen_graph.specs.declared.command.Command.TheVariants.{New, Get, Set, Cas, Xchg, Rd, Wr, Copy, Drop, Same, Gc}
-use Rattle.shen_graph.specs.Valid.{IsRoot, IsSize, IsIndex, IsValid, is_root, is_size, is_index, is_valid}
+use Rattle.shen_graph.specs.declared.command.Command.TheVariants.{New, Get, Set, Cas, Xchg, Rd, Wr, Copy, Drop, Same, Gc, Pin, Unpin}
+use Rattle.shen_graph.specs.Valid.{IsRoot, IsSize, IsIndex, IsSlot, IsValid, is_root, is_size, is_index, is_slot, is_valid}
 
 root : (n : ℕ) → Decides (is_root n) (IsRoot n)
 root n = Decides-ltb n 16
+
+slot : (n : ℕ) → Decides (is_slot n) (IsSlot n)
+slot n = Decides-ltb n 4
 
 at_most : (n most : ℕ) → Decides (nat_le n most) (n ≤ most)
 at_most n most = (λ e. elim (leb_tells n most) [ inl within ↦ within.1 | inr past ↦ absurd (false≢true (sym past.0 ∙ e)) ], λ within. le-leb n most within)
@@ -41,3 +44,5 @@ is_valid-Decides (Copy dst src) = both (is_root dst) (is_root src) (root dst) (r
 is_valid-Decides (Drop dst) = root dst
 is_valid-Decides (Same a b) = both (is_root a) (is_root b) (root a) (root b)
 is_valid-Decides Gc = (λ e. tt, λ e. refl)
+is_valid-Decides (Pin s obj) = both (is_slot s) (is_root obj) (slot s) (root obj)
+is_valid-Decides (Unpin s) = slot s

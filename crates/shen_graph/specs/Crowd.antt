@@ -1,12 +1,14 @@
 -- When an allocation may answer that the heap is full, and which histories a heap may have.
-use Rattle.std.specs.Prelude.{ℕ, ◌≡◌, ◌+◌, ◌-◌, ◌*◌, ◌≤◌, ◌==◌, List, [], length, Option, Some, slice_get, slice_index_or, take, sum_by, if◌then◌else◌}
-use Rattle.std.specs.List.{range_with_len}
+use Rattle.std.specs.Prelude.{ℕ, ◌≡◌, ◌+◌, ◌-◌, ◌*◌, ◌/◌, ◌≤◌, ◌==◌, List, [], length, Contains, Option, Some, slice_get, slice_index_or, take, sum_by, if◌then◌else◌}
+use Rattle.std.specs.List.{range_with_len, IsDistinct}
 use Rattle.shen_graph.specs.declared.command.Command.{Command}
 use Rattle.shen_graph.specs.declared.command.Command.TheVariants.{New}
 use Rattle.shen_graph.specs.declared.command.Reply.TheVariants as reply
-use Rattle.shen_graph.specs.Graph.{Graph, opening}
+use Rattle.shen_graph.specs.declared.name.Name.{Name}
+use Rattle.shen_graph.specs.declared.pin.Pinned.{Pinned}
+use Rattle.shen_graph.specs.Graph.{Graph, named, opening, same_name}
 use Rattle.shen_graph.specs.History.{Entry, after, of_thread, EachIsLegal}
-use Rattle.shen_graph.specs.Reach.{Live}
+use Rattle.shen_graph.specs.Reach.{Live, size}
 
 -- the words that a command asks for
 abbrev pub words_asked : Option Command → ℕ
@@ -22,12 +24,40 @@ abbrev pub words_open : List (List Command) → List Entry → ℕ → ℕ
 words_open scripts history thread =
     sum_by (λ t. if t == thread then 0 else words_asked (next_command scripts history t)) (range_with_len 1 (length scripts))
 
--- Live objects and other unanswered allocations crowd the regions: were each region short of the words that are asked
--- for, so many words would be in use.
+-- some pin slot holds the object
+abbrev pub IsPinnedIn : Graph → Name → Type 0
+IsPinnedIn g n = (thread : ℕ) × (slot : ℕ) × (held : Pinned) × (g.pin thread slot ≡ Some held) × (held.name ≡ n)
+
+-- some object is pinned in that region
+abbrev pub HasPinned : (region_words : ℕ) → Graph → ℕ → Type 0
+HasPinned region_words g region = (thread : ℕ) × (slot : ℕ) × (held : Pinned) × (g.pin thread slot ≡ Some held) × (held.place / region_words ≡ region)
+
+-- the objects that pin slots hold, each once
+pub record ArePinned (g : Graph) (names : List Name) : Type 0 where
+  pub differ : IsDistinct same_name names
+  pub all : (thread slot : ℕ) (held : Pinned) → g.pin thread slot ≡ Some held → Contains names held.name
+  pub only : (n : Name) → Contains names n → IsPinnedIn g n
+
+-- the sum of the sizes of the objects that pin slots hold
+abbrev pub Held : Graph → ℕ → Type 0
+Held g words = (names : List Name) × ArePinned g names × (words ≡ sum_by (λ n. size (named g (Some n))) names)
+
+-- the regions of so many words where these objects stay, by the base of each divided by the words, each once
+pub record ArePinnedRegions (region_words : ℕ) (g : Graph) (regions : List ℕ) : Type 0 where
+  pub differ : IsDistinct (λ r s. r == s) regions
+  pub all : (thread slot : ℕ) (held : Pinned) → g.pin thread slot ≡ Some held → Contains regions (held.place / region_words)
+  pub only : (r : ℕ) → Contains regions r → HasPinned region_words g r
+
+-- how many these are
+abbrev pub PinnedRegions : (region_words : ℕ) → Graph → ℕ → Type 0
+PinnedRegions region_words g count = (regions : List ℕ) × ArePinnedRegions region_words g regions × (count ≡ length regions)
+
+-- Live objects that are not pinned and other unanswered allocations crowd the regions without a pinned object: were each of
+-- these short of the words that are asked for, so many words would be in use there.
 abbrev pub IsCrowded : (regions region_words : ℕ) → Graph → List (List Command) → List Entry → Entry → Type 0
 IsCrowded regions region_words g scripts before e =
-    (live : ℕ) × Live (after g before) live
-    × (regions * (region_words - words_asked (Some e.command) + 1) ≤ live + words_open scripts before e.thread)
+    (live : ℕ) × (held : ℕ) × (pinned : ℕ) × Live (after g before) live × Held (after g before) held × PinnedRegions region_words (after g before) pinned
+    × ((regions - pinned) * (region_words - words_asked (Some e.command) + 1) ≤ live - held + words_open scripts before e.thread)
 
 -- each allocation that was refused in a history that began with a graph was crowded out
 abbrev pub AreCrowded : (regions region_words : ℕ) → Graph → List (List Command) → List Entry → Type 0
@@ -36,5 +66,5 @@ AreCrowded regions region_words g scripts history =
 
 -- A history that a heap of so many regions of so many words may have, whose threads have these scripts.
 pub record IsLegalHistory (regions region_words : ℕ) (scripts : List (List Command)) (history : List Entry) : Type 0 where
-  pub each : EachIsLegal (opening (length scripts)) history
+  pub each : EachIsLegal regions region_words (opening (length scripts)) history
   pub crowded : AreCrowded regions region_words (opening (length scripts)) scripts history

@@ -1,6 +1,7 @@
 -- The graph of objects, as a program sees its heap: nothing moves and nothing is freed.
 use Rattle.std.specs.Prelude.{ℕ, ◌+◌, ◌==◌, Bool, true, false, ◌&&◌, List, [], Option, Some, None, replicate, slice_get, slice_set, unwrap_or, if◌then◌else◌, nat_le}
 use Rattle.shen_graph.specs.declared.name.Name.{Name}
+use Rattle.shen_graph.specs.declared.pin.Pinned.{Pinned}
 
 -- a reference: null, or the name of an object
 abbrev pub Reference : Type 0
@@ -11,11 +12,13 @@ pub record Object : Type 0 where
   pub refs : List Reference
   pub nums : List ℕ
 
--- for each name the object, if there is one; for each thread, counted from 1, its roots; how many objects each thread made
+-- for each name the object, if there is one; for each thread, counted from 1, its roots and its pin slots, of which some
+-- hold an object and the place where it stays; how many objects each thread made
 pub record Graph : Type 0 where
   pub object : Name → Option Object
   pub root : ℕ → ℕ → Reference
   pub count : ℕ → ℕ
+  pub pin : ℕ → ℕ → Option Pinned
 
 abbrev pub same_name : Name → Name → Bool
 same_name a b = (a.thread == b.thread) && (a.count == b.count)
@@ -49,6 +52,10 @@ number_at g thread root index = slice_get (named g (g.root thread root)).nums in
 abbrev pub with_root : Graph → ℕ → ℕ → Reference → Graph
 with_root g thread root value =
     record g { root = λ t r. if (t == thread) && (r == root) then value else g.root t r }
+
+abbrev pub with_pin : Graph → ℕ → ℕ → Option Pinned → Graph
+with_pin g thread slot held =
+    record g { pin = λ t s. if (t == thread) && (s == slot) then held else g.pin t s }
 
 abbrev pub with_object : Graph → Name → Object → Graph
 with_object g name object =
@@ -88,4 +95,5 @@ opening threads = record {
   object = λ n. if same_name n hub then Some (blank 16 0) else None;
   root = λ t r. if nat_le 1 t && nat_le t threads && (r == 0) then Some hub else None;
   count = λ _. 0;
+  pin = λ _ _. None;
 }

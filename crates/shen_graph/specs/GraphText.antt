@@ -1,9 +1,10 @@
--- A graph as it is to be written: rows of objects, and rows of roots.
+-- A graph as it is to be written: rows of objects, rows of roots, and rows of what pin slots hold.
 use Rattle.std.specs.Prelude.{ℕ, ◌≡◌, ◌+◌, ◌-◌, ◌≤◌, List, [], ◌∷◌, ◌++◌, map, replicate, length, None, Some, slice_index_or, slice_set}
 use Rattle.std.specs.List.{IsDistinct}
 use Rattle.shen_graph.specs.declared.name.Name.{Name}
 use Rattle.shen_graph.specs.Graph.{Graph, Reference, hub, named, same_name}
 use Rattle.shen_graph.specs.Reach.{IsReach}
+use Rattle.shen_graph.specs.Step.{name_in}
 
 -- an object: its name, its references and its numbers
 pub record Row : Type 0 where
@@ -15,16 +16,17 @@ pub record Row : Type 0 where
 abbrev pub row_in : Graph → Name → Row
 row_in g n = record { name = n; refs = (named g (Some n)).refs; nums = (named g (Some n)).nums }
 
--- the rows of objects, a row of 16 roots for each thread, the words of room that are left, and the words of room in all
+-- the rows of objects, a row of 16 roots and one of 4 pin slots for each thread, the words of room that are left, and the words of room in all
 pub record Text : Type 0 where
   pub rows : List Row
   pub roots : List (List Reference)
+  pub pins : List (List Reference)
   pub spare : ℕ
   pub room : ℕ
 
--- no object yet, all roots null
+-- no object yet, all roots null, all pin slots empty
 abbrev pub empty : ℕ → ℕ → Text
-empty words threads = record { rows = []; roots = replicate threads (replicate 16 None); spare = words; room = words }
+empty words threads = record { rows = []; roots = replicate threads (replicate 16 None); pins = replicate threads (replicate 4 None); spare = words; room = words }
 
 -- the same room, and nothing in it
 abbrev pub cleared : Text → Text
@@ -83,6 +85,17 @@ root_of t thread index = slice_index_or (roots_of t thread) index None
 abbrev pub with_root_of : Text → ℕ → ℕ → Reference → Text
 with_root_of t thread index to = record t { roots = slice_set t.roots (thread - 1) (slice_set (roots_of t thread) index to) }
 
+-- the pin slots of a thread, counted from 1: the name that each holds
+abbrev pub pins_of : Text → ℕ → List Reference
+pins_of t thread = slice_index_or t.pins (thread - 1) []
+
+abbrev pub pin_of : Text → ℕ → ℕ → Reference
+pin_of t thread slot = slice_index_or (pins_of t thread) slot None
+
+-- a pin slot of a thread holds another
+abbrev pub with_pin_of : Text → ℕ → ℕ → Reference → Text
+with_pin_of t thread slot to = record t { pins = slice_set t.pins (thread - 1) (slice_set (pins_of t thread) slot to) }
+
 -- the row with that number, counted from 0
 abbrev pub row_of : Text → ℕ → Row
 row_of t row = slice_index_or t.rows row (bare hub)
@@ -96,9 +109,11 @@ abbrev pub NamesDiffer : Text → Type 0
 NamesDiffer t = IsDistinct same_name (names_of t)
 
 -- The text is that of a graph of so many threads: a row for each object that can be reached, in the order of names, and
--- the roots of each thread.
+-- the roots and the pin slots of each thread.
 pub record IsTextOf (g : Graph) (threads : ℕ) (t : Text) : Type 0 where
   pub reach : IsReach g (names_of t)
   pub rows : t.rows ≡ map (row_in g) (names_of t)
   pub each : length t.roots ≡ threads
   pub roots : (thread index : ℕ) → 1 ≤ thread → thread ≤ threads → root_of t thread index ≡ g.root thread index
+  pub pinned : length t.pins ≡ threads
+  pub pins : (thread slot : ℕ) → 1 ≤ thread → thread ≤ threads → pin_of t thread slot ≡ name_in (g.pin thread slot)

@@ -1,10 +1,11 @@
 -- Histories: the commands of all threads in one order, each with its reply.
 use Rattle.std.specs.Prelude.{ℕ, zero, suc, ◌≡◌, ◌≢◌, ◌==◌, List, [], ◌∷◌, filter, map, slice_index_or, Bool, true, false, if◌then◌else◌, All}
 use Rattle.shen_graph.specs.declared.command.Command.{Command}
+use Rattle.shen_graph.specs.declared.command.Command.TheVariants.{Pin}
 use Rattle.shen_graph.specs.declared.command.Reply.{Reply}
 use Rattle.shen_graph.specs.declared.command.Reply.TheVariants as reply
 use Rattle.shen_graph.specs.Graph.{Graph}
-use Rattle.shen_graph.specs.Step.{IsLegal, outcome}
+use Rattle.shen_graph.specs.Step.{IsLegal, outcome, pinned_by, with_pinned}
 
 -- a thread's command, and what it was answered
 pub record Entry : Type 0 where
@@ -16,19 +17,25 @@ abbrev pub is_full : Reply → Bool
 is_full reply.Full = true
 is_full _ = false
 
+-- the graph after a command of a thread that was not refused
+abbrev pub after_reply : Graph → ℕ → Command → Reply → Graph
+after_reply g t (Pin slot obj) (reply.At place) = with_pinned g t slot (pinned_by g t (Pin slot obj)) place
+after_reply g t c r = (outcome g t c).graph
+
 -- the graph after an entry
 abbrev pub after_entry : Graph → Entry → Graph
-after_entry g e = if is_full e.reply then g else (outcome g e.thread e.command).graph
+after_entry g e = if is_full e.reply then g else after_reply g e.thread e.command e.reply
 
 -- the graph after these entries, in order
 abbrev pub after : Graph → List Entry → Graph
 after g [] = g
 after g (e ∷ es) = after (after_entry g e) es
 
--- each entry is legal in the graph after the entries before it
-abbrev pub EachIsLegal : Graph → List Entry → Type 0
-EachIsLegal g [] = Unit {0}
-EachIsLegal g (e ∷ es) = IsLegal g e.thread e.command e.reply (after_entry g e) × EachIsLegal (after_entry g e) es
+-- each entry is legal, in a heap of so many regions of so many words, in the graph after the entries before it
+abbrev pub EachIsLegal : (regions region_words : ℕ) → Graph → List Entry → Type 0
+EachIsLegal regions region_words g [] = Unit {0}
+EachIsLegal regions region_words g (e ∷ es) =
+    IsLegal regions region_words g e.thread e.command e.reply (after_entry g e) × EachIsLegal regions region_words (after_entry g e) es
 
 -- the entries of one thread, in their order
 abbrev pub of_thread : List Entry → ℕ → List Entry

@@ -1,14 +1,16 @@
 -- The plain graph in memory, and the graph that it is.
-use Rattle.std.specs.Prelude.{ℕ, ◌-◌, List, [], ◌∷◌, length, position, Option, Some, None, option_and_then, slice_index, slice_index_or, if◌then◌else◌}
+use Rattle.std.specs.Prelude.{ℕ, ◌-◌, ◌==◌, Bool, true, false, not, List, [], ◌∷◌, length, position, Option, Some, None, option_and_then, slice_index, slice_index_or, if◌then◌else◌}
 use Rattle.shen_graph.specs.declared.name.Name.{Name}
+use Rattle.shen_graph.specs.declared.pin.Pinned.{Pinned}
 use Rattle.shen_graph.specs.Graph.{Graph, Object, Reference, same_name}
 use Rattle.shen_graph.specs.GraphText.{Row}
 
--- a row for each object; and for each thread, counted from 1, its 16 roots and how many objects it made: place 0 of these is nobody's
+-- a row for each object; and for each thread, counted from 1, its 16 roots, how many objects it made and its 4 pin slots: place 0 of these is nobody's
 pub record Plain : Type 0 where
   pub rows : List Row
   pub roots : List (List Reference)
   pub counts : List ℕ
+  pub pins : List (List (Option Pinned))
 
 abbrev pub threads_of : Plain → ℕ
 threads_of p = length p.roots - 1
@@ -21,8 +23,21 @@ object_in (r ∷ rows) name = if same_name name r.name then Some (record { refs 
 abbrev pub root_in : List (List Reference) → ℕ → ℕ → Reference
 root_in roots thread root = slice_index_or (slice_index_or roots thread []) root None
 
+abbrev pub pin_in : List (List (Option Pinned)) → ℕ → ℕ → Option Pinned
+pin_in pins thread slot = slice_index_or (slice_index_or pins thread []) slot None
+
 unfoldable pub graph_of : Plain → Graph
-graph_of p = record { object = object_in p.rows; root = root_in p.roots; count = slice_index p.counts }
+graph_of p = record { object = object_in p.rows; root = root_in p.roots; count = slice_index p.counts; pin = pin_in p.pins }
+
+-- whether both are true, or both false
+abbrev pub same_bool : Bool → Bool → Bool
+same_bool true b = b
+same_bool false b = not b
+
+-- whether a pin slot holds the object at another place, or another object at the place
+abbrev pub differs : Name → ℕ → Option Pinned → Bool
+differs name place None = false
+differs name place (Some held) = not (same_bool (same_name held.name name) (held.place == place))
 
 -- where the row of the object stands that a root names
 abbrev pub place_of : Plain → ℕ → ℕ → Option ℕ

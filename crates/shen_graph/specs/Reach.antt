@@ -1,11 +1,13 @@
--- What roots lead to.
+-- What roots and pin slots lead to.
 use Rattle.std.specs.Prelude.{ℕ, ◌≡◌, ◌+◌, ◌<◌, ◌⊎◌, List, [], ◌∷◌, length, Some, Contains, slice_get, sum_by}
 use Rattle.shen_graph.specs.declared.name.Name.{Name}
+use Rattle.shen_graph.specs.declared.pin.Pinned.{Pinned}
 use Rattle.shen_graph.specs.Graph.{Graph, Object, named}
 
--- a name that a root of any thread holds, or a field of the object of such a name, and so on
+-- a name that a root or a pin slot of any thread holds, or a field of the object of such a name, and so on
 pub data IsReachable (g : Graph) : Name → Type 0 where
   from_root : (thread root : ℕ) (n : Name) → g.root thread root ≡ Some n → IsReachable g n
+  from_pin : (thread slot : ℕ) (held : Pinned) → g.pin thread slot ≡ Some held → IsReachable g held.name
   from_field : (m n : Name) (field : ℕ) → IsReachable g m → slice_get (named g (Some m)).refs field ≡ Some (Some n) → IsReachable g n
 
 -- the order of names: by thread, and then by count

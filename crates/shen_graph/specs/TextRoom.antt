@@ -8,6 +8,7 @@ abbrev pub text_in : Inside → Text
 text_in t = record {
   rows = map (row_at t.references.items t.numbers.items) t.places.items;
   roots = t.roots.items;
+  pins = t.pins.items;
   spare = t.spare;
   room = t.room;
 }
@@ -17,6 +18,8 @@ pub record HasRoom (t : Inside) : Type 0 where
   pub laid : IsLaid t.places.items (vec_len t.references) (vec_len t.numbers)
   pub words : t.spare + 3 * vec_len t.places + vec_len t.references + vec_len t.numbers ≡ t.room
   pub roots : All (λ row. length row ≡ 16) t.roots.items
+  pub pins : All (λ row. length row ≡ 4) t.pins.items
+  pub alike : vec_len t.pins ≡ vec_len t.roots
   pub places : t.room ≤ 3 * vec_capacity t.places + 2
   pub references : t.room ≤ vec_capacity t.references
   pub numbers : t.room ≤ vec_capacity t.numbers

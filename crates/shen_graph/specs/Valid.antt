@@ -1,7 +1,7 @@
 -- Which commands are in range.
 use Rattle.std.specs.Prelude.{ℕ, ◌^◌, ◌<◌, ◌≤◌, Bool, true, ◌&&◌, nat_lt, nat_le}
 use Rattle.shen_graph.specs.declared.command.Command.{Command}
-use Rattle.shen_graph.specs.declared.command.Command.TheVariants.{New, Get, Set, Cas, Xchg, Rd, Wr, Copy, Drop, Same, Gc}
+use Rattle.shen_graph.specs.declared.command.Command.TheVariants.{New, Get, Set, Cas, Xchg, Rd, Wr, Copy, Drop, Same, Gc, Pin, Unpin}
 
 -- a thread has 16 roots, numbered from 0
 abbrev pub IsRoot : ℕ → Type 0
@@ -15,7 +15,11 @@ IsSize fields = fields ≤ 16
 abbrev pub IsIndex : ℕ → Type 0
 IsIndex index = index ≤ 31
 
--- the roots, sizes and indexes of a command are in range
+-- a thread has 4 pin slots, numbered from 0
+abbrev pub IsSlot : ℕ → Type 0
+IsSlot slot = slot < 4
+
+-- the roots, sizes, indexes and pin slots of a command are in range
 abbrev pub IsValid : Command → Type 0
 IsValid (New dst refs nums) = IsRoot dst × IsSize refs × IsSize nums
 IsValid (Get dst src field) = IsRoot dst × IsRoot src × IsIndex field
@@ -28,6 +32,8 @@ IsValid (Copy dst src) = IsRoot dst × IsRoot src
 IsValid (Drop dst) = IsRoot dst
 IsValid (Same a b) = IsRoot a × IsRoot b
 IsValid Gc = Unit {0}
+IsValid (Pin slot obj) = IsSlot slot × IsRoot obj
+IsValid (Unpin slot) = IsSlot slot
 
 -- a number that a command writes fits 64 bits, as each number of the code does
 abbrev pub FitsValue : Command → Type 0
@@ -45,6 +51,9 @@ is_size fields = nat_le fields 16
 abbrev pub is_index : ℕ → Bool
 is_index index = nat_le index 31
 
+abbrev pub is_slot : ℕ → Bool
+is_slot slot = nat_lt slot 4
+
 -- `IsValid` as a test
 abbrev pub is_valid : Command → Bool
 is_valid (New dst refs nums) = is_root dst && (is_size refs && is_size nums)
@@ -58,6 +67,8 @@ is_valid (Copy dst src) = is_root dst && is_root src
 is_valid (Drop dst) = is_root dst
 is_valid (Same a b) = is_root a && is_root b
 is_valid Gc = true
+is_valid (Pin slot obj) = is_slot slot && is_root obj
+is_valid (Unpin slot) = is_slot slot
 
 -- `FitsValue` as a test
 abbrev pub fits_value : Command → Bool

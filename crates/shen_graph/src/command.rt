@@ -66,6 +66,15 @@ pub enum Command {
     },
     /// Asks for a collection cycle, and does not wait for it.
     Gc,
+    /// Puts the object of root `obj` into an empty pin slot. It stays at its place until the slot is emptied.
+    Pin {
+        slot: u32,
+        obj: u32,
+    },
+    /// Empties a pin slot.
+    Unpin {
+        slot: u32,
+    },
 }
 
 /// What a command is answered.
@@ -83,10 +92,13 @@ pub enum Reply {
     No,
     /// A number.
     Number(u64),
-    /// The root is null, or its object has no such field or number. Nothing changed.
+    /// The root is null, or its object has no such field or number, or the pin slot is taken where it is to be empty, or
+    /// empty where it is to be taken. Nothing changed.
     Bad,
     /// No region has room. Nothing changed.
     Full,
+    /// The address at which the pinned object stays.
+    At(u64),
 }
 
 impl Command {
@@ -99,7 +111,10 @@ impl Command {
     /// The largest field or number that a command may name.
     pub const LAST_INDEX: u32 = 31;
 
-    /// Whether roots are below 16, sizes at most 16, and fields and indexes at most 31.
+    /// The number of pin slots of a thread.
+    pub const SLOTS: u32 = 4;
+
+    /// Whether roots are below 16, sizes at most 16, fields and indexes at most 31, and pin slots below 4.
     pub fn is_valid(&self) -> bool
         ensures valid { IsTrue result ↔ IsValid self.now }
         ensures test { result ≡ is_valid self.now }
@@ -133,6 +148,8 @@ impl Command {
             Command::Drop { dst } => is_root(dst),
             Command::Same { a, b } => is_root(a) && is_root(b),
             Command::Gc => true,
+            Command::Pin { slot, obj } => is_slot(slot) && is_root(obj),
+            Command::Unpin { slot } => is_slot(slot),
         }
     }
 }
@@ -153,4 +170,10 @@ fn is_index(index: u32) -> bool
     ensures { result ≡ valid.is_index index }
 {
     index <= Command::LAST_INDEX
+}
+
+fn is_slot(slot: u32) -> bool
+    ensures { result ≡ valid.is_slot slot }
+{
+    slot < Command::SLOTS
 }

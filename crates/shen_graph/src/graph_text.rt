@@ -1,12 +1,12 @@
 ghost use Rattle.std.specs.Prelude.{◌≡◌, ◌+◌, ◌-◌, ◌<◌, ◌≤◌, [], ◌++◌, length, map, replicate, sum_by, All, IfOk, None, slice_index, slice_index_or, slice_set, vec_len, vec_capacity};
 ghost use Rattle.std.specs.List.Sorted.{IsPermutation};
 ghost use Rattle.shen_graph.specs.Reach.{InOrder};
-ghost use Rattle.shen_graph.specs.GraphText.{empty, cleared, with_row, with_reference, with_number, with_root_of, root_of, row_of, names_of, NamesDiffer};
+ghost use Rattle.shen_graph.specs.GraphText.{empty, cleared, with_row, with_reference, with_number, with_root_of, with_pin_of, root_of, pin_of, row_of, names_of, NamesDiffer};
 ghost use Rattle.shen_graph.specs.TextLayout.{part, row_at, span_length, Within, IsLaid};
 
 use crate::NoMemory;
 use crate::name::Name;
-use crate::roots::alike;
+use crate::roots::{alike, slots_alike};
 use std::alloc::Global;
 use std::marker::Model;
 use std::mem;
@@ -26,14 +26,15 @@ struct Place {
     nums: Span,
 }
 
-/// A graph as it is to be written: rows of objects, and a row of 16 roots for each thread. Threads are counted from 1,
-/// rows, fields and roots from 0. Only `open` takes memory.
+/// A graph as it is to be written: rows of objects, and for each thread a row of 16 roots and one of 4 pin slots. Threads
+/// are counted from 1, rows, fields, roots and pin slots from 0. Only `open` takes memory.
 #[derive(Debug, Drop)]
 pub struct GraphText {
     places: Vec<Place>,
     references: Vec<Option<Name>>,
     numbers: Vec<u64>,
     roots: Vec<[Option<Name>; 16]>,
+    pins: Vec<[Option<Name>; 4]>,
     spare: usize,
     room: usize,
     // where `sort` moves the fields to
@@ -114,17 +115,28 @@ fn make_null(roots: &mut [[Option<Name>; 16]])
     }
 }
 
+// Makes all pin slots empty.
+fn make_empty(pins: &mut [[Option<Name>; 4]])
+    ensures { pins.new ≡ replicate (length pins.old) (replicate 4 None) }
+{
+    for row in pins.iter_mut() {
+        *row = [None; 4];
+    }
+}
+
 impl GraphText {
-    /// A text without objects and with null roots, and with room for every graph of so many heap words.
+    /// A text without objects, with null roots and empty pin slots, and with room for every graph of so many heap words.
     pub fn open(alloc: Global, words: usize, mutators: usize) -> Result<GraphText, NoMemory>
         ensures { IfOk result (λ text. text ≡ empty words mutators) }
     {
         let roots = alike(alloc, mutators, [None; 16])?;
+        let pins = slots_alike(alloc, mutators)?;
         Ok(GraphText {
             places: Vec::with_capacity(alloc, words / 3)?,
             references: Vec::with_capacity(alloc, words)?,
             numbers: Vec::with_capacity(alloc, words)?,
             roots,
+            pins,
             spare: words,
             room: words,
             moved_references: Vec::with_capacity(alloc, words)?,
@@ -132,7 +144,7 @@ impl GraphText {
         })
     }
 
-    /// Takes all objects out and makes all roots null.
+    /// Takes all objects out, and makes all roots null and all pin slots empty.
     pub fn clear(&mut self)
         ensures { self.new ≡ cleared self.old }
     {
@@ -140,6 +152,7 @@ impl GraphText {
         self.references.clear();
         self.numbers.clear();
         make_null(&mut self.roots);
+        make_empty(&mut self.pins);
         self.spare = self.room;
     }
 
@@ -201,12 +214,30 @@ impl GraphText {
         row[index] = to;
     }
 
+    /// Says what a pin slot of a thread holds.
+    pub fn pin(&mut self, thread: u32, slot: u32, to: Option<Name>)
+        requires thread { (1 ≤ thread) × (thread ≤ length self.old.roots) }
+        requires slot { slot < 4 }
+        ensures { self.new ≡ with_pin_of self.old thread slot to }
+    {
+        let row = &mut self.pins[thread as usize - 1];
+        row[slot as usize] = to;
+    }
+
     /// Sets all roots of a thread, which is counted from 0 here.
     pub(crate) fn set_roots(&mut self, mutator: usize, roots: [Option<Name>; 16])
         requires { mutator < length self.old.roots }
         ensures { self.new ≡ record self.old { roots = slice_set self.old.roots mutator roots } }
     {
         self.roots[mutator] = roots;
+    }
+
+    /// Says what all pin slots of a thread hold, which is counted from 0 here.
+    pub(crate) fn set_pins(&mut self, mutator: usize, pins: [Option<Name>; 4])
+        requires { mutator < length self.old.pins }
+        ensures { self.new ≡ record self.old { pins = slice_set self.old.pins mutator pins } }
+    {
+        self.pins[mutator] = pins;
     }
 
     /// Puts the objects into the order of their names.
@@ -299,5 +330,15 @@ impl GraphText {
     {
         let row = &self.roots[thread as usize - 1];
         row[index]
+    }
+
+    /// What a pin slot of a thread holds. `None`: it is empty.
+    pub fn pin_at(&self, thread: u32, slot: u32) -> Option<Name>
+        requires thread { (1 ≤ thread) × (thread ≤ length self.now.roots) }
+        requires slot { slot < 4 }
+        ensures { result ≡ pin_of self.now thread slot }
+    {
+        let row = &self.pins[thread as usize - 1];
+        row[slot as usize]
     }
 }

@@ -1,21 +1,22 @@
-ghost use Rattle.std.specs.Prelude.{ℕ, ◌≡◌, ◌≢◌, ◌+◌, ◌-◌, ◌^◌, ◌<◌, ◌≤◌, ◌∷◌, ◌++◌, length, map, sum_by, None, Some, replicate, position, IsSome, MatchOption, IfOk, OnOk, OnErr, slice_get, slice_set};
+ghost use Rattle.std.specs.Prelude.{ℕ, ◌≡◌, ◌≢◌, ◌+◌, ◌-◌, ◌*◌, ◌^◌, ◌<◌, ◌≤◌, ◌∷◌, ◌++◌, length, map, sum_by, None, Some, replicate, position, IsSome, MatchBool, MatchOption, IfOk, OnOk, OnErr, slice_get, slice_index_or, slice_set};
 ghost use Rattle.std.specs.Option.{option_map};
-ghost use Rattle.std.specs.List.{flat_map};
-ghost use Rattle.shen_graph.specs.declared.command.Command.TheVariants.{Get, Set, Cas, Xchg, Wr};
-ghost use Rattle.shen_graph.specs.declared.command.Reply.TheVariants.{Full};
+ghost use Rattle.std.specs.List.{flat_map, list_any};
+ghost use Rattle.shen_graph.specs.declared.command.Command.TheVariants.{Get, Set, Cas, Xchg, Wr, Unpin};
+ghost use Rattle.shen_graph.specs.declared.command.Reply.TheVariants.{Full, At};
 ghost use Rattle.shen_graph.specs.Valid.{IsValid};
-ghost use Rattle.shen_graph.specs.Graph.{blank, field_at, number_at, fresh, with_root, with_field, with_number, with_fresh, hub, named, opening, same_name};
-ghost use Rattle.shen_graph.specs.Step.{answers, outcome, shown, yes_or_no};
+ghost use Rattle.shen_graph.specs.Graph.{Graph, blank, field_at, number_at, fresh, with_root, with_field, with_number, with_fresh, with_pin, hub, named, opening, same_name};
+ghost use Rattle.shen_graph.specs.Step.{answers, outcome, shown, yes_or_no, ok_or_bad, shown_at, pinned_by, name_in, place_in, slot_of, MayBePinned, IsLegal, IsPinning, IsPin};
 ghost use Rattle.shen_graph.specs.Reach.{IsReach, Live, size};
-ghost use Rattle.shen_graph.specs.GraphText.{cleared, root_of, row_in, with_references, with_numbers, with_whole_row, IsTextOf};
-ghost use Rattle.shen_graph.specs.PlainGraph.{graph_of, threads_of, place_of, root_in};
+ghost use Rattle.shen_graph.specs.GraphText.{cleared, root_of, pin_of, row_in, with_references, with_numbers, with_whole_row, IsTextOf};
+ghost use Rattle.shen_graph.specs.PlainGraph.{graph_of, threads_of, place_of, root_in, pin_in, differs};
 ghost use Rattle.shen_graph.specs.Found.{with_name, with_names};
 
 use crate::NoMemory;
 use crate::command::{Command, Reply};
 use crate::graph_text::GraphText;
 use crate::name::Name;
-use crate::roots::alike;
+use crate::pin::Pinned;
+use crate::roots::{alike, slots_alike};
 use std::alloc::Global;
 use std::marker::Model;
 
@@ -44,6 +45,7 @@ pub struct PlainGraph {
     // by thread: place 0 is nobody's
     roots: Vec<[Option<Name>; 16]>,
     counts: Vec<u32>,
+    pins: Vec<[Option<Pinned>; 4]>,
 }
 
 impl Model for PlainGraph {
@@ -52,9 +54,9 @@ impl Model for PlainGraph {
 
     ghost Value = { Plain };
 
-    ghost view = { λ g. record { rows = g.objects.items; roots = g.roots.items; counts = g.counts.items } };
+    ghost view = { λ g. record { rows = g.objects.items; roots = g.roots.items; counts = g.counts.items; pins = g.pins.items } };
 
-    ghost invariant = { λ g. (1 ≤ vec_len g.roots) × (vec_len g.counts ≡ vec_len g.roots) × All (λ row. length row ≡ 16) g.roots.items };
+    ghost invariant = { λ g. (1 ≤ vec_len g.roots) × (vec_len g.counts ≡ vec_len g.roots) × All (λ row. length row ≡ 16) g.roots.items × (vec_len g.pins ≡ vec_len g.roots) × All (λ row. length row ≡ 4) g.pins.items };
 }
 
 // What shows a reference.
@@ -71,6 +73,62 @@ fn yes_or_no(holds: bool) -> Reply
     ensures { result ≡ yes_or_no holds }
 {
     if holds { Reply::Yes } else { Reply::No }
+}
+
+fn ok_or_bad(done: bool) -> Reply
+    ensures { result ≡ ok_or_bad done }
+{
+    if done { Reply::Ok } else { Reply::Bad }
+}
+
+// The name of what a pin slot holds.
+fn name_in(slot: Option<Pinned>) -> Option<Name>
+    ensures { result ≡ name_in slot }
+{
+    match slot {
+        Some(held) => Some(held.name),
+        None => None,
+    }
+}
+
+// The place that a reply tells.
+fn place_in(reply: &Reply) -> Option<u64>
+    ensures { result ≡ place_in reply.now }
+{
+    match *reply {
+        Reply::At(place) => Some(place),
+        _ => None,
+    }
+}
+
+// The pin slot that a command names.
+fn slot_of(command: &Command) -> u32
+    ensures { result ≡ slot_of command.now }
+{
+    match *command {
+        Command::Pin { slot, .. } | Command::Unpin { slot } => slot,
+        _ => 0,
+    }
+}
+
+// Whether a command is to pin an object.
+fn is_pin(command: &Command) -> bool
+    ensures { MatchBool result (IsPin command.now) (IsPin command.now → ⊥) }
+{
+    match *command {
+        Command::Pin { .. } => true,
+        _ => false,
+    }
+}
+
+// Whether a pin slot holds the object at another place, or another object at the place.
+fn differs(slot: Option<Pinned>, name: Name, place: u64) -> bool
+    ensures { result ≡ differs name place slot }
+{
+    match slot {
+        Some(held) => (held.name == name) != (held.place == place),
+        None => false,
+    }
 }
 
 // Where the first object of that name stands.
@@ -99,6 +157,48 @@ fn add_names(found: &mut Vec<Name>, references: &[Option<Name>]) -> Result<(), N
         add_name(found, *reference)?;
     }
     Ok(())
+}
+
+// Whether one of these pin slots holds the object at another place, or another object at the place.
+fn any_slot_differs(slots: &[Option<Pinned>], name: Name, place: u64) -> bool
+    ensures { result ≡ list_any (differs name place) slots.now }
+{
+    for slot in slots {
+        if differs(*slot, name, place) {
+            return true;
+        }
+    }
+    false
+}
+
+// Whether a place is one of a heap of so many regions of so many words.
+fn is_in_heap(regions: u64, region_words: u64, place: u64) -> bool
+    ensures { MatchBool result ((region_words ≤ place) × (place < (regions + 1) * region_words))
+        (region_words ≤ place → place < (regions + 1) * region_words → ⊥) }
+{
+    if region_words == 0 || place < region_words {
+        return false;
+    }
+    place / region_words <= regions
+}
+
+// Adds the names of what pin slots hold.
+fn add_pinned(found: &mut Vec<Name>, slots: &[Option<Pinned>]) -> Result<(), NoMemory>
+    ensures { OnOk result (found.new.items ≡ with_names found.old.items (map name_in slots.now)) }
+{
+    for slot in slots {
+        add_name(found, name_in(*slot))?;
+    }
+    Ok(())
+}
+
+// The names of what the pin slots of a thread hold.
+fn names_in(slots: [Option<Pinned>; 4]) -> [Option<Name>; 4]
+    requires { length slots ≡ 4 }
+    ensures { (slot : ℕ) → slice_index_or result slot None ≡ name_in (slice_index_or slots slot None) }
+{
+    let [one, two, three, four] = slots;
+    [name_in(one), name_in(two), name_in(three), name_in(four)]
 }
 
 // The roots of nobody, and of so many threads that each name the hub.
@@ -313,10 +413,12 @@ impl PlainGraph {
         objects.push(hub)?;
         let roots = first_roots(alloc, mutators)?;
         let counts = vec![in alloc; 0; mutators as usize + 1]?;
+        let pins = slots_alike(alloc, mutators as usize + 1)?;
         Ok(PlainGraph {
             objects,
             roots,
             counts,
+            pins,
         })
     }
 
@@ -423,7 +525,7 @@ impl PlainGraph {
         Ok(name)
     }
 
-    /// Does a command of a thread and answers it, never with `Full`. After `NoMemory` the graph is as before.
+    /// Does a command of a thread, other than a pin, and answers it, never with `Full`. After `NoMemory` the graph is as before.
     pub fn apply(
         &mut self,
         alloc: Global,
@@ -432,6 +534,7 @@ impl PlainGraph {
     ) -> Result<Reply, NoMemory>
         requires thread { (1 ≤ thread) × (thread ≤ threads_of self.old) }
         requires valid { IsValid command.now }
+        requires no_pin { IsPin command.now → ⊥ }
         requires count { (graph_of self.old).count thread < 2 ^ 32 - 1 }
         ensures ok { IfOk result
             (λ reply. answers reply (graph_of self.new) ≡ outcome (graph_of self.old) thread command.now) }
@@ -475,8 +578,240 @@ impl PlainGraph {
             }
             Command::Same { a, b } => yes_or_no(self.root(thread, a) == self.root(thread, b)),
             Command::Gc => Reply::Ok,
+            Command::Unpin { slot } => self.unpin(thread, slot),
+            Command::Pin { .. } => unreachable!(),
         };
         Ok(reply)
+    }
+
+    /// What a pin slot of a thread holds. `None`: it is empty.
+    pub fn pin_of(&self, thread: u32, slot: u32) -> Option<Pinned>
+        requires thread { (1 ≤ thread) × (thread ≤ threads_of self.now) }
+        requires slot { slot < 4 }
+        ensures { result ≡ (graph_of self.now).pin thread slot }
+    {
+        self.pin(thread, slot)
+    }
+
+    fn pin(&self, thread: u32, slot: u32) -> Option<Pinned>
+        requires thread { thread ≤ threads_of self.now }
+        requires slot { slot < 4 }
+        ensures pin { result ≡ (graph_of self.now).pin thread slot }
+        ensures read { result ≡ pin_in self.now.pins thread slot }
+    {
+        let row = &self.pins[thread as usize];
+        row[slot as usize]
+    }
+
+    fn set_pin(&mut self, thread: u32, slot: u32, held: Option<Pinned>)
+        requires thread { thread ≤ threads_of self.old }
+        requires slot { slot < 4 }
+        ensures graph { graph_of self.new ≡ with_pin (graph_of self.old) thread slot held }
+        ensures threads { threads_of self.new ≡ threads_of self.old }
+    {
+        let row = &mut self.pins[thread as usize];
+        row[slot as usize] = held;
+    }
+
+    fn unpin(&mut self, thread: u32, slot: u32) -> Reply
+        requires thread { thread ≤ threads_of self.old }
+        requires slot { slot < 4 }
+        ensures done { answers result (graph_of self.new) ≡ outcome (graph_of self.old) thread (Unpin slot) }
+        ensures threads { threads_of self.new ≡ threads_of self.old }
+    {
+        match self.pin(thread, slot) {
+            Some(_) => {
+                self.set_pin(thread, slot, None);
+                Reply::Ok
+            }
+            None => Reply::Bad,
+        }
+    }
+
+    // What a command of a thread is answered that pins nothing, and that is not refused.
+    fn answer(&self, thread: u32, command: &Command) -> Reply
+        requires thread { thread ≤ threads_of self.now }
+        requires valid { IsValid command.now }
+        requires count { (graph_of self.now).count thread < 2 ^ 32 - 1 }
+        ensures { result ≡ (outcome (graph_of self.now) thread command.now).reply }
+    {
+        match *command {
+            Command::New { .. } => Reply::Ref(Name {
+                thread,
+                count: self.counts[thread as usize] + 1,
+            }),
+            Command::Get { src, field, .. } => self.shown_field(thread, src, field),
+            Command::Xchg { obj, field, .. } => self.shown_field(thread, obj, field),
+            Command::Set { obj, field, .. } => ok_or_bad(self.field(thread, obj, field).is_some()),
+            Command::Cas {
+                obj,
+                field,
+                expect,
+                ..
+            } => match self.field(thread, obj, field) {
+                Some(found) => yes_or_no(found == self.root(thread, expect)),
+                None => Reply::Bad,
+            },
+            Command::Rd { obj, index } => match self.number(thread, obj, index) {
+                Some(number) => Reply::Number(number),
+                None => Reply::Bad,
+            },
+            Command::Wr { obj, index, .. } => ok_or_bad(self.number(thread, obj, index).is_some()),
+            Command::Copy { .. } | Command::Drop { .. } | Command::Gc => Reply::Ok,
+            Command::Same { a, b } => yes_or_no(self.root(thread, a) == self.root(thread, b)),
+            Command::Unpin { slot } => ok_or_bad(self.pin(thread, slot).is_some()),
+            Command::Pin { .. } => Reply::Bad,
+        }
+    }
+
+    fn shown_field(&self, thread: u32, obj: u32, field: u32) -> Reply
+        requires thread { thread ≤ threads_of self.now }
+        requires root { obj < 16 }
+        ensures { result ≡ shown_at (field_at (graph_of self.now) thread obj field) }
+    {
+        match self.field(thread, obj, field) {
+            Some(value) => shown(value),
+            None => Reply::Bad,
+        }
+    }
+
+    // The object that a command of a thread pins.
+    fn pinned_by(&self, thread: u32, command: &Command) -> Option<Name>
+        requires thread { thread ≤ threads_of self.now }
+        requires valid { IsValid command.now }
+        ensures { result ≡ pinned_by (graph_of self.now) thread command.now }
+    {
+        match *command {
+            Command::Pin { slot, obj } => match self.pin(thread, slot) {
+                Some(_) => None,
+                None => self.root(thread, obj),
+            },
+            _ => None,
+        }
+    }
+
+    // Whether some pin slot holds the object at another place, or another object at the place.
+    fn any_differs(&self, name: Name, place: u64) -> bool
+        ensures { result ≡ list_any (list_any (differs name place)) self.now.pins }
+    {
+        for row in &self.pins {
+            if any_slot_differs(row, name, place) {
+                return true;
+            }
+        }
+        false
+    }
+
+    // Whether an object may be pinned at a place, in a heap of so many regions of so many words.
+    fn may_be_pinned(&self, regions: u64, region_words: u64, name: Name, place: u64) -> bool
+        ensures { MatchBool result (MayBePinned regions region_words (graph_of self.now) name place)
+            (MayBePinned regions region_words (graph_of self.now) name place → ⊥) }
+    {
+        if !is_in_heap(regions, region_words, place) {
+            return false;
+        }
+        !self.any_differs(name, place)
+    }
+
+    // Pins an object where it may be at that place.
+    fn try_pin(
+        &mut self,
+        regions: u64,
+        region_words: u64,
+        thread: u32,
+        command: &Command,
+        name: Name,
+        place: u64,
+    ) -> bool
+        requires thread { thread ≤ threads_of self.old }
+        requires valid { IsValid command.now }
+        requires pins { pinned_by (graph_of self.old) thread command.now ≡ Some name }
+        ensures done { MatchBool result
+            (IsPinning regions region_words (graph_of self.old) thread command.now (At place) (graph_of self.new))
+            ((MayBePinned regions region_words (graph_of self.old) name place → ⊥) × (self.new ≡ self.old)) }
+        ensures threads { threads_of self.new ≡ threads_of self.old }
+    {
+        if !self.may_be_pinned(regions, region_words, name, place) {
+            return false;
+        }
+        self.set_pin(thread, slot_of(command), Some(Pinned { name, place }));
+        true
+    }
+
+    // Whether a command that pins an object may be answered so. Where it may, it is done.
+    fn take_pin(
+        &mut self,
+        regions: u64,
+        region_words: u64,
+        thread: u32,
+        command: &Command,
+        name: Name,
+        reply: &Reply,
+    ) -> bool
+        requires thread { thread ≤ threads_of self.old }
+        requires valid { IsValid command.now }
+        requires pins { pinned_by (graph_of self.old) thread command.now ≡ Some name }
+        ensures done { MatchBool result
+            (IsLegal regions region_words (graph_of self.old) thread command.now reply.now (graph_of self.new) × (reply.now ≢ Full))
+            (((h : Graph) → IsLegal regions region_words (graph_of self.old) thread command.now reply.now h → reply.now ≡ Full) × (self.new ≡ self.old)) }
+        ensures threads { threads_of self.new ≡ threads_of self.old }
+    {
+        match place_in(reply) {
+            Some(place) => self.try_pin(regions, region_words, thread, command, name, place),
+            None => false,
+        }
+    }
+
+    // Whether a command that pins nothing may be answered so, other than by `Full`. Where it may, it is done.
+    fn take_other(
+        &mut self,
+        alloc: Global,
+        thread: u32,
+        command: &Command,
+        reply: &Reply,
+    ) -> Result<bool, NoMemory>
+        requires thread { (1 ≤ thread) × (thread ≤ threads_of self.old) }
+        requires valid { IsValid command.now }
+        requires count { (graph_of self.old).count thread < 2 ^ 32 - 1 }
+        ensures ok { IfOk result (λ may. MatchBool may
+            ((answers reply.now (graph_of self.new) ≡ outcome (graph_of self.old) thread command.now) × (reply.now ≢ Full))
+            ((reply.now ≢ (outcome (graph_of self.old) thread command.now).reply) × (self.new ≡ self.old))) }
+        ensures threads { threads_of self.new ≡ threads_of self.old }
+        ensures err { OnErr result (self.new ≡ self.old) }
+    {
+        if self.answer(thread, command) != *reply {
+            return Ok(false);
+        }
+        if !is_pin(command) {
+            self.apply(alloc, thread, command)?;
+        }
+        Ok(true)
+    }
+
+    /// Whether a command of a thread may be answered so, other than by `Full`, in a heap of so many regions of so many
+    /// words. Where it may, it is done; else the graph is as before, and after `NoMemory` too.
+    pub fn accept(
+        &mut self,
+        alloc: Global,
+        regions: u64,
+        region_words: u64,
+        thread: u32,
+        command: &Command,
+        reply: &Reply,
+    ) -> Result<bool, NoMemory>
+        requires thread { (1 ≤ thread) × (thread ≤ threads_of self.old) }
+        requires valid { IsValid command.now }
+        requires count { (graph_of self.old).count thread < 2 ^ 32 - 1 }
+        ensures ok { IfOk result (λ may. MatchBool may
+            (IsLegal regions region_words (graph_of self.old) thread command.now reply.now (graph_of self.new) × (reply.now ≢ Full))
+            (((h : Graph) → IsLegal regions region_words (graph_of self.old) thread command.now reply.now h → reply.now ≡ Full) × (self.new ≡ self.old))) }
+        ensures threads { threads_of self.new ≡ threads_of self.old }
+        ensures err { OnErr result (self.new ≡ self.old) }
+    {
+        match self.pinned_by(thread, command) {
+            Some(name) => { Ok(self.take_pin(regions, region_words, thread, command, name, reply)) }
+            None => self.take_other(alloc, thread, command, reply),
+        }
     }
 
     fn add_roots(&self, found: &mut Vec<Name>) -> Result<(), NoMemory>
@@ -484,6 +819,15 @@ impl PlainGraph {
     {
         for row in &self.roots {
             add_names(found, row)?;
+        }
+        Ok(())
+    }
+
+    fn add_pins(&self, found: &mut Vec<Name>) -> Result<(), NoMemory>
+        ensures { OnOk result (found.new.items ≡ with_names found.old.items (map name_in (flat_map (λ row. row) self.now.pins))) }
+    {
+        for row in &self.pins {
+            add_pinned(found, row)?;
         }
         Ok(())
     }
@@ -498,12 +842,13 @@ impl PlainGraph {
         }
     }
 
-    /// The names that can be reached from the roots of all threads, in their order.
+    /// The names that can be reached from the roots and the pin slots of all threads, in their order.
     pub fn reach(&self, alloc: Global) -> Result<Vec<Name>, NoMemory>
         ensures { IfOk result (λ names. IsReach (graph_of self.now) names.items) }
     {
         let mut found = Vec::new(alloc);
         self.add_roots(&mut found)?;
+        self.add_pins(&mut found)?;
         let mut next = 0;
         while next < found.len() {
             let name = found[next];
@@ -551,6 +896,7 @@ impl PlainGraph {
         requires { sum_by (λ n. size (named (graph_of self.now) (Some n))) names.now ≤ text.old.spare }
         ensures rows { text.new.rows ≡ text.old.rows ++ map (row_in (graph_of self.now)) names.now }
         ensures roots { text.new.roots ≡ text.old.roots }
+        ensures pins { text.new.pins ≡ text.old.pins }
         ensures room { text.new.room ≡ text.old.room }
     {
         for name in names {
@@ -571,6 +917,19 @@ impl PlainGraph {
         }
     }
 
+    // Says in a text what the pin slots of all threads hold.
+    fn put_pins(&self, text: &mut GraphText)
+        requires { length text.old.pins ≡ threads_of self.now }
+        ensures pins { (thread slot : ℕ) → 1 ≤ thread → thread ≤ threads_of self.now
+            → pin_of text.new thread slot ≡ name_in ((graph_of self.now).pin thread slot) }
+        ensures kept { text.new ≡ record text.old { pins = text.new.pins } }
+        ensures threads { length text.new.pins ≡ length text.old.pins }
+    {
+        for thread in 1..self.pins.len() {
+            text.set_pins(thread - 1, names_in(self.pins[thread]));
+        }
+    }
+
     /// Makes a text that was opened for as many threads that of the graph. It is to have room for the words of all objects
     /// that can be reached. After `NoMemory` the text is empty.
     pub fn write(&self, alloc: Global, text: &mut GraphText) -> Result<(), NoMemory>
@@ -584,6 +943,7 @@ impl PlainGraph {
         let names = self.reach(alloc)?;
         self.put_objects(&names, text);
         self.put_roots(text);
+        self.put_pins(text);
         Ok(())
     }
 }

@@ -1,4 +1,4 @@
-ghost use Rattle.std.specs.Prelude.{◌≡◌, replicate, IfOk};
+ghost use Rattle.std.specs.Prelude.{◌≡◌, None, replicate, IfOk};
 
 use crate::NoMemory;
 use crate::name::Name;
@@ -13,4 +13,11 @@ pub fn alike(
     ensures { IfOk result (λ rows. rows.items ≡ replicate threads roots) }
 {
     Ok(vec![in alloc; roots; threads]?)
+}
+
+/// So many rows of four empty pin slots.
+pub fn slots_alike<T: Copy>(alloc: Global, threads: usize) -> Result<Vec<[Option<T>; 4]>, NoMemory>
+    ensures { IfOk result (λ rows. rows.items ≡ replicate threads (replicate 4 None)) }
+{
+    Ok(vec![in alloc; [None; 4]; threads]?)
 }

@@ -14,6 +14,7 @@ pub mod Ordered
 pub mod Outside
 pub mod Overwriting
 pub mod PartFits
+pub mod Pinnings
 pub mod Places
 pub mod Polling
 pub mod Recording

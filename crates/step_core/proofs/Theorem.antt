@@ -2,6 +2,7 @@ pub mod Beginning
 pub mod FirstFacts
 pub mod OpeningStands
 pub mod Induction
+pub mod PinWords
 pub mod Stands
 pub mod AtRest
 pub mod EveryList

@@ -16,3 +16,4 @@ pub mod Schedule
 pub mod Ending
 pub mod AtRest
 pub mod Hints
+pub mod Pins

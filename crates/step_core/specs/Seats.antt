@@ -25,7 +25,7 @@ use Rattle.move_steps.specs.Evacuation.Facts.{working_of}
 use Rattle.move_steps.specs.Updating.Facts.{pass_of}
 use Rattle.mutator.specs.declared.spot.Kept.{Kept}
 use Rattle.mutator.specs.declared.spot.Spot.{Spot}
-use Rattle.mutator.specs.declared.spot.Spot.TheVariants.{Entering, Loading, OnField, Resolving, Recording, OnNumber, Showing, StoreRoot, Making, Waiting}
+use Rattle.mutator.specs.declared.spot.Spot.TheVariants.{Entering, Loading, OnField, Resolving, Recording, OnNumber, Showing, StoreRoot, Making, Pinning, Waiting}
 use Rattle.mutator.specs.declared.spot.Entered.TheVariants.{Waited}
 use Rattle.mutator.specs.declared.loads.LoadSpot.{LoadSpot}
 use Rattle.mutator.specs.declared.loads.LoadSpot.TheVariants as load
@@ -295,6 +295,7 @@ IsOfCall k (OnField object at) a = IsOfField at a
 IsOfCall k (Resolving address at next) a = IsOfLoaded next a
 IsOfCall k (Recording at address next) a = IsOfOverwritten next a
 IsOfCall k (StoreRoot value) a = a ≡ value
+IsOfCall k (Pinning value at) a = a ≡ value
 IsOfCall k _ a = ⊥
 
 -- a mutator has taken what it was answered, and this is its reply: its answer is the address of the object of that name, which may be used;

@@ -4,7 +4,7 @@ use Rattle.std.specs.Prelude.{ℕ, ◌≡◌, ◌≢◌, ◌+◌, ◌<◌, ◌==
 use Rattle.heap_words.specs.declared.config.Config.{Config}
 use Rattle.heap_words.specs.Access.{table_index}
 use Rattle.heap_words.specs.Ranges.{seat_count}
-use Rattle.heap_words.specs.Words.{Word, Answer, Ask, view, table_words}
+use Rattle.heap_words.specs.Words.{Word, Answer, Ask, Pin, view, table_words}
 use Rattle.steps_base.specs.Steps.{Stage}
 use Rattle.shen_graph.specs.declared.command.Command.{Command}
 use Rattle.shen_graph.specs.declared.command.Reply.{Reply}
@@ -27,7 +27,8 @@ use Rattle.mutator.specs.Orders.{is_between_calls}
 use Rattle.mutator.specs.Rows.{Mutating, given_at}
 use Rattle.heap_world.specs.World.{Ghost, World, Block, Plot, room_of, Shared}
 use Rattle.heap_world.specs.Asking.{Asking, nothing, asks, refused, given, IsAsked, PromisedToMutators}
-use Rattle.heap_world.specs.Roots.{HasNoMore}
+use Rattle.heap_world.specs.Roots.{HasNoMore, HasNoMorePins}
+use Rattle.step_core.specs.Pins.{HoldsPin}
 use Rattle.step_core.specs.Actor.{mutating, Actor, entries_of}
 use Rattle.step_core.specs.Machines.{takes_of, plan_of, HasNumber, IsFitFor}
 use Rattle.step_core.specs.Settled.{settled}
@@ -165,12 +166,16 @@ pub record IsSound (c : Config) (g : Graph) (s : Stage Actor) (past : List Entry
   pub of_heap : IsOfHeap c s
   -- words and machines stand for the graph after the history
   pub stands : StandsFor c s (after g past)
-  -- the history is legal, and who was refused was crowded out by live objects and the other threads' allocations
-  pub legal : EachIsLegal g past
+  -- the history is legal, and who was refused was crowded out, of the regions without a pinned object, by live objects that are not pinned
+  -- and the other threads' allocations
+  pub legal : EachIsLegal c.regions c.region_words g past
   pub crowded : AreCrowded c.regions c.region_words g (scripts_begun c s) past
-  -- each entry is of a thread of the heap, and no thread has more roots than its 16
+  -- each entry is of a thread of the heap, and no thread has more roots than its 16, and more pin slots than its 4
   pub entries : All (IsSettled c.mutators) past
   pub no_more : HasNoMore c.mutators (after g past)
+  pub no_more_pins : HasNoMorePins c.mutators (after g past)
+  -- each pin word is 0 where the slot is empty, and else the place of its object, which is its current copy and has not moved
+  pub pinned : (t i : ℕ) → t < c.mutators → i < 4 → HoldsPin (settled c s) (settled c s (Pin t i)) ((after g past).pin (t + 1) i)
   -- the entries of each mutator are its calls, and one more where the call in progress is settled
   pub threads : (number : ℕ) (a : Actor) (m : Mutating) → IsMutator s number a m → AreCalls (settled c s) (view c s.words (Answer number)) (of_thread past (number + 1)) number a m
   -- each machine finds a fit word

@@ -27,6 +27,7 @@ ghost use Rattle.step_core.specs.Begins.{Begins, first_graph};
 ghost use Rattle.step_core.specs.Pausing.{IsInPause, IsEmpty, IsAim};
 ghost use Rattle.step_core.specs.Seats.{looks_for};
 ghost use Rattle.step_core.specs.Sound.{IsSound};
+ghost use Rattle.step_core.specs.Pins.{OnlyPinningPins};
 ghost use Rattle.step_core.specs.Ending.{has_ended};
 ghost use Rattle.step_core.specs.Hints.{HintsAreCounted, HintsHavePlaces};
 ghost use Rattle.handshake.specs.Ending.{IsEndWord};
@@ -35,7 +36,7 @@ pub use opening::{first_free, open_words};
 
 /// A law: whatever list of steps the machines of a heap make, from a stage that begins a graph, the words and machines
 /// then stand for the graph after the history of the steps; the history is legal and of the heap's threads, and refuses only
-/// allocations that live objects and other unanswered allocations crowd out; the entries of each thread are its calls, and
+/// allocations that live objects without a pin and other unanswered allocations crowd out of the regions without a pinned object; the entries of each thread are its calls, and
 /// one more where its call in progress is settled; and each machine finds a fit word next. This is so of any work that is a
 /// pause's: that makes, where a pause is due, of an image that stands for a graph one that stands for the same graph, and answers
 /// who waits.
@@ -80,6 +81,12 @@ pub fn looks_for_room_in_need()
 /// stores the new ones the first of them are the table's.
 pub fn read_words_are_the_tables()
     ensures { (change : Change) → IsPause change → (c : Config) (s : Stage Actor) (g : Graph) → Begins c s g → (events : List (Event Order)) (number : ℕ) (a : Actor) (k : Controlling) → slice_get (go (kind change c) s events).machines number ≡ Some a → a.machine ≡ controlling k → IsAim c (go (kind change c) s events).words k.spot k.image }
+{}
+
+/// A law: a pin word is changed by a step of its own mutator alone, which stores into it, whatever happened before. So a pinned object stays at
+/// its place until its own slot is emptied.
+pub fn only_pinning_pins()
+    ensures { (change : Change) → IsPause change → (c : Config) (s : Stage Actor) (g : Graph) → Begins c s g → (events : List (Event Order)) (e : Event Order) → OnlyPinningPins change c (go (kind change c) s events) e }
 {}
 
 /// A law: a machine keeps how many hints it has taken, whatever the events are.

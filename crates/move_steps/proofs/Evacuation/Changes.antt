@@ -47,6 +47,7 @@ module _ (c : Config) (u w : World) (seat claim : ℕ) (unit : Option ℕ) (on :
       units = units;
     };
     updated = λ updating. absurd (omega (arith, updating, on));
+    pinned = shared.pinned;
   }
 
   -- the facts of the seat's machine stand
@@ -59,6 +60,8 @@ module _ (c : Config) (u w : World) (seat claim : ℕ) (unit : Option ℕ) (on :
     promise_words = keeps.promise_words;
     root_words = keeps.root_words;
     roots = keeps.roots;
+    pin_words = keeps.pin_words;
+    pins = keeps.pins;
     count = keeps.count;
     wait = keeps.wait;
     answer = keeps.answer;
@@ -93,6 +96,8 @@ module _ (c : Config) (u w : World) (seat claim : ℕ) (unit : Option ℕ) (on :
     tops = rely.tops;
     root_words = rely.root_words;
     roots = rely.roots;
+    pin_words = rely.pin_words;
+    pins = rely.pins;
     count = rely.count;
     wait = rely.wait;
     answer = rely.answer;

@@ -4,7 +4,7 @@ use Rattle.std.proofs.Math.Path.{fun_ext}
 use Rattle.std.proofs.lemmas.Option.{none-some, same_Some}
 use Rattle.std.proofs.lemmas.Bool.{false≢true}
 use Rattle.heap_words.specs.declared.config.Config.{Config}
-use Rattle.heap_words.specs.Words.{Word, Phase, Cset, Free, Evac, Top, Tams, Current, Count, Buffer, Grey, Black, Heap, Share, write}
+use Rattle.heap_words.specs.Words.{Word, Phase, Cset, Free, Evac, Top, Tams, Current, Count, Buffer, Grey, Black, Heap, Share, Pin, write}
 use Rattle.regions.specs.Place.{base_of}
 use Rattle.regions.proofs.PlaceLemmas.{regions_tile}
 use Rattle.regions.specs.Sets.{IsIn}
@@ -15,6 +15,7 @@ use Rattle.heap_world.specs.World.{World, Block, thing, moved, spent, promised, 
 use Rattle.heap_world.specs.Rely.{KeepsMarks, KeepsCopies, Keeps, Rely}
 use Rattle.heap_world.specs.Part.{PartStep}
 use Rattle.heap_world.proofs.Updates.{updated}
+use Rattle.heap_world.proofs.Pins.{pins_stay}
 use Rattle.heap_world.proofs.Pointing.{named_body, body_named, body_piece, room_unnamed}
 use Rattle.heap_world.proofs.Marked.{noted_same}
 use Rattle.heap_world.proofs.Unwritten.{unwritten_stays}
@@ -162,6 +163,7 @@ module _ (c : Config) (u : World) (seat : ℕ) (heap top : ℕ → ℕ) (evac : 
             (shared.evacuated.units on r claimed is);
       };
       updated = λ updating. absurd (omega (arith, updating, on));
+      pinned = pins_stay c (u.memory Cset) (u.memory Evac) (u.memory Cset) evac u.block block (λ t i. u.memory (Pin t i)) u.graph.pin step.targets shared.pinned;
     }
       where
         of_region : (r a : ℕ) → IsIn (u.memory Cset) r → base_of c r ≤ a → a < base_of c (r + 1) → IsCollected c (u.memory Cset) a
@@ -205,6 +207,8 @@ module _ (c : Config) (u : World) (seat : ℕ) (heap top : ℕ → ℕ) (evac : 
       promise_words = λ a words k is below. promise_after a seat words k is below;
       root_words = λ i. refl;
       roots = λ i. refl;
+      pin_words = λ i. refl;
+      pins = λ i. refl;
       count = refl;
       wait = refl;
       answer = refl;
@@ -229,6 +233,8 @@ module _ (c : Config) (u : World) (seat : ℕ) (heap top : ℕ → ℕ) (evac : 
       tops = λ r is. step.own_tops r j differs is;
       root_words = λ i. refl;
       roots = λ i. refl;
+      pin_words = λ i. refl;
+      pins = λ i. refl;
       count = refl;
       wait = refl;
       answer = refl;

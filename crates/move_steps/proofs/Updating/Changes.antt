@@ -40,6 +40,7 @@ module _ (c : Config) (u w : World) (seat claim : ℕ) (pass : Option Scan) wher
           units = λ two. absurd (omega (arith, on, two));
         };
         updated = λ still. updating;
+        pinned = shared.pinned;
       }
 
   -- the facts of the seat's machine stand
@@ -52,6 +53,8 @@ module _ (c : Config) (u w : World) (seat claim : ℕ) (pass : Option Scan) wher
     promise_words = keeps.promise_words;
     root_words = keeps.root_words;
     roots = keeps.roots;
+    pin_words = keeps.pin_words;
+    pins = keeps.pins;
     count = keeps.count;
     wait = keeps.wait;
     answer = keeps.answer;
@@ -90,6 +93,8 @@ module _ (c : Config) (u w : World) (seat claim : ℕ) (pass : Option Scan) wher
     tops = rely.tops;
     root_words = rely.root_words;
     roots = rely.roots;
+    pin_words = rely.pin_words;
+    pins = rely.pins;
     count = rely.count;
     wait = rely.wait;
     answer = rely.answer;

@@ -24,7 +24,7 @@ set_same (y ∷ ys) (suc i) x here = ap (λ zs. y ∷ zs) (set_same ys i x here)
 
 -- the graph is the same where an object is put that is there
 same_graph : (g : Graph) (name : Name) (o : Object) → g.object name ≡ Some o → changed g name o g.root ≡ g
-same_graph g name o is = ap (λ (object : Name → Option Object). record { object = object; root = g.root; count = g.count }) (fun_ext (λ n. ⊎_elim
+same_graph g name o is = ap (λ (object : Name → Option Object). record { object = object; root = g.root; count = g.count; pin = g.pin }) (fun_ext (λ n. ⊎_elim
     (λ (same : same_name n name ≡ true). cond-true (same_name n name) (Some o) (g.object n) same ∙ sym is ∙ ap g.object (sym (same_name-true n name same)))
     (λ (other : same_name n name ≡ false). cond-false (same_name n name) (Some o) (g.object n) other)
     (cases_Bool (same_name n name))))

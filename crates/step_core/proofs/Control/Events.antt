@@ -169,7 +169,7 @@ module _ (change : Change) (law : IsPause change) (c : Config) (g : Graph) (s : 
         after g past,
         asking c s.words follows.block follows.ghost (after g past) past s.machines follows.seats (idle_at index here),
         image_stands c s.words follows.block follows.ghost (after g past) past s.machines follows.seats (idle_at index here) (image ++ loaded index ∷ []) read
-            (shared_held change law c g s past number (control_at (LoadWord index)) command calls follows shaken here) follows.promised_to follows.no_more
+            (shared_held change law c g s past number (control_at (LoadWord index)) command calls follows shaken here) follows.promised_to follows.no_more follows.no_more_pins
             (known_held change law c g s past number (control_at (LoadWord index)) command calls follows shaken here)
             (all_outside change law c g s past number (control_at (LoadWord index)) command calls follows shaken here refl),
       ) ∣₁
@@ -207,7 +207,7 @@ module _ (change : Change) (law : IsPause change) (c : Config) (g : Graph) (s : 
       let less : index + 1 ≡ image_words c = (let last = ltb-false _ _ all in let ready = ltb-true _ _ (ready_at (LoadWord index) here) in omega (arith, last, ready)) in
       paused_owes c s.words follows.block follows.ghost (after g past) past s.machines follows.seats (idle_at index here) (image ++ loaded index ∷ [])
       (λ i below. image_grows c s.words image index known.aims.0 known.aims.1 i (omega (arith, below, less))) change law (due_at index here)
-      (length-snoc image (loaded index) ∙ ap (λ n. n + 1) known.aims.0 ∙ less) shared follows.promised_to follows.no_more
+      (length-snoc image (loaded index) ∙ ap (λ n. n + 1) known.aims.0 ∙ less) shared follows.promised_to follows.no_more follows.no_more_pins
       (known_held change law c g s past number (control_at (LoadWord index)) command calls follows shaken here)
       (all_outside change law c g s past number (control_at (LoadWord index)) command calls follows shaken here refl)
       (seen_after seen (image_view c (change c (image ++ loaded index ∷ [])))) hints command calls

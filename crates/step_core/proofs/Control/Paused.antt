@@ -2,7 +2,7 @@
 -- is where it should be in it.
 use Rattle.std.proofs.Common.{◌≡◌, ◌≢◌, ℕ, ◌+◌, ◌<◌, ◌≤◌, inl, inr, ⊎_elim, true, false, List, [], ◌++◌, length, Option, Some, None, refl, sym, ap, ◌∙◌, subst, arith}
 use Rattle.std.specs.Prelude.{◌*◌, ◌-◌, ◌==◌, sum_by, slice_get, if◌then◌else◌}
-use Rattle.std.proofs.lemmas.Bool.{false≢true, lt-ltb}
+use Rattle.std.proofs.lemmas.Bool.{false≢true, true≢false, lt-ltb}
 use Rattle.std.proofs.lemmas.List.{append-nil}
 use Rattle.std.proofs.lemmas.List.Elements.{All-nil}
 use Rattle.heap_words.specs.declared.config.Config.{Config}
@@ -32,7 +32,7 @@ use Rattle.heap_world.specs.World.{Ghost, World, Block, Plot, hand, carved, room
 use Rattle.heap_world.specs.Asking.{Asking, nothing, asks, refused, given, IsAsked}
 use Rattle.heap_world.specs.Change.{Change, Answers, IsDue, IsPause, IsPaused, image_view, image_words, words_given}
 use Rattle.heap_world.specs.Represents.{NobodyMarks, NobodyCopies, Represents}
-use Rattle.heap_world.specs.Roots.{HasNoMore}
+use Rattle.heap_world.specs.Roots.{HasNoMore, HasNoMorePins}
 use Rattle.control_rows.specs.declared.spot.ControlSpot.TheVariants.{StoreWord}
 use Rattle.step_core.specs.Actor.{Machine, mutating, controlling, Actor}
 use Rattle.step_core.specs.Settled.{mixed, settled_by, control_number}
@@ -266,13 +266,13 @@ module _ (c : Config) (words : List ℕ) (u w : World) (t made : ℕ) (kept : Ke
     thread_then (Entering at Call) out short answers old = quiet_then (Entering at Call) out refl answers old old.mine.facts
     thread_then (Entering at Waited) out short answers old = enter_then at out answers old old.mine.facts
     thread_then (Waiting wait.Poll) out short answers old = poll_then short answers old old.mine.facts
-    thread_then (Waiting wait.StoreRequest) out short answers old = cc
-    thread_then (Waiting wait.AskRoom) out short answers old = cc
-    thread_then (Waiting wait.StepOut) out short answers old = cc
-    thread_then (Waiting wait.LoadAnswer) out short answers old = cc
-    thread_then (Waiting (wait.StoreRoot address)) out short answers old = cc
-    thread_then (Waiting (wait.ClearAnswer reply)) out short answers old = cc
-    thread_then _ out short answers old = cc
+    thread_then (Waiting wait.StoreRequest) out short answers old = absurd (true≢false out)
+    thread_then (Waiting wait.AskRoom) out short answers old = absurd (true≢false out)
+    thread_then (Waiting wait.StepOut) out short answers old = absurd (true≢false out)
+    thread_then (Waiting wait.LoadAnswer) out short answers old = absurd (true≢false out)
+    thread_then (Waiting (wait.StoreRoot address)) out short answers old = absurd (true≢false out)
+    thread_then (Waiting (wait.ClearAnswer reply)) out short answers old = absurd (true≢false out)
+    thread_then _ out short answers old = absurd (true≢false out)
 
 -- A stage in which the control rests, and every machine but it is outside.
 module _ (c : Config) (words : List ℕ) (block : Plot) (ghost : Ghost) (g : Graph) (past : List Entry) (machines : List Actor) (seats : length machines ≡ seat_count c.mutators c.helpers)
@@ -345,8 +345,8 @@ module _ (c : Config) (words : List ℕ) (block : Plot) (ghost : Ghost) (g : Gra
   }
 
   -- The words of the table stand for the graph.
-  pub words_stand : Shared c before → PromisedToMutators c block → HasNoMore c.mutators g → AllKnown → AllOutside → Represents c (view c words) g asking
-  words_stand shared promised_to no_more known outside = record {
+  pub words_stand : Shared c before → PromisedToMutators c block → HasNoMore c.mutators g → HasNoMorePins c.mutators g → AllKnown → AllOutside → Represents c (view c words) g asking
+  words_stand shared promised_to no_more no_more_pins known outside = record {
     block = block;
     ghost = ghost;
     shared = shared;
@@ -369,15 +369,16 @@ module _ (c : Config) (words : List ℕ) (block : Plot) (ghost : Ghost) (g : Gra
     unmarking = nobody_marks known outside;
     uncopying = nobody_copies known outside;
     no_more = no_more;
+    no_more_pins = no_more_pins;
   }
 
   -- An image that was read.
   module _ (image : List ℕ) (read : AreRead c words image (image_words c)) where
     -- It stands for the graph.
-    pub image_stands : Shared c before → PromisedToMutators c block → HasNoMore c.mutators g → AllKnown → AllOutside → Represents c (image_view c image) g asking
-    image_stands shared promised_to no_more known outside =
+    pub image_stands : Shared c before → PromisedToMutators c block → HasNoMore c.mutators g → HasNoMorePins c.mutators g → AllKnown → AllOutside → Represents c (image_view c image) g asking
+    image_stands shared promised_to no_more no_more_pins known outside =
         let whole : view c words ≡ mixed c words image = sym (mixed_whole c words image read) in
-        let stands = words_stand shared promised_to no_more known outside in
+        let stands = words_stand shared promised_to no_more no_more_pins known outside in
         record {
           block = stands.block;
           ghost = stands.ghost;
@@ -392,17 +393,18 @@ module _ (c : Config) (words : List ℕ) (block : Plot) (ghost : Ghost) (g : Gra
           unmarking = stands.unmarking;
           uncopying = stands.uncopying;
           no_more = no_more;
+          no_more_pins = no_more_pins;
         }
 
     -- The new image counts: what the step owes.
-    module _ (change : Change) (law : IsPause change) (due : IsDue c (view c words)) (long : length image ≡ image_words c) (shared : Shared c before) (promised_to : PromisedToMutators c block) (no_more : HasNoMore c.mutators g)
+    module _ (change : Change) (law : IsPause change) (due : IsDue c (view c words)) (long : length image ≡ image_words c) (shared : Shared c before) (promised_to : PromisedToMutators c block) (no_more : HasNoMore c.mutators g) (no_more_pins : HasNoMorePins c.mutators g)
         (known : AllKnown) (outside : AllOutside) where
       -- the pause is due by the image
       image_due : IsDue c (image_view c image)
       image_due = subst (λ memory. IsDue c memory) (sym (mixed_whole c words image read)) due
 
       paused : IsPaused c (image_view c image) (image_view c (change c image)) g asking
-      paused = law.pauses c image g asking long (image_stands shared promised_to no_more known outside) image_due
+      paused = law.pauses c image g asking long (image_stands shared promised_to no_more no_more_pins known outside) image_due
 
       -- the world then
       abbrev then_world : World
@@ -422,7 +424,15 @@ module _ (c : Config) (words : List ℕ) (block : Plot) (ghost : Ghost) (g : Gra
       crowded_then : (t : ℕ) → t < c.mutators → (refs nums : ℕ) → asking t ≡ asks refs nums → paused.asked_then t ≡ refused → IsShort c then_world.memory g t (3 + refs + nums)
       crowded_then t below refs nums asks_so is =
           let crowd = paused.crowded t refs nums below asks_so is in
-          (crowd.0, crowd.1, subst (λ n. c.regions * (c.region_words - (3 + refs + nums) + 1) ≤ sum_by (λ n. size (named g (Some n))) crowd.0 + n) (promised_sum t) crowd.2)
+          record {
+            names = crowd.0;
+            held = crowd.1;
+            pinned = crowd.2;
+            reach = crowd.3;
+            held_is = crowd.4;
+            pinned_is = crowd.5;
+            crowd = subst (λ n. (c.regions - crowd.2) * (c.region_words - (3 + refs + nums) + 1) ≤ sum_by (λ n. size (named g (Some n))) crowd.0 - crowd.1 + n) (promised_sum t) crowd.6;
+          }
 
       -- a mutator
       mutator_then : (k : ℕ) (b : Actor) (m : Mutating) → slice_get machines k ≡ Some b → b.machine ≡ mutating m → is_within (standing_at m.spot) ≡ false

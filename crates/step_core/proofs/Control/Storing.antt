@@ -262,7 +262,7 @@ module _ (change : Change) (c : Config) (words : List ℕ) (block : Plot) (ghost
             world = u;
             memory_is = counts_then (nat_lt (index + 1) (image_words c)) refl;
             graph_is = refl;
-            legal = (inr (refused_new c u m.seat m.made m.kept b.command now m.spot own, refl, refl), tt);
+            legal = (inr (inl (refused_new c u m.seat m.made m.kept b.command now m.spot own, refl, refl)), tt);
             entries = entries_settled c.mutators t b.command (Some Full) within thread.valid;
             shared = shared;
             promised_to = promised_to;

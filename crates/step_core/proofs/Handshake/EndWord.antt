@@ -24,7 +24,7 @@ use Rattle.unit_part.specs.declared.spot.UnitSpot.TheVariants as unit
 use Rattle.unit_part.specs.Rows as units
 use Rattle.mutator.specs.declared.spot.Entered.{Entered}
 use Rattle.mutator.specs.declared.spot.Spot.{Spot}
-use Rattle.mutator.specs.declared.spot.Spot.TheVariants.{Rest, Ended, Entering, LoadPhase, LoadSet, Loading, OnField, Resolving, Recording, OnNumber, Showing, StoreRoot, Making, AskCycle, Waiting, Leave, Gone}
+use Rattle.mutator.specs.declared.spot.Spot.TheVariants.{Rest, Ended, Entering, LoadPhase, LoadSet, Loading, OnField, Resolving, Recording, OnNumber, Showing, StoreRoot, Making, AskCycle, Pinning, Waiting, Leave, Gone}
 use Rattle.mutator.specs.declared.waits.WaitSpot.{WaitSpot}
 use Rattle.mutator.specs.declared.waits.WaitSpot.TheVariants as wait
 use Rattle.mutator.specs.Orders.{takes_at}
@@ -85,6 +85,7 @@ module _ (c : Config) (m : Mutating) (given : Order) where
   not_end (Showing value at) takes going word = of_image (Showing value at) (stays_in c m given (Showing value at) going refl) word
   not_end (StoreRoot value) takes going word = of_image (StoreRoot value) (stays_in c m given (StoreRoot value) going refl) word
   not_end (Making at) takes going word = of_image (Making at) (stays_in c m given (Making at) going refl) word
+  not_end (Pinning value at) takes going word = of_image (Pinning value at) (stays_in c m given (Pinning value at) going refl) word
   not_end AskCycle takes going word = of_image AskCycle (stays_in c m given AskCycle going refl) word
 
 -- a choice of two spots at neither of which the control has ended

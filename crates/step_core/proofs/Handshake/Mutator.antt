@@ -26,7 +26,9 @@ use Rattle.mutator.specs.declared.spot.Entered.{Entered}
 use Rattle.mutator.specs.declared.spot.Entered.TheVariants.{Call, Waited}
 use Rattle.mutator.specs.declared.spot.Spot.{Spot}
 use Rattle.load_barrier.proofs.Inside.{resolve_image}
-use Rattle.mutator.specs.declared.spot.Spot.TheVariants.{Rest, Ended, Entering, LoadPhase, LoadSet, Loading, OnField, Resolving, Recording, OnNumber, Showing, StoreRoot, Making, AskCycle, Waiting, Leave, Gone}
+use Rattle.mutator.specs.declared.pins.PinSpot.{PinSpot}
+use Rattle.mutator.specs.declared.pins.PinSpot.TheVariants as pins
+use Rattle.mutator.specs.declared.spot.Spot.TheVariants.{Rest, Ended, Entering, LoadPhase, LoadSet, Loading, OnField, Resolving, Recording, OnNumber, Showing, StoreRoot, Making, AskCycle, Pinning, Waiting, Leave, Gone}
 use Rattle.mutator.specs.declared.loads.LoadSpot.{LoadSpot}
 use Rattle.mutator.specs.declared.loads.LoadSpot.TheVariants as load
 use Rattle.mutator.specs.declared.fields.FieldSpot.{FieldSpot}
@@ -103,6 +105,10 @@ show_image : (c : Config) (seat made value : ℕ) (kept : Kept) (order : Order) 
 show_image c seat made value kept order show.LoadName = refl
 show_image c seat made value kept order (show.StoreRoot reply) = refl
 
+pin_image : (c : Config) (seat made value : ℕ) (kept : Kept) (order : Order) (at : PinSpot) → is_image (touch_at c seat made kept order (Pinning value at)).word ≡ true
+pin_image c seat made value kept order pins.Look = refl
+pin_image c seat made value kept order pins.Store = refl
+
 make_image : (c : Config) (seat made : ℕ) (kept : Kept) (order : Order) (at : MakeSpot) → is_image (touch_at c seat made kept order (Making at)).word ≡ true
 make_image c seat made kept order (make.Taking take) = in_image seat (words_made kept.command) take
 make_image c seat made kept order (make.StoreWord address done) = refl
@@ -171,6 +177,7 @@ module _ (c : Config) (m : Mutating) (order : Order) where
   stays_in (Showing value at) on is = record { image = show_image c m.seat m.made value m.kept order at; next = λ got. goes_on_in c m order got (Showing value at) is }
   stays_in (StoreRoot value) on is = record { image = refl; next = λ got. goes_on_in c m order got (StoreRoot value) is }
   stays_in (Making at) on is = record { image = make_image c m.seat m.made m.kept order at; next = λ got. goes_on_in c m order got (Making at) is }
+  stays_in (Pinning value at) on is = record { image = pin_image c m.seat m.made value m.kept order at; next = λ got. goes_on_in c m order got (Pinning value at) is }
   stays_in AskCycle on is = record { image = refl; next = λ got. goes_on_in c m order got AskCycle is }
   stays_in (Waiting at) on is = waits_in at is
   stays_in (Entering at next) on is = absurd (not_inside at on is)
@@ -228,6 +235,7 @@ module _ (c : Config) (m : Mutating) (order : Order) where
   spot_obeys (Showing value at) takes going word = on (Showing value at) (stays_in (Showing value at) going refl) word
   spot_obeys (StoreRoot value) takes going word = on (StoreRoot value) (stays_in (StoreRoot value) going refl) word
   spot_obeys (Making at) takes going word = on (Making at) (stays_in (Making at) going refl) word
+  spot_obeys (Pinning value at) takes going word = on (Pinning value at) (stays_in (Pinning value at) going refl) word
   spot_obeys AskCycle takes going word = on AskCycle (stays_in AskCycle going refl) word
 
   -- what it does to the count of the mutators that have not ended
@@ -278,6 +286,7 @@ module _ (c : Config) (m : Mutating) (order : Order) where
   spot_counts (Showing value at) takes going word = counts_in (Showing value at) (stays_in (Showing value at) going refl) refl word
   spot_counts (StoreRoot value) takes going word = counts_in (StoreRoot value) (stays_in (StoreRoot value) going refl) refl word
   spot_counts (Making at) takes going word = counts_in (Making at) (stays_in (Making at) going refl) refl word
+  spot_counts (Pinning value at) takes going word = counts_in (Pinning value at) (stays_in (Pinning value at) going refl) refl word
   spot_counts AskCycle takes going word = counts_in AskCycle (stays_in AskCycle going refl) refl word
 
 -- a mutator that is ready has its numbers in range, and makes an access of a word of the table

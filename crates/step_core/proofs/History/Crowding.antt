@@ -159,14 +159,14 @@ module _ (c : Config) (g : Graph) (s : Stage Actor) (past : List Entry) (follows
       (λ (not_yet : (view c s.words (Answer t) ≡ 0) × (thread.fixed ≡ None)). not_yet.1)
       (thread.seen.full full) in
       let short = thread.short full unsettled in
-      let live : ℕ = sum_by (λ n. size (named (after g past) (Some n))) short.0 in
+      let live : ℕ = sum_by (λ n. size (named (after g past) (Some n))) short.names in
       let sums : sum_below (λ k. if k == t then 0 else words_promised u.memory k) c.mutators ≤ sum_below (λ k. open_of (scripts_begun c s) past (t + 1) (k + 1)) c.mutators =
       sum_below_le _ _ c.mutators (λ k below. either_less (k == t) ((k + 1) == (t + 1)) _ _ (same_test t k) (promised_open k below)) in
       let many : sum_below (λ k. open_of (scripts_begun c s) past (t + 1) (k + 1)) (length (scripts_begun c s)) ≡ sum_below (λ k. open_of (scripts_begun c s) past (t + 1) (k + 1)) c.mutators =
       ap (sum_below (λ k. open_of (scripts_begun c s) past (t + 1) (k + 1))) (begun_many c s follows.seats) in
       let open_is = open_below (scripts_begun c s) past (t + 1) in
-      let crowd = short.2 in
-      (live, (short.0, short.1, refl), omega (arith, crowd, sums, many, open_is))
+      let crowd = short.crowd in
+      (live, short.held, short.pinned, (short.names, short.reach, refl), short.held_is, short.pinned_is, omega (arith, crowd, sums, many, open_is))
 
 -- What an event settles leaves a history of which each refused entry was crowded out.
 module _ (change : Change) (c : Config) (g : Graph) (s : Stage Actor) (past : List Entry) (goes : Goes c g s past) (crowded : AreCrowded c.regions c.region_words g (scripts_begun c s) past) where

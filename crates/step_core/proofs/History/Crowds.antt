@@ -84,7 +84,7 @@ open_grows old new history thread grows =
 pub crowded_longer : (regions region_words : ℕ) (g : Graph) (old new : List (List Command)) (history : List Entry) → AreLonger old new → AreCrowded regions region_words g old history → AreCrowded regions region_words g new history
 crowded_longer regions region_words g old new history grows crowded k e there full =
     let crowd = crowded k e there full in
-    (crowd.0, crowd.1, (let less = open_grows old new (take k history) e.thread grows in let before = crowd.2 in omega (arith, less, before)))
+    (crowd.0, crowd.1, crowd.2, crowd.3, crowd.4, crowd.5, (let less = open_grows old new (take k history) e.thread grows in let before = crowd.6 in omega (arith, less, before)))
 
 -- an entry of a history without Full
 not_full_at : (es : List Entry) (k : ℕ) (e : Entry) → IsWithoutFull es → slice_get es k ≡ Some e → e.reply ≢ Full

@@ -4,6 +4,7 @@ use Rattle.std.specs.Prelude.{◌==◌, if◌then◌else◌, All}
 use Rattle.std.proofs.lemmas.Bool.Decides.{nat_tests}
 use Rattle.std.proofs.lemmas.List.Elements.{filter-append, All-nil, All-cons}
 use Rattle.std.proofs.lemmas.List.{append-nil}
+use Rattle.heap_words.specs.declared.config.Config.{Config}
 use Rattle.shen_graph.specs.declared.command.Command.{Command}
 use Rattle.shen_graph.specs.declared.command.Reply.{Reply}
 use Rattle.shen_graph.specs.Graph.{Graph}
@@ -24,9 +25,10 @@ after-append g [] more = refl
 after-append g (e ∷ past) more = after-append (after_entry g e) past more
 
 -- two legal histories are one
-pub legal-append : (g : Graph) (past more : List Entry) → EachIsLegal g past → EachIsLegal (after g past) more → EachIsLegal g (past ++ more)
-legal-append g [] more legal rest = rest
-legal-append g (e ∷ past) more legal rest = (legal.0, legal-append (after_entry g e) past more legal.1 rest)
+pub legal-append : (regions region_words : ℕ) (g : Graph) (past more : List Entry)
+    → EachIsLegal regions region_words g past → EachIsLegal regions region_words (after g past) more → EachIsLegal regions region_words g (past ++ more)
+legal-append regions region_words g [] more legal rest = rest
+legal-append regions region_words g (e ∷ past) more legal rest = (legal.0, legal-append regions region_words (after_entry g e) past more legal.1 rest)
 
 -- the entry that a step of a mutator settles leads to the graph that it says
 pub graph_settled : (g : Graph) (seat : ℕ) (k : Command) (r : Option Reply) → graph_by g seat k r ≡ after g (entries_of seat k r)
@@ -34,9 +36,9 @@ graph_settled g seat k None = refl
 graph_settled g seat k (Some r) = refl
 
 -- and is legal where it says so
-pub legal_settled : (g : Graph) (seat : ℕ) (k : Command) (r : Option Reply) → LegalBy g seat k r → EachIsLegal g (entries_of seat k r)
-legal_settled g seat k None legal = tt
-legal_settled g seat k (Some r) legal = (legal, tt)
+pub legal_settled : (c : Config) (g : Graph) (seat : ℕ) (k : Command) (r : Option Reply) → LegalBy c g seat k r → EachIsLegal c.regions c.region_words g (entries_of seat k r)
+legal_settled c g seat k None legal = tt
+legal_settled c g seat k (Some r) legal = (legal, tt)
 
 -- the mutator's own entries grow by the entry
 pub own_more : (past : List Entry) (seat : ℕ) (k : Command) (r : Option Reply) → of_thread (past ++ entries_of seat k r) (seat + 1) ≡ of_thread past (seat + 1) ++ entries_of seat k r

@@ -18,7 +18,7 @@ use Rattle.handshake.specs.declared.enter_spot.EnterSpot.TheVariants.{Inside}
 use Rattle.handshake.specs.Rows.{enter_next}
 use Rattle.handshake.specs.Standing.{inside}
 use Rattle.mutator.specs.declared.spot.Spot.{Spot}
-use Rattle.mutator.specs.declared.spot.Spot.TheVariants.{Rest, Ended, Entering, LoadPhase, LoadSet, Loading, OnField, Resolving, Recording, OnNumber, Showing, StoreRoot, Making, AskCycle, Waiting, Leave, Gone}
+use Rattle.mutator.specs.declared.spot.Spot.TheVariants.{Rest, Ended, Entering, LoadPhase, LoadSet, Loading, OnField, Resolving, Recording, OnNumber, Showing, StoreRoot, Making, AskCycle, Pinning, Waiting, Leave, Gone}
 use Rattle.mutator.specs.declared.spot.Entered.{Entered}
 use Rattle.mutator.specs.declared.spot.Entered.TheVariants.{Call, Waited}
 use Rattle.mutator.specs.declared.waits.WaitSpot.{WaitSpot}
@@ -118,6 +118,7 @@ module _ (c : Config) (m : Mutating) (order : Order) (got : ℕ) (command : Comm
   grows_at (Showing value at) takes = call_grows (Showing value at) refl takes (stays_in_call (Showing value at) refl)
   grows_at (StoreRoot value) takes = call_grows (StoreRoot value) refl takes (stays_in_call (StoreRoot value) refl)
   grows_at (Making at) takes = call_grows (Making at) refl takes (stays_in_call (Making at) refl)
+  grows_at (Pinning value at) takes = call_grows (Pinning value at) refl takes (stays_in_call (Pinning value at) refl)
   grows_at AskCycle takes = call_grows AskCycle refl takes (stays_in_call AskCycle refl)
 
 -- who begins no command begins nothing

@@ -4,14 +4,17 @@ use Rattle.std.specs.Prelude.{◌==◌, if◌then◌else◌}
 use Rattle.std.proofs.lemmas.Option.{same_Some}
 use Rattle.std.proofs.lemmas.List.Elements.{All-nil, All-cons}
 use Rattle.heap_words.specs.Words.{Word, Root, Heap}
+use Rattle.heap_words.specs.Words as words
 use Rattle.shen_graph.specs.declared.command.Command.{Command}
 use Rattle.shen_graph.specs.declared.command.Reply.{Reply}
 use Rattle.shen_graph.specs.declared.command.Reply.TheVariants.{Ref, Null, Yes, No, Bad, Full}
-use Rattle.shen_graph.specs.declared.command.Command.TheVariants.{Same}
-use Rattle.shen_graph.specs.Step.{yes_or_no}
+use Rattle.shen_graph.specs.declared.command.Command.TheVariants.{Same, Pin}
+use Rattle.shen_graph.specs.Step.{yes_or_no, slot_of}
 use Rattle.shen_graph.specs.History.{IsWithoutFull}
 use Rattle.mutator.specs.declared.spot.Spot.{Spot}
-use Rattle.mutator.specs.declared.spot.Spot.TheVariants.{Loading, OnField, OnNumber, StoreRoot, Making, AskCycle, Waiting}
+use Rattle.mutator.specs.declared.pins.PinSpot.{PinSpot}
+use Rattle.mutator.specs.declared.pins.PinSpot.TheVariants as pins
+use Rattle.mutator.specs.declared.spot.Spot.TheVariants.{Loading, OnField, OnNumber, StoreRoot, Making, AskCycle, Pinning, Waiting}
 use Rattle.mutator.specs.declared.loads.LoadSpot.TheVariants as load
 use Rattle.mutator.specs.declared.fields.FieldSpot.TheVariants as fields
 use Rattle.mutator.specs.declared.numbers.NumberSpot.TheVariants as numbers
@@ -20,9 +23,9 @@ use Rattle.mutator.specs.declared.waits.WaitSpot.TheVariants as wait
 use Rattle.mutator.specs.declared.spot.Kept.{Kept}
 use Rattle.mutator.specs.declared.loads.LoadSpot.{LoadSpot}
 use Rattle.mutator.specs.declared.fields.FieldSpot.{FieldSpot}
-use Rattle.mutator.specs.Commands.{command_root, index_of, lacks_object, has_part}
+use Rattle.mutator.specs.Commands.{command_root, index_of, lacks_object, has_part, fits_slot, pin_reply}
 use Rattle.mutator.specs.Rows.{Mutating, name_in}
-use Rattle.mutator.specs.Told.{name_of_object, name_the_same, shown_word, told_second, load_told, field_told, told_at, told_of}
+use Rattle.mutator.specs.Told.{name_of_object, name_the_same, shown_word, told_second, load_told, field_told, pin_told, told_at, told_of}
 use Rattle.step_core.specs.Actor.{entries_of}
 
 some_same : (a b : Reply) → ◌≡◌ {A = Option Reply} (Some a) (Some b) → a ≡ b
@@ -66,6 +69,14 @@ field_not_full memory object command (fields.Store value) = λ e. absurd cc
 field_not_full memory object command (fields.Swap value) = λ e. shown_not_full memory (memory (Heap (object + 3 + index_of command))) (some_same _ Full e)
 field_not_full memory object command (fields.Exchange found expect value) = if_then (memory (Heap (object + 3 + index_of command)) == found) Yes (λ h. absurd cc)
 
+reply_not_full : (command : Command) (value : ℕ) → pin_reply command value ≢ Full
+reply_not_full (Pin slot obj) value e = absurd cc
+reply_not_full _ value e = absurd cc
+
+pin_not_full : (memory : Word → ℕ) (seat value : ℕ) (command : Command) (at : PinSpot) → pin_told memory seat value command at ≢ Some Full
+pin_not_full memory seat value command pins.Look = if_else (fits_slot command (memory (words.Pin seat (slot_of command)))) Bad (λ h. absurd cc)
+pin_not_full memory seat value command pins.Store = λ e. reply_not_full command value (some_same _ Full e)
+
 told_not_full : (memory : Word → ℕ) (seat made : ℕ) (kept : Kept) (spot : Spot) → told_at memory seat made kept spot ≢ Some Full
 told_not_full memory seat made kept (Loading at) = load_not_full memory seat kept.command at
 told_not_full memory seat made kept (OnField object at) = field_not_full memory object kept.command at
@@ -76,6 +87,7 @@ told_not_full memory seat made kept (Making (make.StoreRoot address)) = λ e. ab
 told_not_full memory seat made kept (Making at) = λ e. absurd cc
 told_not_full memory seat made kept (Waiting (wait.StoreRoot address)) = λ e. absurd cc
 told_not_full memory seat made kept (Waiting at) = λ e. absurd cc
+told_not_full memory seat made kept (Pinning value at) = pin_not_full memory seat value kept.command at
 told_not_full memory seat made kept AskCycle = λ e. absurd cc
 told_not_full memory seat made kept _ = λ e. absurd cc
 

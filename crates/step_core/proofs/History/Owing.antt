@@ -16,8 +16,8 @@ use Rattle.step_core.specs.Actor.{Actor}
 use Rattle.step_core.specs.Settled.{settled}
 use Rattle.step_core.specs.Threads.{IsSettled}
 use Rattle.step_core.specs.Sound.{world_of}
-use Rattle.heap_world.specs.Roots.{HasNoMore}
-use Rattle.step_core.proofs.Mutators.Roots.{no_more_after}
+use Rattle.heap_world.specs.Roots.{HasNoMore, HasNoMorePins}
+use Rattle.step_core.proofs.Mutators.Roots.{no_more_after, no_more_pins_after}
 use Rattle.step_core.proofs.Machines.Owed.{IsMachine, Follows, Owes}
 use Rattle.step_core.proofs.History.Entries.{after-append, legal-append}
 
@@ -41,9 +41,10 @@ module _ (c : Config) (g : Graph) (s : Stage Actor) (past : List Entry) (number 
         ghost = owes.world.ghost;
         words = long;
         seats = length-set s.machines number new ∙ follows.seats;
-        legal = legal-append g past settles follows.legal owes.legal;
+        legal = legal-append c.regions c.region_words g past settles follows.legal owes.legal;
         entries = All-append (IsSettled c.mutators) past settles follows.entries owes.entries;
         no_more = subst (λ h. HasNoMore c.mutators h) (sym (after-append g past settles)) (no_more_after c.mutators (after g past) settles owes.entries follows.no_more);
+        no_more_pins = subst (λ h. HasNoMorePins c.mutators h) (sym (after-append g past settles)) (no_more_pins_after c.mutators (after g past) settles owes.entries follows.no_more_pins);
         shared = subst (λ w. Shared c w) world_is owes.shared;
         promised_to = owes.promised_to;
         machines = λ k a there.

@@ -9,7 +9,8 @@ use Rattle.shen_graph.specs.declared.command.Reply.{Reply}
 use Rattle.shen_graph.specs.declared.command.Reply.TheVariants.{Full}
 use Rattle.mutator.specs.declared.spot.Kept.{Kept}
 use Rattle.mutator.specs.declared.spot.Spot.{Spot}
-use Rattle.mutator.specs.declared.spot.Spot.TheVariants.{Rest, Ended, Entering, LoadPhase, LoadSet, Loading, OnField, Resolving, Recording, OnNumber, Showing, StoreRoot, Making, AskCycle, Waiting, Leave, Gone}
+use Rattle.mutator.specs.declared.pins.PinSpot.TheVariants as pins
+use Rattle.mutator.specs.declared.spot.Spot.TheVariants.{Rest, Ended, Entering, LoadPhase, LoadSet, Loading, OnField, Resolving, Recording, OnNumber, Showing, StoreRoot, Making, AskCycle, Pinning, Waiting, Leave, Gone}
 use Rattle.mutator.specs.declared.spot.Entered.TheVariants.{Call, Waited}
 use Rattle.mutator.specs.declared.makes.MakeSpot.TheVariants as make
 use Rattle.mutator.specs.declared.loads.LoadSpot.TheVariants as load
@@ -116,6 +117,8 @@ module _ (c : Config) (w : World) (seat made : ℕ) (kept : Kept) (command : Com
   unsettled_before (Making (make.StoreWord address done)) before facts = facts.0.unsettled
   unsettled_before (Making (make.StoreRoot address)) before facts = facts.0.unsettled
   unsettled_before AskCycle before facts = facts.0
+  unsettled_before (Pinning value pins.Look) before facts = facts.0
+  unsettled_before (Pinning value pins.Store) before facts = facts.0
   unsettled_before (Waiting wait.StoreRequest) before facts = facts.0.unsettled
   unsettled_before (Waiting wait.AskRoom) before facts = facts.0.unsettled
   unsettled_before (Waiting wait.StepOut) before facts = facts.0.0.unsettled

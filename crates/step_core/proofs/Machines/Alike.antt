@@ -2,7 +2,7 @@
 use Rattle.std.proofs.Common.{◌≡◌, ◌≢◌, ℕ, ◌+◌, Bool, true, false, refl, sym, subst}
 use Rattle.std.specs.Int.{bit_at}
 use Rattle.heap_words.specs.declared.config.Config.{Config}
-use Rattle.heap_words.specs.Words.{Word, Pause, Left, End, Phase, Cset, Evac, Claim, Ask, Free, State, Top, Tams, Limit, Current, Root, Count, Buffer, Wait, Answer, Grey, Heap, write}
+use Rattle.heap_words.specs.Words.{Word, Pause, Left, End, Phase, Cset, Evac, Claim, Ask, Free, State, Top, Tams, Limit, Current, Root, Pin, Count, Buffer, Wait, Answer, Grey, Heap, write}
 use Rattle.steps_base.specs.Touch.{touch, loads, stores}
 use Rattle.regions.specs.Sets.{IsIn}
 use Rattle.heap_world.specs.World.{World, IsCollected, TargetIn, Shared}
@@ -26,6 +26,7 @@ pub record AreAlike (u w : Word → ℕ) : Type 0 where
   pub limits : (r : ℕ) → w (Limit r) ≡ u (Limit r)
   pub currents : (seat : ℕ) → w (Current seat) ≡ u (Current seat)
   pub roots : (t i : ℕ) → w (Root t i) ≡ u (Root t i)
+  pub pins : (t i : ℕ) → w (Pin t i) ≡ u (Pin t i)
   pub waits : (t : ℕ) → w (Wait t) ≡ u (Wait t)
   pub answers : (t : ℕ) → w (Answer t) ≡ u (Answer t)
   pub counts : (t : ℕ) → w (Count t) ≡ u (Count t)
@@ -55,6 +56,7 @@ alike_written memory Pause value is = record {
   limits = λ r. refl;
   currents = λ seat. refl;
   roots = λ t i. refl;
+  pins = λ t i. refl;
   waits = λ t. refl;
   answers = λ t. refl;
   counts = λ t. refl;
@@ -74,6 +76,7 @@ alike_written memory Left value is = record {
   limits = λ r. refl;
   currents = λ seat. refl;
   roots = λ t i. refl;
+  pins = λ t i. refl;
   waits = λ t. refl;
   answers = λ t. refl;
   counts = λ t. refl;
@@ -93,6 +96,7 @@ alike_written memory End value is = record {
   limits = λ r. refl;
   currents = λ seat. refl;
   roots = λ t i. refl;
+  pins = λ t i. refl;
   waits = λ t. refl;
   answers = λ t. refl;
   counts = λ t. refl;
@@ -112,6 +116,7 @@ alike_written memory (State other) value is = record {
   limits = λ r. refl;
   currents = λ seat. refl;
   roots = λ t i. refl;
+  pins = λ t i. refl;
   waits = λ t. refl;
   answers = λ t. refl;
   counts = λ t. refl;
@@ -139,6 +144,8 @@ module _ (c : Config) (u : World) (memory : Word → ℕ) (seat : ℕ) (alike : 
     promise_words = λ a words k is below. alike.heap (a + k);
     root_words = λ i. alike.roots seat i;
     roots = λ i. refl;
+    pin_words = λ i. alike.pins seat i;
+    pins = λ i. refl;
     count = refl;
     wait = alike.waits seat;
     answer = alike.answers seat;
@@ -168,6 +175,8 @@ module _ (c : Config) (u : World) (memory : Word → ℕ) (seat : ℕ) (alike : 
     tops = λ r is. alike.tops r;
     root_words = λ i. alike.roots seat i;
     roots = λ i. refl;
+    pin_words = λ i. alike.pins seat i;
+    pins = λ i. refl;
     count = refl;
     wait = alike.waits seat;
     answer = alike.answers seat;

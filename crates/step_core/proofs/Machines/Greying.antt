@@ -46,11 +46,13 @@ use Rattle.mutator.specs.declared.shows.ShowSpot.{ShowSpot}
 use Rattle.mutator.specs.declared.shows.ShowSpot.TheVariants as show
 use Rattle.mutator.specs.declared.makes.MakeSpot.{MakeSpot}
 use Rattle.mutator.specs.declared.makes.MakeSpot.TheVariants as make
+use Rattle.mutator.specs.declared.pins.PinSpot.{PinSpot}
+use Rattle.mutator.specs.declared.pins.PinSpot.TheVariants as pins
 use Rattle.mutator.specs.declared.waits.WaitSpot.{WaitSpot}
 use Rattle.mutator.specs.declared.waits.WaitSpot.TheVariants as wait
 use Rattle.mutator.specs.WaitRows.{wait_place}
 use Rattle.mutator.specs.declared.spot.Spot.{Spot}
-use Rattle.mutator.specs.declared.spot.Spot.TheVariants.{Entering, Loading, OnField, Resolving, Recording, OnNumber, Showing, Making, Waiting}
+use Rattle.mutator.specs.declared.spot.Spot.TheVariants.{Entering, Loading, OnField, Resolving, Recording, OnNumber, Showing, Making, Pinning, Waiting}
 use Rattle.mutator.specs.Rows as mutators
 use Rattle.helper.specs.declared.spot.HelpSpot.{HelpSpot}
 use Rattle.helper.specs.declared.spot.HelpSpot.TheVariants as help
@@ -122,6 +124,10 @@ show_kind : (at : ShowSpot) → kind (mutators.show_place at) ≡ 0
 show_kind show.LoadName = refl
 show_kind _ = refl
 
+pin_kind : (at : PinSpot) → kind (mutators.pin_place at) ≡ 0
+pin_kind pins.Look = refl
+pin_kind pins.Store = refl
+
 make_kind : (at : MakeSpot) → kind (mutators.make_place at) ≡ 0
 make_kind (make.Taking take) = take_kind take
 make_kind _ = refl
@@ -144,6 +150,7 @@ spot_kind (Recording at address next) = remember_kind at
 spot_kind (OnNumber object refs at) = number_kind at
 spot_kind (Showing value at) = show_kind at
 spot_kind (Making at) = make_kind at
+spot_kind (Pinning value at) = pin_kind at
 spot_kind (Waiting at) = wait_kind at
 spot_kind _ = refl
 

@@ -1,6 +1,6 @@
 -- Words that stand for references, and the names and numbers of the objects that they lead to.
 use Rattle.std.proofs.Common.{◌≡◌, ◌≢◌, ℕ, ◌+◌, ◌<◌, ◌≤◌, inl, inr, ⊎_elim, true, false, get_or, Some, None, refl, sym, ap, ◌∙◌, arith}
-use Rattle.std.specs.Prelude.{◌==◌, ◌||◌, ◌^◌, slice_get}
+use Rattle.std.specs.Prelude.{◌==◌, ◌||◌, ◌^◌, Bool, is_some, slice_get, if◌then◌else◌}
 use Rattle.std.proofs.lemmas.Bool.{and_from, cases_Bool, cases_eq, eq-eqb, ne_eqb, cond-true, cond-false, ltb-false}
 use Rattle.std.proofs.lemmas.Bool.Decides.{nat_tests}
 use Rattle.std.proofs.lemmas.Option.{same_Some, none-some, slice_get-get_or, slice_get_past}
@@ -9,10 +9,10 @@ use Rattle.heap_words.specs.Words.{Heap, is_word}
 use Rattle.heap_words.specs.Encoding.{shape_word, refs_in, nums_in, name_code}
 use Rattle.shen_graph.specs.declared.name.Name.{Name}
 use Rattle.shen_graph.specs.declared.command.Command.{Command}
-use Rattle.shen_graph.specs.declared.command.Command.TheVariants.{Get, Set, Cas, Xchg, Rd, Wr}
+use Rattle.shen_graph.specs.declared.command.Command.TheVariants.{Get, Set, Cas, Xchg, Rd, Wr, Pin}
 use Rattle.shen_graph.specs.declared.command.Reply.TheVariants as reply
 use Rattle.shen_graph.specs.Graph.{Reference, Object, Graph, same_name, same_reference, named, field_at, number_at}
-use Rattle.shen_graph.specs.Step.{shown, answers, outcome}
+use Rattle.shen_graph.specs.Step.{shown, answers, outcome, pinned_by}
 use Rattle.shen_graph.proofs.PlainLemmas.{same_name-true, same_name-itself}
 use Rattle.mutator.specs.Commands.{command_root, is_on_object, has_part}
 use Rattle.mutator.specs.Rows.{name_in}
@@ -46,6 +46,15 @@ nums_read refs nums few_refs few_nums = omega arith
 named_object : (g : Graph) (t root : ℕ) (n : Name) (o : Object) → g.root t root ≡ Some n → g.object n ≡ Some o → named g (g.root t root) ≡ o
 named_object g t root n o is there = rw (is, there) refl
 
+-- a command pins no object where its root is null
+none_either : (b : Bool) (r : Reference) → r ≡ None → (if b then None else r) ≡ None
+none_either true r is = refl
+none_either false r is = is
+
+pub pinned_on_null : (g : Graph) (t : ℕ) (k : Command) → g.root t (command_root k 0) ≡ None → pinned_by g t k ≡ None
+pinned_on_null g t (Pin slot obj) is = none_either (is_some (g.pin t slot)) (g.root t obj) is
+pinned_on_null g t _ is = refl
+
 -- A command on an object is answered Bad where its root is null.
 pub bad_on_null : (g : Graph) (t : ℕ) (k : Command) → is_on_object k ≡ true → g.root t (command_root k 0) ≡ None → outcome g t k ≡ answers reply.Bad g
 bad_on_null g t (Get dst src field) on is = rw is refl
@@ -54,6 +63,7 @@ bad_on_null g t (Cas obj field expect val) on is = rw is refl
 bad_on_null g t (Xchg dst obj field val) on is = rw is refl
 bad_on_null g t (Rd obj index) on is = rw is refl
 bad_on_null g t (Wr obj index value) on is = rw is refl
+bad_on_null g t (Pin slot obj) on is = refl
 bad_on_null g t _ on is = cc
 
 module _ (c : Config) (u : World) (shared : Shared c u) where
@@ -225,4 +235,5 @@ module _ (c : Config) (u : World) (shared : Shared c u) where
       let past = ltb-false _ _ lacks in let shape = shape_in seat obj object has in rw (no_number_in seat obj object index has (omega (arith, past, shape.1))) refl
   bad_on_shape seat object (Wr obj index value) has on lacks =
       let past = ltb-false _ _ lacks in let shape = shape_in seat obj object has in rw (no_number_in seat obj object index has (omega (arith, past, shape.1))) refl
+  bad_on_shape seat object (Pin slot obj) has on lacks = refl
   bad_on_shape seat object _ has on lacks = cc

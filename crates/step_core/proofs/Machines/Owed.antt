@@ -9,7 +9,7 @@ use Rattle.steps_base.specs.Steps.{Stage}
 use Rattle.shen_graph.specs.declared.name.Name.{Name}
 use Rattle.shen_graph.specs.declared.command.Reply.{Reply}
 use Rattle.shen_graph.specs.declared.command.Reply.TheVariants.{Full}
-use Rattle.shen_graph.specs.Crowd.{words_asked}
+use Rattle.shen_graph.specs.Crowd.{words_asked, Held, PinnedRegions}
 use Rattle.shen_graph.specs.Graph.{Graph, named}
 use Rattle.shen_graph.specs.Reach.{IsReach, size}
 use Rattle.shen_graph.specs.History.{Entry, after, EachIsLegal, of_thread}
@@ -19,7 +19,7 @@ use Rattle.heap_world.specs.World.{Ghost, World, Block, Plot, room_of, Shared}
 use Rattle.alloc_buffers.specs.Facts.{IsSpare, OnlySpares}
 pub use Rattle.heap_world.specs.Asking.{PromisedToMutators}
 use Rattle.heap_world.specs.Change.{IsDue}
-use Rattle.heap_world.specs.Roots.{HasNoMore}
+use Rattle.heap_world.specs.Roots.{HasNoMore, HasNoMorePins}
 use Rattle.control_rows.specs.declared.spot.ControlSpot.{ControlSpot}
 use Rattle.control_rows.specs.declared.spot.ControlSpot.TheVariants.{LookFree, Working, Stopping, LoadWord}
 use Rattle.control_rows.specs.Rows.{Controlling}
@@ -52,11 +52,15 @@ pub record IsSeen (raw now : ℕ) (fixed : Option Reply) : Type 0 where
 abbrev pub words_promised : (Word → ℕ) → ℕ → ℕ
 words_promised memory t = if nat_le (memory (Answer t)) 1 then 0 else object_words (memory (Heap (memory (Answer t) + 1)))
 
--- live objects and objects made for other threads crowd the regions for so many words
-abbrev pub IsShort : Config → (Word → ℕ) → Graph → (thread words : ℕ) → Type 0
-IsShort c memory g t words =
-    (names : List Name) × IsReach g names
-    × (c.regions * (c.region_words - words + 1) ≤ sum_by (λ n. size (named g (Some n))) names + sum_below (λ u. if u == t then 0 else words_promised memory u) c.mutators)
+-- live objects that are not pinned and objects made for other threads crowd the regions without a pinned object for so many words
+pub record IsShort (c : Config) (memory : Word → ℕ) (g : Graph) (thread words : ℕ) : Type 0 where
+  pub names : List Name
+  pub held : ℕ
+  pub pinned : ℕ
+  pub reach : IsReach g names
+  pub held_is : Held g held
+  pub pinned_is : PinnedRegions c.region_words g pinned
+  pub crowd : (c.regions - pinned) * (c.region_words - words + 1) ≤ sum_by (λ n. size (named g (Some n))) names - held + sum_below (λ u. if u == thread then 0 else words_promised memory u) c.mutators
 
 -- What holds of a mutator, for the entries of the history that are its own: they are its calls, or these and one more. Where the
 -- answer that counts says that the heap is full, and this is not settled yet, it is crowded.
@@ -139,9 +143,10 @@ pub record Follows (c : Config) (g : Graph) (s : Stage Actor) (past : List Entry
   pub ghost : Ghost
   pub words : length s.words ≡ table_words c
   pub seats : length s.machines ≡ seat_count c.mutators c.helpers
-  pub legal : EachIsLegal g past
+  pub legal : EachIsLegal c.regions c.region_words g past
   pub entries : All (IsSettled c.mutators) past
   pub no_more : HasNoMore c.mutators (after g past)
+  pub no_more_pins : HasNoMorePins c.mutators (after g past)
   pub shared : Shared c (world_of c s block ghost (after g past))
   pub promised_to : PromisedToMutators c block
   pub machines : (number : ℕ) (a : Actor) → slice_get s.machines number ≡ Some a
@@ -155,7 +160,7 @@ pub record Owes (c : Config) (words words_then : List ℕ) (u : World) (past : L
   pub world : World
   pub memory_is : world.memory ≡ memory
   pub graph_is : world.graph ≡ after u.graph settles
-  pub legal : EachIsLegal u.graph settles
+  pub legal : EachIsLegal c.regions c.region_words u.graph settles
   pub entries : All (IsSettled c.mutators) settles
   pub shared : Shared c world
   pub promised_to : PromisedToMutators c world.block

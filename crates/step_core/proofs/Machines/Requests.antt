@@ -7,7 +7,7 @@ use Rattle.shen_graph.specs.declared.command.Command.{Command}
 use Rattle.shen_graph.specs.declared.command.Reply.{Reply}
 use Rattle.mutator.specs.declared.spot.Kept.{Kept}
 use Rattle.mutator.specs.declared.spot.Spot.{Spot}
-use Rattle.mutator.specs.declared.spot.Spot.TheVariants.{Rest, Ended, Entering, LoadPhase, LoadSet, Loading, OnField, Resolving, Recording, OnNumber, Showing, StoreRoot, Making, AskCycle, Waiting, Leave, Gone}
+use Rattle.mutator.specs.declared.spot.Spot.TheVariants.{Rest, Ended, Entering, LoadPhase, LoadSet, Loading, OnField, Resolving, Recording, OnNumber, Showing, StoreRoot, Making, AskCycle, Pinning, Waiting, Leave, Gone}
 use Rattle.mutator.specs.declared.spot.Entered.TheVariants.{Call, Waited}
 use Rattle.mutator.specs.declared.waits.WaitSpot.TheVariants as wait
 use Rattle.mutator.specs.Commands.{dst_of, refs_of, nums_of}
@@ -83,6 +83,7 @@ module _ (c : Config) (w : World) (seat made : ℕ) (kept : Kept) (command : Com
   has_asked (Showing value at) going mine = not_asked (Showing value at) refl refl mine
   has_asked (StoreRoot value) going mine = not_asked (StoreRoot value) refl refl mine
   has_asked (Making at) going mine = not_asked (Making at) refl refl mine
+  has_asked (Pinning value at) going mine = not_asked (Pinning value at) refl refl mine
   has_asked AskCycle going mine = not_asked AskCycle refl refl mine
   has_asked (Leave reply) going mine = not_asked (Leave reply) refl refl mine
   has_asked Gone going mine = not_asked Gone refl refl mine

@@ -82,7 +82,15 @@ pub short_stays : (c : Config) (u w : World) (thread words : ℕ) → CountsTheS
 short_stays c u w thread words same short =
     let sums : sum_below (λ t. if t == thread then 0 else words_promised w.memory t) c.mutators ≡ sum_below (λ t. if t == thread then 0 else words_promised u.memory t) c.mutators =
     ap (λ f. sum_below (λ t. if t == thread then 0 else f t) c.mutators) (fun_ext same.promised) in
-    rw (same.graph, sums) short
+    record {
+      names = short.names;
+      held = short.held;
+      pinned = short.pinned;
+      reach = rw same.graph short.reach;
+      held_is = rw same.graph short.held_is;
+      pinned_is = rw same.graph short.pinned_is;
+      crowd = rw (same.graph, sums) short.crowd;
+    }
 
 -- What holds of a machine stays while another leads to a world that it can rely on. Its answer in the table stays, and either
 -- that is the one that counts, or nothing changes by which crowding is measured; and what the control has read or written stays so.

@@ -5,6 +5,7 @@ use Rattle.heap_words.specs.declared.config.Config.{Config}
 use Rattle.heap_words.specs.Words.{Answer}
 use Rattle.shen_graph.specs.History.{Entry}
 use Rattle.shen_graph.specs.declared.command.Command.{Command}
+use Rattle.shen_graph.specs.declared.command.Command.TheVariants.{Pin, Unpin}
 use Rattle.shen_graph.specs.declared.command.Reply.{Reply}
 use Rattle.heap_words.specs.declared.access.Unit.{Unit}
 use Rattle.heap_words.specs.declared.access.Unit.TheVariants.{Worked, NoneLeft}
@@ -24,7 +25,9 @@ use Rattle.load_barrier.specs.declared.evac_spot.EvacSpot.TheVariants as evac
 use Rattle.move_steps.specs.Evacuation.Facts.{HasNothing, WorkFacts}
 use Rattle.mutator.specs.declared.spot.Kept.{Kept}
 use Rattle.mutator.specs.declared.spot.Spot.{Spot}
-use Rattle.mutator.specs.declared.spot.Spot.TheVariants.{Entering, Loading, OnField, Resolving, Recording, OnNumber, Showing, StoreRoot, Making, Waiting}
+use Rattle.mutator.specs.declared.pins.PinSpot.{PinSpot}
+use Rattle.mutator.specs.declared.pins.PinSpot.TheVariants as pins
+use Rattle.mutator.specs.declared.spot.Spot.TheVariants.{Entering, Loading, OnField, Resolving, Recording, OnNumber, Showing, StoreRoot, Making, Waiting, Pinning}
 use Rattle.mutator.specs.declared.loads.LoadSpot.{LoadSpot}
 use Rattle.mutator.specs.declared.loads.LoadSpot.TheVariants as load
 use Rattle.mutator.specs.Commands.{command_roots, dst_of, index_of}
@@ -53,7 +56,7 @@ use Rattle.heap_world.specs.World.{World, Block, Body, body_words, hand, room_of
 use Rattle.step_core.specs.Actor.{Machine, mutating, helping, controlling, Actor}
 use Rattle.step_core.specs.Seats.{copies_in, IsRoomIn, help_unit, control_unit, unit_scan, unit_copies, unit_region, UnitRoom, resolve_hand, evac_hand, unit_hand, make_hand, call_hand, Taking, resolve_taking, evac_taking, unit_taking, make_taking, call_taking, take_looks, looks_in, Carried, resolve_carries, evac_carries, unit_carries, call_carries, StandsThere, IsInSeat, before_record, before_resolve, works_on, AsksNothing, MakesObject, IsServed, IsOfRoots, IsOfField, IsOfLoaded, IsOfOverwritten, IsOfCall, is_answered}
 use Rattle.step_core.proofs.Machines.Owed.{IsResting, CanWork, HelpFacts, ControlFacts, IsMachine}
-use Rattle.step_core.proofs.Machines.Stepped.{HasObject, FieldFacts, NumberFacts, ShowFacts, RecordFacts, LoadedFacts, MakeFacts, IsResolving, IsMaking, IsPolling, IsAnswered, WaitFacts, SpotFacts, Mine, HasTaken, IsCas, IsCopy, IsDrop, LoadFacts}
+use Rattle.step_core.proofs.Machines.Stepped.{HasObject, FieldFacts, NumberFacts, ShowFacts, RecordFacts, LoadedFacts, MakeFacts, IsResolving, IsMaking, IsPolling, IsAnswered, WaitFacts, SpotFacts, Mine, HasTaken, IsCas, IsCopy, IsDrop, IsOfSlot, PinFacts, LoadFacts}
 
 -- What the ghost state and the pieces have of a seat that works on a unit of evacuation.
 record OnUnit (c : Config) (w : World) (seat : ℕ) (at : EvacSpot) : Type 0 where
@@ -353,12 +356,23 @@ module _ (c : Config) (w : World) (seat : ℕ) (k command : Command) (fixed : Op
   copy_usable dst value a (inl is_copy) is = same_usable a value is_copy.value_is.usable is
   copy_usable dst value a (inr is_drop) is = inl (is ∙ is_drop.value_is)
 
+  -- what a call stores into a pin slot
+  slot_usable : (of_slot : Command) (value a : ℕ) → IsOfSlot c w seat of_slot value → a ≡ value → UsableIn c w a
+  slot_usable (Pin slot obj) value a of is = same_usable a value (object_usable obj value of.1) is
+  slot_usable (Unpin slot) value a of is = inl (is ∙ of.1)
+  slot_usable _ value a of is = absurd of
+
+  pin_usable : (value : ℕ) (at : PinSpot) → PinFacts c w seat k command fixed value at → (a : ℕ) → a ≡ value → UsableIn c w a
+  pin_usable value pins.Look facts a is = slot_usable k value a facts.2 is
+  pin_usable value pins.Store facts a is = slot_usable k value a facts.2 is
+
 call_usable : (c : Config) (w : World) (seat made : ℕ) (kept : Kept) (command : Command) (fixed : Option Reply) (spot : Spot) → SpotFacts c w seat made kept command fixed spot → (a : ℕ) → IsOfCall kept.command spot a → UsableIn c w a
 call_usable c w seat made kept command fixed (Loading at) facts a is = roots_usable c w seat kept.command command fixed made at facts a is
 call_usable c w seat made kept command fixed (OnField object at) facts a is = of_field_usable c w seat kept.command command fixed object at facts a is
 call_usable c w seat made kept command fixed (Resolving address at next) facts a is = of_loaded_usable c w seat kept.command command fixed address next facts.1 a is
 call_usable c w seat made kept command fixed (Recording at address next) facts a is = of_overwritten_usable c w seat kept.command command fixed address next facts.1 a is
 call_usable c w seat made kept command fixed (StoreRoot value) facts a is = copy_usable c w seat kept.command command fixed (dst_of kept.command) value a facts.2 is
+call_usable c w seat made kept command fixed (Pinning value at) facts a is = pin_usable c w seat kept.command command fixed value at facts a is
 call_usable c w seat made kept command fixed _ facts a is = absurd is
 
 works_usable : (c : Config) (w : World) (seat made object : ℕ) (kept : Kept) (command : Command) (fixed : Option Reply) (spot : Spot) → works_on spot ≡ Some object → SpotFacts c w seat made kept command fixed spot → UsableIn c w object

@@ -4,12 +4,14 @@ use Rattle.std.specs.Int.{bit_at}
 use Rattle.heap_words.specs.declared.config.Config.{Config}
 use Rattle.heap_words.specs.Words.{Answer, Ask}
 use Rattle.shen_graph.specs.declared.command.Command.{Command}
+use Rattle.shen_graph.specs.declared.command.Command.TheVariants.{Pin, Unpin}
 use Rattle.shen_graph.specs.declared.command.Reply.{Reply}
 use Rattle.shen_graph.specs.declared.command.Reply.TheVariants.{Ref, Full}
+use Rattle.shen_graph.specs.Step.{slot_of}
 use Rattle.alloc_buffers.specs.declared.spot.TakeSpot.{TakeSpot}
 use Rattle.mutator.specs.declared.spot.Kept.{Kept}
 use Rattle.mutator.specs.declared.spot.Spot.{Spot}
-use Rattle.mutator.specs.declared.spot.Spot.TheVariants.{Rest, Ended, Entering, LoadPhase, LoadSet, Loading, OnField, Resolving, Recording, OnNumber, Showing, StoreRoot, Making, AskCycle, Waiting, Leave, Gone}
+use Rattle.mutator.specs.declared.spot.Spot.TheVariants.{Rest, Ended, Entering, LoadPhase, LoadSet, Loading, OnField, Resolving, Recording, OnNumber, Showing, StoreRoot, Making, AskCycle, Pinning, Waiting, Leave, Gone}
 use Rattle.mutator.specs.declared.spot.Entered.{Entered}
 use Rattle.mutator.specs.declared.spot.Entered.TheVariants.{Call, Waited}
 use Rattle.mutator.specs.declared.loads.LoadSpot.{LoadSpot}
@@ -24,6 +26,8 @@ use Rattle.load_barrier.specs.declared.spot.ResolveSpot.{ResolveSpot}
 use Rattle.step_core.proofs.Mutators.Resolves.{resolving_stays as still_resolving}
 use Rattle.mutator.specs.declared.numbers.NumberSpot.{NumberSpot}
 use Rattle.mutator.specs.declared.numbers.NumberSpot.TheVariants as numbers
+use Rattle.mutator.specs.declared.pins.PinSpot.{PinSpot}
+use Rattle.mutator.specs.declared.pins.PinSpot.TheVariants as pins
 use Rattle.mutator.specs.declared.shows.ShowSpot.{ShowSpot}
 use Rattle.mutator.specs.declared.shows.ShowSpot.TheVariants as show
 use Rattle.mutator.specs.declared.makes.MakeSpot.{MakeSpot}
@@ -34,7 +38,7 @@ use Rattle.mutator.specs.Orders.{is_waiting}
 use Rattle.mutator.specs.Commands.{command_root, dst_of, index_of, stored_number, refs_of, nums_of}
 use Rattle.mutator.specs.Rows.{Mutating, words_made}
 use Rattle.heap_world.specs.World.{World, Points, TargetIn, UsableIn, Shared}
-use Rattle.step_core.proofs.Machines.Stepped.{IsRootWord, HasRoot, HasObject, HasFirst, IsGet, IsSet, IsCas, IsXchg, IsRd, IsWr, IsFound, NameTheSame, NameOthers, IsCompared, LoadedFacts, IsCopy, IsFilling, IsAsking, IsHeard, IsPolling, IsAnswered, LoadFacts, FieldFacts, RecordFacts, NumberFacts, ShowFacts, MakeFacts, EnterFacts, HasTaken, WaitFacts, IsResolving, SpotFacts, IsSeatedIn, recording_of, has_phase, has_set, copies_at, Mine}
+use Rattle.step_core.proofs.Machines.Stepped.{IsRootWord, HasRoot, HasObject, HasFirst, IsGet, IsSet, IsCas, IsXchg, IsRd, IsWr, IsOfSlot, SlotFits, PinFacts, IsFound, NameTheSame, NameOthers, IsCompared, LoadedFacts, IsCopy, IsFilling, IsAsking, IsHeard, IsPolling, IsAnswered, LoadFacts, FieldFacts, RecordFacts, NumberFacts, ShowFacts, MakeFacts, EnterFacts, HasTaken, WaitFacts, IsResolving, SpotFacts, IsSeatedIn, recording_of, has_phase, has_set, copies_at, Mine}
 use Rattle.step_core.specs.Own.{root_now, root_recording, root_resolving}
 use Rattle.heap_world.specs.Asking as asking
 use Rattle.heap_world.specs.Asking.{Asking, HasNoPromise, IsAsked}
@@ -220,6 +224,7 @@ module _ (c : Config) (u w : World) (seat : ℕ) (keeps : Keeps c seat u w) wher
     facts.0,
     facts.1,
     record { first_is = first_stays k object facts.2.first_is; second_is = loaded_stays k 1 second facts.2.second_is; third_is = loaded_stays k 2 third facts.2.third_is },
+    facts.3,
   )
 
   pub field_stays : (k command : Command) (fixed : Option Reply) (object : ℕ) (at : FieldSpot) → FieldFacts c u seat k command fixed object at → FieldFacts c w seat k command fixed object at
@@ -242,6 +247,20 @@ module _ (c : Config) (u w : World) (seat : ℕ) (keeps : Keeps c seat u w) wher
   show_stays : (k : Command) (fixed : Option Reply) (value : ℕ) (at : ShowSpot) → ShowFacts c u k fixed value at → ShowFacts c w k fixed value at
   show_stays k fixed value show.LoadName facts = (found_stays fixed value (dst_of k) facts.0, usable_stays c u w keeps.targets value facts.1)
   show_stays k fixed value (show.StoreRoot reply) facts = (facts.0, facts.1, usable_stays c u w keeps.targets value facts.2)
+
+  -- so does what the call counts on that is about a pin slot
+  of_slot_stays : (k : Command) (value : ℕ) → IsOfSlot c u seat k value → IsOfSlot c w seat k value
+  of_slot_stays (Pin slot obj) value of = (of.0, object_stays obj value of.1)
+  of_slot_stays (Unpin slot) value of = of
+  of_slot_stays _ value of = absurd of
+
+  fits_stays : (k : Command) → SlotFits u seat k → SlotFits w seat k
+  fits_stays (Pin slot obj) fits = keeps.pins slot ∙ fits
+  fits_stays k fits = λ none. fits (sym (keeps.pins (slot_of k)) ∙ none)
+
+  pin_facts_stay : (k command : Command) (fixed : Option Reply) (value : ℕ) (at : PinSpot) → PinFacts c u seat k command fixed value at → PinFacts c w seat k command fixed value at
+  pin_facts_stay k command fixed value pins.Look facts = (facts.0, facts.1, of_slot_stays k value facts.2)
+  pin_facts_stay k command fixed value pins.Store facts = (facts.0, facts.1, of_slot_stays k value facts.2, fits_stays k facts.3)
 
   make_stays : (made : ℕ) (k command : Command) (fixed : Option Reply) → ((words : ℕ) (take : TakeSpot) → TakeFacts c u seat words take → TakeFacts c w seat words take)
       → ((refs nums address done : ℕ) → IsFilling u seat made refs nums address done → IsFilling w seat made refs nums address done) → (at : MakeSpot)
@@ -290,6 +309,7 @@ module _ (c : Config) (u w : World) (seat : ℕ) (keeps : Keeps c seat u w) wher
   facts_stay made kept command fixed taking filling resolving recording bit (StoreRoot value) facts = (facts.0, facts.1, ⊎_elim (λ is. inl (copy_stays command (dst_of kept.command) value is)) (λ is. inr is) facts.2)
   facts_stay made kept command fixed taking filling resolving recording bit (Making at) facts = make_stays made kept.command command fixed taking filling at facts
   facts_stay made kept command fixed taking filling resolving recording bit AskCycle facts = facts
+  facts_stay made kept command fixed taking filling resolving recording bit (Pinning value at) facts = pin_facts_stay kept.command command fixed value at facts
   facts_stay made kept command fixed taking filling resolving recording bit (Waiting at) facts = wait_stays bit made kept.command command fixed at facts
   facts_stay made kept command fixed taking filling resolving recording bit (Leave reply) facts = facts
   facts_stay made kept command fixed taking filling resolving recording bit Gone facts = facts

@@ -7,18 +7,18 @@ use Rattle.heap_words.specs.Words.{Heap, Root, Wait, Answer, Ask, Phase, Cset, E
 use Rattle.steps_base.specs.Touch.{touched}
 use Rattle.shen_graph.specs.declared.name.Name.{Name}
 use Rattle.shen_graph.specs.declared.command.Command.{Command}
-use Rattle.shen_graph.specs.declared.command.Command.TheVariants.{New, Get, Set, Cas, Xchg, Rd, Wr, Copy, Drop, Gc}
+use Rattle.shen_graph.specs.declared.command.Command.TheVariants.{New, Get, Set, Cas, Xchg, Rd, Wr, Copy, Drop, Gc, Pin, Unpin}
 use Rattle.shen_graph.specs.declared.command.Reply.{Reply}
 use Rattle.shen_graph.specs.declared.command.Reply.TheVariants as reply
 use Rattle.shen_graph.specs.Graph.{Graph}
-use Rattle.shen_graph.specs.Step.{IsLegal}
+use Rattle.shen_graph.specs.Step.{IsLegal, IsPin, slot_of}
 use Rattle.shen_graph.specs.History.{after_entry}
 use Rattle.alloc_buffers.specs.Facts.{TakeFacts}
 use Rattle.shen_graph.specs.declared.order.Order.{Order}
 use Rattle.shen_graph.specs.declared.order.Order.TheVariants.{Nothing}
 use Rattle.mutator.specs.declared.spot.Kept.{Kept}
 use Rattle.mutator.specs.declared.spot.Spot.{Spot}
-use Rattle.mutator.specs.declared.spot.Spot.TheVariants.{Rest, Ended, Entering, LoadPhase, LoadSet, Loading, OnField, Resolving, Recording, OnNumber, Showing, StoreRoot, Making, AskCycle, Waiting, Leave, Gone}
+use Rattle.mutator.specs.declared.spot.Spot.TheVariants.{Rest, Ended, Entering, LoadPhase, LoadSet, Loading, OnField, Resolving, Recording, OnNumber, Showing, StoreRoot, Making, AskCycle, Pinning, Waiting, Leave, Gone}
 use Rattle.mutator.specs.declared.spot.Entered.{Entered}
 use Rattle.mutator.specs.declared.spot.Entered.TheVariants.{Call, Waited}
 use Rattle.mutator.specs.declared.loads.LoadSpot.{LoadSpot}
@@ -31,6 +31,8 @@ use Rattle.mutator.specs.declared.resolves.Loaded.{Loaded}
 use Rattle.mutator.specs.declared.resolves.Loaded.TheVariants.{ForRoot, ToCompare}
 use Rattle.mutator.specs.declared.numbers.NumberSpot.{NumberSpot}
 use Rattle.mutator.specs.declared.numbers.NumberSpot.TheVariants as numbers
+use Rattle.mutator.specs.declared.pins.PinSpot.{PinSpot}
+use Rattle.mutator.specs.declared.pins.PinSpot.TheVariants as pins
 use Rattle.mutator.specs.declared.shows.ShowSpot.{ShowSpot}
 use Rattle.mutator.specs.declared.shows.ShowSpot.TheVariants as show
 use Rattle.mutator.specs.declared.makes.MakeSpot.{MakeSpot}
@@ -237,7 +239,8 @@ abbrev pub LoadFacts : Config → World → ℕ → ℕ → Command → Command 
 LoadFacts c w seat made k command fixed load.First = IsBegun made command fixed k × (0 < length (command_roots k))
 LoadFacts c w seat made k command fixed (load.Second first) = IsBegun made command fixed k × (1 < length (command_roots k)) × HasFirst c w seat k first
 LoadFacts c w seat made k command fixed (load.Third first second) = IsBegun made command fixed k × (2 < length (command_roots k)) × HasFirst c w seat k first × HasRoot c w seat k 1 second
-LoadFacts c w seat made k command fixed (load.Shape object second third) = IsBegun made command fixed k × (is_on_object k ≡ true) × HasRoots c w seat k object second third
+LoadFacts c w seat made k command fixed (load.Shape object second third) =
+    IsBegun made command fixed k × (is_on_object k ≡ true) × HasRoots c w seat k object second third × (IsPin k → ⊥)
 
 abbrev pub FieldFacts : Config → World → ℕ → Command → Command → Option Reply → ℕ → FieldSpot → Type 0
 FieldFacts c w seat k command fixed object fields.Load = (fixed ≡ None) × IsGet c w seat command object (index_of k) (dst_of k)
@@ -257,6 +260,21 @@ RecordFacts c w seat k command fixed address overwrites.Cas = fixed ≡ Some rep
 abbrev pub NumberFacts : Config → World → ℕ → Command → Command → Option Reply → ℕ → ℕ → NumberSpot → Type 0
 NumberFacts c w seat k command fixed object refs numbers.Load = (fixed ≡ None) × IsRd c w seat command object refs (index_of k)
 NumberFacts c w seat k command fixed object refs numbers.Store = (fixed ≡ None) × IsWr c w seat command object refs (index_of k) (stored_number k)
+
+-- what a command counts on that is about a pin slot: it puts the object of a root into the slot, or it empties the slot
+abbrev pub IsOfSlot : Config → World → ℕ → Command → ℕ → Type 0
+IsOfSlot c w seat (Pin slot obj) value = (slot < 4) × HasObject c w seat obj value
+IsOfSlot c w seat (Unpin slot) value = (slot < 4) × (value ≡ 0)
+IsOfSlot c w seat _ value = ⊥
+
+-- the slot is empty that is to be, or holds something
+abbrev pub SlotFits : World → ℕ → Command → Type 0
+SlotFits w seat (Pin slot obj) = w.graph.pin (seat + 1) slot ≡ None
+SlotFits w seat k = w.graph.pin (seat + 1) (slot_of k) ≡ None → ⊥
+
+abbrev pub PinFacts : Config → World → ℕ → Command → Command → Option Reply → ℕ → PinSpot → Type 0
+PinFacts c w seat k command fixed value pins.Look = (fixed ≡ None) × (command ≡ k) × IsOfSlot c w seat k value
+PinFacts c w seat k command fixed value pins.Store = (fixed ≡ None) × (command ≡ k) × IsOfSlot c w seat k value × SlotFits w seat k
 
 abbrev pub ShowFacts : Config → World → Command → Option Reply → ℕ → ShowSpot → Type 0
 ShowFacts c w k fixed value show.LoadName = IsFound w fixed value (dst_of k) × UsableIn c w value
@@ -305,6 +323,7 @@ SpotFacts c w seat made kept command fixed (StoreRoot value) =
     (fixed ≡ None) × (dst_of kept.command < 16) × (IsCopy c w seat command (dst_of kept.command) value ⊎ IsDrop command (dst_of kept.command) value)
 SpotFacts c w seat made kept command fixed (Making at) = MakeFacts c w seat made kept.command command fixed at
 SpotFacts c w seat made kept command fixed AskCycle = (fixed ≡ None) × (command ≡ Gc)
+SpotFacts c w seat made kept command fixed (Pinning value at) = PinFacts c w seat kept.command command fixed value at
 SpotFacts c w seat made kept command fixed (Waiting at) = WaitFacts c w seat made kept.command command fixed at
 SpotFacts c w seat made kept command fixed (Leave reply) = fixed ≡ Some reply
 SpotFacts c w seat made kept command fixed Gone = fixed ≡ None
@@ -339,6 +358,7 @@ has_phase (Showing value at) = true
 has_phase (StoreRoot value) = true
 has_phase (Making at) = true
 has_phase AskCycle = true
+has_phase (Pinning value at) = true
 has_phase _ = false
 
 -- Of marking a mutator counts on this: what it is about to record is what its spot says, it scans nothing, and where its call has
@@ -389,9 +409,9 @@ graph_by g seat command None = g
 graph_by g seat command (Some reply) = after_entry g (entry_of seat command reply)
 
 -- the entry that a step settles is legal, if it settles one
-abbrev pub LegalBy : Graph → ℕ → Command → Option Reply → Type 0
-LegalBy g seat command None = Unit {0}
-LegalBy g seat command (Some reply) = IsLegal g (seat + 1) command reply (after_entry g (entry_of seat command reply))
+abbrev pub LegalBy : Config → Graph → ℕ → Command → Option Reply → Type 0
+LegalBy c g seat command None = Unit {0}
+LegalBy c g seat command (Some reply) = IsLegal c.regions c.region_words g (seat + 1) command reply (after_entry g (entry_of seat command reply))
 
 -- the settled reply after a step that settles one, gives it, or does neither
 abbrev pub fixed_by : Option Reply → Option Reply → Option Reply → Option Reply
@@ -406,7 +426,7 @@ pub record Stepped (c : Config) (u : World) (m : Mutating) (command : Command) (
   pub world : World
   pub memory : world.memory ≡ touched u.memory (touch_of c m order)
   pub graph : world.graph ≡ graph_by u.graph m.seat (command_by order command) (told_of u.memory m)
-  pub legal : LegalBy u.graph m.seat (command_by order command) (told_of u.memory m)
+  pub legal : LegalBy c u.graph m.seat (command_by order command) (told_of u.memory m)
   pub settles : (reply : Reply) → told_of u.memory m ≡ Some reply → (fixed ≡ None) × (given_at m.spot ≡ None)
   pub shared : Shared c world
   pub mine : Mine c world (next_of c m order (u.memory (touch_of c m order).word)) (command_by order command) (fixed_by fixed (told_of u.memory m) (given_at m.spot))

@@ -199,7 +199,7 @@ module _ (change : Change) (c : Config) (words : List ℕ) (o : Option (List ℕ
         world = step.world;
         memory_is = step.memory;
         graph_is = step.graph ∙ graph_settled g m.seat (command_by order command) the_told;
-        legal = legal_settled g m.seat (command_by order command) the_told step.legal;
+        legal = legal_settled c g m.seat (command_by order command) the_told step.legal;
         entries = entries_settled c.mutators m.seat (command_by order command) the_told thread.mine.seated.below (command_valid m.spot m.made order command takes thread.valid);
         shared = step.shared;
         promised_to = λ a seat more there. ⊎_elim

@@ -6,7 +6,7 @@ use Rattle.heap_words.specs.Words.{Ask, Root}
 use Rattle.shen_graph.specs.declared.command.Command.{Command}
 use Rattle.shen_graph.specs.declared.command.Reply.{Reply}
 use Rattle.shen_graph.specs.declared.command.Reply.TheVariants as reply
-use Rattle.shen_graph.specs.Step.{outcome}
+use Rattle.shen_graph.specs.Step.{outcome, pinned_by}
 use Rattle.mutator.specs.declared.spot.Spot.{Spot}
 use Rattle.mutator.specs.declared.spot.Spot.TheVariants.{Rest, Ended, AskCycle, Leave}
 use Rattle.mutator.specs.declared.spot.Kept.{Kept}
@@ -97,8 +97,8 @@ module _ (c : Config) (u : World) (seat made : ℕ) (kept : Kept) (command : Com
       record {
         world = accessed c u (at_spot AskCycle);
         memory = refl;
-        graph = sym (graph_answer u.graph seat command reply.Ok refl ∙ ap (λ k. (outcome u.graph (seat + 1) k).graph) mine.facts.1);
-        legal = legal_answer u.graph seat command reply.Ok refl gc;
+        graph = sym (graph_answer u.graph seat command reply.Ok refl (ap (pinned_by u.graph (seat + 1)) mine.facts.1) ∙ ap (λ k. (outcome u.graph (seat + 1) k).graph) mine.facts.1);
+        legal = legal_answer c u.graph seat command reply.Ok refl (ap (pinned_by u.graph (seat + 1)) mine.facts.1) gc;
         settles = λ r e. (mine.facts.0, refl);
         shared = shared;
         mine = leaving c _ seat made kept command reply.Ok mine.seated (mine.marking.records, mine.marking.scans, mine.copying.copies_is, mine.copying.works_none) mine.roots mine.rooms;

@@ -113,7 +113,7 @@ module _ (change : Change) (c : Config) (g : Graph) (s : Stage Actor) (past : Li
   unfolding kind
   follows_plain no_image =
       let at : ℕ = table_index (placed c (touch_of c m order)) in
-      let step = each_step c u m command order thread.fixed (told_now no_image) follows.shared thread.mine takes in
+      let step = each_step c u m command order thread.fixed (told_now no_image) follows.no_more_pins follows.shared thread.mine takes in
       let owes : Owes c s.words words_then u past number s.machines (touched u.memory (touch_of c m order)) entries (new_then (u.memory (touch_of c m order).word)) =
       owes_stepped change c s.words (held_image c s) follows.block follows.ghost (after g past) past number s.machines order m command calls follows.words word (λ image held. (outside_now image held, no_image image held))
       follows.promised_to follows.shared thread step takes aims_then in

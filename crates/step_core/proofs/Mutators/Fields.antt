@@ -9,7 +9,7 @@ use Rattle.shen_graph.specs.declared.command.Command.{Command}
 use Rattle.shen_graph.specs.declared.command.Reply.{Reply}
 use Rattle.shen_graph.specs.declared.command.Reply.TheVariants as reply
 use Rattle.shen_graph.specs.Graph.{Reference, with_root, same_reference}
-use Rattle.shen_graph.specs.Step.{shown, answers, outcome}
+use Rattle.shen_graph.specs.Step.{shown, answers, outcome, pinned_by}
 use Rattle.mutator.specs.declared.spot.Spot.{Spot}
 use Rattle.mutator.specs.declared.spot.Spot.TheVariants.{OnField, OnNumber, Showing}
 use Rattle.mutator.specs.declared.fields.FieldSpot.TheVariants as fields
@@ -70,7 +70,7 @@ module _ (c : Config) (u : World) (seat made : ℕ) (kept : Kept) (command : Com
       refl
       (ap (λ r. Some r) (shown_is c u shared got here.0 here.2))
       refl mine.facts.0 (shown_not_full here.0)
-      (ap (λ k. outcome u.graph (seat + 1) k) get.is ∙ rw here.1 refl)
+      (ap (pinned_by u.graph (seat + 1)) get.is) (ap (λ k. outcome u.graph (seat + 1) k) get.is ∙ rw here.1 refl)
       shared
       (found_mine c (record { memory = u.memory; block = u.block; ghost = u.ghost; graph = with_root u.graph (seat + 1) dst here.0 }) seat made kept command
       shared mine.seated mine.marking mine.copying mine.rooms got here.0 get.small
@@ -146,7 +146,7 @@ module _ (c : Config) (u : World) (seat made : ℕ) (kept : Kept) (command : Com
       (inr (mine.facts.0, named_as_one c u shared got expect here.0 _ here.2 cas.expect_is.stands same)) here.2 mine.roots))
       (λ (differs : same_reference here.0 (u.graph.root (seat + 1) cas.expected) ≡ false).
       replies c u (at_spot (OnField object (fields.LoadExpected expect value))) (Heap (object + 3 + field)) command fixed reply.No refl (cond-false _ _ _ (agree ∙ differs)) refl mine.facts.0 refl
-      (ap (λ k. outcome u.graph (seat + 1) k) cas.is ∙ rw here.1 (cond-false _ _ _ differs))
+      (ap (pinned_by u.graph (seat + 1)) cas.is) (ap (λ k. outcome u.graph (seat + 1) k) cas.is ∙ rw here.1 (cond-false _ _ _ differs))
       shared
       (differing object expect value here.0 shared mine cas here.2 differs))
       (cases_Bool (same_reference here.0 (u.graph.root (seat + 1) cas.expected)))
@@ -159,7 +159,7 @@ module _ (c : Config) (u : World) (seat made : ℕ) (kept : Kept) (command : Com
       let here = number_in c u shared seat rd.obj object index rd.of rd.below in
       let got : ℕ = u.memory (Heap (object + 3 + refs + index)) in
       replies c u (at_spot (OnNumber object refs numbers.Load)) (Heap (object + 3 + refs + index)) command fixed (reply.Number got) refl refl refl mine.facts.0 refl
-      (ap (λ k. outcome u.graph (seat + 1) k) rd.is ∙ rw here (ap (λ n. answers (reply.Number (u.memory (Heap (object + 3 + n + index)))) u.graph) (sym rd.refs_are)))
+      (ap (pinned_by u.graph (seat + 1)) rd.is) (ap (λ k. outcome u.graph (seat + 1) k) rd.is ∙ rw here (ap (λ n. answers (reply.Number (u.memory (Heap (object + 3 + n + index)))) u.graph) (sym rd.refs_are)))
       shared
       (leaving c _ seat made kept command (reply.Number got) mine.seated (mine.marking.records, mine.marking.scans, mine.copying.copies_is, mine.copying.works_none) mine.roots mine.rooms)
 

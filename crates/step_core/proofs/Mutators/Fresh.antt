@@ -121,6 +121,7 @@ module _ (c : Config) (u : World) (seat made : ℕ) (kept : Kept) (command : Com
             else_stays a 1 (spent words to) is (not_room a (spent words to) is (λ differ. cc)) (omega (arith, long)),
           ));
       updated = λ on. updated_elsewhere c (u.memory Cset) (u.memory Claim) (λ r. u.memory (Top r)) (λ r. u.memory (Limit r)) (λ a. u.memory (Heap a)) u.block u.ghost.scanning (shared.updated on) (λ a. stored_world.memory (Heap a)) fields_stay;
+      pinned = shared.pinned;
     }
 
     -- one word more of the new object stands in the room
@@ -192,6 +193,8 @@ module _ (c : Config) (u : World) (seat made : ℕ) (kept : Kept) (command : Com
       tops = λ r is. refl;
       root_words = λ i. refl;
       roots = λ i. refl;
+      pin_words = λ i. refl;
+      pins = λ i. refl;
       count = refl;
       wait = refl;
       answer = refl;

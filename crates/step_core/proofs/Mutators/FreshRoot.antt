@@ -6,20 +6,21 @@ use Rattle.std.proofs.lemmas.Bool.{cond-false, ne_eqb, and_left}
 use Rattle.std.proofs.lemmas.Bool.Decides.{nat_tests}
 use Rattle.heap_words.specs.declared.config.Config.{Config}
 use Rattle.heap_words.specs.Encoding.{fresh_word}
-use Rattle.heap_words.specs.Words.{Free, Claim, Cset, Evac, Phase, Root, Top, Tams, Limit, Heap, Current, Share, Count, Buffer, Grey, Black}
+use Rattle.heap_words.specs.Words.{Free, Claim, Cset, Evac, Phase, Root, Top, Tams, Limit, Heap, Current, Share, Pin, Count, Buffer, Grey, Black}
 use Rattle.steps_base.specs.Touch.{touch, stores, touched}
 use Rattle.shen_graph.specs.declared.name.Name.{Name}
 use Rattle.shen_graph.specs.declared.command.Command.{Command}
 use Rattle.shen_graph.specs.declared.command.Reply.{Reply}
 use Rattle.shen_graph.specs.declared.command.Reply.TheVariants as reply
 use Rattle.shen_graph.specs.Graph.{Object, blank, fresh, with_root, with_fresh}
-use Rattle.shen_graph.specs.Step.{outcome}
+use Rattle.shen_graph.specs.Step.{outcome, pinned_by}
 use Rattle.mutator.specs.Commands.{dst_of, refs_of, nums_of}
 use Rattle.mutator.specs.WaitRows.{next_name}
 use Rattle.heap_world.specs.World.{World, Block, thing, moved, promised, dead, filler, spare, carved, words_of, room_of, name_at, Points, IsCollected, TargetIn, UsableIn, IsThing, IsGiven, IsYoung, Shared}
 use Rattle.heap_world.specs.Rely.{Rely}
 use Rattle.heap_world.proofs.Updates.{updated, updated_there, updated_else}
 use Rattle.heap_world.proofs.Keeping.{points_stay, usable_stays}
+use Rattle.heap_world.proofs.Pins.{pins_stay}
 use Rattle.regions.specs.Marks.{HasMark}
 use Rattle.std.proofs.lemmas.Option.{none-some}
 use Rattle.heap_world.proofs.Copies.{CopiesStay, rely_copies}
@@ -134,6 +135,7 @@ module _ {c : Config} {u : World} {seat made : ℕ} {command k : Command} {fixed
     evacuated = evacuating_again c top u.block address refs nums name has.piece has.unnamed has.long has.here (u.memory Phase) (u.memory Cset) (u.memory Evac) (u.memory Claim) (u.memory Free) (λ r. u.memory (Tams r))
         (λ a. u.memory (Heap a)) (λ n. u.memory (Black n)) u.ghost.owner u.ghost.copying u.ghost.working has.outside has.kept has.shared.evacuated;
     updated = λ on. updating_again c top u.block address refs nums name has.piece has.unnamed has.long has.here (u.memory Cset) (u.memory Claim) (λ r. u.memory (Limit r)) (λ a. u.memory (Heap a)) u.ghost.scanning has.outside nulls (has.shared.updated on);
+    pinned = pins_stay c (u.memory Cset) (u.memory Evac) (u.memory Cset) (u.memory Evac) u.block made_world.block (λ t i. u.memory (Pin t i)) u.graph.pin targets has.shared.pinned;
   }
 
   -- room was there before, elsewhere
@@ -170,17 +172,21 @@ module _ {c : Config} {u : World} {seat made : ℕ} {command k : Command} {fixed
   pub count_made : made_world.graph.count (seat + 1) ≡ made + 1
   count_made = count_own u.graph.count (seat + 1) ∙ ap (λ n. n + 1) has.counted
 
+  -- the command pins no object
+  none_pinned : pinned_by u.graph (seat + 1) command ≡ None
+  none_pinned = ap (pinned_by u.graph (seat + 1)) has.making.is
+
   -- the reply is the command's
   replied : (outcome u.graph (seat + 1) command).reply ≡ made_reply
   replied = ap (λ x. (outcome u.graph (seat + 1) x).reply) has.making.is ∙ ap (λ n. reply.Ref n) name_is
 
   -- and legal
-  pub legal_made : LegalBy u.graph seat command (Some made_reply)
-  legal_made = legal_answer u.graph seat command made_reply refl replied
+  pub legal_made : LegalBy c u.graph seat command (Some made_reply)
+  legal_made = legal_answer c u.graph seat command made_reply refl none_pinned replied
 
   -- and it leads to the graph with the new object
   pub graph_made : made_world.graph ≡ graph_by u.graph seat command (Some made_reply)
-  graph_made = sym (graph_answer u.graph seat command made_reply refl ∙ ap (λ x. (outcome u.graph (seat + 1) x).graph) has.making.is)
+  graph_made = sym (graph_answer u.graph seat command made_reply refl none_pinned ∙ ap (λ x. (outcome u.graph (seat + 1) x).graph) has.making.is)
 
   -- a piece of the collection set is another, and stays
   not_here : (a : ℕ) → IsCollected c (u.memory Cset) a → a ≢ address
@@ -216,6 +222,8 @@ module _ {c : Config} {u : World} {seat made : ℕ} {command k : Command} {fixed
     tops = λ r is. refl;
     root_words = λ i. cond-false ((seat == j) && (dst_of k == i)) _ _ (and_left _ _ (ne_eqb seat j (λ e. differs (sym e))));
     roots = λ i. cond-false (((j + 1) == (seat + 1)) && (i == dst_of k)) _ _ (and_left _ _ (ne_eqb (j + 1) (seat + 1) (λ e. differs (omega (arith, e)))));
+    pin_words = λ i. refl;
+    pins = λ i. refl;
     count = cond-false ((j + 1) == (seat + 1)) _ _ (ne_eqb (j + 1) (seat + 1) (λ e. differs (omega (arith, e))));
     wait = refl;
     answer = refl;

@@ -7,7 +7,7 @@ use Rattle.steps_base.specs.Touch.{touch, loads}
 use Rattle.shen_graph.specs.declared.command.Command.{Command}
 use Rattle.shen_graph.specs.declared.command.Reply.{Reply}
 use Rattle.shen_graph.specs.Graph.{Reference, with_root}
-use Rattle.shen_graph.specs.Step.{answers, outcome}
+use Rattle.shen_graph.specs.Step.{answers, outcome, pinned_by}
 use Rattle.shen_graph.specs.History.{is_full}
 use Rattle.shen_graph.specs.declared.order.Order.TheVariants.{Nothing}
 use Rattle.mutator.specs.Rows.{Mutating, touch_of, next_of, given_at}
@@ -36,13 +36,13 @@ looks c u m at command fixed loaded told given shared mine = record {
 -- a step that loads a word and settles a reply which leaves the graph as it is
 pub replies : (c : Config) (u : World) (m : Mutating) (at : Word) (command : Command) (fixed : Option Reply) (r : Reply)
     → touch_of c m Nothing ≡ touch at loads → told_of u.memory m ≡ Some r → given_at m.spot ≡ None → fixed ≡ None
-    → is_full r ≡ false → outcome u.graph (m.seat + 1) command ≡ answers r u.graph
+    → is_full r ≡ false → pinned_by u.graph (m.seat + 1) command ≡ None → outcome u.graph (m.seat + 1) command ≡ answers r u.graph
     → Shared c u → Mine c u (next_of c m Nothing (u.memory at)) command (Some r) → Stepped c u m command Nothing fixed
-replies c u m at command fixed r loaded told given unsettled other is shared mine = record {
+replies c u m at command fixed r loaded told given unsettled other none is shared mine = record {
   world = u;
   memory = rw loaded (load_keeps u.memory at);
-  graph = rw told (sym (graph_answer u.graph m.seat command r other ∙ ap (λ o. o.graph) is));
-  legal = rw told (legal_answer u.graph m.seat command r other (ap (λ o. o.reply) is));
+  graph = rw told (sym (graph_answer u.graph m.seat command r other none ∙ ap (λ o. o.graph) is));
+  legal = rw told (legal_answer c u.graph m.seat command r other none (ap (λ o. o.reply) is));
   settles = λ q e. (unsettled, given);
   shared = shared;
   mine = rw (loaded, told) mine;
@@ -52,15 +52,15 @@ replies c u m at command fixed r loaded told given unsettled other is shared min
 -- a step that loads a word and settles a reply which makes a root of the mutator another
 pub replies_root : (c : Config) (u : World) (m : Mutating) (at : Word) (command : Command) (fixed : Option Reply) (r : Reply) (dst : ℕ) (v : Reference)
     → touch_of c m Nothing ≡ touch at loads → told_of u.memory m ≡ Some r → given_at m.spot ≡ None → fixed ≡ None
-    → is_full r ≡ false → outcome u.graph (m.seat + 1) command ≡ answers r (with_root u.graph (m.seat + 1) dst v)
+    → is_full r ≡ false → pinned_by u.graph (m.seat + 1) command ≡ None → outcome u.graph (m.seat + 1) command ≡ answers r (with_root u.graph (m.seat + 1) dst v)
     → Shared c u
     → Mine c (record { memory = u.memory; block = u.block; ghost = u.ghost; graph = with_root u.graph (m.seat + 1) dst v }) (next_of c m Nothing (u.memory at)) command (Some r)
     → Stepped c u m command Nothing fixed
-replies_root c u m at command fixed r dst v loaded told given unsettled other is shared mine = record {
+replies_root c u m at command fixed r dst v loaded told given unsettled other none is shared mine = record {
   world = record { memory = u.memory; block = u.block; ghost = u.ghost; graph = with_root u.graph (m.seat + 1) dst v };
   memory = rw loaded (load_keeps u.memory at);
-  graph = rw told (sym (graph_answer u.graph m.seat command r other ∙ ap (λ o. o.graph) is));
-  legal = rw told (legal_answer u.graph m.seat command r other (ap (λ o. o.reply) is));
+  graph = rw told (sym (graph_answer u.graph m.seat command r other none ∙ ap (λ o. o.graph) is));
+  legal = rw told (legal_answer c u.graph m.seat command r other none (ap (λ o. o.reply) is));
   settles = λ q e. (unsettled, given);
   shared = shared;
   mine = rw (loaded, told) mine;

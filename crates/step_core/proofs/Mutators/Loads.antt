@@ -8,12 +8,13 @@ use Rattle.heap_words.specs.Words.{Cset, Root, Heap, is_word}
 use Rattle.steps_base.specs.Fits.{is_number}
 use Rattle.heap_words.specs.Encoding.{refs_in, nums_in}
 use Rattle.shen_graph.specs.declared.command.Command.{Command}
-use Rattle.shen_graph.specs.declared.command.Command.TheVariants.{New, Get, Set, Cas, Xchg, Rd, Wr, Copy, Drop, Same, Gc}
+use Rattle.shen_graph.specs.declared.command.Command.TheVariants.{New, Get, Set, Cas, Xchg, Rd, Wr, Copy, Drop, Same, Gc, Pin, Unpin}
 use Rattle.shen_graph.specs.declared.command.Reply.{Reply}
 use Rattle.shen_graph.specs.declared.command.Reply.TheVariants as reply
 use Rattle.shen_graph.specs.Graph.{same_reference}
-use Rattle.shen_graph.specs.Step.{yes_or_no, answers, outcome}
+use Rattle.shen_graph.specs.Step.{yes_or_no, answers, outcome, pinned_by, IsPin}
 use Rattle.shen_graph.specs.History.{is_full}
+use Rattle.shen_graph.proofs.Outcomes.{pins_none}
 use Rattle.mutator.specs.declared.spot.Spot.{Spot}
 use Rattle.mutator.specs.declared.spot.Spot.TheVariants.{LoadSet, Loading, OnField, Leave}
 use Rattle.mutator.specs.declared.loads.LoadSpot.TheVariants as load
@@ -29,7 +30,7 @@ use Rattle.step_core.proofs.Mutators.Spots.{mutator_at}
 use Rattle.step_core.proofs.Mutators.WhileMarking.{covered_unmarked}
 use Rattle.step_core.proofs.Machines.Ready.{leaving, ready_of, number_small}
 use Rattle.heap_world.proofs.Pointing.{named_if_not_0, null_if_0, points_small}
-use Rattle.step_core.proofs.Machines.Naming.{same_words, names_agree, word_in, shape_in, bad_on_null, bad_on_shape}
+use Rattle.step_core.proofs.Machines.Naming.{same_words, names_agree, word_in, shape_in, bad_on_null, pinned_on_null, bad_on_shape}
 use Rattle.step_core.proofs.Mutators.Loading.{looks, replies}
 use Rattle.alloc_buffers.specs.Facts.{OnlySpares}
 
@@ -56,6 +57,8 @@ root_small made (Copy dst src) (suc i) next below = absurd (omega arith)
 root_small made (Same a b) zero next below = grind (arith, nat_tests)
 root_small made (Same a b) (suc zero) next below = grind (arith, nat_tests)
 root_small made (Same a b) (suc (suc i)) next below = absurd (omega arith)
+root_small made (Pin slot obj) zero next below = grind (arith, nat_tests)
+root_small made (Pin slot obj) (suc i) next below = absurd (omega arith)
 root_small made _ i next below = absurd (omega arith)
 
 -- the object of a command whose first root is not null
@@ -158,14 +161,28 @@ module _ (c : Config) (u : World) (seat made : ℕ) (kept : Kept) (command : Com
   set_mine (Wr obj index value) now mine = root_mine (Wr obj index value) now (omega arith) mine
   set_mine (Copy dst src) now mine = root_mine (Copy dst src) now (omega arith) mine
   set_mine (Same a b) now mine = root_mine (Same a b) now (omega arith) mine
+  set_mine (Pin slot obj) now mine = root_mine (Pin slot obj) now (omega arith) mine
+  set_mine (Unpin slot) now mine =
+      let below = mine.seated.below in
+      let next = mine.facts.next in
+      let small : slot < 4 = grind (arith, nat_tests) in
+      record {
+        seated = mine.seated;
+        ready = grind (arith, nat_tests);
+        marking = mine.marking;
+        copying = mine.copying;
+        roots = mine.roots;
+        rooms = mine.rooms;
+        facts = (mine.facts.unsettled, mine.facts.is, (small, refl));
+      }
 
   -- it leaves with the reply that is settled
   leave_mine : (k : Command) (r : Reply) → HasBegun k → HasSpot k kept.cset (Some r) (Leave r)
   leave_mine k r mine = leaving c _ seat made (keeping k kept.cset) command r mine.seated (mine.marking.records, mine.marking.scans, mine.copying.copies_is, mine.copying.works_none) mine.roots mine.rooms
 
   -- it can go on with the shape of the command's object
-  shape_mine : (k : Command) (object second third : ℕ) → Shared c u → HasBegun k → is_on_object k ≡ true → HasRoots c u seat k object second third → HasSpot k kept.cset fixed (Loading (load.Shape object second third))
-  shape_mine k object second third shared mine on has =
+  shape_mine : (k : Command) (object second third : ℕ) → Shared c u → HasBegun k → is_on_object k ≡ true → (IsPin k → ⊥) → HasRoots c u seat k object second third → HasSpot k kept.cset fixed (Loading (load.Shape object second third))
+  shape_mine k object second third shared mine on no_pin has =
       let of : HasObject c u seat (command_root k 0) object = object_of c u seat k object shared on has.first_is in
       record {
         seated = mine.seated;
@@ -174,7 +191,7 @@ module _ (c : Config) (u : World) (seat made : ℕ) (kept : Kept) (command : Com
         copying = mine.copying;
         roots = mine.roots;
         rooms = mine.rooms;
-        facts = (mine.facts, on, has);
+        facts = (mine.facts, on, has, no_pin);
       }
 
   -- the word of a root of the command stands for the root
@@ -200,11 +217,11 @@ module _ (c : Config) (u : World) (seat made : ℕ) (kept : Kept) (command : Com
   -- where it goes on after the first root
   first_mine : (k : Command) (first : ℕ) → Shared c u → HasBegun k → HasFirst c u seat k first → HasSpot k kept.cset fixed (after_first k first)
   first_mine (Get dst src field) first shared mine has =
-      shape_mine (Get dst src field) first 0 0 shared mine refl (record { first_is = has; second_is = λ below. absurd (omega arith); third_is = λ below. absurd (omega arith) })
+      shape_mine (Get dst src field) first 0 0 shared mine refl (λ pins. pins) (record { first_is = has; second_is = λ below. absurd (omega arith); third_is = λ below. absurd (omega arith) })
   first_mine (Rd obj index) first shared mine has =
-      shape_mine (Rd obj index) first 0 0 shared mine refl (record { first_is = has; second_is = λ below. absurd (omega arith); third_is = λ below. absurd (omega arith) })
+      shape_mine (Rd obj index) first 0 0 shared mine refl (λ pins. pins) (record { first_is = has; second_is = λ below. absurd (omega arith); third_is = λ below. absurd (omega arith) })
   first_mine (Wr obj index value) first shared mine has =
-      shape_mine (Wr obj index value) first 0 0 shared mine refl (record { first_is = has; second_is = λ below. absurd (omega arith); third_is = λ below. absurd (omega arith) })
+      shape_mine (Wr obj index value) first 0 0 shared mine refl (λ pins. pins) (record { first_is = has; second_is = λ below. absurd (omega arith); third_is = λ below. absurd (omega arith) })
   first_mine (Set obj field val) first shared mine has = second_mine (Set obj field val) first mine (omega arith) has
   first_mine (Cas obj field expect val) first shared mine has = second_mine (Cas obj field expect val) first mine (omega arith) has
   first_mine (Xchg dst obj field val) first shared mine has = second_mine (Xchg dst obj field val) first mine (omega arith) has
@@ -223,6 +240,19 @@ module _ (c : Config) (u : World) (seat made : ℕ) (kept : Kept) (command : Com
         rooms = mine.rooms;
         facts = (mine.facts.unsettled, small, inl (record { src = src; is = mine.facts.is; value_is = value_is }));
       }
+  first_mine (Pin slot obj) first shared mine has =
+      let below = mine.seated.below in
+      let next = mine.facts.next in
+      let small : slot < 4 = grind (arith, nat_tests) in
+      record {
+        seated = mine.seated;
+        ready = grind (arith, nat_tests);
+        marking = mine.marking;
+        copying = mine.copying;
+        roots = mine.roots;
+        rooms = mine.rooms;
+        facts = (mine.facts.unsettled, mine.facts.is, (small, object_of c u seat (Pin slot obj) first shared refl has));
+      }
   first_mine _ first shared mine has = let some = has.some in absurd (omega arith)
 
   -- the load of the collection set
@@ -238,6 +268,7 @@ module _ (c : Config) (u : World) (seat made : ℕ) (kept : Kept) (command : Com
       let null : u.graph.root (seat + 1) (command_root k 0) ≡ None = null_if_0 c _ u.block shared.parsable.plotted _ _ (root_has k 0 mine some).stands (eqb-true _ _ parts.1) in
       replies c u (at_call k (Loading load.First)) (Root seat (command_root k 0)) command fixed reply.Bad refl
       (cond-true _ _ _ lacks) refl mine.facts.unsettled refl
+      (ap (pinned_by u.graph (seat + 1)) mine.facts.is ∙ pinned_on_null u.graph (seat + 1) k null)
       (ap (λ x. outcome u.graph (seat + 1) x) mine.facts.is ∙ bad_on_null u.graph (seat + 1) k parts.0 null)
       shared (rw lacks (leave_mine k reply.Bad mine))
 
@@ -262,13 +293,13 @@ module _ (c : Config) (u : World) (seat made : ℕ) (kept : Kept) (command : Com
   second_step : (k : Command) (first : ℕ) → Shared c u → HasBegun k → 1 < length (command_roots k) → HasFirst c u seat k first → Stepped c u (at_call k (Loading (load.Second first))) command Nothing fixed
   second_step (Set obj field val) first shared mine more has =
       looks c u (at_call (Set obj field val) (Loading (load.Second first))) (Root seat val) command fixed refl refl refl shared
-      (shape_mine (Set obj field val) first (u.memory (Root seat val)) 0 shared mine refl (record { first_is = has; second_is = root_has (Set obj field val) 1 mine; third_is = λ below. absurd (omega arith) }))
+      (shape_mine (Set obj field val) first (u.memory (Root seat val)) 0 shared mine refl (λ pins. pins) (record { first_is = has; second_is = root_has (Set obj field val) 1 mine; third_is = λ below. absurd (omega arith) }))
   second_step (Cas obj field expect val) first shared mine more has =
       looks c u (at_call (Cas obj field expect val) (Loading (load.Second first))) (Root seat expect) command fixed refl refl refl shared
       (third_mine (Cas obj field expect val) first (u.memory (Root seat expect)) mine (omega arith) has (root_has (Cas obj field expect val) 1 mine))
   second_step (Xchg dst obj field val) first shared mine more has =
       looks c u (at_call (Xchg dst obj field val) (Loading (load.Second first))) (Root seat val) command fixed refl refl refl shared
-      (shape_mine (Xchg dst obj field val) first (u.memory (Root seat val)) 0 shared mine refl (record { first_is = has; second_is = root_has (Xchg dst obj field val) 1 mine; third_is = λ below. absurd (omega arith) }))
+      (shape_mine (Xchg dst obj field val) first (u.memory (Root seat val)) 0 shared mine refl (λ pins. pins) (record { first_is = has; second_is = root_has (Xchg dst obj field val) 1 mine; third_is = λ below. absurd (omega arith) }))
   second_step (Same a b) first shared mine more has =
       let got : ℕ = u.memory (Root seat b) in
       let is_first = has.first_is has.some in
@@ -277,6 +308,7 @@ module _ (c : Config) (u : World) (seat made : ℕ) (kept : Kept) (command : Com
       let agree : name_the_same u.memory first got ≡ (first == got) = stand ∙ sym (same_words c u shared first got _ _ is_first.usable is_second.usable is_first.stands is_second.stands) in
       replies c u (at_call (Same a b) (Loading (load.Second first))) (Root seat b) command fixed (yes_or_no (name_the_same u.memory first got)) refl refl refl mine.facts.unsettled
       (full_no (name_the_same u.memory first got))
+      (ap (pinned_by u.graph (seat + 1)) mine.facts.is)
       (ap (λ x. outcome u.graph (seat + 1) x) mine.facts.is ∙ ap (λ x. answers (yes_or_no x) u.graph) (sym stand))
       shared
       (subst (λ f. HasSpot (Same a b) kept.cset f (Leave (yes_or_no (first == got)))) (ap (λ x. Some (yes_or_no x)) (sym agree)) (leave_mine (Same a b) (yes_or_no (first == got)) mine))
@@ -291,7 +323,7 @@ module _ (c : Config) (u : World) (seat made : ℕ) (kept : Kept) (command : Com
   third_step : (k : Command) (first second : ℕ) → Shared c u → HasBegun k → 2 < length (command_roots k) → HasFirst c u seat k first → HasRoot c u seat k 1 second → Stepped c u (at_call k (Loading (load.Third first second))) command Nothing fixed
   third_step (Cas obj field expect val) first second shared mine more has has_second =
       looks c u (at_call (Cas obj field expect val) (Loading (load.Third first second))) (Root seat val) command fixed refl refl refl shared
-      (shape_mine (Cas obj field expect val) first second (u.memory (Root seat val)) shared mine refl (record { first_is = has; second_is = has_second; third_is = root_has (Cas obj field expect val) 2 mine }))
+      (shape_mine (Cas obj field expect val) first second (u.memory (Root seat val)) shared mine refl (λ pins. pins) (record { first_is = has; second_is = has_second; third_is = root_has (Cas obj field expect val) 2 mine }))
   third_step _ first second shared mine more has has_second = absurd (omega arith)
 
   -- the load of the third root
@@ -410,6 +442,7 @@ module _ (c : Config) (u : World) (seat made : ℕ) (kept : Kept) (command : Com
       (rw part (part_mine k object second third (u.memory (Heap (object + 1))) shared base mine.facts.2 of sizes.0 sizes.1 mine.facts.1 part)))
       (λ (lacks : has_part k (u.memory (Heap (object + 1))) ≡ false).
       replies c u (at_spot (Loading (load.Shape object second third))) (Heap (object + 1)) command fixed reply.Bad refl (cond-false _ _ _ lacks) refl mine.facts.0.unsettled refl
+      (ap (pinned_by u.graph (seat + 1)) mine.facts.0.is ∙ pins_none u.graph (seat + 1) k mine.facts.3)
       (ap (λ x. outcome u.graph (seat + 1) x) mine.facts.0.is ∙ bad_on_shape c u shared seat object k of mine.facts.1 lacks)
       shared (rw lacks (leave_mine k reply.Bad base)))
       (cases_Bool (has_part k (u.memory (Heap (object + 1)))))

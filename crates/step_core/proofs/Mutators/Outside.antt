@@ -10,7 +10,8 @@ use Rattle.handshake.specs.declared.enter_spot.EnterSpot.TheVariants as enter
 use Rattle.handshake.specs.Standing.{is_within}
 use Rattle.mutator.specs.declared.spot.Kept.{Kept}
 use Rattle.mutator.specs.declared.spot.Spot.{Spot}
-use Rattle.mutator.specs.declared.spot.Spot.TheVariants.{Rest, Ended, Entering, Loading, OnField, Resolving, Recording, OnNumber, Showing, Making, Waiting, Gone}
+use Rattle.mutator.specs.declared.pins.PinSpot.TheVariants as pins
+use Rattle.mutator.specs.declared.spot.Spot.TheVariants.{Rest, Ended, Entering, Loading, OnField, Resolving, Recording, OnNumber, Showing, Making, Pinning, Waiting, Gone}
 use Rattle.mutator.specs.declared.loads.LoadSpot.TheVariants as load
 use Rattle.mutator.specs.declared.fields.FieldSpot.TheVariants as fields
 use Rattle.mutator.specs.declared.numbers.NumberSpot.TheVariants as numbers
@@ -145,6 +146,8 @@ answer_before c memory seat made kept order (OnNumber object refs numbers.Load) 
 answer_before c memory seat made kept order (OnNumber object refs numbers.Store) now = now
 answer_before c memory seat made kept order (Showing value show.LoadName) now = now
 answer_before c memory seat made kept order (Showing value (show.StoreRoot reply)) now = now
+answer_before c memory seat made kept order (Pinning value pins.Look) now = now
+answer_before c memory seat made kept order (Pinning value pins.Store) now = now
 answer_before c memory seat made kept order (Making (make.Taking take)) now = sym (others_stay seat (words_made kept.command) memory take (Answer seat) refl) ∙ now
 answer_before c memory seat made kept order (Making (make.StoreWord address done)) now = now
 answer_before c memory seat made kept order (Making (make.StoreRoot address)) now = now

@@ -8,13 +8,15 @@ use Rattle.std.proofs.Common.{◌≡◌, ℕ, false, Option, Some, refl, sym, ap
 use Rattle.shen_graph.specs.declared.order.Order.{Order}
 use Rattle.mutator.specs.declared.spot.Kept.{Kept}
 use Rattle.mutator.specs.declared.spot.Spot.{Spot}
-use Rattle.mutator.specs.declared.spot.Spot.TheVariants.{Rest, Ended, Entering, LoadPhase, LoadSet, Loading, OnField, Resolving, Recording, OnNumber, Showing, StoreRoot, Making, AskCycle, Waiting, Leave, Gone}
+use Rattle.mutator.specs.declared.spot.Spot.TheVariants.{Rest, Ended, Entering, LoadPhase, LoadSet, Loading, OnField, Resolving, Recording, OnNumber, Showing, StoreRoot, Making, AskCycle, Pinning, Waiting, Leave, Gone}
 use Rattle.mutator.specs.declared.loads.LoadSpot.{LoadSpot}
 use Rattle.mutator.specs.declared.loads.LoadSpot.TheVariants as load
 use Rattle.mutator.specs.declared.fields.FieldSpot.{FieldSpot}
 use Rattle.mutator.specs.declared.fields.FieldSpot.TheVariants as fields
 use Rattle.mutator.specs.declared.numbers.NumberSpot.{NumberSpot}
 use Rattle.mutator.specs.declared.numbers.NumberSpot.TheVariants as numbers
+use Rattle.mutator.specs.declared.pins.PinSpot.{PinSpot}
+use Rattle.mutator.specs.declared.pins.PinSpot.TheVariants as pins
 use Rattle.mutator.specs.declared.shows.ShowSpot.{ShowSpot}
 use Rattle.mutator.specs.declared.shows.ShowSpot.TheVariants as show
 use Rattle.mutator.specs.declared.makes.MakeSpot.{MakeSpot}
@@ -24,6 +26,7 @@ use Rattle.mutator.specs.Orders.{is_between_calls}
 use Rattle.mutator.specs.Rows.{Mutating}
 use Rattle.mutator.proofs.Orders.{in_call}
 use Rattle.heap_world.specs.World.{World}
+use Rattle.heap_world.specs.Roots.{HasNoMorePins}
 use Rattle.step_core.proofs.Machines.Stepped.{Row, OrderedRow, Stepped}
 use Rattle.step_core.proofs.Mutators.Calls.{at_rest, at_ended, at_ask, at_leave}
 use Rattle.step_core.proofs.Mutators.Entering.{at_enter, at_load_phase}
@@ -32,6 +35,7 @@ use Rattle.step_core.proofs.Mutators.Loads.{at_load_set, at_load_root, at_load_s
 use Rattle.step_core.proofs.Mutators.Fields.{at_load_field, at_load_old, at_load_expected, at_load_number, at_load_name}
 use Rattle.step_core.proofs.Mutators.RootStores.{at_store_loaded, at_store_root}
 use Rattle.step_core.proofs.Mutators.Stores.{at_store_field, at_swap_field, at_exchange_field, at_store_number}
+use Rattle.step_core.proofs.Mutators.Pinnings.{at_look_pin, at_store_pin}
 use Rattle.step_core.proofs.Mutators.Recording.{at_record}
 use Rattle.step_core.proofs.Mutators.Resolving.{at_resolve}
 use Rattle.step_core.proofs.Mutators.Takes.{at_taking}
@@ -62,6 +66,10 @@ module _ (c : Config) (u : World) (seat made : ℕ) (kept : Kept) (command : Com
   each_show value show.LoadName = at_load_name c u seat made kept command fixed value
   each_show value (show.StoreRoot r) = at_store_loaded c u seat made kept command fixed value r
 
+  each_pin : HasNoMorePins c.mutators u.graph → (value : ℕ) (at : PinSpot) → Row c u (mutator_at seat made kept (Pinning value at)) command fixed
+  each_pin no_more value pins.Look = at_look_pin c u seat made kept command fixed value
+  each_pin no_more value pins.Store = at_store_pin c u seat made kept command fixed no_more value
+
   each_make : (at : MakeSpot) → Row c u (mutator_at seat made kept (Making at)) command fixed
   each_make (make.Taking take) = at_taking c u seat made kept command fixed take
   each_make (make.StoreWord address done) = at_store_word c u seat made kept command fixed address done
@@ -73,38 +81,39 @@ module _ (c : Config) (u : World) (seat made : ℕ) (kept : Kept) (command : Com
   HasTold spot = spot ≡ Waiting wait.Poll → u.memory (Answer seat) ≡ 1 → fixed ≡ Some reply.Full
 
   -- by the spot, in a call
-  each_call : (spot : Spot) → HasTold spot → is_between_calls spot ≡ false → Row c u (mutator_at seat made kept spot) command fixed
-  each_call Rest told busy = absurd (cc (busy))
-  each_call (Ended r) told busy = absurd (cc (busy))
-  each_call (Entering at next) told busy = at_enter c u seat made kept command fixed at next
-  each_call LoadPhase told busy = at_load_phase c u seat made kept command fixed
-  each_call LoadSet told busy = at_load_set c u seat made kept command fixed
-  each_call (Loading at) told busy = each_load at
-  each_call (OnField object at) told busy = each_field object at
-  each_call (Resolving address at next) told busy = at_resolve c u seat made kept command fixed at address next
-  each_call (Recording at address next) told busy = at_record c u seat made kept command fixed at address next
-  each_call (OnNumber object refs at) told busy = each_number object refs at
-  each_call (Showing value at) told busy = each_show value at
-  each_call (StoreRoot value) told busy = at_store_root c u seat made kept command fixed value
-  each_call (Making at) told busy = each_make at
-  each_call AskCycle told busy = at_ask c u seat made kept command fixed
-  each_call (Waiting at) told busy = each_wait c u seat made kept command fixed at (λ same. told (ap Waiting same))
-  each_call (Leave r) told busy = at_leave c u seat made kept command fixed r
-  each_call Gone told busy = absurd (cc (busy))
+  each_call : HasNoMorePins c.mutators u.graph → (spot : Spot) → HasTold spot → is_between_calls spot ≡ false → Row c u (mutator_at seat made kept spot) command fixed
+  each_call no_more Rest told busy = absurd (cc (busy))
+  each_call no_more (Ended r) told busy = absurd (cc (busy))
+  each_call no_more (Entering at next) told busy = at_enter c u seat made kept command fixed at next
+  each_call no_more LoadPhase told busy = at_load_phase c u seat made kept command fixed
+  each_call no_more LoadSet told busy = at_load_set c u seat made kept command fixed
+  each_call no_more (Loading at) told busy = each_load at
+  each_call no_more (OnField object at) told busy = each_field object at
+  each_call no_more (Resolving address at next) told busy = at_resolve c u seat made kept command fixed at address next
+  each_call no_more (Recording at address next) told busy = at_record c u seat made kept command fixed at address next
+  each_call no_more (OnNumber object refs at) told busy = each_number object refs at
+  each_call no_more (Showing value at) told busy = each_show value at
+  each_call no_more (StoreRoot value) told busy = at_store_root c u seat made kept command fixed value
+  each_call no_more (Making at) told busy = each_make at
+  each_call no_more AskCycle told busy = at_ask c u seat made kept command fixed
+  each_call no_more (Pinning value at) told busy = each_pin no_more value at
+  each_call no_more (Waiting at) told busy = each_wait c u seat made kept command fixed at (λ same. told (ap Waiting same))
+  each_call no_more (Leave r) told busy = at_leave c u seat made kept command fixed r
+  each_call no_more Gone told busy = absurd (cc (busy))
 
   -- in a call there is no order
-  called : (order : Order) (spot : Spot) → HasTold spot → is_between_calls spot ≡ false → OrderedRow c u (mutator_at seat made kept spot) command order fixed
-  called order spot told busy shared mine takes =
-      subst (λ o. Stepped c u (mutator_at seat made kept spot) command o fixed) (sym (in_call spot made order busy takes)) (each_call spot told busy shared mine)
+  called : HasNoMorePins c.mutators u.graph → (order : Order) (spot : Spot) → HasTold spot → is_between_calls spot ≡ false → OrderedRow c u (mutator_at seat made kept spot) command order fixed
+  called no_more order spot told busy shared mine takes =
+      subst (λ o. Stepped c u (mutator_at seat made kept spot) command o fixed) (sym (in_call spot made order busy takes)) (each_call no_more spot told busy shared mine)
 
   -- by the spot
-  each_place : (order : Order) (spot : Spot) → HasTold spot → OrderedRow c u (mutator_at seat made kept spot) command order fixed
-  each_place order Rest told = at_rest c u seat made kept command fixed order
-  each_place order (Ended r) told = at_ended c u seat made kept command fixed r order
-  each_place order Gone told = λ shared mine takes. absurd (cc (takes))
-  each_place order spot told = called order spot told refl
+  each_place : HasNoMorePins c.mutators u.graph → (order : Order) (spot : Spot) → HasTold spot → OrderedRow c u (mutator_at seat made kept spot) command order fixed
+  each_place no_more order Rest told = at_rest c u seat made kept command fixed order
+  each_place no_more order (Ended r) told = at_ended c u seat made kept command fixed r order
+  each_place no_more order Gone told = λ shared mine takes. absurd (cc (takes))
+  each_place no_more order spot told = called no_more order spot told refl
 
 -- for a mutator wherever it stands
 pub each_step : (c : Config) (u : World) (m : Mutating) (command : Command) (order : Order) (fixed : Option Reply)
-    → (m.spot ≡ Waiting wait.Poll → u.memory (Answer m.seat) ≡ 1 → fixed ≡ Some reply.Full) → OrderedRow c u m command order fixed
-each_step c u m command order fixed told = each_place c u m.seat m.made m.kept command fixed order m.spot told
+    → (m.spot ≡ Waiting wait.Poll → u.memory (Answer m.seat) ≡ 1 → fixed ≡ Some reply.Full) → HasNoMorePins c.mutators u.graph → OrderedRow c u m command order fixed
+each_step c u m command order fixed told no_more = each_place c u m.seat m.made m.kept command fixed no_more order m.spot told

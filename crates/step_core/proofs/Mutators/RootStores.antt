@@ -10,7 +10,7 @@ use Rattle.shen_graph.specs.declared.command.Command.{Command}
 use Rattle.shen_graph.specs.declared.command.Reply.{Reply}
 use Rattle.shen_graph.specs.declared.command.Reply.TheVariants as reply
 use Rattle.shen_graph.specs.Graph.{Reference, with_root}
-use Rattle.shen_graph.specs.Step.{answers, outcome}
+use Rattle.shen_graph.specs.Step.{answers, outcome, pinned_by}
 use Rattle.mutator.specs.declared.spot.Spot.{Spot}
 use Rattle.mutator.specs.declared.spot.Spot.TheVariants.{Showing, StoreRoot}
 use Rattle.mutator.specs.declared.shows.ShowSpot.TheVariants as show
@@ -77,13 +77,13 @@ module _ (c : Config) (u : World) (seat made : ℕ) (kept : Kept) (command : Com
 
   -- A step that stores a reference into a root settles the reply Ok of a command which makes that root the reference.
   root_step : (value : ℕ) (v : Reference) → Shared c u → Mine c u (at_spot (StoreRoot value)) command fixed
-      → outcome u.graph (seat + 1) command ≡ answers reply.Ok (with_root u.graph (seat + 1) dst v) → Points u.block value v → UsableIn c u value
+      → pinned_by u.graph (seat + 1) command ≡ None → outcome u.graph (seat + 1) command ≡ answers reply.Ok (with_root u.graph (seat + 1) dst v) → Points u.block value v → UsableIn c u value
       → Stepped c u (at_spot (StoreRoot value)) command Nothing fixed
-  root_step value v shared mine is stands new = record {
+  root_step value v shared mine none is stands new = record {
     world = rooted_world value v;
     memory = refl;
-    graph = sym (graph_answer u.graph seat command reply.Ok refl ∙ ap (λ o. o.graph) is);
-    legal = legal_answer u.graph seat command reply.Ok refl (ap (λ o. o.reply) is);
+    graph = sym (graph_answer u.graph seat command reply.Ok refl none ∙ ap (λ o. o.graph) is);
+    legal = legal_answer c u.graph seat command reply.Ok refl none (ap (λ o. o.reply) is);
     settles = λ r e. (mine.facts.0, refl);
     shared = shared;
     mine = leaving c _ seat made kept command reply.Ok (seated_written c u (rooted_world value v) seat made dst value refl refl refl new mine.seated) (mine.marking.records, mine.marking.scans, mine.copying.copies_is, mine.copying.works_none) (roots_written u.block u.memory u.graph.root seat dst value v mine.roots stands) mine.rooms;
@@ -93,6 +93,6 @@ module _ (c : Config) (u : World) (seat made : ℕ) (kept : Kept) (command : Com
   -- the store of a reference into a root settles Ok
   pub at_store_root : (value : ℕ) → Row c u (at_spot (StoreRoot value)) command fixed
   at_store_root value shared mine = ⊎_elim
-      (λ copy. root_step value (u.graph.root (seat + 1) copy.src) shared mine (ap (λ k. outcome u.graph (seat + 1) k) copy.is) copy.value_is.stands copy.value_is.usable)
-      (λ drop. root_step value None shared mine (ap (λ k. outcome u.graph (seat + 1) k) drop.is) drop.value_is (inl drop.value_is))
+      (λ copy. root_step value (u.graph.root (seat + 1) copy.src) shared mine (ap (pinned_by u.graph (seat + 1)) copy.is) (ap (λ k. outcome u.graph (seat + 1) k) copy.is) copy.value_is.stands copy.value_is.usable)
+      (λ drop. root_step value None shared mine (ap (pinned_by u.graph (seat + 1)) drop.is) (ap (λ k. outcome u.graph (seat + 1) k) drop.is) drop.value_is (inl drop.value_is))
       mine.facts.2

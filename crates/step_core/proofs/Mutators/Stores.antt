@@ -12,7 +12,7 @@ use Rattle.shen_graph.specs.declared.command.Command.TheVariants.{Set, Cas, Xchg
 use Rattle.shen_graph.specs.declared.command.Reply.{Reply}
 use Rattle.shen_graph.specs.declared.command.Reply.TheVariants as reply
 use Rattle.shen_graph.specs.Graph.{Reference, Object, Graph, same_reference, field_at, number_at, with_root}
-use Rattle.shen_graph.specs.Step.{outcome, answers, shown}
+use Rattle.shen_graph.specs.Step.{outcome, answers, shown, pinned_by}
 use Rattle.shen_graph.specs.History.{is_full}
 use Rattle.mutator.specs.declared.spot.Spot.{Spot}
 use Rattle.mutator.specs.declared.spot.Spot.TheVariants.{OnField, OnNumber}
@@ -78,18 +78,18 @@ module _ (g : Graph) (t obj : ℕ) (name : Name) (o : Object) (root_is : g.root 
 -- say, and roots of the mutator may be others.
 module _ (c : Config) (u : World) (m : Mutating) (object refs nums at value : ℕ) (name : Name) (o : Object) (root : ℕ → ℕ → Reference) (command : Command) (fixed : Option Reply) (r : Reply) where
   -- the step is as it should be
-  store_settles : touched u.memory (touch_of c m Nothing) ≡ write u.memory (Heap at) value → told_of u.memory m ≡ Some r → given_at m.spot ≡ None → fixed ≡ None → is_full r ≡ false
+  store_settles : touched u.memory (touch_of c m Nothing) ≡ write u.memory (Heap at) value → told_of u.memory m ≡ Some r → given_at m.spot ≡ None → fixed ≡ None → is_full r ≡ false → pinned_by u.graph (m.seat + 1) command ≡ None
       → Shared c u → TargetIn c u object refs nums name → object + 3 ≤ at → at < object + (3 + refs + nums) → ((i : ℕ) → i < refs → at ≡ object + 3 + i → IsCovered c u object i) → ((i : ℕ) → i < refs → at ≡ object + 3 + i → IsCurrent u.block value)
       → IsThing (updated (λ a. u.memory (Heap a)) at value) u.block object refs nums name o
       → outcome u.graph (m.seat + 1) command ≡ answers r (changed u.graph name o root)
       → ((seat i : ℕ) → seat ≢ m.seat → root (seat + 1) i ≡ u.graph.root (seat + 1) i)
       → Mine c (stored u at value (changed u.graph name o root)) (next_of c m Nothing (u.memory (touch_of c m Nothing).word)) command (Some r)
       → Stepped c u m command Nothing fixed
-  store_settles memory told given unsettled other shared target behind to_end covered current is answered roots mine = record {
+  store_settles memory told given unsettled other none shared target behind to_end covered current is answered roots mine = record {
     world = stored u at value (changed u.graph name o root);
     memory = sym memory;
-    graph = rw told (sym (graph_answer u.graph m.seat command r other ∙ ap (λ x. x.graph) answered));
-    legal = rw told (legal_answer u.graph m.seat command r other (ap (λ x. x.reply) answered));
+    graph = rw told (sym (graph_answer u.graph m.seat command r other none ∙ ap (λ x. x.graph) answered));
+    legal = rw told (legal_answer c u.graph m.seat command r other none (ap (λ x. x.reply) answered));
     settles = λ q e. (unsettled, given);
     shared = shared_stored c u object refs nums at value name o root shared target (omega (arith, behind)) to_end covered current is;
     mine = rw told mine;
@@ -124,13 +124,13 @@ module _ (c : Config) (u : World) (m : Mutating) (object field value obj val : �
 
   -- the step is as it should be
   field_settles : (command : Command) (fixed : Option Reply) (r : Reply)
-      → touched u.memory (touch_of c m Nothing) ≡ write u.memory (Heap (object + 3 + field)) value → told_of u.memory m ≡ Some r → given_at m.spot ≡ None → fixed ≡ None → is_full r ≡ false
+      → touched u.memory (touch_of c m Nothing) ≡ write u.memory (Heap (object + 3 + field)) value → told_of u.memory m ≡ Some r → given_at m.spot ≡ None → fixed ≡ None → is_full r ≡ false → pinned_by u.graph (m.seat + 1) command ≡ None
       → outcome u.graph (m.seat + 1) command ≡ answers r (changed u.graph of.name object_then root)
       → ((seat i : ℕ) → seat ≢ m.seat → root (seat + 1) i ≡ u.graph.root (seat + 1) i)
       → Mine c world_then (next_of c m Nothing (u.memory (touch_of c m Nothing).word)) command (Some r)
       → Stepped c u m command Nothing fixed
-  field_settles command fixed r memory told given unsettled other answered roots mine =
-      store_settles c u m object of.refs of.nums (object + 3 + field) value of.name object_then root command fixed r memory told given unsettled other shared of.target (omega arith) (omega arith) covered_then current_then object_stands answered roots mine
+  field_settles command fixed r memory told given unsettled other none answered roots mine =
+      store_settles c u m object of.refs of.nums (object + 3 + field) value of.name object_then root command fixed r memory told given unsettled other none shared of.target (omega arith) (omega arith) covered_then current_then object_stands answered roots mine
 
 module _ (c : Config) (u : World) (seat made : ℕ) (kept : Kept) (command : Command) (fixed : Option Reply) where
   abbrev at_spot : Spot → Mutating
@@ -156,7 +156,7 @@ module _ (c : Config) (u : World) (seat made : ℕ) (kept : Kept) (command : Com
       let v = field_in c u shared seat is.obj object field is.of is.below in
       let answered = set_outcome u.graph (seat + 1) is.obj is.of.name o.0 is.of.root_is o.1 field is.val v.0 v.1 in
       field_settles c u (at_spot (OnField object (fields.Store value))) object field value is.obj is.val shared is.of is.below is.value_is mine.facts.2 u.graph.root command fixed reply.Ok
-      refl refl refl mine.facts.0 refl (ap (λ k. outcome u.graph (seat + 1) k) is.is ∙ answered) (λ j i d. refl)
+      refl refl refl mine.facts.0 refl (ap (pinned_by u.graph (seat + 1)) is.is) (ap (λ k. outcome u.graph (seat + 1) k) is.is ∙ answered) (λ j i d. refl)
       (leaving c _ seat made kept command reply.Ok mine.seated (mine.marking.records, mine.marking.scans, mine.copying.copies_is, mine.copying.works_none) mine.roots mine.rooms)
 
   -- The swap of a field settles the reference that it had. In a world in which marking needs the field no more:
@@ -173,7 +173,7 @@ module _ (c : Config) (u : World) (seat made : ℕ) (kept : Kept) (command : Com
       let got = w.memory (Heap (object + 3 + field)) in
       let answered = xchg_outcome w.graph (seat + 1) is.obj is.of.name o.0 is.of.root_is o.1 dst field is.val v.0 v.1 in
       field_settles c w (at_spot (OnField object (fields.Swap value))) object field value is.obj is.val shared is.of is.below is.value_is covered root command fixed (shown v.0)
-      refl (ap (λ x. Some x) (shown_is c w shared got v.0 v.2)) refl unsettled (shown_not_full v.0) (ap (λ k. outcome w.graph (seat + 1) k) is.is ∙ answered)
+      refl (ap (λ x. Some x) (shown_is c w shared got v.0 v.2)) refl unsettled (shown_not_full v.0) (ap (pinned_by w.graph (seat + 1)) is.is) (ap (λ k. outcome w.graph (seat + 1) k) is.is ∙ answered)
       (λ j i d. cond-false ((j + 1 == seat + 1) && (i == dst)) v.0 (w.graph.root (j + 1) i) (grind (arith, nat_tests)))
       (mine v.0 v.2 (shared_then c w (at_spot (OnField object (fields.Swap value))) object field value is.obj is.val shared is.of is.below is.value_is covered root))
 
@@ -223,7 +223,7 @@ module _ (c : Config) (u : World) (seat made : ℕ) (kept : Kept) (command : Com
       one_reference c w shared got expect v.0 _ v.2 is.expect_is.stands (subst (λ x. NameTheSame w.block x expect) (sym (eqb-true _ _ same)) as_expected) in
       let answered = cas_outcome w.graph (seat + 1) is.obj is.of.name o.0 is.of.root_is o.1 field is.expected is.val v.0 v.1 references in
       field_settles c w (at_spot (OnField object (fields.Exchange found expect value))) object field value is.obj is.val shared is.of is.below is.value_is covered w.graph.root command fixed reply.Yes
-      (rw same refl) (rw same refl) refl unsettled refl (ap (λ k. outcome w.graph (seat + 1) k) is.is ∙ answered) (λ j i d. refl)
+      (rw same refl) (rw same refl) refl unsettled refl (ap (pinned_by w.graph (seat + 1)) is.is) (ap (λ k. outcome w.graph (seat + 1) k) is.is ∙ answered) (λ j i d. refl)
       (rw same (mine (shared_then c w (at_spot (OnField object (fields.Exchange found expect value))) object field value is.obj is.val shared is.of is.below is.value_is covered w.graph.root)))
 
   -- with the reference in hand, where it is to be recorded
@@ -293,7 +293,7 @@ module _ (c : Config) (u : World) (seat made : ℕ) (kept : Kept) (command : Com
       let stands = number_stored (λ a. u.memory (Heap a)) u.block object is.of.refs is.of.nums is.of.name o.0 o.2 index value is.below in
       let answered = wr_outcome u.graph (seat + 1) is.obj is.of.name o.0 is.of.root_is o.1 index value _ (number_in c u shared seat is.obj object index is.of is.below) in
       store_settles c u (at_spot (OnNumber object refs numbers.Store)) object is.of.refs is.of.nums at value is.of.name (with_value o.0 index value) u.graph.root command fixed reply.Ok
-      refl refl refl mine.facts.0 refl shared is.of.target (omega arith) (omega (arith, is.below, is.refs_are)) (λ i small same. absurd (let refs_are = is.refs_are in omega (arith, small, same, refs_are))) (λ i small same. absurd (let refs_are = is.refs_are in omega (arith, small, same, refs_are)))
+      refl refl refl mine.facts.0 refl (ap (pinned_by u.graph (seat + 1)) is.is) shared is.of.target (omega arith) (omega (arith, is.below, is.refs_are)) (λ i small same. absurd (let refs_are = is.refs_are in omega (arith, small, same, refs_are))) (λ i small same. absurd (let refs_are = is.refs_are in omega (arith, small, same, refs_are)))
       (subst (λ (x : ℕ). IsThing (updated (λ a. u.memory (Heap a)) (object + 3 + x + index) value) u.block object is.of.refs is.of.nums is.of.name (with_value o.0 index value)) (sym is.refs_are) stands)
       (ap (λ k. outcome u.graph (seat + 1) k) is.is ∙ answered) (λ j i d. refl)
       (leaving c _ seat made kept command reply.Ok mine.seated (mine.marking.records, mine.marking.scans, mine.copying.copies_is, mine.copying.works_none) mine.roots mine.rooms)

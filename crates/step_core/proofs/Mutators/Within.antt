@@ -16,7 +16,8 @@ use Rattle.satb_barrier.specs.declared.spot.RememberSpot.TheVariants.{LoadCount,
 use Rattle.satb_barrier.specs.Rows as satb
 use Rattle.mutator.specs.declared.spot.Spot.{Spot}
 use Rattle.mutator.specs.declared.spot.Kept.{Kept}
-use Rattle.mutator.specs.declared.spot.Spot.TheVariants.{Rest, Ended, Gone, Entering, LoadPhase, LoadSet, Loading, OnField, Resolving, Recording, OnNumber, Showing, StoreRoot, Making, AskCycle, Waiting, Leave}
+use Rattle.mutator.specs.declared.pins.PinSpot.TheVariants as pins
+use Rattle.mutator.specs.declared.spot.Spot.TheVariants.{Rest, Ended, Gone, Entering, LoadPhase, LoadSet, Loading, OnField, Resolving, Recording, OnNumber, Showing, StoreRoot, Making, AskCycle, Pinning, Waiting, Leave}
 use Rattle.mutator.specs.declared.spot.Entered.{Entered}
 use Rattle.mutator.specs.declared.spot.Entered.TheVariants.{Call, Waited}
 use Rattle.mutator.specs.declared.loads.LoadSpot.TheVariants as load
@@ -34,7 +35,7 @@ use Rattle.mutator.specs.declared.shows.ShowSpot.TheVariants as show
 use Rattle.mutator.specs.declared.makes.MakeSpot.TheVariants as make
 use Rattle.mutator.specs.declared.waits.WaitSpot.{WaitSpot}
 use Rattle.mutator.specs.declared.waits.WaitSpot.TheVariants as wait
-use Rattle.mutator.specs.Commands.{command_roots, lacks_object, has_part}
+use Rattle.mutator.specs.Commands.{command_roots, lacks_object, has_part, fits_slot}
 use Rattle.mutator.specs.Rows.{Mutating, first_spot, after_roots, after_first, with_part, is_to_record, overwritten, after_recording, after_remember, after_resolved, after_resolve, with_loaded, after_take, take_next, next_at}
 use Rattle.mutator.specs.WaitRows.{after_enter}
 use Rattle.step_core.specs.Own.{IsRoomOf}
@@ -138,6 +139,8 @@ goes_on_in c m order got (Making (make.Taking at)) is = take_in (take_next c m.k
 goes_on_in c m order got (Making (make.StoreWord address done)) is = refl
 goes_on_in c m order got (Making (make.StoreRoot address)) is = refl
 goes_on_in c m order got AskCycle is = refl
+goes_on_in c m order got (Pinning value pins.Look) is = either_in (fits_slot m.kept.command got) (Pinning value pins.Store) (Leave reply.Bad) refl refl
+goes_on_in c m order got (Pinning value pins.Store) is = refl
 goes_on_in c m order got (Waiting wait.StoreRequest) is = refl
 goes_on_in c m order got (Waiting wait.AskRoom) is = refl
 goes_on_in c m order got (Waiting wait.StepOut) is = cc

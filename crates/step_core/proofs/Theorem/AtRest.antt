@@ -93,7 +93,7 @@ module _ (c : Config) (g : Graph) (s : Stage Actor) (past : List Entry) (goes : 
   asks = asking c s.words goes.follows.block goes.follows.ghost the_graph past s.machines goes.follows.seats still
 
   stands : Represents c (view c s.words) the_graph asks
-  stands = words_stand c s.words goes.follows.block goes.follows.ghost the_graph past s.machines goes.follows.seats still shared goes.follows.promised_to goes.follows.no_more known rest.outside
+  stands = words_stand c s.words goes.follows.block goes.follows.ghost the_graph past s.machines goes.follows.seats still shared goes.follows.promised_to goes.follows.no_more goes.follows.no_more_pins known rest.outside
 
   -- nobody asks for anything
   none_asks : (t : ℕ) → t < c.mutators → asks t ≡ nothing
@@ -117,4 +117,5 @@ module _ (c : Config) (g : Graph) (s : Stage Actor) (past : List Entry) (goes : 
     unmarking = stands.unmarking;
     uncopying = stands.uncopying;
     no_more = stands.no_more;
+    no_more_pins = stands.no_more_pins;
   })

@@ -45,6 +45,7 @@ module _ (c : Config) (s : Stage Actor) (g : Graph) (begins : Begins c s g) wher
     legal = tt;
     entries = All-nil (IsSettled c.mutators);
     no_more = begins.stands.no_more;
+    no_more_pins = begins.stands.no_more_pins;
     shared = subst (λ memory. Shared c (record { memory = memory; block = begins.stands.block; ghost = begins.stands.ghost; graph = g })) (sym whole_begins) begins.stands.shared;
     promised_to = begins.stands.promised_to;
     machines = λ k a is.

@@ -5,7 +5,7 @@ use Rattle.std.proofs.lemmas.Option.{same_Some}
 use Rattle.std.proofs.lemmas.Bool.{cases_Bool, false≢true}
 use Rattle.heap_words.specs.declared.config.Config.{Config}
 use Rattle.heap_words.specs.Access.{table_index}
-use Rattle.heap_words.specs.Words.{Left, Answer, word_at, view, table_words}
+use Rattle.heap_words.specs.Words.{Left, Answer, Pin, word_at, view, table_words}
 use Rattle.heap_words.proofs.Stores.{is_word_true}
 use Rattle.heap_words.proofs.Rows.{word_inside}
 use Rattle.steps_base.specs.Touch.{touch, subtracts, placed}
@@ -45,6 +45,8 @@ use Rattle.step_core.specs.Seats.{taking_of, looks_for}
 use Rattle.step_core.specs.Settled.{settled, control_number}
 use Rattle.step_core.specs.Sound.{world_of, IsMutator, IsOfHeap, FindsFit, IsSound}
 use Rattle.step_core.proofs.Mutators.Adapter.{gives_settled}
+use Rattle.step_core.specs.Pins.{OnlyPinningPins}
+use Rattle.step_core.proofs.Theorem.PinWords.{pin_held, only_pinning}
 use Rattle.step_core.proofs.Theorem.Beginning.{goes_begins}
 use Rattle.step_core.proofs.History.Crowding.{run_crowded}
 use Rattle.step_core.proofs.Machines.Owed.{IsSeen, IsThread, IsAim, IsMachine}
@@ -208,6 +210,8 @@ module _ (change : Change) (law : IsPause change) (c : Config) (g : Graph) (s : 
     crowded = crowded;
     entries = goes.follows.entries;
     no_more = goes.follows.no_more;
+    no_more_pins = goes.follows.no_more_pins;
+    pinned = λ t i below small. pin_held c the_world goes.follows.shared (the_world.memory (Pin t i)) (the_world.graph.pin (t + 1) i) (goes.follows.shared.pinned t i below small);
     threads = λ number a m here.
         let thread = thread_of number a m here in
         let seen = subst (λ k. IsSeen (view c s.words (Answer number)) (the_world.memory (Answer k)) thread.fixed) (sym thread.number_is) thread.seen in
@@ -292,6 +296,10 @@ module _ (change : Change) (law : IsPause change) (c : Config) (s : Stage Actor)
   pub run_aims : (events : List (Event Order)) (number : ℕ) (a : Actor) (k : Controlling)
       → slice_get (go (kind change c) s events).machines number ≡ Some a → a.machine ≡ controlling k → (is_ready c k.spot ≡ true) × IsAim c (go (kind change c) s events).words k.spot k.image
   run_aims events = aims_of change law c g (go (kind change c) s events) (history change c s events) (goes_all events)
+
+  -- a pin word changes only where its own mutator stores into it
+  pub run_pins : (events : List (Event Order)) (e : Event Order) → OnlyPinningPins change c (go (kind change c) s events) e
+  run_pins events e = only_pinning change law c g (go (kind change c) s events) (history change c s events) e (goes_all events)
 
   -- a machine that is about to look for a free region lacks room
   pub run_lacks_room : (events : List (Event Order)) (number : ℕ) (a : Actor) (words : ℕ)

@@ -15,7 +15,7 @@ use Rattle.std.specs.Prelude.{List}
 use Rattle.steps_base.specs.Steps.{Event}
 use Rattle.shen_graph.specs.declared.order.Order.{Order}
 use Rattle.regions.specs.Place.{base_of}
-use Rattle.heap_words.specs.Words.{Word, same_word, Pause, State, Top, Tams, Root, Heap, Phase, Cset, Free, Evac, Claim, Current, Count, Buffer, Wait, Answer, Grey, Black, view, Share}
+use Rattle.heap_words.specs.Words.{Word, same_word, Pause, State, Top, Tams, Root, Pin, Heap, Phase, Cset, Free, Evac, Claim, Current, Count, Buffer, Wait, Answer, Grey, Black, view, Share}
 use Rattle.shen_graph.specs.declared.name.Name.{Name}
 use Rattle.shen_graph.specs.declared.command.Command.TheVariants.{Gc}
 use Rattle.shen_graph.specs.Graph.{Object, hub, same_name, blank}
@@ -26,7 +26,7 @@ use Rattle.heap_world.specs.World.{World, Plot, Block, thing, moved, spent, hand
 use Rattle.heap_world.specs.Asking.{nothing}
 use Rattle.heap_world.specs.Represents.{Represents}
 use Rattle.step_core.specs.Begins.{HasCalledNothing, IsCalmOutside, Begins, Run, first_graph}
-use Rattle.step_core.proofs.Mutators.Roots.{no_more_opening}
+use Rattle.step_core.proofs.Mutators.Roots.{no_more_opening, no_more_pins_opening}
 use Rattle.shen_graph.proofs.PlainLemmas.{same_name-true}
 use Rattle.heap_world.proofs.NewObject.{all_alike}
 use Rattle.heap_world.proofs.Roomless.{rooms_none}
@@ -261,6 +261,7 @@ first_shared c = record {
       (λ r. first_memory c (Tams r)) (λ a. first_memory c (Heap a)) (first_block c) (λ seat. None) (λ seat. None) (first_phase c);
   evacuated = first_evacuated c;
   updated = λ on. absurd (let none = first_phase c in omega (arith, none, on));
+  pinned = λ t i below small. rooted_else c (Pin t i) (λ k. refl) c.mutators;
 }
 
 -- the words of the roots stand for the graph's
@@ -296,6 +297,7 @@ first_stands c = record {
   unmarking = record { records_none = λ seat below. refl; scans_none = λ seat below. refl };
   uncopying = record { copies_none = λ seat below. refl; works_none = λ seat below. refl };
   no_more = no_more_opening c.mutators;
+  no_more_pins = no_more_pins_opening c.mutators;
 }
 
 -- No pause is wanted, no machine is inside, and no mutator has ended.

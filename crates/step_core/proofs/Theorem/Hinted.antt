@@ -92,6 +92,7 @@ module _ (c : Config) (s : Stage Actor) (number : ℕ) (before next : Actor) (he
     legal = follows.legal;
     entries = follows.entries;
     no_more = follows.no_more;
+    no_more_pins = follows.no_more_pins;
     shared = subst (λ memory. Shared c (now memory)) (sym settled_same) follows.shared;
     promised_to = follows.promised_to;
     machines = λ k r is. subst (λ memory. IsMachine c s.words (now memory) (of_thread past (k + 1)) k r r.machine) (sym settled_same) (machine_of k r is);

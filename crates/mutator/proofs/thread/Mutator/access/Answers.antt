@@ -5,7 +5,7 @@ use Rattle.heap_words.proofs.Stores.{is_word_true}
 use Rattle.handshake.specs.Rows.{is_entered}
 use Rattle.satb_barrier.specs.Rows.{is_recorded}
 use Rattle.load_barrier.specs.Rows.{is_resolved}
-use Rattle.mutator.specs.declared.spot.Spot.TheVariants.{Entering, Loading, OnField, Resolving, Recording, OnNumber, Showing, Making, Waiting}
+use Rattle.mutator.specs.declared.spot.Spot.TheVariants.{Entering, Loading, OnField, Resolving, Recording, OnNumber, Showing, Making, Pinning, Waiting}
 use Rattle.mutator.proofs.Inside.{ready_at, not_ended}
 use Rattle.mutator.proofs.thread.Mutator.access.Goals as goal
 
@@ -59,6 +59,9 @@ access-requires-in-OnNumber c = let m = c.args.self.now in let ready = ready_at 
 
 pub access-requires-in-Showing : goal.access-requires-in-Showing
 access-requires-in-Showing c = let m = c.args.self.now in let ready = ready_at m.config m.mutator m.made m.kept m.spot (Showing c.in-Showing.value c.in-Showing.at) c.in-Showing.is m.ready in ready.0
+
+pub access-requires-in-Pinning : goal.access-requires-in-Pinning
+access-requires-in-Pinning c = let m = c.args.self.now in let ready = ready_at m.config m.mutator m.made m.kept m.spot (Pinning c.in-Pinning.value c.in-Pinning.at) c.in-Pinning.is m.ready in ready.0
 
 pub access-requires-in-Making-clause-fits : goal.access-requires-in-Making-clause-fits
 access-requires-in-Making-clause-fits c = let m = c.args.self.now in let ready = ready_at m.config m.mutator m.made m.kept m.spot (Making c.in-Making.at) c.in-Making.is m.ready in ready.0

@@ -1,6 +1,6 @@
 use Rattle.std.proofs.Common.{refl, sym, ap, ◌∙◌}
 use Rattle.mutator.specs.declared.spot.Spot.{Spot}
-use Rattle.mutator.specs.declared.spot.Spot.TheVariants.{Entering, LoadPhase, LoadSet, Loading, OnField, Resolving, Recording, OnNumber, Showing, Making, Waiting, Leave, Ended}
+use Rattle.mutator.specs.declared.spot.Spot.TheVariants.{Entering, LoadPhase, LoadSet, Loading, OnField, Resolving, Recording, OnNumber, Showing, Making, Pinning, Waiting, Leave, Ended}
 use Rattle.mutator.specs.Rows.{Mutating, after_remember}
 use Rattle.mutator.specs.WaitRows.{after_enter}
 use Rattle.mutator.specs.Seen.{seen}
@@ -75,6 +75,15 @@ invariant_of-self-in-Showing c =
       is_mutator = m.is_mutator;
       allowed = pending _ _ _ c.requires.none;
       ready = ready_next m.config (seen m) c.args.order c.args.got (Showing c.in-Showing.value c.in-Showing.at) (at_spot (seen m) c.after-self-in-Showing.result) c.in-Showing.is (ap (at_spot (seen m)) (sym c.after-self-in-Showing.ensures)) c.requires.fit.0;
+    }
+
+pub invariant_of-self-in-Pinning : goal.invariant_of-self-in-Pinning
+invariant_of-self-in-Pinning c =
+    let m = c.args.self.now in
+    record {
+      is_mutator = m.is_mutator;
+      allowed = pending _ _ _ c.requires.none;
+      ready = ready_next m.config (seen m) c.args.order c.args.got (Pinning c.in-Pinning.value c.in-Pinning.at) (at_spot (seen m) c.after-self-in-Pinning.result) c.in-Pinning.is (ap (at_spot (seen m)) (sym c.after-self-in-Pinning.ensures)) c.requires.fit.0;
     }
 
 pub returns-in-OnField-clause-again : goal.returns-in-OnField-clause-again
@@ -160,3 +169,6 @@ returns-in-OnNumber-clause-again c = rw c.in-OnNumber.is never
 
 pub returns-in-Showing-clause-again : goal.returns-in-Showing-clause-again
 returns-in-Showing-clause-again c = rw c.in-Showing.is never
+
+pub returns-in-Pinning-clause-again : goal.returns-in-Pinning-clause-again
+returns-in-Pinning-clause-again c = rw c.in-Pinning.is never

@@ -10,7 +10,7 @@ use Rattle.shen_graph.proofs.plain_graph.PlainGraph.add_fields.Goals as goal
 
 pub returns-in-Some : goal.returns-in-Some
 returns-in-Some c =
-    let p : Plain = record { rows = c.self.inside.objects.items; roots = c.self.inside.roots.items; counts = c.self.inside.counts.items } in
+    let p : Plain = record { rows = c.self.inside.objects.items; roots = c.self.inside.roots.items; counts = c.self.inside.counts.items; pins = c.self.inside.pins.items } in
     let place : position (λ (r : Row). same_name c.args.name r.name) p.rows ≡ Some c.in-Some.place =
     ap (position (λ (r : Row). same_name c.args.name r.name)) (sym c.deref.ensures.value) ∙ sym c.first_named.ensures ∙ c.in-Some.is in
     let within = (IsFirst-position p.rows c.args.name c.in-Some.place place).within in
@@ -21,7 +21,7 @@ returns-in-Some c =
 
 pub returns-in-None : goal.returns-in-None
 returns-in-None c =
-    let p : Plain = record { rows = c.self.inside.objects.items; roots = c.self.inside.roots.items; counts = c.self.inside.counts.items } in
+    let p : Plain = record { rows = c.self.inside.objects.items; roots = c.self.inside.roots.items; counts = c.self.inside.counts.items; pins = c.self.inside.pins.items } in
     let place : position (λ (r : Row). same_name c.args.name r.name) p.rows ≡ None =
     ap (position (λ (r : Row). same_name c.args.name r.name)) (sym c.deref.ensures.value) ∙ sym c.first_named.ensures ∙ c.in-None.is in
     rw (← c.self.view_is) (ap (λ (o : Object). with_names c.args.found.now.items o.refs) (sym (named-place p c.args.name ∙ ap (object_at p) place)))

@@ -32,6 +32,7 @@ loop-name-preserved c =
           ∙ ap (λ xs. c.args.text.now.rows ++ xs)
           (sym (map-append (row_in g) (take i names) (name ∷ [])) ∙ ap (map (row_in g)) (sym (take_more names i none low))));
       roots = ap (λ t. t.roots) made ∙ c.loop-name.invariant.roots;
+      pins = ap (λ t. t.pins) made ∙ c.loop-name.invariant.pins;
       room = ap (λ t. t.room) made ∙ c.loop-name.invariant.room;
       spare = (omega (
         arith,

@@ -1,15 +1,19 @@
-use Rattle.std.proofs.Common.{◌<◌, ◌≤◌, length, arith, subst}
+use Rattle.std.proofs.Common.{◌<◌, ◌≤◌, [], map, length, arith, subst}
+use Rattle.std.specs.List.{flat_map}
+use Rattle.shen_graph.specs.Step.{name_in}
 use Rattle.std.proofs.lemmas.Grind.{common_steps}
 use Rattle.std.proofs.lemmas.List.{map-id}
 use Rattle.std.proofs.lemmas.List.Sorted.{Contains-permutation, IsPermutation-sym}
 use Rattle.shen_graph.specs.declared.name.Name.{Name}
 use Rattle.shen_graph.specs.Reach.{InOrder}
 use Rattle.shen_graph.proofs.OrderLemmas.{InOrder-from_sorted, IsDistinct-permutation}
-use Rattle.shen_graph.proofs.ReachLemmas.{names_of, IsSearched-roots, IsSearched-more, IsSearched-bound, IsSearched-all}
+use Rattle.shen_graph.proofs.ReachLemmas.{names_of, with_names-append, held_in_slots, IsSearched-starts, IsSearched-more, IsSearched-bound, IsSearched-all}
 use Rattle.shen_graph.proofs.plain_graph.PlainGraph.reach.Goals as goal
 
 pub loop-next-init : goal.loop-next-init
-loop-next-init c = rw (c.in_ok-add_roots.ensures, c.new-found.ensures.items) (IsSearched-roots c.args.self.now)
+loop-next-init c =
+    let p = c.args.self.now in
+    rw (c.in_ok-add_pins.ensures, c.in_ok-add_roots.ensures, c.new-found.ensures.items, with_names-append [] (flat_map (λ row. row) p.roots) (map name_in (held_in_slots p))) (IsSearched-starts p)
 
 pub loop-next-smaller : goal.loop-next-smaller
 loop-next-smaller c =

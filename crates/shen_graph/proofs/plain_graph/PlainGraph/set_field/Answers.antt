@@ -6,7 +6,7 @@ use Rattle.shen_graph.proofs.plain_graph.PlainGraph.set_field.Goals as goal
 
 pub set_field-requires : goal.set_field-requires
 set_field-requires c =
-    let p : Plain = record { rows = c.self.inside.objects.items; roots = c.self.inside.roots.items; counts = c.self.inside.counts.items } in
+    let p : Plain = record { rows = c.self.inside.objects.items; roots = c.self.inside.roots.items; counts = c.self.inside.counts.items; pins = c.self.inside.pins.items } in
     let place = rw (← c.self.view_is) at c.in-Some.ensures in
     let within : c.in-Some.place < length c.self.inside.objects.items = place_of-within p c.args.thread c.args.root c.in-Some.place place in
     let row = get_or_read c.self.inside.objects.items c.in-Some.place c.index_mut-object.result.now within c.index_mut-object.ensures.value nobody in
@@ -17,7 +17,7 @@ unreachable-requires c = field_at-nowhere c.args.self.now c.args.thread c.args.r
 
 pub returns-clause-graph : goal.returns-clause-graph
 returns-clause-graph c =
-    let p : Plain = record { rows = c.self.inside.objects.items; roots = c.self.inside.roots.items; counts = c.self.inside.counts.items } in
+    let p : Plain = record { rows = c.self.inside.objects.items; roots = c.self.inside.roots.items; counts = c.self.inside.counts.items; pins = c.self.inside.pins.items } in
     let place = rw (← c.self.view_is) at c.in-Some.ensures in
     let within : c.in-Some.place < length c.self.inside.objects.items = place_of-within p c.args.thread c.args.root c.in-Some.place place in
     let row = get_or_read c.self.inside.objects.items c.in-Some.place c.index_mut-object.result.now within c.index_mut-object.ensures.value nobody in

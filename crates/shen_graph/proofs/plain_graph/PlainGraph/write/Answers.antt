@@ -2,7 +2,7 @@ use Rattle.std.proofs.Common.{List, ◌++◌, length, replicate, None, refl, ari
 use Rattle.std.proofs.lemmas.List.{length-replicate}
 use Rattle.shen_graph.specs.Graph.{Reference}
 use Rattle.shen_graph.specs.PlainGraph.{graph_of, threads_of}
-use Rattle.shen_graph.specs.GraphText.{row_in}
+use Rattle.shen_graph.specs.GraphText.{row_in, root_of}
 use Rattle.std.proofs.Common.{map}
 use Rattle.shen_graph.proofs.RowLemmas.{text_of_graph}
 use Rattle.shen_graph.proofs.plain_graph.PlainGraph.write.Goals as goal
@@ -15,15 +15,26 @@ put_objects-requires c =
 abbrev nulls : List Reference
 nulls = replicate 16 None
 
+abbrev empties : List Reference
+empties = replicate 4 None
+
+pub put_pins-requires : goal.put_pins-requires
+put_pins-requires c =
+    ap (λ t. length t.pins) c.put_roots.ensures.kept ∙ ap length c.put_objects.ensures.pins
+    ∙ ap (λ t. length t.pins) c.clear.ensures ∙ length-replicate (length c.args.text.now.roots) empties ∙ c.requires.threads
+
 pub returns-clause-ok : goal.returns-clause-ok
 returns-clause-ok c =
     let g = graph_of c.args.self.now in
-    text_of_graph g (threads_of c.args.self.now) c.put_roots.new.text c.in_ok-names.names.items c.in_ok-names.ensures
-    (ap (λ t. t.rows) c.put_roots.ensures.kept ∙ c.put_objects.ensures.rows
+    text_of_graph g (threads_of c.args.self.now) c.put_pins.new.text c.in_ok-names.names.items c.in_ok-names.ensures
+    (ap (λ t. t.rows) c.put_pins.ensures.kept ∙ ap (λ t. t.rows) c.put_roots.ensures.kept ∙ c.put_objects.ensures.rows
     ∙ ap (λ t. t.rows ++ map (row_in g) c.deref.result.now) c.clear.ensures
     ∙ ap (map (row_in g)) c.deref.ensures.value)
-    (c.put_roots.ensures.threads ∙ ap length c.put_objects.ensures.roots
+    (ap (λ t. length t.roots) c.put_pins.ensures.kept ∙ c.put_roots.ensures.threads ∙ ap length c.put_objects.ensures.roots
     ∙ ap (λ t. length t.roots) c.clear.ensures
     ∙ length-replicate (length c.args.text.now.roots) nulls
     ∙ c.requires.threads)
-    c.put_roots.ensures.roots
+    (λ thread index low high. ap (λ t. root_of t thread index) c.put_pins.ensures.kept ∙ c.put_roots.ensures.roots thread index low high)
+    (c.put_pins.ensures.threads ∙ ap (λ t. length t.pins) c.put_roots.ensures.kept ∙ ap length c.put_objects.ensures.pins
+    ∙ ap (λ t. length t.pins) c.clear.ensures ∙ length-replicate (length c.args.text.now.roots) empties ∙ c.requires.threads)
+    c.put_pins.ensures.pins

@@ -1,0 +1,19 @@
+-- Pin words stand for what their slots hold where objects that may be used still may.
+use Rattle.std.proofs.Common.{ℕ, ◌+◌, Option, Some, None}
+use Rattle.heap_words.specs.declared.config.Config.{Config}
+use Rattle.shen_graph.specs.declared.name.Name.{Name}
+use Rattle.shen_graph.specs.declared.pin.Pinned.{Pinned}
+use Rattle.heap_world.specs.World.{Plot, Target, PinStands, ArePinned}
+
+module _ (c : Config) (cset evac now_cset now_evac : ℕ) (block now : Plot) where
+  -- so does one of them
+  pub pin_stays : ((a refs nums : ℕ) (name : Name) → Target c cset evac block a refs nums name → Target c now_cset now_evac now a refs nums name)
+      → (word : ℕ) (held : Option Pinned) → PinStands c cset evac block word held → PinStands c now_cset now_evac now word held
+  pin_stays targets word None is = is
+  pin_stays targets word (Some p) is = (is.0, is.1, is.2, targets word is.1 is.2 p.name is.3)
+
+  -- and those of all mutators
+  pub pins_stay : (words : ℕ → ℕ → ℕ) (pin : ℕ → ℕ → Option Pinned)
+      → ((a refs nums : ℕ) (name : Name) → Target c cset evac block a refs nums name → Target c now_cset now_evac now a refs nums name)
+      → ArePinned c cset evac block words pin → ArePinned c now_cset now_evac now words pin
+  pins_stay words pin targets pinned t i seated inside = pin_stays targets (words t i) (pin (t + 1) i) (pinned t i seated inside)

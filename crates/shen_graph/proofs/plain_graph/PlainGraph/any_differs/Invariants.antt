@@ -1,0 +1,7 @@
+use Rattle.std.proofs.Common.{◌≡◌, take, false}
+use Rattle.std.specs.List.{list_any}
+use Rattle.shen_graph.specs.PlainGraph.{differs}
+use Rattle.shen_graph.proofs.plain_graph.PlainGraph.any_differs.Given as goal
+
+abbrev pub invariant-loop-row : goal.invariant-loop-row
+invariant-loop-row l = list_any (list_any (differs l.name l.place)) (take l.row-index l.self.pins) ≡ false

@@ -1,0 +1,7 @@
+use Rattle.std.proofs.Common.{◌≡◌, take, false}
+use Rattle.std.specs.List.{list_any}
+use Rattle.shen_graph.specs.PlainGraph.{differs}
+use Rattle.shen_graph.proofs.plain_graph.any_slot_differs.Given as goal
+
+abbrev pub invariant-loop-slot : goal.invariant-loop-slot
+invariant-loop-slot l = list_any (differs l.name l.place) (take l.slot-index l.slots) ≡ false

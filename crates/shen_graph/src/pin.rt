@@ -1,0 +1,10 @@
+use crate::name::Name;
+
+/// What a pin slot holds: an object, and the address at which it stays.
+#[derive(Clone, Copy, Debug, PartialEq, Eq)]
+pub struct Pinned {
+    /// The object.
+    pub name: Name,
+    /// Its address.
+    pub place: u64,
+}
