@@ -63,9 +63,9 @@
  * many. cvm_open and cvm_close_all use all seats that they are given. No function locks, and none waits but those
  * that say so.
  *
- * LIMITS. 4 to 64 regions, 1 to 8 mutators, 0 to 3 helpers, one control; 16 roots for each mutator; 16 references and
- * 16 numbers for an object; 4,294,967,295 objects made by a mutator in its life. The number of seats is fixed by
- * cvm_open.
+ * LIMITS. 4 to 64 regions, 1 to 8 mutators, 0 to 3 helpers, one control; 16 roots and 4 pin slots for each mutator; 16
+ * references and 16 numbers for an object; 4,294,967,295 objects made by a mutator in its life. The number of seats is
+ * fixed by cvm_open.
  */
 #ifndef COVREMUJ_H
 #define COVREMUJ_H
@@ -83,6 +83,7 @@ extern "C" {
 
 enum {
     CVM_ROOTS = 16,       /* roots of a mutator */
+    CVM_PINS = 4,         /* pin slots of a mutator */
     CVM_MOST_FIELDS = 16, /* references of an object, and numbers of an object, at most */
     CVM_LAST_INDEX = 31,  /* the largest field or index that a command may name; above those of the object it is answered CVM_BAD */
     CVM_HEAD_WORDS = 3,   /* words of an object besides its references and numbers */
@@ -112,7 +113,7 @@ typedef struct cvm_config {
 
 /* What belongs to a reply. Fields that do not belong to it are 0. */
 typedef struct cvm_value {
-    uint64_t number; /* with CVM_NUMBER: the number */
+    uint64_t number; /* with CVM_NUMBER: the number; with CVM_AT: the address */
     uint64_t thread; /* with CVM_REF: the name of the object is thread.count: the mutator that made it, from 1; the hub is 0.1 */
     uint64_t count;  /* with CVM_REF: and which of that mutator's objects it is, from 1; no two objects have one name */
 } cvm_value;
@@ -154,8 +155,10 @@ typedef enum cvm_status {
     CVM_YES = 11,    /* equal; exchanged */
     CVM_NO = 12,     /* not equal; not exchanged */
     CVM_NUMBER = 13, /* a number */
-    CVM_BAD = 14,    /* the root of the object is null, or its object has no such field or number; nothing has changed */
+    CVM_BAD = 14,    /* the root of the object is null, or its object has no such field or number; a pin slot that is to be
+                        empty is not, or the other way round; nothing has changed */
     CVM_FULL = 15,   /* no region has room, not after a full collection either; nothing has changed */
+    CVM_AT = 16,     /* pinned: the address, in words, at which the object stays until the slot is emptied */
 
     /* Refusals of a seat. */
     CVM_NOT_OPEN = 32,     /* the seat is empty: never opened, moved away, or closed */
@@ -163,7 +166,7 @@ typedef enum cvm_status {
     CVM_BUSY = 34,         /* something is ordered, or a call is in progress; cvm_close_all: a mutator or the control has not ended */
     CVM_SPENT = 35,        /* this mutator has made 4294967295 objects: it can only end */
     CVM_NO_COMMAND = 36,   /* no command has this number */
-    CVM_OUT_OF_RANGE = 37, /* a root is not 0 to 15, a size not 0 to 16, or a field or index not 0 to 31 */
+    CVM_OUT_OF_RANGE = 37, /* a root is not 0 to 15, a size not 0 to 16, a field or index not 0 to 31, or a pin slot not 0 to 3 */
 
     /* Refusals of an opening and of a closing. */
     CVM_BAD_REGIONS = 48,      /* the regions are not 4 to 64 */
@@ -195,7 +198,9 @@ typedef enum cvm_op {
     CVM_COPY = 7, /* dst, src:                CVM_OK */
     CVM_DROP = 8, /* dst:                     CVM_OK */
     CVM_SAME = 9, /* a, b:                    CVM_YES or CVM_NO */
-    CVM_GC = 10   /*                          CVM_OK */
+    CVM_GC = 10,  /*                          CVM_OK */
+    CVM_PIN = 11, /* slot, obj:               CVM_AT or CVM_BAD */
+    CVM_UNPIN = 12 /* slot:                   CVM_OK or CVM_BAD */
 } cvm_op;
 
 /* What the archive is compiled for. */
@@ -222,15 +227,15 @@ cvm_status cvm_begin(cvm_seat *seat, uint32_t op, uint32_t a, uint32_t b, uint32
 
 /*
  * Makes at most `steps` steps of a mutator's call, each one access of one word. It stops at the step that ends the
- * call, and answers the reply, CVM_REF to CVM_FULL, with what belongs to it in *value; at the first that waits, with
+ * call, and answers the reply, CVM_REF to CVM_AT, with what belongs to it in *value; at the first that waits, with
  * CVM_AGAIN; or after all, with CVM_MORE. Where the mutator has ended, by one of these steps or before, it answers
  * CVM_ENDED. Or it makes none: CVM_NOT_OPEN, CVM_WRONG_SEAT, CVM_IDLE. *value is written with a reply only.
  */
 cvm_status cvm_go(cvm_seat *seat, uint32_t steps, cvm_value *value);
 
 /*
- * Orders the end of a mutator between two calls; its next step is its last. Its roots stay, and keep alive what they
- * lead to: drop them first. Answers CVM_DONE, or CVM_NOT_OPEN, CVM_WRONG_SEAT, CVM_ENDED, CVM_BUSY. The control ends
+ * Orders the end of a mutator between two calls; its next step is its last. Its roots and its pin slots stay, and keep
+ * alive what they lead to: empty them first. Answers CVM_DONE, or CVM_NOT_OPEN, CVM_WRONG_SEAT, CVM_ENDED, CVM_BUSY. The control ends
  * once all mutators have, the helpers once the control has.
  */
 cvm_status cvm_end(cvm_seat *seat);
@@ -322,7 +327,7 @@ static inline size_t cvm_seat_count(const cvm_config *config) {
 
 /* Whether a status is the reply to a call. */
 static inline int cvm_is_reply(cvm_status status) {
-    return status >= CVM_REF && status <= CVM_FULL;
+    return status >= CVM_REF && status <= CVM_AT;
 }
 
 /* Whether a status says that nothing was done, and why. */
@@ -467,6 +472,26 @@ static inline cvm_status cvm_gc(cvm_seat *seat) {
 }
 
 /*
+ * Pins the object of root obj by an empty pin slot, so that it does not move until every slot that holds it is empty:
+ * CVM_AT, and *address is where it stays, the same for each slot that holds it; or CVM_BAD, and *address stays. What a slot
+ * holds is kept as by a root.
+ */
+static inline cvm_status cvm_pin(cvm_seat *seat, uint32_t slot, uint32_t obj, uint64_t *address) {
+    cvm_value value;
+    cvm_status said = cvm_call(seat, CVM_PIN, slot, obj, 0, 0, 0, &value);
+    if (said == CVM_AT) {
+        *address = value.number;
+    }
+    return said;
+}
+
+/* Empties a pin slot: CVM_OK; or CVM_BAD where it is empty. */
+static inline cvm_status cvm_unpin(cvm_seat *seat, uint32_t slot) {
+    cvm_value none;
+    return cvm_call(seat, CVM_UNPIN, slot, 0, 0, 0, 0, &none);
+}
+
+/*
  * Ends a mutator between two calls, and waits until it has: CVM_ENDED, also where it had before; or what cvm_end
  * refuses.
  */
@@ -512,6 +537,7 @@ static inline const char *cvm_status_name(cvm_status status) {
     case CVM_NUMBER: return "NUMBER";
     case CVM_BAD: return "BAD";
     case CVM_FULL: return "FULL";
+    case CVM_AT: return "AT";
     case CVM_NOT_OPEN: return "NOT_OPEN";
     case CVM_WRONG_SEAT: return "WRONG_SEAT";
     case CVM_BUSY: return "BUSY";

@@ -189,6 +189,12 @@ public:
     /* A number of the object becomes this one. */
     void write(std::uint32_t index, std::uint64_t number) { desk_->call(CVM_WR, index_, index, 0, 0, number); }
 
+    /* Holds the object in an empty pin slot, 0 to 3: the address, in words, at which it stays until no slot holds it. */
+    std::uint64_t pin(std::uint32_t slot) const {
+        desk_->call(CVM_PIN, slot, index_);
+        return desk_->answer.number;
+    }
+
     /* Whether both name one object, or both are null. */
     friend bool same(const root &a, const root &b) { return a.desk_->call(CVM_SAME, a.index_, b.index_) == CVM_YES; }
 
@@ -232,6 +238,9 @@ public:
 
     /* Asks for a collection, and does not wait for it. */
     void collect() { desk_->call(CVM_GC, 0); }
+
+    /* Empties a pin slot, 0 to 3, that holds an object. */
+    void unpin(std::uint32_t slot) { desk_->call(CVM_UNPIN, slot); }
 
     /* Its seat, for the calls of covremuj.h. */
     cvm_seat *seat() noexcept { return &desk_->seat; }

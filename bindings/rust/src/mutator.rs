@@ -40,6 +40,10 @@ pub enum Command {
     Same { a: u32, b: u32 },
     /// Asks for a collection.
     Gc,
+    /// Holds the object of a root in a pin slot, 0 to 3, where it is.
+    Pin { slot: u32, obj: u32 },
+    /// Empties a pin slot.
+    Unpin { slot: u32 },
 }
 
 impl Command {
@@ -56,6 +60,8 @@ impl Command {
             Command::Drop { dst } => (8, [dst, 0, 0, 0], 0),
             Command::Same { a, b } => (9, [a, b, 0, 0], 0),
             Command::Gc => (10, [0; 4], 0),
+            Command::Pin { slot, obj } => (11, [slot, obj, 0, 0], 0),
+            Command::Unpin { slot } => (12, [slot, 0, 0, 0], 0),
         }
     }
 }
@@ -75,6 +81,8 @@ pub enum Reply {
     No,
     /// A number.
     Number(u64),
+    /// Pinned: the address, in words, at which the object stays.
+    At(u64),
 }
 
 /// How far some steps of a call have come.
@@ -109,6 +117,7 @@ fn progress(status: u32, value: &Value) -> Result<Progress, Error> {
         11 => Reply::Yes,
         12 => Reply::No,
         13 => Reply::Number(value.number),
+        16 => Reply::At(value.number),
         other => return Err(Error::of(other)),
     }))
 }
@@ -158,6 +167,20 @@ impl<'heap> Mutator<'heap> {
     /// Asks for a collection, and does not wait for it.
     pub fn collect(&self) -> Result<(), Error> {
         self.call(Command::Gc).map(drop)
+    }
+
+    /// Holds the object of a root in a pin slot, 0 to 3, and tells the address, in words, at which it stays until no slot holds it.
+    /// [`Error::Bad`] where the slot is taken, or the root is null.
+    pub fn pin<T>(&self, slot: u32, object: &Root<'_, T>) -> Result<u64, Error> {
+        match self.call(Command::Pin { slot, obj: object.index() })? {
+            Reply::At(place) => Ok(place),
+            _ => Err(Error::Other(0)),
+        }
+    }
+
+    /// Empties a pin slot; [`Error::Bad`] where it is empty.
+    pub fn unpin(&self, slot: u32) -> Result<(), Error> {
+        self.call(Command::Unpin { slot }).map(drop)
     }
 
     /// A root that no other value of [`Root`] is.

@@ -11,7 +11,7 @@ use Rattle.heap_words.specs.Words.{Word, Phase, Cset}
 use Rattle.buffer_words.specs.Buffers.{AreInside}
 use Rattle.full_words.specs.Full.{full}
 use Rattle.buffer_pauses.proofs.Inside.{buffers_inside}
-use Rattle.image_graph.specs.Holds.{HoldsSome}
+use Rattle.image_graph.specs.Holds.{HoldsSome, HoldsSized}
 use Rattle.cycle_words.specs.Marking.Init.{init_marked}
 use Rattle.mark_core.specs.Result.{MarksSome}
 use Rattle.cycle_pauses.specs.Evacuation.Collect.{evac_next}
@@ -23,6 +23,10 @@ use Rattle.cycle_words.specs.Updating.Changes.{init_updated, final_updated}
 -- they hold some graph
 pub can_hold : (c : Config) (m : Word → ℕ) → CanPauseSome c m → HoldsSome c m
 can_hold c m can = ∥∥₁_map can (λ some. (some.0, (some.1, some.2, some.3, some.4.holds)))
+
+-- by pieces each of which says how many words it has
+pub can_sized : (c : Config) (m : Word → ℕ) → CanPauseSome c m → HoldsSized c m
+can_sized c m can = ∥∥₁_map can (λ some. (some.0, some.1, some.2, some.3, some.4.holds, some.4.sized))
 
 -- and buffers lie in regions of the heap
 inside_prop : (c : Config) (m : Word → ℕ) → IsProp (AreInside c m)

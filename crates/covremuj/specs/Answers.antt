@@ -14,6 +14,7 @@ use Rattle.covremuj.specs.declared.border.Told.{Told}
 abbrev pub value_of : Reply → Value
 value_of (reply.Ref name) = record { number = 0; thread = name.thread; count = name.count }
 value_of (reply.Number value) = record { number = value; thread = 0; count = 0 }
+value_of (reply.At place) = record { number = place; thread = 0; count = 0 }
 value_of _ = record { number = 0; thread = 0; count = 0 }
 
 -- it is written with a reply, and only then

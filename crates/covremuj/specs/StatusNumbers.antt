@@ -20,6 +20,7 @@ number_of_reply reply.No = 12
 number_of_reply (reply.Number value) = 13
 number_of_reply reply.Bad = 14
 number_of_reply reply.Full = 15
+number_of_reply (reply.At place) = 16
 
 abbrev pub number_of_progress : Progress → ℕ
 number_of_progress progress.More = 1
@@ -60,4 +61,6 @@ command_numbered op a b c d value =
     else if op == 8 then Some (command.Drop a)
     else if op == 9 then Some (command.Same a b)
     else if op == 10 then Some command.Gc
+    else if op == 11 then Some (command.Pin a b)
+    else if op == 12 then Some (command.Unpin a)
     else None

@@ -78,6 +78,8 @@ pub(crate) const BAD: u32 = 14;
 
 pub(crate) const FULL: u32 = 15;
 
+pub(crate) const AT: u32 = 16;
+
 pub(crate) const NOT_OPEN: u32 = 32;
 
 pub(crate) const WRONG_SEAT: u32 = 33;
@@ -169,6 +171,7 @@ pub(crate) fn of_reply(reply: Reply) -> u32
         Reply::Number(_) => NUMBER,
         Reply::Bad => BAD,
         Reply::Full => FULL,
+        Reply::At(_) => AT,
     }
 }
 
@@ -192,7 +195,7 @@ fn value_of(reply: Reply) -> Value
             thread: thread as u64,
             count: count as u64,
         },
-        Reply::Number(number) => Value {
+        Reply::Number(number) | Reply::At(number) => Value {
             number,
             thread: 0,
             count: 0,
@@ -247,6 +250,8 @@ pub(crate) fn command_of(op: u32, a: u32, b: u32, c: u32, d: u32, value: u64) ->
         8 => Some(Command::Drop { dst: a }),
         9 => Some(Command::Same { a, b }),
         10 => Some(Command::Gc),
+        11 => Some(Command::Pin { slot: a, obj: b }),
+        12 => Some(Command::Unpin { slot: a }),
         _ => None,
     }
 }

@@ -1,16 +1,15 @@
 -- The choice from a table of what lives in each region.
-use Rattle.std.proofs.Common.{◌≡◌, ◌≢◌, ℕ, ◌+◌, ◌-◌, ◌*◌, ◌/◌, ◌%◌, ◌^◌, ◌<◌, ◌≤◌, ◌==◌, ◌&&◌, ◌||◌, nat_lt, nat_le, not, cond, if◌then◌else◌, Bool, true, false, zero, suc, List, length, slice_index, slice_set, replicate, ⊎_elim, refl, sym, ap, ◌∙◌, arith}
+use Rattle.std.proofs.Common.{◌≡◌, ◌≢◌, ℕ, ◌+◌, ◌-◌, ◌*◌, ◌/◌, ◌^◌, ◌<◌, ◌≤◌, ◌==◌, ◌&&◌, ◌||◌, nat_lt, nat_le, not, cond, if◌then◌else◌, Bool, true, false, zero, suc, List, length, slice_index, slice_set, replicate, ⊎_elim, refl, sym, ap, ◌∙◌, arith}
 use Rattle.std.specs.Int.{bit_at}
-use Rattle.std.specs.Int.RustNames.{bit_or}
 use Rattle.std.proofs.lemmas.Bool.{cond_both, cases_eq, eq-eqb}
 use Rattle.std.proofs.Math.ListN.{length-set, length-replicate}
 use Rattle.std.proofs.lemmas.List.{get_or-replicate, get_or-set_same, get_or-set_other}
-use Rattle.std.proofs.lemmas.Nat.{or_comm, or_shifted, one_shl}
 use Rattle.std.proofs.lemmas.Nat.Bits.{bit_at_above, bit_at-lt}
 use Rattle.heap_words.specs.declared.config.Config.{Config}
 use Rattle.heap_words.specs.Words.{Word, Free, Top, Tams}
 use Rattle.packing.proofs.Sums.{sum_same}
 use Rattle.regions.specs.Sets.{members_below}
+use Rattle.full_words.specs.Pinned.{is_pinned}
 use Rattle.cycle_words.specs.Marking.Marks.{bits_of}
 use Rattle.cycle_words.proofs.Marking.Bits.{one, bits_at}
 use Rattle.cycle_words.specs.Marking.Final.{is_current}
@@ -53,21 +52,13 @@ pub bits_none_yet : (test : ℕ → Bool) → 0 ≡ bits_of test 0 0
 unfolding bits_of
 bits_none_yet test = refl
 
--- a region above those of a set joins it
-pub bit_joined : (set r : ℕ) → r < 64 → set < 2 ^ r → bit_or set (1 * 2 ^ r % 2 ^ 64) ≡ 1 * 2 ^ r + set
-bit_joined set r few small =
-    let mask : 1 * 2 ^ r % 2 ^ 64 ≡ 1 * 2 ^ r = one_shl r 64 few ∙ once (2 ^ r) in
-    ap (bit_or set) mask ∙ or_comm set (1 * 2 ^ r) ∙ or_shifted 1 r set small
-  where
-    once : (y : ℕ) → y ≡ 1 * y
-    once y = omega arith
-
 -- where all else of a candidate holds, its garbage decides
-pub garbage_decides : (c : Config) (m : Word → ℕ) (r : ℕ) → bit_at (m Free) r ≡ 0 → is_current c m r ≡ false → m (Top r) ≡ m (Tams r)
+pub garbage_decides : (c : Config) (m : Word → ℕ) (r : ℕ) → bit_at (m Free) r ≡ 0 → is_pinned c m r ≡ false → is_current c m r ≡ false → m (Top r) ≡ m (Tams r)
     → is_candidate c m r ≡ nat_le (c.region_words / 4) (garbage c m r)
-garbage_decides c m r free seat top =
+garbage_decides c m r free pin seat top =
     let enough = nat_le (c.region_words / 4) (garbage c m r) in
-    ap (λ b. b && not (is_current c m r) && (m (Top r) == m (Tams r)) && enough) (eq-eqb (bit_at (m Free) r) 0 free)
+    ap (λ b. b && not (is_pinned c m r) && not (is_current c m r) && (m (Top r) == m (Tams r)) && enough) (eq-eqb (bit_at (m Free) r) 0 free)
+    ∙ ap (λ b. not b && not (is_current c m r) && (m (Top r) == m (Tams r)) && enough) pin
     ∙ ap (λ b. not b && (m (Top r) == m (Tams r)) && enough) seat
     ∙ ap (λ b. b && enough) (eq-eqb (m (Top r)) (m (Tams r)) top)
 

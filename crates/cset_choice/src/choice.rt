@@ -15,17 +15,8 @@ ghost use Rattle.cset_choice.specs.Tables.{AreLive, adds, most_live, up_to};
 
 use crate::live::live_words;
 use heap_words::Config;
-use image_graph::Image;
+use image_graph::{Image, with_if};
 use regions::{is_in, size};
-
-// A set of regions below one, with that one besides if it is to be a member.
-fn with_if(set: u64, region: usize, member: bool) -> u64
-    requires region { region < 64 }
-    requires below { set < 2 ^ region }
-    ensures { result ≡ (if member then 1 else 0) * 2 ^ region + set }
-{
-    if member { set | 1 << region } else { set }
-}
 
 // How much lives in each region.
 fn live_of_all(image: &Image) -> [u64; 64]
@@ -40,7 +31,7 @@ fn live_of_all(image: &Image) -> [u64; 64]
     live
 }
 
-// Whether a region with so many live words is a candidate: it is in use, not current, nothing was allocated in it
+// Whether a region with so many live words is a candidate: it is in use, neither current nor pinned, nothing was allocated in it
 // since marking began, and a quarter of a region in it is garbage.
 fn is_candidate(image: &Image, region: usize, live: u64) -> bool
     requires region { region < (config_of image.now).regions }
@@ -49,6 +40,9 @@ fn is_candidate(image: &Image, region: usize, live: u64) -> bool
 {
     let config = image.config();
     if is_in(image.word(config.free_at()), region) || image.is_current(region) {
+        return false;
+    }
+    if image.is_pinned(region) {
         return false;
     }
     let top = image.top(region);
@@ -133,7 +127,7 @@ fn is_taken(config: Config, live: &[u64], candidates: u64, limit: u64, region: u
 }
 
 /// The collection set: of the candidates, in the order of their live words and then of their numbers, as many from the first
-/// one on as can be copied to the free regions together. Candidates are in use, not current, without a new
+/// one on as can be copied to the free regions together. Candidates are in use, neither current nor pinned, without a new
 /// object, and have garbage of a quarter of a region. What can be reached in its regions is marked, where the image holds a
 /// graph and marking has ended. No word changes. Takes time linear in the words of the heap, and
 /// quadratic in the number of regions.

@@ -85,7 +85,7 @@ fn copy_to(image: &mut Image, address: u64, region: usize) -> u64
 /// Copies the object at an address out of the collection set, to the top of the lowest region outside that has room for it,
 /// and gives the address of the copy. The old header names the copy then. Where no such region has room, nothing changes.
 /// The object lies in one region, which is of the collection set. Where the image holds a graph, and the address is that of an
-/// object that has not moved, it holds the same graph afterwards, and finishing the cycle still keeps it. Takes no memory.
+/// object that has not moved and that no pin slot holds, it holds the same graph afterwards, and finishing the cycle still keeps it. Takes no memory.
 pub fn copy_out(image: &mut Image, address: u64) -> Option<u64>
     requires { CanCopyOut (config_of image.old) (memory_of image.old) address }
     ensures config { config_of image.new ≡ config_of image.old }

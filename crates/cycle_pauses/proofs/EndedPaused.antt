@@ -15,9 +15,10 @@ use Rattle.buffer_words.specs.LetGo.{let_go}
 use Rattle.full_words.specs.Full.{served, full}
 use Rattle.image_graph.specs.Buffers.{HasNoMoreSeats}
 use Rattle.cycle_words.specs.Evacuation.Copied.{CanCopyOut, copied_out}
-use Rattle.cycle_words.specs.Finishing.Updated.{CanUpdateAll}
+use Rattle.full_words.specs.Pinned.{CanFill}
+use Rattle.cycle_words.specs.Finishing.Updated.{all_updated, CanUpdateAll}
 use Rattle.cycle_words.specs.Finishing.Copies.{CanCopyFrom, all_copied, is_room_for_all}
-use Rattle.cycle_words.specs.Finishing.Finish.{cycle_finished, finished, nobody_waits, is_whole}
+use Rattle.cycle_words.specs.Finishing.Finish.{cycle_finished, finished, nobody_waits, is_whole, CanFree}
 use Rattle.cycle_pauses.proofs.Finishing.Finished.{whole_is_pause, short_is_pause, set_is_free}
 use Rattle.cycle_pauses.proofs.Finishing.CanFinish.{representing_can_finish}
 use Rattle.cycle_pauses.specs.Ended.{CanEnd}
@@ -46,7 +47,10 @@ set_is_freed_first c m g asking r whole =
 
 -- words that represent a graph are such that a cycle can be ended
 pub can_end : (c : Config) (m : Word → ℕ) (g : Graph) (asking : ℕ → Asking) → Represents c m g asking → HasNoMoreSeats c m → CanEnd c m
-can_end c m g asking r seats = record { finishes = representing_can_finish c m g asking r seats; holds = λ short. ∣ (g, (short_is_pause c m g asking r seats short).holds) ∣₁ }
+can_end c m g asking r seats = record {
+  finishes = representing_can_finish c m g asking r seats;
+  holds = λ short. let h = (short_is_pause c m g asking r seats short).holds in ∣ (g, h.0, h.1, h.2, h.3, h.4) ∣₁;
+}
 
 -- That a cycle can be ended is one fact.
 can_copy_out_prop : (c : Config) (m : Word → ℕ) (a : ℕ) → IsProp (CanCopyOut c m a)
@@ -63,6 +67,17 @@ inside_prop c word = hlevel (le_prop, ℕ_set)
 can_update_prop : (c : Config) (m : Word → ℕ) → IsProp (CanUpdateAll c m)
 can_update_prop c m = hlevel (le_prop, ℕ_set)
 
+can_fill_prop : (c : Config) (m : Word → ℕ) (r : ℕ) → IsProp (CanFill c m r)
+can_fill_prop c m r = hlevel le_prop
+
+can_free_prop : (c : Config) (m : Word → ℕ) → IsProp (CanFree c m)
+can_free_prop c m = hlevel (le_prop, can_fill_prop c m)
+
 pub can_end_prop : (c : Config) (m : Word → ℕ) → IsProp (CanEnd c m)
 can_end_prop c m =
-    hlevel (inside_prop c, can_copy_from_prop c (c.regions * c.region_words) (let_go c m) c.region_words, can_update_prop c (all_copied c (let_go c m)))
+    hlevel (
+      inside_prop c,
+      can_copy_from_prop c (c.regions * c.region_words) (let_go c m) c.region_words,
+      can_update_prop c (all_copied c (let_go c m)),
+      can_free_prop c (all_updated c (all_copied c (let_go c m))),
+    )

@@ -1,5 +1,6 @@
 pub mod Replaced
 pub mod Copied
+pub mod PinsKept
 pub mod Between
 pub mod CopiedOut
 pub mod Asked

@@ -1,25 +1,29 @@
 -- What finishing a cycle leaves as it was: words before the image stay, and words that are no words of the table read 0 still.
-use Rattle.std.proofs.Common.{◌≡◌, ◌≢◌, ℕ, ◌+◌, ◌*◌, ◌==◌, true, false, Option, Some, None, zero, suc, ⊎_elim, refl, sym, ap, ◌∙◌, subst, arith}
+use Rattle.std.proofs.Common.{◌≡◌, ◌≢◌, ℕ, ◌+◌, ◌*◌, ◌==◌, ◌&&◌, Bool, true, false, Option, Some, None, zero, suc, ⊎_elim, refl, sym, ap, ◌∙◌, subst, arith}
 use Rattle.std.proofs.Math.Logic.{∥∥₁_elim}
 use Rattle.std.proofs.Math.Nat.{ℕ_set}
-use Rattle.std.proofs.lemmas.Bool.{cases_Bool, cases_eq, cond-true, cond-false, eq-eqb, ne_eqb, true≢false}
+use Rattle.std.proofs.lemmas.Bool.{cases_Bool, cases_eq, and_left, and_right, cond-true, cond-false, eq-eqb, ne_eqb, true≢false}
 use Rattle.heap_words.specs.declared.config.Config.{Config}
 use Rattle.heap_words.specs.Ranges.{seat_count}
 use Rattle.heap_words.specs.Words.{Word, Pause, Left, End, State, Phase, Evac, Ask, Root, Wait, Answer, Heap, is_image}
 use Rattle.buffer_words.specs.LetGo.{let_go}
 use Rattle.buffer_words.proofs.Elsewhere.{let_go_same}
+use Rattle.heap_words.specs.Encoding.{filler_header, object_words}
+use Rattle.regions.specs.Place.{region_with}
+use Rattle.full_words.specs.Pinned.{begins, filled_in}
 use Rattle.full_words.specs.Full.{made_in, served_in, room_for, served, full}
 use Rattle.full_words.proofs.Served.{served_first, turn_idle, turn_waits}
 use Rattle.cycle_pauses.proofs.Full.Images.{of_image, full_before, full_zero}
-use Rattle.cycle_pauses.proofs.Full.Outside.{IsZeroOutside, served_outside}
+use Rattle.cycle_pauses.proofs.Full.Outside.{IsZeroOutside, outside_heap, none_begins, served_outside}
 use Rattle.cycle_pauses.proofs.Full.LettingGoFirst.{let_go_outside}
 use Rattle.cycle_words.specs.Evacuation.Copied.{MayChange, copied_out}
 use Rattle.cycle_pauses.proofs.Evacuation.Outside.{of_two, copied_outside, copied_same}
 use Rattle.cycle_words.proofs.Evacuation.CopiedOut.{copies_out}
-use Rattle.cycle_pauses.proofs.Updating.Outside.{final_outside}
+use Rattle.cycle_pauses.proofs.Marking.Outside.{freed_outside}
+use Rattle.cycle_pauses.proofs.Updating.Outside.{cycle_outside}
 use Rattle.cycle_words.specs.Finishing.Updated.{updated_word, is_kept_field, all_updated}
 use Rattle.cycle_words.specs.Finishing.Copies.{is_left, has_copy_room, copied_from, CanCopyFrom, all_copied, is_room_for_all}
-use Rattle.cycle_words.specs.Finishing.Finish.{set_freed, cycle_finished, finished_from, finished, is_whole, CanFinish}
+use Rattle.cycle_words.specs.Finishing.Finish.{is_to_free, is_to_stay, has_moved, set_left, set_freed, cycle_finished, finished_from, finished, is_whole, CanFinish}
 use Rattle.cycle_words.proofs.Finishing.Copies.{room_found, copied_none, copied_next, copied_stuck, copied_skips}
 use Rattle.cycle_words.proofs.Finishing.Fields.{low_spared}
 use Rattle.cycle_pauses.specs.Ended.{ended, CanEnd}
@@ -122,10 +126,19 @@ all_updated_outside c m nothing (Root t i) other = null_updated c m (m (Root t i
 all_updated_outside c m nothing (Answer t) other = null_updated c m (m (Answer t)) (nothing (Answer t) other)
 all_updated_outside c m nothing word other = nothing word other
 
+filled_outside : (c : Config) (in_region gone : ℕ → Bool) (m : Word → ℕ) → IsZeroOutside c m → IsZeroOutside c (filled_in c in_region gone m)
+filled_outside c in_region gone m nothing (Heap x) other =
+    cond-false (in_region (region_with c x) && begins c m x && gone x) (filler_header (object_words (m (Heap (x + 1))))) (m (Heap x))
+    (and_left (in_region (region_with c x) && begins c m x) (gone x) (and_right (in_region (region_with c x)) (begins c m x) (none_begins c m x (outside_heap c x other))))
+    ∙ nothing (Heap x) other
+filled_outside c in_region gone m nothing word other = nothing word other
+
 set_freed_outside : (c : Config) (m : Word → ℕ) → IsZeroOutside c m → IsZeroOutside c (set_freed c m)
 set_freed_outside c m nothing Evac other = refl
 set_freed_outside c m nothing Ask other = refl
-set_freed_outside c m nothing word other = final_outside c m nothing word other
+set_freed_outside c m nothing word other =
+    cycle_outside c (set_left c m)
+    (freed_outside c (is_to_free c m) (filled_in c (is_to_stay c m) (has_moved m) m) (filled_outside c (is_to_stay c m) (has_moved m) m nothing)) word other
 
 -- .. once the cycle is finished, ..
 finished_outside : (c : Config) (m : Word → ℕ) → CanFinish c m → IsZeroOutside c m → IsZeroOutside c (finished c m)
@@ -145,5 +158,5 @@ ended_outside c m can nothing word other =
     (λ (whole : is_whole c m ≡ true). cond-true (is_whole c m) (finished c m word) (full c (finished c m) word) whole ∙ finishes word other)
     (λ (short : is_whole c m ≡ false).
     cond-false (is_whole c m) (finished c m word) (full c (finished c m) word) short
-    ∙ ∥∥₁_elim (can.holds short) (hlevel ℕ_set) (λ h. full_zero c (finished c m) h.0 h.1 finishes word other))
+    ∙ ∥∥₁_elim (can.holds short) (hlevel ℕ_set) (λ h. full_zero c (finished c m) h.0 (h.1, h.2, h.3, h.4) finishes word other))
     (cases_Bool (is_whole c m))

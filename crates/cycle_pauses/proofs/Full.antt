@@ -8,6 +8,7 @@ pub mod Sizes
 pub mod Holding
 pub mod After
 pub mod Made
+pub mod PinnedOnes
 pub mod Paused
 pub mod Answered
 pub mod Reached

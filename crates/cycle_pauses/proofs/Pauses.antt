@@ -27,7 +27,7 @@ use Rattle.cycle_pauses.proofs.Full.Pauses.{paused_from, paused}
 use Rattle.buffer_pauses.proofs.Inside.{buffers_inside}
 use Rattle.cycle_pauses.proofs.Full.Promises.{promises_of}
 use Rattle.cycle_pauses.proofs.Full.Before.{live}
-use Rattle.cycle_pauses.proofs.Full.Holding.{holds_by}
+use Rattle.cycle_pauses.proofs.Full.Holding.{holds_by, are_sized}
 use Rattle.cycle_words.specs.Marking.Init.{init_marked}
 use Rattle.cycle_words.specs.Marking.Final.{final_marked}
 use Rattle.image_graph.specs.Buffers.{HasNoMoreSeats}
@@ -83,6 +83,7 @@ can_collect : (c : Config) (m : Word → ℕ) (g : Graph) (asking : ℕ → Aski
     → CanPause c m (live c m g asking (by_copies c m g asking r)) r.ghost.owner (promises_of c g asking) g
 can_collect c m g asking r seats = record {
   holds = holds_by c m g asking (by_copies c m g asking r);
+  sized = are_sized c m g asking (by_copies c m g asking r);
   phase_is = r.shared.phased.phase_is;
   uncollected = λ none. calm_in c m g asking r (omega (arith, none));
   marking = λ on. is_marking c m g asking r (calm_in c m g asking r (omega (arith, on))) on;

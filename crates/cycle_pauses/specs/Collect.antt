@@ -12,7 +12,7 @@ use Rattle.heap_world.specs.World.{Plot}
 use Rattle.heap_world.specs.Change.{Change, image_words, image_view}
 use Rattle.full_words.specs.Full.{full}
 use Rattle.full_words.specs.Promised.{Promises}
-use Rattle.image_graph.specs.Holds.{HoldsBy}
+use Rattle.image_graph.specs.Holds.{HoldsBy, AreSized}
 use Rattle.cycle_words.specs.Marking.Init.{init_marked}
 use Rattle.cycle_words.specs.Marking.WhileMarking.{IsMarking}
 use Rattle.cycle_pauses.specs.Evacuation.Collect.{evac_next}
@@ -46,10 +46,11 @@ collected c memory word = if is_room_needed memory then room_made c memory word 
 abbrev pub collect_image : Change
 collect_image c image = map (λ k. collected c (image_view c image) (name_of c (image_start c + k))) (range_with_len 0 (image_words c))
 
--- What a pause needs of the words: they hold a graph; nothing is collected while nothing runs; while objects are marked, what holds
--- then; and where room is needed while a cycle runs, the cycle can be ended.
+-- What a pause needs of the words: they hold a graph, by pieces each of which says how many words it has; nothing is collected while
+-- nothing runs; while objects are marked, what holds then; and where room is needed while a cycle runs, the cycle can be ended.
 pub record CanPause (c : Config) (memory : Word → ℕ) (block : Plot) (owner : ℕ → Option ℕ) (p : Promises) (g : Graph) : Type 0 where
   pub holds : HoldsBy c memory block owner p g
+  pub sized : AreSized memory block
   pub phase_is : memory Phase ≤ 3
   pub uncollected : memory Phase ≡ 0 → memory Cset ≡ 0
   pub marking : memory Phase ≡ 1 → IsMarking c memory block

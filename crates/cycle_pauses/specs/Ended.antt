@@ -3,7 +3,7 @@ use Rattle.std.specs.Prelude.{ℕ, ◌≡◌, if◌then◌else◌, false}
 use Rattle.heap_words.specs.declared.config.Config.{Config}
 use Rattle.heap_words.specs.Words.{Word}
 use Rattle.full_words.specs.Full.{full}
-use Rattle.image_graph.specs.Holds.{HoldsSome}
+use Rattle.image_graph.specs.Holds.{HoldsSized}
 use Rattle.cycle_words.specs.Finishing.Finish.{CanFinish, finished, is_whole}
 
 -- The words after a cycle was ended in its pause. Where an object or a request found no room, the heap is collected in full from the
@@ -11,7 +11,8 @@ use Rattle.cycle_words.specs.Finishing.Finish.{CanFinish, finished, is_whole}
 abbrev pub ended : Config → (Word → ℕ) → Word → ℕ
 ended c memory word = if is_whole c memory then finished c memory word else full c (finished c memory) word
 
--- A cycle can be ended in its pause: it can be finished, and where that falls short the words that it leaves hold a graph.
+-- A cycle can be ended in its pause: it can be finished, and where that falls short the words that it leaves hold a graph, by pieces each of
+-- which says how many words it has.
 pub record CanEnd (c : Config) (memory : Word → ℕ) : Type 0 where
   pub finishes : CanFinish c memory
-  pub holds : is_whole c memory ≡ false → HoldsSome c (finished c memory)
+  pub holds : is_whole c memory ≡ false → HoldsSized c (finished c memory)

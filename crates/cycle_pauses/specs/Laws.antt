@@ -1,5 +1,5 @@
 -- That what a pause makes of an image is what a pause owes.
-use Rattle.std.specs.Prelude.{ℕ, ◌≡◌, ◌≢◌, ◌<◌, ◌++◌, true, List, length, replicate}
+use Rattle.std.specs.Prelude.{ℕ, ◌≡◌, ◌≢◌, ◌<◌, ◌++◌, true, false, List, length, replicate}
 use Rattle.heap_words.specs.declared.config.Config.{Config}
 use Rattle.heap_words.specs.Words.{Word, Phase, Cset, image_start, table_words, view}
 use Rattle.regions.specs.Sets.{IsIn}
@@ -9,6 +9,7 @@ use Rattle.heap_world.specs.Represents.{Represents}
 use Rattle.heap_world.specs.Change.{image_words, image_view, IsPaused, IsPause}
 use Rattle.buffer_words.specs.LetGo.{let_go}
 use Rattle.full_words.specs.Full.{served}
+use Rattle.full_words.specs.Pinned.{is_pinned}
 use Rattle.image_graph.specs.Buffers.{HasNoMoreSeats}
 use Rattle.cycle_words.specs.Marking.Final.{final_marked}
 use Rattle.cycle_words.specs.Evacuation.Begun.{CanBegin}
@@ -22,9 +23,9 @@ abbrev pub EndedIsPaused : Type 0
 EndedIsPaused = (c : Config) (memory : Word → ℕ) (g : Graph) (asking : ℕ → Asking) → Represents c memory g asking → HasNoMoreSeats c memory
     → IsPaused c memory (ended c memory) g asking
 
--- Once buffers were let go, each region that was in the collection set is freed, and who waits is served from the words that this leaves.
+-- Once buffers were let go, each region that was in the collection set and is not pinned is freed, and who waits is served from the words that this leaves.
 pub record IsFreedFirst (c : Config) (memory : Word → ℕ) : Type 0 where
-  pub freed : (r : ℕ) → r < c.regions → IsIn (memory Cset) r → IsFreed (cycle_finished c (let_go c memory)) r
+  pub freed : (r : ℕ) → r < c.regions → IsIn (memory Cset) r → is_pinned c memory r ≡ false → IsFreed (cycle_finished c (let_go c memory)) r
   pub served_then : ended c memory ≡ served c (cycle_finished c (let_go c memory)) c.mutators
 
 -- So it is where finishing the cycle is enough.

@@ -5,7 +5,8 @@ ghost use Rattle.cycle_pauses.specs.Finishing.Copying.{CopyingKeeps, LeftCanBeCo
 ghost use Rattle.cycle_pauses.specs.Finishing.Laws.{WholeIsPause, ShortIsPause, SetIsFree, RepresentingCanFinish};
 
 /// A law: words that represent a graph do so, by copies, once all that is left in the collection set was copied out, or what
-/// found room. Where all did, no object has its current copy there any more.
+/// found room. Where all did, no object has its current copy there any more, but in
+/// pinned regions.
 pub fn copying_keeps()
     ensures { CopyingKeeps }
 {}
@@ -27,7 +28,7 @@ pub fn short_is_pause()
     ensures { ShortIsPause }
 {}
 
-/// A law: before requests are served each region of the collection set is free, and no word of it is in use.
+/// A law: before requests are served each region of the collection set that is not pinned is free, and no word of it is in use.
 pub fn set_is_free()
     ensures { SetIsFree }
 {}

@@ -31,7 +31,8 @@ pub fn full_from_copies()
 {}
 
 /// A law: a full collection is a pause. It keeps the graph that the words represent, answers each mutator that asks, and
-/// refuses an object only where live objects and objects made for other mutators crowd the heap.
+/// refuses an object only where live objects that are not pinned and objects made for other mutators crowd the regions without a
+/// pinned object.
 pub fn full_is_pause()
     ensures { FullIsPause }
 {}

@@ -16,7 +16,8 @@ pub fn ended_is_paused()
     ensures { EndedIsPaused }
 {}
 
-/// A law: where that needs no full collection, each region of the collection set is freed before who waits is served.
+/// A law: where that needs no full collection, each region of the collection set that is not pinned is freed before who waits
+/// is served.
 pub fn set_is_freed_first()
     ensures { SetIsFreedFirst }
 {}

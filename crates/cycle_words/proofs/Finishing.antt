@@ -1,4 +1,4 @@
-pub mod Starts
+pub mod Walking
 pub mod Strides
 pub mod Fields
 pub mod Copies
@@ -10,6 +10,8 @@ pub mod KeptFields
 pub mod CanUpdate
 pub mod CopiesHold
 pub mod SetFreed
+pub mod LeftPieces
+pub mod SetLeft
 pub mod Emptied
 pub mod FinishingHolds
 pub mod CanFinish

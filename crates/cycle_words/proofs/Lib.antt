@@ -1,3 +1,4 @@
+pub mod Pinned
 pub mod Marking
 pub mod Evacuation
 pub mod Updating

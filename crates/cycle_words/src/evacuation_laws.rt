@@ -3,7 +3,7 @@
 
 ghost use Rattle.cycle_words.specs.Evacuation.Laws.{CandidateIsCandidate, ChosenIsTheChoice, ChoiceIsTaken, RoomIsFound, CopyingCopies, EachIsCopied, RootsAreCleared, EvacuationCanBegin, MarkedCanBegin, ObjectCanBeCopied, LiveIsMarked, ChosenAreLive, EvacuationCollects};
 
-/// A law: the test of candidates tells a region that is in use, nobody's current one, without an object that is new, and
+/// A law: the test of candidates tells a region that is in use, neither pinned nor current, without an object that is new, and
 /// with garbage of a quarter of its words; and it tells each such region.
 pub fn candidate_is_candidate()
     ensures { CandidateIsCandidate }

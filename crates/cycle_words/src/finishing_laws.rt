@@ -13,7 +13,7 @@ pub fn serving_serves_all()
     ensures { ServingServesAll }
 {}
 
-/// A law: the fields that updating all references changes are exactly the references of kept objects outside the collection set,
+/// A law: the fields that updating all references changes are exactly the references of kept objects that stay,
 /// where the words hold a graph and each piece says how many words it has.
 pub fn kept_fields_are_fields()
     ensures { KeptFieldsAreFields }
@@ -29,12 +29,12 @@ pub fn collecting_can_finish()
     ensures { CollectingCanFinish }
 {}
 
-/// A law: where no object is left in the set, nothing that can be reached lies there.
+/// A law: where no object is left in the set, nothing that can be reached lies there, but in pinned regions.
 pub fn none_left_inside()
     ensures { NoneLeftInside }
 {}
 
-/// A law: then nothing names the set once all references were updated.
+/// A law: then nothing names what goes once all references were updated.
 pub fn updated_names_nothing()
     ensures { UpdatedNamesNothing }
 {}

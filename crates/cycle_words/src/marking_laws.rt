@@ -19,7 +19,7 @@ pub fn closing_keeps()
     ensures { ClosingKeeps }
 {}
 
-/// A law: a region that the test of dead regions tells is in use, nobody's current one, without an object that is new, and
+/// A law: a region that the test of dead regions tells is in use, neither pinned nor current, without an object that is new, and
 /// without a mark; and it tells each such region.
 pub fn dead_is_dead()
     ensures { DeadIsDead }

@@ -7,19 +7,19 @@ use Rattle.heap_words.specs.Words.{Word, Evac, Ask, Top, Wait, write}
 use Rattle.full_words.specs.Full.{served}
 use Rattle.image_graph.specs.Left.{IsLeft}
 use Rattle.image_graph.specs.Make.{AreWithin}
-use Rattle.cycle_words.specs.Updating.Changes.{is_chosen, final_updated}
+use Rattle.cycle_words.specs.Updating.Changes.{cycle_ended}
 use Rattle.cycle_words.specs.Finishing.Updated.{all_updated}
 use Rattle.cycle_words.specs.Finishing.Copies.{is_room_for_all, all_copied}
 use Rattle.cycle_words.proofs.Finishing.Whole.{nobody_is, nobody_from, waits_if_left, left_if_waits}
-use Rattle.cycle_words.specs.Finishing.Finish.{set_freed, cycle_finished, finished_from, nobody_waits}
+use Rattle.cycle_words.specs.Finishing.Finish.{is_to_free, set_left, set_freed, cycle_finished, finished_from, nobody_waits}
 
 -- the end of the cycle
-ended_at : (c : Config) (m : Word → ℕ) (w : Word) → write (write (final_updated c m) Evac 0) Ask 0 w ≡ set_freed c m w
+ended_at : (c : Config) (m : Word → ℕ) (w : Word) → write (write (cycle_ended (set_left c m)) Evac 0) Ask 0 w ≡ set_freed c m w
 ended_at c m Evac = refl
 ended_at c m Ask = refl
 ended_at c m _ = refl
 
-pub ended : (c : Config) (m : Word → ℕ) → write (write (final_updated c m) Evac 0) Ask 0 ≡ set_freed c m
+pub ended : (c : Config) (m : Word → ℕ) → write (write (cycle_ended (set_left c m)) Evac 0) Ask 0 ≡ set_freed c m
 ended c m = fun_ext (ended_at c m)
 
 module _ (c : Config) (m : Word → ℕ) where
@@ -52,7 +52,7 @@ whole_is c m room = ap (λ b. b && nobody_waits c (finished_from c m)) room ∙ 
 
 -- no region uses more words than it has then
 pub within_still : (c : Config) (m : Word → ℕ) → AreWithin c m → AreWithin c (set_freed c (all_updated c m))
-within_still c m within r below = either (is_chosen (all_updated c m) r) (m (Top r)) (within r below)
+within_still c m within r below = either (is_to_free c (all_updated c m) r) (m (Top r)) (within r below)
   where
     either : (b : Bool) (top : ℕ) → top ≤ c.region_words → cond b 0 top ≤ c.region_words
     either true top fits = omega arith

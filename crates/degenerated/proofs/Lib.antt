@@ -1,6 +1,7 @@
 pub mod CopyingOut
-pub mod Starts
+pub mod KeptHeap
 pub mod UpdatedFields
 pub mod Naming
 pub mod Finishing
-pub mod Reading
+pub mod SameRegion
+pub mod FreedSet

@@ -3,8 +3,12 @@ use Rattle.std.specs.Prelude.{ℕ, ◌+◌, ◌==◌, ◌&&◌, nat_le, nat_lt, 
 use Rattle.heap_words.specs.declared.config.Config.{Config}
 use Rattle.heap_words.specs.Words.{Word, Root, Answer, Heap}
 use Rattle.regions.specs.Place.{base_of, region_with}
+use Rattle.packing.specs.Table.{now_of}
+use Rattle.image_graph.specs.declared.image.Image.{Image}
+use Rattle.image_graph.specs.State.{config_of, places_of}
 use Rattle.cycle_words.specs.Evacuation.Copied.{copied_out}
-use Rattle.cycle_words.specs.Finishing.Updated.{updated_word, is_kept_field}
+use Rattle.cycle_words.specs.Evacuation.Begun.{is_collected}
+use Rattle.cycle_words.specs.Finishing.Updated.{is_kept_field}
 use Rattle.cycle_words.specs.Finishing.Copies.{is_left, has_copy_room}
 
 -- the words after the turn of an address: an object that is left there was copied out, if some region has room
@@ -15,10 +19,19 @@ turn_taken c memory a word = if is_left c memory a then copied_out c memory a wo
 abbrev pub has_turn_room : Config → (Word → ℕ) → ℕ → Bool
 has_turn_room c memory a = if is_left c memory a then has_copy_room c memory a else true
 
+-- to what an address leads by the words that an image has kept
+abbrev pub kept_now : Image → ℕ → ℕ
+kept_now i = now_of (config_of i).region_words (places_of i)
+
+-- What a word becomes, where a function says to what the address of an object of the collection set leads: by the headers as they were
+-- before any word was updated.
+abbrev pub updated_by : Config → (now : ℕ → ℕ) → (Word → ℕ) → ℕ → ℕ
+updated_by c now memory word = if is_collected c memory word then now word else word
+
 -- the words after the references at a set of addresses were updated
-abbrev pub fields_updated : Config → (ℕ → Bool) → (Word → ℕ) → Word → ℕ
-fields_updated c set memory (Heap x) = if set x && is_kept_field c memory x then updated_word c memory (memory (Heap x)) else memory (Heap x)
-fields_updated c set memory word = memory word
+abbrev pub fields_updated : Config → (now : ℕ → ℕ) → (ℕ → Bool) → (Word → ℕ) → Word → ℕ
+fields_updated c now set memory (Heap x) = if set x && is_kept_field c memory x then updated_by c now memory (memory (Heap x)) else memory (Heap x)
+fields_updated c now set memory word = memory word
 
 -- sets of addresses: one, those of a region below an offset, those of a region, and those of so many regions
 abbrev pub is_at : ℕ → ℕ → Bool
@@ -34,16 +47,16 @@ abbrev pub is_of_first : Config → (regions : ℕ) → ℕ → Bool
 is_of_first c n x = nat_lt (region_with c x) n
 
 -- the words after so many roots of a mutator were updated
-abbrev pub row_updated : Config → (mutator roots : ℕ) → (Word → ℕ) → Word → ℕ
-row_updated c t n memory (Root u i) = if (t == u) && nat_lt i n then updated_word c memory (memory (Root u i)) else memory (Root u i)
-row_updated c t n memory word = memory word
+abbrev pub row_updated : Config → (now : ℕ → ℕ) → (mutator roots : ℕ) → (Word → ℕ) → Word → ℕ
+row_updated c now t n memory (Root u i) = if (t == u) && nat_lt i n then updated_by c now memory (memory (Root u i)) else memory (Root u i)
+row_updated c now t n memory word = memory word
 
 -- the words after the roots of so many mutators were updated
-abbrev pub roots_updated : Config → (mutators : ℕ) → (Word → ℕ) → Word → ℕ
-roots_updated c n memory (Root u i) = if nat_lt u n && nat_lt i 16 then updated_word c memory (memory (Root u i)) else memory (Root u i)
-roots_updated c n memory word = memory word
+abbrev pub roots_updated : Config → (now : ℕ → ℕ) → (mutators : ℕ) → (Word → ℕ) → Word → ℕ
+roots_updated c now n memory (Root u i) = if nat_lt u n && nat_lt i 16 then updated_by c now memory (memory (Root u i)) else memory (Root u i)
+roots_updated c now n memory word = memory word
 
 -- the words after the answers of so many mutators were updated
-abbrev pub answers_updated : Config → (mutators : ℕ) → (Word → ℕ) → Word → ℕ
-answers_updated c n memory (Answer u) = if nat_lt u n then updated_word c memory (memory (Answer u)) else memory (Answer u)
-answers_updated c n memory word = memory word
+abbrev pub answers_updated : Config → (now : ℕ → ℕ) → (mutators : ℕ) → (Word → ℕ) → Word → ℕ
+answers_updated c now n memory (Answer u) = if nat_lt u n then updated_by c now memory (memory (Answer u)) else memory (Answer u)
+answers_updated c now n memory word = memory word

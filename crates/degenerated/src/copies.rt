@@ -14,13 +14,15 @@ use image_graph::Image;
 use mark_core::is_black;
 use regions::{is_in, region_of};
 
-// Whether an object is left at an address: it is marked, it is of the collection set, and it has not moved.
+// Whether an object is left at an address: it is marked, it is of a region of the collection set that is not pinned, and it has
+// not moved.
 fn is_left(image: &Image, address: u64) -> bool
     requires { IsWord (config_of image.now) (Heap address) }
     ensures { result ≡ left.is_left (config_of image.now) (memory_of image.now) address }
 {
     let config = image.config();
-    if !is_in(image.word(config.cset_at()), region_of(config, address)) {
+    let region = region_of(config, address);
+    if !is_in(image.word(config.cset_at()), region) || image.is_pinned(region) {
         return false;
     }
     if !is_black(image, address) {

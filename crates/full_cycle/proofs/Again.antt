@@ -1,19 +1,21 @@
 -- After a full collection an image holds the graph again, with what was made for waiting threads as further promises.
-use Rattle.std.proofs.Common.{◌≡◌, ◌≢◌, ℕ, ◌+◌, ◌<◌, ◌≤◌, ◌==◌, true, false, slice_get, Option, Some, None, ⊎_elim, sym, ap, ◌∙◌, subst, arith}
-use Rattle.std.proofs.lemmas.Bool.{cond-false, cases_Bool, ne_eqb, true≢false}
-use Rattle.std.proofs.lemmas.Option.{same_Some}
+use Rattle.std.proofs.Common.{◌≡◌, ◌≢◌, ℕ, ◌+◌, ◌-◌, ◌<◌, ◌≤◌, ◌==◌, ◌&&◌, nat_le, nat_lt, cond, true, false, slice_get, Option, Some, None, ⊎_elim, sym, ap, ◌∙◌, subst, arith}
+use Rattle.std.proofs.lemmas.Bool.{cond-true, cond-false, cases_Bool, ne_eqb, le-leb, lt-leb, lt-ltb, and_from, and_left, true≢false}
+use Rattle.std.proofs.lemmas.Option.{same_Some, none-some}
 use Rattle.std.proofs.Math.Logic.{∥∥₁_map}
 use Rattle.heap_words.specs.declared.config.Config.{Config}
 use Rattle.heap_words.specs.Words.{Word, Top, Wait, Heap}
 use Rattle.heap_words.specs.Encoding.{is_forwarded, request_count_in}
 use Rattle.shen_graph.specs.declared.name.Name.{Name}
-use Rattle.shen_graph.specs.Graph.{Graph, Object, blank, fresh, same_reference}
+use Rattle.shen_graph.specs.Graph.{Graph, Object, Reference, blank, fresh, same_reference}
 use Rattle.shen_graph.specs.Reach.{IsReachable}
 use Rattle.shen_graph.specs.Reach as reach
-use Rattle.heap_world.specs.World.{spare, is_loose, Plot}
+use Rattle.shen_graph.specs.Step.{name_in}
+use Rattle.heap_world.specs.World.{thing, filler, spare, is_loose, room_of, Plot}
 use Rattle.full_words.specs.Held.{IsAmong}
-use Rattle.full_words.specs.Plot.{packed_block}
-use Rattle.full_words.specs.Full.{now_in, root_words, kept_in, packed_in, full_from}
+use Rattle.full_words.specs.Pinned.{is_row_pinned}
+use Rattle.full_words.specs.Plot.{AreParsed, AreThings, packed_block}
+use Rattle.full_words.specs.Full.{now_in, held_words, kept_in, packed_in, full_from}
 use Rattle.full_words.specs.Promised.{Promises, with_promised}
 use Rattle.full_words.specs.Image.{ImageStands}
 use Rattle.full_words.specs.Serving.{asked_name, served_block, served_promises}
@@ -25,8 +27,18 @@ use Rattle.full_words.proofs.Serving.{full_stands}
 use Rattle.full_words.proofs.Still.{full_current, full_share, full_wait, packed_wait}
 use Rattle.full_words.proofs.Turned.{SamePromise, IsPromisedAsAsked, promise_after}
 use Rattle.image_graph.specs.Holds.{HoldsBy, HoldsSome}
+use Rattle.full_cycle.specs.Collect.{HoldsWalked}
+use Rattle.full_cycle.proofs.Holding.{parsed}
 
-module _ (c : Config) (m : Word → ℕ) (block : Plot) (owner : ℕ → Option ℕ) (p : Promises) (g : Graph) (holds : HoldsBy c m block owner p g) where
+-- where each piece is an object, or only fills, nobody has free words of a buffer
+no_spare : (block : Plot) → AreThings block → (a seat words : ℕ) → block a ≡ Some (spare seat words) → ⊥
+no_spare block things a seat words is = ⊎_elim
+    (λ (object : (name : Name) × (refs : ℕ) × (nums : ℕ) × (spare seat words ≡ thing name refs nums)). true≢false (ap is_loose object.3))
+    (λ (fills : (n : ℕ) × (1 ≤ n) × (spare seat words ≡ filler n)). none-some seat (sym (ap room_of fills.2)))
+    (things a (spare seat words) is)
+
+module _ (c : Config) (m : Word → ℕ) (block : Plot) (owner : ℕ → Option ℕ) (p : Promises) (g : Graph) (holds : HoldsBy c m block owner p g)
+    (walk : AreParsed c (is_row_pinned c m) (λ r. m (Top r)) (λ a. m (Heap a)) block) where
   abbrev more : Graph
   more = with_promised g p
 
@@ -37,14 +49,25 @@ module _ (c : Config) (m : Word → ℕ) (block : Plot) (owner : ℕ → Option 
   reach_more : (n : Name) → IsReachable g n → IsReachable more n
   reach_more _ (reach.from_root t i n is) =
       let at = holds.rooted.no_more_roots t i n is in
-      reach.from_root t i n (cond-false (i == 16) (p.ref t) (g.root t i) (ne_eqb i 16 (λ e. omega (arith, e, at.3))) ∙ is)
+      let pinned : Reference = name_in (g.pin t (i - 17)) in
+      reach.from_root t i n
+      (cond-false (i == 16) (p.ref t) (cond (nat_le 17 i && nat_lt i 21) pinned (g.root t i)) (ne_eqb i 16 (λ e. omega (arith, e, at.3)))
+      ∙ cond-false (nat_le 17 i && nat_lt i 21) pinned (g.root t i) (and_left (nat_le 17 i) (nat_lt i 21) (lt-leb 17 i (omega (arith, at.3)))) ∙ is)
+  reach_more _ (reach.from_pin t i held is) =
+      let at = holds.rooted.no_more_pins t i held is in
+      let index : 17 + i - 17 ≡ i = omega arith in
+      reach.from_root t (17 + i) held.name
+      (cond-false (17 + i == 16) (p.ref t) (cond (nat_le 17 (17 + i) && nat_lt (17 + i) 21) (name_in (g.pin t (17 + i - 17))) (g.root t (17 + i))) (ne_eqb (17 + i) 16 (λ e. omega (arith, e)))
+      ∙ cond-true (nat_le 17 (17 + i) && nat_lt (17 + i) 21) (name_in (g.pin t (17 + i - 17))) (g.root t (17 + i))
+      (and_from (nat_le 17 (17 + i)) (nat_lt (17 + i) 21) (le-leb 17 (17 + i) (omega arith)) (lt-ltb (17 + i) 21 (omega (arith, at.3))))
+      ∙ ap (λ k. name_in (g.pin t k)) index ∙ ap name_in is)
   reach_more _ (reach.from_field k n field reached is) =
       reach.from_field k n field (reach_more k reached) (ap (λ (o : Object). slice_get o.refs field) (old_object c.mutators g p holds.unreached k reached) ∙ is)
 
   -- so it is an object
   has_object : (n : Name) → IsReachable g n → (o : Object) × (g.object n ≡ Some o)
   has_object n reached =
-      let at = reached_is_held c (λ r. m (Top r)) (λ a. m (Heap a)) block (now_in m) (IsAmong (root_words c m)) more holds.objects n (reach_more n reached) in
+      let at = reached_is_held c (λ r. m (Top r)) (λ a. m (Heap a)) block (now_in m) (IsAmong (held_words c m)) more holds.objects n (reach_more n reached) in
       let object = holds.objects.each at.0 at.1 at.2 n at.3 at.4 in
       ⊎_elim
       (λ (promised : same_reference (p.ref n.thread) (Some n) ≡ true). absurd (holds.unreached.fresh n.thread n (same_reference-true (p.ref n.thread) n promised) reached))
@@ -69,11 +92,11 @@ module _ (c : Config) (m : Word → ℕ) (block : Plot) (owner : ℕ → Option 
       same_Some name (asked_name after t) (sym named ∙ new.ref) ∙ ap (λ k. record { thread = t + 1; count = k }) count)
       (promise_after c after p t c.mutators)
 
-  holds_again : HoldsBy c (full_from c m) (served_block c after (packed_block c (kept_in c m) block) c.mutators) (λ r. None) (served_promises c after p c.mutators) g
+  holds_again : HoldsBy c (full_from c m) (served_block c after (packed_block c (is_row_pinned c m) (kept_in c m) block) c.mutators) (λ r. None) (served_promises c after p c.mutators) g
   holds_again =
-      let plot : Plot = served_block c after (packed_block c (kept_in c m) block) c.mutators in
+      let plot : Plot = served_block c after (packed_block c (is_row_pinned c m) (kept_in c m) block) c.mutators in
       let q : Promises = served_promises c after p c.mutators in
-      let stands : ImageStands c (full_from c m) plot g q = full_stands c m block g p holds.objects holds.rooted holds.asking in
+      let stands : ImageStands c (full_from c m) plot g q = full_stands c m block g p holds.objects holds.rooted walk holds.asking in
       let next : (t : ℕ) (name : Name) → q.ref t ≡ Some name → name ≡ fresh g t = λ t name named.
       let at = stands.rooted.no_more_promised t name named in
       subst (λ k. name ≡ fresh g k) (sym at.2) (next_more at.0 name at.1 (ap q.ref (sym at.2) ∙ named))
@@ -90,7 +113,7 @@ module _ (c : Config) (m : Word → ℕ) (block : Plot) (owner : ℕ → Option 
         shared_one = λ r is. absurd (omega (arith, is, full_share c m));
         buffers = record {
           each = λ seat some. absurd (some (full_current c m seat));
-          spares = λ a seat words is. (let piece = stands.things a (spare seat words) is in absurd (true≢false (ap is_loose piece.3)));
+          spares = λ a seat words is. absurd (no_spare plot stands.things a seat words is);
         };
         asking = λ t from below some. absurd (some (full_wait c m t));
         next = record {
@@ -107,13 +130,13 @@ module _ (c : Config) (m : Word → ℕ) (block : Plot) (owner : ℕ → Option 
         };
       }
 
-pub holds_full : (c : Config) (m : Word → ℕ) → HoldsSome c m → HoldsSome c (full_from c m)
+pub holds_full : (c : Config) (m : Word → ℕ) → HoldsWalked c m → HoldsSome c (full_from c m)
 holds_full c m holds = ∥∥₁_map holds (λ h. (
   h.0,
   (
-    served_block c (packed_in c m) (packed_block c (kept_in c m) h.1.0) c.mutators,
+    served_block c (packed_in c m) (packed_block c (is_row_pinned c m) (kept_in c m) h.1) c.mutators,
     (λ r. None),
-    served_promises c (packed_in c m) h.1.2 c.mutators,
-    holds_again c m h.1.0 h.1.1 h.1.2 h.0 h.1.3,
+    served_promises c (packed_in c m) h.3 c.mutators,
+    holds_again c m h.1 h.2 h.3 h.0 h.4 (parsed c m h.1 h.2 h.3 h.0 h.4 h.5 h.6),
   ),
 ))

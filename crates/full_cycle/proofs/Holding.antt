@@ -1,31 +1,39 @@
--- Where an image holds a graph, what its roots and answers lead to can be packed.
-use Rattle.std.proofs.Common.{◌≡◌, ℕ, ◌+◌, ◌<◌, ◌≤◌, get_or, slice_get, Option, Some, None, ap, ◌∙◌, arith}
+-- Where an image holds a graph, what its roots, answers and pin slots lead to can be packed.
+use Rattle.std.proofs.Common.{◌≡◌, ℕ, ◌+◌, ◌/◌, ◌<◌, ◌≤◌, get_or, slice_get, Option, Some, None, true, ap, ◌∙◌, arith}
 use Rattle.std.proofs.lemmas.Bool.{cond-false}
 use Rattle.std.proofs.lemmas.Option.{slice_get-get_or}
 use Rattle.std.proofs.Math.Logic.{∥∥₁_elim}
 use Rattle.std.proofs.Math.Bridge.{le_prop}
 use Rattle.std.proofs.Math.Nat.{ℕ_set}
 use Rattle.heap_words.specs.declared.config.Config.{Config}
-use Rattle.heap_words.specs.Words.{Word, Top, Root, Answer, Heap}
+use Rattle.heap_words.specs.Words.{Word, Top, Root, Answer, Pin, Heap}
 use Rattle.heap_words.specs.Encoding.{is_forwarded, forwardee_in, refs_in}
 use Rattle.shen_graph.specs.declared.name.Name.{Name}
 use Rattle.shen_graph.specs.Graph.{Graph, Reference}
-use Rattle.heap_world.specs.World.{Plot, thing, name_at}
+use Rattle.heap_world.specs.World.{Plot, thing, name_at, HasNoRoom}
 use Rattle.heap_world.proofs.Pointing.{piece_inside, named_if_not_0}
 use Rattle.full_words.specs.Held.{IsLedTo, from_root, from_field, IsAmong, AreHeldKept}
 use Rattle.full_words.specs.Pack.{CanPack}
-use Rattle.full_words.specs.Plot.{heap_end}
-use Rattle.full_words.specs.Full.{now_in, root_words, copies_of, field_words, kept_in}
+use Rattle.full_words.specs.Pinned.{is_pinned, is_row_pinned, CanFill}
+use Rattle.full_words.specs.Plot.{AreParsed, heap_end}
+use Rattle.full_words.specs.Full.{now_in, held_words, copies_of, field_words, kept_in}
 use Rattle.full_words.specs.Promised.{Promises, with_promised}
 use Rattle.full_words.proofs.Reached.{held_is_reached, can_pack, refs_read}
 use Rattle.full_words.proofs.Origin.{kept_inside, lie_apart}
 use Rattle.full_words.proofs.Found.{has_at, found_held}
 use Rattle.full_words.proofs.Walked.{walk_keeps, root_held, field_held}
-use Rattle.full_words.proofs.Roots.{root_among, answer_among}
-use Rattle.image_graph.specs.Holds.{HoldsBy, HoldsSome}
-use Rattle.full_cycle.specs.Collect.{found_in_turns, LeadsToHeld, CanCollect}
+use Rattle.full_words.proofs.Roots.{root_among, answer_among, pin_among}
+use Rattle.image_graph.specs.Holds.{HoldsBy, AreSized}
+use Rattle.full_cycle.specs.Collect.{found_in_turns, LeadsToHeld, CanCollect, HoldsWalked}
+use Rattle.full_words.proofs.PinnedRows.{row_pinned}
+use Rattle.full_words.proofs.WalkedPieces.{piece_begins}
+use Rattle.full_cycle.proofs.Strides.{strides}
+use Rattle.full_cycle.proofs.Parsed.{parsed_fills}
+use Rattle.full_words.proofs.Rows.{row_is}
+use Rattle.full_cycle.proofs.Stays.{KeptBegin, begins_there}
 
-module _ (c : Config) (memory : Word → ℕ) (block : Plot) (owner : ℕ → Option ℕ) (p : Promises) (g : Graph) (holds : HoldsBy c memory block owner p g) where
+module _ (c : Config) (memory : Word → ℕ) (block : Plot) (owner : ℕ → Option ℕ) (p : Promises) (g : Graph) (holds : HoldsBy c memory block owner p g)
+    (sized : AreSized memory block) (none : HasNoRoom block) where
   abbrev top : ℕ → ℕ
   top r = memory (Top r)
 
@@ -39,7 +47,7 @@ module _ (c : Config) (memory : Word → ℕ) (block : Plot) (owner : ℕ → Op
   more = with_promised g p
 
   abbrev IsRoot : ℕ → Type 0
-  IsRoot = IsAmong (root_words c memory)
+  IsRoot = IsAmong (held_words c memory)
 
   abbrev Held : ℕ → Type 0
   Held = IsLedTo now heap IsRoot
@@ -93,8 +101,24 @@ module _ (c : Config) (memory : Word → ℕ) (block : Plot) (owner : ℕ → Op
 
   found_kept : (n a : ℕ) → slice_get (found_in_turns c memory n) n ≡ Some a → 0 < kept a
   found_kept n a at =
-      held_kept a (found_held (λ b. copies_of memory (field_words memory b)) (copies_of memory (root_words c memory)) Held
+      held_kept a (found_held (λ b. copies_of memory (field_words memory b)) (copies_of memory (held_words c memory)) Held
       (root_held c memory block more holds.objects) (field_held c memory block more holds.objects) n a (has_at (found_in_turns c memory n) n a at))
+
+  -- Pinned regions can be walked, and what is kept there begins where the walk comes.
+  pub parsed : AreParsed c (is_row_pinned c memory) top heap block
+  parsed = record { filled = holds.filled; some = holds.pieces.some; sized = λ a b is closed. strides memory block sized none a b is }
+
+  fills : (r : ℕ) → r < c.regions → is_pinned c memory r ≡ true → CanFill c memory r
+  fills r inside pinned = parsed_fills c (is_row_pinned c memory) memory block holds.objects.plotted parsed r inside (row_pinned c memory r inside pinned)
+
+  kept_begins : KeptBegin c memory
+  kept_begins r a inside pinned low high some =
+      let held = are.only a some in
+      let at = held_is_reached c top heap block now IsRoot more holds.objects a held in
+      let object = holds.objects.each a at.1 at.2 at.0 held at.3 in
+      let row : is_row_pinned c memory (a / c.region_words) ≡ true = ap (is_row_pinned c memory) (row_is c.region_words r a low high) ∙ row_pinned c memory r inside pinned in
+      let begun = piece_begins c (is_row_pinned c memory) memory block holds.objects.plotted parsed a (thing at.0 at.1 at.2) at.3 row in
+      begins_there c memory r a low high begun object.2.header
 
   can_collect : CanCollect c memory
   can_collect = record {
@@ -104,11 +128,19 @@ module _ (c : Config) (memory : Word → ℕ) (block : Plot) (owner : ℕ → Op
     found = found_kept;
     roots = λ t i inside few. root_leads (memory (Root t i)) (root_among c top memory block g p holds.objects.plotted holds.rooted t i inside few);
     answers = λ t inside some. root_leads (memory (Answer t)) (answer_among c top memory block g p holds.objects.plotted holds.rooted t inside some);
+    pins = λ t i inside few. root_leads (memory (Pin t i)) (pin_among c top memory block g p holds.objects.plotted holds.rooted t i inside few);
+    fills = fills;
     fields = field_leads;
   }
 
 collect_prop : (c : Config) (memory : Word → ℕ) → IsProp (CanCollect c memory)
 collect_prop c memory = hlevel (le_prop, ℕ_set)
 
-pub can_collect_some : (c : Config) (memory : Word → ℕ) → HoldsSome c memory → CanCollect c memory
-can_collect_some c memory holds = ∥∥₁_elim holds (collect_prop c memory) (λ h. can_collect c memory h.1.0 h.1.1 h.1.2 h.0 h.1.3)
+pub can_collect_some : (c : Config) (memory : Word → ℕ) → HoldsWalked c memory → CanCollect c memory
+can_collect_some c memory holds = ∥∥₁_elim holds (collect_prop c memory) (λ h. can_collect c memory h.1 h.2 h.3 h.0 h.4 h.5 h.6)
+
+begin_prop : (c : Config) (memory : Word → ℕ) → IsProp (KeptBegin c memory)
+begin_prop c memory = hlevel (le_prop, ℕ_set)
+
+pub kept_begin_some : (c : Config) (memory : Word → ℕ) → HoldsWalked c memory → KeptBegin c memory
+kept_begin_some c memory holds = ∥∥₁_elim holds (begin_prop c memory) (λ h. kept_begins c memory h.1 h.2 h.3 h.0 h.4 h.5 h.6)

@@ -10,3 +10,10 @@ pub mod Whole
 pub mod Result
 pub mod Again
 pub mod Changed
+pub mod Parsed
+pub mod Shut
+pub mod Stays
+pub mod Strides
+pub mod FilledRegions
+pub mod Below
+pub mod PinnedStay

@@ -5,10 +5,11 @@ use Rattle.std.proofs.lemmas.Bool.{cond-true, cond-false, le-leb, lt-leb}
 use Rattle.std.proofs.lemmas.List.{map-append}
 use Rattle.std.proofs.lemmas.List.FromFn.{map-range_with_len_more}
 use Rattle.heap_words.specs.declared.config.Config.{Config}
-use Rattle.heap_words.specs.Words.{Word, Root, Answer, heap_size}
+use Rattle.heap_words.specs.Words.{Word, Root, Answer, Pin, heap_size}
 use Rattle.heap_graph.specs.Walk.{with_address, with_addresses}
 use Rattle.heap_graph.proofs.Marks.{with_addresses-push}
-use Rattle.full_words.specs.Full.{copies_of, roots_below, answers_below, root_words, field_words, held_in}
+use Rattle.full_words.specs.Full.{copies_of, roots_below, answers_below, root_words, held_words, field_words, held_in}
+use Rattle.full_words.specs.Pinned.{pins_below}
 use Rattle.full_words.proofs.FoundInTurn.{noted_both}
 use Rattle.full_words.proofs.FoundInTurn as turns
 use Rattle.full_cycle.specs.Collect.{current_address, found_in_turns}
@@ -55,6 +56,17 @@ answer_none m t order none =
     nothing [] = refl
     nothing (x ∷ xs) = ap (λ ys. x ∷ ys) (nothing xs)
 
+-- the pin slots of one mutator more
+pub pins_more : (m : Word → ℕ) (t : ℕ) (order : List ℕ)
+    → with_addresses (with_addresses order (copies_of m (pins_below m t))) (copies_of m (map (λ i. m (Pin t i)) (range_with_len 0 4)))
+    ≡ with_addresses order (copies_of m (pins_below m (t + 1)))
+pins_more m t order =
+    let next : suc t ≡ t + 1 = omega arith in
+    let row : List ℕ = map (λ i. m (Pin t i)) (range_with_len 0 4) in
+    noted_both order (copies_of m (pins_below m t)) (copies_of m row)
+    ∙ ap (with_addresses order) (sym (map-append (current_address m) (pins_below m t) row))
+    ∙ ap (λ n. with_addresses order (copies_of m (pins_below m n))) next
+
 -- Turns.
 
 module _ (c : Config) (m : Word → ℕ) where
@@ -64,14 +76,17 @@ module _ (c : Config) (m : Word → ℕ) where
   abbrev fields : ℕ → List ℕ
   fields a = copies_of m (field_words m a)
 
-  pub no_turn : with_addresses (with_addresses [] (copies_of m (roots_below m c.mutators))) (copies_of m (answers_below m c.mutators)) ≡ found 0
+  pub no_turn : with_addresses (with_addresses (with_addresses [] (copies_of m (roots_below m c.mutators))) (copies_of m (answers_below m c.mutators))) (copies_of m (pins_below m c.mutators)) ≡ found 0
   no_turn =
-      noted_both [] (copies_of m (roots_below m c.mutators)) (copies_of m (answers_below m c.mutators))
-      ∙ ap (with_addresses []) (sym (map-append (current_address m) (roots_below m c.mutators) (answers_below m c.mutators)))
-      ∙ turns.no_turn fields (copies_of m (root_words c m))
+      ap (λ xs. with_addresses xs (copies_of m (pins_below m c.mutators)))
+      (noted_both [] (copies_of m (roots_below m c.mutators)) (copies_of m (answers_below m c.mutators))
+      ∙ ap (with_addresses []) (sym (map-append (current_address m) (roots_below m c.mutators) (answers_below m c.mutators))))
+      ∙ noted_both [] (copies_of m (root_words c m)) (copies_of m (pins_below m c.mutators))
+      ∙ ap (with_addresses []) (sym (map-append (current_address m) (root_words c m) (pins_below m c.mutators)))
+      ∙ turns.no_turn fields (copies_of m (held_words c m))
 
   pub next_turn : (n a : ℕ) → slice_get (found n) n ≡ Some a → with_addresses (found n) (fields a) ≡ found (n + 1)
-  next_turn = turns.next_turn fields (copies_of m (root_words c m))
+  next_turn = turns.next_turn fields (copies_of m (held_words c m))
 
   pub last_turn : (n : ℕ) → length (found n) ≤ n → n ≤ heap_size c → found n ≡ held_in c m
-  last_turn n short few = turns.last_turn fields (copies_of m (root_words c m)) n (heap_size c) short few
+  last_turn n short few = turns.last_turn fields (copies_of m (held_words c m)) n (heap_size c) short few

@@ -5,6 +5,7 @@ use Rattle.heap_words.specs.declared.config.Config.{Config}
 use Rattle.heap_words.specs.Words.{Root, Count, Answer, Grey, Wait, word_at, view}
 use Rattle.heap_words.proofs.Stores.{view_word, view_none}
 use Rattle.full_words.specs.Full.{empty_regions}
+use Rattle.full_words.specs.Pinned.{set_of}
 use Rattle.full_cycle.specs.Steps.{IsChanged}
 
 pub changed_to : (f g t u : ℕ) (change : ℕ → ℕ) (before after : List ℕ) → f ≡ g → t ≡ u → IsChanged f t change before after → IsChanged g u change before after
@@ -45,11 +46,11 @@ nobody_waits c words t past = view_none c words (Wait t) (grind (arith, nat_test
 -- Empty regions.
 
 pub empty_none : (top : ℕ → ℕ) → 0 ≡ empty_regions top 0
-unfolding empty_regions
+unfolding set_of
 empty_none top = refl
 
 pub empty_more : (top : ℕ → ℕ) (r set free edge : ℕ) → edge ≡ top r → set ≡ cond (edge == 0) 1 0 * 2 ^ r → free ≡ empty_regions top r → free + set ≡ empty_regions top (r + 1)
-unfolding empty_regions
+unfolding set_of
 empty_more top r set free edge edge_is set_is free_is =
     let next : suc r ≡ r + 1 = omega arith in
     let one : set ≡ cond (top r == 0) 1 0 * 2 ^ r = set_is ∙ ap (λ e. cond (e == 0) 1 0 * 2 ^ r) edge_is in

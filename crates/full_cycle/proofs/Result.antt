@@ -1,7 +1,6 @@
 -- What a full collection does to the graph, and to who waits.
-use Rattle.std.proofs.Common.{◌≡◌, ◌≢◌, ℕ, ◌<◌, ◌↔◌, Option, Some, None, ⊎_elim, refl, sym, ap, ◌∙◌, subst, arith}
-use Rattle.std.specs.Prelude.{option_and_then}
-use Rattle.std.proofs.Math.Path.{fun_ext}
+use Rattle.std.proofs.Common.{◌≡◌, ◌≢◌, ℕ, ◌<◌, ◌↔◌, Option, ⊎_elim, refl, sym, ap, ◌∙◌, subst, arith}
+use Rattle.std.proofs.Math.Logic.{∥∥₁_map}
 use Rattle.heap_words.specs.declared.config.Config.{Config}
 use Rattle.heap_words.specs.Words.{Word, Top, Wait, Answer, Heap}
 use Rattle.heap_words.specs.Ranges.{seat_count}
@@ -11,28 +10,30 @@ use Rattle.shen_graph.specs.Graph.{Graph}
 use Rattle.heap_world.specs.World.{thing, Plot}
 use Rattle.packing.specs.Rooms.{NoneHasRoom, IsLowestRoom}
 use Rattle.full_words.specs.Held.{IsAmong}
-use Rattle.full_words.specs.Full.{now_in, root_words, kept_in, asked_in, packed_in, full_from, full}
-use Rattle.full_words.specs.Plot.{heap_end, origin, packed_block}
+use Rattle.full_words.specs.Pinned.{is_row_pinned}
+use Rattle.full_words.specs.Full.{now_in, held_words, kept_in, asked_in, packed_in, full_from, full}
+use Rattle.full_words.specs.Plot.{packed_block}
 use Rattle.full_words.specs.Promised.{Promises, with_promised}
 use Rattle.full_words.specs.Image.{ImageStands}
 use Rattle.full_words.specs.Serving.{served_block, served_promises}
 use Rattle.full_words.specs.Served.{tops_at_turn}
-use Rattle.full_words.proofs.Origin.{origin_is}
 use Rattle.full_words.proofs.Reached.{held_are_reachable}
 use Rattle.full_words.proofs.Walked.{walk_keeps}
 use Rattle.full_words.proofs.Served.{requests_are_answered}
 use Rattle.full_words.proofs.Serving.{full_stands}
 use Rattle.full_words.proofs.Still.{packed_wait}
-use Rattle.image_graph.specs.Holds.{HoldsBy}
-use Rattle.image_graph.specs.Buffers.{HoldsLetGo, LettingGoHolds}
+use Rattle.image_graph.specs.Holds.{HoldsBy, HoldsSized}
+use Rattle.image_graph.specs.Buffers.{LettingGoHolds}
 use Rattle.image_graph.specs.Left.{IsLeft}
+use Rattle.full_cycle.specs.Collect.{HoldsWalked}
 use Rattle.full_cycle.specs.Result.{KeptAreReachable, KeepsTheGraph, KeepsTheReachable, RefusesTheLeft}
+use Rattle.full_cycle.proofs.Holding.{parsed}
 
 -- what is kept of words that hold a graph is reached, and what is reached is kept
-reachable_kept : (c : Config) (m : Word → ℕ) (block : Plot) (owner : ℕ → Option ℕ) (p : Promises) (g : Graph) → HoldsBy c m block owner p g → KeptAreReachable c m block (with_promised g p)
+pub reachable_kept : (c : Config) (m : Word → ℕ) (block : Plot) (owner : ℕ → Option ℕ) (p : Promises) (g : Graph) → HoldsBy c m block owner p g → KeptAreReachable c m block (with_promised g p)
 reachable_kept c m block owner p g holds =
     let are = walk_keeps c m block (with_promised g p) holds.objects in
-    let reached = held_are_reachable c (λ r. m (Top r)) (λ a. m (Heap a)) block (now_in m) (IsAmong (root_words c m)) (with_promised g p) holds.objects in
+    let reached = held_are_reachable c (λ r. m (Top r)) (λ a. m (Heap a)) block (now_in m) (IsAmong (held_words c m)) (with_promised g p) holds.objects in
     record {
       only = λ a some. reached.only a (are.only a some);
       all = λ name is.
@@ -58,27 +59,24 @@ module _ (c : Config) (m : Word → ℕ) (lets : LettingGoHolds c m (let_go c m)
             (at.0, at.1, at.2, at.3, left.came at.0 (thing name at.1 at.2) refl at.4);
       }
 
-  -- what is packed are objects, which are where they were
-  module _ (block : Plot) (owner : ℕ → Option ℕ) (p : Promises) (g : Graph) (holds : HoldsBy c m block owner p g) where
-    abbrev left : HoldsLetGo c m gone block owner p g
-    left = lets block owner p g holds
-
-    same_origin : (o : Option ℕ) → ((a : ℕ) → o ≡ Some a → 0 < kept_in c gone a) → option_and_then left.pieces o ≡ option_and_then block o
-    same_origin None kept = refl
-    same_origin (Some a) kept =
-        let at = (reachable_kept c gone left.pieces owner p g left.holds).only a (kept a refl) in
-        at.3 ∙ sym (left.came a (thing at.0 at.1 at.2) refl at.3)
-
-    same_packed : packed_block c (kept_in c gone) left.pieces ≡ packed_block c (kept_in c gone) block
-    same_packed = fun_ext (λ place. same_origin (origin c.region_words (kept_in c gone) place (heap_end c))
-        (λ a is. (origin_is c.region_words (kept_in c gone) place (heap_end c) a is).0))
-
   pub keeps_graph : (after : Word → ℕ) → after ≡ full c m → KeepsTheGraph c m after
-  keeps_graph after is block owner p g holds =
+  keeps_graph after is block owner p g holds sized =
       let left = lets block owner p g holds in
-      subst (λ (k : Word → ℕ). ImageStands c k (served_block c (packed_in c gone) (packed_block c (kept_in c gone) block) c.mutators) g (served_promises c (packed_in c gone) p c.mutators)) (sym is)
-      (subst (λ (k : Plot). ImageStands c (full c m) (served_block c (packed_in c gone) k c.mutators) g (served_promises c (packed_in c gone) p c.mutators)) (same_packed block owner p g holds)
-      (full_stands c gone left.pieces g p left.holds.objects left.holds.rooted left.holds.asking))
+      record {
+        pieces = left.pieces;
+        came = left.came;
+        stands =
+            subst (λ (k : Word → ℕ). ImageStands c k (served_block c (packed_in c gone) (packed_block c (is_row_pinned c gone) (kept_in c gone) left.pieces) c.mutators) g
+            (served_promises c (packed_in c gone) p c.mutators)) (sym is)
+            (full_stands c gone left.pieces g p left.holds.objects left.holds.rooted
+            (parsed c gone left.pieces owner p g left.holds (left.sized sized) left.none) left.holds.asking);
+      }
+
+  -- and they hold it by pieces that can be walked
+  pub let_go_walked : HoldsSized c m → HoldsWalked c gone
+  let_go_walked holds = ∥∥₁_map holds (λ h.
+      let left = lets h.1 h.2 h.3 h.0 h.4 in
+      (h.0, left.pieces, h.2, h.3, left.holds, left.sized h.5, left.none))
 
 refuses : (c : Config) (m : Word → ℕ) (t : ℕ) → t < c.mutators → m (Wait t) ≢ 0 → (full_from c m (Answer t) ≡ 1) ↔ IsLeft c (packed_in c m) t
 refuses c m t inside waits =

@@ -1,26 +1,27 @@
 -- The heap of a table as a slice, and by the names of words.
-use Rattle.std.proofs.Common.{◌≡◌, ◌≢◌, ℕ, ◌+◌, ◌-◌, ◌/◌, ◌<◌, ◌≤◌, ◌⊎◌, ◌==◌, Bool, true, false, nat_le, nat_lt, cond, zero, suc, List, length, drop, get_or, inl, inr, ⊎_elim, sym, ap, ◌∙◌, subst, arith}
-use Rattle.std.proofs.lemmas.Bool.{cond-true, cond-false, cases_Bool, cases_lt, cases_eq, and_left, lt-leb, eq-eqb, ne_eqb}
+use Rattle.std.proofs.Common.{◌≡◌, ◌≢◌, ℕ, ◌+◌, ◌-◌, ◌*◌, ◌/◌, ◌<◌, ◌≤◌, ◌⊎◌, ◌==◌, if◌then◌else◌, Bool, true, false, nat_le, nat_lt, cond, zero, suc, List, length, drop, get_or, inl, inr, ⊎_elim, refl, sym, ap, ◌∙◌, subst, arith}
+use Rattle.std.proofs.lemmas.Bool.{cond-true, cond-false, cond_both, cases_Bool, cases_lt, cases_eq, and_left, lt-leb, eq-eqb, ne_eqb, false_from_ne_true}
 use Rattle.std.proofs.lemmas.Bool.Decides.{nat_tests}
 use Rattle.std.proofs.lemmas.List.{get_or-take, get_or-drop, get_or_past}
+use Rattle.std.proofs.lemmas.Nat.{mul-le}
 use Rattle.std.proofs.Math.Path.{fun_ext}
 use Rattle.heap_words.specs.declared.config.Config.{Config}
-use Rattle.heap_words.specs.Words.{Word, Pause, Left, End, State, Phase, Cset, Free, Evac, Claim, Ask, Top, Tams, Limit, Current, Root, Count, Buffer, Wait, Answer, Grey, Black, Heap, Share, IsWord, is_word, word_at, table_words, heap_size, heap_start, heap_in, view}
+use Rattle.heap_words.specs.Words.{Word, Pause, Left, End, State, Phase, Cset, Free, Evac, Claim, Ask, Top, Tams, Limit, Current, Root, Count, Buffer, Wait, Answer, Grey, Black, Heap, Share, Pin, IsWord, is_word, word_at, table_words, heap_size, heap_start, heap_in, view}
 use Rattle.heap_words.specs.Encoding.{refs_in, object_words, is_forwarded, forwardee_in}
 use Rattle.heap_words.proofs.Bounds.{heap_size_le}
 use Rattle.heap_words.proofs.Stores.{is_word_true, view_word, view_none}
 use Rattle.heap_graph.specs.Walk.{has, IsMarked}
-use Rattle.packing.specs.Places.{new_place, LieApart}
+use Rattle.packing.specs.Places.{open_kept, new_place, LieApart}
 use Rattle.packing.specs.Tops.{top_before, words_in}
-use Rattle.packing.proofs.Placed.{stays_above}
+use Rattle.packing.proofs.Placed.{covering, is_open, stays_above, places_apart}
 use Rattle.packing.proofs.Sums.{sum_of_none}
 use Rattle.packing.proofs.Tops.{added, place_in_range}
-use Rattle.packing.specs.Slide.{IsSlidTo, renewed, slid, slid_word, is_covered}
-use Rattle.packing.specs.Table.{word_of, kept_of, now_of, LeadsToKept, CanCompact}
+use Rattle.packing.specs.Slide.{IsSlidTo, PlacesApart, renewed, slid, slid_word, is_covered}
+use Rattle.packing.specs.Table.{word_of, kept_of, now_of, place_of, LeadsToKept, CanCompact}
 use Rattle.packing.proofs.Slid.{slid_word-same, slid_next, slid_none, slid_only, renewed_alike}
 use Rattle.packing.proofs.Flags.{kept_marked, kept_unmarked, kept_below}
 use Rattle.full_words.specs.Plot.{heap_end, packed_top}
-use Rattle.full_words.specs.Full.{now_in, held_in, kept_in}
+use Rattle.full_words.specs.Full.{now_in, held_in, kept_in, place_in, top_then, moved_heap}
 use Rattle.image_graph.specs.Pack.{IsPacked}
 use Rattle.image_graph.proofs.Packed.{heap_part}
 use Rattle.image_graph.proofs.Read.{heap_length}
@@ -45,7 +46,19 @@ heap_word c words whole a above =
 pub no_heap_word : (c : Config) (words : List ℕ) (a : ℕ) → a < c.region_words → view c words (Heap a) ≡ 0
 no_heap_word c words a below = view_none c words (Heap a) (and_left (nat_le c.region_words a) (nat_lt a (heap_end c)) (lt-leb c.region_words a below))
 
-module _ (c : Config) (words : List ℕ) (marks : List Bool) (found : List ℕ) (whole : length words ≡ table_words c) (flags : length marks ≡ heap_size c)
+-- one word of the heap after the kept objects were moved
+moved_is : (c : Config) (shut : ℕ → Bool) (now kept : ℕ → ℕ) (m : Word → ℕ) (a : ℕ)
+    → slid (place_in c shut kept) kept (renewed (place_in c shut kept) now) (λ x. m (Heap x)) (heap_end c) a ≡ moved_heap c shut now kept m a
+unfolding moved_heap
+moved_is c shut now kept m a = refl
+
+-- addresses of the heap lie in its first rows
+pub in_first_rows : (c : Config) (a n : ℕ) → 0 < n → a + n ≤ heap_end c → a < 65 * c.region_words
+in_first_rows c a n some inside =
+    let rows = mul-le (c.regions + 1) c.region_words 65 c.region_words (omega (arith, c.in_range.most_regions)) (omega arith) in
+    omega (arith, rows, inside, some)
+
+module _ (c : Config) (shut : ℕ → Bool) (words : List ℕ) (marks : List Bool) (found : List ℕ) (whole : length words ≡ table_words c) (flags : length marks ≡ heap_size c)
     (marked : IsMarked c.region_words marks found) (held : found ≡ held_in c (view c words)) (can : CanCollect c (view c words)) where
   abbrev w : ℕ
   w = c.region_words
@@ -126,22 +139,29 @@ module _ (c : Config) (words : List ℕ) (marks : List Bool) (found : List ℕ) 
         subst (LeadsToKept w heap marks) field (leads_to (m (Heap (a + 3 + i))) (can.fields a i some_kept few_fields));
   }
 
+  abbrev pub place : ℕ → ℕ
+  place = place_in c shut kept
+
+  -- no two kept objects have places that share a word
+  apart_places : PlacesApart place kept
+  apart_places = places_apart w shut kept can.apart (λ a some. in_first_rows c a (kept a) some (can.inside a some))
+
   -- which way a word is renewed
-  renewed_same : (word : ℕ) → LeadsToHeld c m word → renewed w (now_of w heap) (kept_of w heap marks) word ≡ renewed w (now_in m) kept word
+  renewed_same : (word : ℕ) → LeadsToHeld c m word → renewed (place_of w shut heap marks) (now_of w heap) word ≡ renewed place (now_in m) word
   renewed_same word leads = ⊎_elim
       (λ (null : word ≡ 0).
-      cond-true (word == 0) 0 (new_place w (kept_of w heap marks) (now_of w heap word)) (eq-eqb word 0 null)
-      ∙ sym (cond-true (word == 0) 0 (new_place w kept (now_in m word)) (eq-eqb word 0 null)))
+      cond-true (word == 0) 0 (place_of w shut heap marks (now_of w heap word)) (eq-eqb word 0 null)
+      ∙ sym (cond-true (word == 0) 0 (place (now_in m word)) (eq-eqb word 0 null)))
       (λ (some : word ≢ 0).
-      cond-false (word == 0) 0 (new_place w (kept_of w heap marks) (now_of w heap word)) (ne_eqb word 0 some)
-      ∙ ap (λ (k : ℕ → ℕ). new_place w k (now_of w heap word)) kept_same
-      ∙ ap (new_place w kept) (now_same word (leads some).0)
-      ∙ sym (cond-false (word == 0) 0 (new_place w kept (now_in m word)) (ne_eqb word 0 some)))
+      cond-false (word == 0) 0 (place_of w shut heap marks (now_of w heap word)) (ne_eqb word 0 some)
+      ∙ ap (λ (k : ℕ → ℕ). new_place w shut k (now_of w heap word)) kept_same
+      ∙ ap place (now_same word (leads some).0)
+      ∙ sym (cond-false (word == 0) 0 (place (now_in m word)) (ne_eqb word 0 some)))
       (cases_eq word 0)
 
-  module _ (after places : List ℕ) (long : length after ≡ table_words c) (packed : IsPacked c marks words after places) where
+  module _ (after places : List ℕ) (long : length after ≡ table_words c) (packed : IsPacked c shut marks words after places) where
     abbrev renew : ℕ → ℕ
-    renew = renewed w (now_in m) kept
+    renew = renewed place (now_in m)
 
     abbrev old_heap : ℕ → ℕ
     old_heap x = m (Heap x)
@@ -150,13 +170,13 @@ module _ (c : Config) (words : List ℕ) (marks : List Bool) (found : List ℕ) 
     new_heap x = view c after (Heap x)
 
     -- the slide, over the heap as a slice, ..
-    slid_slice : IsSlidTo (heap_end c) w kept renew (word_of w heap) (word_of w (heap_in c after))
+    slid_slice : IsSlidTo (heap_end c) w place kept renew (word_of w heap) (word_of w (heap_in c after))
     slid_slice =
         let end : w + heap_size c ≡ heap_end c = omega arith in
-        let by_kept : IsSlidTo (heap_end c) w kept (renewed w (now_of w heap) (kept_of w heap marks)) (word_of w heap) (word_of w (heap_in c after)) =
-        subst (λ (k : ℕ → ℕ). IsSlidTo (heap_end c) w k (renewed w (now_of w heap) (kept_of w heap marks)) (word_of w heap) (word_of w (heap_in c after))) kept_same
-        (subst (λ e. IsSlidTo e w (kept_of w heap marks) (renewed w (now_of w heap) (kept_of w heap marks)) (word_of w heap) (word_of w (heap_in c after))) end packed.slid) in
-        renewed_alike w kept (renewed w (now_of w heap) (kept_of w heap marks)) (word_of w heap) can.apart renew (heap_end c) (word_of w (heap_in c after))
+        let by_kept : IsSlidTo (heap_end c) w place kept (renewed (place_of w shut heap marks) (now_of w heap)) (word_of w heap) (word_of w (heap_in c after)) =
+        subst (λ (k : ℕ → ℕ). IsSlidTo (heap_end c) w (new_place w shut k) k (renewed (place_of w shut heap marks) (now_of w heap)) (word_of w heap) (word_of w (heap_in c after))) kept_same
+        (subst (λ e. IsSlidTo e w (place_of w shut heap marks) (kept_of w heap marks) (renewed (place_of w shut heap marks) (now_of w heap)) (word_of w heap) (word_of w (heap_in c after))) end packed.slid) in
+        renewed_alike place kept (renewed (place_of w shut heap marks) (now_of w heap)) (word_of w heap) renew w (heap_end c) (word_of w (heap_in c after))
         (λ a i some few.
         let above = can.apart.above a some in
         let shape = heap_word c words whole (a + 1) (omega (arith, above)) in
@@ -166,12 +186,13 @@ module _ (c : Config) (words : List ℕ) (marks : List Bool) (found : List ℕ) 
         by_kept
 
     -- .. and by names
-    slid_named : IsSlidTo (heap_end c) w kept renew old_heap new_heap
+    slid_named : IsSlidTo (heap_end c) w place kept renew old_heap new_heap
     slid_named = record {
       moved = λ a i below inside.
-          let above = can.apart.above a (omega (arith, inside)) in
-          let place = stays_above w kept can.apart a in
-          sym (heap_word c after long (new_place w kept a + i) (omega (arith, place)))
+          let some : 0 < kept a = omega (arith, inside) in
+          let above = can.apart.above a some in
+          let at = stays_above w shut kept can.apart a some in
+          sym (heap_word c after long (place a + i) (omega (arith, at)))
           ∙ slid_slice.moved a i below inside
           ∙ slid_word-same renew (word_of w heap) old_heap a a i (heap_word c words whole (a + 1) (omega (arith, above))) (heap_word c words whole (a + i) (omega (arith, above)));
       others = λ x above none.
@@ -179,35 +200,48 @@ module _ (c : Config) (words : List ℕ) (marks : List Bool) (found : List ℕ) 
     }
 
     -- below the heap nothing was slid
-    slid_below : (e x : ℕ) → x < w → slid w kept renew old_heap e x ≡ old_heap x
-    slid_below zero x below = slid_none w kept renew old_heap x
+    not_below : (a x : ℕ) → x < w → is_covered place kept a x ≡ false
+    not_below a x below = false_from_ne_true (is_covered place kept a x) (λ met.
+        let is = covering place kept a x met in
+        let at = stays_above w shut kept can.apart a is.2 in
+        omega (arith, is.0, at, below))
+
+    slid_below : (e x : ℕ) → x < w → slid place kept renew old_heap e x ≡ old_heap x
+    slid_below zero x below = slid_none place kept renew old_heap x
     slid_below (suc e) x below =
-        slid_next w kept renew old_heap e x
-        ∙ cond-false (is_covered w kept e x) (slid_word renew old_heap e (x - new_place w kept e)) (slid w kept renew old_heap e x)
-        (and_left (nat_le (new_place w kept e) x) (nat_lt x (new_place w kept e + kept e)) (lt-leb (new_place w kept e) x (let above = stays_above w kept can.apart e in omega (arith, above, below))))
+        slid_next place kept renew old_heap e x
+        ∙ cond-false (is_covered place kept e x) (slid_word renew old_heap e (x - place e)) (slid place kept renew old_heap e x) (not_below e x below)
         ∙ slid_below e x below
 
-    heap_moved : (x : ℕ) → new_heap x ≡ slid w kept renew old_heap (heap_end c) x
+    heap_moved : (x : ℕ) → new_heap x ≡ moved_heap c shut (now_in m) kept m x
     heap_moved x = ⊎_elim
         (λ (below : x < w). no_heap_word c after x below ∙ sym (no_heap_word c words x below) ∙ sym (slid_below (heap_end c) x below))
-        (λ (above : w ≤ x). slid_only w kept renew old_heap can.apart (heap_end c) new_heap slid_named x above)
+        (λ (above : w ≤ x). slid_only place kept renew old_heap apart_places w (heap_end c) new_heap slid_named x above)
         (cases_lt x w)
+        ∙ moved_is c shut (now_in m) kept m x
 
     -- the tops
-    no_top : (r : ℕ) → c.regions ≤ r → packed_top c kept r ≡ 0
-    no_top r past = sum_of_none (words_in w kept r) (heap_end c) (λ a below. ⊎_elim
-        (λ (none : words_in w kept r a ≡ 0). none)
-        (λ (there : (0 < kept a) × (new_place w kept a / w ≡ r + 1)).
-        absurd (let few = place_in_range w kept can.apart c.regions a there.0 below in let here = there.1 in omega (arith, few, here, past)))
-        (added w kept can.apart r a))
+    no_top : (r : ℕ) → c.regions ≤ r → packed_top c shut kept r ≡ 0
+    no_top r past = sum_of_none (words_in w shut kept r) (heap_end c) (λ a below. ⊎_elim
+        (λ (none : words_in w shut kept r a ≡ 0). none)
+        (λ (there : (0 < open_kept w shut kept a) × (new_place w shut kept a / w ≡ r + 1)).
+        absurd (let few = place_in_range w shut kept can.apart c.regions a (is_open w shut kept a there.0).0 below in let here = there.1 in omega (arith, few, here, past)))
+        (added w shut kept can.apart r a))
 
-    top_moved : (r : ℕ) → view c after (Top r) ≡ packed_top c kept r
+    abbrev placed_top : ℕ → (ℕ → ℕ) → ℕ → ℕ
+    placed_top r k e = if shut (r + 1) then m (Top r) else top_before w shut k r e
+
+    top_moved : (r : ℕ) → view c after (Top r) ≡ top_then c shut kept m r
     top_moved r = ⊎_elim
         (λ (inside : r < c.regions).
         let end : w + heap_size c ≡ heap_end c = omega arith in
         view_word c after (Top r) inside ∙ packed.tops r inside
-        ∙ ap (λ (k : ℕ → ℕ). top_before w k r (w + heap_size c)) kept_same ∙ ap (top_before w kept r) end)
-        (λ (past : c.regions ≤ r). view_none c after (Top r) (grind (arith, nat_tests)) ∙ sym (no_top r past))
+        ∙ ap (λ (y : ℕ). if shut (r + 1) then y else top_before w shut (kept_of w heap marks) r (w + heap_size c)) (sym (view_word c words (Top r) inside))
+        ∙ ap (λ (k : ℕ → ℕ). placed_top r k (w + heap_size c)) kept_same ∙ ap (placed_top r kept) end)
+        (λ (past : c.regions ≤ r).
+        let none : m (Top r) ≡ 0 = view_none c words (Top r) (grind (arith, nat_tests)) in
+        view_none c after (Top r) (grind (arith, nat_tests))
+        ∙ sym (cond_both (shut (r + 1)) (m (Top r)) (packed_top c shut kept r) (λ k. k ≡ 0) (λ _. none) (λ _. no_top r past)))
         (cases_lt r c.regions)
 
     -- and no other word
@@ -220,10 +254,19 @@ module _ (c : Config) (words : List ℕ) (marks : List Bool) (found : List ℕ) 
         (λ (no : is_word c v ≡ false). view_none c after v no ∙ sym (view_none c words v no))
         (cases_Bool (is_word c v))
 
-    moved_at : (v : Word) → view c after v ≡ moved_in c (now_in m) kept m v
+    behind_word : (v : Word) → (IsWord c v → heap_start c + heap_size c ≤ word_at c v) → view c after v ≡ m v
+    behind_word v place = ⊎_elim
+        (λ (yes : is_word c v ≡ true).
+        let is = is_word_true c v yes in
+        view_word c after v is ∙ packed.behind (word_at c v) (place is) ∙ sym (view_word c words v is))
+        (λ (no : is_word c v ≡ false). view_none c after v no ∙ sym (view_none c words v no))
+        (cases_Bool (is_word c v))
+
+    moved_at : (v : Word) → view c after v ≡ moved_in c shut (now_in m) kept m v
     moved_at (Heap a) = heap_moved a
     moved_at (Top r) = top_moved r
-    moved_at Share = view_word c after Share tt ∙ packed.behind (word_at c Share) (omega arith) ∙ sym (view_word c words Share tt)
+    moved_at Share = behind_word Share (λ is. omega arith)
+    moved_at (Pin t i) = behind_word (Pin t i) (λ is. omega (arith, is))
     moved_at Pause = other_word Pause (λ is. (omega (arith, is), inl (omega (arith, is))))
     moved_at Left = other_word Left (λ is. (omega (arith, is), inl (omega (arith, is))))
     moved_at End = other_word End (λ is. (omega (arith, is), inl (omega (arith, is))))
@@ -245,11 +288,11 @@ module _ (c : Config) (words : List ℕ) (marks : List Bool) (found : List ℕ) 
     moved_at (Grey n) = other_word (Grey n) (λ is. (omega (arith, is), inr (omega (arith, is))))
     moved_at (Black n) = other_word (Black n) (λ is. (omega (arith, is), inr (omega (arith, is))))
 
-    pub moved : view c after ≡ moved_in c (now_in m) kept m
+    pub moved : view c after ≡ moved_in c shut (now_in m) kept m
     moved = fun_ext moved_at
 
     -- each word that led to a kept object can be renewed
-    pub renews : (word : ℕ) → LeadsToHeld c m word → IsRenewedAs w (now_in m) kept places word
+    pub renews : (word : ℕ) → LeadsToHeld c m word → IsRenewedAs w place (now_in m) places word
     renews word leads =
         let by = packed.renews word (leads_to word leads) in
         record { in_table = by.in_table; renewed_as = by.renewed_as ∙ renewed_same word leads }

@@ -2,7 +2,7 @@
 use Rattle.std.proofs.Common.{◌≡◌, ℕ, ◌<◌, ◌≤◌, List, refl, ap, ◌∙◌, arith}
 use Rattle.std.proofs.Math.Path.{fun_ext}
 use Rattle.heap_words.specs.declared.config.Config.{Config}
-use Rattle.heap_words.specs.Words.{Word, Pause, Left, End, State, Phase, Cset, Free, Evac, Claim, Ask, Top, Tams, Limit, Current, Root, Count, Buffer, Wait, Answer, Grey, Black, Heap, Share, IsWord, word_at, view, write, heap_start}
+use Rattle.heap_words.specs.Words.{Word, Pause, Left, End, State, Phase, Cset, Free, Evac, Claim, Ask, Top, Tams, Limit, Current, Root, Count, Buffer, Wait, Answer, Grey, Black, Heap, Share, Pin, IsWord, word_at, view, write, heap_start}
 use Rattle.full_cycle.specs.Steps.{renewed_by, roots_renewed, calm, IsChanged}
 use Rattle.full_cycle.proofs.Rows.{hit, miss}
 
@@ -66,6 +66,7 @@ module _ (c : Config) (w0 w1 w2 w3 w4 w5 : List ℕ)
   calm_at (Grey n) = hit5 (Grey n) (λ is. (omega (arith, is), omega (arith, is)))
   calm_at (Black n) = hit5 (Black n) (λ is. (omega (arith, is), omega (arith, is)))
   calm_at (Heap a) = miss5 (Heap a) (λ is low high. omega (arith, is, low, high)) ∙ miss4 (Heap a) (λ is low high. omega (arith, is, low, high)) ∙ miss3 (Heap a) (λ is low high. omega (arith, is, low, high)) ∙ miss2 (Heap a) (λ is low high. omega (arith, is, low, high)) ∙ miss1 (Heap a) (λ is low high. omega (arith, is, low, high))
+  calm_at (Pin t i) = miss5 (Pin t i) (λ is low high. omega (arith, is, low, high)) ∙ miss4 (Pin t i) (λ is low high. omega (arith, is, low, high)) ∙ miss3 (Pin t i) (λ is low high. omega (arith, is, low, high)) ∙ miss2 (Pin t i) (λ is low high. omega (arith, is, low, high)) ∙ miss1 (Pin t i) (λ is low high. omega (arith, is, low, high))
 
   -- once five ranges are cleared, and no region is shared, nothing is left of a collection in progress
   pub calmed : write (view c w5) Share 0 ≡ calm (view c w0)
@@ -110,6 +111,7 @@ module _ (c : Config) (places w0 w1 w2 : List ℕ)
   renewed_at (Grey n) = answer_miss (Grey n) (λ is low high. omega (arith, is, low, high)) ∙ root_miss (Grey n) (λ is low high. omega (arith, is, low, high))
   renewed_at (Black n) = answer_miss (Black n) (λ is low high. omega (arith, is, low, high)) ∙ root_miss (Black n) (λ is low high. omega (arith, is, low, high))
   renewed_at (Heap a) = answer_miss (Heap a) (λ is low high. omega (arith, is, low, high)) ∙ root_miss (Heap a) (λ is low high. omega (arith, is, low, high))
+  renewed_at (Pin t i) = answer_miss (Pin t i) (λ is low high. omega (arith, is, low, high)) ∙ root_miss (Pin t i) (λ is low high. omega (arith, is, low, high))
 
   -- once two ranges are renewed, roots and answers are
   pub roots_are_renewed : view c w2 ≡ roots_renewed c places (view c w0)

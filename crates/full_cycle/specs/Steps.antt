@@ -1,21 +1,21 @@
 -- What each step of a full collection makes of the words of an image.
-use Rattle.std.specs.Prelude.{ℕ, ◌≡◌, ◌==◌, ◌&&◌, nat_le, nat_lt, if◌then◌else◌, List, slice_index}
+use Rattle.std.specs.Prelude.{ℕ, ◌≡◌, ◌==◌, ◌&&◌, nat_le, nat_lt, if◌then◌else◌, Bool, List, slice_index}
 use Rattle.heap_words.specs.declared.config.Config.{Config}
 use Rattle.heap_words.specs.Words.{Word, Phase, Cset, Evac, Claim, Ask, Top, Tams, Limit, Current, Root, Count, Wait, Answer, Grey, Black, Heap, Share}
-use Rattle.packing.specs.Slide.{renewed, slid}
+use Rattle.packing.specs.Slide.{renewed}
 use Rattle.packing.specs.Table.{from_table, IsInTable}
-use Rattle.full_words.specs.Plot.{heap_end, packed_top}
+use Rattle.full_words.specs.Full.{moved_heap, top_then}
 
 -- the words after the kept objects were packed: the heap and the tops
-abbrev pub moved_in : Config → (now kept : ℕ → ℕ) → (Word → ℕ) → Word → ℕ
-moved_in c now kept memory (Heap a) = slid c.region_words kept (renewed c.region_words now kept) (λ x. memory (Heap x)) (heap_end c) a
-moved_in c now kept memory (Top r) = packed_top c kept r
-moved_in c now kept memory word = memory word
+abbrev pub moved_in : Config → (shut : ℕ → Bool) (now kept : ℕ → ℕ) → (Word → ℕ) → Word → ℕ
+moved_in c shut now kept memory (Heap a) = moved_heap c shut now kept memory a
+moved_in c shut now kept memory (Top r) = top_then c shut kept memory r
+moved_in c shut now kept memory word = memory word
 
 -- a word is renewed by the table of new places as it should be
-pub record IsRenewedAs (first : ℕ) (now kept : ℕ → ℕ) (places : List ℕ) (word : ℕ) : Type 0 where
+pub record IsRenewedAs (first : ℕ) (place now : ℕ → ℕ) (places : List ℕ) (word : ℕ) : Type 0 where
   pub in_table : IsInTable first places word
-  pub renewed_as : from_table first places word ≡ renewed first now kept word
+  pub renewed_as : from_table first places word ≡ renewed place now word
 
 -- what a root or an answer becomes: 0 and 1 are no address
 abbrev pub renewed_by : (first : ℕ) (places : List ℕ) → ℕ → ℕ

@@ -1,5 +1,5 @@
-//! The full collection: keeps exactly the objects that roots and answers lead to, packs them in the order of their
-//! addresses, and serves the mutators that wait for an object, or answers that the heap is full.
+//! The full collection: keeps exactly the objects that roots, answers and pin slots lead to, packs them in the order of their
+//! addresses, around the regions where objects are pinned, and serves the mutators that wait for an object, or answers that the heap is full.
 #![tactic(auto)]
 
 mod calm;

@@ -1,10 +1,11 @@
-//! Finds the objects that roots and answers lead to.
+//! Finds the objects that roots, answers and pin slots lead to.
 
 ghost use Rattle.std.specs.Prelude.{ℕ, ◌≡◌, ◌+◌, ◌<◌, ◌≤◌, map};
 ghost use Rattle.std.specs.List.{range_with_len};
-ghost use Rattle.heap_words.specs.Words.{Root, Answer};
+ghost use Rattle.heap_words.specs.Words.{Root, Answer, Pin};
 ghost use Rattle.heap_graph.specs.Walk.{with_address, with_addresses};
 ghost use Rattle.full_words.specs.Full.{copies_of, roots_below, answers_below, field_words, held_in, kept_in};
+ghost use Rattle.full_words.specs.Pinned.{pins_below};
 ghost use Rattle.image_graph.specs.State.{config_of, memory_of, found_of, AreFound, IsUnchanged};
 ghost use Rattle.full_cycle.specs.Collect.{current_address, CanCollect, LeadsToHeld};
 
@@ -88,6 +89,36 @@ fn find_answers(image: &mut Image)
     }
 }
 
+// Notes what the pin slots of a mutator hold.
+fn find_pins(image: &mut Image, mutator: usize)
+    requires mutator { mutator < (config_of image.old).mutators }
+    requires can { CanCollect (config_of image.old) (memory_of image.old) }
+    requires found { AreFound image.old }
+    ensures unchanged { IsUnchanged image.old image.new }
+    ensures found { AreFound image.new }
+    ensures noted { found_of image.new ≡ with_addresses (found_of image.old) (copies_of (memory_of image.old) (map (λ i. memory_of image.old (Pin mutator i)) (range_with_len 0 4))) }
+{
+    let config = image.config();
+    for slot in 0..4 {
+        let word = image.word(config.pin_at(mutator, slot));
+        find_copy(image, word);
+    }
+}
+
+// Notes what the pin slots of all mutators hold.
+fn find_all_pins(image: &mut Image)
+    requires can { CanCollect (config_of image.old) (memory_of image.old) }
+    requires found { AreFound image.old }
+    ensures unchanged { IsUnchanged image.old image.new }
+    ensures found { AreFound image.new }
+    ensures noted { found_of image.new ≡ with_addresses (found_of image.old) (copies_of (memory_of image.old) (pins_below (memory_of image.old) (config_of image.old).mutators)) }
+{
+    let config = image.config();
+    for mutator in 0..config.mutators() {
+        find_pins(image, mutator);
+    }
+}
+
 // Notes what the references of an object name.
 fn find_fields(image: &mut Image, address: u64)
     requires can { CanCollect (config_of image.old) (memory_of image.old) }
@@ -105,7 +136,7 @@ fn find_fields(image: &mut Image, address: u64)
     }
 }
 
-/// Finds the objects that roots and answers lead to, by current copies, and no others. No word changes.
+/// Finds the objects that roots, answers and pin slots lead to, by current copies, and no others. No word changes.
 pub(crate) fn find_held(image: &mut Image)
     requires { CanCollect (config_of image.old) (memory_of image.old) }
     ensures unchanged { IsUnchanged image.old image.new }
@@ -115,6 +146,7 @@ pub(crate) fn find_held(image: &mut Image)
     image.forget_found();
     find_all_roots(image);
     find_answers(image);
+    find_all_pins(image);
     let mut turn = 0;
     while let Some(address) = image.found_at(turn) {
         find_fields(image, address);

@@ -1,12 +1,12 @@
 -- What is found in turns, each of which takes the next address of a list and adds its fields.
 use Rattle.std.proofs.Common.{◌≡◌, ℕ, ◌+◌, ◌-◌, ◌≤◌, zero, suc, List, [], ◌∷◌, ◌++◌, length, slice_get, Option, Some, None, refl, sym, ap, ◌∙◌, arith}
-use Rattle.heap_graph.specs.Walk.{with_address, with_addresses}
+use Rattle.heap_graph.specs.Walk.{with_addresses}
+use Rattle.heap_graph.proofs.Marks.{with_addresses-append}
 use Rattle.full_words.specs.Held.{with_fields, found_in}
 
 -- one list after another
 pub noted_both : (order xs ys : List ℕ) → with_addresses (with_addresses order xs) ys ≡ with_addresses order (xs ++ ys)
-noted_both order [] ys = refl
-noted_both order (x ∷ xs) ys = noted_both (with_address order x) xs ys
+noted_both order xs ys = sym (with_addresses-append order xs ys)
 
 -- what is nothing
 pub is_none : (o : Option ℕ) → ((x : ℕ) → o ≡ Some x → ⊥) → o ≡ None

@@ -1,9 +1,15 @@
 pub mod Named
+pub mod Rows
+pub mod Starts
+pub mod WalkedPieces
+pub mod Rooted
 pub mod Reached
 pub mod Origin
 pub mod Packed
 pub mod Things
+pub mod Filled
 pub mod FreeWord
+pub mod PinnedRows
 pub mod Buffers
 pub mod Image
 pub mod Found
@@ -11,6 +17,7 @@ pub mod Walked
 pub mod Served
 pub mod Live
 pub mod Promised
+pub mod Fewer
 pub mod Roots
 pub mod ImagesStand
 pub mod Made

@@ -7,14 +7,14 @@ use Rattle.std.proofs.lemmas.List.{length-replicate}
 use Rattle.std.proofs.lemmas.Nat.Bits.{bit_at_clear_same}
 use Rattle.std.proofs.lemmas.Option.{none-some, same_Some, slice_get_within}
 use Rattle.heap_words.specs.declared.config.Config.{Config}
-use Rattle.heap_words.specs.Words.{Word, Free, Top, Root, Wait, Answer, Heap}
-use Rattle.heap_words.specs.Encoding.{plain_header, object_words, refs_in, nums_in, shape_word, name_code, request_count_in, request_shape_in}
+use Rattle.heap_words.specs.Words.{Word, Free, Top, Root, Pin, Wait, Answer, Heap}
+use Rattle.heap_words.specs.Encoding.{plain_header, is_forwarded, object_words, refs_in, nums_in, shape_word, name_code, request_count_in, request_shape_in}
 use Rattle.regions.specs.Place.{base_of}
 use Rattle.regions.specs.Sets.{all_but}
 use Rattle.shen_graph.specs.declared.name.Name.{Name}
 use Rattle.shen_graph.specs.Graph.{Graph, Object, Reference, blank, same_name, same_reference}
 use Rattle.shen_graph.proofs.PlainLemmas.{same_name-true, same_name-itself}
-use Rattle.heap_world.specs.World.{Block, thing, hand, promised, carved, words_of, Plot, name_at, Points, IsPlotted, IsThing, AreObjects, IsFreeWord}
+use Rattle.heap_world.specs.World.{Block, thing, hand, promised, carved, filler, words_of, Plot, name_at, Points, IsPlotted, IsThing, AreObjects, IsFreeWord}
 use Rattle.heap_world.proofs.Updates.{updated, updated_else, updated_there}
 use Rattle.heap_world.proofs.Keeping.{points_stay}
 use Rattle.heap_world.proofs.Pointing.{named_piece}
@@ -22,11 +22,13 @@ use Rattle.heap_world.proofs.Pieces.{beside, piece_cases, object_reads}
 use Rattle.heap_world.proofs.FreeRegions.{free_without}
 use Rattle.heap_world.proofs.Joined as joined
 use Rattle.heap_world.proofs.Joined.{CanJoin}
-use Rattle.full_words.specs.Plot.{AreThings, NamedAreThings}
+use Rattle.full_words.specs.Held.{IsCopy}
+use Rattle.full_words.specs.Plot.{AreThings, FillersSay, NamedAreThings}
 use Rattle.full_words.proofs.Named.{named_things}
+use Rattle.full_words.proofs.Roots.{pin_stays}
 use Rattle.full_words.specs.Full.{made_word, made_in}
 use Rattle.full_words.specs.Promised.{Promises, with_promised}
-use Rattle.full_words.specs.Image.{AnswerStands, RootsStand, ImageStands}
+use Rattle.full_words.specs.Image.{AnswerStands, PinWordStands, RootsStand, ImageStands}
 use Rattle.full_words.specs.Serving.{asked_shape, asked_name, asked_piece, made_block, made_promise, IsAsking}
 
 -- the words of a new object, and the others
@@ -323,8 +325,33 @@ module _ (c : Config) (m : Word → ℕ) (block : Plot) (g : Graph) (p : Promise
   unfolding made_in
   roots_more u i below few = points_stay block new_block names_stay (m (Root u i)) (g.root (u + 1) i) (stands.rooted.roots u i below few)
 
+  -- the header of an old piece is as it was
+  old_header : (a : ℕ) (b : Block) → block a ≡ Some b → after (Heap a) ≡ heap a
+  old_header a b is = let plain : a + 0 ≡ a = omega arith in ap (λ k. after (Heap k)) (sym plain) ∙ old_word a 0 b is (stands.pieces.some a b is) ∙ ap heap plain
+
+  same_pin : (u i : ℕ) → after (Pin u i) ≡ m (Pin u i)
+  unfolding made_in
+  same_pin u i = refl
+
+  -- a pin slot holds what it held
+  pins_more : (u i : ℕ) → u < c.mutators → i < 4 → PinWordStands after new_block (after (Pin u i)) (g.pin (u + 1) i)
+  pins_more u i below few =
+      subst (λ word. PinWordStands after new_block word (g.pin (u + 1) i)) (sym (same_pin u i))
+      (pin_stays m after block new_block (m (Pin u i)) (g.pin (u + 1) i)
+      (λ name copy plain.
+      let stays : IsCopy new_block (m (Pin u i)) name = (copy.0, copy.1, joined.stays c top block r (m (Top r)) piece can (m (Pin u i)) (thing name copy.0 copy.1) copy.2) in
+      (stays, ap is_forwarded (old_header (m (Pin u i)) (thing name copy.0 copy.1) copy.2) ∙ plain))
+      (stands.rooted.pins u i below few))
+
   pub rooted_more : RootsStand c after new_block g more
-  rooted_more = record { roots = roots_more; answers = answers_more; no_more_roots = stands.rooted.no_more_roots; no_more_promised = promised_to }
+  rooted_more = record {
+    roots = roots_more;
+    answers = answers_more;
+    no_more_roots = stands.rooted.no_more_roots;
+    pins = pins_more;
+    no_more_pins = stands.rooted.no_more_pins;
+    no_more_promised = promised_to;
+  }
 
   -- another thread's words are as they were
   pub other_words : (u : ℕ) → t ≢ u → (after (Wait u) ≡ m (Wait u)) × (after (Answer u) ≡ m (Answer u))
@@ -372,9 +399,15 @@ module _ (c : Config) (m : Word → ℕ) (block : Plot) (g : Graph) (p : Promise
 
     are_things : AreThings new_block
     are_things a other is = ⊎_elim
-        (λ (made : (a ≡ address) × (piece ≡ other)). (new, refs_in (asked_shape m t), nums_in (asked_shape m t), sym made.1))
+        (λ (made : (a ≡ address) × (piece ≡ other)). inl (new, refs_in (asked_shape m t), nums_in (asked_shape m t), sym made.1))
         (λ (old : (a ≢ address) × (block a ≡ Some other)). whole.things a other old.1)
         (cases a other is)
+
+    fillers_say : FillersSay (λ x. after (Heap x)) new_block
+    fillers_say a words is = ⊎_elim
+        (λ (made : (a ≡ address) × (piece ≡ filler words)). absurd (let differ = made.1 in cc))
+        (λ (old : (a ≢ address) × (block a ≡ Some (filler words))). old_header a (filler words) old.1 ∙ whole.fillers a words old.1)
+        (cases a (filler words) is)
 
     pub made_stands : ImageStands c after new_block g more
     unfolding made_in
@@ -383,6 +416,7 @@ module _ (c : Config) (m : Word → ℕ) (block : Plot) (g : Graph) (p : Promise
       filled = joined.filled_more c top block r (m (Top r)) piece can whole.filled;
       objects = objects_more;
       things = are_things;
+      fillers = fillers_say;
       free_word = free_less (λ q. None) whole.free_word;
       rooted = rooted_more;
     }

@@ -1,6 +1,6 @@
 -- What is kept has no more words than what the graph reaches and what is promised.
-use Rattle.std.proofs.Common.{◌≡◌, ◌≢◌, ℕ, ◌+◌, ◌-◌, ◌<◌, ◌≤◌, ◌⊎◌, ◌==◌, inl, inr, Bool, true, false, zero, suc, cond, nat_lt, List, [], length, get_or, slice_get, replicate, sum_by, unwrap_or, Option, Some, None, ⊎_elim, sym, ap, ◌∙◌, arith}
-use Rattle.std.proofs.lemmas.Bool.{cond-true, cond-false, cases_Bool, cases_eq, eq-eqb, ne_eqb, lt-ltb, le-ltb, false≢true}
+use Rattle.std.proofs.Common.{◌≡◌, ℕ, ◌+◌, ◌-◌, ◌<◌, ◌≤◌, ◌⊎◌, inl, inr, Bool, true, false, zero, suc, cond, nat_lt, List, [], length, get_or, slice_get, replicate, sum_by, unwrap_or, Option, Some, None, ⊎_elim, sym, ap, ◌∙◌, subst, arith}
+use Rattle.std.proofs.lemmas.Bool.{cond-true, cond-false, cases_Bool, lt-ltb, le-ltb, false≢true}
 use Rattle.std.proofs.lemmas.List.{get_or_default, length-replicate}
 use Rattle.std.proofs.lemmas.Option.{none-some, same_Some}
 use Rattle.heap_words.specs.declared.config.Config.{Config}
@@ -15,6 +15,7 @@ use Rattle.heap_world.specs.World.{Plot}
 use Rattle.full_words.specs.Held.{IsLedTo, AreHeldKept, HoldsGraph}
 use Rattle.full_words.specs.Promised.{Promises, with_promised, AreFresh, words_if, promised_words}
 use Rattle.full_words.proofs.Live.{KeptOne, kept_one, one_name}
+use Rattle.full_words.proofs.Rooted.{IsPromisedRoot, IsPinRoot, root_cases}
 
 -- two references that are a name's are one
 pub same_reference-true : (r : Reference) (n : Name) → same_reference r (Some n) ≡ true → r ≡ Some n
@@ -56,9 +57,13 @@ module _ (threads : ℕ) (g : Graph) (p : Promises) (fresh : AreFresh threads g 
   -- the graph with the promised objects reaches what the graph reaches, and what is promised
   pub reaches_promised : (n : Name) → IsReachable more n → IsReachable g n ⊎ IsPromised n
   reaches_promised n (reach.from_root t i _ is) = ⊎_elim
-      (λ (extra : i ≡ 16). inr (t, sym (cond-true (i == 16) (p.ref t) (g.root t i) (eq-eqb i 16 extra)) ∙ is))
-      (λ (plain : i ≢ 16). inl (reach.from_root t i n (sym (cond-false (i == 16) (p.ref t) (g.root t i) (ne_eqb i 16 plain)) ∙ is)))
-      (cases_eq i 16)
+      (λ (extra : IsPromisedRoot g p t i n). inr (t, extra.1))
+      (λ (other : IsPinRoot g p t i n ⊎ (g.root t i ≡ Some n)). ⊎_elim
+      (λ (pin : IsPinRoot g p t i n). inl (subst (IsReachable g) pin.4 (reach.from_pin t (i - 17) pin.2 pin.3)))
+      (λ (plain : g.root t i ≡ Some n). inl (reach.from_root t i n plain))
+      other)
+      (root_cases g p t i n is)
+  reaches_promised _ (reach.from_pin t slot held is) = absurd (none-some held is)
   reaches_promised n (reach.from_field m _ field reached is) = ⊎_elim
       (λ (old : IsReachable g m). inl (reach.from_field m n field old (sym (ap (λ (o : Object). slice_get o.refs field) (old_object m old)) ∙ is)))
       (λ (new : IsPromised m).

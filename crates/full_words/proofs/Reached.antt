@@ -62,6 +62,7 @@ module _ (c : Config) (top heap : ℕ → ℕ) (block : Plot) (now : ℕ → ℕ
       let root = holds.root_held t i name is in
       let copy = holds.current root.0 name root.2 in
       (now root.0, copy.0, copy.1, from_root root.0 root.1 (none_at_0 c top block holds.plotted root.0 name root.2), copy.2)
+  reached_is_held _ (reach.from_pin t slot held is) = absurd (holds.pinless t slot held is)
   reached_is_held name (reach.from_field m _ field reached is) =
       let at = reached_is_held m reached in
       let object = holds.each at.0 at.1 at.2 m at.3 at.4 in

@@ -1,5 +1,5 @@
 -- The turns of the waiting threads, by the words of the image.
-use Rattle.std.proofs.Common.{◌≡◌, ◌≢◌, ℕ, ◌+◌, ◌-◌, ◌*◌, ◌<◌, ◌≤◌, ◌==◌, ◌⊎◌, inl, inr, zero, suc, cond, Option, Some, None, ⊎_elim, refl, sym, ap, ◌∙◌, arith}
+use Rattle.std.proofs.Common.{◌≡◌, ◌≢◌, ℕ, ◌+◌, ◌-◌, ◌*◌, ◌<◌, ◌≤◌, ◌==◌, ◌⊎◌, inl, inr, Bool, zero, suc, cond, Option, Some, None, ⊎_elim, refl, sym, ap, ◌∙◌, arith}
 use Rattle.std.proofs.lemmas.Bool.{cond-true, cond-false, cases_eq, eq-eqb, ne_eqb}
 use Rattle.heap_words.specs.declared.config.Config.{Config}
 use Rattle.heap_words.specs.Words.{Word, Top, Wait, Answer}
@@ -7,6 +7,7 @@ use Rattle.heap_words.specs.Encoding.{object_words, request_shape_in}
 use Rattle.regions.specs.Place.{base_of}
 use Rattle.packing.specs.Tops.{sum_below}
 use Rattle.packing.specs.Rooms.{lowest_room, taken_in, tops_served, room_at_turn, NoneHasRoom, IsLowestRoom}
+use Rattle.packing.specs.Laws.{count_where, tops_where}
 use Rattle.packing.proofs.Sums.{sum_same}
 use Rattle.packing.proofs.Rooms.{none_has_room, all_full, has_room, lowest_is, same_room, served_next, served_none, served_is, refused_among_granted}
 use Rattle.full_words.specs.Full.{asked_in, made_in, served_in, room_for, served, refused}
@@ -198,10 +199,10 @@ module _ (c : Config) (m : Word → ℕ) where
       one_or_none (Some r) is = inl (r, has_room c.region_words (tops_at_turn c m t) (asked t) c.regions r is)
 
       -- a request that is left is crowded out
-      left_among_granted : NoneHasRoom c.region_words (tops_at_turn c m t) (asked t) c.regions → asked t ≤ c.region_words
-          → c.regions * (c.region_words - asked t + 1) ≤ sum_below top c.regions + sum_below (given_in c m) t
-      left_among_granted full short =
-          refused_among_granted c.region_words c.regions asked top t short
+      left_among_granted : (test : ℕ → Bool) → NoneHasRoom c.region_words (tops_at_turn c m t) (asked t) c.regions → asked t ≤ c.region_words
+          → count_where test c.regions * (c.region_words - asked t + 1) ≤ tops_where test top c.regions + sum_below (given_in c m) t
+      left_among_granted test full short =
+          refused_among_granted c.region_words c.regions asked top t test short
           (all_full c.region_words (tops t) (asked t) c.regions (λ r below. let same = tops_are_served t r in omega (arith, full r below, same)))
 
       is_answered : IsAnswered c m t

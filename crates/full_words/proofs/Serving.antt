@@ -1,22 +1,23 @@
 -- Serving and refusing keep the graph, and so does a full collection.
-use Rattle.std.proofs.Common.{◌≡◌, ◌≢◌, ℕ, ◌+◌, ◌<◌, ◌≤◌, ◌==◌, inl, cond, nat_le, zero, suc, Option, Some, None, ⊎_elim, refl, sym, ap, ◌∙◌, subst, arith}
+use Rattle.std.proofs.Common.{◌≡◌, ◌≢◌, ℕ, ◌+◌, ◌<◌, ◌≤◌, ◌==◌, inl, cond, nat_le, Bool, zero, suc, Option, Some, None, ⊎_elim, refl, sym, ap, ◌∙◌, subst, arith}
 use Rattle.std.proofs.Math.Path.{fun_ext}
 use Rattle.std.proofs.lemmas.Bool.{cond-true, cond-false, cases_eq, eq-eqb, ne_eqb, le-leb}
 use Rattle.std.proofs.lemmas.Option.{none-some}
 use Rattle.heap_words.specs.declared.config.Config.{Config}
-use Rattle.heap_words.specs.Words.{Word, Top, Wait, Answer, Heap}
+use Rattle.heap_words.specs.Words.{Word, Top, Pin, Wait, Answer, Heap}
 use Rattle.heap_words.specs.Encoding.{object_words}
-use Rattle.packing.specs.Places.{new_place}
 use Rattle.packing.proofs.Rooms.{has_room}
 use Rattle.shen_graph.specs.declared.name.Name.{Name}
 use Rattle.shen_graph.specs.Graph.{Graph}
 use Rattle.heap_world.specs.World.{Plot, name_at}
 use Rattle.full_words.specs.Held.{IsAmong, HoldsGraph}
-use Rattle.full_words.specs.Plot.{packed_block}
-use Rattle.full_words.specs.Full.{now_in, root_words, kept_in, packed, served_in, room_for, served, refused, full_from}
+use Rattle.full_words.specs.Plot.{AreParsed, packed_block}
+use Rattle.full_words.specs.Pinned.{is_row_pinned}
+use Rattle.full_words.specs.Full.{now_in, held_words, kept_in, place_in, packed, served_in, room_for, served, refused, full_from}
 use Rattle.full_words.specs.Promised.{Promises, with_promised}
 use Rattle.full_words.specs.Image.{AnswerStands, RootsStand, ImageStands}
 use Rattle.full_words.specs.Serving.{asked_shape, made_block, made_promise, turn_room, served_block, served_promises, AreAsking}
+use Rattle.full_words.proofs.Roots.{pin_stays}
 use Rattle.full_words.proofs.ImagesStand.{packed_stands}
 use Rattle.full_words.proofs.Served.{served_first, turn_idle, turn_waits, before_turn, after_turn, own_wait}
 use Rattle.full_words.proofs.Made.{can_make, made_stands, other_words, other_asks}
@@ -100,6 +101,7 @@ refused_stands c m block g p stands unanswered = record {
   filled = stands.filled;
   objects = stands.objects;
   things = stands.things;
+  fillers = stands.fillers;
   free_word = stands.free_word;
   rooted = record {
     roots = stands.rooted.roots;
@@ -115,35 +117,37 @@ refused_stands c m block g p stands unanswered = record {
         inl (omega (arith, one), nothing))
         (cases_eq (m (Wait t)) 0);
     no_more_roots = stands.rooted.no_more_roots;
+    pins = λ t i inside few. pin_stays m (refused m) block block (m (Pin t i)) (g.pin (t + 1) i) (λ name copy plain. (copy, plain)) (stands.rooted.pins t i inside few);
+    no_more_pins = stands.rooted.no_more_pins;
     no_more_promised = stands.rooted.no_more_promised;
   };
 }
 
 -- packing leaves requests as they are
-packed_asks : (c : Config) (m : Word → ℕ) (now kept : ℕ → ℕ) (g : Graph) (p : Promises) → AreAsking c m g p 0 → AreAsking c (packed c now kept m) g p 0
+packed_asks : (c : Config) (m : Word → ℕ) (shut : ℕ → Bool) (now kept : ℕ → ℕ) (g : Graph) (p : Promises) → AreAsking c m g p 0 → AreAsking c (packed c shut now kept m) g p 0
 unfolding packed
-packed_asks c m now kept g p asking t later inside some =
+packed_asks c m shut now kept g p asking t later inside some =
     let asks = asking t later inside some in
     record {
       shape = asks.shape;
       few_refs = asks.few_refs;
       few_nums = asks.few_nums;
       unanswered =
-          cond-true (nat_le (m (Answer t)) 1) (m (Answer t)) (new_place c.region_words kept (now (m (Answer t)))) (le-leb (m (Answer t)) 1 (omega (arith, asks.unanswered))) ∙ asks.unanswered;
+          cond-true (nat_le (m (Answer t)) 1) (m (Answer t)) (place_in c shut kept (now (m (Answer t)))) (le-leb (m (Answer t)) 1 (omega (arith, asks.unanswered))) ∙ asks.unanswered;
       new = asks.new;
     }
 
 -- a full collection keeps the graph
 pub full_stands : (c : Config) (m : Word → ℕ) (block : Plot) (g : Graph) (p : Promises)
-    → HoldsGraph c (λ r. m (Top r)) (λ a. m (Heap a)) block (now_in m) (IsAmong (root_words c m)) (with_promised g p)
-    → RootsStand c m block g p → AreAsking c m g p 0
-    → ImageStands c (full_from c m) (served_block c (packed c (now_in m) (kept_in c m) m) (packed_block c (kept_in c m) block) c.mutators) g
-    (served_promises c (packed c (now_in m) (kept_in c m) m) p c.mutators)
-full_stands c m block g p holds rooted asking =
-    let after : Word → ℕ = packed c (now_in m) (kept_in c m) m in
-    let plot : Plot = packed_block c (kept_in c m) block in
-    let packed_is = packed_stands c m block g p holds rooted in
-    let asks = packed_asks c m (now_in m) (kept_in c m) g p asking in
+    → HoldsGraph c (λ r. m (Top r)) (λ a. m (Heap a)) block (now_in m) (IsAmong (held_words c m)) (with_promised g p)
+    → RootsStand c m block g p → AreParsed c (is_row_pinned c m) (λ r. m (Top r)) (λ a. m (Heap a)) block → AreAsking c m g p 0
+    → ImageStands c (full_from c m) (served_block c (packed c (is_row_pinned c m) (now_in m) (kept_in c m) m) (packed_block c (is_row_pinned c m) (kept_in c m) block) c.mutators) g
+    (served_promises c (packed c (is_row_pinned c m) (now_in m) (kept_in c m) m) p c.mutators)
+full_stands c m block g p holds rooted parsed asking =
+    let after : Word → ℕ = packed c (is_row_pinned c m) (now_in m) (kept_in c m) m in
+    let plot : Plot = packed_block c (is_row_pinned c m) (kept_in c m) block in
+    let packed_is = packed_stands c m block g p holds rooted parsed in
+    let asks = packed_asks c m (is_row_pinned c m) (now_in m) (kept_in c m) g p asking in
     refused_stands c (served c after c.mutators) (served_block c after plot c.mutators) g (served_promises c after p c.mutators)
     (served_stands c g after plot p packed_is asks c.mutators (omega arith))
     (left_unanswered c g after plot p packed_is asks)

@@ -2,7 +2,7 @@
 use Rattle.std.proofs.Common.{◌≡◌, ◌≢◌, ℕ, zero, suc, Option, Some, None, ⊎_elim, refl, ◌∙◌}
 use Rattle.std.proofs.lemmas.Bool.{cases_eq}
 use Rattle.heap_words.specs.declared.config.Config.{Config}
-use Rattle.heap_words.specs.Words.{Word, Phase, Cset, Evac, Current, Wait, Share}
+use Rattle.heap_words.specs.Words.{Word, Phase, Cset, Evac, Current, Wait, Share, Pin}
 use Rattle.full_words.specs.Full.{packed, packed_in, made_in, served_in, room_for, served, refused, full_from}
 use Rattle.full_words.proofs.Served.{served_first, turn_idle, turn_waits}
 
@@ -40,6 +40,11 @@ full_current c m s = full_still c (Current s) (λ w t r. refl) m (λ w. refl)
 pub full_share : (c : Config) (m : Word → ℕ) → full_from c m Share ≡ 0
 unfolding packed made_in refused
 full_share c m = full_still c Share (λ w t r. refl) m (λ w. refl)
+
+-- and those of the pin slots, which it leaves as they were
+pub full_pin : (c : Config) (m : Word → ℕ) (t i : ℕ) → full_from c m (Pin t i) ≡ m (Pin t i)
+unfolding packed made_in refused
+full_pin c m t i = full_still c (Pin t i) (λ w u r. refl) m (λ w. refl)
 
 -- nobody waits
 pub full_wait : (c : Config) (m : Word → ℕ) (t : ℕ) → full_from c m (Wait t) ≡ 0

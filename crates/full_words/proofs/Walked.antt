@@ -11,12 +11,12 @@ use Rattle.shen_graph.specs.Graph.{Graph}
 use Rattle.heap_world.specs.World.{Plot, thing}
 use Rattle.heap_world.proofs.Pointing.{piece_inside}
 use Rattle.full_words.specs.Held.{IsLedTo, from_root, from_field, IsAmong, AreHeldKept, HoldsGraph}
-use Rattle.full_words.specs.Full.{now_in, root_words, field_words, copies_of, held_in, kept_in}
+use Rattle.full_words.specs.Full.{now_in, held_words, field_words, copies_of, held_in, kept_in}
 use Rattle.full_words.proofs.Reached.{held_is_reached}
 use Rattle.full_words.proofs.Found.{has_map, map_has, range_has, roots_found, found_held, found_closed}
 
 module _ (c : Config) (memory : Word → ℕ) (block : Plot) (g : Graph)
-    (holds : HoldsGraph c (λ r. memory (Top r)) (λ a. memory (Heap a)) block (now_in memory) (IsAmong (root_words c memory)) g) where
+    (holds : HoldsGraph c (λ r. memory (Top r)) (λ a. memory (Heap a)) block (now_in memory) (IsAmong (held_words c memory)) g) where
   abbrev heap : ℕ → ℕ
   heap a = memory (Heap a)
 
@@ -24,7 +24,7 @@ module _ (c : Config) (memory : Word → ℕ) (block : Plot) (g : Graph)
   now = now_in memory
 
   abbrev Held : ℕ → Type 0
-  Held = IsLedTo now heap (IsAmong (root_words c memory))
+  Held = IsLedTo now heap (IsAmong (held_words c memory))
 
   abbrev copy : ℕ → ℕ
   copy word = cond (word == 0) 0 (now word)
@@ -33,12 +33,12 @@ module _ (c : Config) (memory : Word → ℕ) (block : Plot) (g : Graph)
   fields a = copies_of memory (field_words memory a)
 
   abbrev roots : List ℕ
-  roots = copies_of memory (root_words c memory)
+  roots = copies_of memory (held_words c memory)
 
   -- what is held lies in the heap
   held_inside : (a : ℕ) → Held a → (c.region_words ≤ a) × (a < c.region_words + c.regions * c.region_words)
   held_inside a held =
-      let at = held_is_reached c (λ r. memory (Top r)) heap block now (IsAmong (root_words c memory)) g holds a held in
+      let at = held_is_reached c (λ r. memory (Top r)) heap block now (IsAmong (held_words c memory)) g holds a held in
       let inside = piece_inside c (λ r. memory (Top r)) block holds.plotted a (thing at.0 at.1 at.2) at.3 in
       (inside.0, omega (arith, inside.1))
 
@@ -58,7 +58,7 @@ module _ (c : Config) (memory : Word → ℕ) (block : Plot) (g : Graph)
 
   pub root_held : (q : ℕ) → q ≢ 0 → has roots q ≡ true → Held q
   root_held q other is =
-      let root = has_map copy (root_words c memory) q is in
+      let root = has_map copy (held_words c memory) q is in
       let at = copy_of root.0 q other root.2 in
       subst Held at.1 (from_root root.0 root.1 at.0)
 
@@ -74,7 +74,7 @@ module _ (c : Config) (memory : Word → ℕ) (block : Plot) (g : Graph)
   held_is_found _ (from_root word is some) =
       let inside = held_inside (now word) (from_root word is some) in
       roots_found fields roots (c.regions * c.region_words) (now word) (omega (arith, inside.0, c.in_range.least_words))
-      (ap (has roots) (sym (copied word some)) ∙ map_has copy (root_words c memory) word is)
+      (ap (has roots) (sym (copied word some)) ∙ map_has copy (held_words c memory) word is)
   held_is_found _ (from_field a i held few some) =
       let word = field a i in
       let inside = held_inside (now word) (from_field a i held few some) in

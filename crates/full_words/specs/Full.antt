@@ -1,18 +1,21 @@
--- What a full collection makes of the words of an image: the held objects are packed, waiting requests are served, and
--- those that are left are refused. Everything here is a function of the words alone.
-use Rattle.std.specs.Prelude.{ℕ, ◌+◌, ◌*◌, ◌^◌, ◌==◌, ◌&&◌, nat_le, nat_lt, if◌then◌else◌, bit_and, List, [], ◌∷◌, ◌++◌, map, Option, Some, None, zero, suc}
+-- What a full collection makes of the words of an image: the held objects are packed around the pinned regions, what is not held there
+-- becomes words that only fill, waiting requests are served, and those that are left are refused. Everything here is a function of the words alone.
+use Rattle.std.specs.Prelude.{ℕ, ◌+◌, ◌*◌, ◌==◌, ◌&&◌, not, nat_le, nat_lt, if◌then◌else◌, Bool, bit_and, List, [], ◌∷◌, ◌++◌, map, Option, Some, None, zero, suc}
 use Rattle.std.specs.List.{range_with_len}
 use Rattle.heap_words.specs.declared.config.Config.{Config}
-use Rattle.heap_words.specs.Words.{Word, Pause, Left, End, State, Phase, Cset, Free, Evac, Claim, Ask, Top, Tams, Limit, Current, Root, Count, Buffer, Wait, Answer, Grey, Black, Heap, Share}
-use Rattle.heap_words.specs.Encoding.{plain_header, is_forwarded, forwardee_in, refs_in, object_words, name_code, request_count_in, request_shape_in}
+use Rattle.heap_words.specs.Words.{Word, Pause, Left, End, State, Phase, Cset, Free, Evac, Claim, Ask, Top, Tams, Limit, Current, Root, Count, Buffer, Wait, Answer, Grey, Black, Heap, Share, Pin}
+use Rattle.heap_words.specs.Encoding.{plain_header, is_forwarded, forwardee_in, filler_header, refs_in, object_words, name_code, request_count_in, request_shape_in}
 use Rattle.regions.specs.Place.{base_of}
 use Rattle.regions.specs.Sets.{all_but}
 use Rattle.packing.specs.Places.{new_place}
+use Rattle.regions.specs.Place.{region_with}
+use Rattle.regions.specs.Walk.{is_filler}
 use Rattle.packing.specs.Rooms.{lowest_room}
 use Rattle.packing.specs.Slide.{renewed, slid}
 use Rattle.buffer_words.specs.LetGo.{let_go}
 use Rattle.heap_graph.specs.Walk.{has}
 use Rattle.full_words.specs.Held.{found_in}
+use Rattle.full_words.specs.Pinned.{pins_below, set_of, is_row_pinned, begins}
 use Rattle.full_words.specs.Plot.{heap_end, packed_top}
 
 -- the address of the current copy of what begins at an address, by its header
@@ -31,9 +34,13 @@ abbrev pub answers_below : (Word → ℕ) → ℕ → List ℕ
 answers_below memory zero = []
 answers_below memory (suc t) = answers_below memory t ++ (if nat_le (memory (Answer t)) 1 then [] else memory (Answer t) ∷ [])
 
--- the words that hold objects: roots, and answers that nobody has taken yet
+-- the words that name objects, and are renewed when these move: roots, and answers that nobody has taken yet
 abbrev pub root_words : Config → (Word → ℕ) → List ℕ
 root_words c memory = roots_below memory c.mutators ++ answers_below memory c.mutators
+
+-- the words that hold objects: these and the pin slots, whose objects do not move
+abbrev pub held_words : Config → (Word → ℕ) → List ℕ
+held_words c memory = root_words c memory ++ pins_below memory c.mutators
 
 -- the references of the object at an address
 abbrev pub field_words : (Word → ℕ) → ℕ → List ℕ
@@ -43,9 +50,9 @@ field_words memory a = map (λ i. memory (Heap (a + 3 + i))) (range_with_len 0 (
 abbrev pub copies_of : (Word → ℕ) → List ℕ → List ℕ
 copies_of memory = map (λ word. if word == 0 then 0 else now_in memory word)
 
--- the addresses of all objects that the root words lead to, by current copies: as many turns as the heap has words are enough
+-- the addresses of all objects that these lead to, by current copies: as many turns as the heap has words are enough
 abbrev pub held_in : Config → (Word → ℕ) → List ℕ
-held_in c memory = found_in (λ a. copies_of memory (field_words memory a)) (copies_of memory (root_words c memory)) (c.regions * c.region_words)
+held_in c memory = found_in (λ a. copies_of memory (field_words memory a)) (copies_of memory (held_words c memory)) (c.regions * c.region_words)
 
 -- how many words each of them has, and 0 for each other address
 abbrev pub kept_in : Config → (Word → ℕ) → ℕ → ℕ
@@ -54,45 +61,62 @@ kept_in c memory a = if has (held_in c memory) a then object_words (memory (Heap
 -- Packing.
 
 -- the set of the regions below a number that have top 0
-unfoldable pub empty_regions : (top : ℕ → ℕ) → ℕ → ℕ
-empty_regions top zero = 0
-empty_regions top (suc r) = (if top r == 0 then 1 else 0) * 2 ^ r + empty_regions top r
+abbrev pub empty_regions : (top : ℕ → ℕ) → ℕ → ℕ
+empty_regions top = set_of (λ r. top r == 0)
+
+-- the new place of a kept object: in a pinned region, by the row, it stays
+abbrev pub place_in : Config → (shut : ℕ → Bool) (kept : ℕ → ℕ) → ℕ → ℕ
+place_in c shut kept = new_place c.region_words shut kept
 
 -- an answer that is an address is renewed as a root is
-abbrev pub renewed_answer : (region_words : ℕ) (now kept : ℕ → ℕ) → ℕ → ℕ
-renewed_answer region_words now kept word = if nat_le word 1 then word else new_place region_words kept (now word)
+abbrev pub renewed_answer : (place now : ℕ → ℕ) → ℕ → ℕ
+renewed_answer place now word = if nat_le word 1 then word else place (now word)
 
--- The words after the kept objects were packed: objects at their new places, references renewed, tops and the free word by
--- what was placed. Nothing of a collection in progress is left. Words that no object covers stay, and so do requests, what
--- SATB buffers had in them, and the words of the machines themselves.
-unfoldable pub packed : Config → (now kept : ℕ → ℕ) → (Word → ℕ) → Word → ℕ
-packed c now kept memory (Heap a) = slid c.region_words kept (renewed c.region_words now kept) (λ x. memory (Heap x)) (heap_end c) a
-packed c now kept memory (Root t i) = renewed c.region_words now kept (memory (Root t i))
-packed c now kept memory (Answer t) = renewed_answer c.region_words now kept (memory (Answer t))
-packed c now kept memory (Top r) = packed_top c kept r
-packed c now kept memory Free = empty_regions (packed_top c kept) c.regions
-packed c now kept memory Phase = 0
-packed c now kept memory Cset = 0
-packed c now kept memory Evac = 0
-packed c now kept memory Claim = 0
-packed c now kept memory Ask = 0
-packed c now kept memory (Tams r) = 0
-packed c now kept memory (Limit r) = 0
-packed c now kept memory (Current seat) = 0
-packed c now kept memory Share = 0
-packed c now kept memory (Count t) = 0
-packed c now kept memory (Grey n) = 0
-packed c now kept memory (Black n) = 0
-packed c now kept memory (Wait t) = memory (Wait t)
-packed c now kept memory (Buffer t i) = memory (Buffer t i)
-packed c now kept memory (State seat) = memory (State seat)
-packed c now kept memory Pause = memory Pause
-packed c now kept memory Left = memory Left
-packed c now kept memory End = memory End
+-- what is left over in pinned regions: objects that are not kept. Words that only fill are none
+abbrev pub is_unkept : (kept : ℕ → ℕ) → (Word → ℕ) → ℕ → Bool
+is_unkept kept memory a = not (is_filler (memory (Heap a))) && (kept a == 0)
+
+-- the top of each region then: that of a pinned region stays
+abbrev pub top_then : Config → (shut : ℕ → Bool) (kept : ℕ → ℕ) → (Word → ℕ) → ℕ → ℕ
+top_then c shut kept memory r = if shut (r + 1) then memory (Top r) else packed_top c shut kept r
+
+-- the heap after the kept objects were moved
+unfoldable pub moved_heap : Config → (shut : ℕ → Bool) (now kept : ℕ → ℕ) → (Word → ℕ) → ℕ → ℕ
+moved_heap c shut now kept memory a = slid (place_in c shut kept) kept (renewed (place_in c shut kept) now) (λ x. memory (Heap x)) (heap_end c) a
+
+-- The words after the kept objects were packed: objects at their new places, references renewed, what is left over in pinned regions
+-- only fills, tops and the free word by what was placed. Nothing of a collection in progress is left. Words that no object covers stay,
+-- and so do requests, pin slots, what SATB buffers had in them, and the words of the machines themselves.
+unfoldable pub packed : Config → (shut : ℕ → Bool) (now kept : ℕ → ℕ) → (Word → ℕ) → Word → ℕ
+packed c shut now kept memory (Heap a) =
+    if shut (region_with c a + 1) && (begins c memory a && is_unkept kept memory a) then filler_header (object_words (memory (Heap (a + 1)))) else moved_heap c shut now kept memory a
+packed c shut now kept memory (Root t i) = renewed (place_in c shut kept) now (memory (Root t i))
+packed c shut now kept memory (Answer t) = renewed_answer (place_in c shut kept) now (memory (Answer t))
+packed c shut now kept memory (Pin t i) = memory (Pin t i)
+packed c shut now kept memory (Top r) = top_then c shut kept memory r
+packed c shut now kept memory Free = empty_regions (top_then c shut kept memory) c.regions
+packed c shut now kept memory Phase = 0
+packed c shut now kept memory Cset = 0
+packed c shut now kept memory Evac = 0
+packed c shut now kept memory Claim = 0
+packed c shut now kept memory Ask = 0
+packed c shut now kept memory (Tams r) = 0
+packed c shut now kept memory (Limit r) = 0
+packed c shut now kept memory (Current seat) = 0
+packed c shut now kept memory Share = 0
+packed c shut now kept memory (Count t) = 0
+packed c shut now kept memory (Grey n) = 0
+packed c shut now kept memory (Black n) = 0
+packed c shut now kept memory (Wait t) = memory (Wait t)
+packed c shut now kept memory (Buffer t i) = memory (Buffer t i)
+packed c shut now kept memory (State seat) = memory (State seat)
+packed c shut now kept memory Pause = memory Pause
+packed c shut now kept memory Left = memory Left
+packed c shut now kept memory End = memory End
 
 -- the words after packing, before requests are served
 abbrev pub packed_in : Config → (Word → ℕ) → Word → ℕ
-packed_in c memory = packed c (now_in memory) (kept_in c memory) memory
+packed_in c memory = packed c (is_row_pinned c memory) (now_in memory) (kept_in c memory) memory
 
 -- Serving.
 

@@ -3,6 +3,7 @@ use Rattle.std.specs.Prelude.{ℕ, true, ◌≡◌, ◌≢◌, ◌+◌, ◌<◌,
 use Rattle.heap_words.specs.declared.config.Config.{Config}
 use Rattle.heap_words.specs.Encoding.{refs_in, object_words}
 use Rattle.shen_graph.specs.declared.name.Name.{Name}
+use Rattle.shen_graph.specs.declared.pin.Pinned.{Pinned}
 use Rattle.shen_graph.specs.Graph.{Graph, Object}
 use Rattle.heap_graph.specs.Walk.{has, with_addresses}
 use Rattle.heap_world.specs.World.{Plot, thing, name_at, IsPlotted, IsThing}
@@ -36,8 +37,8 @@ abbrev pub IsCopy : Plot → ℕ → Name → Type 0
 IsCopy block a name = (refs : ℕ) × (nums : ℕ) × (block a ≡ Some (thing name refs nums))
 
 -- The words of a heap stand for a graph, where objects may have old copies: whatever stands for a name has its current
--- copy, each object that is held is one of the graph, and root words stand for the roots. Nothing is asked of objects
--- that are not held.
+-- copy, each object that is held is one of the graph, and root words stand for the roots, which are all that the graph's objects are
+-- reached from: it has no pins. Nothing is asked of objects that are not held.
 pub record HoldsGraph (c : Config) (top heap : ℕ → ℕ) (block : Plot) (now : ℕ → ℕ) (IsRoot : ℕ → Type 0) (g : Graph) : Type 0 where
   pub plotted : IsPlotted c top block
   pub current : (word : ℕ) (name : Name) → name_at (block word) ≡ Some name → IsCopy block (now word) name
@@ -47,3 +48,4 @@ pub record HoldsGraph (c : Config) (top heap : ℕ → ℕ) (block : Plot) (now 
       → block a ≡ Some (thing name refs nums) → block b ≡ Some (thing name more_refs more_nums) → a ≡ b
   pub root_named : (word : ℕ) → IsRoot word → word ≢ 0 → (t : ℕ) × (i : ℕ) × (name : Name) × (g.root t i ≡ Some name) × (name_at (block word) ≡ Some name)
   pub root_held : (t i : ℕ) (name : Name) → g.root t i ≡ Some name → (word : ℕ) × IsRoot word × (name_at (block word) ≡ Some name)
+  pub pinless : (t slot : ℕ) (held : Pinned) → g.pin t slot ≡ Some held → ⊥

@@ -1,3 +1,4 @@
+pub mod Pinned
 pub mod Held
 pub mod Plot
 pub mod Pack

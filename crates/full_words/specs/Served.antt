@@ -1,9 +1,10 @@
 -- That waiting requests are served where there is room, and refused exactly where there is none.
-use Rattle.std.specs.Prelude.{ℕ, ◌≡◌, ◌≢◌, ◌+◌, ◌-◌, ◌*◌, ◌<◌, ◌≤◌, ◌⊎◌}
+use Rattle.std.specs.Prelude.{ℕ, ◌≡◌, ◌≢◌, ◌+◌, ◌-◌, ◌*◌, ◌<◌, ◌≤◌, ◌⊎◌, Bool}
 use Rattle.heap_words.specs.declared.config.Config.{Config}
 use Rattle.heap_words.specs.Words.{Word, Top, Wait, Answer}
 use Rattle.regions.specs.Place.{base_of}
 use Rattle.packing.specs.Tops.{sum_below}
+use Rattle.packing.specs.Laws.{count_where, tops_where}
 use Rattle.packing.specs.Rooms.{NoneHasRoom, IsLowestRoom, granted}
 use Rattle.full_words.specs.Full.{asked_in, served, refused}
 
@@ -16,15 +17,15 @@ abbrev pub given_in : Config → (Word → ℕ) → ℕ → ℕ
 given_in c memory = granted c.region_words c.regions (asked_in memory) (λ r. memory (Top r))
 
 -- Who waits is answered. Where the lowest region with room has it at its top, the answer is the address of that top;
--- where no region has room, the answer is 1, and then what the regions held and what was given before it crowd them.
+-- where no region has room, the answer is 1, and then what the regions of a set held and what was given before it crowd these, whichever set it is.
 pub record IsAnswered (c : Config) (memory : Word → ℕ) (t : ℕ) : Type 0 where
   pub given : (r : ℕ) → IsLowestRoom c.region_words (tops_at_turn c memory t) (asked_in memory t) c.regions r
       → refused (served c memory c.mutators) (Answer t) ≡ base_of c r + tops_at_turn c memory t r
   pub full : NoneHasRoom c.region_words (tops_at_turn c memory t) (asked_in memory t) c.regions → refused (served c memory c.mutators) (Answer t) ≡ 1
   pub either : ((r : ℕ) × IsLowestRoom c.region_words (tops_at_turn c memory t) (asked_in memory t) c.regions r)
       ⊎ NoneHasRoom c.region_words (tops_at_turn c memory t) (asked_in memory t) c.regions
-  pub crowded : NoneHasRoom c.region_words (tops_at_turn c memory t) (asked_in memory t) c.regions → asked_in memory t ≤ c.region_words
-      → c.regions * (c.region_words - asked_in memory t + 1) ≤ sum_below (λ r. memory (Top r)) c.regions + sum_below (given_in c memory) t
+  pub crowded : (test : ℕ → Bool) → NoneHasRoom c.region_words (tops_at_turn c memory t) (asked_in memory t) c.regions → asked_in memory t ≤ c.region_words
+      → count_where test c.regions * (c.region_words - asked_in memory t + 1) ≤ tops_where test (λ r. memory (Top r)) c.regions + sum_below (given_in c memory) t
 
 -- Each waiting thread is answered, who did not wait keeps the answer, and nobody waits any more. The tops grow together by
 -- the words that are given.

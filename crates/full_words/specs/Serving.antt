@@ -9,8 +9,10 @@ use Rattle.packing.specs.Tops.{sum_below}
 use Rattle.shen_graph.specs.Graph.{Graph, named}
 use Rattle.shen_graph.specs.Reach.{IsReach, size}
 use Rattle.heap_world.specs.World.{Block, thing, Plot}
-use Rattle.full_words.specs.Plot.{packed_block}
-use Rattle.full_words.specs.Full.{asked_in, room_for, served, packed, full_from, now_in, root_words, kept_in}
+use Rattle.shen_graph.specs.Crowd.{Held, PinnedRegions}
+use Rattle.full_words.specs.Pinned.{is_row_pinned}
+use Rattle.full_words.specs.Plot.{AreParsed, packed_block}
+use Rattle.full_words.specs.Full.{asked_in, room_for, served, packed, full_from, now_in, held_words, kept_in}
 use Rattle.full_words.specs.Promised.{Promises, with_promised, AreFresh, promised_words}
 use Rattle.full_words.specs.Served.{given_in}
 use Rattle.full_words.specs.Held.{IsAmong, HoldsGraph}
@@ -76,18 +78,18 @@ ServingStands = (c : Config) (memory : Word → ℕ) (block : Plot) (g : Graph) 
 -- made for waiting threads as further promises.
 abbrev pub FullStands : Type 0
 FullStands = (c : Config) (memory : Word → ℕ) (block : Plot) (g : Graph) (p : Promises)
-    → HoldsGraph c (λ r. memory (Top r)) (λ a. memory (Heap a)) block (now_in memory) (IsAmong (root_words c memory)) (with_promised g p)
-    → RootsStand c memory block g p → AreAsking c memory g p 0
-    → ImageStands c (full_from c memory) (served_block c (packed c (now_in memory) (kept_in c memory) memory) (packed_block c (kept_in c memory) block) c.mutators) g
-    (served_promises c (packed c (now_in memory) (kept_in c memory) memory) p c.mutators)
+    → HoldsGraph c (λ r. memory (Top r)) (λ a. memory (Heap a)) block (now_in memory) (IsAmong (held_words c memory)) (with_promised g p)
+    → RootsStand c memory block g p → AreParsed c (is_row_pinned c memory) (λ r. memory (Top r)) (λ a. memory (Heap a)) block → AreAsking c memory g p 0
+    → ImageStands c (full_from c memory) (served_block c (packed c (is_row_pinned c memory) (now_in memory) (kept_in c memory) memory) (packed_block c (is_row_pinned c memory) (kept_in c memory) block) c.mutators) g
+    (served_promises c (packed c (is_row_pinned c memory) (now_in memory) (kept_in c memory) memory) p c.mutators)
 
--- A request of n words is refused only where live objects, objects that threads have not taken yet, and what was given
--- before it in this pause crowd the regions: with n words less in each they could not be full.
+-- A request of n words is refused only where live objects that are not pinned, objects that threads have not taken yet, and what was given
+-- before it in this pause crowd the regions without a pinned object: with n words less in each they could not be full.
 abbrev pub FullIsCrowded : Type 0
-FullIsCrowded = (c : Config) (memory : Word → ℕ) (block : Plot) (g : Graph) (p : Promises) (names : List Name)
-    → HoldsGraph c (λ r. memory (Top r)) (λ a. memory (Heap a)) block (now_in memory) (IsAmong (root_words c memory)) (with_promised g p)
-    → AreFresh c.mutators g p → IsReach g names
+FullIsCrowded = (c : Config) (memory : Word → ℕ) (block : Plot) (g : Graph) (p : Promises) (names : List Name) (held pinned : ℕ)
+    → HoldsGraph c (λ r. memory (Top r)) (λ a. memory (Heap a)) block (now_in memory) (IsAmong (held_words c memory)) (with_promised g p)
+    → RootsStand c memory block g p → AreFresh c.mutators g p → IsReach g names → Held g held → PinnedRegions c.region_words g pinned
     → (t : ℕ) → t < c.mutators → memory (Wait t) ≢ 0 → asked_in memory t ≤ c.region_words → full_from c memory (Answer t) ≡ 1
-    → c.regions * (c.region_words - asked_in memory t + 1)
-    ≤ sum_by (λ n. size (named g (Some n))) names + sum_below (promised_words p) (c.mutators + 1)
-    + sum_below (given_in c (packed c (now_in memory) (kept_in c memory) memory)) t
+    → (c.regions - pinned) * (c.region_words - asked_in memory t + 1)
+    ≤ sum_by (λ n. size (named g (Some n))) names - held + sum_below (promised_words p) (c.mutators + 1)
+    + sum_below (given_in c (packed c (is_row_pinned c memory) (now_in memory) (kept_in c memory) memory)) t

@@ -3,7 +3,7 @@
 
 ghost use Rattle.full_words.specs.Image.{StandingHolds, PackedStands};
 ghost use Rattle.full_words.specs.Laws.{ReachableAreHeld, PackingKeepsGraph, KeptAreHeld};
-ghost use Rattle.full_words.specs.Promised.{KeptAreLive, KeptAreLiveOrPromised};
+ghost use Rattle.full_words.specs.Promised.{KeptAreLive, KeptAreLiveOrPromised, OpenKeptAreFewer};
 ghost use Rattle.full_words.specs.Served.{ServingAnswers};
 ghost use Rattle.full_words.specs.Serving.{ServingStands, FullStands, FullIsCrowded};
 
@@ -13,8 +13,8 @@ pub fn reachable_are_held()
     ensures { ReachableAreHeld }
 {}
 
-/// A law: packing what root words lead to, by current copies, keeps the graph that the words stand for. The tops are then
-/// together the words of the kept objects.
+/// A law: packing what root words lead to, by current copies, around the regions that are shut keeps the graph that the words stand
+/// for. The tops of the open regions are then together the words of the objects kept there.
 pub fn packing_keeps_graph()
     ensures { PackingKeepsGraph }
 {}
@@ -41,6 +41,12 @@ pub fn kept_are_live_or_promised()
     ensures { KeptAreLiveOrPromised }
 {}
 
+/// A law: where objects are pinned, what is kept in regions without one has no more words than what the graph reaches and is
+/// not pinned, and what is promised.
+pub fn open_kept_are_fewer()
+    ensures { OpenKeptAreFewer }
+{}
+
 /// A law: words that stand for a graph, with no old copies, hold it by current copies.
 pub fn standing_holds()
     ensures { StandingHolds }
@@ -61,8 +67,8 @@ pub fn full_stands()
     ensures { FullStands }
 {}
 
-/// A law: a request is answered that the heap is full only where live objects, promised ones and what was given before it
-/// crowd the regions.
+/// A law: a request is answered that the heap is full only where live objects that are not pinned, promised ones and what was given
+/// before it crowd the regions without a pinned object.
 pub fn full_is_crowded()
     ensures { FullIsCrowded }
 {}

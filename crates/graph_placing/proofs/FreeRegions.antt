@@ -1,13 +1,14 @@
 -- The free word while regions are looked at.
 use Rattle.std.proofs.Common.{◌≡◌, ℕ, ◌+◌, ◌*◌, ◌^◌, ◌==◌, cond, suc, refl, ap, ◌∙◌, arith}
 use Rattle.full_words.specs.Full.{empty_regions}
+use Rattle.full_words.specs.Pinned.{set_of}
 
 pub empty_none : (top : ℕ → ℕ) → 0 ≡ empty_regions top 0
-unfolding empty_regions
+unfolding set_of
 empty_none top = refl
 
 pub empty_more : (top : ℕ → ℕ) (r set free edge : ℕ) → edge ≡ top r → set ≡ cond (edge == 0) 1 0 * 2 ^ r → free ≡ empty_regions top r → free + set ≡ empty_regions top (r + 1)
-unfolding empty_regions
+unfolding set_of
 empty_more top r set free edge edge_is set_is free_is =
     let next : suc r ≡ r + 1 = omega arith in
     let one : set ≡ cond (top r == 0) 1 0 * 2 ^ r = set_is ∙ ap (λ e. cond (e == 0) 1 0 * 2 ^ r) edge_is in

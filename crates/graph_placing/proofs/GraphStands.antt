@@ -3,11 +3,11 @@ use Rattle.std.proofs.Common.{◌≡◌, ℕ, ◌+◌, ◌<◌, false, List, len
 use Rattle.std.specs.Prelude.{Contains}
 use Rattle.std.proofs.lemmas.Option.{none-some, slice_get_within, get_or_from_slice_get}
 use Rattle.heap_words.specs.declared.config.Config.{Config}
-use Rattle.heap_words.specs.Words.{Word, Phase, Cset, Free, Evac, Claim, Top, Tams, Current, Root, Count, Buffer, Wait, Answer, Grey, Black, Heap, Share}
+use Rattle.heap_words.specs.Words.{Word, Phase, Cset, Free, Evac, Claim, Top, Tams, Current, Root, Count, Buffer, Wait, Answer, Grey, Black, Heap, Share, Pin}
 use Rattle.shen_graph.specs.declared.name.Name.{Name}
 use Rattle.shen_graph.specs.Graph.{Graph, Object, Reference, hub}
 use Rattle.shen_graph.specs.GraphText.{Text, row_of, names_of, root_of}
-use Rattle.heap_world.specs.World.{World, Plot, Block, thing, moved, spent, hand, spare, carved, promised, dead, filler, no_ghost, name_at, room_of, HasNoRoom, Points, IsThing, AreObjects, IsFreeWord, IsUsable, IsEvacuating, Shared}
+use Rattle.heap_world.specs.World.{World, Plot, Block, thing, moved, spent, hand, spare, carved, promised, dead, filler, no_ghost, name_at, room_of, HasNoRoom, Points, IsThing, AreObjects, IsFreeWord, IsUsable, PinStands, IsEvacuating, Shared}
 use Rattle.heap_world.specs.Asking.{nothing}
 use Rattle.heap_world.specs.Represents.{Represents}
 use Rattle.heap_world.proofs.Keeping.{usable_now}
@@ -173,6 +173,7 @@ module _ (c : Config) (t : Text) (whole : IsPlaceable c t) (fits : Fits c t) (me
       marked = none_marked c (memory Phase) (λ m. memory (Grey m)) (λ m. memory (Black m)) (λ m. memory (Count m)) (λ m k. memory (Buffer m k)) (λ r. memory (Top r)) (λ r. memory (Tams r)) heap block (λ seat. None) (λ seat. None) phase;
       evacuated = evacuated;
       updated = λ on. absurd (omega (arith, phase, on));
+      pinned = λ m i below small. subst (PinStands c (memory Cset) (memory Evac) block (memory (Pin m i))) (sym (is.no_pins (m + 1) i)) (placed.others (Pin m i) refl);
     }
 
     roots : (m i : ℕ) → m < c.mutators → i < 16 → Points block (memory (Root m i)) (g.root (m + 1) i)
@@ -197,4 +198,5 @@ module _ (c : Config) (t : Text) (whole : IsPlaceable c t) (fits : Fits c t) (me
       unmarking = record { records_none = λ seat below. refl; scans_none = λ seat below. refl };
       uncopying = record { copies_none = λ seat below. refl; works_none = λ seat below. refl };
       no_more = is.no_more;
+      no_more_pins = λ thread slot other. is.no_pins thread slot;
     }

@@ -9,7 +9,6 @@ use Rattle.heap_words.specs.Words.{Heap, IsWord}
 use Rattle.regions.specs.Place.{base_of, region_with}
 use Rattle.regions.proofs.PlaceLemmas.{regions_tile}
 use Rattle.packing.specs.Places.{place_behind, end_before}
-use Rattle.packing.proofs.Placed.{end_next}
 use Rattle.shen_graph.specs.Graph.{hub}
 use Rattle.shen_graph.specs.GraphText.{Text, Row, row_of, bare}
 use Rattle.full_words.specs.Plot.{heap_end}
@@ -34,6 +33,9 @@ module _ (c : Config) (t : Text) (whole : IsPlaceable c t) where
   pub some_words : (k : ℕ) → 3 ≤ words_of_row t k
   some_words k = omega arith
 
+  positive : (k : ℕ) → 0 < words_of_row t k
+  positive k = omega (arith, some_words k)
+
   some : 0 < w
   some = omega (arith, c.in_range.least_words)
 
@@ -41,16 +43,16 @@ module _ (c : Config) (t : Text) (whole : IsPlaceable c t) where
   short k = omega (arith, few_words k, c.in_range.least_words)
 
   pub ends_rise : (j k : ℕ) → j ≤ k → end_behind c t j ≤ end_behind c t k
-  ends_rise = behind.ends_rise w (words_of_row t) some short
+  ends_rise = behind.ends_rise w (words_of_row t) some positive short
 
   pub end_is : (k : ℕ) → end_behind c t (suc k) ≡ address_of c t k + words_of_row t k
-  end_is k = end_next w (words_of_row t) k
+  end_is k = behind.end_behind_it w (words_of_row t) some positive short k
 
   pub stand_apart : (j k : ℕ) → j < k → address_of c t j + words_of_row t j ≤ address_of c t k
-  stand_apart = behind.stand_apart w (words_of_row t) some short
+  stand_apart = behind.stand_apart w (words_of_row t) some positive short
 
   pub from_first : (k : ℕ) → w ≤ address_of c t k
-  from_first k = omega (arith, behind.from_first w (words_of_row t) some short k, behind.from_end w (words_of_row t) some short k)
+  from_first k = omega (arith, behind.from_first w (words_of_row t) some positive short k, behind.from_end w (words_of_row t) some positive short k)
 
   -- an object that begins behind another one is of a later row
   pub later_row : (j k : ℕ) → address_of c t j < address_of c t k → j < k
@@ -92,7 +94,7 @@ module _ (c : Config) (t : Text) (whole : IsPlaceable c t) where
   pub in_region : (k : ℕ) → (base_of c (region_at k) ≤ address_of c t k) × (address_of c t k + words_of_row t k ≤ base_of c (region_at k) + w)
   in_region k =
       let rest = base_and_rest (address_of c t k) (from_first k) in
-      let within = behind.within_region w (words_of_row t) some short k in
+      let within = behind.within_region w (words_of_row t) some positive short k in
       (omega (arith, rest), omega (arith, rest, within))
 
   -- an address between base and end of a region is of it
@@ -161,7 +163,7 @@ module _ (c : Config) (t : Text) (whole : IsPlaceable c t) where
       is ∙ ap (base_of c) (sym of)
 
   placed_how : (k : ℕ) → (address_of c t k ≡ end_behind c t k) ⊎ (address_of c t k ≡ (end_behind c t k / w + 1) * w)
-  placed_how k = behind.at_end_or_base w (words_of_row t) some short k
+  placed_how k = behind.at_end_or_base w (words_of_row t) some positive short k
 
   pub first_end : end_behind c t 0 ≡ w
   unfolding end_before
@@ -233,6 +235,7 @@ module _ (c : Config) (t : Text) (whole : IsPlaceable c t) where
       → place ≡ address_of c t k
   next_place words_of_region end words place k same is long at =
       at ∙ ap (λ v. place_behind v end words) same ∙ ap (λ e. place_behind w e words) is ∙ ap (place_behind w (end_behind c t k)) long
+      ∙ behind.around_nothing w (end_behind c t k) (words_of_row t k) (positive k)
 
   pub next_end : (words place k : ℕ) → words ≡ words_of_row t k → place ≡ address_of c t k → place + words ≡ end_behind c t (k + 1)
   next_end words place k long at =

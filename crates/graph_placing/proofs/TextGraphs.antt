@@ -78,6 +78,7 @@ is_graph c t counts whole given = record {
       (cases_lt (length t.roots) thread)))
       (λ (large : 16 ≤ index). no_root t.roots thread index whole.sixteen large)
       (cases_lt index 16);
+  no_pins = λ thread slot. refl;
   counts_are = λ m below. let next : m + 1 ≡ suc m = omega arith in ap (λ (k : ℕ). slice_index (0 ∷ counts) k) next;
   given = λ name o is.
       let row = has_row t.rows name o (bare hub) is in

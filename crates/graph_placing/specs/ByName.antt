@@ -3,7 +3,7 @@
 use Rattle.std.specs.Prelude.{ℕ, ◌+◌, ◌-◌, ◌≤◌, ◌==◌, if◌then◌else◌, length, zero, suc}
 use Rattle.heap_words.specs.declared.config.Config.{Config}
 use Rattle.regions.specs.Place.{base_of, region_with}
-use Rattle.packing.specs.Places.{end_before, new_place}
+use Rattle.packing.specs.Places.{none_shut, end_before, new_place}
 use Rattle.shen_graph.specs.GraphText.{Text, row_of}
 use Rattle.full_words.specs.Plot.{heap_end}
 
@@ -13,11 +13,11 @@ words_of_row t k = 3 + length (row_of t k).refs + length (row_of t k).nums
 
 -- the address of its object
 abbrev pub address_of : Config → Text → ℕ → ℕ
-address_of c t k = new_place c.region_words (words_of_row t) k
+address_of c t k = new_place c.region_words none_shut (words_of_row t) k
 
 -- where the last object ends of the first so many rows
 abbrev pub end_behind : Config → Text → ℕ → ℕ
-end_behind c t k = end_before c.region_words (words_of_row t) k
+end_behind c t k = end_before c.region_words none_shut (words_of_row t) k
 
 -- all objects end within the heap: they need no more regions than it has
 abbrev pub Fits : Config → Text → Type 0

@@ -3,7 +3,7 @@ pub mod Copies
 pub mod Walks
 pub mod Objects
 pub mod Texts
-pub mod RootRows
+pub mod CellRows
 pub mod Sizes
 pub mod Standing
 pub mod Shown

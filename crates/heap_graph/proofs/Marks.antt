@@ -150,3 +150,15 @@ prefix order (a ∷ words) =
 pub with_addresses-push : (order words : List ℕ) (a : ℕ) → with_addresses order (words ++ a ∷ []) ≡ with_address (with_addresses order words) a
 with_addresses-push order [] a = refl
 with_addresses-push order (w ∷ words) a = with_addresses-push (with_address order w) words a
+
+-- and many words more
+pub with_addresses-append : (order words more : List ℕ) → with_addresses order (words ++ more) ≡ with_addresses (with_addresses order words) more
+with_addresses-append order [] more = refl
+with_addresses-append order (w ∷ words) more = with_addresses-append (with_address order w) words more
+
+-- a word of one of two lists is one of both together
+pub has-left : (xs ys : List ℕ) (w : ℕ) → has xs w ≡ true → has (xs ++ ys) w ≡ true
+has-left xs ys w h = list_any-append (nat_eq w) xs ys ∙ or_left (has xs w) (has ys w) h
+
+pub has-right : (xs ys : List ℕ) (w : ℕ) → has ys w ≡ true → has (xs ++ ys) w ≡ true
+has-right xs ys w h = list_any-append (nat_eq w) xs ys ∙ or_right (has xs w) (has ys w) h

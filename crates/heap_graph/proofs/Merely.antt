@@ -1,5 +1,5 @@
 -- What follows where the words of a heap stand for a graph that is not told.
-use Rattle.std.proofs.Common.{ℕ, ◌≤◌, List}
+use Rattle.std.proofs.Common.{ℕ, ◌≤◌, List, ◌++◌}
 use Rattle.std.proofs.Math.Logic.{∥∥₁_elim}
 use Rattle.std.proofs.Math.Bridge.{le_prop}
 use Rattle.heap_graph.specs.Walk.{IsWalkable}
@@ -15,6 +15,6 @@ IsWalkable-prop first heap roots one other = λ i. record {
   apart = λ a b led_a led_b before. le_prop (one.apart a b led_a led_b before) (other.apart a b led_a led_b before) i;
 }
 
-pub sound_some : (first : ℕ) (heap roots : List ℕ) → 1 ≤ first → StandForSome first heap roots → IsWalkable first heap roots
-sound_some first heap roots one stand =
-    ∥∥₁_elim stand (IsWalkable-prop first heap roots) (λ s. sound first heap roots s.0 s.1.0 one s.1.1)
+pub sound_some : (first : ℕ) (heap roots pins : List ℕ) → 1 ≤ first → StandForSome first heap roots pins → IsWalkable first heap (roots ++ pins)
+sound_some first heap roots pins one stand =
+    ∥∥₁_elim stand (IsWalkable-prop first heap (roots ++ pins)) (λ s. sound first heap roots pins s.0 s.1.0 one s.1.1)

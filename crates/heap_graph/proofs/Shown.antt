@@ -1,5 +1,5 @@
 -- What a walk that has ended gives: its rows fit, differ in their names, and in order show the graph.
-use Rattle.std.proofs.Common.{ℕ, ◌≡◌, ◌+◌, ◌-◌, ◌<◌, ◌≤◌, true, false, Option, Some, List, length, get_or, map, nat_eq, sum_by, All, Contains, arith, refl, ap, sym, ◌∙◌, subst}
+use Rattle.std.proofs.Common.{ℕ, ◌≡◌, ◌+◌, ◌-◌, ◌<◌, ◌≤◌, true, false, Option, Some, List, ◌++◌, length, get_or, map, nat_eq, sum_by, All, Contains, arith, refl, ap, sym, ◌∙◌, subst}
 use Rattle.std.specs.List.{IsDistinct}
 use Rattle.std.specs.List.Sorted.{IsPermutation}
 use Rattle.std.proofs.lemmas.List.{get_or-map, length-map, ext_get_or}
@@ -15,11 +15,13 @@ use Rattle.shen_graph.specs.declared.name.Name.{Name}
 use Rattle.shen_graph.specs.Graph.{Graph, Reference, same_name}
 use Rattle.shen_graph.specs.GraphText.{Text, Row, row_in, names_of}
 use Rattle.shen_graph.specs.Reach.{IsReachable, InOrder}
+use Rattle.shen_graph.specs.Step.{name_in}
 use Rattle.heap_graph.specs.Walk.{has, refs_at, size_at, IsNamed, IsWalkable, IsWalk}
-use Rattle.heap_graph.specs.Rows.{name_in_heap, reference_in, row_in_heap, root_word, root_rows}
+use Rattle.heap_graph.specs.Rows.{name_in_heap, reference_in, row_in_heap, root_word, root_rows, pin_word, pin_rows}
 use Rattle.heap_graph.specs.Shows.{ShowsGraph, WordsStand}
 use Rattle.heap_graph.proofs.Sizes.{sizes_fit, same_functions}
-use Rattle.heap_graph.proofs.Standing.{facts, led_name, name_led, reference_same, row_same}
+use Rattle.heap_graph.proofs.Standing.{facts, led_name, name_led, reference_same, pin_same, row_same}
+use Rattle.heap_graph.proofs.Marks.{has-left, has-right}
 
 -- what holds of each word that a list has
 all_from-has : (P : ℕ → Type 0) (xs : List ℕ) → ((a : ℕ) → has xs a ≡ true → P a) → All P xs
@@ -29,11 +31,14 @@ all_from-has P xs h = All-from_any nat_eq_equiv P xs h
 has-element : (xs : List ℕ) (i : ℕ) → i < length xs → has xs (get_or xs i 0) ≡ true
 has-element xs i h = list_any_at (nat_eq (get_or xs i 0)) xs i 0 h (eq-eqb (get_or xs i 0) (get_or xs i 0) refl)
 
-module _ (first : ℕ) (heap roots : List ℕ) (sound : IsWalkable first heap roots) where
+module _ (first : ℕ) (heap roots pins : List ℕ) (sound : IsWalkable first heap (roots ++ pins)) where
   pub roots_named : All (IsNamed first heap) roots
-  roots_named = all_from-has (IsNamed first heap) roots sound.roots_named
+  roots_named = all_from-has (IsNamed first heap) roots (λ a h. sound.roots_named a (has-left roots pins a h))
 
-  module _ (order : List ℕ) (walk : IsWalk first heap roots order) where
+  pub pins_named : All (IsNamed first heap) pins
+  pins_named = all_from-has (IsNamed first heap) pins (λ a h. sound.roots_named a (has-right roots pins a h))
+
+  module _ (order : List ℕ) (walk : IsWalk first heap (roots ++ pins) order) where
     pub all_above : All (λ a. first ≤ a) order
     all_above = all_from-has (λ a. first ≤ a) order (λ a h. sound.above a (walk.led a h))
 
@@ -59,8 +64,8 @@ Contains-map : {A B : Type 0} (f : A → B) (xs : List A) (x : A) → Contains x
 Contains-map f xs x c =
     (c.0, rw length-map c.1, get_or-map f xs c.0 x (f x) c.1 ∙ ap f c.2)
 
-module _ (first : ℕ) (heap roots order : List ℕ) (at : ℕ → Option Name) (g : Graph) (one : 1 ≤ first)
-    (s : WordsStand first heap roots at g) (walk : IsWalk first heap roots order) where
+module _ (first : ℕ) (heap roots pins order : List ℕ) (at : ℕ → Option Name) (g : Graph) (one : 1 ≤ first)
+    (s : WordsStand first heap roots pins at g) (walk : IsWalk first heap (roots ++ pins) order) where
   pub names_differ : IsDistinct same_name (map (λ r. r.name) (map (row_in_heap first heap) order))
   names_differ =
       IsDistinct-from_apart same_name (map (λ r. r.name) (map (row_in_heap first heap) order))
@@ -84,11 +89,11 @@ module _ (first : ℕ) (heap roots order : List ℕ) (at : ℕ → Option Name) 
           let earlier : i < length order = omega arith in
           let a = get_or order i 0 in
           let b = get_or order j 0 in
-          let u = led_name first heap roots at g one s a (walk.led a (has-element order i earlier)) in
-          let v = led_name first heap roots at g one s b (walk.led b (has-element order j low)) in
+          let u = led_name first heap roots pins at g one s a (walk.led a (has-element order i earlier)) in
+          let v = led_name first heap roots pins at g one s b (walk.led b (has-element order j low)) in
           let e : u.0 ≡ v.0 =
-          sym (facts first heap roots at g one s a u.0 u.1).name ∙ sym (read i d earlier)
-          ∙ same_name-true _ _ is ∙ read j d low ∙ (facts first heap roots at g one s b v.0 v.1).name in
+          sym (facts first heap roots pins at g one s a u.0 u.1).name ∙ sym (read i d earlier)
+          ∙ same_name-true _ _ is ∙ read j d low ∙ (facts first heap roots pins at g one s b v.0 v.1).name in
           let same : a ≡ b = sym u.1.1 ∙ s.once a b v.0 (u.1.0 ∙ ap (λ n. Some n) e) v.1.0 ∙ v.1.1 in
           eqb-false a b (apart_from_distinct nat_eq order i j 0 walk.once before low) same)
 
@@ -100,8 +105,8 @@ module _ (first : ℕ) (heap roots order : List ℕ) (at : ℕ → Option Name) 
   found =
       All-map IsFound (row_in_heap first heap) order
       (All-from_any nat_eq_equiv (λ a. IsFound (row_in_heap first heap a)) order
-      (λ a h. let u = led_name first heap roots at g one s a (walk.led a h) in
-      (a, u.0, h, u.1.0, u.2, row_same first heap roots at g one s a u.0 u.1)))
+      (λ a h. let u = led_name first heap roots pins at g one s a (walk.led a h) in
+      (a, u.0, h, u.1.0, u.2, row_same first heap roots pins at g one s a u.0 u.1)))
 
   module _ (text : Text) (moved : IsPermutation (map (row_in_heap first heap) order) text.rows) where
     found_rows : All IsFound text.rows
@@ -109,12 +114,12 @@ module _ (first : ℕ) (heap roots order : List ℕ) (at : ℕ → Option Name) 
 
     every : (n : Name) → IsReachable g n → Contains (names_of text) n
     every n reach =
-        let u = name_led first heap roots at g one s n reach in
+        let u = name_led first heap roots pins at g one s n reach in
         let row = row_in_heap first heap u.0 in
         let c = Contains-from_any exact_unsigned_eq u.0 order (walk.all u.0 u.2) in
         let there : Contains text.rows row =
         Contains-permutation (map (row_in_heap first heap) order) text.rows row moved (Contains-map (row_in_heap first heap) order u.0 c) in
-        subst (λ (m : Name). Contains (names_of text) m) (facts first heap roots at g one s u.0 n u.1).name
+        subst (λ (m : Name). Contains (names_of text) m) (facts first heap roots pins at g one s u.0 n u.1).name
         (Contains-map (λ (r : Row). r.name) text.rows row there)
 
     only : (n : Name) → Contains (names_of text) n → IsReachable g n
@@ -139,13 +144,19 @@ module _ (first : ℕ) (heap roots order : List ℕ) (at : ℕ → Option Name) 
         ∙ sym (get_or-map (row_in g) names i d.name d low))
 
     pub shows : (threads : ℕ) → InOrder (names_of text)
-        → text.roots ≡ root_rows (λ t i. reference_in first heap (root_word roots t i)) threads → ShowsGraph text threads g
-    shows threads ordered rooted = record {
+        → text.roots ≡ root_rows (λ t i. reference_in first heap (root_word roots t i)) threads
+        → text.pins ≡ pin_rows (λ t i. reference_in first heap (pin_word pins t i)) threads → ShowsGraph text threads g
+    shows threads ordered rooted pinned = record {
       reach = record { in_order = ordered; all = every; only = only };
       rows = rows_same;
       roots = (rooted
           ∙ ap (λ (f : ℕ → ℕ → Reference). root_rows f threads)
           (same_functions (λ t i. reference_in first heap (root_word roots t i)) g.root
           (λ t. same_functions (λ i. reference_in first heap (root_word roots t i)) (g.root t)
-          (λ i. reference_same first heap roots at g one s (root_word roots t i) (g.root t i) (s.roots t i)))));
+          (λ i. reference_same first heap roots pins at g one s (root_word roots t i) (g.root t i) (s.roots t i)))));
+      pins = (pinned
+          ∙ ap (λ (f : ℕ → ℕ → Reference). pin_rows f threads)
+          (same_functions (λ t i. reference_in first heap (pin_word pins t i)) (λ t i. name_in (g.pin t i))
+          (λ t. same_functions (λ i. reference_in first heap (pin_word pins t i)) (λ i. name_in (g.pin t i))
+          (λ i. pin_same first heap roots pins at g one s (pin_word pins t i) (g.pin t i) (s.pins t i)))));
     }

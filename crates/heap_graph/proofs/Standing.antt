@@ -1,6 +1,6 @@
 -- What follows where the words of a heap stand for a graph.
-use Rattle.std.proofs.Common.{ℕ, ◌≡◌, ◌≢◌, ◌+◌, ◌-◌, ◌*◌, ◌/◌, ◌%◌, ◌^◌, ◌<◌, ◌≤◌, ◌==◌, ◌&&◌, true, Option, Some, None, List, [], length, get_or, slice_get, unwrap_or, map, nat_eq, ltb, leb, arith, refl, ap, sym, ◌∙◌, subst, inl, inr}
-use Rattle.std.proofs.lemmas.List.{get_or_past, get_or_default, ext_get_or, length-map, get_or-map}
+use Rattle.std.proofs.Common.{ℕ, ◌≡◌, ◌≢◌, ◌+◌, ◌-◌, ◌*◌, ◌/◌, ◌%◌, ◌^◌, ◌<◌, ◌≤◌, ◌==◌, ◌&&◌, true, ◌++◌, Option, Some, None, List, [], length, get_or, slice_get, unwrap_or, map, nat_eq, ltb, leb, arith, refl, ap, sym, ◌∙◌, subst, inl, inr}
+use Rattle.std.proofs.lemmas.List.{get_or_past, get_or_default, get_or_append_left, get_or-append_right, ext_get_or, length-map, get_or-map}
 use Rattle.std.proofs.lemmas.List.Folds.{list_any_at}
 use Rattle.std.proofs.lemmas.Option.{slice_get-get_or, slice_get_within}
 use Rattle.std.proofs.lemmas.Bool.{eq-eqb, ne_eqb, cond-true, cond-false, cases_lt, cases_Bool}
@@ -8,17 +8,20 @@ use Rattle.std.proofs.lemmas.Map.Views.{Contains-from_any, exact_unsigned_eq}
 use Rattle.heap_words.specs.Encoding.{refs_in, nums_in, shape_word, thread_in, count_in, name_code}
 use Rattle.heap_words.proofs.Shapes.{refs_in-shape_word, nums_in-shape_word}
 use Rattle.shen_graph.specs.declared.name.Name.{Name}
+use Rattle.shen_graph.specs.declared.pin.Pinned.{Pinned}
 use Rattle.shen_graph.specs.Graph.{Graph, Object, Reference, named}
-use Rattle.shen_graph.specs.Reach.{IsReachable, from_root as reach_root, from_field as reach_field, size}
+use Rattle.shen_graph.specs.Reach.{IsReachable, from_root as reach_root, from_pin as reach_pin, from_field as reach_field, size}
+use Rattle.shen_graph.specs.Step.{name_in}
 use Rattle.heap_world.specs.Objects.{Refers}
 use Rattle.shen_graph.specs.GraphText.{row_in}
 use Rattle.heap_graph.specs.Walk.{has, shape_at, refs_at, nums_at, size_at, current_at, currents, Leads, from_root, from_field, IsWalkable}
-use Rattle.heap_graph.specs.Stands.{current_of, IsAt}
-use Rattle.heap_graph.specs.Rows.{name_in_heap, reference_in, row_in_heap, root_word}
+use Rattle.heap_graph.specs.Stands.{current_of, IsAt, HoldsPin}
+use Rattle.heap_graph.specs.Rows.{name_in_heap, reference_in, row_in_heap, cell_word, root_word, pin_word}
 use Rattle.heap_graph.specs.Shows.{WordsStand}
 use Rattle.heap_graph.proofs.Copies.{plain_current, current_same, current_null}
 use Rattle.heap_graph.proofs.Objects.{length-refs_at, length-nums_at, get_or-refs_at, get_or-nums_at}
-use Rattle.heap_graph.proofs.RootRows.{root_word-at}
+use Rattle.heap_graph.proofs.Marks.{has-left, has-right}
+use Rattle.heap_graph.proofs.CellRows.{cell_word-at}
 
 -- what is known of the current copy at an address
 pub record Facts (first : ℕ) (heap : List ℕ) (g : Graph) (a : ℕ) (n : Name) (o : Object) : Type 0 where
@@ -41,17 +44,17 @@ name_back n code h e =
     ap (λ t. record { thread = t; count = count_in code }) (ap thread_in e ∙ code_thread n.thread n.count h)
     ∙ ap (λ k. record { thread = n.thread; count = k }) (ap count_in e ∙ code_count n.thread n.count h)
 
--- a root that is not null is one of the roots' words
-has-root_word : (roots : List ℕ) (t i : ℕ) → root_word roots t i ≢ 0 → has roots (root_word roots t i) ≡ true
-has-root_word roots t i ne =
-    let k = 16 * (t - 1) + i in
-    elim (cases_Bool (leb 1 t && ltb i 16)) [
-      | inl is ↦ (let e : root_word roots t i ≡ get_or roots k 0 = cond-true (leb 1 t && ltb i 16) (get_or roots k 0) 0 is in
-          elim (cases_lt k (length roots)) [
-            | inl low ↦ list_any_at (nat_eq (root_word roots t i)) roots k 0 low (eq-eqb (root_word roots t i) (get_or roots k 0) e)
-            | inr past ↦ absurd (ne (e ∙ get_or_past roots k 0 past))
+-- the word of a cell that is not null is one of the cells' words
+has-cell_word : (cells : ℕ) (words : List ℕ) (t i : ℕ) → cell_word cells words t i ≢ 0 → has words (cell_word cells words t i) ≡ true
+has-cell_word cells words t i ne =
+    let k = cells * (t - 1) + i in
+    elim (cases_Bool (leb 1 t && ltb i cells)) [
+      | inl is ↦ (let e : cell_word cells words t i ≡ get_or words k 0 = cond-true (leb 1 t && ltb i cells) (get_or words k 0) 0 is in
+          elim (cases_lt k (length words)) [
+            | inl low ↦ list_any_at (nat_eq (cell_word cells words t i)) words k 0 low (eq-eqb (cell_word cells words t i) (get_or words k 0) e)
+            | inr past ↦ absurd (ne (e ∙ get_or_past words k 0 past))
           ])
-      | inr not' ↦ absurd (ne (cond-false (leb 1 t && ltb i 16) (get_or roots k 0) 0 not'))
+      | inr not' ↦ absurd (ne (cond-false (leb 1 t && ltb i cells) (get_or words k 0) 0 not'))
     ]
 
 -- where a word that a list has stands in it
@@ -70,7 +73,7 @@ shift_field first a i h = omega arith
 shift_number : (first a n r i : ℕ) → first ≤ a → r ≡ n → a - first + 3 + r + i ≡ a + 3 + n + i - first
 shift_number first a n r i h e = omega arith
 
-module _ (first : ℕ) (heap roots : List ℕ) (at : ℕ → Option Name) (g : Graph) (one : 1 ≤ first) (s : WordsStand first heap roots at g) where
+module _ (first : ℕ) (heap roots pins : List ℕ) (at : ℕ → Option Name) (g : Graph) (one : 1 ≤ first) (s : WordsStand first heap roots pins at g) where
   -- no object stands at 0
   never_null : (w : ℕ) (n : Name) → at w ≡ Some n → w ≢ 0
   never_null w n here zero' = omega (arith, (s.each w n here).above)
@@ -128,9 +131,36 @@ module _ (first : ℕ) (heap roots : List ℕ) (at : ℕ → Option Name) (g : G
       let t = k / 16 + 1 in
       let i = k % 16 in
       let place : 16 * (k / 16) + k % 16 ≡ k = omega arith in
-      let word : root_word roots t i ≡ a = root_word-at roots (k / 16) i (omega arith) ∙ ap (λ j. get_or roots j 0) place ∙ is in
+      let word : root_word roots t i ≡ a = cell_word-at 16 roots (k / 16) i (omega arith) ∙ ap (λ j. get_or roots j 0) place ∙ is in
       let r = refers-some a (g.root t i) (subst (λ (w : ℕ). Refers at w (g.root t i)) word (s.roots t i)) ne in
       (r.0, r.2, reach_root t i r.0 r.1)
+
+  -- a pin word refers to what its slot holds
+  pin_refers : (w : ℕ) (held : Option Pinned) → HoldsPin words at w held → Refers at w (name_in held)
+  pin_refers w None h = h
+  pin_refers w (Some p) h = h.1
+
+  -- and one that is not null is where the object stands that its slot holds
+  pin_holds : (w : ℕ) (held : Option Pinned) → HoldsPin words at w held → w ≢ 0 → (p : Pinned) × (held ≡ Some p) × (at w ≡ Some p.name)
+  pin_holds w None h ne = absurd (ne h)
+  pin_holds w (Some p) h ne = (p, refl, h.1)
+
+  pin_name : (k a : ℕ) → get_or pins k 0 ≡ a → a ≢ 0 → (n : Name) × (at a ≡ Some n) × IsReachable g n
+  pin_name k a is ne =
+      let t = k / 4 + 1 in
+      let i = k % 4 in
+      let place : 4 * (k / 4) + k % 4 ≡ k = omega arith in
+      let word : pin_word pins t i ≡ a = cell_word-at 4 pins (k / 4) i (omega arith) ∙ ap (λ j. get_or pins j 0) place ∙ is in
+      let held = pin_holds a (g.pin t i) (subst (λ (w : ℕ). HoldsPin words at w (g.pin t i)) word (s.pins t i)) ne in
+      (held.0.name, held.2, reach_pin t i held.0 held.1)
+
+  -- so it is of each word of roots and pin slots
+  start_name : (k a : ℕ) → get_or (roots ++ pins) k 0 ≡ a → a ≢ 0 → (n : Name) × (at a ≡ Some n) × IsReachable g n
+  start_name k a is ne =
+      elim (cases_lt k (length roots)) [
+        | inl low ↦ root_name k a (sym (get_or_append_left roots pins 0 k low) ∙ is) ne
+        | inr past ↦ pin_name (k - length roots) a (sym (get_or-append_right roots pins (length roots) k 0 refl past) ∙ is) ne
+      ]
 
   -- and so where a field's word of such an object is not null
   field_name : (m a k : ℕ) (n : Name) (here : IsHere m n) → IsReachable g n
@@ -166,24 +196,33 @@ module _ (first : ℕ) (heap roots : List ℕ) (at : ℕ → Option Name) (g : G
       (eq-eqb (current_at first heap w) (get_or (currents first heap xs) c.0 0) (ap (current_at first heap) (sym c.2) ∙ sym (get_or-map (current_at first heap) xs c.0 0 0 c.1)))
 
   -- an address that roots lead to is where the current copy of an object is that can be reached
-  pub led_name : (a : ℕ) → Leads first heap roots a → (n : Name) × IsHere a n × IsReachable g n
+  pub led_name : (a : ℕ) → Leads first heap (roots ++ pins) a → (n : Name) × IsHere a n × IsReachable g n
   led_name a (from_root a' ne h) =
-      let c = copied_from roots a ne h in
-      let r = root_name c.0 (get_or roots c.0 0) refl c.2 in
-      (r.0, subst (λ k. IsHere k r.0) c.3 (current_is (get_or roots c.0 0) r.0 r.1), r.2)
+      let c = copied_from (roots ++ pins) a ne h in
+      let r = start_name c.0 (get_or (roots ++ pins) c.0 0) refl c.2 in
+      (r.0, subst (λ k. IsHere k r.0) c.3 (current_is (get_or (roots ++ pins) c.0 0) r.0 r.1), r.2)
   led_name a (from_field m a' led ne h) =
       let u = led_name m led in
       let c = copied_from (refs_at heap (m - first)) a ne h in
       let r = field_name m (get_or (refs_at heap (m - first)) c.0 0) c.0 u.0 u.1 u.2 c.1 refl c.2 in
       (r.0, subst (λ k. IsHere k r.0) c.3 (current_is (get_or (refs_at heap (m - first)) c.0 0) r.0 r.1), r.2)
 
+  -- a word of roots and pin slots that names an object leads to its current copy
+  start_led : (w : ℕ) (n : Name) → at w ≡ Some n → has (roots ++ pins) w ≡ true → (a : ℕ) × IsHere a n × Leads first heap (roots ++ pins) a
+  start_led w n here there =
+      let now = current_is w n here in
+      (current_at first heap w, now, from_root (current_at first heap w) (never_null (current_at first heap w) n now.0) (has_current (roots ++ pins) w there))
+
   -- and each object that can be reached has its current copy at such an address
-  pub name_led : (n : Name) → IsReachable g n → (a : ℕ) × IsHere a n × Leads first heap roots a
+  pub name_led : (n : Name) → IsReachable g n → (a : ℕ) × IsHere a n × Leads first heap (roots ++ pins) a
   name_led n (reach_root t i n' e) =
       let w = root_word roots t i in
       let here : at w ≡ Some n = subst (λ (r : Reference). Refers at w r) e (s.roots t i) in
-      let now = current_is w n here in
-      (current_at first heap w, now, from_root (current_at first heap w) (never_null (current_at first heap w) n now.0) (has_current roots w (has-root_word roots t i (never_null w n here))))
+      start_led w n here (has-left roots pins w (has-cell_word 16 roots t i (never_null w n here)))
+  name_led _ (reach_pin t i held e) =
+      let w = pin_word pins t i in
+      let here : at w ≡ Some held.name = (subst (λ (o : Option Pinned). HoldsPin words at w o) e (s.pins t i)).1 in
+      start_led w held.name here (has-right roots pins w (has-cell_word 4 pins t i (never_null w held.name here)))
   name_led n (reach_field m n' f r e) =
       let u = name_led m r in
       let o = (object_at u.0 m u.1).0 in
@@ -209,10 +248,10 @@ module _ (first : ℕ) (heap roots : List ℕ) (at : ℕ → Option Name) (g : G
       let now = object_at (current_at first heap a) n (current_is a n is) in
       ((copy.above, copy.below), (now.1.above, omega (arith, now.1.below)))
 
-  pub sound : IsWalkable first heap roots
+  pub sound : IsWalkable first heap (roots ++ pins)
   sound = record {
-    roots_named = (λ a h ne. let c = place_from-has roots a h in
-        let r = root_name c.0 a c.2 ne in
+    roots_named = (λ a h ne. let c = place_from-has (roots ++ pins) a h in
+        let r = start_name c.0 a c.2 ne in
         is_named a r.0 r.1);
     fields_named = (λ m a led h ne. let u = led_name m led in
         let c = place_from-has (refs_at heap (m - first)) a h in
@@ -235,6 +274,10 @@ module _ (first : ℕ) (heap roots : List ℕ) (at : ℕ → Option Name) (g : G
   reference_same w (Some n) h =
       cond-false (w == 0) None (Some (name_in_heap heap (current_at first heap w - first))) (ne_eqb w 0 (never_null w n h))
       ∙ ap (λ b. Some b) (facts (current_at first heap w) n (current_is w n h)).name
+
+  -- so it is of a pin word
+  pub pin_same : (w : ℕ) (held : Option Pinned) → HoldsPin words at w held → reference_in first heap w ≡ name_in held
+  pin_same w held h = reference_same w (name_in held) (pin_refers w held h)
 
   refs_same : (a : ℕ) (n : Name) (here : IsHere a n)
       → map (reference_in first heap) (refs_at heap (a - first)) ≡ (object_at a n here).0.refs

@@ -1,24 +1,25 @@
--- The words of heap and roots in a table stand for the graph that the table stands for.
-use Rattle.std.proofs.Common.{ℕ, ◌≡◌, ◌+◌, ◌-◌, ◌*◌, ◌<◌, ◌≤◌, ◌^◌, ⊎_elim, true, false, Option, Some, List, length, get_or, drop, refl, sym, ap, ◌∙◌, subst, arith}
+-- The words of heap, roots and pin slots in a table stand for the graph that the table stands for.
+use Rattle.std.proofs.Common.{ℕ, ◌≡◌, ◌+◌, ◌-◌, ◌*◌, ◌<◌, ◌≤◌, ◌^◌, ⊎_elim, true, false, Option, Some, None, List, length, get_or, drop, refl, sym, ap, ◌∙◌, subst, arith}
 use Rattle.std.specs.Prelude.{if◌then◌else◌, slice_index, slice_range, nat_le, nat_lt, ◌&&◌}
 use Rattle.std.proofs.lemmas.List.{get_or-take, get_or-drop, get_or_past, length-take-le, length-drop}
 use Rattle.std.proofs.lemmas.Option.{same_Some, slice_get_within}
 use Rattle.std.proofs.lemmas.Bool.{cases_Bool, cond-true, cond-false, and_parts, and_from, leb-true, ltb-true}
 use Rattle.std.proofs.lemmas.Bool.Decides.{nat_tests}
 use Rattle.heap_words.specs.declared.config.Config.{Config}
-use Rattle.heap_words.specs.Words.{Top, Root, Heap, view, roots_start, heap_start, table_words, heap_size, heap_in, roots_in}
+use Rattle.heap_words.specs.Words.{Cset, Evac, Top, Root, Pin, Heap, view, roots_start, heap_start, pins_start, table_words, heap_size, heap_in, roots_in, pins_in}
 use Rattle.heap_words.proofs.Stores.{view_word}
 use Rattle.shen_graph.specs.declared.name.Name.{Name}
+use Rattle.shen_graph.specs.declared.pin.Pinned.{Pinned}
 use Rattle.shen_graph.specs.Graph.{Graph, Object}
 use Rattle.shen_graph.specs.Reach.{size}
 use Rattle.heap_world.specs.Objects.{Refers, IsObject}
-use Rattle.heap_world.specs.World.{Ghost, Plot, Block, thing, moved, words_of, name_at, body_of, Points, IsPlotted, Shared}
-use Rattle.heap_world.specs.Roots.{is_root_of, HasNoMore}
+use Rattle.heap_world.specs.World.{Ghost, Plot, Block, thing, moved, words_of, name_at, body_of, Points, PinStands, IsPlotted, Shared}
+use Rattle.heap_world.specs.Roots.{is_root_of, is_slot_of, HasNoMore, HasNoMorePins}
 use Rattle.heap_world.proofs.Pointing.{named_body, copy_cases, piece_inside as words_inside}
 use Rattle.heap_words.specs.Encoding.{is_forwarded, forwardee_in}
-use Rattle.heap_graph.specs.Stands.{current_of, IsCopyAt, IsAt}
+use Rattle.heap_graph.specs.Stands.{current_of, IsCopyAt, IsAt, HoldsPin}
 use Rattle.heap_graph.proofs.Copies.{plain_current, moved_current}
-use Rattle.heap_graph.specs.Rows.{root_word}
+use Rattle.heap_graph.specs.Rows.{root_word, pin_word}
 use Rattle.heap_graph.specs.Shows.{WordsStand}
 
 -- a word of a part of a list
@@ -47,6 +48,9 @@ module _ (c : Config) (words : List ℕ) (block : Plot) (at : ℕ → Option Nam
 
   abbrev roots : List ℕ
   roots = roots_in c words
+
+  abbrev pins : List ℕ
+  pins = pins_in c words
 
   abbrev first : ℕ
   first = c.region_words
@@ -180,16 +184,61 @@ module _ (c : Config) (words : List ℕ) (block : Plot) (at : ℕ → Option Nam
         subst (λ r. Refers at (root_word roots t i) r) (sym (no_more t i none)) (no_root t i none))
         (cases_Bool (is_root_of c.mutators t i))
 
+  -- there are 4 pin slots for each mutator
+  length-pins : length pins ≡ 4 * c.mutators
+  length-pins = let e : length pins ≡ pins_start c + 4 * c.mutators - pins_start c = length-part words (pins_start c) (pins_start c + 4 * c.mutators) (omega (arith, long)) in omega (arith, e)
+
+  -- a pin word stands by the words of the heap as it does by the table
+  pin_here : (word : ℕ) (held : Option Pinned) → HoldsPin mem at word held → HoldsPin here at word held
+  pin_here word None h = h
+  pin_here word (Some p) h = (h.0, h.1, now_same word p.name h.1 ∙ h.2)
+
+  module _ (own : (t i : ℕ) → t < c.mutators → i < 4 → HoldsPin mem at (view c words (Pin t i)) (g.pin (t + 1) i)) (no_more : HasNoMorePins c.mutators g) where
+    -- a pin slot of a mutator
+    own_pin : (seat slot : ℕ) → seat < c.mutators → slot < 4 → HoldsPin here at (slice_index pins (4 * seat + slot)) (g.pin (seat + 1) slot)
+    own_pin seat slot below small =
+        let counts : view c words (Pin seat slot) ≡ slice_index pins (4 * seat + slot) =
+        view_word c words (Pin seat slot) (below, small)
+        ∙ ap (λ k. get_or words k 0) (let e : pins_start c + 4 * seat + slot ≡ pins_start c + (4 * seat + slot) = omega arith in e)
+        ∙ sym (get_or-part words (pins_start c) (pins_start c + 4 * c.mutators) (4 * seat + slot) (omega (arith, below, small))) in
+        subst (λ word. HoldsPin here at word (g.pin (seat + 1) slot)) counts (pin_here (view c words (Pin seat slot)) (g.pin (seat + 1) slot) (own seat slot below small))
+
+    -- a slot that no mutator has
+    no_pin : (t i : ℕ) → is_slot_of c.mutators t i ≡ false → pin_word pins t i ≡ 0
+    no_pin t i none = ⊎_elim
+        (λ (yes : (nat_le 1 t && nat_lt i 4) ≡ true).
+        cond-true (nat_le 1 t && nat_lt i 4) _ _ yes ∙ get_or_past pins (4 * (t - 1) + i) 0 (let far : c.mutators < t = grind (arith, nat_tests) in omega (arith, far, length-pins)))
+        (λ (is : (nat_le 1 t && nat_lt i 4) ≡ false). cond-false (nat_le 1 t && nat_lt i 4) _ _ is)
+        (cases_Bool (nat_le 1 t && nat_lt i 4))
+
+    -- each pin word stands for what its slot holds
+    pin_stands : (t i : ℕ) → HoldsPin here at (pin_word pins t i) (g.pin t i)
+    pin_stands t i = ⊎_elim
+        (λ (yes : is_slot_of c.mutators t i ≡ true).
+        let one : 1 ≤ t = leb-true 1 t (and_parts _ _ yes).0 in
+        let rest : (nat_le t c.mutators ≡ true) × (nat_lt i 4 ≡ true) = and_parts _ _ (and_parts (nat_le 1 t) (nat_le t c.mutators && nat_lt i 4) yes).1 in
+        let most : t ≤ c.mutators = leb-true t c.mutators rest.0 in
+        let small : i < 4 = ltb-true i 4 rest.1 in
+        let seat : t - 1 + 1 ≡ t = omega (arith, one) in
+        let word : pin_word pins t i ≡ slice_index pins (4 * (t - 1) + i) = cond-true (nat_le 1 t && nat_lt i 4) _ _ (and_from _ _ (and_parts _ _ yes).0 rest.1) in
+        subst (λ w. HoldsPin here at w (g.pin t i)) (sym word)
+        (subst (λ k. HoldsPin here at (slice_index pins (4 * (t - 1) + i)) (g.pin k i)) seat (own_pin (t - 1) i (omega (arith, one, most)) small)))
+        (λ (none : is_slot_of c.mutators t i ≡ false).
+        subst (λ held. HoldsPin here at (pin_word pins t i) held) (sym (no_more t i none)) (no_pin t i none))
+        (cases_Bool (is_slot_of c.mutators t i))
+
 -- the words stand for the graph
 pub copies_stand : (c : Config) (words : List ℕ) (block : Plot) (at : ℕ → Option Name) (g : Graph) → length words ≡ table_words c → AreCopies c words block at g
     → ((t i : ℕ) → t < c.mutators → i < 16 → Refers at (view c words (Root t i)) (g.root (t + 1) i)) → HasNoMore c.mutators g
-    → WordsStand c.region_words (heap_in c words) (roots_in c words) at g
-copies_stand c words block at g long pieces own no_more = record {
+    → ((t i : ℕ) → t < c.mutators → i < 4 → HoldsPin (λ x. view c words (Heap x)) at (view c words (Pin t i)) (g.pin (t + 1) i)) → HasNoMorePins c.mutators g
+    → WordsStand c.region_words (heap_in c words) (roots_in c words) (pins_in c words) at g
+copies_stand c words block at g long pieces own no_more own_pins no_more_pins = record {
   each = each c words block at g long pieces;
   object = object c words block at g long pieces;
   once = once c words block at g long pieces;
   apart = apart c words block at g long pieces;
   roots = root_stands c words block at g long pieces own no_more;
+  pins = pin_stands c words block at g long pieces own_pins no_more_pins;
 }
 
 -- so do those of a running heap: each copy that is no old one is the current one
@@ -234,9 +283,17 @@ module _ (c : Config) (words : List ℕ) (block : Plot) (ghost : Ghost) (g : Gra
     small = λ n o is. (shared.contents.given n o is).small;
   }
 
+  -- and a pin slot holds the current copy of an object
+  pub pin_held : (word : ℕ) (held : Option Pinned) → PinStands c (view c words Cset) (view c words Evac) block word held → HoldsPin memory (λ a. name_at (block a)) word held
+  pin_held word None is = is
+  pin_held word (Some p) is =
+      let o = shared.contents.objects.each word is.1 is.2 p.name is.3.piece in
+      (is.0, ap name_at is.3.piece, plain_current memory word o.2.header)
+
 pub table_stands : (c : Config) (words : List ℕ) (block : Plot) (ghost : Ghost) (g : Graph) → length words ≡ table_words c
     → Shared c (record { memory = view c words; block = block; ghost = ghost; graph = g })
-    → ((t i : ℕ) → t < c.mutators → i < 16 → Points block (view c words (Root t i)) (g.root (t + 1) i)) → HasNoMore c.mutators g
-    → WordsStand c.region_words (heap_in c words) (roots_in c words) (λ a. name_at (block a)) g
-table_stands c words block ghost g long shared own no_more =
+    → ((t i : ℕ) → t < c.mutators → i < 16 → Points block (view c words (Root t i)) (g.root (t + 1) i)) → HasNoMore c.mutators g → HasNoMorePins c.mutators g
+    → WordsStand c.region_words (heap_in c words) (roots_in c words) (pins_in c words) (λ a. name_at (block a)) g
+table_stands c words block ghost g long shared own no_more no_more_pins =
     copies_stand c words block (λ a. name_at (block a)) g long (are_copies c words block ghost g shared) own no_more
+    (λ t i seated inside. pin_held c words block ghost g shared (view c words (Pin t i)) (g.pin (t + 1) i) (shared.pinned t i seated inside)) no_more_pins

@@ -25,8 +25,8 @@ with_numbers-push t [] x = refl
 with_numbers-push t (y ∷ xs) x = with_numbers-push (with_number t y) xs x
 
 -- a text whose last row is known
-abbrev pub ending : List Row → List (List Reference) → ℕ → ℕ → Row → Text
-ending rows roots room spare r = record { rows = rows ++ r ∷ []; roots = roots; spare = spare; room = room }
+abbrev pub ending : List Row → (roots pins : List (List Reference)) → ℕ → ℕ → Row → Text
+ending rows roots pins room spare r = record { rows = rows ++ r ∷ []; roots = roots; pins = pins; spare = spare; room = room }
 
 all : (a : ℕ) → a ≡ a - 0
 all a = omega arith
@@ -34,31 +34,31 @@ all a = omega arith
 less : (a n : ℕ) → a - 1 - n ≡ a - suc n
 less a n = omega arith
 
-with_references-ending : (rs : List Reference) (rows : List Row) (roots : List (List Reference)) (room spare : ℕ) (r : Row)
-    → with_references (ending rows roots room spare r) rs
-    ≡ ending rows roots room (spare - length rs) (record r { refs = r.refs ++ rs })
-with_references-ending [] rows roots room spare r =
-    ap (λ qs. ending rows roots room spare (record r { refs = qs })) (sym (append-nil r.refs))
-    ∙ ap (λ n. ending rows roots room n (record r { refs = r.refs ++ [] })) (all spare)
-with_references-ending (q ∷ rs) rows roots room spare r =
-    ap (λ us. with_references (record { rows = us; roots = roots; spare = spare - 1; room = room }) rs)
+with_references-ending : (rs : List Reference) (rows : List Row) (roots pins : List (List Reference)) (room spare : ℕ) (r : Row)
+    → with_references (ending rows roots pins room spare r) rs
+    ≡ ending rows roots pins room (spare - length rs) (record r { refs = r.refs ++ rs })
+with_references-ending [] rows roots pins room spare r =
+    ap (λ qs. ending rows roots pins room spare (record r { refs = qs })) (sym (append-nil r.refs))
+    ∙ ap (λ n. ending rows roots pins room n (record r { refs = r.refs ++ [] })) (all spare)
+with_references-ending (q ∷ rs) rows roots pins room spare r =
+    ap (λ us. with_references (record { rows = us; roots = roots; pins = pins; spare = spare - 1; room = room }) rs)
     (change_last-push (add_reference q) rows r)
-    ∙ with_references-ending rs rows roots room (spare - 1) (add_reference q r)
-    ∙ ap (λ n. ending rows roots room n (record r { refs = r.refs ++ q ∷ [] ++ rs })) (less spare (length rs))
-    ∙ ap (λ qs. ending rows roots room (spare - length (q ∷ rs)) (record r { refs = qs })) (append_assoc r.refs (q ∷ []) rs)
+    ∙ with_references-ending rs rows roots pins room (spare - 1) (add_reference q r)
+    ∙ ap (λ n. ending rows roots pins room n (record r { refs = r.refs ++ q ∷ [] ++ rs })) (less spare (length rs))
+    ∙ ap (λ qs. ending rows roots pins room (spare - length (q ∷ rs)) (record r { refs = qs })) (append_assoc r.refs (q ∷ []) rs)
 
-with_numbers-ending : (xs : List ℕ) (rows : List Row) (roots : List (List Reference)) (room spare : ℕ) (r : Row)
-    → with_numbers (ending rows roots room spare r) xs
-    ≡ ending rows roots room (spare - length xs) (record r { nums = r.nums ++ xs })
-with_numbers-ending [] rows roots room spare r =
-    ap (λ ys. ending rows roots room spare (record r { nums = ys })) (sym (append-nil r.nums))
-    ∙ ap (λ n. ending rows roots room n (record r { nums = r.nums ++ [] })) (all spare)
-with_numbers-ending (x ∷ xs) rows roots room spare r =
-    ap (λ us. with_numbers (record { rows = us; roots = roots; spare = spare - 1; room = room }) xs)
+with_numbers-ending : (xs : List ℕ) (rows : List Row) (roots pins : List (List Reference)) (room spare : ℕ) (r : Row)
+    → with_numbers (ending rows roots pins room spare r) xs
+    ≡ ending rows roots pins room (spare - length xs) (record r { nums = r.nums ++ xs })
+with_numbers-ending [] rows roots pins room spare r =
+    ap (λ ys. ending rows roots pins room spare (record r { nums = ys })) (sym (append-nil r.nums))
+    ∙ ap (λ n. ending rows roots pins room n (record r { nums = r.nums ++ [] })) (all spare)
+with_numbers-ending (x ∷ xs) rows roots pins room spare r =
+    ap (λ us. with_numbers (record { rows = us; roots = roots; pins = pins; spare = spare - 1; room = room }) xs)
     (change_last-push (add_number x) rows r)
-    ∙ with_numbers-ending xs rows roots room (spare - 1) (add_number x r)
-    ∙ ap (λ n. ending rows roots room n (record r { nums = r.nums ++ x ∷ [] ++ xs })) (less spare (length xs))
-    ∙ ap (λ ys. ending rows roots room (spare - length (x ∷ xs)) (record r { nums = ys })) (append_assoc r.nums (x ∷ []) xs)
+    ∙ with_numbers-ending xs rows roots pins room (spare - 1) (add_number x r)
+    ∙ ap (λ n. ending rows roots pins room n (record r { nums = r.nums ++ x ∷ [] ++ xs })) (less spare (length xs))
+    ∙ ap (λ ys. ending rows roots pins room (spare - length (x ∷ xs)) (record r { nums = ys })) (append_assoc r.nums (x ∷ []) xs)
 
 -- a row, its references and its numbers are a whole row
 pub whole : (t : Text) (name : Name) (refs : List Reference) (nums : List ℕ)
@@ -67,9 +67,9 @@ pub whole : (t : Text) (name : Name) (refs : List Reference) (nums : List ℕ)
 whole t name refs nums =
     let e : t.spare - 3 - length refs - length nums ≡ t.spare - (3 + length refs + length nums) = omega arith in
     ap (λ u. with_numbers u nums)
-    (with_references-ending refs t.rows t.roots t.room (t.spare - 3) (record { name = name; refs = []; nums = [] }))
-    ∙ with_numbers-ending nums t.rows t.roots t.room (t.spare - 3 - length refs) (record { name = name; refs = refs; nums = [] })
-    ∙ ap (λ n. ending t.rows t.roots t.room n (record { name = name; refs = refs; nums = nums })) e
+    (with_references-ending refs t.rows t.roots t.pins t.room (t.spare - 3) (record { name = name; refs = []; nums = [] }))
+    ∙ with_numbers-ending nums t.rows t.roots t.pins t.room (t.spare - 3 - length refs) (record { name = name; refs = refs; nums = [] })
+    ∙ ap (λ n. ending t.rows t.roots t.pins t.room n (record { name = name; refs = refs; nums = nums })) e
 
 pub rows_left : (t : Text) (rs : List Reference) → length (with_references t rs).rows ≡ length t.rows
 rows_left t [] = refl
@@ -78,3 +78,10 @@ rows_left t (r ∷ rs) = rows_left (with_reference t r) rs ∙ length-change_las
 pub spare_left : (t : Text) (rs : List Reference) → (with_references t rs).spare ≡ t.spare - length rs
 spare_left t [] = all t.spare
 spare_left t (r ∷ rs) = spare_left (with_reference t r) rs ∙ less t.spare (length rs)
+
+-- where the pins alone have changed, and then change again, they alone have changed
+pub pins_alone : (first before after : Text) (pins : List (List Reference)) → before ≡ record first { pins = before.pins } → after ≡ record before { pins = pins }
+    → after ≡ record first { pins = after.pins }
+pins_alone first before after pins was is =
+    is ∙ ap (λ (ps : List (List Reference)). record before { pins = ps }) (sym (ap (λ (t : Text). t.pins) is))
+    ∙ ap (λ (t : Text). record t { pins = after.pins }) was

@@ -1,12 +1,12 @@
 -- What a walk over the addresses that roots lead to keeps, and what it has found at its end.
-use Rattle.std.proofs.Common.{ℕ, ◌≡◌, ◌≢◌, ◌+◌, ◌-◌, ◌<◌, ◌≤◌, Bool, true, false, List, [], length, get_or, nat_eq, replicate, All, arith, refl, ap, sym, ◌∙◌, inl, inr, subst}
-use Rattle.std.proofs.lemmas.List.{get_or-replicate, length-replicate, get_or_append_left, get_or_default}
+use Rattle.std.proofs.Common.{ℕ, ◌≡◌, ◌≢◌, ◌+◌, ◌-◌, ◌<◌, ◌≤◌, Bool, true, false, List, [], ◌++◌, length, get_or, nat_eq, replicate, All, arith, refl, ap, sym, ◌∙◌, inl, inr, subst}
+use Rattle.std.proofs.lemmas.List.{get_or-replicate, length-replicate, get_or_append_left, get_or_default, map-append}
 use Rattle.std.proofs.lemmas.List.Folds.{list_any_at}
 use Rattle.std.proofs.lemmas.Bool.{eq-eqb, false≢true, cases_lt}
 use Rattle.std.proofs.lemmas.Map.Keys.{IsDistinct-from_apart}
 use Rattle.std.proofs.lemmas.Map.Views.{Contains-from_any, exact_unsigned_eq}
-use Rattle.heap_graph.specs.Walk.{has, refs_at, currents, Leads, from_root, from_field, IsWalkable, IsMarked, IsNullOrAmong, IsWalk, with_addresses}
-use Rattle.heap_graph.proofs.Marks.{kept, new, only, prefix}
+use Rattle.heap_graph.specs.Walk.{has, refs_at, current_at, currents, Leads, from_root, from_field, IsWalkable, IsMarked, IsNullOrAmong, IsWalk, with_addresses}
+use Rattle.heap_graph.proofs.Marks.{kept, new, only, prefix, with_addresses-append, has-left, has-right}
 
 -- with no flag set, the list without an address is marked
 pub IsMarked-none : (first n : ℕ) (marks : List Bool) (order : List ℕ) → marks ≡ replicate n false → order ≡ [] → IsMarked first marks order
@@ -89,3 +89,22 @@ IsWalk-from first heap roots order marks next marked led rooted closed all = rec
   led = led;
   all = all_found first heap roots order rooted (λ j a h. closed j a (omega arith));
 }
+
+-- the current copies of what two lists of words name are those of what one of them names, and of what the other does
+currents-append : (first : ℕ) (heap xs ys : List ℕ) → currents first heap (xs ++ ys) ≡ currents first heap xs ++ currents first heap ys
+currents-append first heap xs ys = map-append (current_at first heap) xs ys
+
+pub currents-left : (first : ℕ) (heap xs ys : List ℕ) (a : ℕ) → has (currents first heap xs) a ≡ true → has (currents first heap (xs ++ ys)) a ≡ true
+currents-left first heap xs ys a h =
+    ap (λ zs. has zs a) (currents-append first heap xs ys) ∙ has-left (currents first heap xs) (currents first heap ys) a h
+
+pub currents-right : (first : ℕ) (heap xs ys : List ℕ) (a : ℕ) → has (currents first heap ys) a ≡ true → has (currents first heap (xs ++ ys)) a ≡ true
+currents-right first heap xs ys a h =
+    ap (λ zs. has zs a) (currents-append first heap xs ys) ∙ has-right (currents first heap xs) (currents first heap ys) a h
+
+-- taking down those of one list and then those of the other takes down all
+pub taken_both : (first : ℕ) (heap order xs ys : List ℕ)
+    → with_addresses (with_addresses order (currents first heap xs)) (currents first heap ys) ≡ with_addresses order (currents first heap (xs ++ ys))
+taken_both first heap order xs ys =
+    sym (with_addresses-append order (currents first heap xs) (currents first heap ys))
+    ∙ ap (with_addresses order) (sym (currents-append first heap xs ys))

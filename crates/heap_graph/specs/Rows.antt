@@ -37,11 +37,25 @@ with_numbers t (x ∷ xs) = with_numbers (with_number t x) xs
 abbrev pub with_whole_row : Text → Row → Text
 with_whole_row t r = record t { rows = t.rows ++ r ∷ []; spare = t.spare - (3 + length r.refs + length r.nums) }
 
--- the word of a root of a thread, counted from 1, among the words of all roots, 16 a thread; 0 where there is no such root
-abbrev pub root_word : List ℕ → ℕ → ℕ → ℕ
-root_word roots thread index =
-    if nat_le 1 thread && nat_lt index 16 then slice_index roots (16 * (thread - 1) + index) else 0
+-- the word of a cell of a thread, counted from 1, among the words of all threads, so many a thread; 0 where there is no such cell
+abbrev pub cell_word : (cells : ℕ) → List ℕ → ℕ → ℕ → ℕ
+cell_word cells words thread index =
+    if nat_le 1 thread && nat_lt index cells then slice_index words (cells * (thread - 1) + index) else 0
 
--- the roots of the threads 1 to `threads`, 16 each
+-- the word of a root, 16 a thread, and that of a pin slot, 4 a thread
+abbrev pub root_word : List ℕ → ℕ → ℕ → ℕ
+root_word = cell_word 16
+
+abbrev pub pin_word : List ℕ → ℕ → ℕ → ℕ
+pin_word = cell_word 4
+
+-- what the cells of the threads 1 to `threads` hold, so many each
+abbrev pub cell_rows : (cells : ℕ) → (ℕ → ℕ → Reference) → ℕ → List (List Reference)
+cell_rows cells held threads = map (λ t. map (held t) (range_with_len 0 cells)) (range_with_len 1 threads)
+
+-- the roots of the threads, and what their pin slots hold
 abbrev pub root_rows : (ℕ → ℕ → Reference) → ℕ → List (List Reference)
-root_rows root threads = map (λ t. map (root t) (range_with_len 0 16)) (range_with_len 1 threads)
+root_rows = cell_rows 16
+
+abbrev pub pin_rows : (ℕ → ℕ → Reference) → ℕ → List (List Reference)
+pin_rows = cell_rows 4

@@ -6,7 +6,7 @@ ghost use Rattle.shen_graph.specs.Graph.{same_name};
 ghost use Rattle.shen_graph.specs.Reach.{InOrder};
 ghost use Rattle.shen_graph.specs.GraphText.{names_of};
 ghost use Rattle.heap_graph.specs.Walk.{refs_at, nums_at, size_at, IsNamed};
-ghost use Rattle.heap_graph.specs.Rows.{name_in_heap, reference_in, row_in_heap, with_references, with_numbers, with_whole_row, root_word, root_rows};
+ghost use Rattle.heap_graph.specs.Rows.{name_in_heap, reference_in, row_in_heap, with_references, with_numbers, with_whole_row, root_word, root_rows, pin_word, pin_rows};
 
 use crate::walk::{current, references};
 use heap_words::{count_of, nums_of, refs_of, thread_of};
@@ -91,6 +91,7 @@ fn add_objects(first: u64, heap: &[u64], order: &[u64], text: &mut GraphText)
     requires room { sum_by (λ a. size_at heap.now (a - first)) order.now ≤ text.old.spare }
     ensures rows { text.new.rows ≡ text.old.rows ++ map (row_in_heap first heap.now) order.now }
     ensures roots { text.new.roots ≡ text.old.roots }
+    ensures pins { text.new.pins ≡ text.old.pins }
     ensures room { text.new.room ≡ text.old.room }
 {
     for address in order {
@@ -109,6 +110,7 @@ pub(crate) fn write_objects(first: u64, heap: &[u64], order: &[u64], text: &mut 
     ensures rows { IsPermutation (text.old.rows ++ map (row_in_heap first heap.now) order.now) text.new.rows }
     ensures order { InOrder (names_of text.new) }
     ensures roots { text.new.roots ≡ text.old.roots }
+    ensures pins { text.new.pins ≡ text.old.pins }
     ensures room { text.new.room ≡ text.old.room }
 {
     add_objects(first, heap, order, text);
@@ -123,10 +125,32 @@ pub(crate) fn set_roots(first: u64, heap: &[u64], roots: &[u64], text: &mut Grap
     requires lengths { All (λ row. length row ≡ 16) text.old.roots }
     ensures rows { text.new.rows ≡ text.old.rows }
     ensures room { text.new.room ≡ text.old.room }
+    ensures pins { text.new.pins ≡ text.old.pins }
+    ensures threads { length text.new.roots ≡ length text.old.roots }
     ensures roots { text.new.roots ≡ root_rows (λ t i. reference_in first heap.now (root_word roots.now t i)) (length text.old.roots) }
 {
     for (position, word) in roots.iter().enumerate() {
         let thread = (position / 16) as u32 + 1;
         text.root(thread, position % 16, reference_to(first, heap, *word));
+    }
+}
+
+/// Says what the pin slots of all threads hold, each 4 words of `pins`.
+pub(crate) fn set_pins(first: u64, heap: &[u64], pins: &[u64], text: &mut GraphText)
+    requires named { All (IsNamed first heap.now) pins.now }
+    requires threads { length pins.now ≡ 4 * length text.old.roots }
+    requires few { length text.old.roots < 2 ^ 32 }
+    requires rows { length text.old.pins ≡ length text.old.roots }
+    requires lengths { All (λ row. length row ≡ 4) text.old.pins }
+    ensures rest { text.new ≡ record text.old { pins = text.new.pins } }
+    ensures pins { text.new.pins ≡ pin_rows (λ t i. reference_in first heap.now (pin_word pins.now t i)) (length text.old.roots) }
+{
+    for (position, word) in pins.iter().enumerate() {
+        let thread = (position / 4) as u32 + 1;
+        text.pin(
+            thread,
+            (position % 4) as u32,
+            reference_to(first, heap, *word),
+        );
     }
 }

@@ -1,6 +1,6 @@
 //! Finds the addresses that roots lead to, by current copies.
 
-ghost use Rattle.std.specs.Prelude.{◌≡◌, ◌+◌, ◌≤◌, All, length, vec_capacity};
+ghost use Rattle.std.specs.Prelude.{◌≡◌, ◌+◌, ◌≤◌, ◌++◌, All, length, vec_capacity};
 ghost use Rattle.heap_graph.specs.Walk.{refs_at, size_at, current_at, currents, IsNamed, IsWalkable, IsNullOrAmong, IsMarked, IsWalk, with_address, with_addresses};
 
 use heap_words::{forwarded, forwardee, refs_of};
@@ -64,24 +64,26 @@ pub(crate) fn references(heap: &[u64], index: usize) -> &[u64]
     &heap[index + 3..index + 3 + count]
 }
 
-/// Writes the address of the current copy of each object that the roots lead to into `order`, each once. `heap` has a word for each address
-/// from `first` on, and `marks` a flag for each of them. No memory is taken.
+/// Writes the address of the current copy of each object that the roots and pin slots lead to into `order`, each once.
+/// `heap` has a word for each address from `first` on, and `marks` a flag for each of them. No memory is taken.
 pub(crate) fn find_reachable(
     first: u64,
     heap: &[u64],
     roots: &[u64],
+    pins: &[u64],
     marks: &mut [bool],
     order: &mut Vec<u64>,
 )
-    requires sound { IsWalkable first heap.now roots.now }
+    requires sound { IsWalkable first heap.now (roots.now ++ pins.now) }
     requires flags { length marks.old ≡ length heap.now }
     requires room { length heap.now ≤ vec_capacity order.old }
-    ensures walk { IsWalk first heap.now roots.now order.new.items }
+    ensures walk { IsWalk first heap.now (roots.now ++ pins.now) order.new.items }
     ensures room { vec_capacity order.new ≡ vec_capacity order.old }
 {
     marks.fill(false);
     order.clear();
     take_each_down(first, heap, roots, marks, order);
+    take_each_down(first, heap, pins, marks, order);
     let mut next = 0;
     while next < order.len() {
         let index = (order[next] - first) as usize;

@@ -48,13 +48,15 @@ use Rattle.mutator.specs.declared.shows.ShowSpot.{ShowSpot}
 use Rattle.mutator.specs.declared.shows.ShowSpot.TheVariants as show
 use Rattle.mutator.specs.declared.makes.MakeSpot.{MakeSpot}
 use Rattle.mutator.specs.declared.makes.MakeSpot.TheVariants as make
+use Rattle.mutator.specs.declared.pins.PinSpot.{PinSpot}
+use Rattle.mutator.specs.declared.pins.PinSpot.TheVariants as pin
 use Rattle.mutator.specs.declared.waits.WaitSpot.{WaitSpot}
 use Rattle.mutator.specs.declared.waits.WaitSpot.TheVariants as wait
 use Rattle.mutator.specs.declared.spot.Entered.TheVariants.{Call, Waited}
 use Rattle.mutator.specs.declared.spot.Kept.{Kept}
 use Rattle.mutator.specs.declared.spot.Spot.{Spot}
 use Rattle.mutator.specs.declared.spot.Spot.TheVariants as spot
-use Rattle.mutator.specs.Rows.{load_place, field_place, number_place, show_place, make_place}
+use Rattle.mutator.specs.Rows.{load_place, field_place, number_place, show_place, pin_place, make_place}
 use Rattle.mutator.specs.WaitRows.{wait_place}
 use Rattle.helper.specs.declared.spot.HelpSpot.{HelpSpot}
 use Rattle.helper.specs.declared.spot.HelpSpot.TheVariants as help
@@ -129,6 +131,10 @@ make_away : (at : MakeSpot) → same_place (make_place at) E4 ≡ false
 make_away (make.Taking at) = take_away at
 make_away _ = refl
 
+pin_away : (at : PinSpot) → same_place (pin_place at) E4 ≡ false
+pin_away pin.Look = refl
+pin_away _ = refl
+
 wait_away : (at : WaitSpot) → same_place (wait_place at) E4 ≡ false
 wait_away wait.Poll = refl
 wait_away _ = refl
@@ -176,6 +182,7 @@ module _ (c : Config) where
   mutator_awaits seat made kept (spot.OnNumber object refs at) there = absurd (false≢true (sym (number_away at) ∙ there))
   mutator_awaits seat made kept (spot.Showing value at) there = absurd (false≢true (sym (show_away at) ∙ there))
   mutator_awaits seat made kept (spot.Making at) there = absurd (false≢true (sym (make_away at) ∙ there))
+  mutator_awaits seat made kept (spot.Pinning value at) there = absurd (false≢true (sym (pin_away at) ∙ there))
   mutator_awaits seat made kept (spot.Waiting at) there = absurd (false≢true (sym (wait_away at) ∙ there))
   mutator_awaits seat made kept _ there = absurd (false≢true there)
 

@@ -3,7 +3,7 @@ use Rattle.std.proofs.Common.{◌≡◌, ℕ, Bool, true, false, length, None, r
 use Rattle.std.specs.Prelude.{◌==◌, nat_lt, if◌then◌else◌}
 use Rattle.heap_words.specs.declared.config.Config.{Config}
 use Rattle.shen_graph.specs.declared.command.Command.{Command}
-use Rattle.shen_graph.specs.declared.command.Command.TheVariants.{New, Drop, Copy, Same, Get, Set, Cas, Xchg, Rd, Wr, Gc}
+use Rattle.shen_graph.specs.declared.command.Command.TheVariants.{New, Drop, Copy, Same, Get, Set, Cas, Xchg, Rd, Wr, Gc, Pin, Unpin}
 use Rattle.shen_graph.specs.declared.command.Reply.TheVariants as reply
 use Rattle.shen_graph.specs.declared.order.Order.TheVariants.{Nothing}
 use Rattle.handshake.specs.declared.enter_spot.EnterSpot.{EnterSpot}
@@ -16,7 +16,7 @@ use Rattle.mutator.specs.declared.spot.Spot.{Spot}
 use Rattle.satb_barrier.specs.declared.spot.RememberSpot.{RememberSpot}
 use Rattle.satb_barrier.specs.declared.spot.RememberSpot.TheVariants.{LoadCount, Recorded}
 use Rattle.satb_barrier.specs.Rows as satb
-use Rattle.mutator.specs.declared.spot.Spot.TheVariants.{Rest, Ended, Entering, LoadPhase, LoadSet, Loading, OnField, Resolving, Recording, OnNumber, Showing, StoreRoot, Making, AskCycle, Waiting, Leave, Gone}
+use Rattle.mutator.specs.declared.spot.Spot.TheVariants.{Rest, Ended, Entering, LoadPhase, LoadSet, Loading, OnField, Resolving, Recording, OnNumber, Showing, StoreRoot, Making, AskCycle, Pinning, Waiting, Leave, Gone}
 use Rattle.mutator.specs.declared.spot.Entered.{Entered}
 use Rattle.mutator.specs.declared.spot.Entered.TheVariants.{Call, Waited}
 use Rattle.mutator.specs.declared.loads.LoadSpot.{LoadSpot}
@@ -37,12 +37,14 @@ use Rattle.mutator.specs.declared.shows.ShowSpot.{ShowSpot}
 use Rattle.mutator.specs.declared.shows.ShowSpot.TheVariants as show
 use Rattle.mutator.specs.declared.makes.MakeSpot.{MakeSpot}
 use Rattle.mutator.specs.declared.makes.MakeSpot.TheVariants as make
+use Rattle.mutator.specs.declared.pins.PinSpot.{PinSpot}
+use Rattle.mutator.specs.declared.pins.PinSpot.TheVariants as pin
 use Rattle.mutator.specs.declared.waits.WaitSpot.{WaitSpot}
 use Rattle.mutator.specs.declared.waits.WaitSpot.TheVariants as wait
-use Rattle.mutator.specs.Commands.{command_roots, lacks_object, has_part}
+use Rattle.mutator.specs.Commands.{command_roots, lacks_object, has_part, fits_slot}
 use Rattle.mutator.specs.Orders.{is_between_calls}
 use Rattle.mutator.specs.WaitRows.{after_enter, wait_next}
-use Rattle.mutator.specs.Rows.{Mutating, given_at, next_at, first_spot, after_roots, after_first, after_second, after_root, on_number, with_part, after_shape, after_take, is_to_record, after_recording, overwritten, after_remember, after_expected, after_resolved, with_loaded, after_resolve, after_swap, take_next, load_next, field_next, number_next, show_next, make_next}
+use Rattle.mutator.specs.Rows.{Mutating, given_at, next_at, first_spot, after_roots, after_first, after_second, after_root, on_number, with_part, after_shape, after_take, is_to_record, after_recording, overwritten, after_remember, after_expected, after_resolved, with_loaded, after_resolve, after_swap, take_next, load_next, field_next, number_next, show_next, pin_next, make_next}
 
 -- a call is in progress
 abbrev InCall : Spot → Type 0
@@ -62,10 +64,12 @@ in_first_spot : (command : Command) → InCall (first_spot command)
 in_first_spot (New dst refs nums) = refl
 in_first_spot (Drop dst) = refl
 in_first_spot Gc = refl
+in_first_spot (Unpin slot) = refl
 in_first_spot _ = refl
 
 in_roots : (command : Command) (first second third : ℕ) → InCall (after_roots command first second third)
 in_roots (Copy dst src) first second third = refl
+in_roots (Pin slot obj) first second third = refl
 in_roots (Same a b) first second third = refl
 in_roots _ first second third = refl
 
@@ -150,6 +154,10 @@ in_show : (value : ℕ) (at : ShowSpot) (got : ℕ) → InCall (show_next value 
 in_show value show.LoadName got = refl
 in_show value (show.StoreRoot reply) got = refl
 
+in_pin : (value : ℕ) (command : Command) (at : PinSpot) (got : ℕ) → InCall (pin_next value command at got)
+in_pin value command pin.Look got = either (fits_slot command got) (Pinning value pin.Store) (Leave reply.Bad) refl refl
+in_pin value command pin.Store got = refl
+
 in_make : (c : Config) (seat made : ℕ) (command : Command) (at : MakeSpot) (got : ℕ) → InCall (make_next c seat made command at got)
 in_make c seat made command (make.Taking take) got = in_take (take_next c command take got)
 in_make c seat made command (make.StoreWord address done) got = refl
@@ -176,5 +184,6 @@ call_goes_on c m got (Showing value at) busy none = in_show value at got
 call_goes_on c m got (StoreRoot value) busy none = refl
 call_goes_on c m got (Making at) busy none = in_make c m.seat m.made m.kept.command at got
 call_goes_on c m got AskCycle busy none = refl
+call_goes_on c m got (Pinning value at) busy none = in_pin value m.kept.command at got
 call_goes_on c m got (Waiting at) busy none = in_wait m.seat m.made at got
 call_goes_on c m got (Leave reply) busy none = absurd (cc (none))

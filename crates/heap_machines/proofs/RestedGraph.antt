@@ -6,7 +6,7 @@ use Rattle.std.proofs.lemmas.Grind.{same_number_lists}
 use Rattle.std.proofs.lemmas.List.{append-nil, get_or-take, get_or-drop}
 use Rattle.std.specs.Prelude.{slice_get, ◌++◌}
 use Rattle.heap_words.specs.declared.config.Config.{Config}
-use Rattle.heap_words.specs.Words.{Word, Root, view, heap_in, roots_in, image_start}
+use Rattle.heap_words.specs.Words.{Word, Root, view, heap_in, roots_in, pins_in, image_start}
 use Rattle.shen_graph.specs.declared.name.Name.{Name}
 use Rattle.shen_graph.specs.declared.command.Reply.{Reply}
 use Rattle.shen_graph.specs.Graph.{Graph}
@@ -87,11 +87,11 @@ module _ (c : Config) (run : Run c) (rest : (t : ℕ) (a : Actor) → t < c.muta
       ((sound.stands.mutators t some.actor m some.here).roots i small))
 
   -- the words stand for the graph after the run
-  pub words_stand : WordsStand c.region_words (heap_in c (ending pause_image c run).words) (roots_in c (ending pause_image c run).words) names graph
+  pub words_stand : WordsStand c.region_words (heap_in c (ending pause_image c run).words) (roots_in c (ending pause_image c run).words) (pins_in c (ending pause_image c run).words) names graph
   words_stand = table_stands c (ending pause_image c run).words sound.stands.block sound.stands.ghost graph sound.of_heap.words
       (subst (λ (memory : Word → ℕ). Shared c (record { memory = memory; block = sound.stands.block; ghost = sound.stands.ghost; graph = graph })) table_counts sound.stands.shared)
       (λ t i below small. subst (λ (memory : Word → ℕ). Points sound.stands.block (memory (Root t i)) (graph.root (t + 1) i)) table_counts (own_roots t i below small))
-      sound.no_more
+      sound.no_more sound.no_more_pins
 
   -- the words of the image, as the table has them
   abbrev image : List ℕ

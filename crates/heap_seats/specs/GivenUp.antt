@@ -69,7 +69,7 @@ pub record MayEndHeap (closing : Closing) : Type 0 where
 pub record HaveOneHistory (c : Config) (seats : List Seat) (left : Left) : Type 0 where
   pub events : List (Event Order)
   pub ends : reached pause_image c events ≡ closed.stage_of left
-  pub legal : EachIsLegal (first_graph c) (past pause_image c events)
+  pub legal : EachIsLegal c.regions c.region_words (first_graph c) (past pause_image c events)
   pub crowded : AreCrowded c.regions c.region_words (first_graph c) (scripts_begun c (reached pause_image c events)) (past pause_image c events)
   pub entries : All (IsSettled c.mutators) (past pause_image c events)
   pub parts : (k : ℕ) (s : Seat) → slice_get seats k ≡ Some s → k < c.mutators → of_thread (past pause_image c events) (k + 1) ≡ calls_of s

@@ -26,7 +26,7 @@ use Rattle.heap_seats.specs.Seats.{config_of, number_of, actor_in, machine_of_se
 -- refuses was crowded out.
 pub record ArePartOfHistory (c : Config) (thread : ℕ) (calls : List Entry) : Type 0 where
   pub events : List (Event Order)
-  pub legal : EachIsLegal (first_graph c) (past pause_image c events)
+  pub legal : EachIsLegal c.regions c.region_words (first_graph c) (past pause_image c events)
   pub crowded : AreCrowded c.regions c.region_words (first_graph c) (scripts_begun c (reached pause_image c events)) (past pause_image c events)
   pub part : of_thread (past pause_image c events) thread ≡ calls
 

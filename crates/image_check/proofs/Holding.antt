@@ -3,6 +3,7 @@ use Rattle.std.proofs.Common.{◌≡◌, ◌≢◌, ℕ, ◌+◌, ◌-◌, ◌*�
 use Rattle.std.specs.List.{range_with_len}
 use Rattle.std.specs.Option.{option_map}
 use Rattle.std.specs.Prelude.{if◌then◌else◌}
+use Rattle.std.proofs.Math.Logic.{∥∥₁_map}
 use Rattle.std.proofs.lemmas.Bool.{cond-true, cond-false, cases_Bool, cases_lt, cases_eq, or_cases, and_from, and_parts, eqb-true, eq-eqb, ne_eqb, le-leb, lt-ltb, leb-true, ltb-true, false≢true}
 use Rattle.std.proofs.lemmas.List.FromFn.{length-map-range_with_len, get_or-map-range_with_len}
 use Rattle.std.proofs.lemmas.Option.{none-some, same_Some, slice_get_within, get_or_from_slice_get}
@@ -11,20 +12,21 @@ use Rattle.heap_words.specs.Ranges.{seat_count}
 use Rattle.heap_words.specs.Words.{Word, Top, Current, Root, Wait, Heap}
 use Rattle.heap_words.specs.Encoding.{is_forwarded, name_code, thread_in, count_in, refs_in, nums_in, request_count_in}
 use Rattle.regions.specs.Place.{base_of, region_with, IsOf}
+use Rattle.regions.specs.Walk.{is_filler}
 use Rattle.regions.proofs.PlaceLemmas.{regions_tile}
 use Rattle.shen_graph.specs.declared.name.Name.{Name}
 use Rattle.shen_graph.specs.Graph.{Graph, Object, Reference, same_name}
 use Rattle.shen_graph.proofs.PlainLemmas.{same_name-true, same_name-itself}
 use Rattle.heap_graph.specs.Walk.{has}
 use Rattle.heap_world.specs.Roots.{is_root_of}
-use Rattle.heap_world.specs.World.{Block, thing, spare, words_of, Plot, name_at, Points, IsThing, IsGiven, IsPlotted, IsFilled, AreObjects}
+use Rattle.heap_world.specs.World.{Block, thing, filler, spare, words_of, Plot, name_at, Points, IsThing, IsGiven, IsPlotted, IsFilled, AreObjects}
 use Rattle.full_words.specs.Promised.{Promises}
 use Rattle.full_words.specs.Image.{RootsStand, ImageStands}
 use Rattle.full_words.specs.Serving.{asked_name, IsAsking}
 use Rattle.full_words.proofs.Found.{index_of, has_at}
 use Rattle.full_words.proofs.Named.{named_things}
 use Rattle.full_words.proofs.ImagesStand.{standing_holds}
-use Rattle.image_graph.specs.Holds.{HoldsBy, HoldsSome}
+use Rattle.image_graph.specs.Holds.{HoldsBy, HoldsSome, HoldsSized, AreSized}
 use Rattle.image_check.specs.Laid.{laid_words, used_end, IsReference, LiesRight, ReadsRight, IsLaidOut}
 
 -- nothing is promised
@@ -75,6 +77,7 @@ module _ (c : Config) (m : Word → ℕ) (objects : List ℕ) (laid : IsLaidOut 
     object = λ n. option_map object_at (found objects n);
     root = λ t i. if is_root_of c.mutators t i then reference (m (Root (t - 1) i)) else None;
     count = made;
+    pin = λ t slot. None;
   }
 
   abbrev address : ℕ → ℕ
@@ -290,15 +293,22 @@ module _ (c : Config) (m : Word → ℕ) (objects : List ℕ) (laid : IsLaidOut 
         (t - 1, omega (arith, low, high), omega (arith, low), ltb-true i 16 two.1))
         (λ (other : is_root_of c.mutators t i ≡ false). absurd (none-some n (sym (cond-false (is_root_of c.mutators t i) (reference (m (Root (t - 1) i))) None other) ∙ is)))
         (cases_Bool (is_root_of c.mutators t i));
+    pins = λ t i inside few. (laid.mutators t inside).pins i few;
+    no_more_pins = λ t i held is. absurd (none-some held is);
     no_more_promised = λ t n is. absurd (none-some n is);
   }
+
+  -- no piece only fills
+  no_filler : (a words : ℕ) → block a ≡ Some (filler words) → ⊥
+  no_filler a words is = let differ = (piece_at a (filler words) is).1 in cc
 
   stands : ImageStands c m block graph no_promise
   stands = record {
     plotted = plotted;
     filled = filled;
     objects = objects_are;
-    things = λ a b is. (let at = piece_at a b is in (name_of a, refs_at a, nums_at a, sym at.1));
+    things = λ a b is. (let at = piece_at a b is in inl (name_of a, refs_at a, nums_at a, sym at.1));
+    fillers = λ a words is. absurd (no_filler a words is);
     free_word = record {
       no_more = laid.free;
       empty = λ r within member. (laid.regions r within).empty member;
@@ -408,11 +418,23 @@ module _ (c : Config) (m : Word → ℕ) (objects : List ℕ) (laid : IsLaidOut 
     };
   }
 
-  pub laid_holds : ((s : ℕ) → seat_count c.mutators c.helpers ≤ s → m (Current s) ≡ 0) → HoldsSome c m
-  laid_holds beyond = ∣ (graph, (block, (λ r. None), no_promise, holds_by nobody)) ∣₁
+  -- each object says how many words it has
+  sized : AreSized m block
+  sized = record {
+    objects = λ a b is whole. ap words_of (piece_at a b is).1;
+    headers = λ a b is whole. (let at = piece_at a b is in ap is_filler (reads a at.0).header);
+    fillers = λ a words is. let differ = (piece_at a (filler words) is).1 in absurd cc;
+  }
+
+  pub laid_sized : ((s : ℕ) → seat_count c.mutators c.helpers ≤ s → m (Current s) ≡ 0) → HoldsSized c m
+  laid_sized beyond = ∣ (graph, block, (λ r. None), no_promise, holds_by nobody, sized) ∣₁
     where
       nobody : (s : ℕ) → m (Current s) ≡ 0
       nobody s = ⊎_elim
           (λ (seat : s < seat_count c.mutators c.helpers). laid.unbuffered s seat)
           (λ (past : seat_count c.mutators c.helpers ≤ s). beyond s past)
           (cases_lt s (seat_count c.mutators c.helpers))
+
+-- what is held so is held in some way
+pub sized_holds : (c : Config) (m : Word → ℕ) → HoldsSized c m → HoldsSome c m
+sized_holds c m held = ∥∥₁_map held (λ by. (by.0, (by.1, by.2, by.3, by.4)))

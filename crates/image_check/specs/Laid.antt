@@ -2,7 +2,7 @@
 use Rattle.std.specs.Prelude.{ℕ, true, ◌≡◌, ◌≢◌, ◌+◌, ◌*◌, ◌<◌, ◌≤◌, ◌^◌, None, List, length, slice_index}
 use Rattle.heap_words.specs.declared.config.Config.{Config}
 use Rattle.heap_words.specs.Ranges.{seat_count}
-use Rattle.heap_words.specs.Words.{Word, Cset, Free, Top, Current, Root, Wait, Answer, Heap, Share}
+use Rattle.heap_words.specs.Words.{Word, Cset, Free, Top, Current, Root, Wait, Answer, Heap, Share, Pin}
 use Rattle.heap_words.specs.Encoding.{plain_header, refs_in, nums_in, object_words, shape_word, thread_in, count_in, request_count_in, request_shape_in}
 use Rattle.regions.specs.Place.{base_of, region_with}
 use Rattle.regions.specs.Sets.{IsIn}
@@ -63,9 +63,10 @@ pub record IsAskedRight (m : Word → ℕ) (t : ℕ) : Type 0 where
   pub counted : 0 < request_count_in (m (Wait t))
   pub unanswered : m (Answer t) ≡ 0
 
--- the roots of a mutator are references, and nothing was made for it
+-- the roots of a mutator are references, its pin slots are empty, and nothing was made for it
 pub record IsMutatorRight (m : Word → ℕ) (objects : List ℕ) (t : ℕ) : Type 0 where
   pub roots : (i : ℕ) → i < 16 → IsReference objects (m (Root t i))
+  pub pins : (i : ℕ) → i < 4 → m (Pin t i) ≡ 0
   pub answer : m (Answer t) ≤ 1
   pub asked : m (Wait t) ≢ 0 → IsAskedRight m t
 

@@ -2,7 +2,7 @@
 
 ghost use Rattle.std.specs.Prelude.{ℕ, ◌≡◌, ◌<◌, ◌^◌, None, IsTrue};
 ghost use Rattle.heap_words.specs.Ranges.{seat_count};
-ghost use Rattle.heap_words.specs.Words.{Cset, Free, Current, Root, Share};
+ghost use Rattle.heap_words.specs.Words.{Cset, Free, Current, Root, Share, Pin};
 ghost use Rattle.heap_world.specs.World.{ShareIsOpen};
 ghost use Rattle.image_graph.specs.State.{config_of, memory_of};
 ghost use Rattle.image_check.specs.Laid.{IsReference, IsRegionRight, IsMutatorRight};
@@ -92,7 +92,22 @@ fn are_roots_right(image: &Image, objects: &[u64], mutator: usize) -> bool
     true
 }
 
-// Whether a mutator's roots are right, nothing was made for it, and it asks for an object that can be, if it asks.
+// Whether the pin slots of a mutator are empty.
+fn are_slots_empty(image: &Image, mutator: usize) -> bool
+    requires { mutator < (config_of image.now).mutators }
+    ensures { IsTrue result → (i : ℕ) → i < 4 → memory_of image.now (Pin mutator i) ≡ 0 }
+{
+    let config = image.config();
+    for slot in 0..4 {
+        if image.word(config.pin_at(mutator, slot)) != 0 {
+            return false;
+        }
+    }
+    true
+}
+
+// Whether a mutator's roots are right, its pin slots are empty, nothing was made for it, and it asks for an object that can be, if it
+// asks.
 fn is_mutator_right(image: &Image, objects: &[u64], mutator: usize) -> bool
     requires { mutator < (config_of image.now).mutators }
     ensures { IsTrue result → IsMutatorRight (memory_of image.now) objects.now mutator }
@@ -100,7 +115,7 @@ fn is_mutator_right(image: &Image, objects: &[u64], mutator: usize) -> bool
     let config = image.config();
     let answer = image.word(config.answer_at(mutator));
     let request = image.word(config.wait_at(mutator));
-    if answer > 1 || !are_roots_right(image, objects, mutator) {
+    if answer > 1 || !are_roots_right(image, objects, mutator) || !are_slots_empty(image, mutator) {
         return false;
     }
     request == 0 || (answer == 0 && request_count(request) > 0 && is_shape(request_shape(request)))

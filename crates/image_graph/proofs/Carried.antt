@@ -3,7 +3,7 @@ use Rattle.std.proofs.Common.{◌≡◌, ◌≢◌, ℕ, ◌+◌, ◌<◌, ◌�
 use Rattle.std.proofs.lemmas.Bool.{cond-false, cases_Bool, cases_lt}
 use Rattle.std.proofs.lemmas.Option.{slice_get_within, slice_get-get_or}
 use Rattle.heap_words.specs.declared.config.Config.{Config}
-use Rattle.heap_words.specs.Words.{Word, Cset, Free, Top, Current, Root, Wait, Answer, Heap, Share}
+use Rattle.heap_words.specs.Words.{Word, Cset, Free, Top, Current, Root, Wait, Answer, Heap, Share, Pin}
 use Rattle.heap_words.specs.Encoding.{plain_header, is_forwarded, forwardee_in, refs_in, nums_in, shape_word, request_count_in, request_shape_in}
 use Rattle.shen_graph.specs.declared.name.Name.{Name}
 use Rattle.shen_graph.specs.Graph.{Graph, Object, Reference}
@@ -12,13 +12,14 @@ use Rattle.heap_world.specs.World.{thing, Plot, name_at, Points, IsPlotted, IsFi
 use Rattle.heap_world.proofs.Pointing.{named_piece, named_if_not_0, piece_inside}
 use Rattle.full_words.specs.Held.{IsLedTo, from_root, from_field, IsAmong, IsCopy, HoldsGraph}
 use Rattle.full_words.specs.Plot.{NamedAreThings}
-use Rattle.full_words.specs.Full.{now_in, roots_below, answers_below, root_words}
+use Rattle.full_words.specs.Full.{now_in, roots_below, answers_below, root_words, held_words}
+use Rattle.full_words.specs.Pinned.{pins_below}
 use Rattle.full_words.specs.Promised.{Promises, with_promised}
-use Rattle.full_words.specs.Image.{AnswerStands, RootsStand}
+use Rattle.full_words.specs.Image.{AnswerStands, PinWordStands, RootsStand}
 use Rattle.full_words.specs.Serving.{asked_shape, AreAsking}
 use Rattle.full_words.proofs.Reached.{refs_read}
 use Rattle.full_words.proofs.Roots as roots
-use Rattle.full_words.proofs.Roots.{has_either, root_in, answer_in, root_among, answer_among, answer_names}
+use Rattle.full_words.proofs.Roots.{has_either, root_in, answer_in, pin_in, pin_some, pin_copy, pin_stays, root_among, answer_among, pin_among, answer_names}
 use Rattle.image_graph.specs.Holds.{HasMoved, HoldsBy}
 
 -- the current copy goes by the header
@@ -34,7 +35,7 @@ pub not_renamed : (m : Word → ℕ) (v w : ℕ) → w ≡ v → IsRenamed m v w
 not_renamed m v w same = record { small = λ low. same; either = inl same }
 
 -- An object at an address comes from one at its origin, has that one's words, and fields that name the same; and so do roots and
--- answers. Of two addresses with one origin one at most is a current copy.
+-- answers. Of two addresses with one origin one at most is a current copy. Pin words stay, and what they hold does not move.
 pub record IsCarried (c : Config) (m n : Word → ℕ) (block plot : Plot) (origin : ℕ → ℕ) (Lands : ℕ → Type 0) : Type 0 where
   pub plotted : IsPlotted c (λ r. n (Top r)) plot
   pub names : (v : ℕ) (name : Name) → name_at (block v) ≡ Some name → name_at (plot v) ≡ Some name
@@ -50,6 +51,9 @@ pub record IsCarried (c : Config) (m n : Word → ℕ) (block plot : Plot) (orig
       → IsRenamed m (m (Heap (origin x + 3 + i))) (n (Heap (x + 3 + i)))
   pub roots : (t i : ℕ) → t < c.mutators → i < 16 → IsRenamed m (m (Root t i)) (n (Root t i))
   pub answers : (t : ℕ) → t < c.mutators → IsRenamed m (m (Answer t)) (n (Answer t))
+  pub pins : (t i : ℕ) → t < c.mutators → i < 4 → n (Pin t i) ≡ m (Pin t i)
+  pub pinned : (t i : ℕ) → t < c.mutators → i < 4 → (name : Name) → IsCopy block (m (Pin t i)) name → is_forwarded (m (Heap (m (Pin t i)))) ≡ false
+      → is_forwarded (n (Heap (m (Pin t i)))) ≡ false
   pub waits : (t : ℕ) → n (Wait t) ≡ m (Wait t)
 
 module _ (c : Config) (m n : Word → ℕ) (block plot : Plot) (owner : ℕ → Option ℕ) (p : Promises) (g : Graph) (holds : HoldsBy c m block owner p g)
@@ -67,10 +71,10 @@ module _ (c : Config) (m n : Word → ℕ) (block plot : Plot) (owner : ℕ → 
   more = with_promised g p
 
   abbrev IsLedWas : ℕ → Type 0
-  IsLedWas = IsLedTo (now_in m) heap (IsAmong (root_words c m))
+  IsLedWas = IsLedTo (now_in m) heap (IsAmong (held_words c m))
 
   abbrev IsLedNow : ℕ → Type 0
-  IsLedNow = IsLedTo (now_in n) after (IsAmong (root_words c n))
+  IsLedNow = IsLedTo (now_in n) after (IsAmong (held_words c n))
 
   -- a current copy is its own
   now_own : (v : ℕ) (name : Name) → name_at (block v) ≡ Some name → now_in m (now_in m v) ≡ now_in m v
@@ -138,8 +142,24 @@ module _ (c : Config) (m n : Word → ℕ) (block plot : Plot) (owner : ℕ → 
       (λ (low : m (Answer t) ≤ 1). absurd (let same = (is.answers t inside).small low in omega (arith, same, low, some)))
       (cases_lt 1 (m (Answer t)))
 
-  word_comes : (w : ℕ) → IsAmong (root_words c n) w → w ≢ 0 → ComesFrom (now_in n w)
-  word_comes w among some = ⊎_elim
+  -- what a pin slot holds has a name
+  pin_named : (t i : ℕ) → t < c.mutators → i < 4 → m (Pin t i) ≢ 0 → (name : Name) × (name_at (block (m (Pin t i))) ≡ Some name)
+  pin_named t i inside few some =
+      let stands = holds.rooted.pins t i inside few in
+      let held = pin_some m block (m (Pin t i)) (g.pin (t + 1) i) stands some in
+      let copy = (pin_copy m block (m (Pin t i)) (g.pin (t + 1) i) held.0 stands held.1).1 in
+      (held.0.name, ap name_at copy.2)
+
+  pin_comes : (t i : ℕ) → t < c.mutators → i < 4 → n (Pin t i) ≢ 0 → ComesFrom (now_in n (n (Pin t i)))
+  pin_comes t i inside few some =
+      let same = is.pins t i inside few in
+      let other : m (Pin t i) ≢ 0 = λ none. some (same ∙ none) in
+      let to = pin_named t i inside few other in
+      comes (m (Pin t i)) (n (Pin t i)) to.0 (not_renamed m (m (Pin t i)) (n (Pin t i)) same) to.1
+      (from_root (m (Pin t i)) (pin_among c top m block g p holds.objects.plotted holds.rooted t i inside few) other)
+
+  named_comes : (w : ℕ) → IsAmong (root_words c n) w → w ≢ 0 → ComesFrom (now_in n w)
+  named_comes w among some = ⊎_elim
       (λ (root : has (roots_below n c.mutators) w ≡ true).
       let at = root_in n c.mutators w root in
       subst (λ k. ComesFrom (now_in n k)) at.4 (root_comes at.0 at.1 at.2 at.3 (λ none. some (sym at.4 ∙ none))))
@@ -147,6 +167,14 @@ module _ (c : Config) (m n : Word → ℕ) (block plot : Plot) (owner : ℕ → 
       let at = answer_in n c.mutators w answer in
       subst (λ k. ComesFrom (now_in n k)) at.3 (answer_comes at.0 at.1 at.2))
       (has_either (roots_below n c.mutators) (answers_below n c.mutators) w among)
+
+  word_comes : (w : ℕ) → IsAmong (held_words c n) w → w ≢ 0 → ComesFrom (now_in n w)
+  word_comes w among some = ⊎_elim
+      (λ (named : has (root_words c n) w ≡ true). named_comes w named some)
+      (λ (pin : has (pins_below n c.mutators) w ≡ true).
+      let at = pin_in n c.mutators w pin in
+      subst (λ k. ComesFrom (now_in n k)) at.4 (pin_comes at.0 at.1 at.2 at.3 (λ none. some (sym at.4 ∙ none))))
+      (has_either (root_words c n) (pins_below n c.mutators) w among)
 
   -- how many references an object has
   reads : (x refs nums : ℕ) (name : Name) → IsLedWas (origin x) → plot x ≡ Some (thing name refs nums) → refs_in (heap (origin x + 1)) ≡ refs
@@ -212,15 +240,27 @@ module _ (c : Config) (m n : Word → ℕ) (block plot : Plot) (owner : ℕ → 
       inr (omega (arith, lies.0, long), some.1, some.2, is.names (n (Answer t)) some.1 to.0))
       (holds.rooted.answers t inside)
 
+  pin_again : (t i : ℕ) → t < c.mutators → i < 4 → PinWordStands n plot (n (Pin t i)) (g.pin (t + 1) i)
+  pin_again t i inside few =
+      let w = m (Pin t i) in
+      let stay : (name : Name) → IsCopy block w name → is_forwarded (heap w) ≡ false → IsCopy plot w name × (is_forwarded (after w) ≡ false) = λ name was still.
+      let plain = is.pinned t i inside few name was still in
+      let own : now_in n w ≡ w = cond-false (is_forwarded (after w)) (forwardee_in (after w)) w plain in
+      (subst (λ k. IsCopy plot k name) own (is.current w name (is.names w name (ap name_at was.2))), plain) in
+      subst (λ k. PinWordStands n plot k (g.pin (t + 1) i)) (sym (is.pins t i inside few))
+      (pin_stays m n block plot w (g.pin (t + 1) i) stay (holds.rooted.pins t i inside few))
+
   pub rooted_again : RootsStand c n plot g p
   rooted_again = record {
     roots = λ t i inside few. points_again (m (Root t i)) (n (Root t i)) (g.root (t + 1) i) (is.roots t i inside few) (holds.rooted.roots t i inside few);
     answers = answer_again;
     no_more_roots = holds.rooted.no_more_roots;
+    pins = pin_again;
+    no_more_pins = holds.rooted.no_more_pins;
     no_more_promised = holds.rooted.no_more_promised;
   }
 
-  pub objects_again : HoldsGraph c (λ r. n (Top r)) after plot (now_in n) (IsAmong (root_words c n)) more
+  pub objects_again : HoldsGraph c (λ r. n (Top r)) after plot (now_in n) (IsAmong (held_words c n)) more
   objects_again = record {
     plotted = is.plotted;
     current = is.current;
@@ -232,6 +272,7 @@ module _ (c : Config) (m n : Word → ℕ) (block plot : Plot) (owner : ℕ → 
         (holds.objects.once (origin x) (origin y) refs nums more_refs more_nums name from_x.led from_y.led (is.pieces x refs nums name here_x) (is.pieces y more_refs more_nums name here_y));
     root_named = roots.root_named c (λ r. n (Top r)) n plot g p is.plotted rooted_again;
     root_held = roots.root_held c (λ r. n (Top r)) n plot g p is.plotted rooted_again;
+    pinless = holds.objects.pinless;
   }
 
   asking_again : AreAsking c n g p 0

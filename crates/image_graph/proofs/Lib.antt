@@ -11,3 +11,6 @@ pub mod ObjectMade
 pub mod ServedHolds
 pub mod Carried
 pub mod Loosening
+pub mod RegionSets
+pub mod Starts
+pub mod Filling

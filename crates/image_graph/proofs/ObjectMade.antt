@@ -3,7 +3,7 @@ use Rattle.std.proofs.Common.{◌≡◌, ◌≢◌, ℕ, ◌+◌, ◌<◌, ◌�
 use Rattle.std.proofs.lemmas.Bool.{cond-true, cond-false, cases_eq, eq-eqb, ne_eqb, true≢false}
 use Rattle.std.proofs.lemmas.Option.{none-some, same_Some, slice_get-get_or}
 use Rattle.heap_words.specs.declared.config.Config.{Config}
-use Rattle.heap_words.specs.Words.{Word, Cset, Free, Top, Current, Root, Wait, Answer, Heap, Share}
+use Rattle.heap_words.specs.Words.{Word, Cset, Free, Top, Current, Root, Wait, Answer, Heap, Share, Pin}
 use Rattle.heap_words.specs.Encoding.{plain_header, is_forwarded, forwardee_in, refs_in, nums_in, object_words, name_code, request_count_in}
 use Rattle.regions.specs.Place.{base_of, region_with}
 use Rattle.regions.specs.Sets.{IsIn, IsOutside}
@@ -12,20 +12,23 @@ use Rattle.shen_graph.specs.declared.name.Name.{Name}
 use Rattle.shen_graph.specs.Graph.{Graph, Object, Reference, named, fresh}
 use Rattle.shen_graph.specs.Reach.{IsReachable}
 use Rattle.shen_graph.specs.Reach as reach
+use Rattle.shen_graph.specs.Step.{name_in}
 use Rattle.heap_graph.specs.Walk.{has}
 use Rattle.heap_world.specs.World.{Block, thing, filler, room_of, words_of, Plot, name_at, IsPlotted, IsFilled, IsFreeWord, ShareIsOpen, AreBuffers}
 use Rattle.heap_world.proofs.Pointing.{named_if_not_0}
 use Rattle.heap_world.proofs.Joined as joined
 use Rattle.full_words.specs.Held.{IsLedTo, from_root, from_field, IsAmong, IsCopy, HoldsGraph}
-use Rattle.full_words.specs.Full.{now_in, roots_below, answers_below, root_words, made_in}
+use Rattle.full_words.specs.Full.{now_in, roots_below, answers_below, root_words, held_words, made_in}
+use Rattle.full_words.specs.Pinned.{pins_below}
 use Rattle.full_words.specs.Promised.{Promises, with_promised, AreFresh}
 use Rattle.full_words.specs.Serving.{asked_shape, asked_name, asked_piece, made_block, made_promise, IsAsking, AreAsking}
 use Rattle.full_words.proofs.Buffers.{buffers_stay, share_stays}
 use Rattle.full_words.proofs.Promised.{old_object}
 use Rattle.full_words.proofs.Reached as reached
 use Rattle.full_words.proofs.Reached.{refs_read, reached_is_held}
+use Rattle.full_words.proofs.Rooted.{plain_root, pin_root}
 use Rattle.full_words.proofs.Roots as roots
-use Rattle.full_words.proofs.Roots.{has_either, root_in, answer_in, root_among, answer_among}
+use Rattle.full_words.proofs.Roots.{has_either, root_in, answer_in, pin_in, pin_some, pin_copy, root_among, answer_among, pin_among}
 use Rattle.full_words.proofs.Made as made
 use Rattle.full_words.proofs.Made.{CanMake, fresh_header, fresh_shape, fresh_field}
 use Rattle.image_graph.specs.Holds.{HasMoved, HoldsBy, AreSized}
@@ -35,7 +38,10 @@ pub reaches_more : (c : Config) (m : Word → ℕ) (block : Plot) (owner : ℕ �
     → (n : Name) → IsReachable g n → IsReachable (with_promised g p) n
 reaches_more c m block owner p g holds n (reach.from_root t i _ is) =
     let at = holds.rooted.no_more_roots t i n is in
-    reach.from_root t i n (cond-false (i == 16) (p.ref t) (g.root t i) (ne_eqb i 16 (λ e. omega (arith, e, at.3))) ∙ is)
+    reach.from_root t i n (plain_root g p t i at.3 ∙ is)
+reaches_more c m block owner p g holds _ (reach.from_pin t slot held is) =
+    let at = holds.rooted.no_more_pins t slot held is in
+    reach.from_root t (17 + slot) held.name (pin_root g p t slot at.3 ∙ ap name_in is)
 reaches_more c m block owner p g holds n (reach.from_field k _ field reached is) =
     reach.from_field k n field (reaches_more c m block owner p g holds k reached)
     (ap (λ (o : Object). slice_get o.refs field) (old_object c.mutators g p holds.unreached k reached) ∙ is)
@@ -73,10 +79,10 @@ module _ (c : Config) (m : Word → ℕ) (block : Plot) (owner : ℕ → Option 
   piece = asked_piece m t
 
   abbrev IsLedWas : ℕ → Type 0
-  IsLedWas = IsLedTo (now_in m) heap (IsAmong (root_words c m))
+  IsLedWas = IsLedTo (now_in m) heap (IsAmong (held_words c m))
 
   abbrev IsLedNow : ℕ → Type 0
-  IsLedNow = IsLedTo (now_in n) after (IsAmong (root_words c n))
+  IsLedNow = IsLedTo (now_in n) after (IsAmong (held_words c n))
 
   shape_words : refs_in (asked_shape m t) + nums_in (asked_shape m t) + 3 ≡ words_of piece
   shape_words = omega arith
@@ -129,6 +135,10 @@ module _ (c : Config) (m : Word → ℕ) (block : Plot) (owner : ℕ → Option 
   unfolding made_in
   same_root u i = refl
 
+  same_pin : (u i : ℕ) → n (Pin u i) ≡ m (Pin u i)
+  unfolding made_in
+  same_pin u i = refl
+
   same_cset : n Cset ≡ m Cset
   unfolding made_in
   same_cset = refl
@@ -160,8 +170,24 @@ module _ (c : Config) (m : Word → ℕ) (block : Plot) (owner : ℕ → Option 
       (from_root (m (Answer u)) (answer_among c top m block g p holds.objects.plotted holds.rooted u below big) (λ none. omega (arith, none, big)))))
       (cases_eq t u)
 
-  word_was : (word : ℕ) → IsAmong (root_words c n) word → word ≢ 0 → (now_in n word ≡ address) ⊎ IsLedWas (now_in n word)
-  word_was word among some = ⊎_elim
+  -- what a pin slot holds is an object
+  pin_named : (u i : ℕ) → u < c.mutators → i < 4 → m (Pin u i) ≢ 0 → (name : Name) × (name_at (block (m (Pin u i))) ≡ Some name)
+  pin_named u i below few some =
+      let stands = holds.rooted.pins u i below few in
+      let held = pin_some m block (m (Pin u i)) (g.pin (u + 1) i) stands some in
+      let copy = (pin_copy m block (m (Pin u i)) (g.pin (u + 1) i) held.0 stands held.1).1 in
+      (held.0.name, ap name_at copy.2)
+
+  pin_was : (u i : ℕ) → u < c.mutators → i < 4 → n (Pin u i) ≢ 0 → IsLedWas (now_in n (n (Pin u i)))
+  pin_was u i below few some =
+      let same = same_pin u i in
+      let other : m (Pin u i) ≢ 0 = λ none. some (same ∙ none) in
+      let to = pin_named u i below few other in
+      subst IsLedWas (sym (ap (now_in n) same ∙ now_named (m (Pin u i)) to.0 to.1))
+      (from_root (m (Pin u i)) (pin_among c top m block g p holds.objects.plotted holds.rooted u i below few) other)
+
+  named_was : (word : ℕ) → IsAmong (root_words c n) word → word ≢ 0 → (now_in n word ≡ address) ⊎ IsLedWas (now_in n word)
+  named_was word among some = ⊎_elim
       (λ (root : has (roots_below n c.mutators) word ≡ true).
       let at = root_in n c.mutators word root in
       inr (subst (λ k. IsLedWas (now_in n k)) at.4 (root_was at.0 at.1 at.2 at.3 (λ none. some (sym at.4 ∙ none)))))
@@ -169,6 +195,14 @@ module _ (c : Config) (m : Word → ℕ) (block : Plot) (owner : ℕ → Option 
       let at = answer_in n c.mutators word answer in
       subst (λ k. (now_in n k ≡ address) ⊎ IsLedWas (now_in n k)) at.3 (answer_was at.0 at.1 at.2))
       (has_either (roots_below n c.mutators) (answers_below n c.mutators) word among)
+
+  word_was : (word : ℕ) → IsAmong (held_words c n) word → word ≢ 0 → (now_in n word ≡ address) ⊎ IsLedWas (now_in n word)
+  word_was word among some = ⊎_elim
+      (λ (named : has (root_words c n) word ≡ true). named_was word named some)
+      (λ (pin : has (pins_below n c.mutators) word ≡ true).
+      let at = pin_in n c.mutators word pin in
+      inr (subst (λ k. IsLedWas (now_in n k)) at.4 (pin_was at.0 at.1 at.2 at.3 (λ none. some (sym at.4 ∙ none)))))
+      (has_either (root_words c n) (pins_below n c.mutators) word among)
 
   field_was : (a i : ℕ) → IsLedWas a → i < refs_in (after (a + 1)) → after (a + 3 + i) ≢ 0 → IsLedWas (now_in n (after (a + 3 + i)))
   field_was a i led few some =
@@ -187,7 +221,7 @@ module _ (c : Config) (m : Word → ℕ) (block : Plot) (owner : ℕ → Option 
       subst IsLedWas (sym (ap (now_in n) same ∙ now_named (heap (a + 3 + i)) to.0 to.2)) (from_field a i led (omega (arith, below, reads)) other)
     where
       made_of : (x : ℕ) → IsLedWas x → (name : Name) × (refs : ℕ) × (nums : ℕ) × (block x ≡ Some (thing name refs nums))
-      made_of x is = let at = reached.held_is_reached c top heap block (now_in m) (IsAmong (root_words c m)) (with_promised g p) holds.objects x is in (at.0, at.1, at.2, at.3)
+      made_of x is = let at = reached.held_is_reached c top heap block (now_in m) (IsAmong (held_words c m)) (with_promised g p) holds.objects x is in (at.0, at.1, at.2, at.3)
 
   led_was : (a : ℕ) → IsLedNow a → (a ≡ address) ⊎ IsLedWas a
   led_was _ (from_root word among some) = word_was word among some
@@ -227,7 +261,7 @@ module _ (c : Config) (m : Word → ℕ) (block : Plot) (owner : ℕ → Option 
   unfolding made_in
   filled_again = joined.filled_more c top block r (m (Top r)) piece (made.can c m block g p can t r inside asks within room) holds.filled
 
-  objects_again : HoldsGraph c (λ q. n (Top q)) after plot (now_in n) (IsAmong (root_words c n)) (with_promised g more)
+  objects_again : HoldsGraph c (λ q. n (Top q)) after plot (now_in n) (IsAmong (held_words c n)) (with_promised g more)
   objects_again =
       let rooted = made.rooted_more c m block g p can t r inside asks within room in
       record {
@@ -253,6 +287,7 @@ module _ (c : Config) (m : Word → ℕ) (block : Plot) (owner : ℕ → Option 
             (cases a (thing name refs nums) is_a);
         root_named = roots.root_named c (λ q. n (Top q)) n plot g more plotted_again rooted;
         root_held = roots.root_held c (λ q. n (Top q)) n plot g more plotted_again rooted;
+        pinless = λ u slot held is. none-some held is;
       }
 
   moved_again : (a refs nums : ℕ) (name : Name) → plot a ≡ Some (thing name refs nums) → is_forwarded (after a) ≡ true → HasMoved c n plot a refs nums name
@@ -297,7 +332,7 @@ module _ (c : Config) (m : Word → ℕ) (block : Plot) (owner : ℕ → Option 
 
   not_reached : IsReachable g (asked_name m t) → ⊥
   not_reached reached =
-      let at = reached_is_held c top heap block (now_in m) (IsAmong (root_words c m)) (with_promised g p) holds.objects (asked_name m t)
+      let at = reached_is_held c top heap block (now_in m) (IsAmong (held_words c m)) (with_promised g p) holds.objects (asked_name m t)
       (reaches_more c m block owner p g holds (asked_name m t) reached) in
       not_old at.0 at.1 at.2 (asked_name m t) at.3 at.4 refl
 

@@ -1,5 +1,5 @@
 -- A table after its heap was packed and its tops were written.
-use Rattle.std.proofs.Common.{◌≡◌, ℕ, ◌+◌, ◌-◌, ◌<◌, ◌≤◌, ◌⊎◌, ◌++◌, Bool, zero, suc, List, [], ◌∷◌, length, take, drop, get_or, slice_index, inl, inr, refl, sym, ap, ◌∙◌, subst, arith, length-append, length-drop}
+use Rattle.std.proofs.Common.{◌≡◌, ℕ, ◌+◌, ◌-◌, ◌*◌, ◌<◌, ◌≤◌, ◌⊎◌, ◌++◌, cond, Bool, zero, suc, List, [], ◌∷◌, length, take, drop, get_or, slice_index, inl, inr, refl, sym, ap, ◌∙◌, subst, arith, length-append, length-drop}
 use Rattle.std.specs.List.{between}
 use Rattle.std.proofs.lemmas.List.{get_or-take, get_or-drop, get_or_append_left, length-take-le}
 use Rattle.std.proofs.lemmas.List.Edits.{get_or-between}
@@ -9,7 +9,7 @@ use Rattle.heap_words.specs.declared.config.Config.{Config}
 use Rattle.heap_words.specs.Words.{Top, word_at, table_words, heap_size, heap_start, heap_in}
 use Rattle.packing.specs.Tops.{top_before}
 use Rattle.packing.specs.Slide.{IsSlidTo, renewed}
-use Rattle.packing.specs.Table.{word_of, kept_of, now_of, LeadsToKept, IsRenewedBy}
+use Rattle.packing.specs.Table.{word_of, kept_of, place_of, now_of, LeadsToKept, IsRenewedBy}
 use Rattle.image_graph.specs.Pack.{IsPacked}
 
 -- what stands behind a front of a list
@@ -53,7 +53,7 @@ module _ (c : Config) (marks : List Bool) (before low heap behind tops after_hea
       let rest : heap_size c ≤ length (drop (heap_start c) before) = omega (arith, length-drop (heap_start c) before, whole) in
       ap length heap_is ∙ length-take-le (heap_size c) (drop (heap_start c) before) rest
 
-  behind_long : length behind ≡ 1
+  behind_long : length behind ≡ 1 + 4 * c.mutators
   behind_long = omega (arith, ap length behind_is, length-drop (heap_size c) (drop (heap_start c) before), length-drop (heap_start c) before, whole)
 
   front_long : length front ≡ heap_start c
@@ -123,23 +123,32 @@ module _ (c : Config) (marks : List Bool) (before low heap behind tops after_hea
       ∙ get_or-drop (heap_start c) before (heap_size c + (k - heap_start c - heap_size c)) 0
       ∙ ap (λ i. get_or before i 0) start
 
+  -- the tops as they were
+  old_top : (r : ℕ) → r < c.regions → get_or (between top (top + c.regions) low) r 0 ≡ get_or before (word_at c (Top r)) 0
+  old_top r inside =
+      let at : top + r ≡ word_at c (Top r) = omega arith in
+      get_or-between low top (top + c.regions) r 0 (omega (arith, inside)) ∙ low_word (top + r) (omega (arith, inside)) ∙ ap (λ k. get_or before k 0) at
+
   -- what packing the slices says, of the table
-  pub packed_from : (w : ℕ) → w ≡ c.region_words
-      → IsSlidTo (w + length heap) w (kept_of w heap marks) (renewed w (now_of w heap) (kept_of w heap marks)) (word_of w heap) (word_of w after_heap)
-      → ((r : ℕ) → r < length tops → slice_index tops r ≡ top_before w (kept_of w heap marks) r (w + length heap))
-      → ((word : ℕ) → LeadsToKept w heap marks word → IsRenewedBy w heap marks places word)
-      → IsPacked c marks before after places
-  packed_from w w_is slid tops_are renews =
-      let Slid : ℕ → List ℕ → ℕ → List ℕ → Type 0 = λ v h n more. IsSlidTo (v + n) v (kept_of v h marks) (renewed v (now_of v h) (kept_of v h marks)) (word_of v h) (word_of v more) in
-      let Tops : ℕ → List ℕ → ℕ → Type 0 = λ v h n. (r : ℕ) → r < length tops → slice_index tops r ≡ top_before v (kept_of v h marks) r (v + n) in
-      let Renews : ℕ → List ℕ → Type 0 = λ v h. (word : ℕ) → LeadsToKept v h marks word → IsRenewedBy v h marks places word in
+  pub packed_from : (shut : ℕ → Bool) (w : ℕ) (old_tops : List ℕ) → w ≡ c.region_words
+      → IsSlidTo (w + length heap) w (place_of w shut heap marks) (kept_of w heap marks) (renewed (place_of w shut heap marks) (now_of w heap)) (word_of w heap) (word_of w after_heap)
+      → ((r : ℕ) → r < length tops → slice_index tops r ≡ cond (shut (r + 1)) (slice_index old_tops r) (top_before w shut (kept_of w heap marks) r (w + length heap)))
+      → ((word : ℕ) → LeadsToKept w heap marks word → IsRenewedBy w shut heap marks places word)
+      → old_tops ≡ between top (top + c.regions) low
+      → IsPacked c shut marks before after places
+  packed_from shut w old_tops w_is slid tops_are renews old =
+      let Slid : ℕ → List ℕ → ℕ → List ℕ → Type 0 = λ v h n more. IsSlidTo (v + n) v (place_of v shut h marks) (kept_of v h marks) (renewed (place_of v shut h marks) (now_of v h)) (word_of v h) (word_of v more) in
+      let Tops : ℕ → List ℕ → ℕ → Type 0 = λ v h n. (r : ℕ) → r < length tops → slice_index tops r ≡ cond (shut (r + 1)) (slice_index old_tops r) (top_before v shut (kept_of v h marks) r (v + n)) in
+      let Renews : ℕ → List ℕ → Type 0 = λ v h. (word : ℕ) → LeadsToKept v h marks word → IsRenewedBy v shut h marks places word in
       let tops_now : Tops c.region_words (heap_in c before) (heap_size c) =
       subst (λ v. Tops v (heap_in c before) (heap_size c)) w_is (subst (λ h. Tops w h (heap_size c)) heap_before (subst (λ n. Tops w heap n) heap_long tops_are)) in
       record {
         slid = subst (λ v. Slid v (heap_in c before) (heap_size c) (heap_in c after)) w_is
             (subst (λ more. Slid w (heap_in c before) (heap_size c) more) (sym heap_after)
             (subst (λ h. Slid w h (heap_size c) after_heap) heap_before (subst (λ n. Slid w heap n after_heap) heap_long slid)));
-        tops = λ r inside. top_word r inside ∙ tops_now r (omega (arith, inside, few));
+        tops = λ r inside. top_word r inside ∙ tops_now r (omega (arith, inside, few))
+            ∙ ap (λ k. cond (shut (r + 1)) k (top_before c.region_words shut (kept_of c.region_words (heap_in c before) marks) r (c.region_words + heap_size c)))
+            (ap (λ (xs : List ℕ). get_or xs r 0) old ∙ old_top r inside);
         others = other_word;
         behind = behind_word;
         renews = subst (λ v. Renews v (heap_in c before)) w_is (subst (λ h. Renews w h) heap_before renews);

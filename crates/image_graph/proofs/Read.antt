@@ -3,7 +3,7 @@ use Rattle.std.proofs.Common.{◌≡◌, ℕ, ◌+◌, ◌*◌, ◌^◌, ◌<◌
 use Rattle.std.proofs.Math.Nat.{mul-le-mul}
 use Rattle.std.proofs.lemmas.Grind.{common_steps}
 use Rattle.heap_words.specs.declared.config.Config.{Config}
-use Rattle.heap_words.specs.Words.{Word, Top, Wait, Heap, IsWord, word_at, table_words, heap_size, heap_in, roots_in}
+use Rattle.heap_words.specs.Words.{Word, Top, Wait, Heap, IsWord, word_at, table_words, heap_size, heap_in, roots_in, pins_in}
 use Rattle.heap_words.specs.Encoding.{object_words, request_shape_in}
 use Rattle.heap_words.proofs.Bounds.{end_small}
 use Rattle.regions.specs.Place.{base_of}
@@ -43,9 +43,12 @@ made_inside c k m t r base top request shape n same below room placed used asked
     let part = room_in_heap c r (m (Top r)) (object_words (request_shape_in (m (Wait t)))) below room in
     record { from = omega (arith, part.from, b, used); to = omega (arith, part.to, b, used, all) }
 
--- how many words the heap and the roots of a table have
+-- how many words the heap, the roots and the pin slots of a table have
 pub heap_length : (c : Config) (words : List ℕ) → length words ≡ table_words c → length (heap_in c words) ≡ heap_size c
 heap_length c words all = grind (arith, common_steps)
 
 pub roots_length : (c : Config) (words : List ℕ) → length words ≡ table_words c → length (roots_in c words) ≡ 16 * c.mutators
 roots_length c words all = grind (arith, common_steps)
+
+pub pins_length : (c : Config) (words : List ℕ) → length words ≡ table_words c → length (pins_in c words) ≡ 4 * c.mutators
+pins_length c words all = grind (arith, common_steps)

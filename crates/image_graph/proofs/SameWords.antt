@@ -1,9 +1,11 @@
--- Tables that have the same words from the image on have the same heap and roots.
-use Rattle.std.proofs.Common.{◌≡◌, ℕ, zero, suc, ◌+◌, ◌-◌, ◌*◌, ◌≤◌, List, [], ◌∷◌, take, drop, refl, sym, ap, ◌∙◌, subst, arith}
+-- Tables that have the same words from the image on have the same heap, roots and pin slots.
+use Rattle.std.proofs.Common.{◌≡◌, ℕ, zero, suc, ◌+◌, ◌-◌, ◌*◌, ◌≤◌, List, [], ◌∷◌, take, drop, Option, refl, sym, ap, ◌∙◌, subst, arith}
 use Rattle.std.specs.Prelude.{slice_range}
 use Rattle.std.proofs.Math.Logic.{∥∥₁_map}
 use Rattle.heap_words.specs.declared.config.Config.{Config}
-use Rattle.heap_words.specs.Words.{image_start, heap_size, heap_start, roots_start, heap_in, roots_in}
+use Rattle.heap_words.specs.Words.{image_start, heap_size, heap_start, roots_start, pins_start, heap_in, roots_in, pins_in}
+use Rattle.shen_graph.specs.declared.name.Name.{Name}
+use Rattle.shen_graph.specs.Graph.{Graph}
 use Rattle.shen_graph.specs.GraphText.{Text}
 use Rattle.heap_graph.specs.Shows.{WordsStand}
 use Rattle.image_graph.specs.Left.{StandsForSome, ShowsTheGraph}
@@ -32,12 +34,17 @@ module _ (c : Config) (u w : List ℕ) (same : drop (image_start c) u ≡ drop (
   same_roots : roots_in c u ≡ roots_in c w
   same_roots = same_range (image_start c) (roots_start c) (roots_start c + 16 * c.mutators) u w (omega arith) same
 
+  same_pins : pins_in c u ≡ pins_in c w
+  same_pins = same_range (image_start c) (pins_start c) (pins_start c + 4 * c.mutators) u w (omega arith) same
+
+  stands_either : (v : List ℕ) (at : ℕ → Option Name) (g : Graph) → heap_in c v ≡ heap_in c u → roots_in c v ≡ roots_in c u → pins_in c v ≡ pins_in c u
+      → WordsStand c.region_words (heap_in c v) (roots_in c v) (pins_in c v) at g → WordsStand c.region_words (heap_in c u) (roots_in c u) (pins_in c u) at g
+  stands_either v at g heap roots pins stands =
+      subst (λ k. WordsStand c.region_words k (roots_in c u) (pins_in c u) at g) heap
+      (subst (λ k. WordsStand c.region_words (heap_in c v) k (pins_in c u) at g) roots (subst (λ k. WordsStand c.region_words (heap_in c v) (roots_in c v) k at g) pins stands))
+
   pub stands_same : StandsForSome c w → StandsForSome c u
-  stands_same some = ∥∥₁_map some (λ s. (
-    s.0,
-    (s.1.0, subst (λ heap. WordsStand c.region_words heap (roots_in c u) s.0 s.1.0) (sym same_heap) (subst (λ roots. WordsStand c.region_words (heap_in c w) roots s.0 s.1.0) (sym same_roots) s.1.1)),
-  ))
+  stands_same some = ∥∥₁_map some (λ s. (s.0, (s.1.0, stands_either w s.0 s.1.0 (sym same_heap) (sym same_roots) (sym same_pins) s.1.1)))
 
   pub shows_same : (text : Text) → ShowsTheGraph c u text → ShowsTheGraph c w text
-  shows_same text shows at g stands =
-      shows at g (subst (λ heap. WordsStand c.region_words heap (roots_in c u) at g) (sym same_heap) (subst (λ roots. WordsStand c.region_words (heap_in c w) roots at g) (sym same_roots) stands))
+  shows_same text shows at g stands = shows at g (stands_either w at g (sym same_heap) (sym same_roots) (sym same_pins) stands)

@@ -1,31 +1,34 @@
--- Where an image holds a graph, the words of its heap and its roots stand for the graph, by current copies: of the pieces those count
+-- Where an image holds a graph, the words of its heap, its roots and its pin slots stand for the graph, by current copies: of the pieces those count
 -- that the graph reaches.
 use Rattle.std.proofs.Common.{◌≡◌, ℕ, ◌+◌, ◌<◌, ◌&&◌, true, false, nat_le, nat_lt, slice_get, length, List, Option, Some, None, ⊎_elim, refl, sym, ap, ◌∙◌, subst, arith}
 use Rattle.std.specs.Prelude.{if◌then◌else◌}
 use Rattle.std.proofs.lemmas.Bool.{cond-true, cond-false, cases_Bool, and_from, le-leb, lt-ltb, true≢false}
 use Rattle.std.proofs.lemmas.Option.{none-some, same_Some, slice_get_within}
 use Rattle.heap_words.specs.declared.config.Config.{Config}
-use Rattle.heap_words.specs.Words.{Word, Top, Root, Heap, table_words, heap_in, roots_in, view}
-use Rattle.heap_words.specs.Encoding.{refs_in, object_words}
+use Rattle.heap_words.specs.Words.{Word, Top, Root, Pin, Heap, table_words, heap_in, roots_in, pins_in, view}
+use Rattle.heap_words.specs.Encoding.{refs_in, object_words, is_forwarded, forwardee_in}
 use Rattle.shen_graph.specs.declared.name.Name.{Name}
+use Rattle.shen_graph.specs.declared.pin.Pinned.{Pinned}
 use Rattle.shen_graph.specs.Graph.{Graph, Object, Reference, blank, same_reference}
 use Rattle.shen_graph.proofs.PlainLemmas.{same_name-itself}
 use Rattle.shen_graph.specs.Reach.{IsReachable}
 use Rattle.shen_graph.specs.Reach as reach
-use Rattle.heap_world.specs.Roots.{is_root_of, HasNoMore}
+use Rattle.heap_world.specs.Roots.{is_root_of, HasNoMore, is_slot_of, HasNoMorePins}
 use Rattle.heap_world.specs.World.{Block, thing, moved, Plot, name_at, Points, IsThing}
 use Rattle.heap_graph.specs.Walk.{has}
 use Rattle.heap_graph.specs.Shows.{WordsStand}
+use Rattle.heap_graph.specs.Stands.{HoldsPin}
 use Rattle.heap_world.specs.Objects.{IsObject}
 use Rattle.heap_world.proofs.Pointing.{named_thing}
 use Rattle.full_words.proofs.ImagesStand.{own_copy}
 use Rattle.heap_graph.proofs.Tables.{AreCopies, copies_stand}
 use Rattle.full_words.specs.Held.{IsLedTo, from_root, from_field, IsAmong, AreHeldKept}
-use Rattle.full_words.specs.Full.{now_in, root_words, held_in, kept_in}
+use Rattle.full_words.specs.Full.{now_in, held_words, held_in, kept_in}
 use Rattle.full_words.specs.Promised.{Promises, with_promised}
+use Rattle.full_words.specs.Image.{PinWordStands}
 use Rattle.full_words.proofs.Reached.{held_is_reached, refs_read, named_object, none_at_0}
 use Rattle.full_words.proofs.Promised.{same_reference-true, reaches_promised}
-use Rattle.full_words.proofs.Roots.{root_among}
+use Rattle.full_words.proofs.Roots.{root_among, pin_among}
 use Rattle.full_words.proofs.Walked.{walk_keeps}
 use Rattle.image_graph.specs.Holds.{HoldsBy}
 
@@ -55,7 +58,7 @@ module _ (c : Config) (m : Word → ℕ) (block : Plot) (owner : ℕ → Option 
   more = with_promised g p
 
   abbrev IsRoot : ℕ → Type 0
-  IsRoot = IsAmong (root_words c m)
+  IsRoot = IsAmong (held_words c m)
 
   abbrev Held : ℕ → Type 0
   Held = IsLedTo (now_in m) heap IsRoot
@@ -214,7 +217,36 @@ module _ (c : Config) (m : Word → ℕ) (block : Plot) (owner : ℕ → Option 
           (and_from (nat_le t c.mutators) (nat_lt i 16) (le-leb t c.mutators (omega (arith, at.1, at.2))) (lt-ltb i 16 at.3)) in
           absurd (true≢false (sym one ∙ none))
 
--- so the words of heap and roots stand for it
+  pins : (t i : ℕ) → t < c.mutators → i < 4 → HoldsPin heap (λ a. name_at (shown a)) (m (Pin t i)) (g.pin (t + 1) i)
+  pins t i inside few = by_slot (g.pin (t + 1) i) refl (holds.rooted.pins t i inside few)
+    where
+      by_slot : (o : Option Pinned) → g.pin (t + 1) i ≡ o → PinWordStands m block (m (Pin t i)) o → HoldsPin heap (λ a. name_at (shown a)) (m (Pin t i)) o
+      by_slot None is zero = zero
+      by_slot (Some held) is stands =
+          let word = m (Pin t i) in
+          let copy = stands.1 in
+          let points : name_at (block word) ≡ Some held.name = ap name_at copy.2 in
+          let own : now_in m word ≡ word = cond-false (is_forwarded (heap word)) (forwardee_in (heap word)) word stands.2 in (
+            stands.0,
+            shows_name word held.name (reach.from_pin (t + 1) i held is)
+                (from_root word (pin_among c (λ r. m (Top r)) m block g p holds.objects.plotted holds.rooted t i inside few) (none_at_0 c (λ r. m (Top r)) block holds.objects.plotted word held.name points))
+                points,
+            own,
+          )
+
+  no_more_pins : HasNoMorePins c.mutators g
+  no_more_pins t i none = by_slot (g.pin t i) refl
+    where
+      by_slot : (o : Option Pinned) → g.pin t i ≡ o → o ≡ None
+      by_slot None is = refl
+      by_slot (Some held) is =
+          let at = holds.rooted.no_more_pins t i held is in
+          let one : is_slot_of c.mutators t i ≡ true =
+          and_from (nat_le 1 t) (nat_le t c.mutators && nat_lt i 4) (le-leb 1 t (omega (arith, at.2)))
+          (and_from (nat_le t c.mutators) (nat_lt i 4) (le-leb t c.mutators (omega (arith, at.1, at.2))) (lt-ltb i 4 at.3)) in
+          absurd (true≢false (sym one ∙ none))
+
+-- so the words of heap, roots and pin slots stand for it
 module _ (c : Config) (words : List ℕ) (block : Plot) (owner : ℕ → Option ℕ) (p : Promises) (g : Graph) (long : length words ≡ table_words c) (holds : HoldsBy c (view c words) block owner p g) where
   abbrev memory : Word → ℕ
   memory = view c words
@@ -238,5 +270,9 @@ module _ (c : Config) (words : List ℕ) (block : Plot) (owner : ℕ → Option 
     small = λ n o is. (holds.next.given n o is).small;
   }
 
-  pub holding_stands : (at : ℕ → Option Name) × WordsStand c.region_words (heap_in c words) (roots_in c words) at g
-  holding_stands = (names, copies_stand c words block names g long are_copies (roots c memory block owner p g holds) (no_more c memory block owner p g holds))
+  pub holding_stands : (at : ℕ → Option Name) × WordsStand c.region_words (heap_in c words) (roots_in c words) (pins_in c words) at g
+  holding_stands = (
+    names,
+    copies_stand c words block names g long are_copies (roots c memory block owner p g holds) (no_more c memory block owner p g holds)
+        (pins c memory block owner p g holds) (no_more_pins c memory block owner p g holds),
+  )

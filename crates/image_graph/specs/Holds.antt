@@ -11,7 +11,7 @@ use Rattle.shen_graph.specs.Graph.{Graph, Object, fresh}
 use Rattle.heap_world.specs.World.{Block, Plot, thing, filler, words_of, is_loose, IsFilled, IsFreeWord, ShareIsOpen, AreBuffers, IsGiven}
 use Rattle.full_words.specs.Held.{IsAmong, HoldsGraph}
 use Rattle.full_words.specs.Plot.{NamedAreThings}
-use Rattle.full_words.specs.Full.{now_in, root_words}
+use Rattle.full_words.specs.Full.{now_in, held_words}
 use Rattle.full_words.specs.Promised.{Promises, with_promised, AreFresh}
 use Rattle.full_words.specs.Image.{RootsStand}
 use Rattle.full_words.specs.Serving.{AreAsking}
@@ -32,10 +32,10 @@ pub record AreNext (c : Config) (memory : Word → ℕ) (g : Graph) (p : Promise
 -- The words of an image hold a graph, by a division of its regions into pieces, what each region's owner is, and what
 -- threads have been promised. Pieces fill each region from its base to its top, and those that stand for a name are objects. The region that
 -- is shared may be carved, and the free words of buffers are pieces.
--- What roots and answers lead to is the graph with the promised objects, by current copies. Nothing is asked of objects
+-- What roots, answers and pin slots lead to is the graph with the promised objects, by current copies. Nothing is asked of objects
 -- that nothing leads to.
 pub record HoldsBy (c : Config) (memory : Word → ℕ) (block : Plot) (owner : ℕ → Option ℕ) (p : Promises) (g : Graph) : Type 0 where
-  pub objects : HoldsGraph c (λ r. memory (Top r)) (λ a. memory (Heap a)) block (now_in memory) (IsAmong (root_words c memory)) (with_promised g p)
+  pub objects : HoldsGraph c (λ r. memory (Top r)) (λ a. memory (Heap a)) block (now_in memory) (IsAmong (held_words c memory)) (with_promised g p)
   pub rooted : RootsStand c memory block g p
   pub moved : (a refs nums : ℕ) (name : Name) → block a ≡ Some (thing name refs nums) → is_forwarded (memory (Heap a)) ≡ true → HasMoved c memory block a refs nums name
   pub filled : IsFilled c (λ r. memory (Top r)) block
@@ -65,3 +65,7 @@ Holds c memory g = (block : Plot) × (owner : ℕ → Option ℕ) × (p : Promis
 -- they hold some graph
 abbrev pub HoldsSome : Config → (Word → ℕ) → Type 0
 HoldsSome c memory = ∥ ((g : Graph) × Holds c memory g) ∥₁
+
+-- .. by pieces each of which says how many words it has
+abbrev pub HoldsSized : Config → (Word → ℕ) → Type 0
+HoldsSized c memory = ∥ ((g : Graph) × (block : Plot) × (owner : ℕ → Option ℕ) × (p : Promises) × HoldsBy c memory block owner p g × AreSized memory block) ∥₁

@@ -1,7 +1,7 @@
 -- What serving leaves of requests, and of the graph, and what a text shows of it.
 use Rattle.std.specs.Prelude.{ℕ, ◌≡◌, ◌≢◌, ◌<◌, Option, List, length}
 use Rattle.heap_words.specs.declared.config.Config.{Config}
-use Rattle.heap_words.specs.Words.{Word, Wait, view, table_words, heap_in, roots_in}
+use Rattle.heap_words.specs.Words.{Word, Wait, view, table_words, heap_in, roots_in, pins_in}
 use Rattle.shen_graph.specs.declared.name.Name.{Name}
 use Rattle.packing.specs.Rooms.{NoneHasRoom}
 use Rattle.full_words.specs.Full.{asked_in}
@@ -36,15 +36,15 @@ abbrev pub ServingHolds : Config → (before after : Word → ℕ) → Type 0
 ServingHolds c before after = (block : Plot) (owner : ℕ → Option ℕ) (p : Promises) (g : Graph) → HoldsBy c before block owner p g
     → HoldsServed c before after block owner p g
 
--- the words of heap and roots of a table stand for some graph
+-- the words of heap, roots and pin slots of a table stand for some graph
 abbrev pub StandsForSome : Config → List ℕ → Type 0
-StandsForSome c words = StandForSome c.region_words (heap_in c words) (roots_in c words)
+StandsForSome c words = StandForSome c.region_words (heap_in c words) (roots_in c words) (pins_in c words)
 
--- a text shows the graph that they stand for, whichever: what the roots lead to, by current copies
+-- a text shows the graph that they stand for, whichever: what roots and pin slots lead to, by current copies
 abbrev pub ShowsTheGraph : Config → List ℕ → Text → Type 0
-ShowsTheGraph c words text = (at : ℕ → Option Name) (g : Graph) → WordsStand c.region_words (heap_in c words) (roots_in c words) at g → ShowsGraph text c.mutators g
+ShowsTheGraph c words text = (at : ℕ → Option Name) (g : Graph) → WordsStand c.region_words (heap_in c words) (roots_in c words) (pins_in c words) at g → ShowsGraph text c.mutators g
 
 -- The words of an image that holds a graph stand for it, in whatever way it holds it.
 abbrev pub HoldingStands : Type 0
 HoldingStands = (c : Config) (words : List ℕ) (block : Plot) (owner : ℕ → Option ℕ) (p : Promises) (g : Graph) → length words ≡ table_words c
-    → HoldsBy c (view c words) block owner p g → (at : ℕ → Option Name) × WordsStand c.region_words (heap_in c words) (roots_in c words) at g
+    → HoldsBy c (view c words) block owner p g → (at : ℕ → Option Name) × WordsStand c.region_words (heap_in c words) (roots_in c words) (pins_in c words) at g

@@ -4,3 +4,4 @@ pub mod Buffers
 pub mod Left
 pub mod Make
 pub mod Pack
+pub mod Leftovers

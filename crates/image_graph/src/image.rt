@@ -2,7 +2,7 @@ ghost use Rattle.std.specs.Prelude.{◌≡◌, ◌≤◌, length, vec_capacity};
 ghost use Rattle.heap_words.specs.Words.{table_words, heap_size};
 
 use heap_graph::write_graph;
-use heap_words::{Config, NoMemory, end_of, forwarded, forwardee, heap_in, roots_in};
+use heap_words::{Config, NoMemory, end_of, forwarded, forwardee, heap_in, pins_in, roots_in};
 use regions::base;
 use shen_graph::GraphText;
 use std::alloc::Global;
@@ -27,6 +27,7 @@ impl Image {
     ghost use Rattle.heap_words.specs.Words.{Word, Top, Heap, IsWord, word_at, write};
     ghost use Rattle.heap_words.specs.Ranges.{seat_count};
     ghost use Rattle.full_words.specs.Full.{now_in};
+    ghost use Rattle.full_words.specs.Pinned.{lies_in, has_pin, is_pinned};
     ghost use Rattle.image_graph.specs.State.{config_of, words_of, memory_of, marks_of, found_of, places_of, IsUnchanged, EndsIn, IsSomeSeats};
     ghost use Rattle.image_graph.specs.Left.{StandsForSome, ShowsTheGraph};
 
@@ -145,9 +146,46 @@ impl Image {
         false
     }
 
-    /// Writes the graph that the words of heap and roots stand for, as those of an image that holds a graph do: the objects
-    /// that the roots lead to, by their current copies, in the order of their names, and the roots of each mutator. Answers
-    /// are no roots here: what is promised is of no graph yet. What the text held before is gone. It was opened for at least
+    // Whether an address lies in a region.
+    fn lies_in(&self, region: usize, address: u64) -> bool
+        requires { region < (config_of self.now).regions }
+        ensures { result ≡ lies_in (config_of self.now) region address }
+    {
+        let first = base(self.config, region);
+        first <= address && address < first + self.config.region_words() as u64
+    }
+
+    // Whether a pin slot of a mutator holds an address of the region.
+    fn has_pin(&self, mutator: usize, region: usize) -> bool
+        requires mutator { mutator < (config_of self.now).mutators }
+        requires region { region < (config_of self.now).regions }
+        ensures { result ≡ has_pin (config_of self.now) (memory_of self.now) region mutator }
+    {
+        for slot in 0..4 {
+            let word = self.word(self.config.pin_at(mutator, slot));
+            if self.lies_in(region, word) {
+                return true;
+            }
+        }
+        false
+    }
+
+    /// Whether the region is pinned: some pin slot holds an object there, so that its objects stay where they are.
+    pub fn is_pinned(&self, region: usize) -> bool
+        requires { region < (config_of self.now).regions }
+        ensures { result ≡ is_pinned (config_of self.now) (memory_of self.now) region }
+    {
+        for mutator in 0..self.config.mutators() {
+            if self.has_pin(mutator, region) {
+                return true;
+            }
+        }
+        false
+    }
+
+    /// Writes the graph that the words of heap, roots and pin slots stand for, as those of an image that holds a graph do: the objects
+    /// that the roots and pin slots lead to, by their current copies, in the order of their names, and the roots and pin slots
+    /// of each mutator. Answers are no roots here: what is promised is of no graph yet. What the text held before is gone. It was opened for at least
     /// as many words as the heap has, and for the heap's mutators. No word of the image changes, and no memory is taken.
     pub fn answer_graph(&mut self, text: &mut GraphText)
         requires room { heap_size (config_of self.old) ≤ text.old.room }
@@ -164,6 +202,7 @@ impl Image {
             self.config.region_words() as u64,
             heap_in(self.config, &self.words),
             roots_in(self.config, &self.words),
+            pins_in(self.config, &self.words),
             &mut self.marks,
             &mut self.addresses,
             text,

@@ -5,36 +5,66 @@ ghost use Rattle.heap_words.specs.Words.{Top, word_at, table_words, heap_size, h
 ghost use Rattle.packing.specs.Tops.{top_before};
 ghost use Rattle.packing.specs.Slide.{IsSlidTo, renewed};
 ghost use Rattle.packing.specs.Table.{word_of, kept_of, now_of, LeadsToKept, CanCompact, IsRenewedBy, IsInTable, from_table};
-ghost use Rattle.image_graph.specs.State.{config_of, words_of, marks_of, places_of};
+ghost use Rattle.full_words.specs.Pinned.{pinned_set, is_row_pinned};
+ghost use Rattle.packing.specs.Places.{is_shut};
+ghost use Rattle.image_graph.specs.State.{config_of, words_of, memory_of, marks_of, found_of, places_of};
 ghost use Rattle.image_graph.specs.Pack.{IsPacked};
 
 use crate::image::Image;
+use crate::sets::with_if;
 use heap_words::Config;
 use packing::{compact_marked, renew};
 
-// Packs the marked objects of a table. `marks` and `places` have an entry for each word of the heap.
-fn pack_words(config: Config, marks: &[bool], words: &mut [u64], places: &mut [u64])
+// Packs the marked objects of a table around the regions that are shut. `marks` and `places` have an entry for each word of the heap.
+fn pack_words(config: Config, shut: u64, marks: &[bool], words: &mut [u64], places: &mut [u64])
     requires table { length words.old ≡ table_words config }
     requires places { length places.old ≡ heap_size config }
     requires compact { CanCompact config.region_words (heap_in config words.old) marks.now }
-    ensures { IsPacked config marks.now words.old words.new places.new }
+    ensures { IsPacked config (is_shut shut) marks.now words.old words.new places.new }
 {
     let top = config.top_at(0);
     let (low, behind) = words.split_at_mut(config.heap_start());
     let (heap, _) = behind.split_at_mut(config.heap_size());
     let tops = &mut low[top..top + config.regions()];
-    compact_marked(config.region_words() as u64, marks, heap, places, tops);
+    compact_marked(
+        config.region_words() as u64,
+        shut,
+        marks,
+        heap,
+        places,
+        tops,
+    );
 }
 
 impl Image {
+    // The set of the regions that are pinned.
+    fn pinned_set(&self) -> u64
+        ensures { result ≡ pinned_set (config_of self.now) (memory_of self.now) }
+    {
+        let mut set = 0u64;
+        for region in 0..self.config.regions() {
+            set = with_if(set, region, self.is_pinned(region));
+        }
+        set
+    }
+
     /// Packs the objects that were found: each goes to its new place, in the order of addresses, with its references
-    /// renewed, and the tops follow. No other word changes.
+    /// renewed, and the tops follow. In pinned regions objects stay where they are, and so do the tops. No other word changes.
     pub fn pack_found(&mut self)
         requires { CanCompact (config_of self.old).region_words (heap_in (config_of self.old) (words_of self.old)) (marks_of self.old) }
         ensures config { config_of self.new ≡ config_of self.old }
-        ensures packed { IsPacked (config_of self.old) (marks_of self.old) (words_of self.old) (words_of self.new) (places_of self.new) }
+        ensures found { found_of self.new ≡ found_of self.old }
+        ensures marks { marks_of self.new ≡ marks_of self.old }
+        ensures packed { IsPacked (config_of self.old) (is_row_pinned (config_of self.old) (memory_of self.old)) (marks_of self.old) (words_of self.old) (words_of self.new) (places_of self.new) }
     {
-        pack_words(self.config, &self.marks, &mut self.words, &mut self.places);
+        let shut = self.pinned_set();
+        pack_words(
+            self.config,
+            shut,
+            &self.marks,
+            &mut self.words,
+            &mut self.places,
+        );
     }
 
     /// What a word becomes that led to an object that was packed: the address of the object's new place, and null, 0, for

@@ -9,6 +9,7 @@ use Rattle.std.proofs.Math.Path.{fun_ext}
 use Rattle.heap_words.specs.declared.config.Config.{Config}
 use Rattle.heap_words.specs.Words.{Word, Free, Top, Tams, Limit, view, write}
 use Rattle.heap_words.proofs.Stores.{view_none}
+use Rattle.full_words.specs.Pinned.{is_pinned}
 use Rattle.cycle_words.specs.Marking.Marks.{bits_of}
 use Rattle.cycle_words.specs.Marking.Final.{is_current, has_black, is_dead, freed}
 use Rattle.cycle_words.proofs.Marking.Bits.{one, bits_small}
@@ -117,9 +118,9 @@ module _ (out : ℕ → Bool) where
 
   pub dead_still : (c : Config) (k : ℕ) (m : Word → ℕ) → is_dead c (freed_below out k m) k ≡ is_dead c m k
   dead_still c k m =
-      ap (λ b. (b == 0) && not (is_current c m k) && (freed_below out k m (Top k) == freed_below out k m (Tams k)) && not (has_black c m k)) (bit_stays (m Free) k)
-      ∙ ap (λ t. (bit_at (m Free) k == 0) && not (is_current c m k) && (t == freed_below out k m (Tams k)) && not (has_black c m k)) (not_turned k (m (Top k)))
-      ∙ ap (λ t. (bit_at (m Free) k == 0) && not (is_current c m k) && (m (Top k) == t) && not (has_black c m k)) (not_turned k (m (Tams k)))
+      ap (λ b. (b == 0) && not (is_pinned c m k) && not (is_current c m k) && (freed_below out k m (Top k) == freed_below out k m (Tams k)) && not (has_black c m k)) (bit_stays (m Free) k)
+      ∙ ap (λ t. (bit_at (m Free) k == 0) && not (is_pinned c m k) && not (is_current c m k) && (t == freed_below out k m (Tams k)) && not (has_black c m k)) (not_turned k (m (Top k)))
+      ∙ ap (λ t. (bit_at (m Free) k == 0) && not (is_pinned c m k) && not (is_current c m k) && (m (Top k) == t) && not (has_black c m k)) (not_turned k (m (Tams k)))
 
 -- all regions
 

@@ -4,10 +4,11 @@ use Rattle.std.specs.List.{range_with_len}
 use Rattle.std.proofs.lemmas.Bool.{cond-true, cond-false, le-leb, lt-leb}
 use Rattle.std.proofs.lemmas.List.FromFn.{map-range_with_len_more}
 use Rattle.heap_words.specs.declared.config.Config.{Config}
-use Rattle.heap_words.specs.Words.{Word, Root, Count, Buffer, Answer}
+use Rattle.heap_words.specs.Words.{Word, Root, Count, Buffer, Answer, Pin}
 use Rattle.heap_graph.specs.Walk.{with_address, with_addresses}
 use Rattle.heap_graph.proofs.Marks.{with_addresses-push}
 use Rattle.full_words.specs.Full.{roots_below, answers_below}
+use Rattle.full_words.specs.Pinned.{pins_below}
 use Rattle.full_words.proofs.FoundInTurn.{noted_both}
 use Rattle.cycle_words.specs.Marking.Marks.{is_grey}
 use Rattle.cycle_words.specs.Marking.Close.{greys_below, entries_below}
@@ -36,6 +37,13 @@ module _ (m : Word → ℕ) where
   roots_more t order =
       let next : suc t ≡ t + 1 = omega arith in
       noted_both order (roots_below m t) (map (λ i. m (Root t i)) (range_with_len 0 16)) ∙ ap (λ n. with_addresses order (roots_below m n)) next
+
+  -- the pin slots of one mutator more
+  pub pins_more : (t : ℕ) (order : List ℕ)
+      → with_addresses (with_addresses order (pins_below m t)) (map (λ i. m (Pin t i)) (range_with_len 0 4)) ≡ with_addresses order (pins_below m (t + 1))
+  pins_more t order =
+      let next : suc t ≡ t + 1 = omega arith in
+      noted_both order (pins_below m t) (map (λ i. m (Pin t i)) (range_with_len 0 4)) ∙ ap (λ n. with_addresses order (pins_below m n)) next
 
   -- the answer of one mutator more, if it is an address
   pub answer_more : (t : ℕ) (order : List ℕ) → 1 < m (Answer t)

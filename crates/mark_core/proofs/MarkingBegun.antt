@@ -6,7 +6,7 @@ use Rattle.std.proofs.Math.Path.{fun_ext}
 use Rattle.std.proofs.Math.Logic.{∥∥₁_elim}
 use Rattle.std.proofs.Math.Bridge.{le_prop}
 use Rattle.heap_words.specs.declared.config.Config.{Config}
-use Rattle.heap_words.specs.Words.{Word, Phase, Claim, Ask, Top, Tams, Root, Count, Answer, Grey, Black, bit_words, view, write}
+use Rattle.heap_words.specs.Words.{Word, Phase, Claim, Ask, Top, Tams, Root, Count, Answer, Pin, Grey, Black, bit_words, view, write}
 use Rattle.heap_words.specs.Ranges.{seat_count}
 use Rattle.heap_words.proofs.Stores.{view_none}
 use Rattle.buffer_words.specs.Edge.{edge}
@@ -17,9 +17,9 @@ use Rattle.heap_graph.proofs.Marks as found
 use Rattle.heap_world.specs.World.{Plot, thing}
 use Rattle.heap_world.proofs.Pointing.{piece_inside}
 use Rattle.full_words.specs.Held.{IsAmong}
-use Rattle.full_words.specs.Full.{root_words}
+use Rattle.full_words.specs.Full.{held_words}
 use Rattle.full_words.specs.Promised.{Promises}
-use Rattle.full_words.proofs.Roots.{root_among, answer_among}
+use Rattle.full_words.proofs.Roots.{root_among, answer_among, pin_among}
 use Rattle.image_graph.specs.Holds.{HoldsBy, HoldsSome}
 use Rattle.cycle_words.specs.Marking.Marks.{mark_bits}
 use Rattle.cycle_words.specs.Marking.Init.{marking_begun}
@@ -42,39 +42,40 @@ pub same_test : (a b : Bool) → (a ≡ true → b ≡ true) → (b ≡ true →
 same_test true b there back = sym (there refl)
 same_test false b there back = sym (false_from_ne_true b (λ is. false≢true (back is)))
 
--- Roots and answers name addresses of the heap.
+-- Roots, answers and pin slots hold addresses of the heap.
 module _ (c : Config) (m : Word → ℕ) (block : Plot) (owner : ℕ → Option ℕ) (p : Promises) (g : Graph) (holds : HoldsBy c m block owner p g) where
   abbrev top : ℕ → ℕ
   top r = m (Top r)
 
-  pub named_inside : (word : ℕ) → IsAmong (root_words c m) word → IsNullOrInside c word
-  named_inside word among some =
+  pub word_inside : (word : ℕ) → IsAmong (held_words c m) word → IsNullOrInside c word
+  word_inside word among some =
       let named = holds.objects.root_named word among some in
       let piece = holds.pieces.named word named.2 named.4 in
       let inside = piece_inside c top block holds.objects.plotted word (thing named.2 piece.0 piece.1) piece.2 in
       (inside.0, omega (arith, inside.1))
 
-  pub roots_inside : HasRootsInside c m
-  roots_inside = record {
-    roots = λ t i below few. named_inside (m (Root t i)) (root_among c top m block g p holds.objects.plotted holds.rooted t i below few);
-    answers = λ t below some. named_inside (m (Answer t)) (answer_among c top m block g p holds.objects.plotted holds.rooted t below some);
+  pub held_inside : HasRootsInside c m
+  held_inside = record {
+    roots = λ t i below few. word_inside (m (Root t i)) (root_among c top m block g p holds.objects.plotted holds.rooted t i below few);
+    answers = λ t below some. word_inside (m (Answer t)) (answer_among c top m block g p holds.objects.plotted holds.rooted t below some);
+    pins = λ t i below few. word_inside (m (Pin t i)) (pin_among c top m block g p holds.objects.plotted holds.rooted t i below few);
   }
 
 roots_prop : (c : Config) (m : Word → ℕ) → IsProp (HasRootsInside c m)
 roots_prop c m = hlevel (le_prop)
 
-pub roots_inside_some : (c : Config) (m : Word → ℕ) → HoldsSome c m → HasRootsInside c m
-roots_inside_some c m holds = ∥∥₁_elim holds (roots_prop c m) (λ h. roots_inside c m h.1.0 h.1.1 h.1.2 h.0 h.1.3)
+pub held_inside_some : (c : Config) (m : Word → ℕ) → HoldsSome c m → HasRootsInside c m
+held_inside_some c m holds = ∥∥₁_elim holds (roots_prop c m) (λ h. held_inside c m h.1.0 h.1.1 h.1.2 h.0 h.1.3)
 
--- all that roots and answers name is of the heap
+-- all that they hold is of the heap
 abbrev AllInside : Config → (Word → ℕ) → Type 0
-AllInside c m = (word : ℕ) → IsAmong (root_words c m) word → IsNullOrInside c word
+AllInside c m = (word : ℕ) → IsAmong (held_words c m) word → IsNullOrInside c word
 
 inside_prop : (c : Config) (m : Word → ℕ) → IsProp (AllInside c m)
 inside_prop c m = hlevel (le_prop)
 
-pub all_inside : (c : Config) (m : Word → ℕ) → HoldsSome c m → (word : ℕ) → IsAmong (root_words c m) word → IsNullOrInside c word
-all_inside c m holds = ∥∥₁_elim holds (inside_prop c m) (λ h. named_inside c m h.1.0 h.1.1 h.1.2 h.0 h.1.3)
+pub all_inside : (c : Config) (m : Word → ℕ) → HoldsSome c m → (word : ℕ) → IsAmong (held_words c m) word → IsNullOrInside c word
+all_inside c m holds = ∥∥₁_elim holds (inside_prop c m) (λ h. word_inside c m h.1.0 h.1.1 h.1.2 h.0 h.1.3)
 
 -- a list of addresses that are no null has what it was made from
 pub listed : (words : List ℕ) (a : ℕ) → a ≢ 0 → has (with_addresses [] words) a ≡ has words a
@@ -82,30 +83,30 @@ listed words a some = same_test (has (with_addresses [] words) a) (has words a)
     (λ is. ⊎_elim (λ (none : has [] a ≡ true). absurd (false≢true none)) (λ (new : (a ≢ 0) × (has words a ≡ true)). new.1) (found.only [] words a is))
     (λ is. found.new [] words a some is)
 
-module _ (c : Config) (words : List ℕ) (inside : (word : ℕ) → IsAmong (root_words c (view c words)) word → IsNullOrInside c word) where
+module _ (c : Config) (words : List ℕ) (inside : (word : ℕ) → IsAmong (held_words c (view c words)) word → IsNullOrInside c word) where
   abbrev m : Word → ℕ
   m = view c words
 
-  abbrev named : List ℕ
-  named = root_words c m
+  abbrev held : List ℕ
+  held = held_words c m
 
   abbrev set : ℕ → Bool
-  set = has (with_addresses [] named)
+  set = has (with_addresses [] held)
 
-  grey_below : (n : ℕ) → mark_bits c set n ≡ mark_bits c (has named) n
-  grey_below n = bits_agree set (has named) (c.region_words + 64 * n) 64
-      (λ k few. listed named (c.region_words + 64 * n + k) (let long = c.in_range.least_words in λ e. omega (arith, e, long)))
+  grey_below : (n : ℕ) → mark_bits c set n ≡ mark_bits c (has held) n
+  grey_below n = bits_agree set (has held) (c.region_words + 64 * n) 64
+      (λ k few. listed held (c.region_words + 64 * n + k) (let long = c.in_range.least_words in λ e. omega (arith, e, long)))
 
-  grey_past : (n : ℕ) → bit_words c ≤ n → 0 ≡ mark_bits c (has named) n
-  grey_past n past = sym (bits_none (has named) (c.region_words + 64 * n) 64
-      (λ k few. false_from_ne_true (has named (c.region_words + 64 * n + k))
+  grey_past : (n : ℕ) → bit_words c ≤ n → 0 ≡ mark_bits c (has held) n
+  grey_past n past = sym (bits_none (has held) (c.region_words + 64 * n) 64
+      (λ k few. false_from_ne_true (has held (c.region_words + 64 * n + k))
       (λ is.
       let long = c.in_range.least_words in
       let at = inside (c.region_words + 64 * n + k) is (λ e. omega (arith, e, long)) in
       omega (arith, at.1, past))))
 
   begun_at : (w : Word) → write (write (write (emptied c.mutators (noted c c.regions (greyed c set (bit_words c) m))) Claim 0) Ask 0) Phase 1 w ≡ marking_begun c m w
-  begun_at (Grey n) = below_and_past n (bit_words c) (mark_bits c set n) (m (Grey n)) (mark_bits c (has named) n)
+  begun_at (Grey n) = below_and_past n (bit_words c) (mark_bits c set n) (m (Grey n)) (mark_bits c (has held) n)
       (λ below. grey_below n)
       (λ no past. view_none c words (Grey n) no ∙ grey_past n past)
   begun_at (Black n) = below_and_past n (bit_words c) 0 (m (Black n)) 0 (λ below. refl) (λ no past. view_none c words (Black n) no)

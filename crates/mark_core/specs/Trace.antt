@@ -1,7 +1,7 @@
 -- When what marking has still to come to can be found.
 use Rattle.std.specs.Prelude.{ℕ, ◌≢◌, ◌+◌, ◌<◌, ◌≤◌}
 use Rattle.heap_words.specs.declared.config.Config.{Config}
-use Rattle.heap_words.specs.Words.{Word, Root, Count, Answer, Heap, IsWord}
+use Rattle.heap_words.specs.Words.{Word, Root, Count, Answer, Pin, Heap, IsWord}
 use Rattle.heap_words.specs.Encoding.{refs_in}
 use Rattle.full_words.specs.Plot.{heap_end}
 use Rattle.cycle_words.specs.Marking.Close.{IsTraced}
@@ -10,9 +10,10 @@ use Rattle.cycle_words.specs.Marking.Close.{IsTraced}
 abbrev pub IsNullOrInside : Config → ℕ → Type 0
 IsNullOrInside c word = word ≢ 0 → IsWord c (Heap word)
 
--- roots, and answers that are addresses, are null or of the heap
+-- roots, pin slots, and answers that are addresses, are null or of the heap
 pub record HasRootsInside (c : Config) (memory : Word → ℕ) : Type 0 where
   pub roots : (t i : ℕ) → t < c.mutators → i < 16 → IsNullOrInside c (memory (Root t i))
+  pub pins : (t i : ℕ) → t < c.mutators → i < 4 → IsNullOrInside c (memory (Pin t i))
   pub answers : (t : ℕ) → t < c.mutators → 1 < memory (Answer t) → IsNullOrInside c (memory (Answer t))
 
 -- what tracing comes to lies in the heap with its references, and no buffer has more entries than it has room for

@@ -2,9 +2,10 @@
 
 ghost use Rattle.std.specs.Prelude.{ℕ, ◌≡◌, ◌<◌, ◌≤◌, [], map};
 ghost use Rattle.std.specs.List.{range_with_len};
-ghost use Rattle.heap_words.specs.Words.{Cset, Root, Answer};
+ghost use Rattle.heap_words.specs.Words.{Cset, Root, Answer, Pin};
 ghost use Rattle.heap_graph.specs.Walk.{with_address, with_addresses};
-ghost use Rattle.full_words.specs.Full.{roots_below, answers_below, root_words};
+ghost use Rattle.full_words.specs.Full.{roots_below, answers_below, held_words};
+ghost use Rattle.full_words.specs.Pinned.{pins_below};
 ghost use Rattle.image_graph.specs.State.{config_of, memory_of, found_of, AreFound, IsUnchanged};
 ghost use Rattle.image_graph.specs.Holds.{HoldsSome};
 ghost use Rattle.cycle_words.specs.Marking.Init.{marking_begun, init_marked};
@@ -78,16 +79,47 @@ fn find_answers(image: &mut Image)
     }
 }
 
-// Finds what roots and answers name.
-fn find_named(image: &mut Image)
+// Notes what the pin slots of a mutator hold.
+fn find_pins(image: &mut Image, mutator: usize)
+    requires mutator { mutator < (config_of image.old).mutators }
+    requires inside { HasRootsInside (config_of image.old) (memory_of image.old) }
+    requires found { AreFound image.old }
+    ensures unchanged { IsUnchanged image.old image.new }
+    ensures found { AreFound image.new }
+    ensures noted { found_of image.new ≡ with_addresses (found_of image.old) (map (λ i. memory_of image.old (Pin mutator i)) (range_with_len 0 4)) }
+{
+    let config = image.config();
+    for slot in 0..4 {
+        let word = image.word(config.pin_at(mutator, slot));
+        image.find(word);
+    }
+}
+
+// Notes what the pin slots of all mutators hold.
+fn find_all_pins(image: &mut Image)
+    requires inside { HasRootsInside (config_of image.old) (memory_of image.old) }
+    requires found { AreFound image.old }
+    ensures unchanged { IsUnchanged image.old image.new }
+    ensures found { AreFound image.new }
+    ensures noted { found_of image.new ≡ with_addresses (found_of image.old) (pins_below (memory_of image.old) (config_of image.old).mutators) }
+{
+    let config = image.config();
+    for mutator in 0..config.mutators() {
+        find_pins(image, mutator);
+    }
+}
+
+// Finds what roots, answers and pin slots hold.
+fn find_all_held(image: &mut Image)
     requires { HasRootsInside (config_of image.old) (memory_of image.old) }
     ensures unchanged { IsUnchanged image.old image.new }
     ensures found { AreFound image.new }
-    ensures named { found_of image.new ≡ with_addresses [] (root_words (config_of image.old) (memory_of image.old)) }
+    ensures held { found_of image.new ≡ with_addresses [] (held_words (config_of image.old) (memory_of image.old)) }
 {
     image.forget_found();
     find_all_roots(image);
     find_answers(image);
+    find_all_pins(image);
 }
 
 // Notes the edges of all regions.
@@ -108,7 +140,7 @@ fn begin(image: &mut Image)
     ensures config { config_of image.new ≡ config_of image.old }
     ensures words { memory_of image.new ≡ marking_begun (config_of image.old) (memory_of image.old) }
 {
-    find_named(image);
+    find_all_held(image);
     grey_found(image);
     note_edges(image);
     empty_buffers(image);
@@ -118,9 +150,9 @@ fn begin(image: &mut Image)
     image.set_word(config.phase_at(), 1);
 }
 
-/// Begins marking: buffers are settled, no mark is left of an earlier one, the objects that roots and answers name are grey,
-/// the edges of the regions are noted, and no unit is claimed and nothing asked for. The image holds a graph, and no region is
-/// in the collection set. The image holds the same graph afterwards. Takes no memory, and time linear in the words of the heap.
+/// Begins marking: buffers are settled, no mark is left of an earlier one, the objects that roots, answers and pin slots
+/// hold are grey, the edges of the regions are noted, and no unit is claimed and nothing asked for. The image holds a graph, and
+/// no region is in the collection set. The image holds the same graph afterwards. Takes no memory, and time linear in the words of the heap.
 pub fn init_mark(image: &mut Image)
     requires holds { HoldsSome (config_of image.old) (memory_of image.old) }
     requires calm { memory_of image.old Cset ≡ 0 }

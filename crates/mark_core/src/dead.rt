@@ -23,13 +23,16 @@ fn has_black(image: &Image, region: usize) -> bool
     false
 }
 
-// Whether a region is in use, not current, without a new object and without a mark.
+// Whether a region is in use, neither current nor pinned, without a new object and without a mark.
 fn is_dead(image: &Image, region: usize) -> bool
     requires { region < (config_of image.now).regions }
     ensures { result ≡ final.is_dead (config_of image.now) (memory_of image.now) region }
 {
     let config = image.config();
     if is_in(image.word(config.free_at()), region) || image.is_current(region) {
+        return false;
+    }
+    if image.is_pinned(region) {
         return false;
     }
     if image.top(region) != image.word(config.tams_at(region)) {

@@ -12,7 +12,7 @@ use crate::dead::free_dead;
 use image_graph::Image;
 
 /// Ends marking: the marks are closed, and the regions are freed in which nothing lives. These are the regions in use that
-/// are nobody's current one, in which nothing was allocated since marking began and nothing is marked. The image holds a
+/// are neither current nor pinned, in which nothing was allocated since marking began and nothing is marked. The image holds a
 /// graph, and marking runs. The image holds the same graph afterwards, and each object that can be reached is marked or
 /// new. Takes no memory, and time linear in the words of the heap.
 pub fn final_mark(image: &mut Image)

@@ -1,3 +1,4 @@
+pub mod Around
 pub mod Placed
 pub mod Sums
 pub mod Tops

@@ -1,11 +1,11 @@
 -- Which request finds room, and what the tops are then.
-use Rattle.std.proofs.Common.{◌≡◌, ◌≢◌, ℕ, ◌+◌, ◌-◌, ◌*◌, ◌<◌, ◌≤◌, ◌==◌, ◌⊎◌, true, false, zero, suc, nat_le, if◌then◌else◌, Option, Some, None, ⊎_elim, inl, inr, refl, sym, ap, ◌∙◌, subst, arith}
+use Rattle.std.proofs.Common.{◌≡◌, ◌≢◌, ℕ, ◌+◌, ◌-◌, ◌*◌, ◌<◌, ◌≤◌, ◌==◌, ◌⊎◌, Bool, true, false, zero, suc, nat_le, if◌then◌else◌, Option, Some, None, ⊎_elim, inl, inr, refl, sym, ap, ◌∙◌, subst, arith}
 use Rattle.std.proofs.lemmas.Bool.{cond-true, cond-false, cases_Bool, cases_eq, leb-true, leb-false, lt-leb, le-leb, eq-eqb, ne_eqb}
 use Rattle.std.proofs.lemmas.Option.{none-some, same_Some}
 use Rattle.packing.specs.Tops.{sum_below}
 use Rattle.packing.specs.Rooms.{first_of_two, lowest_room, IsLowestRoom, taken_in, tops_served, given_by, room_at_turn, granted}
-use Rattle.packing.specs.Laws.{RequestsAreServed}
-use Rattle.packing.proofs.Sums.{sum_next, sum_none, sum_same, sum_both, sum_of_one, sum_of_many}
+use Rattle.packing.specs.Laws.{count_where, tops_where, RequestsAreServed}
+use Rattle.packing.proofs.Sums.{sum_next, sum_none, sum_same, sum_both, sum_of_one}
 
 -- one step of the recursion
 pub room_next : (w : ℕ) (top : ℕ → ℕ) (n r : ℕ)
@@ -163,20 +163,87 @@ served_within w regions asked top (suc t) q within below =
         (λ (differs : r ≢ q). let same = taken_elsewhere top n r q (λ e. differs (sym e)) in omega (arith, is, same, before))
         (cases_eq r q)
 
--- a request that finds no room is crowded out by what was there and what was given before it
-pub refused_among_granted : (w regions : ℕ) (asked top : ℕ → ℕ) (t : ℕ) → asked t ≤ w → room_at_turn w regions asked top t ≡ None
-    → regions * (w - asked t + 1) ≤ sum_below top regions + sum_below (granted w regions asked top) t
-refused_among_granted w regions asked top t short none =
+-- what is taken is at least what the sum of the tops of a set of regions grows by
+taken_where : (test : ℕ → Bool) (top : ℕ → ℕ) (n regions : ℕ) (o : Option ℕ) → tops_where test (taken_in top n o) regions ≤ tops_where test top regions + given_by o n
+taken_where test top n regions None = omega arith
+taken_where test top n regions (Some r) = grows regions
+  where
+    part : (ℕ → ℕ) → ℕ → ℕ
+    part f q = if test q then f q else 0
+
+    same_part : (q : ℕ) → q ≢ r → part (taken_in top n (Some r)) q ≡ part top q
+    same_part q differs = ap (λ k. if test q then k else 0) (taken_elsewhere top n r q differs)
+
+    more_part : (q : ℕ) → q ≡ r → part (taken_in top n (Some r)) q ≤ part top q + n
+    more_part q same =
+        let here : taken_in top n (Some r) q ≡ top q + n = subst (λ k. taken_in top n (Some r) k ≡ top k + n) (sym same) (taken_here top n r) in
+        ⊎_elim
+        (λ (met : test q ≡ true). omega (arith, cond-true (test q) (taken_in top n (Some r) q) 0 met, cond-true (test q) (top q) 0 met, here))
+        (λ (unmet : test q ≡ false). omega (arith, cond-false (test q) (taken_in top n (Some r) q) 0 unmet))
+        (cases_Bool (test q))
+
+    -- below the region nothing is more
+    below : (k : ℕ) → k ≤ r → tops_where test (taken_in top n (Some r)) k ≡ tops_where test top k
+    below k low = sum_same (part (taken_in top n (Some r))) (part top) k (λ q less. same_part q (λ same. omega (arith, same, less, low)))
+
+    grows : (k : ℕ) → tops_where test (taken_in top n (Some r)) k ≤ tops_where test top k + n
+    grows zero = omega (arith, sum_none (part (taken_in top n (Some r))))
+    grows (suc k) =
+        let next = sum_next (part (taken_in top n (Some r))) k in
+        let was = sum_next (part top) k in
+        ⊎_elim
+        (λ (here : k ≡ r). omega (arith, next, was, below k (omega (arith, here)), more_part k here))
+        (λ (differs : k ≢ r). omega (arith, next, was, grows k, same_part k differs))
+        (cases_eq k r)
+
+-- so after so many turns those of a set have grown by no more than what was given
+served_where : (test : ℕ → Bool) (w regions : ℕ) (asked top : ℕ → ℕ) (t : ℕ)
+    → tops_where test (tops_served w regions asked top t) regions ≤ tops_where test top regions + sum_below (granted w regions asked top) t
+served_where test w regions asked top zero =
+    let same = sum_same (λ q. if test q then tops_served w regions asked top 0 q else 0) (λ q. if test q then top q else 0) regions (λ q _. ap (λ k. if test q then k else 0) (served_none w regions asked top q)) in
+    omega (arith, same)
+served_where test w regions asked top (suc t) =
+    let before = served_where test w regions asked top t in
+    let found = room_at_turn w regions asked top t in
+    let now = tops_served w regions asked top t in
+    let step = sum_same (λ q. if test q then tops_served w regions asked top (suc t) q else 0) (λ q. if test q then taken_in now (asked t) found q else 0) regions
+    (λ q _. ap (λ k. if test q then k else 0) (served_next w regions asked top t q)) in
+    omega (arith, before, step, taken_where test now (asked t) regions found, sum_next (granted w regions asked top) t)
+
+-- where each of a set of regions has at least so many, so has their sum that many times
+count_of_many : (test : ℕ → Bool) (f : ℕ → ℕ) (n least : ℕ) → ((k : ℕ) → k < n → least ≤ f k) → count_where test n * least ≤ tops_where test f n
+count_of_many test f zero least each = let none = sum_none (λ r. if test r then 1 else 0) in let product : count_where test 0 * least ≡ 0 * least = ap (λ k. k * least) none in omega (arith, product)
+count_of_many test f (suc n) least each =
+    let before = count_of_many test f n least (λ k below. each k (omega (arith, below))) in
+    let one : ℕ → ℕ = λ r. if test r then 1 else 0 in
+    let part : ℕ → ℕ = λ r. if test r then f r else 0 in
+    ⊎_elim
+    (λ (met : test n ≡ true).
+    let count : count_where test (suc n) ≡ count_where test n + 1 = (let more = cond-true {A = ℕ} (test n) 1 0 met in let next = sum_next one n in omega (arith, next, more)) in
+    let product : count_where test (suc n) * least ≡ (count_where test n + 1) * least = ap (λ k. k * least) count in
+    let more = cond-true (test n) (f n) 0 met in
+    let next = sum_next part n in
+    omega (arith, before, product, next, more, each n (omega arith)))
+    (λ (unmet : test n ≡ false).
+    let count : count_where test (suc n) ≡ count_where test n = (let more = cond-false {A = ℕ} (test n) 1 0 unmet in let next = sum_next one n in omega (arith, next, more)) in
+    let product : count_where test (suc n) * least ≡ count_where test n * least = ap (λ k. k * least) count in
+    let next = sum_next part n in
+    omega (arith, before, product, next))
+    (cases_Bool (test n))
+
+-- a request that finds no room is crowded out, in each set of regions, by what was there and what was given before it
+pub refused_among_granted : (w regions : ℕ) (asked top : ℕ → ℕ) (t : ℕ) (test : ℕ → Bool) → asked t ≤ w → room_at_turn w regions asked top t ≡ None
+    → count_where test regions * (w - asked t + 1) ≤ tops_where test top regions + sum_below (granted w regions asked top) t
+refused_among_granted w regions asked top t test short none =
     let now = tops_served w regions asked top t in
     let least : (r : ℕ) → r < regions → w - asked t + 1 ≤ now r = λ r below. (let full = none_has_room w now (asked t) regions none r below in omega (arith, full, short)) in
-    let all = sum_of_many now regions (w - asked t + 1) least in
-    omega (arith, all, served_is w regions asked top t)
+    omega (arith, count_of_many test now regions (w - asked t + 1) least, served_where test w regions asked top t)
 
 pub requests_are_served : RequestsAreServed
 requests_are_served = record {
   left = λ w regions asked top t none. record {
     each = none_has_room w (tops_served w regions asked top t) (asked t) regions none;
-    crowded = λ short. refused_among_granted w regions asked top t short none;
+    crowded = λ test short. refused_among_granted w regions asked top t test short none;
   };
   found = λ w regions asked top t r is. has_room w (tops_served w regions asked top t) (asked t) regions r is;
   refused = λ w regions asked top t full. all_full w (tops_served w regions asked top t) (asked t) regions full;

@@ -1,10 +1,10 @@
 -- The heap after sliding: what one object more changes, and that there is exactly one such heap.
 use Rattle.std.proofs.Common.{◌≡◌, ◌≢◌, ℕ, ◌+◌, ◌-◌, ◌<◌, ◌≤◌, ◌⊎◌, ◌&&◌, ◌==◌, inl, inr, nat_le, nat_lt, true, false, zero, suc, cond, ⊎_elim, refl, sym, ap, ◌∙◌, subst, arith}
-use Rattle.std.proofs.lemmas.Bool.{cond-true, cond-false, cases_eq, cases_Bool, and_from, and_parts, and_cases, le-leb, lt-ltb, leb-true, ltb-true, leb-false, ltb-false}
+use Rattle.std.proofs.lemmas.Bool.{cond-true, cond-false, cases_eq, cases_Bool, and_parts, and_cases, leb-true, ltb-true, leb-false, ltb-false}
 use Rattle.heap_words.specs.Encoding.{refs_in, plain_header}
-use Rattle.packing.specs.Places.{new_place, LieApart}
-use Rattle.packing.proofs.Placed.{moves_down, stays_apart, stays_above}
-use Rattle.packing.specs.Slide.{placed_word, slid_word, IsSlidTo, is_covered, slid}
+use Rattle.packing.specs.Places.{LieApart}
+use Rattle.packing.specs.Slide.{placed_word, slid_word, IsSlidTo, is_covered, slid, PlacesApart}
+use Rattle.packing.proofs.Placed.{covers}
 
 -- a word of an object in its new place depends on two words of the heap
 pub slid_word-same : (renew heap other : ℕ → ℕ) (a b i : ℕ) → heap (a + 1) ≡ other (b + 1) → heap (a + i) ≡ other (b + i) → slid_word renew heap a i ≡ slid_word renew other b i
@@ -12,135 +12,156 @@ slid_word-same renew heap other a b i shapes words =
     ap (λ shape. placed_word renew (refs_in shape) i (heap (a + i))) shapes ∙ ap (placed_word renew (refs_in (other (b + 1))) i) words
 
 -- one step of the recursion
-pub slid_next : (w : ℕ) (kept renew before : ℕ → ℕ) (a x : ℕ)
-    → slid w kept renew before (suc a) x ≡ cond (is_covered w kept a x) (slid_word renew before a (x - new_place w kept a)) (slid w kept renew before a x)
+pub slid_next : (place kept renew before : ℕ → ℕ) (a x : ℕ)
+    → slid place kept renew before (suc a) x ≡ cond (is_covered place kept a x) (slid_word renew before a (x - place a)) (slid place kept renew before a x)
 unfolding slid
-slid_next w kept renew before a x = refl
+slid_next place kept renew before a x = refl
 
-pub slid_none : (w : ℕ) (kept renew before : ℕ → ℕ) (x : ℕ) → slid w kept renew before 0 x ≡ before x
+pub slid_none : (place kept renew before : ℕ → ℕ) (x : ℕ) → slid place kept renew before 0 x ≡ before x
 unfolding slid
-slid_none w kept renew before x = refl
+slid_none place kept renew before x = refl
 
 -- an address is covered by the new place of an object, at an index, or it is not
-pub covered_here : (w : ℕ) (kept : ℕ → ℕ) (a x : ℕ)
-    → ((is_covered w kept a x ≡ true) × (new_place w kept a ≤ x) × (x < new_place w kept a + kept a))
-    ⊎ ((is_covered w kept a x ≡ false) × ((x < new_place w kept a) ⊎ (new_place w kept a + kept a ≤ x)))
-covered_here w kept a x = ⊎_elim
-    (λ (yes : is_covered w kept a x ≡ true).
-    let parts = and_parts (nat_le (new_place w kept a) x) (nat_lt x (new_place w kept a + kept a)) yes in
-    inl (yes, leb-true (new_place w kept a) x parts.0, ltb-true x (new_place w kept a + kept a) parts.1))
-    (λ (no : is_covered w kept a x ≡ false). inr (
-      no,
+pub covered_here : (place kept : ℕ → ℕ) (a x : ℕ)
+    → ((is_covered place kept a x ≡ true) × (place a ≤ x) × (x < place a + kept a))
+    ⊎ ((is_covered place kept a x ≡ false) × ((x < place a) ⊎ (place a + kept a ≤ x)))
+covered_here place kept a x = ⊎_elim
+    (λ (met : is_covered place kept a x ≡ true).
+    let parts = and_parts (nat_le (place a) x) (nat_lt x (place a + kept a)) met in
+    inl (met, leb-true (place a) x parts.0, ltb-true x (place a + kept a) parts.1))
+    (λ (unmet : is_covered place kept a x ≡ false). inr (
+      unmet,
       ⊎_elim
-          (λ (low : nat_le (new_place w kept a) x ≡ false). inl (leb-false (new_place w kept a) x low))
-          (λ (high : nat_lt x (new_place w kept a + kept a) ≡ false). inr (ltb-false x (new_place w kept a + kept a) high))
-          (and_cases (nat_le (new_place w kept a) x) (nat_lt x (new_place w kept a + kept a)) no),
+          (λ (low : nat_le (place a) x ≡ false). inl (leb-false (place a) x low))
+          (λ (high : nat_lt x (place a + kept a) ≡ false). inr (ltb-false x (place a + kept a) high))
+          (and_cases (nat_le (place a) x) (nat_lt x (place a + kept a)) unmet),
     ))
-    (cases_Bool (is_covered w kept a x))
+    (cases_Bool (is_covered place kept a x))
 
 -- An address is a word of a new place of an object that begins below an end, or of none.
-abbrev pub IsWordOf : (end w : ℕ) (kept : ℕ → ℕ) (x : ℕ) → Type 0
-IsWordOf end w kept x = (a : ℕ) × (i : ℕ) × (a < end) × (i < kept a) × (x ≡ new_place w kept a + i)
+abbrev pub IsWordOf : (end : ℕ) (place kept : ℕ → ℕ) (x : ℕ) → Type 0
+IsWordOf end place kept x = (a : ℕ) × (i : ℕ) × (a < end) × (i < kept a) × (x ≡ place a + i)
 
-pub covered_or_not : (end w : ℕ) (kept : ℕ → ℕ) (x : ℕ) → IsWordOf end w kept x ⊎ (IsWordOf end w kept x → ⊥)
-covered_or_not zero w kept x = inr (λ word. omega (arith, word.2))
-covered_or_not (suc e) w kept x = ⊎_elim
-    (λ (old : IsWordOf e w kept x). inl (old.0, old.1, omega (arith, old.2), old.3, old.4))
-    (λ (none : IsWordOf e w kept x → ⊥). ⊎_elim
-    (λ (yes : (is_covered w kept e x ≡ true) × (new_place w kept e ≤ x) × (x < new_place w kept e + kept e)).
-    inl (e, x - new_place w kept e, omega arith, omega (arith, yes.1, yes.2), omega (arith, yes.1)))
-    (λ (no : (is_covered w kept e x ≡ false) × ((x < new_place w kept e) ⊎ (new_place w kept e + kept e ≤ x))).
+pub covered_or_not : (end : ℕ) (place kept : ℕ → ℕ) (x : ℕ) → IsWordOf end place kept x ⊎ (IsWordOf end place kept x → ⊥)
+covered_or_not zero place kept x = inr (λ word. omega (arith, word.2))
+covered_or_not (suc e) place kept x = ⊎_elim
+    (λ (old : IsWordOf e place kept x). inl (old.0, old.1, omega (arith, old.2), old.3, old.4))
+    (λ (none : IsWordOf e place kept x → ⊥). ⊎_elim
+    (λ (yes : (is_covered place kept e x ≡ true) × (place e ≤ x) × (x < place e + kept e)).
+    inl (e, x - place e, omega arith, omega (arith, yes.1, yes.2), omega (arith, yes.1)))
+    (λ (no : (is_covered place kept e x ≡ false) × ((x < place e) ⊎ (place e + kept e ≤ x))).
     inr (λ word. ⊎_elim
     (λ (here : word.0 ≡ e).
-    let place : new_place w kept word.0 ≡ new_place w kept e = ap (new_place w kept) here in
+    let at : place word.0 ≡ place e = ap place here in
     let size : kept word.0 ≡ kept e = ap kept here in
     ⊎_elim
-    (λ (low : x < new_place w kept e). omega (arith, low, place, word.4))
-    (λ (high : new_place w kept e + kept e ≤ x). omega (arith, high, place, size, word.4, word.3))
+    (λ (low : x < place e). omega (arith, low, at, word.4))
+    (λ (high : place e + kept e ≤ x). omega (arith, high, at, size, word.4, word.3))
     no.1)
     (λ (other : word.0 ≢ e). none (word.0, word.1, omega (arith, word.2, other), word.3, word.4))
     (cases_eq word.0 e)))
-    (covered_here w kept e x))
-    (covered_or_not e w kept x)
+    (covered_here place kept e x))
+    (covered_or_not e place kept x)
 
-module _ (w : ℕ) (kept renew before : ℕ → ℕ) (lie : LieApart w kept) where
-  -- what lies at a kept address or behind it has not been overwritten when the sweep comes to it
-  pub intact : (e : ℕ) (now : ℕ → ℕ) → IsSlidTo e w kept renew before now → (a x : ℕ) → e ≤ a → 0 < kept a → a ≤ x → now x ≡ before x
-  intact e now slid_to a x from some above =
-      slid_to.others x (omega (arith, lie.above a some, above)) (λ b i below inside same.
-      let begins : 0 < kept b = omega (arith, inside) in
-      let down = moves_down w kept lie b begins in
-      let ends = lie.apart b a begins some (omega (arith, below, from)) in
-      omega (arith, same, inside, down, ends, above))
+-- what lies at a kept address or behind it has not been overwritten when a sweep that moves objects down comes to it
+pub intact : (w : ℕ) (place kept renew before : ℕ → ℕ) → LieApart w kept → ((a : ℕ) → 0 < kept a → place a ≤ a) → (e : ℕ) (now : ℕ → ℕ) → IsSlidTo e w place kept renew before now
+    → (a x : ℕ) → e ≤ a → 0 < kept a → a ≤ x → now x ≡ before x
+intact w place kept renew before lie down e now slid_to a x from some above =
+    slid_to.others x (omega (arith, lie.above a some, above)) (λ b i below inside same.
+    let begins : 0 < kept b = omega (arith, inside) in
+    let ends = lie.apart b a begins some (omega (arith, below, from)) in
+    omega (arith, same, inside, down b begins, ends, above))
 
+-- nothing was slid yet
+pub slid_start : (first e : ℕ) (place kept renew before : ℕ → ℕ) → ((a : ℕ) → a < e → kept a ≡ 0) → IsSlidTo e first place kept renew before before
+slid_start first e place kept renew before none = record { moved = λ a i below inside. absurd (omega (arith, none a below, inside)); others = λ x above outside. refl }
+
+-- the same, over fewer addresses
+pub slid_from : (least first e : ℕ) (place kept renew before after : ℕ → ℕ) → least ≤ first → IsSlidTo e least place kept renew before after → IsSlidTo e first place kept renew before after
+slid_from least first e place kept renew before after low slid_to = record {
+  moved = slid_to.moved;
+  others = λ x above. slid_to.others x (omega (arith, low, above));
+}
+
+module _ (place kept renew before : ℕ → ℕ) (apart : PlacesApart place kept) where
   -- one object more
-  pub slid_more : (e : ℕ) (now after : ℕ → ℕ) → IsSlidTo e w kept renew before now
-      → ((i : ℕ) → i < kept e → after (new_place w kept e + i) ≡ slid_word renew before e i)
-      → ((x : ℕ) → w ≤ x → (x < new_place w kept e) ⊎ (new_place w kept e + kept e ≤ x) → after x ≡ now x)
-      → IsSlidTo (suc e) w kept renew before after
-  slid_more e now after slid_to moved others = record {
+  pub slid_more : (first e : ℕ) (now after : ℕ → ℕ) → ((a : ℕ) → 0 < kept a → first ≤ place a) → IsSlidTo e first place kept renew before now
+      → ((i : ℕ) → i < kept e → after (place e + i) ≡ slid_word renew before e i)
+      → ((x : ℕ) → first ≤ x → (x < place e) ⊎ (place e + kept e ≤ x) → after x ≡ now x)
+      → IsSlidTo (suc e) first place kept renew before after
+  slid_more first e now after low slid_to moved others = record {
     moved = λ a i below inside. ⊎_elim
-        (λ (here : e ≡ a). subst (λ b. i < kept b → after (new_place w kept b + i) ≡ slid_word renew before b i) here (moved i) inside)
+        (λ (here : e ≡ a). subst (λ b. i < kept b → after (place b + i) ≡ slid_word renew before b i) here (moved i) inside)
         (λ (other : e ≢ a).
-        let less : a < e = omega (arith, below, other) in
-        let apart = stays_apart w kept lie a e less in
-        others (new_place w kept a + i) (omega (arith, stays_above w kept lie a)) (inl (omega (arith, apart, inside))) ∙ slid_to.moved a i less inside)
+        let outside : (place a + i < place e) ⊎ (place e + kept e ≤ place a + i) = ⊎_elim
+        (λ (yes : (is_covered place kept e (place a + i) ≡ true) × (place e ≤ place a + i) × (place a + i < place e + kept e)).
+        absurd (other (apart e a (place a + i) yes.0 (covers place kept a (place a + i) (omega arith) (omega (arith, inside))))))
+        (λ (no : (is_covered place kept e (place a + i) ≡ false) × ((place a + i < place e) ⊎ (place e + kept e ≤ place a + i))). no.1)
+        (covered_here place kept e (place a + i)) in
+        others (place a + i) (omega (arith, low a (omega (arith, inside)))) outside ∙ slid_to.moved a i (omega (arith, below, other)) inside)
         (cases_eq e a);
     others = λ x above none.
-        let outside : (x < new_place w kept e) ⊎ (new_place w kept e + kept e ≤ x) = ⊎_elim
-        (λ (yes : (is_covered w kept e x ≡ true) × (new_place w kept e ≤ x) × (x < new_place w kept e + kept e)).
-        absurd (none e (x - new_place w kept e) (omega arith) (omega (arith, yes.1, yes.2)) (omega (arith, yes.1))))
-        (λ (no : (is_covered w kept e x ≡ false) × ((x < new_place w kept e) ⊎ (new_place w kept e + kept e ≤ x))). no.1)
-        (covered_here w kept e x) in
+        let outside : (x < place e) ⊎ (place e + kept e ≤ x) = ⊎_elim
+        (λ (yes : (is_covered place kept e x ≡ true) × (place e ≤ x) × (x < place e + kept e)).
+        absurd (none e (x - place e) (omega arith) (omega (arith, yes.1, yes.2)) (omega (arith, yes.1))))
+        (λ (no : (is_covered place kept e x ≡ false) × ((x < place e) ⊎ (place e + kept e ≤ x))). no.1)
+        (covered_here place kept e x) in
         others x above outside ∙ slid_to.others x above (λ a i below inside. none a i (omega (arith, below)) inside);
   }
 
   -- an address at which nothing is kept
-  pub slid_same : (e : ℕ) (now : ℕ → ℕ) → IsSlidTo e w kept renew before now → kept e ≡ 0 → IsSlidTo (suc e) w kept renew before now
-  slid_same e now slid_to none = slid_more e now now slid_to (λ i inside. absurd (omega (arith, none, inside))) (λ x above outside. refl)
-
-  -- nothing was slid yet
-  pub slid_start : (e : ℕ) → ((a : ℕ) → a < e → kept a ≡ 0) → IsSlidTo e w kept renew before before
-  slid_start e none = record { moved = λ a i below inside. absurd (omega (arith, none a below, inside)); others = λ x above outside. refl }
+  pub slid_same : (first e : ℕ) (now : ℕ → ℕ) → ((a : ℕ) → 0 < kept a → first ≤ place a) → IsSlidTo e first place kept renew before now → kept e ≡ 0 → IsSlidTo (suc e) first place kept renew before now
+  slid_same first e now low slid_to none = slid_more first e now now low slid_to (λ i inside. absurd (omega (arith, none, inside))) (λ x above outside. refl)
 
   -- the function is a heap after sliding
-  pub slid_is : (e : ℕ) → IsSlidTo e w kept renew before (slid w kept renew before e)
-  slid_is zero = record { moved = λ a i below inside. absurd (omega (arith, below)); others = λ x above none. slid_none w kept renew before x }
-  slid_is (suc e) =
-      slid_more e (slid w kept renew before e) (slid w kept renew before (suc e)) (slid_is e)
+  slid_from_zero : (e : ℕ) → IsSlidTo e 0 place kept renew before (slid place kept renew before e)
+  slid_from_zero zero = record { moved = λ a i below inside. absurd (omega (arith, below)); others = λ x above none. slid_none place kept renew before x }
+  slid_from_zero (suc e) =
+      slid_more 0 e (slid place kept renew before e) (slid place kept renew before (suc e)) (λ a some. omega arith) (slid_from_zero e)
       (λ i inside.
-      let place = new_place w kept e in
-      let back : place + i - place ≡ i = omega arith in
-      slid_next w kept renew before e (place + i)
-      ∙ cond-true (is_covered w kept e (place + i)) (slid_word renew before e (place + i - place)) (slid w kept renew before e (place + i))
-      (and_from (nat_le place (place + i)) (nat_lt (place + i) (place + kept e)) (le-leb place (place + i) (omega arith)) (lt-ltb (place + i) (place + kept e) (omega (arith, inside))))
+      let back : place e + i - place e ≡ i = omega arith in
+      slid_next place kept renew before e (place e + i)
+      ∙ cond-true (is_covered place kept e (place e + i)) (slid_word renew before e (place e + i - place e)) (slid place kept renew before e (place e + i))
+      (covers place kept e (place e + i) (omega arith) (omega (arith, inside)))
       ∙ ap (slid_word renew before e) back)
       (λ x above outside. ⊎_elim
-      (λ (yes : (is_covered w kept e x ≡ true) × (new_place w kept e ≤ x) × (x < new_place w kept e + kept e)).
+      (λ (yes : (is_covered place kept e x ≡ true) × (place e ≤ x) × (x < place e + kept e)).
       absurd (⊎_elim
-      (λ (low : x < new_place w kept e). omega (arith, low, yes.1))
-      (λ (high : new_place w kept e + kept e ≤ x). omega (arith, high, yes.2))
+      (λ (low : x < place e). omega (arith, low, yes.1))
+      (λ (high : place e + kept e ≤ x). omega (arith, high, yes.2))
       outside))
-      (λ (no : (is_covered w kept e x ≡ false) × ((x < new_place w kept e) ⊎ (new_place w kept e + kept e ≤ x))).
-      slid_next w kept renew before e x
-      ∙ cond-false (is_covered w kept e x) (slid_word renew before e (x - new_place w kept e)) (slid w kept renew before e x) no.0)
-      (covered_here w kept e x))
+      (λ (no : (is_covered place kept e x ≡ false) × ((x < place e) ⊎ (place e + kept e ≤ x))).
+      slid_next place kept renew before e x
+      ∙ cond-false (is_covered place kept e x) (slid_word renew before e (x - place e)) (slid place kept renew before e x) no.0)
+      (covered_here place kept e x))
+
+  pub slid_is : (first e : ℕ) → IsSlidTo e first place kept renew before (slid place kept renew before e)
+  slid_is first e = slid_from 0 first e place kept renew before (slid place kept renew before e) (omega arith) (slid_from_zero e)
 
   -- and the only one, over the addresses of the heap
-  pub slid_only : (e : ℕ) (after : ℕ → ℕ) → IsSlidTo e w kept renew before after → (x : ℕ) → w ≤ x → after x ≡ slid w kept renew before e x
-  slid_only e after slid_to x above = ⊎_elim
-      (λ (word : IsWordOf e w kept x).
+  pub slid_only : (first e : ℕ) (after : ℕ → ℕ) → IsSlidTo e first place kept renew before after → (x : ℕ) → first ≤ x → after x ≡ slid place kept renew before e x
+  slid_only first e after slid_to x above = ⊎_elim
+      (λ (word : IsWordOf e place kept x).
       ap after word.4 ∙ slid_to.moved word.0 word.1 word.2 word.3
-      ∙ sym (ap (slid w kept renew before e) word.4 ∙ (slid_is e).moved word.0 word.1 word.2 word.3))
-      (λ (none : IsWordOf e w kept x → ⊥).
+      ∙ sym (ap (slid place kept renew before e) word.4 ∙ (slid_is first e).moved word.0 word.1 word.2 word.3))
+      (λ (none : IsWordOf e place kept x → ⊥).
       slid_to.others x above (λ a i below inside same. none (a, i, below, inside, same))
-      ∙ sym ((slid_is e).others x above (λ a i below inside same. none (a, i, below, inside, same))))
-      (covered_or_not e w kept x)
+      ∙ sym ((slid_is first e).others x above (λ a i below inside same. none (a, i, below, inside, same))))
+      (covered_or_not e place kept x)
 
+-- places matter only where something is kept
+pub placed_alike : (first e : ℕ) (place other kept renew before after : ℕ → ℕ) → ((a : ℕ) → 0 < kept a → place a ≡ other a)
+    → IsSlidTo e first place kept renew before after → IsSlidTo e first other kept renew before after
+placed_alike first e place other kept renew before after alike slid_to = record {
+  moved = λ a i below inside. ap (λ p. after (p + i)) (sym (alike a (omega (arith, inside)))) ∙ slid_to.moved a i below inside;
+  others = λ x above none. slid_to.others x above (λ a i below inside same. none a i below inside (same ∙ ap (λ p. p + i) (alike a (omega (arith, inside)))));
+}
+
+module _ (place kept renew before : ℕ → ℕ) where
   -- which way references are renewed matters only at the references of kept objects
-  pub renewed_alike : (other : ℕ → ℕ) (e : ℕ) (after : ℕ → ℕ) → ((a i : ℕ) → 0 < kept a → i < refs_in (before (a + 1)) → renew (before (a + (3 + i))) ≡ other (before (a + (3 + i))))
-      → IsSlidTo e w kept renew before after → IsSlidTo e w kept other before after
-  renewed_alike other e after alike slid_to = record {
+  pub renewed_alike : (other : ℕ → ℕ) (first e : ℕ) (after : ℕ → ℕ) → ((a i : ℕ) → 0 < kept a → i < refs_in (before (a + 1)) → renew (before (a + (3 + i))) ≡ other (before (a + (3 + i))))
+      → IsSlidTo e first place kept renew before after → IsSlidTo e first place kept other before after
+  renewed_alike other first e after alike slid_to = record {
     moved = λ a i below inside. slid_to.moved a i below inside ∙ same_word a i (omega (arith, inside));
     others = slid_to.others;
   }

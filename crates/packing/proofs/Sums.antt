@@ -1,5 +1,5 @@
 -- Sums over the numbers below a number.
-use Rattle.std.proofs.Common.{◌≡◌, ◌≢◌, ℕ, ◌+◌, ◌-◌, ◌*◌, ◌<◌, ◌≤◌, ◌==◌, zero, suc, List, [], ◌∷◌, length, get_or, sum_by, ⊎_elim, refl, sym, ap, ◌∙◌, subst, arith}
+use Rattle.std.proofs.Common.{◌≡◌, ◌≢◌, ℕ, ◌+◌, ◌-◌, ◌<◌, ◌≤◌, ◌==◌, zero, suc, List, [], ◌∷◌, length, get_or, sum_by, ⊎_elim, refl, sym, ap, ◌∙◌, subst, arith}
 use Rattle.std.specs.Prelude.{if◌then◌else◌, nat_lt}
 use Rattle.std.proofs.lemmas.Bool.{cases_eq, cond-true, cond-false, eq-eqb, ne_eqb, lt-ltb, le-ltb}
 use Rattle.std.proofs.lemmas.List.Sums.{sum_by-cons}
@@ -44,12 +44,6 @@ sum_of_one f (suc n) q below none = ⊎_elim
     let rest = sum_of_one f n q (omega (arith, below, other)) (λ k less differs. none k (omega (arith, less)) differs) in
     omega (arith, rest, none n (omega arith) other, sum_next f n))
     (cases_eq n q)
-
--- where each is at least a number, so is the sum that many times
-pub sum_of_many : (f : ℕ → ℕ) (n least : ℕ) → ((k : ℕ) → k < n → least ≤ f k) → n * least ≤ sum_below f n
-sum_of_many f zero least each = omega arith
-sum_of_many f (suc n) least each =
-    omega (arith, sum_of_many f n least (λ k below. each k (omega (arith, below))), each n (omega arith), sum_next f n)
 
 -- a sum grows with the number of its terms
 pub sum_grows : (f : ℕ → ℕ) (m n : ℕ) → m ≤ n → sum_below f m ≤ sum_below f n

@@ -1,12 +1,11 @@
--- The heap after its kept objects were slid down to their new places.
-use Rattle.std.specs.Prelude.{ℕ, ◌≡◌, ◌≢◌, ◌+◌, ◌-◌, ◌<◌, ◌≤◌, ◌==◌, ◌&&◌, Bool, zero, suc, nat_le, nat_lt, if◌then◌else◌}
+-- The heap after its kept objects were slid down to their new places. `place` says where each goes.
+use Rattle.std.specs.Prelude.{ℕ, ◌≡◌, ◌≢◌, ◌+◌, ◌-◌, ◌<◌, ◌≤◌, ◌==◌, ◌&&◌, Bool, true, zero, suc, nat_le, nat_lt, if◌then◌else◌}
 use Rattle.heap_words.specs.Encoding.{plain_header, refs_in}
-use Rattle.packing.specs.Places.{LieApart, new_place}
 
 -- What a word that stands for a reference becomes: null stays null, and another one names the new place of the object.
 -- `now` gives the address of an object's current copy.
-abbrev pub renewed : (region_words : ℕ) (now kept : ℕ → ℕ) → ℕ → ℕ
-renewed region_words now kept word = if word == 0 then 0 else new_place region_words kept (now word)
+abbrev pub renewed : (place now : ℕ → ℕ) → ℕ → ℕ
+renewed place now word = if word == 0 then 0 else place (now word)
 
 -- What a word of an object with so many references becomes, by its index in the object: the header is plain, references
 -- are renewed, and shape, name and numbers stay.
@@ -18,24 +17,28 @@ abbrev pub slid_word : (renew heap : ℕ → ℕ) (address index : ℕ) → ℕ
 slid_word renew heap address index = placed_word renew (refs_in (heap (address + 1))) index (heap (address + index))
 
 -- The heap after the kept objects that begin below an address were slid. Their words stand at their new places, and each
--- other word of the heap, whose addresses begin at region_words, is as before.
-pub record IsSlidTo (end region_words : ℕ) (kept renew before after : ℕ → ℕ) : Type 0 where
-  pub moved : (a i : ℕ) → a < end → i < kept a → after (new_place region_words kept a + i) ≡ slid_word renew before a i
-  pub others : (x : ℕ) → region_words ≤ x → ((a i : ℕ) → a < end → i < kept a → x ≢ new_place region_words kept a + i) → after x ≡ before x
+-- other word of the heap, whose addresses begin at `first`, is as before.
+pub record IsSlidTo (end first : ℕ) (place kept renew before after : ℕ → ℕ) : Type 0 where
+  pub moved : (a i : ℕ) → a < end → i < kept a → after (place a + i) ≡ slid_word renew before a i
+  pub others : (x : ℕ) → first ≤ x → ((a i : ℕ) → a < end → i < kept a → x ≢ place a + i) → after x ≡ before x
 
 -- whether the new place of an object covers an address
-abbrev pub is_covered : (region_words : ℕ) (kept : ℕ → ℕ) (a x : ℕ) → Bool
-is_covered region_words kept a x = nat_le (new_place region_words kept a) x && nat_lt x (new_place region_words kept a + kept a)
+abbrev pub is_covered : (place kept : ℕ → ℕ) (a x : ℕ) → Bool
+is_covered place kept a x = nat_le (place a) x && nat_lt x (place a + kept a)
 
 -- the same as a function: the word of the last of them whose new place covers an address, and where none does the old word
-unfoldable pub slid : (region_words : ℕ) (kept renew before : ℕ → ℕ) → ℕ → ℕ → ℕ
-slid region_words kept renew before zero x = before x
-slid region_words kept renew before (suc a) x =
-    if is_covered region_words kept a x then slid_word renew before a (x - new_place region_words kept a) else slid region_words kept renew before a x
+unfoldable pub slid : (place kept renew before : ℕ → ℕ) → ℕ → ℕ → ℕ
+slid place kept renew before zero x = before x
+slid place kept renew before (suc a) x =
+    if is_covered place kept a x then slid_word renew before a (x - place a) else slid place kept renew before a x
 
--- Where kept objects lie apart, the function gives a heap after sliding, and over the heap's addresses it is the only one.
+-- the places of kept objects lie apart, in whatever order
+abbrev pub PlacesApart : (place kept : ℕ → ℕ) → Type 0
+PlacesApart place kept = (a b x : ℕ) → is_covered place kept a x ≡ true → is_covered place kept b x ≡ true → a ≡ b
+
+-- Where the places of kept objects lie apart, the function gives a heap after sliding, and over the heap's addresses it is the only one.
 pub record IsOneHeap : Type 0 where
-  pub is : (region_words : ℕ) (kept renew before : ℕ → ℕ) → LieApart region_words kept → (end : ℕ)
-      → IsSlidTo end region_words kept renew before (slid region_words kept renew before end)
-  pub only : (region_words : ℕ) (kept renew before : ℕ → ℕ) → LieApart region_words kept → (end : ℕ) (after : ℕ → ℕ)
-      → IsSlidTo end region_words kept renew before after → (x : ℕ) → region_words ≤ x → after x ≡ slid region_words kept renew before end x
+  pub is : (first : ℕ) (place kept renew before : ℕ → ℕ) → PlacesApart place kept → (end : ℕ)
+      → IsSlidTo end first place kept renew before (slid place kept renew before end)
+  pub only : (first : ℕ) (place kept renew before : ℕ → ℕ) → PlacesApart place kept → (end : ℕ) (after : ℕ → ℕ)
+      → IsSlidTo end first place kept renew before after → (x : ℕ) → first ≤ x → after x ≡ slid place kept renew before end x

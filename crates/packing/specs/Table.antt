@@ -2,7 +2,7 @@
 use Rattle.std.specs.Prelude.{ℕ, ◌≡◌, ◌≢◌, ◌+◌, ◌-◌, ◌^◌, ◌<◌, ◌≤◌, ◌==◌, ◌&&◌, nat_le, nat_lt, if◌then◌else◌, Bool, false, List, length, slice_index, slice_index_or}
 use Rattle.heap_words.specs.Encoding.{refs_in, object_words, is_forwarded, forwardee_in}
 use Rattle.packing.specs.Places.{LieApart, new_place}
-use Rattle.packing.specs.Slide.{slid_word, renewed}
+use Rattle.packing.specs.Slide.{slid_word, renewed, PlacesApart}
 
 -- the word at an address
 abbrev pub word_of : (first : ℕ) (heap : List ℕ) → ℕ → ℕ
@@ -20,8 +20,15 @@ pub record IsMarkedHeap (first : ℕ) (heap : List ℕ) (marks : List Bool) : Ty
   pub small : first + length heap ≤ 2 ^ 32
 
 -- the table has the new place of each kept object
-abbrev pub HavePlaces : (first : ℕ) (kept : ℕ → ℕ) (places : List ℕ) → Type 0
-HavePlaces first kept places = (a : ℕ) → 0 < kept a → word_of first places a ≡ new_place first kept a
+abbrev pub HavePlaces : (first : ℕ) (shut : ℕ → Bool) (kept : ℕ → ℕ) (places : List ℕ) → Type 0
+HavePlaces first shut kept places = (a : ℕ) → 0 < kept a → word_of first places a ≡ new_place first shut kept a
+
+-- The table places kept objects apart, in the heap, and none above where it lies: so they can be moved one after the other, in the
+-- order of addresses.
+pub record IsPlacing (first : ℕ) (kept : ℕ → ℕ) (places : List ℕ) : Type 0 where
+  pub low : (a : ℕ) → 0 < kept a → first ≤ word_of first places a
+  pub down : (a : ℕ) → 0 < kept a → word_of first places a ≤ a
+  pub apart : PlacesApart (word_of first places) kept
 
 -- a word is null, or the table has an entry for its address
 abbrev pub IsInTable : (first : ℕ) (places : List ℕ) → ℕ → Type 0
@@ -67,7 +74,11 @@ pub record CanCompact (first : ℕ) (heap : List ℕ) (marks : List Bool) : Type
   pub current : (a : ℕ) → 0 < kept_of first heap marks a → now_of first heap a ≡ a
   pub closed : (a i : ℕ) → 0 < kept_of first heap marks a → i < refs_in (word_of first heap (a + 1)) → LeadsToKept first heap marks (word_of first heap (a + (3 + i)))
 
+-- the place of a marked object, around the regions that are shut
+abbrev pub place_of : (first : ℕ) (shut : ℕ → Bool) (heap : List ℕ) (marks : List Bool) → ℕ → ℕ
+place_of first shut heap marks = new_place first shut (kept_of first heap marks)
+
 -- the table renews a word as it should
-pub record IsRenewedBy (first : ℕ) (heap : List ℕ) (marks : List Bool) (places : List ℕ) (word : ℕ) : Type 0 where
+pub record IsRenewedBy (first : ℕ) (shut : ℕ → Bool) (heap : List ℕ) (marks : List Bool) (places : List ℕ) (word : ℕ) : Type 0 where
   pub in_table : IsInTable first places word
-  pub renewed_as : from_table first places word ≡ renewed first (now_of first heap) (kept_of first heap marks) word
+  pub renewed_as : from_table first places word ≡ renewed (place_of first shut heap marks) (now_of first heap) word

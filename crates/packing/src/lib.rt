@@ -19,7 +19,7 @@ ghost use Rattle.packing.specs.Laws.{PackingFits, PackingFills, RequestsAreServe
 pub use compact::compact_marked;
 pub use copies::follow;
 pub use moves::{renew, slide, slides_to_one_heap};
-pub use places::{assign, place_behind};
+pub use places::{assign, is_shut, place_around, place_behind};
 
 /// A law: no kept object is placed above the address where it lay, so that each one fits; they stay apart and in order,
 /// each within one region.

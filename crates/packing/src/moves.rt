@@ -1,7 +1,7 @@
 ghost use Rattle.std.specs.Prelude.{◌≡◌, ◌+◌, ◌^◌, ◌<◌, ◌≤◌, ℕ, length, slice_index};
 ghost use Rattle.heap_words.specs.Encoding.{refs_in, object_words};
 ghost use Rattle.packing.specs.Slide.{placed_word, IsSlidTo, IsOneHeap};
-ghost use Rattle.packing.specs.Table.{word_of, kept_of, IsMarkedHeap, HavePlaces, IsInTable, AreInTable, IsMovedTo, from_table};
+ghost use Rattle.packing.specs.Table.{word_of, kept_of, IsMarkedHeap, IsPlacing, IsInTable, AreInTable, IsMovedTo, from_table};
 
 use heap_words::{refs_of, words_of};
 
@@ -51,14 +51,13 @@ fn slide_object(first: u64, places: &[u64], from: usize, to: usize, heap: &mut [
 }
 
 /// Moves each marked object down to its new place, in the order of addresses, and renews its references by the table of
-/// new places. `heap`, `marks` and `places` have an entry for each address from `region_words` on. No other word is
-/// written.
+/// new places. `heap`, `marks` and `places` have an entry for each address from `region_words` on. No other word is written.
 pub fn slide(region_words: u64, places: &[u64], marks: &[bool], heap: &mut [u64])
     requires marked { IsMarkedHeap region_words heap.old marks.now }
     requires table { length places.now ≡ length heap.old }
-    requires places { HavePlaces region_words (kept_of region_words heap.old marks.now) places.now }
+    requires places { IsPlacing region_words (kept_of region_words heap.old marks.now) places.now }
     requires closed { AreInTable region_words (kept_of region_words heap.old marks.now) (word_of region_words heap.old) places.now }
-    ensures { IsSlidTo (region_words + length heap.old) region_words (kept_of region_words heap.old marks.now) (from_table region_words places.now)
+    ensures { IsSlidTo (region_words + length heap.old) region_words (word_of region_words places.now) (kept_of region_words heap.old marks.now) (from_table region_words places.now)
         (word_of region_words heap.old) (word_of region_words heap.new) }
 {
     for (index, marked) in marks.iter().enumerate() {

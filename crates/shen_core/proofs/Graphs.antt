@@ -8,7 +8,7 @@ use Rattle.std.proofs.Math.Nat.{ℕ_set}
 use Rattle.std.proofs.Math.Logic.{∥∥₁_map, ∥∥₁_elim}
 use Rattle.std.proofs.lemmas.Option.{slice_get-map, get_or_from_slice_get}
 use Rattle.heap_words.specs.declared.config.Config.{Config}
-use Rattle.heap_words.specs.Words.{heap_in, roots_in}
+use Rattle.heap_words.specs.Words.{heap_in, roots_in, pins_in}
 use Rattle.image_graph.specs.Left.{StandsForSome}
 use Rattle.heap_graph.specs.Shows.{WordsStand}
 use Rattle.shen_graph.specs.declared.name.Name.{Name}
@@ -70,8 +70,8 @@ module _ (c : Config) (words : List ℕ) (machines : List Machine) (rest : (numb
   abbrev pub names : ℕ → Option Name
   names = standing.names c run at_rest is_calm
 
-  pub stand : WordsStand c.region_words (heap_in c words) (roots_in c words) names (graph_after pause_image c run)
-  stand = subst (λ ws. WordsStand c.region_words (heap_in c ws) (roots_in c ws) names (graph_after pause_image c run)) shows.words_are (standing.words_stand c run at_rest is_calm)
+  pub stand : WordsStand c.region_words (heap_in c words) (roots_in c words) (pins_in c words) names (graph_after pause_image c run)
+  stand = subst (λ ws. WordsStand c.region_words (heap_in c ws) (roots_in c ws) (pins_in c ws) names (graph_after pause_image c run)) shows.words_are (standing.words_stand c run at_rest is_calm)
 
 -- so it is of those that led to the words
 module _ (c : Config) (words : List ℕ) (machines : List Machine) (rest : (number : ℕ) → number < c.mutators → is_resting (slice_index_or machines number no_machine) ≡ true)

@@ -24,7 +24,7 @@ use Rattle.shen_graph.specs.declared.order.Order.TheVariants.{Nothing, Begin, En
 use Rattle.shen_graph.specs.History.{of_thread}
 use Rattle.handshake.specs.Standing.{is_within, is_pausing}
 use Rattle.mutator.specs.declared.spot.Spot.{Spot}
-use Rattle.mutator.specs.declared.spot.Spot.TheVariants.{Rest, Ended, Gone, Loading, OnField, OnNumber}
+use Rattle.mutator.specs.declared.spot.Spot.TheVariants.{Rest, Ended, Gone, Loading, OnField, OnNumber, Pinning}
 use Rattle.mutator.specs.Orders.{is_between_calls, takes_commands, takes_at}
 use Rattle.mutator.specs.Rows.{Mutating, next_at, next_of}
 use Rattle.mutator.specs.Told.{told_at, told_of}
@@ -78,6 +78,7 @@ told_outside one two m out = by_spot m.spot out
     by_spot (Loading at) out = absurd cc
     by_spot (OnField object at) out = absurd cc
     by_spot (OnNumber object refs at) out = absurd cc
+    by_spot (Pinning value at) out = absurd cc
     by_spot _ out = refl
 
 -- Commands.

@@ -426,8 +426,8 @@ impl Plain {
         self.machines[number].plan()
     }
 
-    /// Writes the graph that words and machines stand for: the objects that the mutators' roots lead to, in the order of
-    /// their names, and the roots of each mutator. No mutator has a call in progress, the control is not storing a new
+    /// Writes the graph that words and machines stand for: the objects that the mutators' roots and pin slots lead to, in the
+    /// order of their names, and the roots and pin slots of each mutator. No mutator has a call in progress, the control is not storing a new
     /// image, and the text was opened for at least as many words as the heap has, and for the heap's mutators. No memory is
     /// taken: the control's image is where it works. The time is linear in the words, but for the sort of the objects.
     pub fn graph(&mut self, text: &mut GraphText)

@@ -3,7 +3,7 @@ use Rattle.std.proofs.Common.{◌≡◌, ℕ, Bool, true, false, length, None, r
 use Rattle.std.specs.Prelude.{◌==◌, nat_lt, if◌then◌else◌}
 use Rattle.heap_words.specs.declared.config.Config.{Config}
 use Rattle.shen_graph.specs.declared.command.Command.{Command}
-use Rattle.shen_graph.specs.declared.command.Command.TheVariants.{New, Drop, Copy, Same, Get, Set, Cas, Xchg, Rd, Wr, Gc}
+use Rattle.shen_graph.specs.declared.command.Command.TheVariants.{New, Drop, Copy, Same, Get, Set, Cas, Xchg, Rd, Wr, Gc, Pin, Unpin}
 use Rattle.shen_graph.specs.declared.command.Reply.TheVariants as reply
 use Rattle.shen_graph.specs.declared.order.Order.TheVariants.{Nothing}
 use Rattle.handshake.specs.declared.enter_spot.EnterSpot.{EnterSpot}
@@ -16,7 +16,7 @@ use Rattle.mutator.specs.declared.spot.Spot.{Spot}
 use Rattle.satb_barrier.specs.declared.spot.RememberSpot.{RememberSpot}
 use Rattle.satb_barrier.specs.declared.spot.RememberSpot.TheVariants.{LoadCount, Recorded}
 use Rattle.satb_barrier.specs.Rows as satb
-use Rattle.mutator.specs.declared.spot.Spot.TheVariants.{Rest, Ended, Entering, LoadPhase, LoadSet, Loading, OnField, Resolving, Recording, OnNumber, Showing, StoreRoot, Making, AskCycle, Waiting, Leave, Gone}
+use Rattle.mutator.specs.declared.spot.Spot.TheVariants.{Rest, Ended, Entering, LoadPhase, LoadSet, Loading, OnField, Resolving, Recording, OnNumber, Showing, StoreRoot, Making, AskCycle, Pinning, Waiting, Leave, Gone}
 use Rattle.mutator.specs.declared.spot.Entered.{Entered}
 use Rattle.mutator.specs.declared.spot.Entered.TheVariants.{Call, Waited}
 use Rattle.mutator.specs.declared.loads.LoadSpot.{LoadSpot}
@@ -37,12 +37,14 @@ use Rattle.mutator.specs.declared.shows.ShowSpot.{ShowSpot}
 use Rattle.mutator.specs.declared.shows.ShowSpot.TheVariants as show
 use Rattle.mutator.specs.declared.makes.MakeSpot.{MakeSpot}
 use Rattle.mutator.specs.declared.makes.MakeSpot.TheVariants as make
+use Rattle.mutator.specs.declared.pins.PinSpot.{PinSpot}
+use Rattle.mutator.specs.declared.pins.PinSpot.TheVariants as pin
 use Rattle.mutator.specs.declared.waits.WaitSpot.{WaitSpot}
 use Rattle.mutator.specs.declared.waits.WaitSpot.TheVariants as wait
-use Rattle.mutator.specs.Commands.{command_roots, lacks_object, has_part}
+use Rattle.mutator.specs.Commands.{command_roots, lacks_object, has_part, fits_slot}
 use Rattle.table_heap.specs.Makes.{makes_object, may_stand}
 use Rattle.mutator.specs.WaitRows.{after_enter, wait_next}
-use Rattle.mutator.specs.Rows.{Mutating, given_at, next_at, first_spot, after_roots, after_first, after_second, after_root, on_number, with_part, after_shape, after_take, is_to_record, after_recording, overwritten, after_remember, after_expected, after_resolved, with_loaded, after_resolve, after_swap, take_next, load_next, field_next, number_next, show_next, make_next}
+use Rattle.mutator.specs.Rows.{Mutating, given_at, next_at, first_spot, after_roots, after_first, after_second, after_root, on_number, with_part, after_shape, after_take, is_to_record, after_recording, overwritten, after_remember, after_expected, after_resolved, with_loaded, after_resolve, after_swap, take_next, load_next, field_next, number_next, show_next, pin_next, make_next}
 
 -- a mutator in a call stands where it may, by whether its call makes an object
 module _ (makes : Bool) where
@@ -64,10 +66,12 @@ module _ (makes : Bool) where
   in_first_spot (New dst refs nums) may = may refl
   in_first_spot (Drop dst) may = refl
   in_first_spot Gc may = refl
+  in_first_spot (Unpin slot) may = refl
   in_first_spot _ may = refl
 
   in_roots : (command : Command) (first second third : ℕ) → InCall (after_roots command first second third)
   in_roots (Copy dst src) first second third = refl
+  in_roots (Pin slot obj) first second third = refl
   in_roots (Same a b) first second third = refl
   in_roots _ first second third = refl
 
@@ -152,6 +156,10 @@ module _ (makes : Bool) where
   in_show value show.LoadName got = refl
   in_show value (show.StoreRoot reply) got = refl
 
+  in_pin : (value : ℕ) (command : Command) (at : PinSpot) (got : ℕ) → InCall (pin_next value command at got)
+  in_pin value command pin.Look got = either (fits_slot command got) (Pinning value pin.Store) (Leave reply.Bad) refl refl
+  in_pin value command pin.Store got = refl
+
   in_make : (c : Config) (seat made : ℕ) (command : Command) (at : MakeSpot) (got : ℕ) → makes ≡ true → InCall (make_next c seat made command at got)
   in_make c seat made command (make.Taking take) got may = in_take (take_next c command take got) may
   in_make c seat made command (make.StoreWord address done) got may = may
@@ -184,5 +192,6 @@ module _ (makes : Bool) where
   call_stands c m got (StoreRoot value) own may none = refl
   call_stands c m got (Making at) own may none = in_make c m.seat m.made m.kept.command at got may
   call_stands c m got AskCycle own may none = refl
+  call_stands c m got (Pinning value at) own may none = in_pin value m.kept.command at got
   call_stands c m got (Waiting at) own may none = in_wait m.seat m.made at got may
   call_stands c m got (Leave reply) own may none = absurd (cc (none))

@@ -3,7 +3,7 @@ use Rattle.std.proofs.Common.{◌≡◌, ℕ, ◌<◌, true, Option, None, Some,
 use Rattle.std.specs.Prelude.{slice_get}
 use Rattle.std.proofs.Math.Logic.{∥∥₁_map}
 use Rattle.heap_words.specs.declared.config.Config.{Config}
-use Rattle.heap_words.specs.Words.{heap_in, roots_in}
+use Rattle.heap_words.specs.Words.{heap_in, roots_in, pins_in}
 use Rattle.shen_graph.specs.declared.name.Name.{Name}
 use Rattle.steps_base.specs.Steps.{Stage, IsReached}
 use Rattle.heap_graph.specs.Shows.{WordsStand, StandForSome}
@@ -28,10 +28,10 @@ module _ (c : Config) (s : Stage Actor) (rest : (t : ℕ) (a : Actor) → t < c.
     abbrev pub names : ℕ → Option Name
     names = standing.names c run at_rest is_calm
 
-    pub words_stand : WordsStand c.region_words (heap_in c s.words) (roots_in c s.words) names (graph_after pause_image c run)
-    words_stand = subst (λ x. WordsStand c.region_words (heap_in c x.words) (roots_in c x.words) names (graph_after pause_image c run)) ends (standing.words_stand c run at_rest is_calm)
+    pub words_stand : WordsStand c.region_words (heap_in c s.words) (roots_in c s.words) (pins_in c s.words) names (graph_after pause_image c run)
+    words_stand = subst (λ x. WordsStand c.region_words (heap_in c x.words) (roots_in c x.words) (pins_in c x.words) names (graph_after pause_image c run)) ends (standing.words_stand c run at_rest is_calm)
 
   -- so they do for the graph of those events that led there
-  pub some_stand : ∥ IsReached (heap_kind c) (heap_opening c) s ∥₁ → StandForSome c.region_words (heap_in c s.words) (roots_in c s.words)
+  pub some_stand : ∥ IsReached (heap_kind c) (heap_opening c) s ∥₁ → StandForSome c.region_words (heap_in c s.words) (roots_in c s.words) (pins_in c s.words)
   some_stand some =
       ∥∥₁_map some (λ reached. (names (run_of c reached.events) reached.ends, (graph_after pause_image c (run_of c reached.events), words_stand (run_of c reached.events) reached.ends)))

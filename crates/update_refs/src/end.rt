@@ -34,8 +34,8 @@ pub fn free_set(image: &mut Image)
     }
 }
 
-// No cycle runs: the collection set is empty, and no unit is claimed.
-fn end_cycle(image: &mut Image)
+/// No cycle runs: the collection set is empty, and no unit is claimed.
+pub fn end_updating(image: &mut Image)
     ensures config { config_of image.new ≡ config_of image.old }
     ensures words { memory_of image.new ≡ cycle_ended (memory_of image.old) }
 {
@@ -46,7 +46,7 @@ fn end_cycle(image: &mut Image)
 }
 
 /// Ends the updating of references, and the cycle with it: the regions of the collection set are freed, the set is empty, and
-/// no unit is claimed. All other words stay. Where the image holds a graph, and nothing names the set, it holds the same graph
+/// no unit is claimed. All other words stay. Where the image holds a graph, and nothing names the set, no pin slot either, it holds the same graph
 /// afterwards. Takes no memory, and time linear in the number of regions.
 pub fn final_update(image: &mut Image)
     ensures config { config_of image.new ≡ config_of image.old }
@@ -54,5 +54,5 @@ pub fn final_update(image: &mut Image)
     ensures holds { EndingHolds (config_of image.old) (memory_of image.old) (memory_of image.new) }
 {
     free_set(image);
-    end_cycle(image);
+    end_updating(image);
 }

@@ -5,5 +5,5 @@ mod begin;
 mod end;
 
 pub use begin::init_update;
-pub use end::{final_update, free_set};
+pub use end::{end_updating, final_update, free_set};
 pub use update_part::UpdateUnit;

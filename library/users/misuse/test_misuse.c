@@ -117,7 +117,8 @@ typedef struct command {
 static const command COMMANDS[] = {
     {CVM_NEW, {15, 16, 16, 0}, 3}, {CVM_GET, {15, 15, 31, 0}, 3}, {CVM_SET, {15, 31, 15, 0}, 3},  {CVM_CAS, {15, 31, 15, 15}, 4},
     {CVM_XCHG, {15, 15, 31, 15}, 4}, {CVM_RD, {15, 31, 0, 0}, 2},  {CVM_WR, {15, 31, 0, 0}, 2},    {CVM_COPY, {15, 15, 0, 0}, 2},
-    {CVM_DROP, {15, 0, 0, 0}, 1},    {CVM_SAME, {15, 15, 0, 0}, 2}, {CVM_GC, {0, 0, 0, 0}, 0},
+    {CVM_DROP, {15, 0, 0, 0}, 1},    {CVM_SAME, {15, 15, 0, 0}, 2}, {CVM_GC, {0, 0, 0, 0}, 0},    {CVM_PIN, {3, 15, 0, 0}, 2},
+    {CVM_UNPIN, {3, 0, 0, 0}, 1},
 };
 
 static cvm_status begin(cvm_seat *seat, cvm_op op, const uint32_t *words) {
@@ -154,7 +155,7 @@ static void commands(cvm_seat *seats) {
     for (size_t i = 0; i < count; i++) {
         out_of_range(&seats[0], &COMMANDS[i]);
     }
-    MUST(cvm_begin(&seats[0], CVM_GC + 1, 0, 0, 0, 0, 0) == CVM_NO_COMMAND);
+    MUST(cvm_begin(&seats[0], CVM_UNPIN + 1, 0, 0, 0, 0, 0) == CVM_NO_COMMAND);
     MUST(cvm_begin(&seats[0], UINT32_MAX, 99, 0, 0, 0, 0) == CVM_NO_COMMAND);
     for (size_t i = 0; i < count; i++) {
         in_range(&seats[1], &COMMANDS[i]);

@@ -2,11 +2,13 @@
  * Random commands of three mutators, one call after the other, held to a graph beside the heap that never moves an
  * object: each reply, with each name and number that belongs to it, has to be the graph's. Fields and numbers that
  * are not there and null roots are among them. Helper and control make steps of their own in between, so that objects
- * are moved between any two calls. Only whether there is room the graph does not know: it takes CVM_FULL as it comes.
+ * are moved between any two calls. Two things the graph does not know, and takes as they come: whether there is room
+ * (CVM_FULL), and at which address an object is that nothing pins yet. As long as a slot holds it, it has to stay there,
+ * and no other object that is pinned may have the same.
  */
 #include "../common/crew.h"
 
-enum { MUTATORS = 3, SEATS = MUTATORS + 2, MOST_OBJECTS = 1 << 16, HUB = 1, NOTHING = 0 };
+enum { REGIONS = 6, REGION_WORDS = 64, MUTATORS = 3, SEATS = MUTATORS + 2, MOST_OBJECTS = 1 << 16, HUB = 1, NOTHING = 0 };
 
 /* An object of the graph. Objects are numbered from 1, so that 0 is null; the hub is the first. */
 typedef struct object {
@@ -21,6 +23,8 @@ typedef struct graph {
     uint32_t many;
     uint64_t made[MUTATORS];
     uint32_t roots[MUTATORS][CVM_ROOTS];
+    uint32_t pins[MUTATORS][CVM_PINS];
+    uint64_t places[MUTATORS][CVM_PINS];
 } graph;
 
 /* A command, and what it was answered. */
@@ -39,6 +43,9 @@ static void begin_graph(graph *graph) {
         graph->made[i] = 0;
         for (size_t root = 0; root < CVM_ROOTS; root++) {
             graph->roots[i][root] = root == 0 ? HUB : NOTHING;
+        }
+        for (size_t slot = 0; slot < CVM_PINS; slot++) {
+            graph->pins[i][slot] = NOTHING;
         }
     }
 }
@@ -104,8 +111,39 @@ static void on_number(graph *graph, const uint32_t *roots, call *call) {
     }
 }
 
+/* Whether an object may be pinned at an address: it is the address of each slot that holds it, and of no other object. */
+static int may_be_pinned(const graph *graph, uint32_t object, uint64_t place) {
+    for (size_t thread = 0; thread < MUTATORS; thread++) {
+        for (size_t slot = 0; slot < CVM_PINS; slot++) {
+            uint32_t held = graph->pins[thread][slot];
+            if (held != NOTHING && (held == object) != (graph->places[thread][slot] == place)) {
+                return 0;
+            }
+        }
+    }
+    return 1;
+}
+
+/* Commands on a pin slot. Of a pin the heap has told the address. */
+static void on_slot(graph *graph, size_t thread, call *call, uint64_t place) {
+    uint32_t *pin = &graph->pins[thread][call->a];
+    int is_pin = call->op == CVM_PIN;
+    if (is_pin ? *pin != NOTHING || graph->roots[thread][call->b] == NOTHING : *pin == NOTHING) {
+        reply(call, CVM_BAD);
+        return;
+    }
+    uint32_t object = is_pin ? graph->roots[thread][call->b] : NOTHING;
+    reply(call, is_pin ? CVM_AT : CVM_OK);
+    if (is_pin) {
+        MUST(place >= REGION_WORDS && place < (REGIONS + 1) * REGION_WORDS && may_be_pinned(graph, object, place));
+        graph->places[thread][call->a] = place;
+        call->answer.number = place;
+    }
+    *pin = object;
+}
+
 /* What the graph answers, and makes of itself. */
-static void play(graph *graph, size_t thread, call *call) {
+static void play(graph *graph, size_t thread, call *call, uint64_t place) {
     uint32_t *roots = graph->roots[thread];
     switch (call->op) {
     case CVM_NEW: make(graph, thread, call); break;
@@ -121,6 +159,8 @@ static void play(graph *graph, size_t thread, call *call) {
         break;
     case CVM_SAME: reply(call, roots[call->a] == roots[call->b] ? CVM_YES : CVM_NO); break;
     case CVM_GC: reply(call, CVM_OK); break;
+    case CVM_PIN:
+    case CVM_UNPIN: on_slot(graph, thread, call, place); break;
     default: on_field(graph, roots, call);
     }
 }
@@ -130,12 +170,14 @@ static call random_call(uint64_t *random) {
     uint64_t r = random_next(random);
     uint32_t words[3] = {(uint32_t)(r >> 8) % CVM_ROOTS, (uint32_t)(r >> 16) % CVM_ROOTS, (uint32_t)(r >> 24) % CVM_ROOTS};
     uint32_t field = (uint32_t)(r >> 32) % 8 == 0 ? (uint32_t)(r >> 40) % 32 : (uint32_t)(r >> 40) % 3;
-    call call = {.op = (cvm_op)(r % 11), .a = words[0], .b = words[1], .c = words[2], .d = (uint32_t)(r >> 48) % CVM_ROOTS, .value = random_next(random)};
+    call call = {.op = (cvm_op)(r % 13), .a = words[0], .b = words[1], .c = words[2], .d = (uint32_t)(r >> 48) % CVM_ROOTS, .value = random_next(random)};
     if (call.op == CVM_NEW) {
         call.b = (uint32_t)(r >> 40) % 4 == 0 ? 16 : words[1] % 4;
         call.c = (uint32_t)(r >> 42) % 4 == 0 ? 16 : words[2] % 4;
     } else if (call.op == CVM_GET || call.op == CVM_XCHG) {
         call.c = field;
+    } else if (call.op == CVM_PIN || call.op == CVM_UNPIN) {
+        call.a = words[0] % CVM_PINS;
     } else if (call.op != CVM_COPY && call.op != CVM_SAME) {
         call.b = field;
     }
@@ -151,7 +193,7 @@ static cvm_status call_both(cvm_seat *seats, size_t thread, graph *graph, call *
     if (said == CVM_FULL && call->op == CVM_NEW) {
         return said;
     }
-    play(graph, thread, call);
+    play(graph, thread, call, answer.number);
     MUST(said == call->reply);
     MUST(answer.number == call->answer.number && answer.thread == call->answer.thread && answer.count == call->answer.count);
     return said;
@@ -159,6 +201,10 @@ static cvm_status call_both(cvm_seat *seats, size_t thread, graph *graph, call *
 
 /* The heap is full: a mutator lets most of its roots go. */
 static void let_go(cvm_seat *seats, size_t thread, graph *graph) {
+    for (uint32_t slot = 0; slot < CVM_PINS; slot++) {
+        call unpin = {.op = CVM_UNPIN, .a = slot};
+        call_both(seats, thread, graph, &unpin);
+    }
     for (uint32_t root = 1; root < CVM_ROOTS; root++) {
         call drop = {.op = CVM_DROP, .a = root};
         call_both(seats, thread, graph, &drop);
@@ -178,7 +224,7 @@ static void work(cvm_seat *seats, uint64_t random) {
 
 static uint64_t run(uint64_t seed, uint64_t calls, uint64_t *fulls) {
     static graph graph;
-    cvm_config config = {.regions = 6, .region_words = 64, .mutators = MUTATORS, .helpers = 1, .reserve = 1};
+    cvm_config config = {.regions = REGIONS, .region_words = REGION_WORDS, .mutators = MUTATORS, .helpers = 1, .reserve = 1};
     cvm_seat seats[SEATS] = {{0}};
     uint64_t random = seed, made = 0;
     begin_graph(&graph);

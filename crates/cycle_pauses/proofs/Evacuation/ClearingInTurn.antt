@@ -6,14 +6,14 @@ use Rattle.std.proofs.Math.Path.{fun_ext}
 use Rattle.std.proofs.lemmas.Bool.{cases_Bool, cases_eq, cond-true, cond-false, and_parts, leb-true, eqb-true, eq-eqb, ne_eqb}
 use Rattle.std.proofs.lemmas.Option.{same_Some}
 use Rattle.heap_words.specs.declared.config.Config.{Config}
-use Rattle.heap_words.specs.Words.{Word, Cset, Top, Root, Wait, Answer, Heap, same_word, write}
+use Rattle.heap_words.specs.Words.{Word, Cset, Top, Root, Pin, Wait, Answer, Heap, same_word, write}
 use Rattle.heap_words.specs.Encoding.{plain_header, header_word, shape_word, is_forwarded, forwardee_in, object_words}
 use Rattle.heap_words.proofs.Stores.{same_word_true, both_equal}
 use Rattle.regions.specs.Place.{region_with}
 use Rattle.shen_graph.specs.declared.name.Name.{Name}
 use Rattle.shen_graph.specs.Graph.{Graph, Object, Reference}
 use Rattle.full_words.specs.Full.{now_in}
-use Rattle.heap_world.specs.World.{Block, thing, moved, promised, words_of, Plot, Points, name_at, body_of, IsCollected, IsMoved, IsThing}
+use Rattle.heap_world.specs.World.{Block, thing, moved, promised, words_of, Plot, Points, PinStands, name_at, body_of, IsCollected, IsMoved, IsThing}
 use Rattle.heap_world.specs.Asking.{Asking, given, IsPromise, IsAsked}
 use Rattle.heap_world.proofs.Pointing.{named_body, copy_cases, piece_inside}
 use Rattle.heap_world.proofs.Keeping.{points_stay}
@@ -22,17 +22,22 @@ use Rattle.cycle_words.specs.Evacuation.Copied.{MayChange, copied_out, IsCopiedO
 use Rattle.cycle_words.specs.Evacuation.Begun.{IsNaming, is_collected, moved_out, cleared_at, cleared_in_turn, CanClear, CanClearInTurn}
 use Rattle.cycle_words.proofs.Evacuation.CopiedOut.{copies_out}
 use Rattle.cycle_words.proofs.Evacuation.Copies.{cleared_is, spared_is}
+use Rattle.cycle_words.proofs.Pinned.{PinsOutside, unpinned_inside, still_outside}
+use Rattle.cycle_pauses.proofs.Evacuation.PinsKept.{pin_kept}
 use Rattle.cycle_pauses.proofs.Evacuation.Between.{AreBetween}
 use Rattle.cycle_pauses.proofs.Evacuation.CopiedOut.{HasCopied, copied_out_of}
 use Rattle.cycle_words.proofs.Evacuation.NamingPlaces.{IsPlace}
 use Rattle.cycle_pauses.proofs.Evacuation.Asked.{asked_stays, was_given}
 
--- the words between two turns: they stand for the graph, and but for pieces, roots and answers they are as at first
+-- The words between two turns: they stand for the graph, and but for pieces, roots and answers they are as at first. What pin slots hold lies
+-- outside of the set.
 pub record IsClearing (c : Config) (first m : Word → ℕ) (block : Plot) (owner : ℕ → Option ℕ) (g : Graph) (asking : ℕ → Asking) : Type 0 where
   pub between : AreBetween c m block owner g
   pub roots : (t i : ℕ) → t < c.mutators → i < 16 → Points block (m (Root t i)) (g.root (t + 1) i)
   pub asked : (t : ℕ) → t < c.mutators → IsAsked m block g.count t (asking t)
   pub same : (word : Word) → (MayChange word → ⊥) → (IsNaming word → ⊥) → m word ≡ first word
+  pub pinned : (t i : ℕ) → t < c.mutators → i < 4 → PinStands c (first Cset) 0 block (first (Pin t i)) (g.pin (t + 1) i)
+  pub apart : PinsOutside c first
 
 -- headers, and where an object is by its header
 pub plain_is_plain : (header : ℕ) → header ≡ plain_header → is_forwarded header ≡ false
@@ -88,12 +93,24 @@ is_named c m a is =
     record { above = leb-true c.region_words a parts.0; inside = eqb-true (bit_at (m Cset) (region_with c a)) 1 parts.1 }
 
 module _ (c : Config) (first m : Word → ℕ) (block : Plot) (owner : ℕ → Option ℕ) (g : Graph) (asking : ℕ → Asking) (s : IsClearing c first m block owner g asking) where
+  -- no slot holds an object of the set, so what slots hold stays where one is copied
+  unpinned : (a : ℕ) → is_collected c m a ≡ true → (u j : ℕ) → u < c.mutators → j < 4 → first (Pin u j) ≢ a
+  unpinned a collected u j inside few same =
+      unpinned_inside c m (still_outside c first m (λ t i. s.same (Pin t i) (λ never. never) (λ never. never)) (s.same Cset (λ never. never) (λ never. never)) s.apart) a collected u j inside few
+      (s.same (Pin u j) (λ never. never) (λ never. never) ∙ same)
+
+  pins_copied : (a : ℕ) (plot : Plot) → is_collected c m a ≡ true → ((p : ℕ) (z : Block) → p ≢ a → block p ≡ Some z → plot p ≡ Some z)
+      → (u j : ℕ) → u < c.mutators → j < 4 → PinStands c (first Cset) 0 plot (first (Pin u j)) (g.pin (u + 1) j)
+  pins_copied a plot collected stays u j inside few =
+      pin_kept c (first Cset) 0 block plot (first (Pin u j)) (g.pin (u + 1) j) (λ z is. stays (first (Pin u j)) z (unpinned a collected u j inside few) is) (s.pinned u j inside few)
+
   -- a root that names an object becomes the name of a current copy, where other words and promises stay
   module _ (n : Word → ℕ) (plot : Plot) (t i to : ℕ) (again : AreBetween c n plot owner g) (same : (word : Word) → (MayChange word → ⊥) → n word ≡ m word)
       (names : (p : ℕ) (name : Name) → name_at (block p) ≡ Some name → name_at (plot p) ≡ Some name) (points : Points plot to (g.root (t + 1) i))
       (heap : (u p words k : ℕ) → block p ≡ Some (promised u words) → k < words → n (Heap (p + k)) ≡ m (Heap (p + k)))
       (stays : (u p words : ℕ) → block p ≡ Some (promised u words) → plot p ≡ Some (promised u words))
-      (was : (u p words : ℕ) → plot p ≡ Some (promised u words) → block p ≡ Some (promised u words)) where
+      (was : (u p words : ℕ) → plot p ≡ Some (promised u words) → block p ≡ Some (promised u words))
+      (pins : (u j : ℕ) → u < c.mutators → j < 4 → PinStands c (first Cset) 0 plot (first (Pin u j)) (g.pin (u + 1) j)) where
     abbrev w : Word → ℕ
     w = write n (Root t i) to
 
@@ -115,6 +132,8 @@ module _ (c : Config) (first m : Word → ℕ) (block : Plot) (owner : ℕ → O
       asked = λ u inside.
           asked_stays m w block plot g.count u (same (Wait u) (λ never. never)) (same (Answer u) (λ never. never)) (λ p words k. heap u p words k) (stays u) (was u) (asking u) (s.asked u inside);
       same = λ word fixed other. not_written n (Root t i) to word tt other ∙ same word fixed ∙ s.same word fixed other;
+      pinned = pins;
+      apart = s.apart;
     }
 
   -- One root is cleared.
@@ -164,7 +183,8 @@ module _ (c : Config) (first m : Word → ℕ) (block : Plot) (owner : ℕ → O
             (λ u p words promise. ⊎_elim
             (λ (new : (p ≡ at.0) × (x ≡ promised u words)). let differ = new.1 in cc)
             (λ (stood : (p ≢ a) × (block p ≡ Some (promised u words))). stood.1)
-            (at.2.promises p u words promise))),
+            (at.2.promises p u words promise))
+            (pins_copied a at.1 collected at.2.stays)),
       )
 
     -- or which had moved
@@ -177,7 +197,7 @@ module _ (c : Config) (first m : Word → ℕ) (block : Plot) (owner : ℕ → O
         block,
         subst (λ w. IsClearing c first w block owner g asking) (sym (renamed_then c m (Root t i) to collected old_at.header))
             (root_named m block t i to s.between (λ word fixed. refl) (λ p name is. is) (subst (Points block to) (sym named.1) (ap name_at old_at.copy))
-            (λ u p words k promise below. refl) (λ u p words promise. promise) (λ u p words promise. promise)),
+            (λ u p words k promise below. refl) (λ u p words promise. promise) (λ u p words promise. promise) s.pinned),
       )
 
     root_cleared : (plot : Plot) × IsClearing c first (cleared_at c m (Root t i)) plot owner g asking
@@ -285,6 +305,8 @@ module _ (c : Config) (first m : Word → ℕ) (block : Plot) (owner : ℕ → O
                 (λ (differs : u ≢ t). answered_there u within differs)
                 (cases_eq u t);
             same = λ word fixed other. not_written n (Answer t) to word tt other ∙ moves.2.same word fixed ∙ s.same word fixed other;
+            pinned = pins_copied answer plot collected moves.2.stays;
+            apart = s.apart;
           }),
     )
 

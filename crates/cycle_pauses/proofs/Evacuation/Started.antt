@@ -1,17 +1,18 @@
 -- The words that the pause leaves stand for the same graph: where a region was chosen evacuation runs, and else nothing does.
-use Rattle.std.proofs.Common.{◌≡◌, ◌≢◌, ℕ, ◌+◌, ◌-◌, ◌<◌, ◌≤◌, ◌⊎◌, ◌==◌, nat_le, false, Some, None, inl, inr, ⊎_elim, refl, sym, ap, ◌∙◌, subst, arith}
+use Rattle.std.proofs.Common.{◌≡◌, ◌≢◌, ℕ, ◌+◌, ◌-◌, ◌<◌, ◌≤◌, ◌⊎◌, ◌==◌, nat_le, false, Option, Some, None, inl, inr, ⊎_elim, refl, sym, ap, ◌∙◌, subst, arith}
 use Rattle.std.specs.Int.{bit_at}
 use Rattle.std.proofs.lemmas.Bool.{true≢false, and_from, cases_lt, le-leb, eq-eqb}
 use Rattle.std.proofs.lemmas.Option.{none-some}
 use Rattle.heap_words.specs.declared.config.Config.{Config}
-use Rattle.heap_words.specs.Words.{Word, Cset, Evac, Ask, Free, Top, Tams, Current, Root, Count, Buffer, Answer, Grey, Black, Heap, Share}
+use Rattle.heap_words.specs.Words.{Word, Cset, Evac, Ask, Free, Top, Tams, Current, Root, Pin, Count, Buffer, Answer, Grey, Black, Heap, Share}
 use Rattle.heap_words.specs.Encoding.{end_in}
 use Rattle.heap_words.specs.Ranges.{seat_count}
 use Rattle.regions.specs.Place.{region_with, IsOf}
 use Rattle.regions.proofs.PlaceLemmas.{regions_tile}
 use Rattle.regions.specs.Sets.{IsIn}
+use Rattle.shen_graph.specs.declared.pin.Pinned.{Pinned}
 use Rattle.shen_graph.specs.Graph.{Graph, Reference}
-use Rattle.heap_world.specs.World.{Block, thing, moved, promised, dead, spare, Plot, Ghost, no_snapshot, Points, body_of, AreOwned, IsUsable, IsCollected, IsMarkable, HasCopy, AreRoomsOutside, IsEvacuating, body_at}
+use Rattle.heap_world.specs.World.{Block, thing, moved, promised, dead, spare, Plot, Ghost, no_snapshot, Points, PinStands, body_of, AreOwned, IsUsable, IsCollected, IsMarkable, HasCopy, AreRoomsOutside, IsEvacuating, body_at}
 use Rattle.heap_world.specs.Asking.{Asking, nothing, asks, refused, given, IsAsked}
 use Rattle.heap_world.specs.Represents.{Represents}
 use Rattle.heap_world.proofs.Pointing.{named_body, copy_cases, piece_inside}
@@ -26,6 +27,8 @@ use Rattle.cycle_words.specs.Evacuation.Live.{IsCandidate}
 use Rattle.cycle_words.specs.Evacuation.Begun.{is_collected, with_set, evac_started, evac_spared}
 use Rattle.cycle_pauses.proofs.Evacuation.Asked.{asked_stays}
 use Rattle.cycle_words.proofs.Evacuation.NamingPlaces.{IsPlace}
+use Rattle.cycle_words.proofs.Pinned.{PinsOutside, pins_outside, same_pinned}
+use Rattle.cycle_pauses.proofs.Evacuation.PinsKept.{pin_same}
 use Rattle.cycle_pauses.proofs.Evacuation.ClearingInTurn.{IsClearing}
 
 -- whoever is promised an object was given it, and its answer says where it is
@@ -99,6 +102,26 @@ module _ (c : Config) (memory : Word → ℕ) (block : Plot) (ghost : Ghost) (g 
     outside = λ seat some member. (candidates (region_with c (end_in (memory (Current seat)) - 1)) member).1.nobodys (ends_somewhere seat some);
   }
 
+  -- Nor does what a slot holds, since a candidate is not pinned.
+  pins_away : (set : ℕ) → ((r : ℕ) → IsIn set r → (r < c.regions) × IsCandidate c memory r) → PinsOutside c (with_set memory set)
+  pins_away set candidates =
+      pins_outside c (with_set memory set) (λ r is. same_pinned c memory (with_set memory set) (λ t i. refl) r ∙ (candidates r is).1.unpinned)
+
+  -- it may be used, for nothing has been copied yet
+  pin_before : (set word : ℕ) (held : Option Pinned) → is_collected c (with_set memory set) word ≡ false → PinStands c (memory Cset) (memory Evac) block word held → PinStands c set 0 block word held
+  pin_before set word None outside is = is
+  pin_before set word (Some x) outside is =
+      let above = piece_inside c (λ r. memory (Top r)) block out.parsable.plotted word (thing x.name is.1 is.2) is.3.piece in (
+        is.0,
+        is.1,
+        is.2,
+        record {
+          piece = is.3.piece;
+          safe = λ member. absurd (true≢false
+              (sym (and_from (nat_le c.region_words word) (bit_at set (region_with c word) == 1) (le-leb c.region_words word above.0) (eq-eqb (bit_at set (region_with c word)) 1 member)) ∙ outside));
+        },
+      )
+
   -- Before the first turn, with a set of candidates.
   pub clearing_begins : (set : ℕ) → ((r : ℕ) → IsIn set r → (r < c.regions) × IsCandidate c memory r)
       → IsClearing c (with_set memory set) (with_set memory set) block ghost.owner g asking
@@ -132,6 +155,8 @@ module _ (c : Config) (memory : Word → ℕ) (block : Plot) (ghost : Ghost) (g 
     roots = out.roots;
     asked = λ t inside. asked_stays memory (with_set memory set) block block g.count t refl refl (λ a words k is below. refl) (λ a words is. is) (λ a words is. is) (asking t) (out.asked t inside);
     same = λ word fixed other. refl;
+    pinned = λ t i inside few. pin_before set (memory (Pin t i)) (g.pin (t + 1) i) (pins_away set candidates t i inside few) (out.pinned t i inside few);
+    apart = pins_away set candidates;
   }
 
   -- After the last one, where roots and answers name nothing in the set.
@@ -215,6 +240,8 @@ module _ (c : Config) (memory : Word → ℕ) (block : Plot) (ghost : Ghost) (g 
           units = λ on r below. absurd (omega (arith, below));
         };
         updated = λ on. absurd (omega (arith, on));
+        pinned = λ t i inside few.
+            pin_same c set 0 (e Cset) 0 plot (memory (Pin t i)) (e (Pin t i)) (g.pin (t + 1) i) (sym set_is) refl (sym (s.same (Pin t i) (λ never. never) (λ never. never))) (s.pinned t i inside few);
       };
       roots = s.roots;
       usable = usable;
@@ -226,6 +253,7 @@ module _ (c : Config) (memory : Word → ℕ) (block : Plot) (ghost : Ghost) (g 
       unmarking = record { records_none = out.unmarking.records_none; scans_none = out.unmarking.scans_none };
       uncopying = record { copies_none = out.uncopying.copies_none; works_none = out.uncopying.works_none };
       no_more = out.no_more;
+      no_more_pins = out.no_more_pins;
     }
 
   -- Where no region is chosen.
@@ -250,6 +278,8 @@ module _ (c : Config) (memory : Word → ℕ) (block : Plot) (ghost : Ghost) (g 
           (none_evacuated c 0 0 (idle Free) (λ q. idle (Top q)) (λ q. idle (Tams q)) (λ a. idle (Heap a)) (λ q. idle (Black q)) block ghost.owner ghost.copying ghost.working (λ is. omega (arith, is))
           out.unmoved.no_moved out.unmoved.no_spent out.uncopying.copies_none);
       updated = λ on. absurd (omega (arith, on));
+      pinned = λ t i inside few.
+          pin_same c (memory Cset) (memory Evac) 0 (memory Evac) block (memory (Pin t i)) (memory (Pin t i)) (g.pin (t + 1) i) out.cset_is refl refl (out.pinned t i inside few);
     };
     roots = out.roots;
     usable = λ t i inside few. usable_now c (memory Evac) block (λ a refs nums to name. out.unmoved.no_moved a refs nums to name) (memory (Root t i)) (g.root (t + 1) i) (out.roots t i inside few);
@@ -261,4 +291,5 @@ module _ (c : Config) (memory : Word → ℕ) (block : Plot) (ghost : Ghost) (g 
     unmarking = record { records_none = out.unmarking.records_none; scans_none = out.unmarking.scans_none };
     uncopying = record { copies_none = out.uncopying.copies_none; works_none = out.uncopying.works_none };
     no_more = out.no_more;
+    no_more_pins = out.no_more_pins;
   }

@@ -1,13 +1,17 @@
 -- Words that represent a graph are such that a cycle can be finished.
-use Rattle.std.proofs.Common.{◌≡◌, ◌≢◌, ℕ, ◌+◌, ◌*◌, ◌/◌, ◌%◌, ◌^◌, ◌<◌, ◌≤◌, Some, ⊎_elim, sym, ap, ◌∙◌, arith}
+use Rattle.std.proofs.Common.{◌≡◌, ◌≢◌, ℕ, ◌+◌, ◌*◌, ◌/◌, ◌%◌, ◌^◌, ◌<◌, ◌≤◌, true, Some, ⊎_elim, sym, ap, ◌∙◌, subst, arith}
 use Rattle.std.specs.Int.{bit_at}
-use Rattle.std.proofs.lemmas.Bool.{cases_eq, cases_lt}
+use Rattle.std.proofs.lemmas.Bool.{cases_eq, cases_lt, and_parts}
 use Rattle.std.proofs.lemmas.Nat.{div-add-mod', mod_below, pow_pos}
 use Rattle.std.proofs.lemmas.Nat.Bits.{bit_at-lt, bit_at_above, bit_at_cat_low, same_from_bits}
 use Rattle.heap_words.specs.declared.config.Config.{Config}
-use Rattle.heap_words.specs.Words.{Word, Cset, Top, Current}
+use Rattle.heap_words.specs.Words.{Word, Phase, Cset, Top, Current}
+use Rattle.regions.specs.Place.{region_with}
+use Rattle.regions.specs.Sets.{IsIn}
+use Rattle.shen_graph.specs.declared.name.Name.{Name}
 use Rattle.shen_graph.specs.Graph.{Graph}
-use Rattle.heap_world.specs.World.{Block, words_of}
+use Rattle.heap_world.specs.World.{Block, thing, words_of, IsCollected}
+use Rattle.heap_world.proofs.Copies.{none_is_in}
 use Rattle.heap_world.specs.Asking.{Asking}
 use Rattle.heap_world.specs.Represents.{RepresentsByCopies}
 use Rattle.heap_world.proofs.Pieces.{some_words}
@@ -16,13 +20,18 @@ use Rattle.buffer_words.proofs.LettingGo.{letting_go_leaves}
 use Rattle.buffer_pauses.proofs.Kept.{letting_go_keeps, none_have_room}
 use Rattle.buffer_pauses.proofs.Inside.{buffers_inside}
 use Rattle.image_graph.specs.Holds.{AreSized}
-use Rattle.cycle_words.specs.Finishing.Updated.{CanUpdateAll}
+use Rattle.full_words.specs.Pinned.{is_pinned, CanFill}
+use Rattle.cycle_words.specs.Updating.Changes.{is_chosen}
+use Rattle.cycle_words.specs.Finishing.Updated.{all_updated, CanUpdateAll}
 use Rattle.cycle_words.specs.Finishing.Copies.{all_copied}
+use Rattle.cycle_words.specs.Finishing.Finish.{CanFree}
+use Rattle.cycle_pauses.proofs.Updating.Freeing.{in_set}
+use Rattle.cycle_pauses.proofs.Finishing.Updating.{sized_again}
 use Rattle.cycle_words.proofs.Finishing.CanUpdate as updates
 use Rattle.cycle_pauses.specs.Finishing.Laws.{RepresentingCanFinish}
 use Rattle.cycle_words.proofs.Finishing.Strides.{strides}
 use Rattle.cycle_pauses.proofs.Full.Sizes.{pieces_sized}
-use Rattle.cycle_pauses.proofs.Finishing.CopyingKeeps.{copying_keeps, left_can_be_copied}
+use Rattle.cycle_pauses.proofs.Finishing.CopyingKeeps.{copying_begins, copying_keeps, left_can_be_copied, left_pinned}
 
 -- a number whose bits are all below another one is small
 few_bits : (x n : ℕ) → ((i : ℕ) → bit_at x i ≡ 1 → i < n) → x < 2 ^ n
@@ -49,9 +58,36 @@ module _ (c : Config) (m : Word → ℕ) (g : Graph) (asking : ℕ → Asking) (
   sized : AreSized m r.block
   sized = pieces_sized c m r.block g.object r.shared.contents.objects r.shared.unwritten r.shared.evacuated.moved
 
+  small : m Cset < 2 ^ c.regions
+  small = few_bits (m Cset) c.regions r.shared.evacuated.aside.in_heap
+
   can_update : CanUpdateAll c m
-  can_update = updates.can_update c m r.block r.shared.parsable.plotted r.shared.parsable.filled some
-      (λ a x is away. strides m r.block sized (none_have_room c m g asking r bare) a x is) (few_bits (m Cset) c.regions r.shared.evacuated.aside.in_heap)
+  can_update = updates.can_update c m r.block r.shared.parsable.plotted r.shared.parsable.filled some (λ a x is stay. strides m r.block sized (none_have_room c m g asking r bare) a x is) small
+
+  -- then what has moved can be filled over, where objects of the set lie in pinned regions
+  module _ (pinned : (a refs nums : ℕ) (name : Name) → r.block a ≡ Some (thing name refs nums) → IsCollected c (m Cset) a → is_pinned c m (region_with c a) ≡ true) where
+    abbrev n : Word → ℕ
+    n = all_updated c m
+
+    filled_there : (q : ℕ) → q < c.regions → 2 ≤ m Phase → CanFill c n q
+    filled_there q inside two =
+        let no_room = none_have_room c m g asking r bare in
+        let again = sized_again c m m r.block r.ghost.owner g asking c.region_words (copying_begins c m g asking r two) pinned no_room in
+        record {
+          within = r.shared.parsable.plotted.tops q inside;
+          ends = updates.end_inside c (all_updated c m) r.block r.shared.parsable.plotted r.shared.parsable.filled some (λ k. Unit {0}) (λ a x is any. strides (all_updated c m) r.block again no_room a x is) q inside tt;
+        }
+
+    can_free : CanFree c n
+    can_free = record {
+      set = small;
+      fills = λ q inside stay.
+          let member : IsIn (m Cset) q = in_set m q (and_parts (is_chosen m q) (is_pinned c m q) stay).0 in
+          ⊎_elim
+          (λ (low : m Phase < 2). absurd (none_is_in q (subst (λ set. IsIn set q) (r.shared.phased.cset_is low) member)))
+          (λ (two : 2 ≤ m Phase). filled_there q inside two)
+          (cases_lt (m Phase) 2);
+    }
 
 pub representing_can_finish : RepresentingCanFinish
 representing_can_finish c m g asking r seats =
@@ -62,4 +98,7 @@ representing_can_finish c m g asking r seats =
       copies = left_can_be_copied c (let_go c m) g asking gone;
       updates = λ room. can_update c (all_copied c (let_go c m)) g asking copied.stands
           (λ seat below. copied.same (Current seat) (λ never. never) ∙ letting_go_leaves c m seat below);
+      frees = λ room. can_free c (all_copied c (let_go c m)) g asking copied.stands
+          (λ seat below. copied.same (Current seat) (λ never. never) ∙ letting_go_leaves c m seat below)
+          (left_pinned c (let_go c m) g asking copied room);
     }

@@ -5,7 +5,7 @@ use Rattle.std.specs.Int.{bit_at}
 use Rattle.std.proofs.lemmas.Bool.{cases_Bool, cases_eq, true≢false, and_from, and_parts, not-true, not_from_false, le-leb, leb-true, eq-eqb, eqb-true}
 use Rattle.std.proofs.lemmas.Option.{same_Some}
 use Rattle.heap_words.specs.declared.config.Config.{Config}
-use Rattle.heap_words.specs.Words.{Word, Phase, Cset, Evac, Claim, Top, Tams, Root, Wait, Answer, Black, Heap}
+use Rattle.heap_words.specs.Words.{Word, Phase, Cset, Evac, Claim, Top, Tams, Root, Pin, Wait, Answer, Black, Heap}
 use Rattle.heap_words.specs.Encoding.{plain_header, is_forwarded, object_words}
 use Rattle.regions.specs.Place.{base_of, region_with}
 use Rattle.regions.specs.Sets.{IsIn}
@@ -14,16 +14,19 @@ use Rattle.heap_words.specs.Counter.{is_out_of_room}
 use Rattle.shen_graph.specs.declared.name.Name.{Name}
 use Rattle.shen_graph.specs.Graph.{Graph}
 use Rattle.regions.specs.Marks.{HasMark, mark_word, mark_bit}
-use Rattle.heap_world.specs.World.{Block, thing, moved, spent, promised, words_of, Plot, Points, IsCollected, IsMarkable, IsYoung, HasCopy, IsSweptTo}
+use Rattle.heap_world.specs.World.{Block, thing, moved, spent, promised, words_of, Plot, Points, PinStands, IsCollected, IsMarkable, IsYoung, HasCopy, IsSweptTo}
 use Rattle.heap_world.specs.Asking.{Asking, IsAsked}
 use Rattle.heap_world.proofs.Pointing.{body_piece, copy_cases, piece_inside}
 use Rattle.heap_world.proofs.Keeping.{points_stay}
+use Rattle.full_words.specs.Pinned.{is_pinned}
 use Rattle.cycle_words.specs.Marking.Marks.{is_black}
 use Rattle.cycle_words.proofs.Marking.Plain.{below_top}
 use Rattle.cycle_words.specs.Evacuation.Live.{words_at}
 use Rattle.cycle_words.specs.Evacuation.Copied.{MayChange, CanCopyOut, copied_out, IsCopiedOut}
 use Rattle.cycle_words.specs.Evacuation.Begun.{is_collected}
 use Rattle.cycle_words.proofs.Evacuation.RegionAddresses.{from_base}
+use Rattle.cycle_words.proofs.Pinned.{same_pinned, unpinned_there}
+use Rattle.cycle_pauses.proofs.Evacuation.PinsKept.{pin_kept}
 use Rattle.cycle_pauses.proofs.Evacuation.Asked.{asked_stays}
 use Rattle.cycle_pauses.proofs.Evacuation.Between.{AreBetween}
 use Rattle.cycle_pauses.proofs.Evacuation.CopiedOut.{HasCopied, copied_out_of}
@@ -33,41 +36,48 @@ use Rattle.cycle_words.specs.Finishing.Copies.{is_left, has_copy_room, copied_fr
 use Rattle.cycle_words.proofs.Finishing.Copies.{room_found, copied_none, copied_next, copied_stuck, copied_skips, room_if, room_skips}
 
 -- The words between two objects: they stand for the graph, but for pieces they are as at first, and no object is left at the addresses
--- that were passed. While objects are evacuated, units that were claimed stay swept.
+-- that were passed, but in pinned regions. While objects are evacuated, units that were claimed stay swept.
 pub record IsCopying (c : Config) (first m : Word → ℕ) (block : Plot) (owner : ℕ → Option ℕ) (g : Graph) (asking : ℕ → Asking) (passed : ℕ) : Type 0 where
   pub between : AreBetween c m block owner g
   pub roots : (t i : ℕ) → t < c.mutators → i < 16 → Points block (m (Root t i)) (g.root (t + 1) i)
   pub asked : (t : ℕ) → t < c.mutators → IsAsked m block g.count t (asking t)
   pub same : (word : Word) → (MayChange word → ⊥) → m word ≡ first word
   pub no_promises : (a seat words : ℕ) → block a ≡ Some (promised seat words) → IsCollected c (m Cset) a → ⊥
-  pub swept : (a refs nums : ℕ) (name : Name) → block a ≡ Some (thing name refs nums) → IsCollected c (m Cset) a → passed ≤ a
+  pub pinned : (t i : ℕ) → t < c.mutators → i < 4 → PinStands c (first Cset) (first Evac) block (first (Pin t i)) (g.pin (t + 1) i)
+  pub swept : (a refs nums : ℕ) (name : Name) → block a ≡ Some (thing name refs nums) → IsCollected c (m Cset) a → is_pinned c first (region_with c a) ≡ false → passed ≤ a
   pub units : m Phase ≡ 2 → (r : ℕ) → r < m Claim → IsIn (m Cset) r → IsSweptTo c (m Evac) block r (base_of c (r + 1))
 
 -- what is left at an address
 record IsLeft (c : Config) (m : Word → ℕ) (a : ℕ) : Type 0 where
   above : c.region_words ≤ a
   inside : IsCollected c (m Cset) a
+  unpinned : is_pinned c m (region_with c a) ≡ false
   mark : HasMark c (λ n. m (Black n)) a
   plain : is_forwarded (m (Heap a)) ≡ false
 
 left_parts : (c : Config) (m : Word → ℕ) (a : ℕ) → is_left c m a ≡ true → IsLeft c m a
 left_parts c m a is =
-    let three = and_parts (is_collected c m a && is_black c m a) (not (is_forwarded (m (Heap a)))) is in
-    let two = and_parts (is_collected c m a) (is_black c m a) three.0 in
-    let collected = and_parts (nat_le c.region_words a) (bit_at (m Cset) (region_with c a) == 1) two.0 in
+    let three = and_parts (is_collected c m a && not (is_pinned c m (region_with c a)) && is_black c m a) (not (is_forwarded (m (Heap a)))) is in
+    let two = and_parts (is_collected c m a && not (is_pinned c m (region_with c a))) (is_black c m a) three.0 in
+    let one = and_parts (is_collected c m a) (not (is_pinned c m (region_with c a))) two.0 in
+    let collected = and_parts (nat_le c.region_words a) (bit_at (m Cset) (region_with c a) == 1) one.0 in
     let black = and_parts (nat_le c.region_words a) (bit_at (m (Black (mark_word c a))) (mark_bit c a) == 1) two.1 in
     record {
       above = leb-true c.region_words a collected.0;
       inside = eqb-true (bit_at (m Cset) (region_with c a)) 1 collected.1;
+      unpinned = not-true (is_pinned c m (region_with c a)) one.1;
       mark = eqb-true (bit_at (m (Black (mark_word c a))) (mark_bit c a)) 1 black.1;
       plain = not-true (is_forwarded (m (Heap a))) three.1;
     }
 
-is_left_from : (c : Config) (m : Word → ℕ) (a : ℕ) → c.region_words ≤ a → IsCollected c (m Cset) a → HasMark c (λ n. m (Black n)) a → is_forwarded (m (Heap a)) ≡ false → is_left c m a ≡ true
-is_left_from c m a above inside mark plain =
-    and_from (is_collected c m a && is_black c m a) (not (is_forwarded (m (Heap a))))
-    (and_from (is_collected c m a) (is_black c m a)
+is_left_from : (c : Config) (m : Word → ℕ) (a : ℕ) → c.region_words ≤ a → IsCollected c (m Cset) a → is_pinned c m (region_with c a) ≡ false → HasMark c (λ n. m (Black n)) a
+    → is_forwarded (m (Heap a)) ≡ false → is_left c m a ≡ true
+is_left_from c m a above inside unpinned mark plain =
+    and_from (is_collected c m a && not (is_pinned c m (region_with c a)) && is_black c m a) (not (is_forwarded (m (Heap a))))
+    (and_from (is_collected c m a && not (is_pinned c m (region_with c a))) (is_black c m a)
+    (and_from (is_collected c m a) (not (is_pinned c m (region_with c a)))
     (and_from (nat_le c.region_words a) (bit_at (m Cset) (region_with c a) == 1) (le-leb c.region_words a above) (eq-eqb (bit_at (m Cset) (region_with c a)) 1 inside))
+    (not_from_false (is_pinned c m (region_with c a)) unpinned))
     (and_from (nat_le c.region_words a) (bit_at (m (Black (mark_word c a))) (mark_bit c a) == 1) (le-leb c.region_words a above) (eq-eqb (bit_at (m (Black (mark_word c a))) (mark_bit c a)) 1 mark)))
     (not_from_false (is_forwarded (m (Heap a))) plain)
 
@@ -103,6 +113,9 @@ module _ (c : Config) (m : Word → ℕ) (block : Plot) (owner : ℕ → Option 
       (o.2.header, ap object_words o.2.shape ∙ omega (arith, few_refs, few_nums))
 
 module _ (c : Config) (first m : Word → ℕ) (block : Plot) (owner : ℕ → Option ℕ) (g : Graph) (asking : ℕ → Asking) (a : ℕ) (s : IsCopying c first m block owner g asking a) where
+  pins_same : (t i : ℕ) → m (Pin t i) ≡ first (Pin t i)
+  pins_same t i = s.same (Pin t i) (λ never. never)
+
   -- What is left at the address is an object.
   module _ (left : is_left c m a ≡ true) where
     is : IsLeft c m a
@@ -182,6 +195,12 @@ module _ (c : Config) (first m : Word → ℕ) (block : Plot) (owner : ℕ → O
           ∙ plain_is_plain (n (Heap p)) (thing_words c n plot owner g now p refs nums name there).0) in
           (other, piece.1 ∙ sym (at.2.stays p piece.0 other piece.1) ∙ there)
 
+      -- no slot holds what is left, so what slots hold stays
+      pins_stay_here : (t i : ℕ) → t < c.mutators → i < 4 → PinStands c (first Cset) (first Evac) plot (first (Pin t i)) (g.pin (t + 1) i)
+      pins_stay_here t i inside few =
+          let other : first (Pin t i) ≢ a = λ same. unpinned_there c m a is.above is.unpinned t i inside few (pins_same t i ∙ same) in
+          pin_kept c (first Cset) (first Evac) block plot (first (Pin t i)) (g.pin (t + 1) i) (λ z here'. at.2.stays (first (Pin t i)) z other here') (s.pinned t i inside few)
+
       -- so a unit that was swept is swept still
       swept_still : (r : ℕ) → IsIn (m Cset) r → IsSweptTo c (m Evac) block r (base_of c (r + 1)) → IsSweptTo c (n Evac) plot r (base_of c (r + 1))
       swept_still r member (inl full) = inl (ap is_out_of_room (at.2.same Evac (λ never. never)) ∙ full)
@@ -206,9 +225,10 @@ module _ (c : Config) (first m : Word → ℕ) (block : Plot) (owner : ℕ → O
               (asking t) (s.asked t inside);
           same = λ word fixed. at.2.same word fixed ∙ s.same word fixed;
           no_promises = λ p seat words promise inside. s.no_promises p seat words (promise_was p seat words promise) (subst (λ set. IsCollected c set p) set_same inside);
-          swept = λ p refs nums name there inside.
+          pinned = pins_stay_here;
+          swept = λ p refs nums name there inside unpinned.
               let was = thing_was p refs nums name there inside in
-              let least = s.swept p refs nums name was.1 (subst (λ set. IsCollected c set p) set_same inside) in
+              let least = s.swept p refs nums name was.1 (subst (λ set. IsCollected c set p) set_same inside) unpinned in
               omega (arith, least, was.0);
           units = λ on r below member.
               let was : IsIn (m Cset) r = subst (λ set. IsIn set r) set_same member in
@@ -225,12 +245,13 @@ module _ (c : Config) (first m : Word → ℕ) (block : Plot) (owner : ℕ → O
     asked = s.asked;
     same = s.same;
     no_promises = s.no_promises;
-    swept = λ p refs nums name there inside.
-        let least = s.swept p refs nums name there inside in
+    pinned = s.pinned;
+    swept = λ p refs nums name there inside unpinned.
+        let least = s.swept p refs nums name there inside unpinned in
         ⊎_elim
         (λ (same : p ≡ a).
         let above = piece_inside c (λ q. m (Top q)) block s.between.parsable.plotted p (thing name refs nums) there in
-        let left = is_left_from c m p above.0 inside (thing_marked c m block owner g s.between p refs nums name there inside)
+        let left = is_left_from c m p above.0 inside (same_pinned c first m pins_same (region_with c p) ∙ unpinned) (thing_marked c m block owner g s.between p refs nums name there inside)
         (plain_is_plain (m (Heap p)) (thing_words c m block owner g s.between p refs nums name there).0) in
         absurd (true≢false (sym left ∙ ap (is_left c m) same ∙ none)))
         (λ (other : p ≢ a). omega (arith, least, other))

@@ -1,12 +1,12 @@
 -- Words that represent a graph do so by copies once all that is left in the collection set was copied out, or what found room.
-use Rattle.std.proofs.Common.{◌≡◌, ◌≢◌, ℕ, ◌+◌, ◌*◌, ◌≤◌, ◌==◌, ◌⊎◌, Bool, true, Some, inl, inr, ⊎_elim, refl, sym, ap, ◌∙◌, subst, arith}
+use Rattle.std.proofs.Common.{◌≡◌, ◌≢◌, ℕ, ◌+◌, ◌*◌, ◌≤◌, ◌==◌, ◌⊎◌, Bool, true, false, Some, inl, inr, ⊎_elim, refl, sym, ap, ◌∙◌, subst, arith}
 use Rattle.std.specs.Int.{bit_at}
 use Rattle.std.proofs.Math.Path.{fun_ext}
 use Rattle.std.proofs.lemmas.Option.{none-some}
-use Rattle.std.proofs.lemmas.Bool.{cases_eq, cond-true, cond-false, eq-eqb, ne_eqb}
+use Rattle.std.proofs.lemmas.Bool.{cases_Bool, cases_eq, cond-true, cond-false, eq-eqb, ne_eqb}
 use Rattle.heap_words.specs.declared.config.Config.{Config}
-use Rattle.heap_words.specs.Words.{Word, Phase, Cset, Free, Evac, Claim, Ask, Top, Tams, Count, Buffer, Grey, Black, Heap}
-use Rattle.regions.specs.Place.{base_of}
+use Rattle.heap_words.specs.Words.{Word, Phase, Cset, Free, Evac, Claim, Ask, Top, Tams, Pin, Count, Buffer, Grey, Black, Heap}
+use Rattle.regions.specs.Place.{base_of, region_with}
 use Rattle.shen_graph.specs.declared.name.Name.{Name}
 use Rattle.shen_graph.specs.Graph.{Graph}
 use Rattle.heap_world.specs.World.{thing, Plot, Ghost, no_snapshot, body_of, body_at, IsCollected, IsMarkable, HasCopy, IsCounted, IsSweptTo, IsCaredFor, IsEvacuating}
@@ -15,16 +15,19 @@ use Rattle.heap_world.specs.Represents.{Represents, RepresentsByCopies}
 use Rattle.heap_world.proofs.Pointing.{piece_inside}
 use Rattle.heap_world.proofs.Copies.{none_in_0}
 use Rattle.heap_world.proofs.Unmarked.{none_marked_in}
+use Rattle.full_words.specs.Pinned.{is_pinned}
 use Rattle.cycle_words.specs.Evacuation.Copied.{MayChange}
+use Rattle.cycle_pauses.proofs.Evacuation.PinsKept.{pin_same}
 use Rattle.cycle_pauses.proofs.Full.ByCopies.{by_copies}
 use Rattle.cycle_words.specs.Finishing.Copies.{CanCopyFrom, copied_from, is_room_from, all_copied, is_room_for_all}
-use Rattle.cycle_pauses.specs.Finishing.Copying.{CopyingKeeps, LeftCanBeCopied}
+use Rattle.cycle_words.proofs.Pinned.{same_pinned}
+use Rattle.cycle_pauses.specs.Finishing.Copying.{IsCopiedAll, CopyingKeeps, LeftCanBeCopied}
 use Rattle.cycle_pauses.proofs.Finishing.Copying.{IsCopying, all_passed, can_copy_from}
 
 -- What is shown of words after copying, and of whether all found room.
 record StandsByCopies (c : Config) (m after : Word → ℕ) (room : Bool) (g : Graph) (asking : ℕ → Asking) : Type 0 where
   stands : RepresentsByCopies c after g asking
-  none_left : room ≡ true → (a refs nums : ℕ) (name : Name) → stands.block a ≡ Some (thing name refs nums) → IsCollected c (after Cset) a → ⊥
+  none_left : room ≡ true → (a refs nums : ℕ) (name : Name) → stands.block a ≡ Some (thing name refs nums) → IsCollected c (after Cset) a → is_pinned c m (region_with c a) ≡ true
   same : (word : Word) → (MayChange word → ⊥) → after word ≡ m word
 
 -- Words that represent a graph by copies, in phases 2 and 3, are as before the first object is copied.
@@ -64,7 +67,8 @@ module _ (c : Config) (m : Word → ℕ) (g : Graph) (asking : ℕ → Asking) (
     asked = r.asked;
     same = λ word fixed. refl;
     no_promises = evacuated.aside.no_promises;
-    swept = λ a refs nums name is member. (piece_inside c (λ q. m (Top q)) r.block r.shared.parsable.plotted a (thing name refs nums) is).0;
+    pinned = r.shared.pinned;
+    swept = λ a refs nums name is member unpinned. (piece_inside c (λ q. m (Top q)) r.block r.shared.parsable.plotted a (thing name refs nums) is).0;
     units = λ on q below member. swept_of q (evacuated.units on q below member);
   }
 
@@ -145,6 +149,9 @@ module _ (c : Config) (m : Word → ℕ) (g : Graph) (asking : ℕ → Asking) (
             r.ghost.recording r.ghost.scanning (λ is. omega (arith, is, on_still));
         evacuated = evacuated_still;
         updated = λ high. absurd (omega (arith, high, on_still));
+        pinned = λ t i inside few.
+            pin_same c (m Cset) (m Evac) (n Cset) (n Evac) plot (m (Pin t i)) (n (Pin t i)) (g.pin (t + 1) i) (sym (s.same Cset (λ never. never))) (sym (s.same Evac (λ never. never)))
+            (sym (s.same (Pin t i) (λ never. never))) (s.pinned t i inside few);
       };
       roots = s.roots;
       usable = tt;
@@ -156,17 +163,21 @@ module _ (c : Config) (m : Word → ℕ) (g : Graph) (asking : ℕ → Asking) (
       unmarking = record { records_none = r.unmarking.records_none; scans_none = r.unmarking.scans_none };
       uncopying = record { copies_none = r.uncopying.copies_none; works_none = r.uncopying.works_none };
       no_more = r.no_more;
+      no_more_pins = r.no_more_pins;
     }
 
     copied_then : StandsByCopies c m n room g asking
     unfolding stands_by_copies
     copied_then = record {
       stands = stands_by_copies;
-      none_left = λ all a refs nums name is member.
+      none_left = λ all a refs nums name is member. ⊎_elim
+          (λ (pinned : is_pinned c m (region_with c a) ≡ true). pinned)
+          (λ (unpinned : is_pinned c m (region_with c a) ≡ false).
           let inside = piece_inside c (λ q. n (Top q)) plot s.between.parsable.plotted a (thing name refs nums) is in
-          let least = s.swept a refs nums name is member in
+          let least = s.swept a refs nums name is member unpinned in
           let end = outcome.3 all in
-          absurd (omega (arith, inside.1, least, end));
+          absurd (omega (arith, inside.1, least, end)))
+          (cases_Bool (is_pinned c m (region_with c a)));
       same = s.same;
     }
 
@@ -186,7 +197,7 @@ module _ (c : Config) (m : Word → ℕ) (g : Graph) (asking : ℕ → Asking) (
   nothing_copied : m Phase ≢ 2 → StandsByCopies c m m true g asking
   nothing_copied other = record {
     stands = by_copies c m g asking r;
-    none_left = λ all. none_in_set other;
+    none_left = λ all a refs nums name is member. absurd (none_in_set other a refs nums name is member);
     same = λ word fixed. refl;
   }
 
@@ -209,3 +220,9 @@ copying_keeps c m g asking r = let to = copied_in_phase c m g asking r in record
 
 pub left_can_be_copied : LeftCanBeCopied
 left_can_be_copied = can_be_copied
+
+-- Where all found room, what is left in the set lies in pinned regions.
+pub left_pinned : (c : Config) (m : Word → ℕ) (g : Graph) (asking : ℕ → Asking) (all : IsCopiedAll c m g asking) → is_room_for_all c m ≡ true
+    → (a refs nums : ℕ) (name : Name) → all.stands.block a ≡ Some (thing name refs nums) → IsCollected c (all_copied c m Cset) a → is_pinned c (all_copied c m) (region_with c a) ≡ true
+left_pinned c m g asking all room a refs nums name is inside =
+    same_pinned c m (all_copied c m) (λ t i. all.same (Pin t i) (λ never. never)) (region_with c a) ∙ all.none_left room a refs nums name is inside

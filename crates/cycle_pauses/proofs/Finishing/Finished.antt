@@ -1,9 +1,10 @@
 -- A cycle that was finished in its pause: who asks was given what it asks for, or a full collection follows.
 use Rattle.std.proofs.Common.{◌≡◌, ◌≢◌, ℕ, ◌<◌, ◌⊎◌, true, false, Option, inl, inr, ⊎_elim, refl, sym, ap, ◌∙◌, subst, arith}
 use Rattle.std.proofs.Math.Path.{fun_ext}
-use Rattle.std.proofs.lemmas.Bool.{cond-true, cond-false, cases_Bool, and_parts}
+use Rattle.std.specs.Prelude.{not}
+use Rattle.std.proofs.lemmas.Bool.{cond-true, cond-false, cases_Bool, and_parts, and_from, not_from_false}
 use Rattle.heap_words.specs.declared.config.Config.{Config}
-use Rattle.heap_words.specs.Words.{Word, Pause, Left, End, State, Phase, Cset, Free, Evac, Claim, Ask, Top, Tams, Limit, Current, Root, Count, Buffer, Wait, Answer, Grey, Black, Heap, Share}
+use Rattle.heap_words.specs.Words.{Word, Pause, Left, End, State, Phase, Cset, Free, Evac, Claim, Ask, Top, Tams, Limit, Current, Root, Pin, Count, Buffer, Wait, Answer, Grey, Black, Heap, Share}
 use Rattle.heap_words.specs.Ranges.{seat_count}
 use Rattle.regions.specs.Sets.{IsIn}
 use Rattle.shen_graph.specs.Graph.{Graph}
@@ -13,25 +14,32 @@ use Rattle.heap_world.specs.Represents.{Represents}
 use Rattle.heap_world.specs.Change.{Answers, IsPaused}
 use Rattle.buffer_words.specs.LetGo.{let_go, HasNoBuffers}
 use Rattle.buffer_words.proofs.LettingGo.{none_to_let_go, letting_go_leaves}
-use Rattle.buffer_words.proofs.Elsewhere.{let_go_same}
+use Rattle.buffer_words.proofs.Elsewhere.{IsOfBuffers, let_go_same}
+use Rattle.cycle_words.specs.Evacuation.Copied.{MayChange}
+use Rattle.cycle_pauses.specs.Updating.Freed.{IsFreed}
 use Rattle.buffer_pauses.proofs.Kept.{letting_go_keeps}
 use Rattle.full_words.specs.Full.{packed, packed_in, made_in, served_in, room_for, served, full_from, full}
 use Rattle.full_words.specs.Full as image
 use Rattle.full_words.proofs.Still.{served_still}
-use Rattle.image_graph.specs.Holds.{Holds}
+use Rattle.full_words.specs.Pinned.{is_pinned, filled_in}
+use Rattle.full_words.specs.Promised.{Promises}
+use Rattle.image_graph.specs.Holds.{HoldsBy, AreSized}
 use Rattle.cycle_pauses.proofs.Full.ByCopies.{by_copies}
 use Rattle.cycle_pauses.proofs.Full.Promises.{promises_of}
 use Rattle.cycle_pauses.proofs.Full.Before.{live}
-use Rattle.cycle_pauses.proofs.Full.Holding.{waits_for, holds_by}
+use Rattle.cycle_pauses.proofs.Full.Holding.{waits_for, holds_by, are_sized}
 use Rattle.cycle_pauses.proofs.Full.Pauses.{paused_from, paused}
 use Rattle.cycle_pauses.proofs.Finished.{all_copied_same}
 use Rattle.image_graph.specs.Buffers.{HasNoMoreSeats}
-use Rattle.cycle_words.proofs.Marking.Alike.{holds_alike}
+use Rattle.cycle_words.proofs.Marking.Alike.{holds_alike, sized_alike}
+use Rattle.cycle_words.proofs.Marking.Vanished.{free_is, top_out, tams_out, limit_out}
+use Rattle.cycle_words.proofs.Pinned.{same_pinned}
 use Rattle.cycle_pauses.proofs.Evacuation.Asked.{asked_stays}
-use Rattle.cycle_pauses.proofs.Updating.Freeing.{set_is_freed}
+use Rattle.cycle_pauses.proofs.Updating.Freeing.{chosen_if}
+use Rattle.cycle_words.specs.Updating.Changes.{is_chosen}
 use Rattle.cycle_words.specs.Finishing.Updated.{all_updated}
 use Rattle.cycle_words.specs.Finishing.Copies.{all_copied, is_room_for_all}
-use Rattle.cycle_words.specs.Finishing.Finish.{cycle_finished, finished_from, finished, nobody_waits, is_whole}
+use Rattle.cycle_words.specs.Finishing.Finish.{is_to_free, is_to_stay, has_moved, set_freed, cycle_finished, finished_from, finished, nobody_waits, is_whole}
 use Rattle.cycle_words.proofs.Finishing.Whole.{nobody_is}
 use Rattle.cycle_pauses.specs.Finishing.Laws.{IsWholePause, ShortHolds, WholeIsPause, ShortIsPause, SetIsFree}
 use Rattle.cycle_pauses.proofs.Finishing.CopyingKeeps.{copying_keeps}
@@ -51,9 +59,13 @@ evac_still : (c : Config) (m : Word → ℕ) (n : ℕ) → served c m n Evac ≡
 unfolding made_in
 evac_still c = served_still c Evac (λ w t r. refl)
 
+-- words hold a graph by pieces each of which says how many words it has
+abbrev pub HoldsInSizes : Config → (Word → ℕ) → Graph → Type 0
+HoldsInSizes c m g = (block : Plot) × (owner : ℕ → Option ℕ) × (p : Promises) × HoldsBy c m block owner p g × AreSized m block
+
 -- What is left to a full collection: the words hold the graph, and what it makes of them is what the pause owes.
 pub record FallsShort (c : Config) (before after : Word → ℕ) (g : Graph) (asking : ℕ → Asking) : Type 0 where
-  pub holds : Holds c after g
+  pub holds : HoldsInSizes c after g
   pub paused : IsPaused c before (full c after) g asking
 
 -- What mutators have been given.
@@ -118,7 +130,7 @@ module _ (c : Config) (m : Word → ℕ) (g : Graph) (asking : ℕ → Asking) (
     whole_stands : Represents c w g then
     whole_stands =
         idle_represents c w turns.0 turns.1 g then turns.3 (phase_still c (cycle_finished c m) c.mutators) (cset_still c (cycle_finished c m) c.mutators) (evac_still c (cycle_finished c m) c.mutators)
-        (λ t refs nums inside is. absurd (nobody_asks t refs nums inside is)) r.no_more
+        (λ t refs nums inside is. absurd (nobody_asks t refs nums inside is)) r.no_more r.no_more_pins
 
     whole_paused : IsWholePause c m w g asking
     whole_paused = record {
@@ -153,6 +165,7 @@ module _ (c : Config) (m : Word → ℕ) (g : Graph) (asking : ℕ → Asking) (
     unwritten = turns.3.unwritten;
     unmoved = turns.3.unmoved;
     roots = turns.3.roots;
+    pinned = turns.3.pinned;
     asked = λ t inside. asked_stays w asked_word turns.0 turns.0 g.count t refl refl (λ a words k is below. refl) (λ a words is. is) (λ a words is. is) (then t) (turns.3.asked t inside);
     promised_to = turns.3.promised_to;
   }
@@ -160,11 +173,11 @@ module _ (c : Config) (m : Word → ℕ) (g : Graph) (asking : ℕ → Asking) (
   asked_stands : Represents c asked_word g then
   asked_stands =
       idle_represents c asked_word turns.0 turns.1 g then asked_idle (phase_still c (cycle_finished c m) c.mutators) (cset_still c (cycle_finished c m) c.mutators) (evac_still c (cycle_finished c m) c.mutators)
-      (λ t refs nums inside is. refl) r.no_more
+      (λ t refs nums inside is. refl) r.no_more r.no_more_pins
 
   -- a full collection does not read that word
   packed_same : (word : Word) → packed_in c asked_word word ≡ packed_in c w word
-  unfolding packed
+  unfolding packed image.moved_heap
   packed_same Ask = refl
   packed_same Phase = refl
   packed_same Cset = refl
@@ -176,6 +189,7 @@ module _ (c : Config) (m : Word → ℕ) (g : Graph) (asking : ℕ → Asking) (
   packed_same (Limit q) = refl
   packed_same (Heap x) = refl
   packed_same (Root t i) = refl
+  packed_same (Pin t i) = refl
   packed_same (Answer t) = refl
   packed_same Pause = refl
   packed_same Left = refl
@@ -216,20 +230,21 @@ module _ (c : Config) (m : Word → ℕ) (g : Graph) (asking : ℕ → Asking) (
         (served_so (asking t) (then t) (turns.4 t) refs nums is);
   }
 
-  served_holds : Holds c w g
+  served_holds : HoldsInSizes c w g
   served_holds =
       let stands = by_copies c asked_word g then asked_stands in
       let holds = holds_by c asked_word g then stands in (
         live c asked_word g then stands,
         stands.ghost.owner,
         promises_of c g then,
-        holds_alike asked_word w (record { heap = λ a. refl; top = λ q. refl; root = λ t i. refl; answer = λ t. refl; wait = λ t. refl; current = λ s. refl; free = refl; cset = refl; share = refl })
+        holds_alike asked_word w (record { heap = λ a. refl; top = λ q. refl; root = λ t i. refl; answer = λ t. refl; wait = λ t. refl; current = λ s. refl; free = refl; cset = refl; share = refl; pin = λ t i. refl })
             c (live c asked_word g then stands) stands.ghost.owner (promises_of c g then) g holds,
+        sized_alike asked_word w (live c asked_word g then stands) (λ a. refl) (are_sized c asked_word g then stands),
       )
 
   pub served_short : FallsShort c m (finished_from c m) g asking
   served_short = record {
-    holds = subst (λ v. Holds c v g) (sym finished_is) served_holds;
+    holds = subst (λ v. HoldsInSizes c v g) (sym finished_is) served_holds;
     paused = subst (λ v. IsPaused c m (full c v) g asking) (sym finished_is) (subst (λ v. IsPaused c m v g asking) full_same full_paused);
   }
 
@@ -243,8 +258,8 @@ module _ (c : Config) (m : Word → ℕ) (g : Graph) (asking : ℕ → Asking) (
       let stands = (copying_keeps c m g asking r).stands in
       let paused_then = paused c (all_copied c m) g asking stands in
       record {
-        holds = subst (λ v. Holds c v g) (sym finished_early)
-            (live c (all_copied c m) g asking stands, stands.ghost.owner, promises_of c g asking, holds_by c (all_copied c m) g asking stands);
+        holds = subst (λ v. HoldsInSizes c v g) (sym finished_early)
+            (live c (all_copied c m) g asking stands, stands.ghost.owner, promises_of c g asking, holds_by c (all_copied c m) g asking stands, are_sized c (all_copied c m) g asking stands);
         paused = subst (λ v. IsPaused c m (full c v) g asking) (sym finished_early)
             (record { asked_then = paused_then.asked_then; stands = paused_then.stands; answers = paused_then.answers; crowded = paused_then.crowded });
       }
@@ -278,8 +293,23 @@ whole_is_pause c m g asking r seats is = whole c m g asking r seats is
 pub short_is_pause : ShortIsPause
 short_is_pause c m g asking r seats is = short c m g asking r seats
 
+-- a region that is freed is free
+freed_there : (c : Config) (n : Word → ℕ) (q : ℕ) → q < c.regions → is_to_free c n q ≡ true → IsFreed (set_freed c n) q
+freed_there c n q inside gone =
+    record {
+      is_free = free_is c (is_to_free c n) (filled_in c (is_to_stay c n) (has_moved n) n) q inside (inr gone);
+      top = top_out c (is_to_free c n) (filled_in c (is_to_stay c n) (has_moved n) n) q gone;
+      tams = tams_out c (is_to_free c n) (filled_in c (is_to_stay c n) (has_moved n) n) q gone;
+      limit = limit_out c (is_to_free c n) (filled_in c (is_to_stay c n) (has_moved n) n) q gone;
+    }
+
 pub set_is_free : SetIsFree
-set_is_free c m g asking r room q inside member =
-    let cset : all_copied c (let_go c m) Cset ≡ m Cset = all_copied_same c (let_go c m) Cset (λ never. never) ∙ let_go_same Cset (λ never. never) c m (seat_count c.mutators c.helpers) in
-    let out = set_is_freed.chosen_ones c (all_updated c (all_copied c (let_go c m))) q inside (subst (λ set. IsIn set q) (sym cset) member) in
-    record { is_free = out.is_free; top = out.top; tams = out.tams; limit = out.limit }
+set_is_free c m g asking r room q inside member unpinned =
+    let same : (word : Word) → (MayChange word → ⊥) → (IsOfBuffers word → ⊥) → all_copied c (let_go c m) word ≡ m word =
+    λ word fixed other. all_copied_same c (let_go c m) word fixed ∙ let_go_same word other c m (seat_count c.mutators c.helpers) in
+    let chosen : is_chosen (all_copied c (let_go c m)) q ≡ true =
+    chosen_if (all_copied c (let_go c m)) q (subst (λ set. IsIn set q) (sym (same Cset (λ never. never) (λ never. never))) member) in
+    let loose : is_pinned c (all_copied c (let_go c m)) q ≡ false = same_pinned c m (all_copied c (let_go c m)) (λ t i. same (Pin t i) (λ never. never) (λ never. never)) q ∙ unpinned in
+    let gone : is_to_free c (all_updated c (all_copied c (let_go c m))) q ≡ true =
+    and_from (is_chosen (all_copied c (let_go c m)) q) (not (is_pinned c (all_copied c (let_go c m)) q)) chosen (not_from_false (is_pinned c (all_copied c (let_go c m)) q) loose) in
+    freed_there c (all_updated c (all_copied c (let_go c m))) q inside gone

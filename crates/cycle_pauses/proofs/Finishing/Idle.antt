@@ -1,16 +1,18 @@
 -- The words once a cycle is over: they stand for the graph while no cycle runs.
-use Rattle.std.proofs.Common.{◌≡◌, ◌≢◌, ℕ, ◌+◌, ◌*◌, ◌<◌, ◌≤◌, ◌==◌, Bool, true, false, Option, zero, suc, cond, ⊎_elim, refl, sym, ap, ◌∙◌, subst, arith}
+use Rattle.std.proofs.Common.{◌≡◌, ◌≢◌, ℕ, ◌+◌, ◌*◌, ◌<◌, ◌≤◌, ◌==◌, ◌&&◌, Bool, true, false, not, Option, zero, suc, cond, ⊎_elim, refl, sym, ap, ◌∙◌, subst, arith}
 use Rattle.std.specs.Int.{bit_at}
 use Rattle.std.specs.Int.Bits.{or_zero_r}
 use Rattle.std.proofs.Math.Path.{fun_ext}
-use Rattle.std.proofs.lemmas.Bool.{cond-false, cases_lt, ne_eqb}
+use Rattle.std.proofs.lemmas.Bool.{cond-false, cases_lt, ne_eqb, and_left}
 use Rattle.std.specs.Prelude.{bit_or}
 use Rattle.heap_words.specs.declared.config.Config.{Config}
-use Rattle.heap_words.specs.Words.{Word, Pause, Left, End, State, Phase, Cset, Free, Evac, Claim, Ask, Top, Tams, Limit, Current, Root, Count, Buffer, Wait, Answer, Grey, Black, Heap, Share}
+use Rattle.heap_words.specs.Words.{Word, Pause, Left, End, State, Phase, Cset, Free, Evac, Claim, Ask, Top, Tams, Limit, Current, Root, Pin, Count, Buffer, Wait, Answer, Grey, Black, Heap, Share}
+use Rattle.heap_words.specs.Encoding.{filler_header, object_words}
+use Rattle.regions.specs.Place.{region_with}
 use Rattle.shen_graph.specs.Graph.{Graph}
 use Rattle.heap_world.specs.World.{Plot, no_ghost, with_owner, HasNoRoom, AreOwned, IsCollected, IsEvacuating, IsUsable}
 use Rattle.heap_world.specs.Asking.{Asking, asks}
-use Rattle.heap_world.specs.Roots.{HasNoMore}
+use Rattle.heap_world.specs.Roots.{HasNoMore, HasNoMorePins}
 use Rattle.heap_world.specs.Represents.{Represents}
 use Rattle.heap_world.proofs.Copies.{none_in_0, none_is_in, none_evacuated}
 use Rattle.heap_world.proofs.Keeping.{usable_now}
@@ -19,21 +21,22 @@ use Rattle.buffer_words.specs.LetGo.{HasNoBuffers}
 use Rattle.buffer_pauses.proofs.Kept.{none_have_room}
 use Rattle.cycle_words.specs.Marking.Marks.{bits_of}
 use Rattle.cycle_pauses.proofs.Evacuation.Asked.{asked_stays}
-use Rattle.cycle_words.specs.Updating.Changes.{is_chosen, final_updated}
-use Rattle.cycle_pauses.proofs.Updating.Ending.{updating_ends}
+use Rattle.full_words.specs.Pinned.{is_pinned, begins}
+use Rattle.cycle_pauses.proofs.Evacuation.PinsKept.{pin_same}
+use Rattle.cycle_words.specs.Updating.Changes.{is_chosen}
 use Rattle.cycle_words.specs.Finishing.Updated.{updated_word, is_kept_field, all_updated}
 use Rattle.cycle_words.specs.Finishing.Copies.{copied_from, all_copied, is_room_for_all}
-use Rattle.cycle_words.specs.Finishing.Finish.{set_freed, cycle_finished}
+use Rattle.cycle_words.specs.Finishing.Finish.{is_to_free, is_to_stay, has_moved, set_freed, cycle_finished}
 use Rattle.cycle_words.proofs.Finishing.Fields.{collected_none, word_spared}
 use Rattle.cycle_pauses.specs.Finishing.Copying.{IsCopiedAll}
-use Rattle.cycle_pauses.proofs.Finishing.CopyingKeeps.{copying_begins, copying_keeps}
-use Rattle.cycle_pauses.proofs.Finishing.Updating.{as_updated, updated_represents}
+use Rattle.cycle_pauses.proofs.Finishing.CopyingKeeps.{copying_begins, copying_keeps, left_pinned}
+use Rattle.cycle_pauses.proofs.Finishing.Leaving as leaving
 use Rattle.cycle_pauses.proofs.Finishing.Serving.{IsIdle}
 
 -- Such words represent the graph.
 pub idle_represents : (c : Config) (m : Word → ℕ) (block : Plot) (owner : ℕ → Option ℕ) (g : Graph) (asking : ℕ → Asking) → IsIdle c m block owner g asking
-    → m Phase ≡ 0 → m Cset ≡ 0 → m Evac ≡ 0 → ((t refs nums : ℕ) → t < c.mutators → asking t ≡ asks refs nums → bit_at (m Ask) 1 ≡ 1) → HasNoMore c.mutators g → Represents c m g asking
-idle_represents c m block owner g asking s no_phase no_cset no_evac heard no_more = record {
+    → m Phase ≡ 0 → m Cset ≡ 0 → m Evac ≡ 0 → ((t refs nums : ℕ) → t < c.mutators → asking t ≡ asks refs nums → bit_at (m Ask) 1 ≡ 1) → HasNoMore c.mutators g → HasNoMorePins c.mutators g → Represents c m g asking
+idle_represents c m block owner g asking s no_phase no_cset no_evac heard no_more no_more_pins = record {
   block = block;
   ghost = with_owner no_ghost owner;
   shared = record {
@@ -50,6 +53,7 @@ idle_represents c m block owner g asking s no_phase no_cset no_evac heard no_mor
         (none_evacuated c (m Phase) (m Claim) (m Free) (λ q. m (Top q)) (λ q. m (Tams q)) (λ a. m (Heap a)) (λ q. m (Black q)) block owner no_ghost.copying no_ghost.working
         (λ is. omega (arith, is, no_phase)) s.unmoved.no_moved s.unmoved.no_spent (λ seat seated. refl)));
     updated = λ on. absurd (omega (arith, on, no_phase));
+    pinned = s.pinned;
   };
   roots = s.roots;
   usable = λ t i inside few.
@@ -62,25 +66,7 @@ idle_represents c m block owner g asking s no_phase no_cset no_evac heard no_mor
   unmarking = record { records_none = λ seat seated. refl; scans_none = λ seat seated. refl };
   uncopying = record { copies_none = λ seat seated. refl; works_none = λ seat seated. refl };
   no_more = no_more;
-}
-
--- where all references are updated, and the set is freed
-freed_idle : (c : Config) (n : Word → ℕ) (g : Graph) (asking : ℕ → Asking) (r : Represents c (final_updated c (as_updated c n)) g asking) → IsIdle c (set_freed c n) r.block r.ghost.owner g asking
-freed_idle c n g asking r = record {
-  parsable = r.shared.parsable;
-  contents = r.shared.contents;
-  owned = r.shared.owned;
-  unwritten = r.shared.unwritten;
-  unmoved = record {
-    no_moved = λ a refs nums to name is. none_in_0 c a (r.shared.evacuated.moved.moveds a refs nums to name is).inside;
-    no_spent = λ a words to is. none_in_0 c a (r.shared.evacuated.moved.spents a words to is).inside;
-    no_hand = r.none;
-    no_carved = r.uncarved;
-  };
-  roots = r.roots;
-  asked = λ t inside.
-      asked_stays (final_updated c (as_updated c n)) (set_freed c n) r.block r.block g.count t refl refl (λ a words k is below. refl) (λ a words is. is) (λ a words is. is) (asking t) (r.asked t inside);
-  promised_to = r.promised_to;
+  no_more_pins = no_more_pins;
 }
 
 -- one of two that are the same
@@ -102,21 +88,34 @@ module _ (c : Config) (m : Word → ℕ) (none : m Cset ≡ 0) where
   word_still : (v : ℕ) → updated_word c m v ≡ v
   word_still v = word_spared c m v (collected_none c m v (λ inside. none_in_0 c v (subst (λ set. IsCollected c set v) none inside)))
 
+  -- the words once references were updated
+  abbrev n : Word → ℕ
+  n = all_updated c m
+
   unchosen : (r : ℕ) → is_chosen m r ≡ false
   unchosen r = ne_eqb (bit_at (m Cset) r) 1 (λ is. none_is_in r (subst (λ set. bit_at set r ≡ 1) none is))
 
-  no_bits : (first n : ℕ) → bits_of (is_chosen (all_updated c m)) first n ≡ 0
+  not_freed : (r : ℕ) → is_to_free c n r ≡ false
+  not_freed r = and_left (is_chosen m r) (not (is_pinned c m r)) (unchosen r)
+
+  not_staying : (r : ℕ) → is_to_stay c n r ≡ false
+  not_staying r = and_left (is_chosen m r) (is_pinned c m r) (unchosen r)
+
+  no_bits : (first k : ℕ) → bits_of (is_to_free c n) first k ≡ 0
   unfolding bits_of
   no_bits first zero = refl
-  no_bits first (suc n) =
-      let rest = no_bits first n in
-      rw (unchosen (first + n), rest) (omega arith)
+  no_bits first (suc k) =
+      let rest = no_bits first k in
+      rw (not_freed (first + k), rest) (omega arith)
 
-  free_still : bit_or (m Free) (bits_of (is_chosen (all_updated c m)) 0 c.regions) ≡ m Free
+  free_still : bit_or (m Free) (bits_of (is_to_free c n) 0 c.regions) ≡ m Free
   free_still = ap (bit_or (m Free)) (no_bits 0 c.regions) ∙ or_zero_r (m Free)
 
-  kept_word : (r k : ℕ) → cond (is_chosen m r) 0 k ≡ k
-  kept_word r k = cond-false (is_chosen m r) 0 k (unchosen r)
+  kept_word : (r k : ℕ) → cond (is_to_free c n r) 0 k ≡ k
+  kept_word r k = cond-false (is_to_free c n r) 0 k (not_freed r)
+
+  heap_word : (x : ℕ) → n (Heap x) ≡ m (Heap x)
+  heap_word x = either_way (is_kept_field c m x) (updated_word c m (m (Heap x))) (m (Heap x)) (m (Heap x)) (word_still (m (Heap x))) refl
 
   pub settled_is : (word : Word) → set_freed c (all_updated c m) word ≡ settled word
   settled_is Phase = refl
@@ -128,8 +127,12 @@ module _ (c : Config) (m : Word → ℕ) (none : m Cset ≡ 0) where
   settled_is (Top r) = kept_word r (m (Top r))
   settled_is (Tams r) = kept_word r (m (Tams r))
   settled_is (Limit r) = kept_word r (m (Limit r))
-  settled_is (Heap x) = either_way (is_kept_field c m x) (updated_word c m (m (Heap x))) (m (Heap x)) (m (Heap x)) (word_still (m (Heap x))) refl
+  settled_is (Heap x) =
+      cond-false (is_to_stay c n (region_with c x) && begins c n x && has_moved n x) (filler_header (object_words (n (Heap (x + 1))))) (n (Heap x))
+      (and_left (is_to_stay c n (region_with c x) && begins c n x) (has_moved n x) (and_left (is_to_stay c n (region_with c x)) (begins c n x) (not_staying (region_with c x))))
+      ∙ heap_word x
   settled_is (Root t i) = word_still (m (Root t i))
+  settled_is (Pin t i) = refl
   settled_is (Answer t) = word_still (m (Answer t))
   settled_is Pause = refl
   settled_is Left = refl
@@ -143,8 +146,8 @@ module _ (c : Config) (m : Word → ℕ) (none : m Cset ≡ 0) where
   settled_is (Black n) = refl
   settled_is Share = refl
 
-  pub settled_idle : (g : Graph) (asking : ℕ → Asking) (r : Represents c m g asking) → IsIdle c (set_freed c (all_updated c m)) r.block r.ghost.owner g asking
-  settled_idle g asking r = subst (λ w. IsIdle c w r.block r.ghost.owner g asking) (sym (fun_ext settled_is)) (record {
+  pub settled_idle : (g : Graph) (asking : ℕ → Asking) (r : Represents c m g asking) → m Phase ≢ 2 → IsIdle c (set_freed c (all_updated c m)) r.block r.ghost.owner g asking
+  settled_idle g asking r out = subst (λ w. IsIdle c w r.block r.ghost.owner g asking) (sym (fun_ext settled_is)) (record {
     parsable = r.shared.parsable;
     contents = r.shared.contents;
     owned = subst (λ set. AreOwned c (λ q. m (Top q)) (m Share) (m Free) set (λ s. m (Current s)) r.block r.ghost.owner) none r.shared.owned;
@@ -156,6 +159,8 @@ module _ (c : Config) (m : Word → ℕ) (none : m Cset ≡ 0) where
       no_carved = r.uncarved;
     };
     roots = r.roots;
+    pinned = λ t i inside few.
+        pin_same c (m Cset) (m Evac) 0 0 r.block (m (Pin t i)) (m (Pin t i)) (g.pin (t + 1) i) none (r.shared.phased.evac_is out) refl (r.shared.pinned t i inside few);
     asked = λ t inside. asked_stays m settled r.block r.block g.count t refl refl (λ a words k is below. refl) (λ a words is. is) (λ a words is. is) (asking t) (r.asked t inside);
     promised_to = r.promised_to;
   })
@@ -181,9 +186,11 @@ module _ (c : Config) (m : Word → ℕ) (g : Graph) (asking : ℕ → Asking) (
       let phase = copied_all.same Phase (λ never. never) in
       let stands = copied_all.stands in
       let copies = copying_begins c (all_copied c m) g asking stands (omega (arith, on, phase)) in
-      let updated = updated_represents c (all_copied c m) (all_copied c m) stands.block stands.ghost.owner g asking c.region_words copies (copied_all.none_left room) no_room stands.heard stands.no_more in
-      let ended = updating_ends c (as_updated c (all_updated c (all_copied c m))) g asking updated refl (omega arith) in
-      (ended.block, ended.ghost.owner, freed_idle c (all_updated c (all_copied c m)) g asking ended)
+      let pinned = left_pinned c m g asking copied_all room in (
+        leaving.plot c (all_copied c m) stands.block stands.ghost.owner g asking c.region_words copies pinned no_room,
+        stands.ghost.owner,
+        leaving.left_idle c (all_copied c m) stands.block stands.ghost.owner g asking c.region_words copies pinned no_room,
+      )
 
   -- where there is no collection set
   copied_else : m Phase ≢ 2 → all_copied c m ≡ m
@@ -194,7 +201,7 @@ module _ (c : Config) (m : Word → ℕ) (g : Graph) (asking : ℕ → Asking) (
       let none = r.shared.phased.cset_is low in (
         r.block,
         r.ghost.owner,
-        subst (λ v. IsIdle c (set_freed c (all_updated c v)) r.block r.ghost.owner g asking) (sym (copied_else (λ two. omega (arith, two, low)))) (settled_idle c m none g asking r),
+        subst (λ v. IsIdle c (set_freed c (all_updated c v)) r.block r.ghost.owner g asking) (sym (copied_else (λ two. omega (arith, two, low)))) (settled_idle c m none g asking r (λ two. omega (arith, two, low))),
       )
 
   pub finished_idle : is_room_for_all c m ≡ true → (plot : Plot) × (owner : ℕ → Option ℕ) × IsIdle c (cycle_finished c m) plot owner g asking

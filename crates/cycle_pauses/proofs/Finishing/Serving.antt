@@ -9,7 +9,7 @@ use Rattle.std.proofs.lemmas.Bool.Decides.{nat_tests}
 use Rattle.std.proofs.lemmas.Nat.{and_le_l}
 use Rattle.std.proofs.lemmas.Nat.Bits.{bit_at_clear_same}
 use Rattle.heap_words.specs.declared.config.Config.{Config}
-use Rattle.heap_words.specs.Words.{Word, Cset, Free, Top, Current, Root, Wait, Answer, Heap, Share}
+use Rattle.heap_words.specs.Words.{Word, Cset, Free, Evac, Top, Current, Root, Pin, Wait, Answer, Heap, Share}
 use Rattle.heap_words.specs.Encoding.{object_words, request_shape_in, request_count_in, shape_word, name_code}
 use Rattle.heap_words.specs.Encoding as encoding
 use Rattle.packing.specs.Rooms.{IsLowestRoom}
@@ -18,7 +18,7 @@ use Rattle.regions.specs.Place.{base_of}
 use Rattle.regions.specs.Sets.{all_but}
 use Rattle.shen_graph.specs.declared.name.Name.{Name}
 use Rattle.shen_graph.specs.Graph.{Graph}
-use Rattle.heap_world.specs.World.{Block, thing, moved, spent, hand, promised, dead, filler, carved, words_of, room_of, Plot, name_at, Points, IsPlotted, IsFilled, IsParsable, HasContents, AreOwned, ShareIsOpen, AreBuffers, AreBuffersOutside, AreUnwritten, AreObjects, IsFreeWord, IsBlank}
+use Rattle.heap_world.specs.World.{Block, thing, moved, spent, hand, promised, dead, filler, carved, words_of, room_of, Plot, name_at, Points, PinStands, IsPlotted, IsFilled, IsParsable, HasContents, AreOwned, ShareIsOpen, AreBuffers, AreBuffersOutside, AreUnwritten, AreObjects, IsFreeWord, IsBlank}
 use Rattle.heap_world.specs.Asking.{Asking, nothing, asks, refused, given, IsRequest, IsPromise, IsAsked}
 use Rattle.heap_world.proofs.Updates.{updated, updated_same, updated_there, updated_else}
 use Rattle.heap_world.proofs.Keeping.{points_stay}
@@ -35,6 +35,7 @@ use Rattle.full_words.proofs.Served.{served_first, turn_idle, turn_waits}
 use Rattle.cycle_pauses.proofs.Full.Holding.{request_reads}
 use Rattle.cycle_pauses.specs.Marking.MarkedOut.{AreUnmoved}
 use Rattle.cycle_pauses.proofs.Evacuation.Asked.{asked_stays}
+use Rattle.cycle_pauses.proofs.Evacuation.PinsKept.{pin_kept}
 
 -- The words stand for a graph, with what mutators have asked for, while no cycle runs: nothing has moved, and nobody has room in hand, or carved words.
 pub record IsIdle (c : Config) (m : Word → ℕ) (block : Plot) (owner : ℕ → Option ℕ) (g : Graph) (asking : ℕ → Asking) : Type 0 where
@@ -44,6 +45,7 @@ pub record IsIdle (c : Config) (m : Word → ℕ) (block : Plot) (owner : ℕ �
   pub unwritten : AreUnwritten (λ a. m (Heap a)) block
   pub unmoved : AreUnmoved block
   pub roots : (t i : ℕ) → t < c.mutators → i < 16 → Points block (m (Root t i)) (g.root (t + 1) i)
+  pub pinned : (t i : ℕ) → t < c.mutators → i < 4 → PinStands c (m Cset) (m Evac) block (m (Pin t i)) (g.pin (t + 1) i)
   pub asked : (t : ℕ) → t < c.mutators → IsAsked m block g.count t (asking t)
   pub promised_to : (a seat words : ℕ) → block a ≡ Some (promised seat words) → seat < c.mutators
 
@@ -324,6 +326,10 @@ module _ (c : Config) (m : Word → ℕ) (block : Plot) (owner : ℕ → Option 
     no_carved = λ p seat words is. s.unmoved.no_carved p seat words (same_room.came p seat (carved seat words) refl is);
   }
 
+  pinned_again : (u i : ℕ) → u < c.mutators → i < 4 → PinStands c (n Cset) (n Evac) plot (n (Pin u i)) (g.pin (u + 1) i)
+  unfolding made_in
+  pinned_again u i below few = pin_kept c (m Cset) (m Evac) block plot (m (Pin u i)) (g.pin (u + 1) i) (λ z is. stays (m (Pin u i)) z is) (s.pinned u i below few)
+
   one_made : IsIdle c (made_in c m t r) plot owner g asking_then
   one_made = record {
     parsable = record {
@@ -348,6 +354,7 @@ module _ (c : Config) (m : Word → ℕ) (block : Plot) (owner : ℕ → Option 
     unwritten = unwritten_again;
     unmoved = unmoved_again;
     roots = λ u i below few. subst (λ v. Points plot v (g.root (u + 1) i)) (sym (same_root u i)) (points_stay block plot names (m (Root u i)) (g.root (u + 1) i) (s.roots u i below few));
+    pinned = pinned_again;
     asked = asked_again;
     promised_to = λ p seat words is. ⊎_elim
         (λ (new : (p ≡ to) × (x ≡ promised seat words)). let both = new.1 in let seats : t ≡ seat = cc in subst (λ k. k < c.mutators) seats inside)

@@ -1,21 +1,22 @@
 -- Words that stand for a graph with promised objects represent it: the promised objects are no objects of the graph any more.
-use Rattle.std.proofs.Common.{zero, suc, length, replicate, subst, ◌≡◌, ℕ, ◌+◌, ◌-◌, ◌<◌, Bool, true, false, slice_get, Some, None, ⊎_elim, refl, sym, ap, ◌∙◌, arith}
+use Rattle.std.proofs.Common.{zero, suc, length, replicate, subst, ◌≡◌, ℕ, ◌+◌, ◌-◌, ◌<◌, ◌≤◌, Bool, true, false, slice_get, Option, Some, None, ⊎_elim, refl, sym, ap, ◌∙◌, arith}
 use Rattle.std.specs.Prelude.{if◌then◌else◌}
 use Rattle.std.proofs.lemmas.Bool.{cond-true, cond-false, cases_Bool}
 use Rattle.std.proofs.lemmas.List.{length-replicate}
 use Rattle.std.proofs.lemmas.Option.{same_Some, none-some}
 use Rattle.heap_words.specs.declared.config.Config.{Config}
-use Rattle.heap_words.specs.Words.{Word, Free, Top, Root, Heap}
+use Rattle.heap_words.specs.Words.{Word, Free, Top, Root, Pin, Heap}
 use Rattle.shen_graph.specs.declared.name.Name.{Name}
+use Rattle.shen_graph.specs.declared.pin.Pinned.{Pinned}
 use Rattle.shen_graph.specs.Graph.{Graph, Object, Reference, blank, fresh, same_reference}
 use Rattle.shen_graph.proofs.PlainLemmas.{same_name-itself}
-use Rattle.heap_world.specs.World.{Block, thing, moved, spent, promised, dead, filler, spare, no_ghost, words_of, room_of, HasNoRoom, Plot, name_at, Points, IsGiven, IsThing, AreObjects, IsBlank, IsEvacuating, IsUsable, AreUsable, SharedFacts}
+use Rattle.heap_world.specs.World.{Block, thing, moved, spent, promised, dead, filler, spare, no_ghost, words_of, room_of, HasNoRoom, Plot, name_at, Points, IsGiven, IsThing, AreObjects, IsBlank, IsCollected, PinStands, ArePinned, IsEvacuating, IsUsable, AreUsable, SharedFacts}
 use Rattle.heap_world.proofs.Keeping.{usable_now}
-use Rattle.heap_world.proofs.Copies.{none_evacuated}
+use Rattle.heap_world.proofs.Copies.{none_in_0, none_evacuated}
 use Rattle.heap_world.proofs.Unmarked.{none_marked}
 use Rattle.heap_world.proofs.Roomless.{rooms_none}
 use Rattle.full_words.specs.Promised.{Promises, with_promised}
-use Rattle.full_words.specs.Image.{ImageStands}
+use Rattle.full_words.specs.Image.{PinWordStands, ImageStands}
 use Rattle.full_words.proofs.Named.{thing_at}
 use Rattle.full_words.proofs.Promised.{same_reference-true}
 use Rattle.cycle_words.proofs.Marking.Trimmed.{object_stands}
@@ -48,6 +49,7 @@ pub record IsAfter (c : Config) (m : Word → ℕ) (block : Plot) (g : Graph) (p
   pub given : (n : Name) (o : Object) → g.object n ≡ Some o → IsGiven c g.count n
   pub fields : (a refs nums i : ℕ) (n f : Name) (o : Object) → block a ≡ Some (thing n refs nums) → g.object n ≡ Some o → slice_get o.refs i ≡ Some (Some f) → IsKnown g f
   pub roots : (t i : ℕ) (n : Name) → g.root t i ≡ Some n → IsKnown g n
+  pub pins : (t i : ℕ) (held : Pinned) → g.pin t i ≡ Some held → IsKnown g held.name
 
 -- an object at an address, that is no promised one
 abbrev pub IsOld : Plot → Promises → ℕ → ℕ → ℕ → Name → Type 0
@@ -79,9 +81,11 @@ module _ (c : Config) (m : Word → ℕ) (block : Plot) (g : Graph) (p : Promise
   same_words_of n refs nums false other = ap words_of (cond-false (is_promised p n) (promised (n.thread - 1) (3 + refs + nums)) (thing n refs nums) other)
 
   pub same_words : (a : ℕ) (b : Block) → block a ≡ Some b → words_of (as_promised p b) ≡ words_of b
-  same_words a b is =
-      let t = stands.things a b is in
-      subst (λ x. words_of (as_promised p x) ≡ words_of x) (sym t.3) (same_words_of t.0 t.1 t.2 (is_promised p t.0) refl)
+  same_words a b is = ⊎_elim
+      (λ (t : (name : Name) × (refs : ℕ) × (nums : ℕ) × (b ≡ thing name refs nums)).
+      subst (λ x. words_of (as_promised p x) ≡ words_of x) (sym t.3) (same_words_of t.0 t.1 t.2 (is_promised p t.0) refl))
+      (λ (fills : (words : ℕ) × (1 ≤ words) × (b ≡ filler words)). subst (λ x. words_of (as_promised p x) ≡ words_of x) (sym fills.2) refl)
+      (stands.things a b is)
 
   -- a name that has an object is no promised one
   pub not_promised : (n : Name) → IsKnown g n → is_promised p n ≡ false
@@ -106,10 +110,11 @@ module _ (c : Config) (m : Word → ℕ) (block : Plot) (g : Graph) (p : Promise
   points_on word None known points = points
   points_on word (Some n) known points = known_stays word n (known n refl) points
 
-  -- Each piece is an old object that is left, or a promised one.
+  -- Each piece is an old object that is left, or a promised one, or only fills.
   data TakenPiece (a : ℕ) (x : Block) : Type 0 where
     stays_old : (n : Name) (refs nums : ℕ) → block a ≡ Some (thing n refs nums) → is_promised p n ≡ false → x ≡ thing n refs nums → TakenPiece a x
     is_taken : (n : Name) (refs nums : ℕ) → block a ≡ Some (thing n refs nums) → is_promised p n ≡ true → x ≡ promised (n.thread - 1) (3 + refs + nums) → TakenPiece a x
+    only_fills : (words : ℕ) → block a ≡ Some (filler words) → x ≡ filler words → TakenPiece a x
 
   taken_of : (a : ℕ) (n : Name) (refs nums : ℕ) (x : Block) → block a ≡ Some (thing n refs nums) → as_promised p (thing n refs nums) ≡ x → TakenPiece a x
   taken_of a n refs nums x is same = ⊎_elim
@@ -120,14 +125,19 @@ module _ (c : Config) (m : Word → ℕ) (block : Plot) (g : Graph) (p : Promise
   taken_at : (a : ℕ) (x : Block) → taken a ≡ Some x → TakenPiece a x
   taken_at a x is =
       let was = mapped_from (as_promised p) block a x is in
-      let t = stands.things a was.0 was.1 in
-      taken_of a t.0 t.1 t.2 x (was.1 ∙ ap Some t.3) (ap (as_promised p) (sym t.3) ∙ was.2)
+      ⊎_elim
+      (λ (t : (name : Name) × (refs : ℕ) × (nums : ℕ) × (was.0 ≡ thing name refs nums)).
+      taken_of a t.0 t.1 t.2 x (was.1 ∙ ap Some t.3) (ap (as_promised p) (sym t.3) ∙ was.2))
+      (λ (fills : (words : ℕ) × (1 ≤ words) × (was.0 ≡ filler words)).
+      only_fills fills.0 (was.1 ∙ ap Some fills.2) (sym was.2 ∙ ap (as_promised p) fills.2))
+      (stands.things a was.0 was.1)
 
   left_of : (a refs nums : ℕ) (n : Name) → TakenPiece a (thing n refs nums) → IsOld block p a refs nums n
   left_of a refs nums n (stays_old name more less here other same) =
       let name_is : n ≡ name = same_Some n name (ap (λ b. name_at (Some b)) same) in
       (here ∙ ap Some (sym same), ap (is_promised p) name_is ∙ other)
   left_of a refs nums n (is_taken name more less here test wrong) = (let differ = wrong in cc)
+  left_of a refs nums n (only_fills words here wrong) = (let differ = wrong in cc)
 
   pub left : (a refs nums : ℕ) (n : Name) → taken a ≡ Some (thing n refs nums) → IsOld block p a refs nums n
   left a refs nums n is = left_of a refs nums n (taken_at a (thing n refs nums) is)
@@ -135,6 +145,7 @@ module _ (c : Config) (m : Word → ℕ) (block : Plot) (g : Graph) (p : Promise
   -- a promised piece is a promised object
   gone_of : (a seat words : ℕ) → TakenPiece a (promised seat words) → IsPromisedThing block p a seat words
   gone_of a seat words (stays_old name refs nums here other wrong) = (let differ = wrong in cc)
+  gone_of a seat words (only_fills more here wrong) = (let differ = wrong in cc)
   gone_of a seat words (is_taken name refs nums here test same) =
       record { name = name; refs = refs; nums = nums; here = here; named = same_reference-true (p.ref name.thread) name test; seat_is = cc; words_are = cc }
 
@@ -142,27 +153,42 @@ module _ (c : Config) (m : Word → ℕ) (block : Plot) (g : Graph) (p : Promise
   gone a seat words is = gone_of a seat words (taken_at a (promised seat words) is)
 
   -- and of no other kind
-  no_other : (a : ℕ) (x : Block) → ((name : Name) (refs nums : ℕ) → x ≡ thing name refs nums → ⊥) → ((seat words : ℕ) → x ≡ promised seat words → ⊥) → taken a ≡ Some x → ⊥
-  no_other a x unlike unpromised is = by_kind (taken_at a x is)
+  no_other : (a : ℕ) (x : Block) → ((name : Name) (refs nums : ℕ) → x ≡ thing name refs nums → ⊥) → ((seat words : ℕ) → x ≡ promised seat words → ⊥)
+      → ((words : ℕ) → x ≡ filler words → ⊥) → taken a ≡ Some x → ⊥
+  no_other a x unlike unpromised unfilled is = by_kind (taken_at a x is)
     where
       by_kind : TakenPiece a x → ⊥
+      by_kind (only_fills words here same) = unfilled words same
       by_kind (stays_old name refs nums here other same) = unlike name refs nums same
       by_kind (is_taken name refs nums here test same) = unpromised (name.thread - 1) (3 + refs + nums) same
 
   pub no_room : HasNoRoom taken
-  no_room a seat x is room = no_other a x (λ name refs nums same. none-some seat (ap room_of (sym same) ∙ room)) (λ other more same. none-some seat (ap room_of (sym same) ∙ room)) is
+  no_room a seat x is room = no_other a x
+      (λ name refs nums same. none-some seat (ap room_of (sym same) ∙ room)) (λ other more same. none-some seat (ap room_of (sym same) ∙ room)) (λ words same. none-some seat (ap room_of (sym same) ∙ room)) is
 
-  no_fillers : (a words : ℕ) → taken a ≡ Some (filler words) → ⊥
-  no_fillers a words = no_other a (filler words) (λ name refs nums wrong. (let differ = wrong in cc)) (λ other more wrong. (let differ = wrong in cc))
+  -- words that only fill were there
+  filler_of : (a words : ℕ) → TakenPiece a (filler words) → block a ≡ Some (filler words)
+  filler_of a words (stays_old name refs nums here other wrong) = (let differ = wrong in cc)
+  filler_of a words (is_taken name refs nums here test wrong) = (let differ = wrong in cc)
+  filler_of a words (only_fills more here same) = here ∙ ap Some (sym same)
+
+  filler_was : (a words : ℕ) → taken a ≡ Some (filler words) → block a ≡ Some (filler words)
+  filler_was a words is = filler_of a words (taken_at a (filler words) is)
+
+  filler_some : (a words : ℕ) → taken a ≡ Some (filler words) → 1 ≤ words
+  filler_some a words is = ⊎_elim
+      (λ (t : (name : Name) × (refs : ℕ) × (nums : ℕ) × (filler words ≡ thing name refs nums)). (let differ = t.3 in cc))
+      (λ (fills : (more : ℕ) × (1 ≤ more) × (filler words ≡ filler more)). (let some = fills.1 in let same : words ≡ fills.0 = ap words_of fills.2 in omega (arith, some, same)))
+      (stands.things a (filler words) (filler_was a words is))
 
   no_deads : (a words : ℕ) → taken a ≡ Some (dead words) → ⊥
-  no_deads a words = no_other a (dead words) (λ name refs nums wrong. (let differ = wrong in cc)) (λ other more wrong. (let differ = wrong in cc))
+  no_deads a words = no_other a (dead words) (λ name refs nums wrong. (let differ = wrong in cc)) (λ other more wrong. (let differ = wrong in cc)) (λ more wrong. (let differ = wrong in cc))
 
   no_moveds : (a refs nums to : ℕ) (n : Name) → taken a ≡ Some (moved n refs nums to) → ⊥
-  no_moveds a refs nums to n = no_other a (moved n refs nums to) (λ name more less wrong. (let differ = wrong in cc)) (λ other more wrong. (let differ = wrong in cc))
+  no_moveds a refs nums to n = no_other a (moved n refs nums to) (λ name more less wrong. (let differ = wrong in cc)) (λ other more wrong. (let differ = wrong in cc)) (λ more wrong. (let differ = wrong in cc))
 
   no_spents : (a words to : ℕ) → taken a ≡ Some (spent words to) → ⊥
-  no_spents a words to = no_other a (spent words to) (λ name refs nums wrong. (let differ = wrong in cc)) (λ other more wrong. (let differ = wrong in cc))
+  no_spents a words to = no_other a (spent words to) (λ name refs nums wrong. (let differ = wrong in cc)) (λ other more wrong. (let differ = wrong in cc)) (λ more wrong. (let differ = wrong in cc))
 
   -- the object of an old name
   old_object : (n : Name) (o : Object) → is_promised p n ≡ false → (with_promised g p).object n ≡ Some o → g.object n ≡ Some o
@@ -212,10 +238,29 @@ module _ (c : Config) (m : Word → ℕ) (block : Plot) (g : Graph) (p : Promise
       subst (IsBlank heap a) x.words_are
       (blank_of a x.refs x.nums (p.refs x.name.thread) (p.nums x.name.thread) x.name o.0 o.2 (same_Some o.0 (blank (p.refs x.name.thread) (p.nums x.name.thread)) new))
 
+  -- a pin word stands for what its slot holds, where nothing is collected
+  pin_left : (cset evac t i word : ℕ) (o : Option Pinned) → cset ≡ 0 → g.pin (t + 1) i ≡ o → PinWordStands m block word o → PinStands c cset evac taken word o
+  pin_left cset evac t i word None none held is = is
+  pin_left cset evac t i word (Some x) none held is =
+      let copy = is.1 in (
+        is.0,
+        copy.0,
+        copy.1,
+        record {
+          piece =
+              mapped_at (as_promised p) block word (thing x.name copy.0 copy.1) copy.2
+              ∙ ap Some (cond-false (is_promised p x.name) (promised (x.name.thread - 1) (3 + copy.0 + copy.1)) (thing x.name copy.0 copy.1) (not_promised x.name (is_after.pins (t + 1) i x held)));
+          safe = λ inside. absurd (none_in_0 c word (subst (λ set. IsCollected c set word) none inside));
+        },
+      )
+
+  pub pins_left : (cset evac : ℕ) → cset ≡ 0 → ArePinned c cset evac taken (λ t i. m (Pin t i)) g.pin
+  pins_left cset evac none t i inside few = pin_left cset evac t i (m (Pin t i)) (g.pin (t + 1) i) none refl (stands.rooted.pins t i inside few)
+
   -- what all machines share holds, where nothing is collected and no seat has a region
   pub shared_facts : (phase cset evac claim : ℕ) (current grey black entries : ℕ → ℕ) (buffer : ℕ → ℕ → ℕ) (tams limit : ℕ → ℕ) (share : ℕ)
       → phase ≡ 0 → cset ≡ 0 → evac ≡ 0 → ((seat : ℕ) → current seat ≡ 0) → share ≡ 0
-      → SharedFacts c (λ q. m (Top q)) heap taken no_ghost g.object g.count phase cset evac (m Free) current grey black entries buffer tams claim limit share
+      → SharedFacts c (λ q. m (Top q)) heap taken no_ghost g.object g.count phase cset evac (m Free) current grey black entries buffer tams claim limit share (λ t i. m (Pin t i)) g.pin
   shared_facts phase cset evac claim current grey black entries buffer tams limit share no_phase no_cset no_evac none no_share = record {
     parsable = record {
       plotted = plotted_alike c (λ q. m (Top q)) block (as_promised p) same_words stands.plotted;
@@ -223,7 +268,7 @@ module _ (c : Config) (m : Word → ℕ) (block : Plot) (g : Graph) (p : Promise
       promises = λ a seat words is. (let at = gone a seat words is in omega (arith, at.words_are));
       deads = λ a words is. absurd (no_deads a words is);
       spents = λ a words to is. absurd (no_spents a words to is);
-      fillers = λ a words is. absurd (no_fillers a words is);
+      fillers = λ a words is. filler_some a words is;
     };
     contents = record { objects = objects_left; given = is_after.given };
     owned = record {
@@ -234,13 +279,14 @@ module _ (c : Config) (m : Word → ℕ) (block : Plot) (g : Graph) (p : Promise
       outside = λ seat some. absurd (some (none seat));
     };
     phased = record { phase_is = omega (arith, no_phase); cset_is = λ other. no_cset; evac_is = λ other. no_evac };
-    unwritten = record { blanks = blank_at; headers = λ a words is. absurd (no_deads a words is); lengths = λ a words is. absurd (no_deads a words is); fillers = λ a words is. absurd (no_fillers a words is) };
+    unwritten = record { blanks = blank_at; headers = λ a words is. absurd (no_deads a words is); lengths = λ a words is. absurd (no_deads a words is); fillers = λ a words is. stands.fillers a words (filler_was a words is) };
     marked = none_marked c phase grey black entries buffer (λ q. m (Top q)) tams heap taken no_ghost.recording no_ghost.scanning no_phase;
     evacuated =
         subst (λ set. IsEvacuating c phase set evac claim (m Free) (λ q. m (Top q)) tams heap black taken no_ghost.owner no_ghost.copying no_ghost.working) (sym no_cset)
         (subst (λ count. IsEvacuating c phase 0 count claim (m Free) (λ q. m (Top q)) tams heap black taken no_ghost.owner no_ghost.copying no_ghost.working) (sym no_evac)
         (none_evacuated c phase claim (m Free) (λ q. m (Top q)) tams heap black taken no_ghost.owner no_ghost.copying no_ghost.working (λ on. omega (arith, on, no_phase)) no_moveds no_spents (λ seat inside. refl)));
     updated = λ on. absurd (omega (arith, on, no_phase));
+    pinned = pins_left cset evac no_cset;
   }
 
   pub roots_left : (t i : ℕ) → t < c.mutators → i < 16 → Points taken (m (Root t i)) (g.root (t + 1) i)

@@ -10,6 +10,7 @@ use Rattle.heap_world.specs.World.{no_ghost, hand, carved}
 use Rattle.heap_world.specs.Asking.{Asking, nothing, asks, refused, given, IsAsked}
 use Rattle.heap_world.specs.Represents.{Represents, RepresentsByCopies}
 use Rattle.heap_world.specs.Change.{Answers}
+use Rattle.buffer_words.specs.LetGo.{HasNoBuffers}
 use Rattle.full_words.specs.Full.{packed_in, full_from}
 use Rattle.full_words.specs.Promised.{Promises}
 use Rattle.full_words.specs.Serving.{served_promises}
@@ -41,7 +42,7 @@ nobody_asks (asks more less) answer refs nums is = ⊎_elim
 nobody_asks refused answer refs nums is = cc
 nobody_asks (given more less) answer refs nums is = cc
 
-module _ (c : Config) (m : Word → ℕ) (g : Graph) (asking : ℕ → Asking) (r : RepresentsByCopies c m g asking) where
+module _ (c : Config) (m : Word → ℕ) (g : Graph) (asking : ℕ → Asking) (r : RepresentsByCopies c m g asking) (bare : HasNoBuffers c m) where
   abbrev p : Promises
   p = promises_of c g asking
 
@@ -64,7 +65,7 @@ module _ (c : Config) (m : Word → ℕ) (g : Graph) (asking : ℕ → Asking) (
   new_promise t refs nums inside is some = ⊎_elim
       (λ (same : SamePromise p q (t + 1)).
       let none : q.ref (t + 1) ≡ None = same.ref ∙ ref_of c g asking t inside ∙ ap (promised_ref g (t + 1)) is in
-      let one = promised_if_some c (full_from c m) (plot c m g asking r) g q (is_after c m g asking r) t inside some in
+      let one = promised_if_some c (full_from c m) (plot c m g asking r) g q (is_after c m g asking r bare) t inside some in
       absurd (none-some one.0 (sym none ∙ one.1)))
       (λ (new : IsPromisedAsAsked (packed_in c m) q t). new)
       (promise_after c (packed_in c m) p t c.mutators)
@@ -72,24 +73,24 @@ module _ (c : Config) (m : Word → ℕ) (g : Graph) (asking : ℕ → Asking) (
   -- an object that was promised is promised still
   still_given : (t refs nums : ℕ) → t < c.mutators → asking t ≡ given refs nums → m (Wait t) ≡ 0 → 1 < full_from c m (Answer t)
   still_given t refs nums inside is idle =
-      some_if_promised c (full_from c m) (plot c m g asking r) g q (is_after c m g asking r) t (fresh g (t + 1)) inside
+      some_if_promised c (full_from c m) (plot c m g asking r) g q (is_after c m g asking r bare) t (fresh g (t + 1)) inside
       ((same_promise t idle).ref ∙ ref_of c g asking t inside ∙ ap (promised_ref g (t + 1)) is)
 
   -- what words, pieces and counts say of a mutator then
   asked_by : (t : ℕ) (x : Asking) → t < c.mutators → asking t ≡ x → IsAsked m r.block g.count t x
-      → IsAsked (full_from c m) (plot_then c m g asking r) g.count t (then_of x (full_from c m (Answer t)))
+      → IsAsked (full_from c m) (plot_then c m g asking r bare) g.count t (then_of x (full_from c m (Answer t)))
   asked_by t nothing inside is asked =
       let answer = keeps_answer t inside asked.0 (omega (arith, asked.1)) ∙ asked.1 in
-      (full_wait c m t, answer, no_promise c (full_from c m) (plot c m g asking r) g q (is_after c m g asking r) t inside (omega (arith, answer)))
+      (full_wait c m t, answer, no_promise c (full_from c m) (plot c m g asking r) g q (is_after c m g asking r bare) t inside (omega (arith, answer)))
   asked_by t refused inside is asked =
       let answer = keeps_answer t inside asked.0 (omega (arith, asked.1)) ∙ asked.1 in
-      (full_wait c m t, answer, no_promise c (full_from c m) (plot c m g asking r) g q (is_after c m g asking r) t inside (omega (arith, answer)))
+      (full_wait c m t, answer, no_promise c (full_from c m) (plot c m g asking r) g q (is_after c m g asking r bare) t inside (omega (arith, answer)))
   asked_by t (given refs nums) inside is asked =
       let some = still_given t refs nums inside is asked.0 in
       let same = same_promise t asked.0 in (
         full_wait c m t,
         some,
-        promise c (full_from c m) (plot c m g asking r) g q (is_after c m g asking r) t refs nums inside some
+        promise c (full_from c m) (plot c m g asking r) g q (is_after c m g asking r bare) t refs nums inside some
             (same.refs ∙ refs_of c g asking t ∙ ap promised_refs is) (same.nums ∙ nums_of c g asking t ∙ ap promised_nums is)
             asked.2.few_refs asked.2.few_nums asked.2.few,
       )
@@ -102,22 +103,22 @@ module _ (c : Config) (m : Word → ℕ) (g : Graph) (asking : ℕ → Asking) (
       let word = packed_wait c m t in
       let more : q.refs (t + 1) ≡ refs = new.refs ∙ ap (λ k. refs_in (request_shape_in k)) word ∙ reads.refs_are in
       let less : q.nums (t + 1) ≡ nums = new.nums ∙ ap (λ k. nums_in (request_shape_in k)) word ∙ reads.nums_are in
-      let there = promise c (full_from c m) (plot c m g asking r) g q (is_after c m g asking r) t refs nums inside some more less request.few_refs request.few_nums request.few in
-      subst (IsAsked (full_from c m) (plot_then c m g asking r) g.count t)
+      let there = promise c (full_from c m) (plot c m g asking r) g q (is_after c m g asking r bare) t refs nums inside some more less request.few_refs request.few_nums request.few in
+      subst (IsAsked (full_from c m) (plot_then c m g asking r bare) g.count t)
       (sym (cond-false (full_from c m (Answer t) == 1) refused (given refs nums) (ne_eqb (full_from c m (Answer t)) 1 (λ e. omega (arith, e, some)))))
       (full_wait c m t, some, there))
       (λ (one : full_from c m (Answer t) ≡ 1).
-      subst (IsAsked (full_from c m) (plot_then c m g asking r) g.count t)
+      subst (IsAsked (full_from c m) (plot_then c m g asking r bare) g.count t)
       (sym (cond-true (full_from c m (Answer t) == 1) refused (given refs nums) (eq-eqb (full_from c m (Answer t)) 1 one)))
-      (full_wait c m t, one, no_promise c (full_from c m) (plot c m g asking r) g q (is_after c m g asking r) t inside (omega (arith, one))))
+      (full_wait c m t, one, no_promise c (full_from c m) (plot c m g asking r) g q (is_after c m g asking r bare) t inside (omega (arith, one))))
       (answer_found c m g asking r t inside (waits_for m g.count t refs nums request))
 
   -- the words represent the graph again
   pub represents_again : Represents c (full_from c m) g (asked_then c m g asking r)
   represents_again =
-      let facts = is_after c m g asking r in
+      let facts = is_after c m g asking r bare in
       record {
-        block = plot_then c m g asking r;
+        block = plot_then c m g asking r bare;
         ghost = no_ghost;
         shared = shared_facts c (full_from c m) (plot c m g asking r) g q facts (full_from c m Phase) (full_from c m Cset) (full_from c m Evac) (full_from c m Claim) (λ s. full_from c m (Current s))
             (λ n. full_from c m (Grey n)) (λ n. full_from c m (Black n)) (λ t. full_from c m (Count t)) (λ t k. full_from c m (Buffer t k)) (λ q. full_from c m (Tams q)) (λ q. full_from c m (Limit q)) (full_from c m Share)
@@ -135,4 +136,5 @@ module _ (c : Config) (m : Word → ℕ) (g : Graph) (asking : ℕ → Asking) (
         unmarking = record { records_none = λ t inside. refl; scans_none = λ seat inside. refl };
         uncopying = record { copies_none = λ seat inside. refl; works_none = λ seat inside. refl };
         no_more = r.no_more;
+        no_more_pins = r.no_more_pins;
       }

@@ -1,24 +1,25 @@
 -- The words of an image before a pause: promised objects are objects of a larger graph, and an old copy is an object as its current
 -- copy is.
-use Rattle.std.proofs.Common.{◌≡◌, ℕ, ◌+◌, ◌-◌, ◌<◌, ◌≤◌, ◌⊎◌, ◌&&◌, inl, inr, true, false, nat_le, nat_lt, Option, Some, ⊎_elim, refl, sym, ap, ◌∙◌, subst, arith}
+use Rattle.std.proofs.Common.{◌≡◌, ℕ, ◌+◌, ◌-◌, ◌<◌, ◌≤◌, ◌⊎◌, ◌&&◌, inl, inr, true, false, nat_le, nat_lt, Option, Some, None, ⊎_elim, refl, sym, ap, ◌∙◌, subst, arith}
 use Rattle.std.proofs.lemmas.Bool.{cond-true, cond-false, cases_Bool, and_parts, leb-true, ltb-true}
 use Rattle.std.proofs.lemmas.Option.{none-some, same_Some}
 use Rattle.heap_words.specs.declared.config.Config.{Config}
-use Rattle.heap_words.specs.Words.{Word, Top, Current, Root, Answer, Heap}
-use Rattle.heap_words.specs.Encoding.{next_in, end_in}
+use Rattle.heap_words.specs.Words.{Word, Cset, Evac, Top, Current, Root, Pin, Answer, Heap}
+use Rattle.heap_words.specs.Encoding.{is_forwarded, next_in, end_in}
 use Rattle.shen_graph.specs.declared.name.Name.{Name}
+use Rattle.shen_graph.specs.declared.pin.Pinned.{Pinned}
 use Rattle.shen_graph.specs.Graph.{Graph, Object, blank, fresh, same_reference}
 use Rattle.shen_graph.proofs.PlainLemmas.{same_name-itself}
-use Rattle.heap_world.specs.World.{Block, thing, moved, spent, hand, promised, dead, filler, spare, carved, words_of, room_of, Plot, name_at, body_of, IsPlotted, IsFilled, AreBuffers, IsThing, IsMarkable}
+use Rattle.heap_world.specs.World.{Block, thing, moved, spent, hand, promised, dead, filler, spare, carved, words_of, room_of, Plot, name_at, body_of, PinStands, IsPlotted, IsFilled, AreBuffers, IsThing, IsMarkable}
 use Rattle.heap_world.specs.Asking.{Asking, nothing, asks, refused, given, IsPromise, IsAsked}
-use Rattle.heap_world.specs.Roots.{is_root_of}
+use Rattle.heap_world.specs.Roots.{is_root_of, is_slot_of}
 use Rattle.heap_world.specs.Represents.{RepresentsByCopies}
 use Rattle.heap_world.proofs.Pointing.{named_body, copy_cases}
 use Rattle.heap_world.proofs.Pieces.{some_words, object_reads}
 use Rattle.heap_world.proofs.Keeping.{points_stay}
 use Rattle.heap_world.proofs.NewObject.{new_object}
 use Rattle.full_words.specs.Promised.{Promises, with_promised}
-use Rattle.full_words.specs.Image.{AnswerStands, RootsStand}
+use Rattle.full_words.specs.Image.{AnswerStands, PinWordStands, RootsStand}
 use Rattle.full_words.proofs.Promised.{same_reference-true}
 use Rattle.cycle_pauses.proofs.Full.Promises.{promised_ref, promised_refs, promised_nums, promises_of, ref_of, refs_of, nums_of, promised_one}
 use Rattle.cycle_pauses.proofs.Full.Mapped.{mapped, mapped_at, mapped_from, plotted_alike, filled_alike}
@@ -66,6 +67,21 @@ fills_unnamed _ name fills is = none-some name is
 abbrev ObjectAt : (ℕ → ℕ) → Plot → (Name → Option Object) → ℕ → Block → Type 0
 ObjectAt heap block object a (thing name refs nums) = (o : Object) × (object name ≡ Some o) × IsThing heap block a refs nums name o
 ObjectAt heap block object a _ = Unit {0}
+
+-- what is a thread's, so many each
+pub record IsThreads (c : Config) (t i cells : ℕ) : Type 0 where
+  pub mutator : ℕ
+  pub inside : mutator < c.mutators
+  pub thread : t ≡ mutator + 1
+  pub few : i < cells
+
+pub threads_one : (c : Config) (t i cells : ℕ) → (nat_le 1 t && (nat_le t c.mutators && nat_lt i cells)) ≡ true → IsThreads c t i cells
+threads_one c t i cells met =
+    let one = and_parts (nat_le 1 t) (nat_le t c.mutators && nat_lt i cells) met in
+    let two = and_parts (nat_le t c.mutators) (nat_lt i cells) one.1 in
+    let low = leb-true 1 t one.0 in
+    let high = leb-true t c.mutators two.0 in
+    record { mutator = t - 1; inside = omega (arith, low, high); thread = omega (arith, low); few = ltb-true i cells two.1 }
 
 -- the promised object at an address, by what its mutator asked for
 pub record IsPromisedAt (c : Config) (m : Word → ℕ) (block : Plot) (g : Graph) (asking : ℕ → Asking) (a seat words : ℕ) : Type 0 where
@@ -242,19 +258,55 @@ module _ (c : Config) (m : Word → ℕ) (g : Graph) (asking : ℕ → Asking) (
   answer_of t (given refs nums) is asked =
       inr (asked.1, fresh g (t + 1), refl, ap name_at (live_at (m (Answer t)) (promised t (3 + refs + nums)) asked.2.here))
 
+  -- a slot that holds something is some mutator's
+  pub slot_of : (t i : ℕ) (held : Pinned) → g.pin t i ≡ Some held → IsThreads c t i 4
+  slot_of t i held is = ⊎_elim
+      (λ (yes : is_slot_of c.mutators t i ≡ true). threads_one c t i 4 yes)
+      (λ (no : is_slot_of c.mutators t i ≡ false). absurd (none-some held (sym (r.no_more_pins t i no) ∙ is)))
+      (cases_Bool (is_slot_of c.mutators t i))
+
+  -- what it holds stands at its place
+  pub record IsPinnedThing (held : Pinned) : Type 0 where
+    pub mutator : ℕ
+    pub slot : ℕ
+    pub inside : mutator < c.mutators
+    pub few : slot < 4
+    pub word : m (Pin mutator slot) ≡ held.place
+    pub refs : ℕ
+    pub nums : ℕ
+    pub here : r.block held.place ≡ Some (thing held.name refs nums)
+    pub header : is_forwarded (heap held.place) ≡ false
+
+  pinned_of : (t i : ℕ) (held : Pinned) → t < c.mutators → i < 4 → PinStands c (m Cset) (m Evac) r.block (m (Pin t i)) (Some held) → IsPinnedThing held
+  pinned_of t i held inside few is =
+      let here : r.block held.place ≡ Some (thing held.name is.1 is.2) = ap r.block (sym is.0) ∙ is.3.piece in
+      let o = r.shared.contents.objects.each held.place is.1 is.2 held.name here in
+      record { mutator = t; slot = i; inside = inside; few = few; word = is.0; refs = is.1; nums = is.2; here = here; header = ap is_forwarded o.2.header }
+
+  pub pinned_thing : (t i : ℕ) (held : Pinned) → g.pin t i ≡ Some held → IsPinnedThing held
+  pinned_thing t i held is =
+      let at = slot_of t i held is in
+      let own : g.pin (at.mutator + 1) i ≡ Some held = ap (λ k. g.pin k i) (sym at.thread) ∙ is in
+      pinned_of at.mutator i held at.inside at.few
+      (subst (PinStands c (m Cset) (m Evac) r.block (m (Pin at.mutator i))) own (r.shared.pinned at.mutator i at.inside at.few))
+
+  -- a pin word stands for what its slot holds
+  pin_word : (word : ℕ) (held : Option Pinned) → PinStands c (m Cset) (m Evac) r.block word held → PinWordStands m live word held
+  pin_word word None is = is
+  pin_word word (Some held) is =
+      let o = r.shared.contents.objects.each word is.1 is.2 held.name is.3.piece in
+      (is.0, (is.1, is.2, live_at word (thing held.name is.1 is.2) is.3.piece), ap is_forwarded o.2.header)
+
   pub live_rooted : RootsStand c m live g p
   live_rooted = record {
     roots = λ t i inside few. points_stay r.block live names_stay (m (Root t i)) (g.root (t + 1) i) (r.roots t i inside few);
     answers = λ t inside. subst (AnswerStands live (m (Answer t))) (sym (ref_of c g asking t inside)) (answer_of t (asking t) refl (r.asked t inside));
     no_more_roots = λ t i name is. ⊎_elim
-        (λ (yes : is_root_of c.mutators t i ≡ true).
-        let one = and_parts (nat_le 1 t) (nat_le t c.mutators && nat_lt i 16) yes in
-        let two = and_parts (nat_le t c.mutators) (nat_lt i 16) one.1 in
-        let low = leb-true 1 t one.0 in
-        let high = leb-true t c.mutators two.0 in
-        (t - 1, omega (arith, low, high), omega (arith, low), ltb-true i 16 two.1))
+        (λ (yes : is_root_of c.mutators t i ≡ true). let at = threads_one c t i 16 yes in (at.mutator, at.inside, at.thread, at.few))
         (λ (no : is_root_of c.mutators t i ≡ false). absurd (none-some name (sym (r.no_more t i no) ∙ is)))
         (cases_Bool (is_root_of c.mutators t i));
+    pins = λ t i inside few. pin_word (m (Pin t i)) (g.pin (t + 1) i) (r.shared.pinned t i inside few);
+    no_more_pins = λ t i held is. let at = slot_of t i held is in (at.mutator, at.inside, at.thread, at.few);
     no_more_promised = λ t name is. let one = promised_one c g asking t name is in (one.0, one.1, one.2);
   }
 

@@ -21,4 +21,5 @@ by_copies c m g asking r = record {
   unmarking = r.unmarking;
   uncopying = r.uncopying;
   no_more = r.no_more;
+  no_more_pins = r.no_more_pins;
 }

@@ -24,6 +24,7 @@ use Rattle.cycle_pauses.proofs.Full.Holding.{request_reads, waits_for, are_fresh
 use Rattle.full_words.proofs.Still.{packed_wait}
 use Rattle.cycle_pauses.proofs.Full.Paused.{then_of, asked_then}
 use Rattle.cycle_pauses.proofs.Full.Reached.{reach_list}
+use Rattle.cycle_pauses.proofs.Full.PinnedOnes.{held_ones, pinned_ones}
 
 -- a sum of smaller numbers is not larger
 sum_at_most : (f h : ℕ → ℕ) (n : ℕ) → ((k : ℕ) → k < n → f k ≤ h k) → sum_below f n ≤ sum_below h n
@@ -177,10 +178,13 @@ module _ (c : Config) (m : Word → ℕ) (g : Graph) (asking : ℕ → Asking) (
         let holds = holds_by c m g asking r in
         let words : asked_in m t ≡ 3 + refs + nums = same_words (packed_wait c m t) ∙ asked_words t refs nums request in
         let short : asked_in m t ≤ c.region_words = omega (arith, words, request.few_refs, request.few_nums, c.in_range.least_words) in
-        let crowd = full_is_crowded c m (live c m g asking r) g p reached.0 holds.objects (are_fresh c m g asking r) reached.1 t inside
+        let held = held_ones c g r.no_more_pins in
+        let pinned = pinned_ones c g r.no_more_pins in
+        let crowd = full_is_crowded c m (live c m g asking r) g p reached.0 held.0 pinned.0 holds.objects holds.rooted (are_fresh c m g asking r) reached.1 held.1 pinned.1 t inside
         (waits_for m g.count t refs nums request) short is_one in
-        let product : c.regions * (c.region_words - asked_in m t + 1) ≡ c.regions * (c.region_words - (3 + refs + nums) + 1) = ap (λ (n : ℕ). c.regions * (c.region_words - n + 1)) words in
-        (reached.0, reached.1, omega (arith, crowd, product, sum_others))
+        let product : (c.regions - pinned.0) * (c.region_words - asked_in m t + 1) ≡ (c.regions - pinned.0) * (c.region_words - (3 + refs + nums) + 1) =
+        ap (λ (n : ℕ). (c.regions - pinned.0) * (c.region_words - n + 1)) words in
+        (reached.0, held.0, pinned.0, reached.1, held.1, pinned.1, omega (arith, crowd, product, sum_others))
       where
         same_words : after (Wait t) ≡ m (Wait t) → asked_in m t ≡ asked_in after t
         same_words same = ap (λ k. cond (k == 0) 0 (object_words (request_shape_in k))) (sym same)

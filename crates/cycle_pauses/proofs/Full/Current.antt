@@ -2,7 +2,7 @@
 -- promised objects.
 use Rattle.std.proofs.Common.{◌≡◌, ◌≢◌, ℕ, ◌+◌, ◌%◌, ◌<◌, get_or, slice_get, Some, None, ⊎_elim, sym, ap, ◌∙◌, subst, arith}
 use Rattle.std.proofs.lemmas.Bool.{cond-true, eq-eqb}
-use Rattle.std.proofs.lemmas.Option.{same_Some, slice_get-get_or}
+use Rattle.std.proofs.lemmas.Option.{same_Some, none-some, slice_get-get_or}
 use Rattle.heap_words.specs.declared.config.Config.{Config}
 use Rattle.heap_words.specs.Words.{Word, Cset, Top, Root, Heap}
 use Rattle.heap_words.specs.Encoding.{plain_header, header_word, is_forwarded, forwardee_in, refs_in}
@@ -15,14 +15,14 @@ use Rattle.heap_world.specs.Asking.{Asking}
 use Rattle.heap_world.specs.Represents.{RepresentsByCopies}
 use Rattle.heap_world.proofs.Pointing.{named_body, named_piece, named_if_not_0, copy_cases}
 use Rattle.full_words.specs.Held.{IsLedTo, from_root, from_field, IsAmong, IsCopy, HoldsGraph}
-use Rattle.full_words.specs.Full.{now_in, root_words}
+use Rattle.full_words.specs.Full.{now_in, held_words}
 use Rattle.full_words.specs.Promised.{Promises, with_promised}
 use Rattle.full_words.proofs.Reached.{named_object, refs_read}
 use Rattle.full_words.proofs.Roots.{root_named, root_held}
 use Rattle.full_words.proofs.ImagesStand.{own_copy}
 use Rattle.cycle_pauses.proofs.Full.Promises.{promises_of}
 use Rattle.cycle_pauses.proofs.Full.Mapped.{mapped_from}
-use Rattle.cycle_pauses.proofs.Full.Before.{as_current, as_object, OnlyFills, fills_still, fills_unnamed, live, live_at, pieces_are, names_stay, promised_at, object_at, once_each, live_rooted, live_plotted}
+use Rattle.cycle_pauses.proofs.Full.Before.{as_current, as_object, OnlyFills, fills_still, fills_unnamed, live, live_at, pieces_are, names_stay, promised_at, object_at, once_each, pinned_thing, live_rooted, live_plotted}
 
 -- where a header leads to an address, the current copy is there
 pub led_to : (memory : Word → ℕ) (a to : ℕ) → memory (Heap a) ≡ header_word to → now_in memory a ≡ to
@@ -41,7 +41,7 @@ module _ (c : Config) (m : Word → ℕ) (g : Graph) (asking : ℕ → Asking) (
   old = live c m g asking r
 
   abbrev IsRoot : ℕ → Type 0
-  IsRoot = IsAmong (root_words c m)
+  IsRoot = IsAmong (held_words c m)
 
   abbrev Current : ℕ → Type 0
   Current = IsMarkable r.block
@@ -154,6 +154,7 @@ module _ (c : Config) (m : Word → ℕ) (g : Graph) (asking : ℕ → Asking) (
         once_each c m g asking r a b refs nums more_refs more_nums name (held_current a held_a) (held_current b held_b) is_a is_b;
     root_named = root_named c (λ q. m (Top q)) m old g p (live_plotted c m g asking r) (live_rooted c m g asking r);
     root_held = root_held c (λ q. m (Top q)) m old g p (live_plotted c m g asking r) (live_rooted c m g asking r);
+    pinless = λ t slot held is. none-some held is;
   }
 
   -- what stands for an object has a current copy
@@ -172,6 +173,7 @@ module _ (c : Config) (m : Word → ℕ) (g : Graph) (asking : ℕ → Asking) (
       let points : name_at (r.block (m (Root at.0 i))) ≡ Some n =
       subst (Points r.block (m (Root at.0 i))) (ap (λ k. g.root k i) (sym at.2) ∙ is) (r.roots at.0 i at.1 at.3) in
       has_current (m (Root at.0 i)) n points
+  reached_at _ (reach.from_pin t slot held is) = let at = pinned_thing c m g asking r t slot held is in (held.place, at.refs, at.nums, at.here)
   reached_at n (reach.from_field k _ field reached is) =
       let at = reached_at k reached in
       let o = r.shared.contents.objects.each at.0 at.1 at.2 k at.3 in

@@ -20,7 +20,7 @@ use Rattle.heap_world.specs.Represents.{RepresentsByCopies}
 use Rattle.full_words.specs.Full.{now_in}
 use Rattle.full_words.specs.Promised.{Promises, AreFresh}
 use Rattle.full_words.specs.Serving.{asked_shape, asked_name, IsAsking}
-use Rattle.image_graph.specs.Holds.{HasMoved, HoldsBy, HoldsSome, AreSized, HasObject}
+use Rattle.image_graph.specs.Holds.{HasMoved, HoldsBy, HoldsSome, HoldsSized, AreSized, HasObject}
 use Rattle.cycle_words.specs.Marking.Marks.{IsKept}
 use Rattle.cycle_words.specs.StillHolds.{AreMarkedObjects, WhileCollecting}
 use Rattle.cycle_pauses.proofs.Full.Promises.{promised_ref, promises_of, ref_of, promised_one}
@@ -194,6 +194,9 @@ module _ (c : Config) (m : Word → ℕ) (g : Graph) (asking : ℕ → Asking) (
     fillers = λ a words is. were_sized.fillers a words (live_filler c m g asking r a words is);
   }
 
+  pub holds_sized : HoldsSized c m
+  holds_sized = ∣ (g, live c m g asking r, r.ghost.owner, p, holds_by, are_sized) ∣₁
+
   -- what is marked in the collection set are objects
   pub are_marked : AreMarkedObjects c m (live c m g asking r)
   are_marked a collected black = ⊎_elim
@@ -263,7 +266,7 @@ module _ (c : Config) (m : Word → ℕ) (g : Graph) (asking : ℕ → Asking) (
     floors = λ some. r.shared.evacuated.kept.floors (high_phase some);
     young = λ some a seat x is room. r.shared.evacuated.kept.young (high_phase some) a seat x (live_room c m g asking r a seat x is room) room;
     unseated = λ seat q ends member. r.shared.owned.outside seat ends.0 (subst (IsIn (m Cset)) (sym (regions_tile.of_no_other c q (end_in (m (Current seat)) - 1) ends.1)) member);
-    outside = λ off a reached. outside_of off a (held_current c m g asking r a reached);
+    outside = λ off a reached member. absurd (outside_of off a (held_current c m g asking r a reached) member);
   }
 
 pub representing_is_sized : RepresentingIsSized

@@ -16,7 +16,7 @@ use Rattle.heap_words.proofs.Stores.{is_word_true, view_word, view_none}
 use Rattle.heap_world.specs.Change.{image_words, image_view}
 use Rattle.shen_graph.specs.Graph.{Graph}
 use Rattle.full_words.specs.Held.{IsAmong}
-use Rattle.full_words.specs.Full.{now_in, root_words, kept_in, packed, made_in, refused, full_from, full}
+use Rattle.full_words.specs.Full.{now_in, held_words, kept_in, packed, made_in, refused, full_from, full}
 use Rattle.full_words.specs.Promised.{with_promised}
 use Rattle.full_words.proofs.Reached.{can_pack}
 use Rattle.full_words.proofs.Origin.{kept_inside, lie_apart}
@@ -108,7 +108,7 @@ full_from_zero c m g holds nothing =
     let block = holds.0 in
     let p = holds.2 in
     let objects = holds.3.objects in
-    let can = can_pack c (λ r. m (Top r)) (λ a. m (Heap a)) block (now_in m) (IsAmong (root_words c m)) (with_promised g p) objects (kept_in c m) (walk_keeps c m block (with_promised g p) objects) in
+    let can = can_pack c (λ r. m (Top r)) (λ a. m (Heap a)) block (now_in m) (IsAmong (held_words c m)) (with_promised g p) objects (kept_in c m) (walk_keeps c m block (with_promised g p) objects) in
     full_outside c m (lie_apart c (λ r. m (Top r)) (λ a. m (Heap a)) block (with_promised g p).object (now_in m) (kept_in c m) can)
     (λ a some. (kept_inside c (λ r. m (Top r)) (λ a. m (Heap a)) block (with_promised g p).object (now_in m) (kept_in c m) can a some).1) nothing
 

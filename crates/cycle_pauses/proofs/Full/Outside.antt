@@ -1,22 +1,24 @@
 -- Where a memory reads 0 at all that is no word of the table, so does what a full collection makes of it.
-use Rattle.std.proofs.Common.{◌≡◌, ◌≢◌, ℕ, ◌+◌, ◌-◌, ◌*◌, ◌/◌, ◌<◌, ◌≤◌, ◌⊎◌, ◌==◌, inl, inr, true, false, zero, suc, cond, nat_le, nat_lt, Option, Some, None, ⊎_elim, refl, sym, ap, ◌∙◌, arith}
-use Rattle.std.proofs.lemmas.Bool.{cond-true, cond-false, cases_lt, cases_eq, eq-eqb, ne_eqb, true≢false}
+use Rattle.std.proofs.Common.{◌≡◌, ◌≢◌, ℕ, ◌+◌, ◌-◌, ◌*◌, ◌/◌, ◌%◌, ◌<◌, ◌≤◌, ◌⊎◌, ◌==◌, ◌&&◌, inl, inr, Bool, true, false, zero, suc, cond, nat_le, nat_lt, Option, Some, None, ⊎_elim, refl, sym, ap, ◌∙◌, arith}
+use Rattle.std.proofs.lemmas.Bool.{cond-true, cond-false, cases_lt, cases_eq, eq-eqb, ne_eqb, and_left, and_right, lt-leb, le-ltb, true≢false}
 use Rattle.std.proofs.lemmas.Bool.Decides.{nat_tests}
+use Rattle.std.proofs.lemmas.Nat.{div-add-mod', mod_below}
 use Rattle.std.proofs.Math.Nat.{mul-le-mul_right}
 use Rattle.heap_words.specs.declared.config.Config.{Config}
-use Rattle.heap_words.specs.Words.{Word, State, Top, Tams, Limit, Current, Root, Count, Buffer, Wait, Answer, Grey, Black, Heap, is_word}
-use Rattle.heap_words.specs.Encoding.{object_words, name_code, request_count_in, request_shape_in}
-use Rattle.regions.specs.Place.{base_of}
-use Rattle.packing.specs.Places.{new_place, LieApart}
+use Rattle.heap_words.specs.Words.{Word, State, Top, Tams, Limit, Current, Root, Pin, Count, Buffer, Wait, Answer, Grey, Black, Heap, is_word}
+use Rattle.heap_words.specs.Encoding.{filler_header, object_words, name_code, request_count_in, request_shape_in}
+use Rattle.regions.specs.Place.{base_of, region_with}
+use Rattle.packing.specs.Places.{open_kept, LieApart}
 use Rattle.packing.specs.Tops.{words_in}
-use Rattle.packing.proofs.Placed.{moves_down, stays_above}
+use Rattle.packing.proofs.Placed.{is_open, moves_down, stays_above}
 use Rattle.packing.proofs.Sums.{sum_of_none}
 use Rattle.packing.proofs.Tops.{added, place_in_range}
 use Rattle.packing.proofs.Rooms.{has_room}
 use Rattle.packing.specs.Slide.{renewed, is_covered, slid_word, slid}
 use Rattle.packing.proofs.Slid.{slid_next, slid_none, covered_here}
 use Rattle.full_words.specs.Plot.{heap_end, packed_top}
-use Rattle.full_words.specs.Full.{packed_in, now_in, kept_in, packed, made_in, served_in, room_for, served, refused, full_from}
+use Rattle.full_words.specs.Pinned.{is_row_pinned, object_of, is_in_use, begins}
+use Rattle.full_words.specs.Full.{packed_in, now_in, kept_in, place_in, is_unkept, moved_heap, packed, made_in, served_in, room_for, served, refused, full_from}
 use Rattle.full_words.proofs.Made.{outside_fresh}
 use Rattle.full_words.proofs.Served.{served_first, turn_idle, turn_waits}
 
@@ -25,7 +27,7 @@ abbrev pub IsZeroOutside : Config → (Word → ℕ) → Type 0
 IsZeroOutside c m = (word : Word) → is_word c word ≡ false → m word ≡ 0
 
 -- an address that is no word lies below the heap or behind it
-outside_heap : (c : Config) (x : ℕ) → is_word c (Heap x) ≡ false → (x < c.region_words) ⊎ (heap_end c ≤ x)
+pub outside_heap : (c : Config) (x : ℕ) → is_word c (Heap x) ≡ false → (x < c.region_words) ⊎ (heap_end c ≤ x)
 outside_heap c x other = ⊎_elim
     (λ (low : x < c.region_words). inl low)
     (λ not_low. ⊎_elim
@@ -36,41 +38,80 @@ outside_heap c x other = ⊎_elim
     (cases_lt x (heap_end c)))
     (cases_lt x c.region_words)
 
-module _ (c : Config) (m : Word → ℕ) (kept renew : ℕ → ℕ) (lie : LieApart c.region_words kept) (inside : (a : ℕ) → 0 < kept a → a + kept a ≤ heap_end c) where
+-- no object begins there
+pub none_begins : (c : Config) (m : Word → ℕ) (x : ℕ) → (x < c.region_words) ⊎ (heap_end c ≤ x) → begins c m x ≡ false
+none_begins c m x out =
+    let below_top : Bool = nat_lt (x - base_of c (region_with c x)) (m (Top (region_with c x))) in
+    let in_region : Bool = nat_lt (region_with c x) c.regions && below_top in
+    and_left (is_in_use c m x) (object_of c m x == x) (⊎_elim
+    (λ (low : x < c.region_words). and_left (nat_le c.region_words x) in_region (lt-leb c.region_words x low))
+    (λ (past : heap_end c ≤ x). and_right (nat_le c.region_words x) in_region (and_left (nat_lt (region_with c x) c.regions) below_top (le-ltb (region_with c x) c.regions (far past))))
+    out)
+  where
+    far : heap_end c ≤ x → c.regions ≤ region_with c x
+    far past = ⊎_elim
+        (λ (few : region_with c x < c.regions).
+        let long = c.in_range.least_words in
+        let split : x / c.region_words * c.region_words + x % c.region_words ≡ x = div-add-mod' x c.region_words in
+        let rest : x % c.region_words < c.region_words = mod_below x c.region_words (omega (arith, long)) in
+        let rows : x / c.region_words * c.region_words ≤ c.regions * c.region_words = mul-le-mul_right c.region_words (omega (arith, few)) in
+        absurd (omega (arith, split, rest, rows, past)))
+        (λ (past_all : c.regions ≤ region_with c x). past_all)
+        (cases_lt (region_with c x) c.regions)
+
+-- one of two that are 0
+either_zero : (b : Bool) (x y : ℕ) → x ≡ 0 → y ≡ 0 → cond b x y ≡ 0
+either_zero true x y one other = one
+either_zero false x y one other = other
+
+module _ (c : Config) (m : Word → ℕ) (shut : ℕ → Bool) (kept renew : ℕ → ℕ) (lie : LieApart c.region_words kept) (inside : (a : ℕ) → 0 < kept a → a + kept a ≤ heap_end c) where
+  abbrev place : ℕ → ℕ
+  place = place_in c shut kept
+
   -- nothing is slid there
-  slid_outside : (before : ℕ → ℕ) (e x : ℕ) → (x < c.region_words) ⊎ (heap_end c ≤ x) → slid c.region_words kept renew before e x ≡ before x
-  slid_outside before zero x out = slid_none c.region_words kept renew before x
+  slid_outside : (before : ℕ → ℕ) (e x : ℕ) → (x < c.region_words) ⊎ (heap_end c ≤ x) → slid place kept renew before e x ≡ before x
+  slid_outside before zero x out = slid_none place kept renew before x
   slid_outside before (suc e) x out =
       let rest = slid_outside before e x out in
-      let next = slid_next c.region_words kept renew before e x in
+      let next = slid_next place kept renew before e x in
       ⊎_elim
-      (λ (here : (is_covered c.region_words kept e x ≡ true) × (new_place c.region_words kept e ≤ x) × (x < new_place c.region_words kept e + kept e)).
+      (λ (here : (is_covered place kept e x ≡ true) × (place e ≤ x) × (x < place e + kept e)).
       let some : 0 < kept e = omega (arith, here.1, here.2) in
-      let down = moves_down c.region_words kept lie e some in
+      let down = moves_down c.region_words shut kept lie e some in
       absurd (⊎_elim
-      (λ (low : x < c.region_words). omega (arith, low, here.1, stays_above c.region_words kept lie e))
+      (λ (low : x < c.region_words). omega (arith, low, here.1, stays_above c.region_words shut kept lie e some))
       (λ (past : heap_end c ≤ x). omega (arith, past, here.2, down, inside e some))
       out))
-      (λ (other : (is_covered c.region_words kept e x ≡ false) × ((x < new_place c.region_words kept e) ⊎ (new_place c.region_words kept e + kept e ≤ x))).
-      next ∙ cond-false (is_covered c.region_words kept e x) (slid_word renew before e (x - new_place c.region_words kept e)) (slid c.region_words kept renew before e x) other.0 ∙ rest)
-      (covered_here c.region_words kept e x)
+      (λ (other : (is_covered place kept e x ≡ false) × ((x < place e) ⊎ (place e + kept e ≤ x))).
+      next ∙ cond-false (is_covered place kept e x) (slid_word renew before e (x - place e)) (slid place kept renew before e x) other.0 ∙ rest)
+      (covered_here place kept e x)
 
   -- no region that is none has a top
-  top_outside : (r : ℕ) → c.regions ≤ r → packed_top c kept r ≡ 0
-  top_outside r past = sum_of_none (words_in c.region_words kept r) (heap_end c) (λ a below. ⊎_elim
-      (λ (none : words_in c.region_words kept r a ≡ 0). none)
-      (λ (there : (0 < kept a) × (new_place c.region_words kept a / c.region_words ≡ r + 1)).
-      absurd (let few = place_in_range c.region_words kept lie c.regions a there.0 below in let here = there.1 in omega (arith, few, here, past)))
-      (added c.region_words kept lie r a))
+  top_outside : (r : ℕ) → c.regions ≤ r → packed_top c shut kept r ≡ 0
+  top_outside r past = sum_of_none (words_in c.region_words shut kept r) (heap_end c) (λ a below. ⊎_elim
+      (λ (none : words_in c.region_words shut kept r a ≡ 0). none)
+      (λ (there : (0 < open_kept c.region_words shut kept a) × (place a / c.region_words ≡ r + 1)).
+      absurd (let few = place_in_range c.region_words shut kept lie c.regions a (is_open c.region_words shut kept a there.0).0 below in let here = there.1 in omega (arith, few, here, past)))
+      (added c.region_words shut kept lie r a))
+
+  -- nor is the heap there
+  heap_outside : (x : ℕ) → (x < c.region_words) ⊎ (heap_end c ≤ x) → renew ≡ renewed place (now_in m) → m (Heap x) ≡ 0 → packed c shut (now_in m) kept m (Heap x) ≡ 0
+  unfolding packed moved_heap
+  heap_outside x out same zero' =
+      cond-false (shut (region_with c x + 1) && (begins c m x && is_unkept kept m x)) (filler_header (object_words (m (Heap (x + 1))))) (slid place kept (renewed place (now_in m)) (λ y. m (Heap y)) (heap_end c) x)
+      (and_right (shut (region_with c x + 1)) _ (and_left (begins c m x) (is_unkept kept m x) (none_begins c m x out)))
+      ∙ ap (λ f. slid place kept f (λ y. m (Heap y)) (heap_end c) x) (sym same) ∙ slid_outside (λ y. m (Heap y)) (heap_end c) x out ∙ zero'
 
 packed_outside : (c : Config) (m : Word → ℕ) → LieApart c.region_words (kept_in c m) → ((a : ℕ) → 0 < kept_in c m a → a + kept_in c m a ≤ heap_end c) → IsZeroOutside c m → IsZeroOutside c (packed_in c m)
 unfolding packed
 packed_outside c m lie inside zero' (Heap a) other =
-    slid_outside c m (kept_in c m) (renewed c.region_words (now_in m) (kept_in c m)) lie inside (λ x. m (Heap x)) (heap_end c) a (outside_heap c a other) ∙ zero' (Heap a) other
-packed_outside c m lie inside zero' (Root t i) other = ap (renewed c.region_words (now_in m) (kept_in c m)) (zero' (Root t i) other)
-packed_outside c m lie inside zero' (Answer t) other = ap (λ word. cond (nat_le word 1) word (new_place c.region_words (kept_in c m) (now_in m word))) (zero' (Answer t) other)
+    heap_outside c m (is_row_pinned c m) (kept_in c m) (renewed (place_in c (is_row_pinned c m) (kept_in c m)) (now_in m)) lie inside a (outside_heap c a other) refl (zero' (Heap a) other)
+packed_outside c m lie inside zero' (Root t i) other = ap (renewed (place_in c (is_row_pinned c m) (kept_in c m)) (now_in m)) (zero' (Root t i) other)
+packed_outside c m lie inside zero' (Pin t i) other = zero' (Pin t i) other
+packed_outside c m lie inside zero' (Answer t) other = ap (λ word. cond (nat_le word 1) word (place_in c (is_row_pinned c m) (kept_in c m) (now_in m word))) (zero' (Answer t) other)
 packed_outside c m lie inside zero' (Top r) other =
-    top_outside c m (kept_in c m) (renewed c.region_words (now_in m) (kept_in c m)) lie inside r (not_below r other)
+    either_zero (is_row_pinned c m (r + 1)) (m (Top r)) (packed_top c (is_row_pinned c m) (kept_in c m) r) (zero' (Top r) other)
+    (top_outside c m (is_row_pinned c m) (kept_in c m) (renewed (place_in c (is_row_pinned c m) (kept_in c m)) (now_in m)) lie inside r (not_below r other))
   where
     not_below : (s : ℕ) → nat_lt s c.regions ≡ false → c.regions ≤ s
     not_below s test = grind (arith, nat_tests)
@@ -116,6 +157,7 @@ made_outside c m t r inside within room zero' (Wait u) other =
 made_outside c m t r inside within room zero' (State s) other = zero' (State s) other
 made_outside c m t r inside within room zero' (Buffer u i) other = zero' (Buffer u i) other
 made_outside c m t r inside within room zero' (Root u i) other = zero' (Root u i) other
+made_outside c m t r inside within room zero' (Pin u i) other = zero' (Pin u i) other
 made_outside c m t r inside within room zero' (Tams q) other = zero' (Tams q) other
 made_outside c m t r inside within room zero' (Limit q) other = zero' (Limit q) other
 made_outside c m t r inside within room zero' (Current s) other = zero' (Current s) other

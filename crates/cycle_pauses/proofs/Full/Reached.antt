@@ -1,13 +1,14 @@
 -- The names that a graph reaches, as a list in their order: those of the pieces that the words of an image hold.
-use Rattle.std.proofs.Common.{◌≡◌, ◌≢◌, ℕ, ◌+◌, ◌==◌, ◌⊎◌, inl, inr, true, nat_eq, slice_get, List, [], ◌∷◌, Option, Some, None, ⊎_elim, refl, sym, ap, ◌∙◌, subst, arith}
+use Rattle.std.proofs.Common.{◌≡◌, ℕ, ◌+◌, ◌⊎◌, inl, inr, true, nat_eq, slice_get, List, [], ◌∷◌, Option, Some, None, ⊎_elim, refl, sym, ap, ◌∙◌, subst, arith}
 use Rattle.std.specs.Prelude.{Contains}
-use Rattle.std.proofs.lemmas.Bool.{cond-false, or_cases, or_left, or_right, eqb-true, eq-eqb, ne_eqb, false≢true}
+use Rattle.std.proofs.lemmas.Bool.{or_cases, or_left, or_right, eqb-true, eq-eqb, false≢true}
 use Rattle.std.proofs.lemmas.List.Elements.{Contains-append_right}
 use Rattle.std.proofs.lemmas.Option.{none-some, same_Some}
 use Rattle.heap_words.specs.declared.config.Config.{Config}
 use Rattle.heap_words.specs.Words.{Word, Top, Heap}
 use Rattle.shen_graph.specs.declared.name.Name.{Name}
 use Rattle.shen_graph.specs.Graph.{Graph, Object, fresh}
+use Rattle.shen_graph.specs.Step.{name_in}
 use Rattle.shen_graph.specs.Reach.{IsReachable, IsReach}
 use Rattle.shen_graph.specs.Reach as reach
 use Rattle.shen_graph.proofs.ReachLemmas.{Contains-cons_cases, Contains-nil}
@@ -16,14 +17,15 @@ use Rattle.heap_world.specs.World.{thing, promised, Plot, name_at}
 use Rattle.heap_world.specs.Asking.{Asking}
 use Rattle.heap_world.specs.Represents.{RepresentsByCopies}
 use Rattle.full_words.specs.Held.{IsLedTo, IsAmong, HoldsGraph}
-use Rattle.full_words.specs.Full.{now_in, root_words, held_in}
+use Rattle.full_words.specs.Full.{now_in, held_words, held_in}
 use Rattle.full_words.specs.Promised.{Promises, with_promised}
 use Rattle.full_words.proofs.Reached.{held_is_reached, reached_is_held}
 use Rattle.full_words.proofs.Walked.{found_is_held, held_is_found}
 use Rattle.full_words.proofs.Promised.{old_object, reaches_promised}
+use Rattle.full_words.proofs.Rooted.{plain_root, pin_root}
 use Rattle.cycle_pauses.proofs.Full.Sorted.{sorted_names}
 use Rattle.cycle_pauses.proofs.Full.Promises.{promises_of, promised_one}
-use Rattle.cycle_pauses.proofs.Full.Before.{live, live_rooted, names_stay, current_kind, names_differ}
+use Rattle.cycle_pauses.proofs.Full.Before.{live, live_rooted, names_stay, current_kind, names_differ, slot_of}
 use Rattle.cycle_pauses.proofs.Full.Current.{held_current, live_holds, has_current, reached_at}
 use Rattle.cycle_pauses.proofs.Full.Holding.{are_fresh}
 
@@ -76,17 +78,19 @@ module _ (c : Config) (m : Word → ℕ) (g : Graph) (asking : ℕ → Asking) (
   heap a = m (Heap a)
 
   abbrev IsRoot : ℕ → Type 0
-  IsRoot = IsAmong (root_words c m)
+  IsRoot = IsAmong (held_words c m)
 
   holds : HoldsGraph c (λ s. m (Top s)) heap block (now_in m) IsRoot more
   holds = live_holds c m g asking r
 
-  -- the larger graph reaches what the graph does
+  -- the larger graph reaches what the graph does, for its roots and what its slots hold are roots there
   reach_more : (n : Name) → IsReachable g n → IsReachable more n
   reach_more n (reach.from_root t i _ is) =
       let at = (live_rooted c m g asking r).no_more_roots t i n is in
-      let few : i ≢ 16 = omega (arith, at.3) in
-      reach.from_root t i n (cond-false (i == 16) (p.ref t) (g.root t i) (ne_eqb i 16 few) ∙ is)
+      reach.from_root t i n (plain_root g p t i at.3 ∙ is)
+  reach_more _ (reach.from_pin t slot held is) =
+      let at = slot_of c m g asking r t slot held is in
+      reach.from_root t (17 + slot) held.name (pin_root g p t slot at.few ∙ ap name_in is)
   reach_more n (reach.from_field k _ field reached is) =
       reach.from_field k n field (reach_more k reached)
       (ap (λ (o : Object). slice_get o.refs field) (old_object c.mutators g p (are_fresh c m g asking r) k reached) ∙ is)

@@ -1,12 +1,13 @@
 -- The beginning of marking, once buffers are settled: the words represent the same graph, and the snapshot is what can be reached.
-use Rattle.std.proofs.Common.{◌≡◌, ◌≢◌, ℕ, ◌+◌, ◌<◌, ◌≤◌, Bool, true, Some, None, refl, sym, ap, ◌∙◌, subst, arith}
+use Rattle.std.proofs.Common.{◌≡◌, ◌≢◌, ℕ, ◌+◌, ◌<◌, ◌≤◌, Bool, true, Option, Some, None, refl, sym, ap, ◌∙◌, subst, arith}
 use Rattle.heap_words.specs.declared.config.Config.{Config}
-use Rattle.heap_words.specs.Words.{Word, Phase, Cset, Free, Evac, Top, Current, Tams, Root, Count, Buffer, Answer, Grey, Black, Heap}
+use Rattle.heap_words.specs.Words.{Word, Phase, Cset, Free, Evac, Top, Current, Tams, Root, Pin, Count, Buffer, Answer, Grey, Black, Heap}
 use Rattle.heap_words.specs.Encoding.{refs_in, object_words}
 use Rattle.shen_graph.specs.declared.name.Name.{Name}
+use Rattle.shen_graph.specs.declared.pin.Pinned.{Pinned}
 use Rattle.shen_graph.specs.Graph.{Graph, Object, Reference}
 use Rattle.heap_graph.specs.Walk.{has}
-use Rattle.heap_world.specs.World.{Block, moved, hand, promised, dead, carved, words_of, room_of, Plot, Snapshot, Ghost, name_at, Points, IsThing, AreObjects, AreUnwritten, IsMarkable, IsLed, KeepsSnapshot, IsEvacuating, IsUsable, AreUsable}
+use Rattle.heap_world.specs.World.{Block, thing, moved, hand, promised, dead, carved, words_of, room_of, Plot, Snapshot, Ghost, name_at, Points, PinStands, IsThing, AreObjects, AreUnwritten, IsMarkable, IsLed, KeepsSnapshot, IsEvacuating, IsUsable, AreUsable}
 use Rattle.heap_world.specs.Asking.{Asking, asks, given, IsAsked}
 use Rattle.heap_world.specs.Represents.{Represents, RepresentsByCopies}
 use Rattle.heap_world.proofs.Keeping.{usable_now}
@@ -15,10 +16,10 @@ use Rattle.buffer_words.specs.Edge.{edge}
 use Rattle.buffer_pauses.specs.Divided.{AreDivided}
 use Rattle.full_words.proofs.Buffers.{SameRoom, rooms_stay, buffers_stay}
 use Rattle.full_words.specs.Held.{IsAmong}
-use Rattle.full_words.specs.Full.{root_words, held_in}
+use Rattle.full_words.specs.Full.{held_words, held_in}
 use Rattle.full_words.specs.Promised.{Promises}
 use Rattle.full_words.proofs.Reached.{none_at_0, refs_read, words_read}
-use Rattle.full_words.proofs.Roots.{root_among, answer_among}
+use Rattle.full_words.proofs.Roots.{root_among, answer_among, pin_among}
 use Rattle.image_graph.specs.Holds.{HoldsBy}
 use Rattle.cycle_pauses.proofs.Full.ByCopies.{by_copies}
 use Rattle.cycle_pauses.proofs.Full.Promises.{promises_of}
@@ -75,7 +76,7 @@ module _ (c : Config) (m : Word → ℕ) (g : Graph) (asking : ℕ → Asking) (
   holds = holds_by c m g asking copies
 
   -- what a root word names, or a field of what can be reached, can be reached
-  root_led : (word : ℕ) → IsAmong (root_words c m) word → word ≢ 0 → CanBeReached c m word
+  root_led : (word : ℕ) → IsAmong (held_words c m) word → word ≢ 0 → CanBeReached c m word
   root_led word is some = root_reached c m before r.ghost.owner p g holds calm word is some
 
   field_led : (a i : ℕ) → CanBeReached c m a → i < refs_in (heap (a + 1)) → heap (a + 3 + i) ≢ 0 → CanBeReached c m (heap (a + 3 + i))
@@ -178,14 +179,14 @@ module _ (c : Config) (m : Word → ℕ) (g : Graph) (asking : ℕ → Asking) (
       let asked : IsAsked m r.block g.count seat (given at.refs at.nums) = subst (λ x. IsAsked m r.block g.count seat x) at.is_given (r.asked seat at.inside) in
       let same : a ≡ m (Answer seat) = asked.2.only a words is in
       let among = answer_among c top m before g p holds.objects.plotted holds.rooted seat at.inside asked.1 in
-      is_first c m plot a (piece_above c m g asking r calm a (promised seat words) is) (ap (has (root_words c m)) same ∙ among)
+      is_first c m plot a (piece_above c m g asking r calm a (promised seat words) is) (ap (has (held_words c m)) same ∙ among)
 
   -- what can be reached can still be marked
   markable_again : (a : ℕ) → CanBeReached c m a → IsMarkable r.block a → IsMarkable plot a
   markable_again a held (IsMarkable.object name refs nums is) = IsMarkable.object name refs nums (thing_stays found r.block a refs nums name (held_found c m g asking copies a held) is)
   markable_again a held (IsMarkable.to_come seat words is) = IsMarkable.to_come seat words (promised_stays found r.block a seat words is)
 
-  root_markable : (a : ℕ) → IsAmong (root_words c m) a → a ≢ 0 → IsMarkable plot a
+  root_markable : (a : ℕ) → IsAmong (held_words c m) a → a ≢ 0 → IsMarkable plot a
   root_markable a among some = (let held = root_led a among some in markable_again a held (reached_markable c m g asking r calm a held))
 
   marked : KeepsSnapshot c (n Phase) (λ q. n (Grey q)) (λ q. n (Black q)) (λ t. n (Count t)) (λ t k. n (Buffer t k)) (λ q. n (Top q)) (λ q. n (Tams q)) (λ a. n (Heap a)) plot snapshot
@@ -196,6 +197,15 @@ module _ (c : Config) (m : Word → ℕ) (g : Graph) (asking : ℕ → Asking) (
       root_markable
       (λ a seat words is. promise_first a seat words (promised_was found r.block a seat words is))
       divided_again
+
+  -- what slots hold can be reached, and stays
+  pin_again : (word : ℕ) (held : Option Pinned) → IsAmong (held_words c m) word → PinStands c (m Cset) (m Evac) r.block word held → PinStands c (m Cset) (m Evac) plot word held
+  pin_again word None among is = is
+  pin_again word (Some x) among is =
+      let above = piece_above c m g asking r calm word (thing x.name is.1 is.2) is.3.piece in
+      let long = c.in_range.least_words in
+      let led = root_led word among (λ none. omega (arith, none, above, long)) in
+      (is.0, is.1, is.2, record { piece = thing_stays found r.block word is.1 is.2 x.name (held_found c m g asking copies word led) is.3.piece; safe = is.3.safe })
 
   -- what is asked and promised stays
   asked_again : (t : ℕ) → IsAsked m r.block g.count t (asking t) → IsAsked n plot g.count t (asking t)
@@ -243,6 +253,7 @@ module _ (c : Config) (m : Word → ℕ) (g : Graph) (asking : ℕ → Asking) (
           (none_evacuated c 1 0 (m Free) top (edge c m) heap (λ q. 0) plot ghost.owner ghost.copying ghost.working (λ on. omega (arith, on)) still_unmoved
           (λ a words to is. no_spent c m g asking r calm a words to (spent_was found r.block a words to is)) r.uncopying.copies_none));
       updated = λ on. absurd (omega (arith, on));
+      pinned = λ t i inside few. pin_again (m (Pin t i)) (g.pin (t + 1) i) (pin_among c top m before g p holds.objects.plotted holds.rooted t i inside few) (r.shared.pinned t i inside few);
     };
     roots = roots_again;
     usable = roots_usable;
@@ -254,4 +265,5 @@ module _ (c : Config) (m : Word → ℕ) (g : Graph) (asking : ℕ → Asking) (
     unmarking = record { records_none = r.unmarking.records_none; scans_none = r.unmarking.scans_none };
     uncopying = record { copies_none = r.uncopying.copies_none; works_none = r.uncopying.works_none };
     no_more = r.no_more;
+    no_more_pins = r.no_more_pins;
   }

@@ -2,7 +2,7 @@
 use Rattle.std.proofs.Common.{◌≡◌, ◌≢◌, ℕ, ◌+◌, ◌<◌, ◌≤◌, ◌⊎◌, Bool, true, false, Option, Some, None, inl, inr, ⊎_elim, refl, sym, ap, ◌∙◌, arith}
 use Rattle.std.proofs.lemmas.Bool.{cases_Bool, true≢false}
 use Rattle.heap_words.specs.declared.config.Config.{Config}
-use Rattle.heap_words.specs.Words.{Word, Phase, Cset, Free, Top, Tams, Current, Root, Black, Heap, Share}
+use Rattle.heap_words.specs.Words.{Word, Phase, Cset, Free, Evac, Top, Tams, Current, Root, Pin, Black, Heap, Share}
 use Rattle.heap_words.specs.Encoding.{end_in}
 use Rattle.regions.specs.Place.{region_with}
 use Rattle.regions.proofs.PlaceLemmas.{regions_tile}
@@ -13,6 +13,7 @@ use Rattle.heap_world.specs.Asking.{Asking, IsAsked}
 use Rattle.heap_world.specs.Represents.{Represents}
 use Rattle.heap_world.proofs.Pieces.{some_words, object_reads}
 use Rattle.heap_world.proofs.Keeping.{points_stay}
+use Rattle.heap_world.proofs.Pins.{pins_stay}
 use Rattle.heap_world.proofs.Roomless.{only_spares}
 use Rattle.buffer_pauses.proofs.Inside.{buffer_ends}
 use Rattle.full_words.proofs.Buffers.{SameRoom, rooms_stay, buffers_stay}
@@ -225,8 +226,11 @@ module _ (c : Config) (m : Word → ℕ) (g : Graph) (asking : ℕ → Asking) (
     unmarking = record { records_none = r.unmarking.records_none; scans_none = r.unmarking.scans_none };
     uncopying = record { copies_none = r.uncopying.copies_none; works_none = r.uncopying.works_none };
     roots = λ t i inside few. points_stay r.block plot names_stay (m (Root t i)) (g.root (t + 1) i) (r.roots t i inside few);
+    pinned = pins_stay c (m Cset) (m Evac) (m Cset) (m Evac) r.block plot (λ t i. m (Pin t i)) g.pin
+        (λ a refs nums name target. record { piece = thing_stays a refs nums name target.piece; safe = target.safe }) r.shared.pinned;
     asked = λ t inside. asked_again t (r.asked t inside);
     heard = r.heard;
     promised_to = λ a seat words is. r.promised_to a seat words (left a (promised seat words) is).1;
     no_more = r.no_more;
+    no_more_pins = r.no_more_pins;
   }

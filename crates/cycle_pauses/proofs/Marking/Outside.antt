@@ -10,7 +10,7 @@ use Rattle.shen_graph.specs.Graph.{Graph}
 use Rattle.heap_graph.specs.Walk.{has}
 use Rattle.heap_world.specs.World.{Plot}
 use Rattle.full_words.specs.Plot.{heap_end}
-use Rattle.full_words.specs.Full.{root_words}
+use Rattle.full_words.specs.Full.{held_words}
 use Rattle.full_words.specs.Promised.{Promises}
 use Rattle.buffer_words.specs.Settled.{buffers_settled}
 use Rattle.buffer_words.specs.Edge.{edge}
@@ -72,7 +72,7 @@ freed_outside c out m nothing Free other = absurd (true≢false other)
 freed_outside c out m nothing word other = nothing word other
 
 module _ (c : Config) (m : Word → ℕ) (block : Plot) (owner : ℕ → Option ℕ) (p : Promises) (g : Graph) (holds : HoldsBy c m block owner p g) (nothing : IsZeroOutside c m) where
-  root_within : m Cset ≡ 0 → (a : ℕ) → c.region_words ≤ a → has (root_words c m) a ≡ true → a < heap_end c
+  root_within : m Cset ≡ 0 → (a : ℕ) → c.region_words ≤ a → has (held_words c m) a ≡ true → a < heap_end c
   root_within calm a high is =
       let long = c.in_range.least_words in
       let object = reached_object c m block owner p g holds calm a (root_reached c m block owner p g holds calm a is (λ none. omega (arith, none, long, high))) in
@@ -80,7 +80,7 @@ module _ (c : Config) (m : Word → ℕ) (block : Plot) (owner : ℕ → Option 
       omega (arith, at.1)
 
   begun_outside : m Cset ≡ 0 → IsZeroOutside c (marking_begun c m)
-  begun_outside calm (Grey q) other = marks_outside c (has (root_words c m)) (root_within calm) q other
+  begun_outside calm (Grey q) other = marks_outside c (has (held_words c m)) (root_within calm) q other
   begun_outside calm (Black q) other = refl
   begun_outside calm (Tams q) other = edge_zero c m q (nothing (Top q) other)
   begun_outside calm (Count t) other = refl

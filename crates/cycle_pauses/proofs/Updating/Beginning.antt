@@ -4,7 +4,7 @@ use Rattle.std.proofs.Common.{◌≡◌, ℕ, ◌≤◌, true, false, Some, inl,
 use Rattle.std.specs.Int.{bit_at}
 use Rattle.std.proofs.lemmas.Bool.{cond-true, cond-false, cases_Bool, ne_eqb}
 use Rattle.heap_words.specs.declared.config.Config.{Config}
-use Rattle.heap_words.specs.Words.{Word, Phase, Cset, Free, Evac, Claim, Top, Tams, Limit, Root, Count, Buffer, Grey, Black, Heap}
+use Rattle.heap_words.specs.Words.{Word, Phase, Cset, Free, Evac, Claim, Top, Tams, Limit, Root, Pin, Count, Buffer, Grey, Black, Heap}
 use Rattle.regions.specs.Place.{region_with}
 use Rattle.regions.specs.Sets.{IsIn}
 use Rattle.heap_words.specs.Counter.{is_out_of_room}
@@ -14,6 +14,7 @@ use Rattle.heap_world.specs.World.{thing, Ghost, no_snapshot, IsCollected, IsYou
 use Rattle.heap_world.specs.Asking.{Asking}
 use Rattle.heap_world.specs.Represents.{Represents}
 use Rattle.heap_world.proofs.Copies.{counted_none}
+use Rattle.heap_world.proofs.Pins.{pins_stay}
 use Rattle.heap_world.proofs.Unmarked.{none_marked_in}
 use Rattle.heap_world.proofs.Units.{none_is_left}
 use Rattle.heap_words.specs.Ranges.{seat_count}
@@ -106,6 +107,8 @@ module _ (c : Config) (m : Word → ℕ) (g : Graph) (asking : ℕ → Asking) (
           r.ghost.scanning (λ is. omega (arith, is));
       evacuated = still_evacuated;
       updated = λ later. are_updating;
+      pinned = pins_stay c (m Cset) (m Evac) (m Cset) 0 r.block r.block (λ t i. m (Pin t i)) g.pin
+          (λ a refs nums name target. record { piece = target.piece; safe = λ inside. absurd (outside a refs nums name target.piece inside) }) r.shared.pinned;
     };
     roots = r.roots;
     usable = λ t i inside few. usable_still (m (Root t i)) (r.usable t i inside few);
@@ -117,6 +120,7 @@ module _ (c : Config) (m : Word → ℕ) (g : Graph) (asking : ℕ → Asking) (
     unmarking = record { records_none = r.unmarking.records_none; scans_none = r.unmarking.scans_none };
     uncopying = record { copies_none = r.uncopying.copies_none; works_none = r.uncopying.works_none };
     no_more = r.no_more;
+    no_more_pins = r.no_more_pins;
   }
 
 pub updating_begins : UpdatingBegins

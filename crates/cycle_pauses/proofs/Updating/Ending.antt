@@ -2,7 +2,7 @@
 -- graph.
 use Rattle.std.proofs.Common.{◌≡◌, ◌≢◌, ℕ, ◌+◌, ◌-◌, ◌<◌, ◌≤◌, Bool, true, false, Option, Some, None, inl, inr, ⊎_elim, refl, sym, ap, ◌∙◌, subst, arith}
 use Rattle.heap_words.specs.declared.config.Config.{Config}
-use Rattle.heap_words.specs.Words.{Word, Phase, Cset, Free, Evac, Claim, Top, Tams, Current, Root, Count, Buffer, Grey, Black, Heap, Share}
+use Rattle.heap_words.specs.Words.{Word, Phase, Cset, Free, Evac, Claim, Top, Tams, Current, Root, Pin, Count, Buffer, Grey, Black, Heap, Share}
 use Rattle.heap_words.specs.Encoding.{end_in}
 use Rattle.regions.specs.Place.{region_with}
 use Rattle.regions.specs.Sets.{IsIn}
@@ -13,6 +13,7 @@ use Rattle.heap_world.specs.Asking.{Asking}
 use Rattle.heap_world.specs.Represents.{Represents}
 use Rattle.heap_world.proofs.Pieces.{some_words}
 use Rattle.heap_world.proofs.Copies.{none_is_in, none_in_0, none_evacuated}
+use Rattle.heap_world.proofs.Pins.{pins_stay}
 use Rattle.heap_world.proofs.Keeping.{usable_now}
 use Rattle.heap_world.proofs.Unmarked.{none_marked_in}
 use Rattle.heap_world.proofs.Units.{all_is_current}
@@ -28,7 +29,7 @@ use Rattle.cycle_pauses.specs.Updating.Laws.{UpdatingEnds}
 use Rattle.cycle_pauses.proofs.Updating.Freeing.{spared_if, not_in_set, in_set}
 
 -- what no seat has is nobody's
-no_owner : (o : Option ℕ) → ((seat : ℕ) → o ≡ Some seat → ⊥) → o ≡ None
+pub no_owner : (o : Option ℕ) → ((seat : ℕ) → o ≡ Some seat → ⊥) → o ≡ None
 no_owner None none = refl
 no_owner (Some seat) none = absurd (none seat refl)
 
@@ -169,6 +170,8 @@ module _ (c : Config) (m : Word → ℕ) (g : Graph) (asking : ℕ → Asking) (
           (λ is. omega (arith, is));
       evacuated = evacuated_no_more;
       updated = λ later. absurd (omega (arith, later));
+      pinned = pins_stay c (m Cset) (m Evac) 0 (m Evac) r.block plot (λ t i. m (Pin t i)) g.pin
+          (λ a refs nums name target. record { piece = thing_stays a refs nums name target.piece; safe = λ inside. absurd (none_in_0 c a inside) }) r.shared.pinned;
     };
     roots = roots_again;
     usable = λ t i inside few. usable_now c (m Evac) plot no_moved (m (Root t i)) (g.root (t + 1) i) (roots_again t i inside few);
@@ -181,6 +184,7 @@ module _ (c : Config) (m : Word → ℕ) (g : Graph) (asking : ℕ → Asking) (
     unmarking = record { records_none = r.unmarking.records_none; scans_none = r.unmarking.scans_none };
     uncopying = record { copies_none = r.uncopying.copies_none; works_none = r.uncopying.works_none };
     no_more = r.no_more;
+    no_more_pins = r.no_more_pins;
   }
 
 pub updating_ends : UpdatingEnds

@@ -22,11 +22,11 @@ begun_outside c m nothing word other = nothing word other
 pub init_outside : (c : Config) (m : Word → ℕ) → AreInside c m → IsZeroOutside c m → IsZeroOutside c (init_updated c m)
 init_outside c m inside nothing = begun_outside c (buffers_settled c m) (settled_outside c m nothing inside)
 
-ended_outside : (c : Config) (m : Word → ℕ) → IsZeroOutside c m → IsZeroOutside c (cycle_ended m)
-ended_outside c m nothing Phase other = refl
-ended_outside c m nothing Cset other = refl
-ended_outside c m nothing Claim other = refl
-ended_outside c m nothing word other = nothing word other
+pub cycle_outside : (c : Config) (m : Word → ℕ) → IsZeroOutside c m → IsZeroOutside c (cycle_ended m)
+cycle_outside c m nothing Phase other = refl
+cycle_outside c m nothing Cset other = refl
+cycle_outside c m nothing Claim other = refl
+cycle_outside c m nothing word other = nothing word other
 
 pub final_outside : (c : Config) (m : Word → ℕ) → IsZeroOutside c m → IsZeroOutside c (final_updated c m)
-final_outside c m nothing = ended_outside c (freed c (is_chosen m) m) (freed_outside c (is_chosen m) m nothing)
+final_outside c m nothing = cycle_outside c (freed c (is_chosen m) m) (freed_outside c (is_chosen m) m nothing)

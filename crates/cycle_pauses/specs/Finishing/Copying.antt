@@ -4,6 +4,8 @@ use Rattle.heap_words.specs.declared.config.Config.{Config}
 use Rattle.heap_words.specs.Words.{Word, Phase, Cset}
 use Rattle.shen_graph.specs.declared.name.Name.{Name}
 use Rattle.shen_graph.specs.Graph.{Graph}
+use Rattle.regions.specs.Place.{region_with}
+use Rattle.full_words.specs.Pinned.{is_pinned}
 use Rattle.heap_world.specs.World.{thing, IsCollected}
 use Rattle.heap_world.specs.Asking.{Asking}
 use Rattle.heap_world.specs.Represents.{Represents, RepresentsByCopies}
@@ -11,11 +13,11 @@ use Rattle.cycle_words.specs.Evacuation.Copied.{MayChange}
 use Rattle.cycle_words.specs.Finishing.Copies.{CanCopyFrom, all_copied, is_room_for_all}
 
 -- The words stand for the same graph, but that roots may name old copies; where all found room no object has its current copy in the
--- collection set any more; and words that copying does not write stay.
+-- collection set any more, but in pinned regions; and words that copying does not write stay.
 pub record IsCopiedAll (c : Config) (memory : Word → ℕ) (g : Graph) (asking : ℕ → Asking) : Type 0 where
   pub stands : RepresentsByCopies c (all_copied c memory) g asking
   pub none_left : is_room_for_all c memory ≡ true → (a refs nums : ℕ) (name : Name) → stands.block a ≡ Some (thing name refs nums)
-      → IsCollected c (all_copied c memory Cset) a → ⊥
+      → IsCollected c (all_copied c memory Cset) a → is_pinned c memory (region_with c a) ≡ true
   pub same : (word : Word) → (MayChange word → ⊥) → all_copied c memory word ≡ memory word
 
 -- Words that represent a graph do so by copies once all that is left was copied, or what found room.

@@ -9,13 +9,14 @@ use Rattle.heap_world.specs.Represents.{Represents, RepresentsByCopies}
 use Rattle.heap_world.specs.Change.{image_words, image_view, IsPaused, IsPause}
 use Rattle.full_words.specs.Full.{full}
 use Rattle.full_words.specs.Promised.{Promises}
-use Rattle.image_graph.specs.Holds.{HoldsBy, AreSized, HoldsSome}
+use Rattle.image_graph.specs.Holds.{HoldsBy, AreSized, HoldsSome, HoldsSized}
 use Rattle.cycle_words.specs.StillHolds.{WhileCollecting}
 use Rattle.cycle_pauses.specs.Full.Image.{full_image}
 
--- Words that represent a graph, with what mutators have asked for, hold a graph in the sense of the full collection.
+-- Words that represent a graph, with what mutators have asked for, hold a graph in the sense of the full collection, in a way in which
+-- each piece says how many words it has.
 abbrev pub RepresentingHolds : Type 0
-RepresentingHolds = (c : Config) (memory : Word → ℕ) (g : Graph) (asking : ℕ → Asking) → Represents c memory g asking → HoldsSome c memory
+RepresentingHolds = (c : Config) (memory : Word → ℕ) (g : Graph) (asking : ℕ → Asking) → Represents c memory g asking → HoldsSized c memory
 
 -- They do so in a way in which each piece says how many words it has, and what finishing a cycle asks for holds: what the single calls of a
 -- pause ask for where they keep the graph.

@@ -2,14 +2,14 @@
 use Rattle.std.specs.Prelude.{ℕ, ◌≡◌, ◌+◌, ◌<◌, ◌≤◌, ◌⊎◌, Some, None}
 use Rattle.std.specs.Int.{bit_at}
 use Rattle.heap_words.specs.declared.config.Config.{Config}
-use Rattle.heap_words.specs.Words.{Word, Phase, Cset, Evac, Ask, Free, Top, Tams, Current, Root, Black, Heap, Share}
+use Rattle.heap_words.specs.Words.{Word, Phase, Cset, Evac, Ask, Free, Top, Tams, Current, Root, Pin, Black, Heap, Share}
 use Rattle.shen_graph.specs.declared.name.Name.{Name}
 use Rattle.shen_graph.specs.Graph.{Graph}
 use Rattle.regions.specs.Marks.{HasMark}
-use Rattle.heap_world.specs.World.{moved, spent, hand, promised, dead, carved, Plot, Ghost, no_snapshot, Points, IsParsable, HasContents, AreOwned, AreUnwritten, IsMarkable, IsYoung, AreYoungRooms}
+use Rattle.heap_world.specs.World.{moved, spent, hand, promised, dead, carved, Plot, Ghost, no_snapshot, Points, IsParsable, HasContents, AreOwned, PinStands, AreUnwritten, IsMarkable, IsYoung, AreYoungRooms}
 use Rattle.heap_world.specs.Asking.{Asking, asks, IsAsked}
 use Rattle.heap_world.specs.Represents.{NobodyMarks, NobodyCopies}
-use Rattle.heap_world.specs.Roots.{HasNoMore}
+use Rattle.heap_world.specs.Roots.{HasNoMore, HasNoMorePins}
 use Rattle.image_graph.specs.Buffers.{HasNoMoreSeats}
 
 -- no piece is an old copy, in hand or carved: all room is free words of buffers
@@ -46,7 +46,9 @@ pub record IsMarkedOut (c : Config) (memory : Word → ℕ) (block : Plot) (ghos
   pub unmarking : NobodyMarks c ghost
   pub uncopying : NobodyCopies c ghost
   pub roots : (t i : ℕ) → t < c.mutators → i < 16 → Points block (memory (Root t i)) (g.root (t + 1) i)
+  pub pinned : (t i : ℕ) → t < c.mutators → i < 4 → PinStands c (memory Cset) (memory Evac) block (memory (Pin t i)) (g.pin (t + 1) i)
   pub asked : (t : ℕ) → t < c.mutators → IsAsked memory block g.count t (asking t)
   pub heard : (t refs nums : ℕ) → t < c.mutators → asking t ≡ asks refs nums → bit_at (memory Ask) 1 ≡ 1
   pub promised_to : (a seat words : ℕ) → block a ≡ Some (promised seat words) → seat < c.mutators
   pub no_more : HasNoMore c.mutators g
+  pub no_more_pins : HasNoMorePins c.mutators g

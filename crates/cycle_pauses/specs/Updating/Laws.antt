@@ -4,6 +4,7 @@ use Rattle.heap_words.specs.declared.config.Config.{Config}
 use Rattle.heap_words.specs.Words.{Word, Phase, Cset, Evac, Claim}
 use Rattle.regions.specs.Sets.{IsIn}
 use Rattle.heap_words.specs.Counter.{is_out_of_room}
+use Rattle.full_words.specs.Pinned.{is_pinned}
 use Rattle.shen_graph.specs.Graph.{Graph}
 use Rattle.heap_world.specs.Asking.{Asking}
 use Rattle.heap_world.specs.Represents.{Represents}
@@ -25,3 +26,8 @@ UpdatingEnds = (c : Config) (memory : Word → ℕ) (g : Graph) (asking : ℕ �
 pub record SetIsFreed : Type 0 where
   pub chosen_ones : (c : Config) (memory : Word → ℕ) (r : ℕ) → r < c.regions → IsIn (memory Cset) r → IsFreed (final_updated c memory) r
   pub others : (c : Config) (memory : Word → ℕ) (r : ℕ) → r < c.regions → (IsIn (memory Cset) r → ⊥) → IsSpared memory (final_updated c memory) r
+
+-- In phase 3 no region of the collection set is pinned: so after the end of updating none of those that it frees is.
+abbrev pub NoneIsPinned : Type 0
+NoneIsPinned = (c : Config) (memory : Word → ℕ) (g : Graph) (asking : ℕ → Asking) → Represents c memory g asking → memory Phase ≡ 3
+    → (r : ℕ) → r < c.regions → IsIn (memory Cset) r → is_pinned c (final_updated c memory) r ≡ false

@@ -46,7 +46,7 @@ use Rattle.move_steps.specs.Updating.Facts.{CanUpdate}
 use Rattle.move_steps.proofs.Updating.Following.{following_steps}
 use Rattle.mutator.specs.declared.spot.Kept.{Kept}
 use Rattle.mutator.specs.declared.spot.Spot.{Spot}
-use Rattle.mutator.specs.declared.spot.Spot.TheVariants.{Rest, Ended, Entering as Enters, LoadPhase, LoadSet, Loading, OnField, Resolving, Recording, OnNumber, Showing, StoreRoot, Making, AskCycle, Waiting, Leave, Gone}
+use Rattle.mutator.specs.declared.spot.Spot.TheVariants.{Rest, Ended, Entering as Enters, LoadPhase, LoadSet, Loading, OnField, Resolving, Recording, OnNumber, Showing, StoreRoot, Making, AskCycle, Pinning, Waiting, Leave, Gone}
 use Rattle.mutator.specs.declared.loads.LoadSpot.{LoadSpot}
 use Rattle.mutator.specs.declared.loads.LoadSpot.TheVariants as load
 use Rattle.mutator.specs.declared.fields.FieldSpot.{FieldSpot}
@@ -57,10 +57,12 @@ use Rattle.mutator.specs.declared.shows.ShowSpot.{ShowSpot}
 use Rattle.mutator.specs.declared.shows.ShowSpot.TheVariants as show
 use Rattle.mutator.specs.declared.makes.MakeSpot.{MakeSpot}
 use Rattle.mutator.specs.declared.makes.MakeSpot.TheVariants as make
+use Rattle.mutator.specs.declared.pins.PinSpot.{PinSpot}
+use Rattle.mutator.specs.declared.pins.PinSpot.TheVariants as pins
 use Rattle.mutator.specs.declared.waits.WaitSpot.{WaitSpot}
 use Rattle.mutator.specs.declared.waits.WaitSpot.TheVariants as wait
 use Rattle.mutator.specs.Commands.{index_of}
-use Rattle.mutator.specs.Rows.{load_touch, field_place, field_touch, number_place, number_touch, show_touch, make_touch, first_touch, touch_at, touch_of, place_at}
+use Rattle.mutator.specs.Rows.{load_touch, field_place, field_touch, number_place, number_touch, show_touch, make_touch, pin_touch, first_touch, touch_at, touch_of, place_at}
 use Rattle.mutator.specs.WaitRows.{wait_touch}
 use Rattle.unit_part.specs.declared.spot.UnitSpot.{UnitSpot}
 use Rattle.unit_part.specs.declared.spot.UnitSpot.TheVariants as unit
@@ -302,6 +304,10 @@ module _ (c : Config) (w : World) (shared : Shared c w) where
   wait_writes seat made command (wait.StoreRoot address) Work = Writes.elsewhere refl
   wait_writes seat made command (wait.ClearAnswer reply) Work = Writes.elsewhere refl
 
+  pin_writes : (seat value : ℕ) (command : Command) (at : PinSpot) (Work : Type 0) → Writes c w seat (pin_touch seat value command at) Work
+  pin_writes seat value command pins.Look Work = Writes.only_loads refl
+  pin_writes seat value command pins.Store Work = Writes.elsewhere refl
+
   -- between two calls
   first_writes : (seat : ℕ) (order : Order) (Work : Type 0) → Writes c w seat (first_touch seat order) Work
   first_writes seat Nothing Work = Writes.elsewhere refl
@@ -326,6 +332,7 @@ module _ (c : Config) (w : World) (shared : Shared c w) where
   spot_writes seat made kept command fixed order (StoreRoot value) facts = Writes.elsewhere refl
   spot_writes seat made kept command fixed order (Making at) facts = make_writes seat made kept.command command fixed at _ facts
   spot_writes seat made kept command fixed order AskCycle facts = Writes.elsewhere refl
+  spot_writes seat made kept command fixed order (Pinning value at) facts = pin_writes seat value kept.command at _
   spot_writes seat made kept command fixed order (Waiting at) facts = wait_writes seat made kept.command at _
   spot_writes seat made kept command fixed order (Leave reply) facts = Writes.elsewhere refl
   spot_writes seat made kept command fixed order Gone facts = Writes.only_loads refl

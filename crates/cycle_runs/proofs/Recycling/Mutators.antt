@@ -5,6 +5,7 @@ use Rattle.heap_words.specs.declared.config.Config.{Config}
 use Rattle.heap_words.specs.Words.{Free, Answer}
 use Rattle.regions.specs.Sets.{IsIn}
 use Rattle.shen_graph.specs.declared.command.Command.{Command}
+use Rattle.shen_graph.specs.declared.command.Command.TheVariants.{Pin, Unpin}
 use Rattle.shen_graph.specs.declared.command.Reply.{Reply}
 use Rattle.heap_world.specs.World.{World, Shared}
 use Rattle.move_steps.specs.Resolving.Facts.{CanResolve}
@@ -12,7 +13,7 @@ use Rattle.move_steps.specs.Updating.Following.{CanFollow}
 use Rattle.load_barrier.specs.declared.spot.ResolveSpot.{ResolveSpot}
 use Rattle.mutator.specs.declared.spot.Kept.{Kept}
 use Rattle.mutator.specs.declared.spot.Spot.{Spot}
-use Rattle.mutator.specs.declared.spot.Spot.TheVariants.{Rest, Ended, Entering, LoadPhase, LoadSet, Loading, OnField, Resolving, Recording, OnNumber, Showing, StoreRoot, Making, AskCycle, Waiting, Leave, Gone}
+use Rattle.mutator.specs.declared.spot.Spot.TheVariants.{Rest, Ended, Entering, LoadPhase, LoadSet, Loading, OnField, Resolving, Recording, OnNumber, Showing, StoreRoot, Making, AskCycle, Pinning, Waiting, Leave, Gone}
 use Rattle.mutator.specs.declared.loads.LoadSpot.{LoadSpot}
 use Rattle.mutator.specs.declared.loads.LoadSpot.TheVariants as load
 use Rattle.mutator.specs.declared.fields.FieldSpot.{FieldSpot}
@@ -23,6 +24,8 @@ use Rattle.mutator.specs.declared.resolves.Loaded.{Loaded}
 use Rattle.mutator.specs.declared.resolves.Loaded.TheVariants.{ForRoot, ToCompare}
 use Rattle.mutator.specs.declared.numbers.NumberSpot.{NumberSpot}
 use Rattle.mutator.specs.declared.numbers.NumberSpot.TheVariants as numbers
+use Rattle.mutator.specs.declared.pins.PinSpot.{PinSpot}
+use Rattle.mutator.specs.declared.pins.PinSpot.TheVariants as pins
 use Rattle.mutator.specs.declared.shows.ShowSpot.{ShowSpot}
 use Rattle.mutator.specs.declared.shows.ShowSpot.TheVariants as show
 use Rattle.mutator.specs.declared.makes.MakeSpot.{MakeSpot}
@@ -31,7 +34,7 @@ use Rattle.mutator.specs.declared.waits.WaitSpot.{WaitSpot}
 use Rattle.mutator.specs.declared.waits.WaitSpot.TheVariants as wait
 use Rattle.mutator.specs.Commands.{command_roots, dst_of, index_of}
 use Rattle.mutator.specs.Rows.{words_made}
-use Rattle.step_core.proofs.Machines.Stepped.{IsRootWord, HasObject, IsCas, IsSet, IsCopy, IsDrop, NameTheSame, LoadFacts, FieldFacts, LoadedFacts, RecordFacts, NumberFacts, ShowFacts, MakeFacts, WaitFacts, SpotFacts}
+use Rattle.step_core.proofs.Machines.Stepped.{IsRootWord, HasObject, IsCas, IsSet, IsCopy, IsDrop, NameTheSame, LoadFacts, FieldFacts, LoadedFacts, RecordFacts, NumberFacts, ShowFacts, MakeFacts, IsOfSlot, PinFacts, WaitFacts, SpotFacts}
 use Rattle.cycle_runs.specs.Recycling.InHand.{IsLoadHand, IsFieldHand, IsLoadedHand, IsOverwrittenHand, IsResolveHand, IsRememberHand, IsMakeHand, IsWaitHand, IsMutatorHand}
 use Rattle.cycle_runs.proofs.Recycling.Free.{IsElsewhere, piece_elsewhere, null_elsewhere, named_elsewhere, points_elsewhere, target_elsewhere, usable_elsewhere}
 use Rattle.cycle_runs.proofs.Recycling.PartHands.{same_apart, either_apart, take_hand, resolve_hand, follow_hand, remember_hand}
@@ -145,6 +148,16 @@ module _ (c : Config) (w : World) (shared : Shared c w) (r : ℕ) (inside : r < 
   make_hand seat made k command fixed (make.StoreWord address done) facts a is = same a address (piece_elsewhere c w shared r inside free address _ facts.1.room) is
   make_hand seat made k command fixed (make.StoreRoot address) facts a is = same a address (piece_elsewhere c w shared r inside free address _ facts.1.room) is
 
+  -- of who pins an object, or unpins what a slot holds
+  slot_hand : (seat value : ℕ) (k : Command) → IsOfSlot c w seat k value → IsApart value
+  slot_hand seat value (Pin slot obj) is = object_apart seat obj value is.1
+  slot_hand seat value (Unpin slot) is = null_elsewhere c w shared r inside free value is.1
+  slot_hand seat value _ is = absurd is
+
+  pin_hand : (seat : ℕ) (k command : Command) (fixed : Option Reply) (value : ℕ) (at : PinSpot) → PinFacts c w seat k command fixed value at → IsApart value
+  pin_hand seat k command fixed value pins.Look facts = slot_hand seat value k facts.2
+  pin_hand seat k command fixed value pins.Store facts = slot_hand seat value k facts.2
+
   -- of who has waited for one
   wait_hand : (seat made : ℕ) (k command : Command) (fixed : Option Reply) (at : WaitSpot) → WaitFacts c w seat made k command fixed at → (a : ℕ) → IsWaitHand at a → IsApart a
   wait_hand seat made k command fixed (wait.StoreRoot address) facts a is =
@@ -166,6 +179,7 @@ module _ (c : Config) (w : World) (shared : Shared c w) (r : ℕ) (inside : r < 
   mutator_hand seat made kept command fixed (OnNumber object refs at) facts a is = same a object (number_hand seat kept.command command fixed object refs at facts) is
   mutator_hand seat made kept command fixed (Showing value at) facts a is = same a value (show_hand kept.command fixed value at facts) is
   mutator_hand seat made kept command fixed (StoreRoot value) facts a is = same a value (store_hand seat (dst_of kept.command) value command facts.2) is
+  mutator_hand seat made kept command fixed (Pinning value at) facts a is = same a value (pin_hand seat kept.command command fixed value at facts) is
   mutator_hand seat made kept command fixed (Making at) facts a is = make_hand seat made kept.command command fixed at facts a is
   mutator_hand seat made kept command fixed (Waiting at) facts a is = wait_hand seat made kept.command command fixed at facts a is
   mutator_hand seat made kept command fixed Rest facts a is = absurd is

@@ -4,11 +4,12 @@ use Rattle.std.specs.Prelude.{◌-◌}
 use Rattle.std.proofs.lemmas.Option.{slice_get-get_or, none-some}
 use Rattle.heap_words.specs.declared.config.Config.{Config}
 use Rattle.heap_words.specs.Encoding.{end_in}
-use Rattle.heap_words.specs.Words.{Free, Top, Current, Answer, Heap}
+use Rattle.heap_words.specs.Words.{Cset, Evac, Free, Top, Current, Pin, Answer, Heap}
 use Rattle.regions.specs.Place.{IsOf}
 use Rattle.regions.specs.Sets.{IsIn}
 use Rattle.steps_base.specs.Steps.{Stage, go}
 use Rattle.shen_graph.specs.declared.name.Name.{Name}
+use Rattle.shen_graph.specs.declared.pin.Pinned.{Pinned}
 use Rattle.shen_graph.specs.declared.command.Command.{Command}
 use Rattle.shen_graph.specs.declared.command.Reply.{Reply}
 use Rattle.shen_graph.specs.declared.command.Reply.TheVariants.{Ref, Full}
@@ -18,7 +19,7 @@ use Rattle.regions.proofs.PlaceLemmas.{regions_tile}
 use Rattle.alloc_buffers.specs.declared.spot.TakeSpot.{TakeSpot}
 use Rattle.alloc_buffers.specs.declared.spot.TakeSpot.TheVariants as take
 use Rattle.alloc_buffers.specs.Facts.{IsTaken, TakeFacts}
-use Rattle.heap_world.specs.World.{World, thing, moved, Body, body_at, Shared}
+use Rattle.heap_world.specs.World.{World, thing, moved, Body, body_at, PinStands, Shared}
 use Rattle.heap_world.proofs.Pointing.{copy_cases}
 use Rattle.heap_world.specs.Asking.{Asking, nothing, asks, refused, given, IsAsked}
 use Rattle.unit_part.specs.declared.spot.UnitSpot.{UnitSpot}
@@ -50,7 +51,7 @@ use Rattle.step_core.proofs.Machines.Seats.{in_seat}
 use Rattle.step_core.proofs.Mutators.Spots.{mutator_at}
 use Rattle.cycle_runs.specs.Recycling.InHand.{IsTakeRegion, IsUnitHand, IsHelpHand, IsControlHand, IsInHandOf}
 use Rattle.cycle_runs.specs.Recycling.Held.{IsHeld, FreeIsNotHeld, FreeIsNotHeldInRuns}
-use Rattle.cycle_runs.proofs.Recycling.Free.{IsElsewhere, piece_elsewhere, target_elsewhere, points_elsewhere}
+use Rattle.cycle_runs.proofs.Recycling.Free.{IsElsewhere, piece_elsewhere, null_elsewhere, target_elsewhere, points_elsewhere}
 use Rattle.cycle_runs.proofs.Recycling.PartHands.{scan_hand, evac_hand, update_hand}
 use Rattle.cycle_runs.proofs.Recycling.Mutators.{mutator_hand}
 
@@ -112,6 +113,11 @@ module _ (c : Config) (w : World) (shared : Shared c w) (r : ℕ) (inside : r < 
   answer_apart t refused is some = absurd (omega (arith, is.1, some))
   answer_apart t (given refs nums) is some = piece_elsewhere c w shared r inside free (w.memory (Answer t)) _ is.2.here
 
+  -- what a slot holds
+  pub pin_apart : (word : ℕ) (held : Option Pinned) → PinStands c (w.memory Cset) (w.memory Evac) w.block word held → IsApart word
+  pin_apart word None is = null_elsewhere c w shared r inside free word is
+  pin_apart word (Some p) is = target_elsewhere c w shared r inside free word is.1 is.2 p.name is.3
+
   -- of what was taken
   taken_apart : (seat : ℕ) (reply : Reply) → HasTaken c w seat reply → 1 < w.memory (Answer seat) → IsApart (w.memory (Answer seat))
   taken_apart seat (Ref name) taken some = target_elsewhere c w shared r inside free (w.memory (Answer seat)) taken.0 taken.1 name taken.2
@@ -163,6 +169,8 @@ module _ (c : Config) (g : Graph) (s : Stage Actor) (h : List Entry) (goes : Goe
   not_held r inside free (IsHeld.by_root number index x m here is below of) =
       let thread = thread_of number x m (record { here = here; is = is }) in
       points_elsewhere c the_world goes.follows.shared r inside free (root_now the_world m.seat m.kept m.spot index) (the_world.graph.root (m.seat + 1) index) (thread.mine.roots index below) of
+  not_held r inside free (IsHeld.by_pin t slot below few of) =
+      pin_apart c the_world goes.follows.shared r inside free (the_world.memory (Pin t slot)) (the_world.graph.pin (t + 1) slot) (goes.follows.shared.pinned t slot below few) of
   not_held r inside free (IsHeld.by_answer t below some of) =
       let there = mutator_there c s.words the_world h s.machines goes.follows.seats goes.follows.machines t below in
       let thread = there.4 in

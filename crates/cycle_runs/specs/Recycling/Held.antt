@@ -2,7 +2,7 @@
 use Rattle.std.specs.Prelude.{ℕ, ◌≡◌, ◌≢◌, ◌+◌, ◌-◌, ◌<◌, ◌≤◌, List, Some, None, slice_get}
 use Rattle.heap_words.specs.declared.config.Config.{Config}
 use Rattle.heap_words.specs.Encoding.{end_in}
-use Rattle.heap_words.specs.Words.{Free, Share, Current, Answer, Heap, view}
+use Rattle.heap_words.specs.Words.{Free, Share, Current, Pin, Answer, Heap, view}
 use Rattle.regions.specs.Place.{IsOf}
 use Rattle.regions.specs.Sets.{IsIn}
 use Rattle.steps_base.specs.Steps.{Stage, Event, IsEvent, act, go}
@@ -22,12 +22,13 @@ use Rattle.step_core.specs.Settled.{image_read, settled}
 use Rattle.step_core.specs.Sound.{world_of, StandsFor}
 use Rattle.cycle_runs.specs.Recycling.InHand.{IsInHandOf, IsTakeRegion}
 
--- A region is held: in it lies what counts as a root, where an answer leads, what a field of a copy names, current or old, what a machine
+-- A region is held: in it lies what counts as a root, what a pin slot holds, where an answer leads, what a field of a copy names, current or old, what a machine
 -- has in hand, also a reference that it has loaded of an object and is about to store into a copy, or the beginning of a piece at all; it
 -- is the shared one, or has a seat's buffer; or a machine that takes room is about to carve it, or has taken it.
 pub data IsHeld (c : Config) (w : World) (machines : List Actor) (r : ℕ) : Type 0 where
   by_root : (number index : ℕ) (x : Actor) (m : Mutating) → slice_get machines number ≡ Some x → x.machine ≡ mutating m → index < 16 → IsOf c r (root_now w m.seat m.kept m.spot index)
       → IsHeld c w machines r
+  by_pin : (t slot : ℕ) → t < c.mutators → slot < 4 → IsOf c r (w.memory (Pin t slot)) → IsHeld c w machines r
   by_answer : (t : ℕ) → t < c.mutators → 1 < w.memory (Answer t) → IsOf c r (w.memory (Answer t)) → IsHeld c w machines r
   by_field : (a k : ℕ) (b : Body) → body_at (w.block a) ≡ Some b → k < b.refs → IsOf c r (w.memory (Heap (a + 3 + k))) → IsHeld c w machines r
   by_hand : (number a : ℕ) (x : Actor) → slice_get machines number ≡ Some x → IsInHandOf c x.machine a → IsOf c r a → IsHeld c w machines r

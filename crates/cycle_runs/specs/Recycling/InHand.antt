@@ -23,7 +23,7 @@ use Rattle.update_part.specs.declared.spot.UpdateSpot.TheVariants as update
 use Rattle.unit_part.specs.declared.spot.UnitSpot.{UnitSpot}
 use Rattle.unit_part.specs.declared.spot.UnitSpot.TheVariants as unit
 use Rattle.mutator.specs.declared.spot.Spot.{Spot}
-use Rattle.mutator.specs.declared.spot.Spot.TheVariants.{Loading, OnField, Resolving, Recording, OnNumber, Showing, StoreRoot, Making, Waiting}
+use Rattle.mutator.specs.declared.spot.Spot.TheVariants.{Loading, OnField, Resolving, Recording, OnNumber, Showing, StoreRoot, Making, Pinning, Waiting}
 use Rattle.mutator.specs.declared.loads.LoadSpot.{LoadSpot}
 use Rattle.mutator.specs.declared.loads.LoadSpot.TheVariants as load
 use Rattle.mutator.specs.declared.fields.FieldSpot.{FieldSpot}
@@ -147,6 +147,7 @@ IsMutatorHand k (Recording at address next) a = IsRememberHand address at a ⊎ 
 IsMutatorHand k (OnNumber object refs at) a = a ≡ object
 IsMutatorHand k (Showing value at) a = a ≡ value
 IsMutatorHand k (StoreRoot value) a = a ≡ value
+IsMutatorHand k (Pinning value at) a = a ≡ value
 IsMutatorHand k (Making at) a = IsMakeHand at a
 IsMutatorHand k (Waiting at) a = IsWaitHand at a
 IsMutatorHand k _ a = ⊥

@@ -15,7 +15,7 @@ use Rattle.regions.specs.Sets.{IsIn}
 use Rattle.shen_graph.specs.Graph.{Graph}
 use Rattle.heap_world.specs.World.{Plot, thing}
 use Rattle.full_words.specs.Held.{IsAmong}
-use Rattle.full_words.specs.Full.{root_words}
+use Rattle.full_words.specs.Full.{held_words}
 use Rattle.full_words.specs.Promised.{Promises}
 use Rattle.full_words.proofs.Roots.{root_among, answer_among}
 use Rattle.full_words.proofs.Reached.{words_read}
@@ -87,7 +87,7 @@ module _ (c : Config) (n : Word → ℕ) (left : Plot) (owner : ℕ → Option �
       omega (arith, member, none))
 
   -- what a root or an answer names in a chosen region is marked, for nothing new is there
-  module _ (a : ℕ) (among : IsAmong (root_words c n) a) (some : a ≢ 0) (member : IsIn (chosen c n) (region_with c a)) where
+  module _ (a : ℕ) (among : IsAmong (held_words c n) a) (some : a ≢ 0) (member : IsIn (chosen c n) (region_with c a)) where
     is_object : IsObjectAt n left a
     is_object = reached_object c n left owner p g after calm a (root_reached c n left owner p g after calm a among some)
 
@@ -117,14 +117,14 @@ module _ (c : Config) (n : Word → ℕ) (left : Plot) (owner : ℕ → Option �
       let member = eqb-true (bit_at (chosen c n) (region_with c (n place))) 1 parts.1 in
       let long : 64 ≤ c.region_words = (let range = c.in_range in omega (arith, range.least_words)) in
       let some : n place ≢ 0 = λ none. omega (arith, none, above, long) in
-      let among : IsAmong (root_words c n) (n place) = ⊎_elim
+      let among : IsAmong (held_words c n) (n place) = ⊎_elim
       (λ (root : Contains (root_places c.mutators) place).
       let at = in_rows c.mutators place root in
-      subst (λ w. IsAmong (root_words c n) (n w)) at.4 (root_among c top n left g p after.objects.plotted after.rooted at.0 at.1 at.2 at.3))
+      subst (λ w. IsAmong (held_words c n) (n w)) at.4 (root_among c top n left g p after.objects.plotted after.rooted at.0 at.1 at.2 at.3))
       (λ (answer : Contains (map Answer (range_with_len 0 c.mutators)) place).
       let at = in_row Answer c.mutators place answer in
       let here : n (Answer at.0) ≡ n place = ap n at.2 in
-      subst (λ w. IsAmong (root_words c n) (n w)) at.2 (answer_among c top n left g p after.objects.plotted after.rooted at.0 at.1 (omega (arith, here, above, long))))
+      subst (λ w. IsAmong (held_words c n) (n w)) at.2 (answer_among c top n left g p after.objects.plotted after.rooted at.0 at.1 (omega (arith, here, above, long))))
       (Contains-append_cases (root_places c.mutators) (map Answer (range_with_len 0 c.mutators)) place has) in
       copyable (n place) among some member
 

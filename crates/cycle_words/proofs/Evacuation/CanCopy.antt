@@ -13,7 +13,7 @@ use Rattle.heap_world.proofs.Pointing.{piece_inside}
 use Rattle.full_words.specs.Promised.{Promises, with_promised}
 use Rattle.image_graph.specs.Holds.{HoldsBy, AreSized}
 use Rattle.full_words.specs.Held.{IsAmong}
-use Rattle.full_words.specs.Full.{now_in, root_words}
+use Rattle.full_words.specs.Full.{now_in, held_words}
 use Rattle.full_words.proofs.Reached.{held_is_reached}
 use Rattle.cycle_words.specs.Marking.Marks.{is_black, IsNew}
 use Rattle.cycle_words.proofs.Marking.Plain.{below_top}
@@ -23,7 +23,7 @@ use Rattle.cycle_words.proofs.Evacuation.Candidate.{candidate_is_candidate}
 use Rattle.cycle_words.proofs.Evacuation.Front.{member_is}
 use Rattle.cycle_words.specs.Evacuation.Copied.{CanCopyOut, copy_room, copied_in, copied_out, IsCopiedOut}
 use Rattle.cycle_words.specs.Evacuation.Laws.{ObjectCanBeCopied, piece_words, marked_in, LiveIsMarked, ChosenAreLive}
-use Rattle.cycle_words.specs.StillHolds.{HoldsCopied, CopyingHolds}
+use Rattle.cycle_words.specs.StillHolds.{HoldsCopied, IsUnpinned, CopyingHolds}
 use Rattle.cycle_words.proofs.Evacuation.RegionAddresses.{some_words, from_base}
 use Rattle.cycle_words.proofs.Evacuation.CopiedOut.{copies_out}
 use Rattle.cycle_words.proofs.Evacuation.CopyHolds as copy
@@ -47,20 +47,21 @@ object_can_be_copied c m block owner p g holds sized a object inside =
 
 -- where a region has room, and where none has
 module _ (c : Config) (m : Word → ℕ) (a : ℕ) (above : c.region_words ≤ a) (inside : IsIn (m Cset) (region_with c a)) (block : Plot) (owner : ℕ → Option ℕ) (p : Promises) (g : Graph)
-    (holds : HoldsBy c m block owner p g) (sized : AreSized m block) (b : Block) (here : block a ≡ Some b) (fixed : is_loose b ≡ false) (plain : is_forwarded (m (Heap a)) ≡ false) where
+    (holds : HoldsBy c m block owner p g) (sized : AreSized m block) (b : Block) (here : block a ≡ Some b) (fixed : is_loose b ≡ false) (plain : is_forwarded (m (Heap a)) ≡ false)
+    (unpinned : IsUnpinned c m a) where
   size : words_at m a ≡ words_of b
   size = sized.objects a b here fixed
 
   with_room : IsCopiedOut c m (copied_out c m a) a → HoldsCopied c m (copied_out c m a) block owner p g
   with_room out = record {
     still = record {
-      pieces = copy.plot c m block owner p g holds a b here fixed inside plain size out;
-      stay = copy.stays c m block owner p g holds a b here fixed inside plain size out;
-      holds = copy.copied_holds c m block owner p g holds a b here fixed inside plain size out;
-      sized = copy.copied_sized c m block owner p g holds a b here fixed inside plain size out;
+      pieces = copy.plot c m block owner p g holds a b here fixed inside plain unpinned size out;
+      stay = copy.stays c m block owner p g holds a b here fixed inside plain unpinned size out;
+      holds = copy.copied_holds c m block owner p g holds a b here fixed inside plain unpinned size out;
+      sized = copy.copied_sized c m block owner p g holds a b here fixed inside plain unpinned size out;
     };
-    set = copy.set_same c m block owner p g holds a b here fixed inside plain size out;
-    collecting = copy.collecting_still c m block owner p g holds a b here fixed inside plain size out;
+    set = copy.set_same c m block owner p g holds a b here fixed inside plain unpinned size out;
+    collecting = copy.collecting_still c m block owner p g holds a b here fixed inside plain unpinned size out;
   }
 
   by_room : (o : Option ℕ) → copy_room c m a ≡ o → HoldsCopied c m (copied_out c m a) block owner p g
@@ -77,7 +78,7 @@ module _ (c : Config) (m : Word → ℕ) (a : ℕ) (above : c.region_words ≤ a
   still_holds = by_room (copy_room c m a) refl
 
 pub copying_holds : (c : Config) (m : Word → ℕ) (a : ℕ) → CanCopyOut c m a → CopyingHolds c m (copied_out c m a) a
-copying_holds c m a can block owner p g holds sized object plain = still_holds c m a can.above can.in_set block owner p g holds sized object.0 object.1 object.2 plain
+copying_holds c m a can block owner p g holds sized object plain unpinned = still_holds c m a can.above can.in_set block owner p g holds sized object.0 object.1 object.2 plain unpinned
 
 pub live_is_marked : LiveIsMarked
 live_is_marked c m r block sized marked = sum_same (λ k. marked_words c m (base_of c r + k)) (λ k. marked_in c m block (base_of c r + k)) c.region_words (λ k below. each (base_of c r + k))
@@ -94,7 +95,7 @@ pub chosen_are_live : ChosenAreLive
 chosen_are_live c m block owner p g holds through a reached inside = ⊎_elim
     (λ (black : is_black c m a ≡ true). black)
     (λ (fresh : IsNew c m a).
-    let at = held_is_reached c (λ r. m (Top r)) (λ y. m (Heap y)) block (now_in m) (IsAmong (root_words c m)) (with_promised g p) holds.objects a reached in
+    let at = held_is_reached c (λ r. m (Top r)) (λ y. m (Heap y)) block (now_in m) (IsAmong (held_words c m)) (with_promised g p) holds.objects a reached in
     let below = below_top c (λ r. m (Top r)) block holds.objects.plotted a (thing at.0 at.1 at.2) at.3 (omega arith) in
     let front = member_is c.regions (copy_limit c m) (live_words c m) (is_candidate c m) (region_with c a) inside in
     let no_new = ((candidate_is_candidate c m (region_with c a)).0 front.1).no_new in

@@ -7,7 +7,7 @@ use Rattle.std.proofs.lemmas.Bool.{cases_Bool, cases_eq, false_from_ne_true, tru
 use Rattle.std.proofs.lemmas.Nat.{pow_pos}
 use Rattle.std.proofs.lemmas.Nat.Bits.{bit_at-zero}
 use Rattle.heap_words.specs.declared.config.Config.{Config}
-use Rattle.heap_words.specs.Words.{Word, Cset, Top, Tams, Root, Answer, Heap, Share, write}
+use Rattle.heap_words.specs.Words.{Word, Cset, Top, Tams, Root, Answer, Heap, Share, Pin, write}
 use Rattle.heap_words.specs.Encoding.{is_forwarded, forwardee_in, object_words}
 use Rattle.regions.specs.Place.{region_with}
 use Rattle.shen_graph.specs.declared.name.Name.{Name}
@@ -15,13 +15,13 @@ use Rattle.shen_graph.specs.Graph.{Graph}
 use Rattle.heap_world.specs.World.{Plot, thing, IsCollected, AreYoungRooms}
 use Rattle.heap_world.proofs.Pointing.{named_if_not_0}
 use Rattle.full_words.specs.Held.{IsLedTo, from_root, IsAmong, HoldsGraph}
-use Rattle.full_words.specs.Full.{now_in, root_words}
+use Rattle.full_words.specs.Full.{now_in, held_words}
 use Rattle.full_words.specs.Promised.{Promises, with_promised}
 use Rattle.full_words.specs.Serving.{AreAsking}
 use Rattle.full_words.proofs.Reached.{words_read}
 use Rattle.full_words.proofs.Roots.{root_among, answer_among, answer_names}
 use Rattle.image_graph.specs.Holds.{HoldsBy, AreSized}
-use Rattle.cycle_words.proofs.Marking.Alike.{sized_alike, same_root_words, holds_alike}
+use Rattle.cycle_words.proofs.Marking.Alike.{sized_alike, same_held_words, holds_alike}
 use Rattle.cycle_words.proofs.Marking.Dead.{seated}
 use Rattle.cycle_words.specs.Evacuation.Live.{words_at, live_words, is_candidate, IsCandidate}
 use Rattle.cycle_words.specs.Evacuation.Choice.{copy_limit, chosen}
@@ -36,7 +36,8 @@ use Rattle.image_graph.proofs.Carried.{IsRenamed}
 use Rattle.cycle_words.proofs.Evacuation.CopyHolds as copy
 use Rattle.cycle_words.proofs.Evacuation.CopyHolds.{IsInOrder}
 use Rattle.cycle_words.proofs.Evacuation.RenamedInPlace.{root_renamed, root_reached, answer_renamed, answer_reached}
-use Rattle.cycle_words.specs.StillHolds.{PiecesStay, HoldsStill}
+use Rattle.cycle_words.specs.StillHolds.{PiecesStay, HoldsStill, IsUnpinned}
+use Rattle.cycle_words.proofs.Pinned.{PinsOutside, pins_outside, unpinned_inside, still_outside}
 use Rattle.cycle_words.specs.Evacuation.Laws.{HoldsCollecting}
 use Rattle.cycle_words.specs.Marking.Marks.{is_black}
 use Rattle.cycle_words.specs.Marking.WhileMarking.{IsObjectAt, CanBeReached, IsMarkedThrough}
@@ -47,7 +48,7 @@ use Rattle.cycle_words.proofs.Evacuation.Front.{member_is}
 use Rattle.cycle_words.proofs.Marking.Bits.{bits_small}
 use Rattle.regions.specs.Sets.{IsIn}
 
--- the words hold the graph still, and what holds of the set does
+-- the words hold the graph still, and what holds of the set does; pin slots are as they were
 record StillSo (c : Config) (before after : Word → ℕ) (block : Plot) (owner : ℕ → Option ℕ) (p : Promises) (g : Graph) : Type 0 where
   pieces : Plot
   stay : PiecesStay block pieces
@@ -55,17 +56,18 @@ record StillSo (c : Config) (before after : Word → ℕ) (block : Plot) (owner 
   holds : HoldsBy c after pieces owner p g
   sized : AreSized before block → AreSized after pieces
   order : IsInOrder c before block → IsInOrder c after pieces
+  pins : (t i : ℕ) → after (Pin t i) ≡ before (Pin t i)
 
-module _ (c : Config) (m : Word → ℕ) (block : Plot) (owner : ℕ → Option ℕ) (p : Promises) (g : Graph) (holds : HoldsBy c m block owner p g) where
+module _ (c : Config) (m : Word → ℕ) (block : Plot) (owner : ℕ → Option ℕ) (p : Promises) (g : Graph) (holds : HoldsBy c m block owner p g) (apart : PinsOutside c m) where
   abbrev top : ℕ → ℕ
   top r = m (Top r)
 
   abbrev IsLed : ℕ → Type 0
-  IsLed = IsLedTo (now_in m) (λ a. m (Heap a)) (IsAmong (root_words c m))
+  IsLed = IsLedTo (now_in m) (λ a. m (Heap a)) (IsAmong (held_words c m))
 
   -- what held stays where nothing changes
   as_it_is : StillSo c m m block owner p g
-  as_it_is = record { pieces = block; stay = λ a b is. is; set = refl; holds = holds; sized = λ sized. sized; order = λ order. order }
+  as_it_is = record { pieces = block; stay = λ a b is. is; set = refl; holds = holds; sized = λ sized. sized; order = λ order. order; pins = λ t i. refl }
 
   -- an object of the set to which a root or an answer leads is copied out, unless it was before
   module _ (a refs nums : ℕ) (name : Name) (here : block a ≡ Some (thing name refs nums)) (led : IsLed (now_in m a)) (collected : is_collected c m a ≡ true) (can : CanClear c m a) where
@@ -74,6 +76,10 @@ module _ (c : Config) (m : Word → ℕ) (block : Plot) (owner : ℕ → Option 
 
     inside : IsCollected c (m Cset) a
     inside = eqb-true (bit_at (m Cset) (region_with c a)) 1 (and_parts (nat_le c.region_words a) (bit_at (m Cset) (region_with c a) == 1) collected).1
+
+    -- no pin slot holds it
+    unpinned : IsUnpinned c m a
+    unpinned = unpinned_inside c m apart a collected
 
     module _ (plain : is_forwarded (m (Heap a)) ≡ false) where
       size : words_at m a ≡ 3 + refs + nums
@@ -87,12 +93,13 @@ module _ (c : Config) (m : Word → ℕ) (block : Plot) (owner : ℕ → Option 
 
       copied : StillSo c m (copied_out c m a) block owner p g
       copied = record {
-        pieces = copy.plot c m block owner p g holds a (thing name refs nums) here refl inside plain size out;
-        stay = copy.stays c m block owner p g holds a (thing name refs nums) here refl inside plain size out;
-        set = copy.set_same c m block owner p g holds a (thing name refs nums) here refl inside plain size out;
-        holds = copy.copied_holds c m block owner p g holds a (thing name refs nums) here refl inside plain size out;
-        sized = copy.copied_sized c m block owner p g holds a (thing name refs nums) here refl inside plain size out;
-        order = copy.order_still c m block owner p g holds a (thing name refs nums) here refl inside plain size out;
+        pieces = copy.plot c m block owner p g holds a (thing name refs nums) here refl inside plain unpinned size out;
+        stay = copy.stays c m block owner p g holds a (thing name refs nums) here refl inside plain unpinned size out;
+        set = copy.set_same c m block owner p g holds a (thing name refs nums) here refl inside plain unpinned size out;
+        holds = copy.copied_holds c m block owner p g holds a (thing name refs nums) here refl inside plain unpinned size out;
+        sized = copy.copied_sized c m block owner p g holds a (thing name refs nums) here refl inside plain unpinned size out;
+        order = copy.order_still c m block owner p g holds a (thing name refs nums) here refl inside plain unpinned size out;
+        pins = copy.pin_same c m block owner p g holds a (thing name refs nums) here refl inside plain unpinned size out;
       }
 
       is_copied : copied_out c m a ≡ moved_out c m a
@@ -152,6 +159,7 @@ module _ (c : Config) (m : Word → ℕ) (block : Plot) (owner : ℕ → Option 
               unseated = next.unseated;
               young = next.young;
             };
+        pins = out.pins;
       })
 
   -- an answer is cleared
@@ -183,6 +191,7 @@ module _ (c : Config) (m : Word → ℕ) (block : Plot) (owner : ℕ → Option 
               unseated = next.unseated;
               young = next.young;
             };
+        pins = out.pins;
       })
 
   spared : (place : Word) → is_collected c m (m place) ≡ false → StillSo c m (cleared_at c m place) block owner p g
@@ -201,14 +210,15 @@ module _ (c : Config) (m : Word → ℕ) (block : Plot) (owner : ℕ → Option 
 
 -- All places are cleared, one after the other.
 all_cleared : (c : Config) (owner : ℕ → Option ℕ) (p : Promises) (g : Graph) (places : List Word) (m : Word → ℕ) (block : Plot)
-    → ((place : Word) → Contains places place → IsPlace c place) → HoldsBy c m block owner p g → CanClearInTurn c m places
+    → ((place : Word) → Contains places place → IsPlace c place) → HoldsBy c m block owner p g → PinsOutside c m → CanClearInTurn c m places
     → StillSo c m (cleared_in_turn c m places) block owner p g
 unfolding cleared_in_turn CanClearInTurn
-all_cleared c owner p g [] m block are holds can = record { pieces = block; stay = λ a b is. is; set = refl; holds = holds; sized = λ sized. sized; order = λ order. order }
-all_cleared c owner p g (place ∷ places) m block are holds can =
-    let next = place_cleared c m block owner p g holds place (are place (is_first place places)) can.0 in
-    let rest = all_cleared c owner p g places (cleared_at c m place) next.pieces (λ q has. are q (is_later place places q has)) next.holds can.1 in
-    record { pieces = rest.pieces; stay = λ a b is. rest.stay a b (next.stay a b is); set = rest.set ∙ next.set; holds = rest.holds; sized = λ sized. rest.sized (next.sized sized); order = λ order. rest.order (next.order order) }
+all_cleared c owner p g [] m block are holds apart can = record { pieces = block; stay = λ a b is. is; set = refl; holds = holds; sized = λ sized. sized; order = λ order. order; pins = λ t i. refl }
+all_cleared c owner p g (place ∷ places) m block are holds apart can =
+    let next = place_cleared c m block owner p g holds apart place (are place (is_first place places)) can.0 in
+    let rest = all_cleared c owner p g places (cleared_at c m place) next.pieces (λ q has. are q (is_later place places q has)) next.holds
+    (still_outside c m (cleared_at c m place) next.pins next.set apart) can.1 in
+    record { pieces = rest.pieces; stay = λ a b is. rest.stay a b (next.stay a b is); set = rest.set ∙ next.set; holds = rest.holds; sized = λ sized. rest.sized (next.sized sized); order = λ order. rest.order (next.order order); pins = λ t i. rest.pins t i ∙ next.pins t i }
 
 -- A collection set may be stored where no object has moved, if the shared region lies outside.
 module _ (c : Config) (m : Word → ℕ) (block : Plot) (owner : ℕ → Option ℕ) (p : Promises) (g : Graph) (holds : HoldsBy c m block owner p g)
@@ -222,8 +232,8 @@ module _ (c : Config) (m : Word → ℕ) (block : Plot) (owner : ℕ → Option 
   pub set_stored_holds : HoldsBy c (with_set m set) block owner p g
   set_stored_holds = record {
     objects = subst (λ xs. HoldsGraph c (λ r. m (Top r)) (λ a. m (Heap a)) block (now_in m) (IsAmong xs) (with_promised g p))
-        (sym (same_root_words m (with_set m set) (λ t i. refl) (λ t. refl) c)) holds.objects;
-    rooted = record { roots = holds.rooted.roots; answers = holds.rooted.answers; no_more_roots = holds.rooted.no_more_roots; no_more_promised = holds.rooted.no_more_promised };
+        (sym (same_held_words m (with_set m set) (λ t i. refl) (λ t. refl) (λ t i. refl) c)) holds.objects;
+    rooted = record { roots = holds.rooted.roots; answers = holds.rooted.answers; no_more_roots = holds.rooted.no_more_roots; pins = holds.rooted.pins; no_more_pins = holds.rooted.no_more_pins; no_more_promised = holds.rooted.no_more_promised };
     moved = λ a refs nums name is forwarded. absurd (true≢false (sym forwarded ∙ plain a refs nums name is));
     filled = holds.filled;
     pieces = holds.pieces;
@@ -257,18 +267,22 @@ module _ (c : Config) (m : Word → ℕ) (block : Plot) (owner : ℕ → Option 
   set_holds : HoldsBy c with block owner p g
   set_holds = set_stored_holds c m block owner p g holds unmoved set (λ r is member. (chosen_is r member).nobodys (inl is))
 
+  -- for no candidate is pinned
+  apart : PinsOutside c with
+  apart = pins_outside c with (λ r member. (chosen_is r member).unpinned)
+
   abbrev cleared : Word → ℕ
   cleared = roots_cleared c m set
 
   all : StillSo c with cleared block owner p g
-  all = all_cleared c owner p g (naming_places c) with block (are_places c) set_holds (can_clear_in_turn c m can)
+  all = all_cleared c owner p g (naming_places c) with block (are_places c) set_holds apart (can_clear_in_turn c m can)
 
   begun_some : HoldsStill c m (evac_started cleared) block owner p g
   begun_some = record {
     pieces = all.pieces;
     stay = all.stay;
     holds = holds_alike cleared (evac_started cleared)
-        (record { heap = λ a. refl; top = λ r. refl; root = λ t i. refl; answer = λ t. refl; wait = λ t. refl; current = λ s. refl; free = refl; cset = refl; share = refl })
+        (record { heap = λ a. refl; top = λ r. refl; root = λ t i. refl; answer = λ t. refl; wait = λ t. refl; current = λ s. refl; free = refl; cset = refl; share = refl; pin = λ t i. refl })
         c all.pieces owner p g all.holds;
     sized = λ sized. sized_alike cleared (evac_started cleared) all.pieces (λ a. refl) (all.sized (sized_alike m with block (λ a. refl) sized));
   }
@@ -278,7 +292,7 @@ module _ (c : Config) (m : Word → ℕ) (block : Plot) (owner : ℕ → Option 
     pieces = block;
     stay = λ a b is. is;
     holds = holds_alike m (evac_spared m)
-        (record { heap = λ a. refl; top = λ r. refl; root = λ t i. refl; answer = λ t. refl; wait = λ t. refl; current = λ s. refl; free = refl; cset = sym calm; share = refl })
+        (record { heap = λ a. refl; top = λ r. refl; root = λ t i. refl; answer = λ t. refl; wait = λ t. refl; current = λ s. refl; free = refl; cset = sym calm; share = refl; pin = λ t i. refl })
         c block owner p g holds;
     sized = λ sized. sized_alike m (evac_spared m) block (λ a. refl) sized;
   }
@@ -299,15 +313,15 @@ module _ (c : Config) (m : Word → ℕ) (block : Plot) (owner : ℕ → Option 
   module _ (sized : AreSized m block) (through : IsMarkedThrough c m block) (marked : (a : ℕ) → is_black c m a ≡ true → IsObjectAt m block a)
       (floors : (r : ℕ) → r < c.regions → m (Tams r) ≤ m (Top r)) (young : AreYoungRooms c (λ r. m (Tams r)) block) (seats : HasNoMoreSeats c m) where
     -- reaching goes by roots, answers and the heap
-    reached_same : (n w : Word → ℕ) → root_words c n ≡ root_words c w → ((a : ℕ) → n (Heap a) ≡ w (Heap a)) → (a : ℕ) → CanBeReached c n a → CanBeReached c w a
+    reached_same : (n w : Word → ℕ) → held_words c n ≡ held_words c w → ((a : ℕ) → n (Heap a) ≡ w (Heap a)) → (a : ℕ) → CanBeReached c n a → CanBeReached c w a
     reached_same n w roots heap a =
         subst (λ xs. IsLedTo (now_in n) (λ y. n (Heap y)) (IsAmong xs) a → CanBeReached c w a) (sym roots)
-        (subst (λ (f : ℕ → ℕ). IsLedTo (λ y. if is_forwarded (f y) then forwardee_in (f y) else y) f (IsAmong (root_words c w)) a → CanBeReached c w a) (sym (fun_ext heap)) (λ reached. reached))
+        (subst (λ (f : ℕ → ℕ). IsLedTo (λ y. if is_forwarded (f y) then forwardee_in (f y) else y) f (IsAmong (held_words c w)) a → CanBeReached c w a) (sym (fun_ext heap)) (λ reached. reached))
 
     order_first : IsInOrder c with block
     order_first = record {
       marked = λ a collected black. let is = marked a black in (thing is.name is.refs is.nums, is.here, refl);
-      reachable = λ a reached. through.reachable a (reached_same with m (same_root_words m with (λ t i. refl) (λ t. refl) c) (λ y. refl) a reached);
+      reachable = λ a reached. through.reachable a (reached_same with m (same_held_words m with (λ t i. refl) (λ t. refl) (λ t i. refl) c) (λ y. refl) a reached);
       no_new = λ r member. (chosen_is r member).no_new;
       floors = floors;
       unseated = λ seat r is member. (chosen_is r member).nobodys (seated c m seats seat r is);
@@ -325,7 +339,7 @@ module _ (c : Config) (m : Word → ℕ) (block : Plot) (owner : ℕ → Option 
           collecting = record {
             marked = order.marked;
             reachable = λ some a reached. order.reachable a
-                (reached_same (evac_started cleared) cleared (same_root_words cleared (evac_started cleared) (λ t i. refl) (λ t. refl) c) (λ y. refl) a reached);
+                (reached_same (evac_started cleared) cleared (same_held_words cleared (evac_started cleared) (λ t i. refl) (λ t. refl) (λ t i. refl) c) (λ y. refl) a reached);
             no_new = order.no_new;
             floors = λ some. order.floors;
             unseated = order.unseated;
@@ -348,7 +362,7 @@ module _ (c : Config) (m : Word → ℕ) (block : Plot) (owner : ℕ → Option 
         floors = λ some. absurd (some refl);
         unseated = λ seat r is member. (let none = bit_at-zero r in omega (arith, member, none));
         young = λ some. absurd (some refl);
-        outside = λ off a reached member. (let none = bit_at-zero (region_with c a) in omega (arith, member, none));
+        outside = λ off a reached member. absurd (let none = bit_at-zero (region_with c a) in omega (arith, member, none));
       };
       small = pow_pos c.regions;
     }

@@ -8,7 +8,7 @@ use Rattle.std.proofs.lemmas.Option.{same_Some}
 use Rattle.std.proofs.lemmas.Nat.{and_le_l}
 use Rattle.std.proofs.lemmas.Nat.Bits.{bit_at-zero}
 use Rattle.heap_words.specs.declared.config.Config.{Config}
-use Rattle.heap_words.specs.Words.{Word, Phase, Cset, Free, Top, Tams, Current, Root, Wait, Answer, Black, Heap, Share}
+use Rattle.heap_words.specs.Words.{Word, Phase, Cset, Free, Top, Tams, Current, Root, Wait, Answer, Black, Heap, Share, Pin}
 use Rattle.heap_words.specs.Encoding.{is_forwarded, forwardee_in, object_words, end_in}
 use Rattle.regions.specs.Place.{base_of, region_with, IsOf}
 use Rattle.regions.specs.Sets.{IsIn, IsOutside, all_but}
@@ -37,7 +37,8 @@ use Rattle.cycle_words.specs.Marking.WhileMarking.{CanBeReached}
 use Rattle.cycle_words.specs.Evacuation.Live.{words_at}
 use Rattle.cycle_words.specs.Evacuation.Copied.{MayChange, top_address, copied_to, copied_out, IsCopiedOut}
 use Rattle.cycle_words.specs.Evacuation.Begun.{is_collected}
-use Rattle.cycle_words.specs.StillHolds.{AreMarkedObjects, WhileCollecting}
+use Rattle.cycle_words.specs.StillHolds.{AreMarkedObjects, WhileCollecting, IsUnpinned}
+use Rattle.cycle_words.proofs.Pinned.{same_pinned}
 use Rattle.cycle_words.proofs.Evacuation.CopiedOut.{copied_as}
 use Rattle.cycle_words.proofs.Evacuation.Copies.{header_forwarded, forwarded_fills, now_is}
 use Rattle.image_graph.proofs.Carried.{now_same, not_renamed, IsCarried, led_comes, carried_holds}
@@ -59,7 +60,7 @@ pub in_order : (c : Config) (m : Word → ℕ) (block : Plot) → WhileCollectin
 in_order c m block while some = record { marked = while.marked; reachable = while.reachable some; no_new = while.no_new; floors = while.floors some; unseated = while.unseated; young = while.young some }
 
 module _ (c : Config) (m : Word → ℕ) (block : Plot) (owner : ℕ → Option ℕ) (p : Promises) (g : Graph) (holds : HoldsBy c m block owner p g)
-    (a : ℕ) (x : Block) (here : block a ≡ Some x) (fixed : is_loose x ≡ false) (inside : IsCollected c (m Cset) a) (plain : is_forwarded (m (Heap a)) ≡ false)
+    (a : ℕ) (x : Block) (here : block a ≡ Some x) (fixed : is_loose x ≡ false) (inside : IsCollected c (m Cset) a) (plain : is_forwarded (m (Heap a)) ≡ false) (unpinned : IsUnpinned c m a)
     (size : words_at m a ≡ words_of x) (out : IsCopiedOut c m (copied_out c m a) a) where
   abbrev n : Word → ℕ
   n = copied_out c m a
@@ -273,6 +274,9 @@ module _ (c : Config) (m : Word → ℕ) (block : Plot) (owner : ℕ → Option 
       ))
       (cases_eq q a)
 
+  pub pin_same : (t i : ℕ) → n (Pin t i) ≡ m (Pin t i)
+  pin_same t i = word_same (Pin t i) (λ never. never)
+
   carried : IsCarried c m n block plot origin Lands
   carried = record {
     plotted = subst (λ t. IsPlotted c t plot) (sym tops_are) (joined.plotted_more c top block r (m (Top r)) x joins);
@@ -306,6 +310,8 @@ module _ (c : Config) (m : Word → ℕ) (block : Plot) (owner : ℕ → Option 
         not_renamed m (heap (origin q + 3 + i)) (after (q + 3 + i))
         (sym (ap after place) ∙ all_words q (3 + i) more less named is away (omega arith) (omega (arith, few)) ∙ ap heap back);
     roots = λ t i below few. not_renamed m (m (Root t i)) (n (Root t i)) (word_same (Root t i) (λ never. never));
+    pins = λ t i below few. pin_same t i;
+    pinned = λ t i below few named copy was. ap is_forwarded (header_stays (m (Pin t i)) (thing named copy.0 copy.1) (unpinned t i below few) copy.2) ∙ was;
     answers = λ t below. not_renamed m (m (Answer t)) (n (Answer t)) (word_same (Answer t) (λ never. never));
     waits = λ t. word_same (Wait t) (λ never. never);
   }
@@ -505,7 +511,8 @@ module _ (c : Config) (m : Word → ℕ) (block : Plot) (owner : ℕ → Option 
             (λ (new : y ≡ to).
             let there : bit_at (m Cset) r ≡ 1 = subst (IsIn (m Cset)) (ap (region_with c) new ∙ region_is) was in
             let away = out.outside in
-            omega (arith, there, away))
-            (λ (old : CanBeReached c m y). while.outside (λ two. off (word_same Phase (λ never. never) ∙ two)) y old was)
+            absurd (omega (arith, there, away)))
+            (λ (old : CanBeReached c m y).
+            same_pinned c m n pin_same (region_with c y) ∙ while.outside (λ two. off (word_same Phase (λ never. never) ∙ two)) y old was)
             (reached_was y reached);
       }

@@ -3,7 +3,7 @@ use Rattle.std.proofs.Common.{◌≡◌, ℕ, ◌+◌, ◌<◌, ◌≤◌, ◌�
 use Rattle.std.proofs.Math.Path.{fun_ext}
 use Rattle.std.proofs.lemmas.Bool.{cases_Bool, cond-true, cond-false, eqb-true}
 use Rattle.heap_words.specs.declared.config.Config.{Config}
-use Rattle.heap_words.specs.Words.{Word, Cset, Free, Top, Current, Root, Wait, Answer, Heap, Share, write}
+use Rattle.heap_words.specs.Words.{Word, Cset, Free, Top, Current, Root, Wait, Answer, Heap, Share, Pin, write}
 use Rattle.heap_words.specs.Encoding.{is_forwarded, refs_in}
 use Rattle.heap_words.proofs.Stores.{both_equal}
 use Rattle.regions.specs.Place.{region_with}
@@ -17,7 +17,7 @@ use Rattle.image_graph.specs.Holds.{HasMoved, HoldsBy}
 use Rattle.cycle_words.specs.Marking.WhileMarking.{CanBeReached}
 use Rattle.image_graph.proofs.Carried.{now_same, IsRenamed, not_renamed, IsCarried, led_comes, carried_holds}
 
--- Fields, roots and answers are renamed, and no other word of a piece, or of the regions, changes.
+-- Fields, roots and answers are renamed, and no other word of a piece, or of the regions, changes, nor does a pin slot.
 pub record IsRenaming (c : Config) (m n : Word → ℕ) (block : Plot) : Type 0 where
   pub headers : (a refs nums : ℕ) (name : Name) → block a ≡ Some (thing name refs nums) → n (Heap a) ≡ m (Heap a)
   pub words : (a k refs nums : ℕ) (name : Name) → block a ≡ Some (thing name refs nums) → refs_in (m (Heap (a + 1))) ≡ refs → k < 3 + refs + nums
@@ -31,6 +31,7 @@ pub record IsRenaming (c : Config) (m n : Word → ℕ) (block : Plot) : Type 0 
   pub cset : n Cset ≡ m Cset
   pub currents : (s : ℕ) → n (Current s) ≡ m (Current s)
   pub share : n Share ≡ m Share
+  pub pins : (t i : ℕ) → n (Pin t i) ≡ m (Pin t i)
 
 module _ (c : Config) (m n : Word → ℕ) (block : Plot) (owner : ℕ → Option ℕ) (p : Promises) (g : Graph) (holds : HoldsBy c m block owner p g) (is : IsRenaming c m n block) where
   tops_are : ◌≡◌ {A = ℕ → ℕ} (λ r. n (Top r)) (λ r. m (Top r))
@@ -59,6 +60,8 @@ module _ (c : Config) (m n : Word → ℕ) (block : Plot) (owner : ℕ → Optio
     fields = λ x i refs nums name here at few. is.fields x i refs nums name here few;
     roots = is.roots;
     answers = is.answers;
+    pins = λ t i inside few. is.pins t i;
+    pinned = λ t i inside few name copy was. ap is_forwarded (is.headers (m (Pin t i)) copy.0 copy.1 name copy.2) ∙ was;
     waits = is.waits;
   }
 
@@ -107,6 +110,7 @@ module _ (c : Config) (m : Word → ℕ) (block : Plot) (owner : ℕ → Option 
     cset = refl;
     currents = λ s. refl;
     share = refl;
+    pins = λ t i. refl;
   }
 
   pub root_renamed : (t i : ℕ) → IsRenamed m (m (Root t i)) v → HoldsBy c (write m (Root t i) v) block owner p g
@@ -133,6 +137,7 @@ module _ (c : Config) (m : Word → ℕ) (block : Plot) (owner : ℕ → Option 
     cset = refl;
     currents = λ s. refl;
     share = refl;
+    pins = λ t i. refl;
   }
 
   pub answer_renamed : (t : ℕ) → IsRenamed m (m (Answer t)) v → HoldsBy c (write m (Answer t) v) block owner p g

@@ -3,7 +3,7 @@ use Rattle.std.proofs.Common.{◌≡◌, ℕ, ◌+◌, ◌*◌, ◌<◌, ◌^◌
 use Rattle.heap_words.specs.declared.config.Config.{Config}
 use Rattle.heap_words.specs.Words.{Word, Cset, Current}
 use Rattle.shen_graph.specs.Graph.{Graph}
-use Rattle.heap_world.specs.World.{Plot}
+use Rattle.heap_world.specs.World.{Plot, HasNoRoom}
 use Rattle.buffer_words.specs.LetGo.{let_go}
 use Rattle.full_words.specs.Promised.{Promises}
 use Rattle.buffer_pauses.proofs.Inside.{buffers_inside}
@@ -15,7 +15,9 @@ use Rattle.cycle_words.specs.Evacuation.Copied.{CanCopyOut, copied_out}
 use Rattle.cycle_words.specs.Finishing.Copies.{is_left, CanCopyFrom, all_copied}
 use Rattle.cycle_words.specs.Finishing.Laws.{CollectingCanFinish}
 use Rattle.cycle_words.proofs.Evacuation.CanCopy.{object_can_be_copied}
-use Rattle.cycle_words.proofs.Finishing.CanUpdate.{references_can_be_updated}
+use Rattle.cycle_words.proofs.Finishing.CanUpdate.{set_can_be_left, references_can_be_updated}
+use Rattle.cycle_words.specs.Finishing.Updated.{all_updated}
+use Rattle.cycle_words.proofs.Finishing.UpdatedHolds.{updated_holds, updated_sized}
 use Rattle.cycle_words.proofs.Finishing.Copies.{all_copied_other, all_copied_set}
 use Rattle.cycle_words.proofs.Finishing.CopiesHold as copies
 use Rattle.cycle_words.proofs.Finishing.CopiesHold.{IsCopiedSoFar, all_copied_hold}
@@ -47,11 +49,15 @@ collecting_can_finish c m block owner p g holds sized seats while small =
       marked = (let_go_collecting c m block owner p g holds while seats).marked;
     } in
     let all = all_copied_hold c owner p g (let_go c m) after.plot first in
+    let none : HasNoRoom all.0 = none_have_room c (all_copied c (let_go c m)) all.0 owner p g all.2.holds
+    (λ seat. all_copied_other c (let_go c m) (Current seat) (λ never. never) ∙ let_go_seats c m block owner p g holds seats seat) in
+    let few : all_copied c (let_go c m) Cset < 2 ^ c.regions =
+    subst (λ k. k < 2 ^ c.regions) (sym (all_copied_set c (let_go c m) ∙ after.left.loosened.others Cset refl)) small in
     record {
       buffers = buffers_inside c m block holds.objects.plotted holds.buffers;
       copies = λ at. all_can c owner p g (c.regions * c.region_words) (let_go c m) after.plot c.region_words first;
-      updates = λ room. references_can_be_updated c (all_copied c (let_go c m)) all.0 owner p g all.2.holds all.2.sized
-          (none_have_room c (all_copied c (let_go c m)) all.0 owner p g all.2.holds
-          (λ seat. all_copied_other c (let_go c m) (Current seat) (λ never. never) ∙ let_go_seats c m block owner p g holds seats seat))
-          (subst (λ k. k < 2 ^ c.regions) (sym (all_copied_set c (let_go c m) ∙ after.left.loosened.others Cset refl)) small);
+      updates = λ room. references_can_be_updated c (all_copied c (let_go c m)) all.0 owner p g all.2.holds all.2.sized none few;
+      frees = λ room. set_can_be_left c (all_updated c (all_copied c (let_go c m))) all.0 owner p g
+          (updated_holds c (all_copied c (let_go c m)) all.0 owner p g all.2.holds all.2.sized none)
+          (updated_sized c (all_copied c (let_go c m)) all.0 owner p g all.2.holds all.2.sized none) none few;
     }

@@ -2,7 +2,7 @@
 use Rattle.std.proofs.Common.{◌≡◌, ◌≢◌, ℕ, ◌+◌, ◌-◌, ◌<◌, ◌≤◌, ◌==◌, ◌&&◌, nat_le, true, Option, inl, inr, ⊎_elim, refl, sym, ap, ◌∙◌, subst, arith}
 use Rattle.std.specs.Int.{bit_at}
 use Rattle.heap_words.specs.declared.config.Config.{Config}
-use Rattle.heap_words.specs.Words.{Word, Phase, Cset, Top, Tams, Current, Black}
+use Rattle.heap_words.specs.Words.{Word, Phase, Cset, Top, Tams, Current, Pin, Black}
 use Rattle.heap_words.specs.Encoding.{next_in, end_in}
 use Rattle.regions.specs.Place.{base_of, region_with, IsOf}
 use Rattle.regions.specs.Sets.{IsIn}
@@ -20,6 +20,7 @@ use Rattle.image_graph.specs.Buffers.{HasNoMoreSeats}
 use Rattle.cycle_words.specs.Marking.Marks.{is_black, IsNew, IsKept}
 use Rattle.cycle_words.specs.Evacuation.Begun.{is_collected}
 use Rattle.cycle_words.specs.StillHolds.{WhileCollecting}
+use Rattle.cycle_words.proofs.Pinned.{same_pinned}
 use Rattle.image_graph.proofs.Loosening.Loosened.{IsLoosened, loosened_reached}
 use Rattle.image_graph.proofs.Loosening.OneTurn as turn
 use Rattle.image_graph.proofs.Loosening.LettingGo.{IsLowered, has_let_go}
@@ -56,7 +57,8 @@ module _ (c : Config) (m n : Word → ℕ) (block plot : Plot) (owner : ℕ → 
         let same = is.others (Tams (region_with c a)) refl in
         omega (arith, was, same);
     outside = λ off a reached member.
-        while.outside (λ two. off (is.others Phase refl ∙ two)) a (loosened_reached c m n block plot owner p g holds is plotted a reached) (subst (λ s. IsCollected c s a) set_same member);
+        same_pinned c m n (λ t i. is.others (Pin t i) refl) (region_with c a)
+        ∙ while.outside (λ two. off (is.others Phase refl ∙ two)) a (loosened_reached c m n block plot owner p g holds is plotted a reached) (subst (λ s. IsCollected c s a) set_same member);
   }
 
 -- So it is where buffers are let go, for their free words lie outside of the set and are new.

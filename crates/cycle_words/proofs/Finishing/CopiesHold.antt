@@ -2,7 +2,7 @@
 use Rattle.std.proofs.Common.{◌≡◌, ◌≢◌, ℕ, ◌+◌, ◌*◌, ◌≤◌, ◌==◌, ◌&&◌, nat_le, true, false, not, zero, suc, Option, sym, subst, ⊎_elim}
 use Rattle.std.specs.Int.{bit_at}
 use Rattle.std.proofs.Math.Path.{fun_ext}
-use Rattle.std.proofs.lemmas.Bool.{cases_Bool, cases_eq, cond-true, cond-false, and_parts, leb-true, eqb-true, eq-eqb, ne_eqb, not-true}
+use Rattle.std.proofs.lemmas.Bool.{cases_Bool, cases_eq, cond-true, cond-false, and_parts, and_from, leb-true, eqb-true, eq-eqb, ne_eqb, not-true, not_from_false}
 use Rattle.heap_words.specs.declared.config.Config.{Config}
 use Rattle.heap_words.specs.Words.{Word, Phase, Cset, Heap}
 use Rattle.heap_words.specs.Encoding.{is_forwarded}
@@ -16,7 +16,9 @@ use Rattle.cycle_words.specs.Evacuation.Live.{words_at}
 use Rattle.cycle_words.specs.Evacuation.Begun.{is_collected}
 use Rattle.cycle_words.specs.Evacuation.Copied.{copied_out, IsCopiedOut}
 use Rattle.cycle_words.specs.Finishing.Copies.{is_left, has_copy_room, copied_from, all_copied}
-use Rattle.cycle_words.specs.StillHolds.{PiecesStay, HoldsStill, AreMarkedObjects}
+use Rattle.cycle_words.specs.StillHolds.{PiecesStay, HoldsStill, AreMarkedObjects, IsUnpinned}
+use Rattle.full_words.specs.Pinned.{is_pinned}
+use Rattle.cycle_words.proofs.Pinned.{unpinned_there}
 use Rattle.cycle_words.proofs.Evacuation.CopiedOut.{copies_out}
 use Rattle.cycle_words.proofs.Evacuation.CopyHolds as copy
 use Rattle.cycle_words.proofs.Finishing.Copies.{room_found, copied_none, copied_next, copied_stuck, copied_skips}
@@ -27,20 +29,39 @@ pub record IsCopiedSoFar (c : Config) (n : Word → ℕ) (plot : Plot) (owner : 
   pub sized : AreSized n plot
   pub marked : AreMarkedObjects c n plot
 
+-- what is left is marked in a region that is not pinned, and has not moved
+pub left_parts : (c : Config) (m : Word → ℕ) (a : ℕ) → is_left c m a ≡ true
+    → (is_collected c m a ≡ true) × (is_pinned c m (region_with c a) ≡ false) × (is_black c m a ≡ true) × (is_forwarded (m (Heap a)) ≡ false)
+left_parts c m a left =
+    let three = and_parts (is_collected c m a && not (is_pinned c m (region_with c a)) && is_black c m a) (not (is_forwarded (m (Heap a)))) left in
+    let two = and_parts (is_collected c m a && not (is_pinned c m (region_with c a))) (is_black c m a) three.0 in
+    let one = and_parts (is_collected c m a) (not (is_pinned c m (region_with c a))) two.0 in
+    (one.0, not-true (is_pinned c m (region_with c a)) one.1, two.1, not-true (is_forwarded (m (Heap a))) three.1)
+
+-- and each such object is left
+pub is_left_if : (c : Config) (m : Word → ℕ) (a : ℕ) → is_collected c m a ≡ true → is_pinned c m (region_with c a) ≡ false → is_black c m a ≡ true → is_forwarded (m (Heap a)) ≡ false
+    → is_left c m a ≡ true
+is_left_if c m a collected unpinned black plain =
+    and_from (is_collected c m a && not (is_pinned c m (region_with c a)) && is_black c m a) (not (is_forwarded (m (Heap a))))
+    (and_from (is_collected c m a && not (is_pinned c m (region_with c a))) (is_black c m a)
+    (and_from (is_collected c m a) (not (is_pinned c m (region_with c a))) collected (not_from_false (is_pinned c m (region_with c a)) unpinned)) black)
+    (not_from_false (is_forwarded (m (Heap a))) plain)
+
 module _ (c : Config) (owner : ℕ → Option ℕ) (p : Promises) (g : Graph) where
   -- An object is left, ..
   module _ (m : Word → ℕ) (block : Plot) (so_far : IsCopiedSoFar c m block owner p g) (a : ℕ) (left : is_left c m a ≡ true) where
     pub parts : (is_collected c m a ≡ true) × (is_black c m a ≡ true) × (is_forwarded (m (Heap a)) ≡ false)
-    parts =
-        let three = and_parts (is_collected c m a && is_black c m a) (not (is_forwarded (m (Heap a)))) left in
-        let two = and_parts (is_collected c m a) (is_black c m a) three.0 in
-        (two.0, two.1, not-true (is_forwarded (m (Heap a))) three.1)
+    parts = let all = left_parts c m a left in (all.0, all.2, all.3)
 
     pub above : c.region_words ≤ a
     above = leb-true c.region_words a (and_parts (nat_le c.region_words a) (bit_at (m Cset) (region_with c a) == 1) parts.0).0
 
     pub inside : IsCollected c (m Cset) a
     inside = eqb-true (bit_at (m Cset) (region_with c a)) 1 (and_parts (nat_le c.region_words a) (bit_at (m Cset) (region_with c a) == 1) parts.0).1
+
+    -- no pin slot holds it
+    pub unpinned : IsUnpinned c m a
+    unpinned = unpinned_there c m a above (left_parts c m a left).1
 
     pub piece : HasObject block a
     piece = so_far.marked a parts.0 parts.1
@@ -58,16 +79,16 @@ module _ (c : Config) (owner : ℕ → Option ℕ) (p : Promises) (g : Graph) wh
 
       -- the pieces with the copy
       abbrev pub more : Plot
-      more = copy.plot c m block owner p g so_far.holds a piece.0 piece.1 piece.2 inside parts.2 words out
+      more = copy.plot c m block owner p g so_far.holds a piece.0 piece.1 piece.2 inside parts.2 unpinned words out
 
       pub more_stay : PiecesStay block more
-      more_stay = copy.stays c m block owner p g so_far.holds a piece.0 piece.1 piece.2 inside parts.2 words out
+      more_stay = copy.stays c m block owner p g so_far.holds a piece.0 piece.1 piece.2 inside parts.2 unpinned words out
 
       pub one_copied : IsCopiedSoFar c n more owner p g
       one_copied = record {
-        holds = copy.copied_holds c m block owner p g so_far.holds a piece.0 piece.1 piece.2 inside parts.2 words out;
-        sized = copy.copied_sized c m block owner p g so_far.holds a piece.0 piece.1 piece.2 inside parts.2 words out so_far.sized;
-        marked = copy.marked_still c m block owner p g so_far.holds a piece.0 piece.1 piece.2 inside parts.2 words out so_far.marked;
+        holds = copy.copied_holds c m block owner p g so_far.holds a piece.0 piece.1 piece.2 inside parts.2 unpinned words out;
+        sized = copy.copied_sized c m block owner p g so_far.holds a piece.0 piece.1 piece.2 inside parts.2 unpinned words out so_far.sized;
+        marked = copy.marked_still c m block owner p g so_far.holds a piece.0 piece.1 piece.2 inside parts.2 unpinned words out so_far.marked;
       }
 
   -- address by address

@@ -1,8 +1,8 @@
--- Once all that is left of the collection set was copied out, nothing that can be reached lies there.
-use Rattle.std.proofs.Common.{◌≡◌, ◌≢◌, ℕ, ◌+◌, ◌*◌, ◌<◌, ◌≤◌, ◌==◌, ◌&&◌, nat_le, true, false, not, zero, suc, Option, sym, ap, ◌∙◌, subst, ⊎_elim, arith}
+-- Once all that is left of the collection set was copied out, nothing that can be reached lies there, but in pinned regions.
+use Rattle.std.proofs.Common.{◌≡◌, ◌≢◌, ℕ, ◌+◌, ◌*◌, ◌<◌, ◌≤◌, ◌==◌, true, false, zero, suc, Option, sym, ap, ◌∙◌, subst, ⊎_elim, arith}
 use Rattle.std.specs.Int.{bit_at}
 use Rattle.std.proofs.Math.Path.{fun_ext}
-use Rattle.std.proofs.lemmas.Bool.{cases_Bool, cases_eq, cond-true, cond-false, and_parts, and_from, and_left, le-leb, eq-eqb, ne_eqb, not-true, not_from_false, true≢false, false_from_ne_true}
+use Rattle.std.proofs.lemmas.Bool.{cases_Bool, cases_eq, cond-true, cond-false, eq-eqb, ne_eqb, true≢false, false_from_ne_true, true_from_ne_false}
 use Rattle.std.proofs.lemmas.Nat.Bits.{bit_at-zero}
 use Rattle.heap_words.specs.declared.config.Config.{Config}
 use Rattle.heap_words.specs.Words.{Word, Phase, Cset, Top, Heap}
@@ -13,7 +13,7 @@ use Rattle.shen_graph.specs.Graph.{Graph}
 use Rattle.heap_world.specs.World.{thing, words_of, Plot, IsCollected}
 use Rattle.heap_world.proofs.Pointing.{piece_inside}
 use Rattle.full_words.specs.Held.{IsAmong}
-use Rattle.full_words.specs.Full.{now_in, root_words}
+use Rattle.full_words.specs.Full.{now_in, held_words}
 use Rattle.full_words.specs.Promised.{Promises, with_promised}
 use Rattle.full_words.proofs.Reached.{held_is_reached}
 use Rattle.image_graph.specs.State.{EndsIn}
@@ -26,13 +26,15 @@ use Rattle.cycle_words.specs.Evacuation.Begun.{is_collected}
 use Rattle.cycle_words.specs.Evacuation.Copied.{copied_out, IsCopiedOut}
 use Rattle.cycle_words.specs.Finishing.Copies.{is_left, has_copy_room, copied_from, is_room_from, all_copied, is_room_for_all}
 use Rattle.cycle_words.specs.Finishing.Laws.{NoneLeftInside}
-use Rattle.cycle_words.specs.StillHolds.{WhileCollecting}
+use Rattle.cycle_words.specs.StillHolds.{NothingInside, WhileCollecting, IsUnpinned}
+use Rattle.full_words.specs.Pinned.{is_pinned}
+use Rattle.cycle_words.proofs.Pinned.{same_pinned}
 use Rattle.cycle_words.proofs.Evacuation.CopyHolds as copy
 use Rattle.cycle_words.proofs.Evacuation.CopyHolds.{some_set, IsInOrder, in_order}
 use Rattle.cycle_words.proofs.Finishing.Copies.{copied_none, copied_next, copied_skips, room_if, room_skips, all_copied_set}
 use Rattle.cycle_words.proofs.Finishing.CopiesHold as copies
-use Rattle.cycle_words.proofs.Finishing.CopiesHold.{IsCopiedSoFar}
-use Rattle.cycle_words.proofs.Finishing.Fields.{collected_low}
+use Rattle.cycle_words.proofs.Finishing.CopiesHold.{IsCopiedSoFar, left_parts, is_left_if}
+use Rattle.cycle_words.proofs.Finishing.Fields.{collected_is, collected_low}
 
 -- What holds between two objects, and that nothing is left at the addresses that were passed.
 pub record IsGoingOn (c : Config) (n : Word → ℕ) (plot : Plot) (owner : ℕ → Option ℕ) (p : Promises) (g : Graph) (passed : ℕ) : Type 0 where
@@ -58,6 +60,9 @@ module _ (c : Config) (owner : ℕ → Option ℕ) (p : Promises) (g : Graph) wh
     abbrev inside : IsCollected c (m Cset) a
     inside = copies.inside c owner p g m block so_far a left
 
+    abbrev unpinned : IsUnpinned c m a
+    unpinned = copies.unpinned c owner p g m block so_far a left
+
     abbrev piece : HasObject block a
     piece = copies.piece c owner p g m block so_far a left
 
@@ -67,26 +72,25 @@ module _ (c : Config) (owner : ℕ → Option ℕ) (p : Promises) (g : Graph) wh
     -- what is left was left, and is another object
     left_was : (y : ℕ) → is_left c n y ≡ true → (y ≢ a) × (is_left c m y ≡ true)
     left_was y now =
-        let three = and_parts (is_collected c n y && is_black c n y) (not (is_forwarded (n (Heap y)))) now in
-        let two = and_parts (is_collected c n y) (is_black c n y) three.0 in
-        let collected : is_collected c m y ≡ true = sym (copy.collected_same c m block owner p g so_far.holds a piece.0 piece.1 piece.2 inside parts.2 words out y) ∙ two.0 in
-        let black : is_black c m y ≡ true = sym (copy.black_same c m block owner p g so_far.holds a piece.0 piece.1 piece.2 inside parts.2 words out y) ∙ two.1 in
-        let plain : is_forwarded (n (Heap y)) ≡ false = not-true (is_forwarded (n (Heap y))) three.1 in
+        let parts_now = left_parts c n y now in
+        let collected : is_collected c m y ≡ true =
+        sym (copy.collected_same c m block owner p g so_far.holds a piece.0 piece.1 piece.2 inside parts.2 unpinned words out y) ∙ parts_now.0 in
+        let bare : is_pinned c m (region_with c y) ≡ false =
+        sym (same_pinned c m n (copy.pin_same c m block owner p g so_far.holds a piece.0 piece.1 piece.2 inside parts.2 unpinned words out) (region_with c y)) ∙ parts_now.1 in
+        let black : is_black c m y ≡ true = sym (copy.black_same c m block owner p g so_far.holds a piece.0 piece.1 piece.2 inside parts.2 unpinned words out y) ∙ parts_now.2 in
+        let plain : is_forwarded (n (Heap y)) ≡ false = parts_now.3 in
         let other : y ≢ a = λ same.
-        true≢false (sym (copy.moved_now c m block owner p g so_far.holds a piece.0 piece.1 piece.2 inside parts.2 words out) ∙ ap (λ k. is_forwarded (n (Heap k))) (sym same) ∙ plain) in
+        true≢false (sym (copy.moved_now c m block owner p g so_far.holds a piece.0 piece.1 piece.2 inside parts.2 unpinned words out) ∙ ap (λ k. is_forwarded (n (Heap k))) (sym same) ∙ plain) in
         let was = so_far.marked y collected black in
-        let same : n (Heap y) ≡ m (Heap y) = copy.header_same c m block owner p g so_far.holds a piece.0 piece.1 piece.2 inside parts.2 words out y was.0 other was.1 in (
-          other,
-          and_from (is_collected c m y && is_black c m y) (not (is_forwarded (m (Heap y)))) (and_from (is_collected c m y) (is_black c m y) collected black)
-              (not_from_false (is_forwarded (m (Heap y))) (ap is_forwarded (sym same) ∙ plain)),
-        )
+        let same : n (Heap y) ≡ m (Heap y) = copy.header_same c m block owner p g so_far.holds a piece.0 piece.1 piece.2 inside parts.2 unpinned words out y was.0 other was.1 in
+        (other, is_left_if c m y collected bare black (ap is_forwarded (sym same) ∙ plain))
 
     one_more : (plot : Plot) × IsGoingOn c n plot owner p g (a + 1)
     one_more = (
-      copy.plot c m block owner p g so_far.holds a piece.0 piece.1 piece.2 inside parts.2 words out,
+      copy.plot c m block owner p g so_far.holds a piece.0 piece.1 piece.2 inside parts.2 unpinned words out,
       record {
         so_far = copies.one_copied c owner p g m block so_far a left room;
-        order = copy.order_still c m block owner p g so_far.holds a piece.0 piece.1 piece.2 inside parts.2 words out on.order;
+        order = copy.order_still c m block owner p g so_far.holds a piece.0 piece.1 piece.2 inside parts.2 unpinned words out on.order;
         none_left = λ y below. false_from_ne_true (is_left c n y) (λ now.
             let was = left_was y now in
             let other = was.0 in
@@ -124,28 +128,25 @@ module _ (c : Config) (owner : ℕ → Option ℕ) (p : Promises) (g : Graph) wh
       ))
       (cases_Bool (is_left c m a))
 
--- What is left once all found room: nothing that can be reached lies in the set.
+-- What is left once all found room: nothing that can be reached lies in the set, but in pinned regions.
 pub record IsEmptied (c : Config) (n : Word → ℕ) (plot : Plot) (owner : ℕ → Option ℕ) (p : Promises) (g : Graph) : Type 0 where
   pub holds : HoldsBy c n plot owner p g
   pub sized : AreSized n plot
   pub reachable : n Cset ≢ 0 → (a : ℕ) → CanBeReached c n a → IsKept c n a
   pub unseated : (seat r : ℕ) → EndsIn c n seat r → IsIn (n Cset) r → ⊥
-  pub outside : (a : ℕ) → CanBeReached c n a → IsCollected c (n Cset) a → ⊥
+  pub outside : NothingInside c n
 
 module _ (c : Config) (n : Word → ℕ) (plot : Plot) (owner : ℕ → Option ℕ) (p : Promises) (g : Graph) (passed : ℕ) (on : IsGoingOn c n plot owner p g passed)
     (all : (c.regions + 1) * c.region_words ≤ passed) where
-  nothing_inside : (a : ℕ) → CanBeReached c n a → IsCollected c (n Cset) a → ⊥
-  nothing_inside a reached inside =
-      let at = held_is_reached c (λ r. n (Top r)) (λ y. n (Heap y)) plot (now_in n) (IsAmong (root_words c n)) (with_promised g p) on.so_far.holds.objects a reached in
+  -- what can be reached in the set, in a region that is not pinned, would be left
+  none_inside : (a : ℕ) → CanBeReached c n a → IsCollected c (n Cset) a → is_pinned c n (region_with c a) ≡ false → ⊥
+  none_inside a reached inside unpinned =
+      let at = held_is_reached c (λ r. n (Top r)) (λ y. n (Heap y)) plot (now_in n) (IsAmong (held_words c n)) (with_promised g p) on.so_far.holds.objects a reached in
       let object = on.so_far.holds.objects.each a at.1 at.2 at.0 reached at.3 in
       let lies = piece_inside c (λ r. n (Top r)) plot on.so_far.holds.objects.plotted a (thing at.0 at.1 at.2) at.3 in
       ⊎_elim
       (λ (black : is_black c n a ≡ true).
-      let left : is_left c n a ≡ true =
-      and_from (is_collected c n a && is_black c n a) (not (is_forwarded (n (Heap a))))
-      (and_from (is_collected c n a) (is_black c n a)
-      (and_from (nat_le c.region_words a) (bit_at (n Cset) (region_with c a) == 1) (le-leb c.region_words a lies.0) (eq-eqb (bit_at (n Cset) (region_with c a)) 1 inside)) black)
-      (not_from_false (is_forwarded (n (Heap a))) (ap is_forwarded object.2.header)) in
+      let left : is_left c n a ≡ true = is_left_if c n a (collected_is c n a lies.0 inside) unpinned black (ap is_forwarded object.2.header) in
       true≢false (sym left ∙ on.none_left a (let end = lies.1 in omega (arith, end, all))))
       (λ (fresh : IsNew c n a).
       let below = below_top c (λ r. n (Top r)) plot on.so_far.holds.objects.plotted a (thing at.0 at.1 at.2) at.3 (omega arith) in
@@ -154,6 +155,9 @@ module _ (c : Config) (n : Word → ℕ) (plot : Plot) (owner : ℕ → Option �
       let end = below.2 in
       omega (arith, fresh, old, from, end))
       (on.order.reachable a reached)
+
+  nothing_inside : NothingInside c n
+  nothing_inside a reached inside = true_from_ne_false (is_pinned c n (region_with c a)) (none_inside a reached inside)
 
   emptied : IsEmptied c n plot owner p g
   emptied = record {
@@ -176,7 +180,7 @@ none_left_inside c m block owner p g holds sized while none a reached inside =
 
 module _ (c : Config) (m : Word → ℕ) (block : Plot) (owner : ℕ → Option ℕ) (p : Promises) (g : Graph) (holds : HoldsBy c m block owner p g) (sized : AreSized m block)
     (while : WhileCollecting c m block) (room : is_room_for_all c m ≡ true) where
-  as_it_is : ((a : ℕ) → CanBeReached c m a → IsCollected c (m Cset) a → ⊥) → IsEmptied c m block owner p g
+  as_it_is : NothingInside c m → IsEmptied c m block owner p g
   as_it_is outside = record { holds = holds; sized = sized; reachable = while.reachable; unseated = while.unseated; outside = outside }
 
   at_first : IsCopiedSoFar c m block owner p g
@@ -187,7 +191,7 @@ module _ (c : Config) (m : Word → ℕ) (block : Plot) (owner : ℕ → Option 
       let begins : IsGoingOn c m block owner p g c.region_words = record {
         so_far = at_first;
         order = in_order c m block while some;
-        none_left = λ y below. and_left (is_collected c m y && is_black c m y) (not (is_forwarded (m (Heap y)))) (and_left (is_collected c m y) (is_black c m y) (collected_low c m y below));
+        none_left = λ y below. false_from_ne_true (is_left c m y) (λ left. true≢false (sym (left_parts c m y left).0 ∙ collected_low c m y below));
       } in
       let found : is_room_from c m c.region_words (c.regions * c.region_words) ≡ true =
       sym (cond-true (m Phase == 2) (is_room_from c m c.region_words (c.regions * c.region_words)) true (eq-eqb (m Phase) 2 at)) ∙ room in
@@ -210,7 +214,7 @@ module _ (c : Config) (m : Word → ℕ) (block : Plot) (owner : ℕ → Option 
           sized = all.2.sized;
           reachable = λ some. absurd (some zero');
           unseated = λ seat r is member. absurd (let bit : bit_at (all_copied c m Cset) r ≡ 0 = ap (λ k. bit_at k r) zero' ∙ bit_at-zero r in omega (arith, bit, member));
-          outside = λ a reached inside. some_set c (all_copied c m Cset) a inside zero';
+          outside = λ a reached inside. absurd (some_set c (all_copied c m Cset) a inside zero');
         },
       )
 

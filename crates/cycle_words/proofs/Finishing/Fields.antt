@@ -1,7 +1,7 @@
--- Which words updating all references changes, where pieces fill the parts in use of regions outside the collection set.
-use Rattle.std.proofs.Common.{◌≡◌, ◌≢◌, ℕ, ◌+◌, ◌-◌, ◌%◌, ◌<◌, ◌≤◌, ◌⊎◌, ◌==◌, ◌&&◌, nat_le, nat_lt, true, false, zero, suc, Some, ⊎_elim, sym, ap, ◌∙◌, subst, arith}
+-- Which words updating all references changes, where pieces fill the parts in use of regions where objects stay.
+use Rattle.std.proofs.Common.{◌≡◌, ◌≢◌, ℕ, ◌+◌, ◌-◌, ◌%◌, ◌<◌, ◌≤◌, ◌⊎◌, ◌==◌, not, nat_le, true, false, Some, ⊎_elim, ap, ◌∙◌, arith}
 use Rattle.std.specs.Int.{bit_at}
-use Rattle.std.proofs.lemmas.Bool.{cond-true, cond-false, cases_eq, cases_lt, eq-eqb, ne_eqb, and_from, and_left, and_right, or_from, or_left, or_right, le-leb, lt-leb, lt-ltb}
+use Rattle.std.proofs.lemmas.Bool.{cond-true, cond-false, cases_eq, cases_lt, eq-eqb, ne_eqb, and_from, and_left, and_right, or_from, or_left, or_right, not_from_true, not_from_false, le-leb, lt-leb}
 use Rattle.std.proofs.lemmas.Nat.Bits.{bit_at-lt}
 use Rattle.heap_words.specs.declared.config.Config.{Config}
 use Rattle.heap_words.specs.Words.{Word, Cset, Top, Tams, Black, Heap}
@@ -9,15 +9,14 @@ use Rattle.heap_words.specs.Encoding.{header_word, is_forwarded, forwardee_in}
 use Rattle.regions.specs.Place.{base_of, region_with}
 use Rattle.regions.specs.Sets.{IsIn}
 use Rattle.regions.specs.Walk.{stride_at}
-use Rattle.regions.proofs.PlaceLemmas.{regions_tile}
 use Rattle.regions.specs.Marks.{HasMark, mark_word, mark_bit}
 use Rattle.heap_world.specs.World.{Block, words_of, Plot, IsCollected, IsYoung, IsPlotted, IsFilled}
 use Rattle.full_words.specs.Full.{now_in}
 use Rattle.cycle_words.specs.Marking.Marks.{is_black}
-use Rattle.cycle_words.proofs.Marking.Plain.{below_top}
 use Rattle.cycle_words.specs.Evacuation.Begun.{is_collected}
-use Rattle.cycle_words.specs.Finishing.Updated.{updated_word, start_of, object_of, is_kept, is_reference, is_outside, is_kept_field, all_updated}
-use Rattle.cycle_words.proofs.Finishing.Starts.{start_first, start_ends, start_goes_on}
+use Rattle.full_words.specs.Pinned.{is_pinned, object_of, is_in_use}
+use Rattle.cycle_words.specs.Finishing.Updated.{updated_word, is_kept, is_kept_here, is_reference, stays, is_staying, is_kept_field, all_updated}
+use Rattle.cycle_words.proofs.Finishing.Walking as walking
 
 -- a bit is 0 or 1
 no_bit : (set r : ℕ) → (IsIn set r → ⊥) → bit_at set r ≡ 0
@@ -59,98 +58,44 @@ module _ (c : Config) (m : Word → ℕ) where
       back : forwardee_in (header_word to) ≡ to
       back = omega arith
 
--- Pieces of regions outside the set begin where the walk comes.
+-- a region outside of the set is one where objects stay, and so is one that is pinned
+pub stays_outside : (c : Config) (m : Word → ℕ) (r : ℕ) → (IsIn (m Cset) r → ⊥) → stays c m r ≡ true
+stays_outside c m r outside = or_left (bit_at (m Cset) r == 0) (is_pinned c m r) (eq-eqb (bit_at (m Cset) r) 0 (no_bit (m Cset) r outside))
+
+pub stays_pinned : (c : Config) (m : Word → ℕ) (r : ℕ) → is_pinned c m r ≡ true → stays c m r ≡ true
+stays_pinned c m r pinned = or_right (bit_at (m Cset) r == 0) (is_pinned c m r) pinned
+
+-- a region of the set that is not pinned is none
+pub gone_inside : (c : Config) (m : Word → ℕ) (r : ℕ) → IsIn (m Cset) r → is_pinned c m r ≡ false → stays c m r ≡ false
+gone_inside c m r inside unpinned = or_from (bit_at (m Cset) r == 0) (is_pinned c m r) (ne_eqb (bit_at (m Cset) r) 0 (λ none. omega (arith, none, inside))) unpinned
+
+-- Which words are updated, where each piece of a region where objects stay says how many words it has.
 module _ (c : Config) (m : Word → ℕ) (block : Plot) (plotted : IsPlotted c (λ r. m (Top r)) block) (filled : IsFilled c (λ r. m (Top r)) block)
     (some : (a : ℕ) (x : Block) → block a ≡ Some x → 1 ≤ words_of x)
-    (sizes : (a : ℕ) (x : Block) → block a ≡ Some x → (IsCollected c (m Cset) a → ⊥) → stride_at (λ y. m (Heap y)) a ≡ words_of x) where
-  abbrev heap : ℕ → ℕ
-  heap y = m (Heap y)
-
-  abbrev start : ℕ → ℕ → ℕ
-  start r k = start_of heap (base_of c r) k
-
-  -- an address of a region's part in use is of the region
-  of_region : (r a : ℕ) → r < c.regions → base_of c r ≤ a → a < base_of c r + m (Top r) → region_with c a ≡ r
-  of_region r a inside from below =
-      let most = plotted.tops r inside in
-      regions_tile.of_no_other c r a (record { from = from; before = omega (arith, below, most) })
-
-  -- the object that has a word is a piece that has it
-  pub covered : (r k : ℕ) → r < c.regions → (IsIn (m Cset) r → ⊥) → k < m (Top r)
-      → (x : Block) × (block (base_of c r + start r k) ≡ Some x) × (start r k ≤ k) × (k < start r k + words_of x)
-  covered r zero inside outside below =
-      let x = filled.first r inside below in
-      let first : start r 0 ≡ 0 = start_first heap (base_of c r) in
-      let at : base_of c r + start r 0 ≡ base_of c r = omega (arith, first) in
-      let long = some (base_of c r) x.0 x.1 in
-      (x.0, ap block at ∙ x.1, omega (arith, first), omega (arith, first, long))
-  covered r (suc k) inside outside below =
-      let before = covered r k inside outside (omega (arith, below)) in
-      let here : region_with c (base_of c r + start r k) ≡ r = of_region r (base_of c r + start r k) inside (omega arith) (omega (arith, before.2, below)) in
-      let long : stride_at heap (base_of c r + start r k) ≡ words_of before.0 =
-      sizes (base_of c r + start r k) before.0 before.1 (λ collected. outside (subst (IsIn (m Cset)) here collected)) in
-      ⊎_elim
-      (λ (ends : start r k + words_of before.0 ≡ suc k).
-      let next : base_of c r + start r k + words_of before.0 < base_of c r + m (Top r) = omega (arith, ends, below) in
-      let y = filled.next r (base_of c r + start r k) before.0 inside (omega arith) before.1 next in
-      let now : start r (suc k) ≡ suc k = start_ends heap (base_of c r) k (omega (arith, ends, long)) in
-      let at : base_of c r + start r (suc k) ≡ base_of c r + start r k + words_of before.0 = omega (arith, now, ends) in
-      let more = some (base_of c r + start r k + words_of before.0) y.0 y.1 in
-      (y.0, ap block at ∙ y.1, omega (arith, now), omega (arith, now, more)))
-      (λ (goes_on : start r k + words_of before.0 ≢ suc k).
-      let now : start r (suc k) ≡ start r k = start_goes_on heap (base_of c r) k (λ ends. goes_on (omega (arith, ends, long))) in
-      let at : base_of c r + start r (suc k) ≡ base_of c r + start r k = omega (arith, now) in
-      (before.0, ap block at ∙ before.1, omega (arith, now, before.2), omega (arith, now, before.3, goes_on)))
-      (cases_eq (start r k + words_of before.0) (suc k))
+    (sizes : (a : ℕ) (x : Block) → block a ≡ Some x → stays c m (region_with c a) ≡ true → stride_at (λ y. m (Heap y)) a ≡ words_of x) where
+  abbrev IsWalked : ℕ → Type 0
+  IsWalked r = stays c m r ≡ true
 
   -- A word of a piece.
   module _ (a j : ℕ) (x : Block) (here : block a ≡ Some x) (below : j < words_of x) where
-    at : (region_with c a < c.regions) × (base_of c (region_with c a) ≤ a) × (a + words_of x ≤ base_of c (region_with c a) + m (Top (region_with c a)))
-    at = below_top c (λ r. m (Top r)) block plotted a x here (let long = some a x here in omega (arith, long))
+    abbrev at : (region_with c a < c.regions) × (base_of c (region_with c a) ≤ a) × (a + words_of x ≤ base_of c (region_with c a) + m (Top (region_with c a)))
+    at = walking.at c m block plotted filled some IsWalked sizes a j x here below
 
     region_low : c.region_words ≤ base_of c (region_with c a)
-    region_low = grind arith
+    region_low = walking.region_low c m block plotted filled some IsWalked sizes a j x here below
 
     pub same_region : region_with c (a + j) ≡ region_with c a
-    same_region = let end = at.2 in of_region (region_with c a) (a + j) at.0 (let from = at.1 in omega (arith, from)) (omega (arith, end, below))
+    same_region = walking.same_region c m block plotted filled some IsWalked sizes a j x here below
 
-    module _ (outside : IsCollected c (m Cset) a → ⊥) where
-      -- the object that has it is the piece
-      in_own_region : base_of c (region_with c a) + start (region_with c a) (a + j - base_of c (region_with c a)) ≡ a
-      in_own_region =
-          let r : ℕ = region_with c a in
-          let from = at.1 in
-          let end = at.2 in
-          let k : ℕ = a + j - base_of c (region_with c a) in
-          let found = covered (region_with c a) (a + j - base_of c (region_with c a)) at.0 outside (omega (arith, from, end, below)) in
-          let y = found.0 in
-          ⊎_elim
-          (λ (first : a < base_of c (region_with c a) + start (region_with c a) (a + j - base_of c (region_with c a))).
-          let apart = plotted.apart a (base_of c (region_with c a) + start (region_with c a) (a + j - base_of c (region_with c a))) x found.0 here found.1 first in
-          absurd (omega (arith, apart, found.2, below, from)))
-          (λ (least : base_of c (region_with c a) + start (region_with c a) (a + j - base_of c (region_with c a)) ≤ a). ⊎_elim
-          (λ (same : base_of c (region_with c a) + start (region_with c a) (a + j - base_of c (region_with c a)) ≡ a). same)
-          (λ (differs : base_of c (region_with c a) + start (region_with c a) (a + j - base_of c (region_with c a)) ≢ a).
-          let apart = plotted.apart (base_of c (region_with c a) + start (region_with c a) (a + j - base_of c (region_with c a))) a found.0 x found.1 here (omega (arith, least, differs)) in
-          absurd (omega (arith, apart, found.3, from)))
-          (cases_eq (base_of c (region_with c a) + start (region_with c a) (a + j - base_of c (region_with c a))) a))
-          (cases_lt a (base_of c (region_with c a) + start (region_with c a) (a + j - base_of c (region_with c a))))
-
+    module _ (stay : stays c m (region_with c a) ≡ true) where
       pub object_is : object_of c m (a + j) ≡ a
-      object_is = ap (λ r. base_of c r + start r (a + j - base_of c r)) same_region ∙ in_own_region
+      object_is = walking.object_is c m block plotted filled some IsWalked sizes a j x here below stay
 
-      -- the word lies outside of the set
-      outside_is : is_outside c m (a + j) ≡ true
-      outside_is =
-          let from = at.1 in
-          let end = at.2 in
-          let low = region_low in
-          subst (λ r. (nat_le c.region_words (a + j) && nat_lt r c.regions && (bit_at (m Cset) r == 0) && nat_lt (a + j - base_of c r) (m (Top r))) ≡ true) (sym same_region)
-          (and_from _ _
-          (and_from _ _
-          (and_from _ _ (le-leb c.region_words (a + j) (omega (arith, low, from))) (lt-ltb (region_with c a) c.regions at.0))
-          (eq-eqb (bit_at (m Cset) (region_with c a)) 0 (no_bit (m Cset) (region_with c a) outside)))
-          (lt-ltb (a + j - base_of c (region_with c a)) (m (Top (region_with c a))) (omega (arith, from, end, below))))
+      -- the word lies where objects stay
+      staying_is : is_staying c m (a + j) ≡ true
+      staying_is =
+          and_from (is_in_use c m (a + j)) (stays c m (region_with c (a + j))) (walking.in_use c m block plotted filled some IsWalked sizes a j x here below)
+          (ap (stays c m) same_region ∙ stay)
 
       -- a word that is no reference of its piece stays
       pub other_stays : is_reference m a (a + j) ≡ false → all_updated c m (Heap (a + j)) ≡ m (Heap (a + j))
@@ -158,6 +103,16 @@ module _ (c : Config) (m : Word → ℕ) (block : Plot) (plotted : IsPlotted c (
         where
           no_field : is_kept_field c m (a + j) ≡ false
           no_field = and_right _ (is_reference m (object_of c m (a + j)) (a + j)) (ap (λ b. is_reference m b (a + j)) object_is ∙ other)
+
+      -- so does one of a piece that has moved
+      pub moved_stays : is_forwarded (m (Heap a)) ≡ true → all_updated c m (Heap (a + j)) ≡ m (Heap (a + j))
+      moved_stays moved = cond-false (is_kept_field c m (a + j)) (updated_word c m (m (Heap (a + j)))) (m (Heap (a + j))) no_field
+        where
+          not_here : is_kept_here c m a ≡ false
+          not_here = and_left (not (is_forwarded (m (Heap a)))) (is_kept c m a) (not_from_true (is_forwarded (m (Heap a))) moved)
+
+          no_field : is_kept_field c m (a + j) ≡ false
+          no_field = and_left _ (is_reference m (object_of c m (a + j)) (a + j)) (and_right (is_staying c m (a + j)) (is_kept_here c m (object_of c m (a + j))) (ap (is_kept_here c m) object_is ∙ not_here))
 
       -- so does one of a piece that is not kept
       pub dead_stays : (HasMark c (λ n. m (Black n)) a → ⊥) → (IsYoung c (λ r. m (Tams r)) a → ⊥) → all_updated c m (Heap (a + j)) ≡ m (Heap (a + j))
@@ -174,19 +129,21 @@ module _ (c : Config) (m : Word → ℕ) (block : Plot) (plotted : IsPlotted c (
               (cases_lt (a - base_of c (region_with c a)) (m (Tams (region_with c a)))))
 
           no_field : is_kept_field c m (a + j) ≡ false
-          no_field = and_left _ (is_reference m (object_of c m (a + j)) (a + j)) (and_right (is_outside c m (a + j)) (is_kept c m (object_of c m (a + j))) (ap (is_kept c m) object_is ∙ not_kept))
+          no_field = and_left _ (is_reference m (object_of c m (a + j)) (a + j)) (and_right (is_staying c m (a + j)) (is_kept_here c m (object_of c m (a + j)))
+              (ap (is_kept_here c m) object_is ∙ and_right (not (is_forwarded (m (Heap a)))) (is_kept c m a) not_kept))
 
-      -- a reference of a kept piece is one for the walk, ..
-      pub kept_field : is_kept c m a ≡ true → is_reference m a (a + j) ≡ true → is_kept_field c m (a + j) ≡ true
-      kept_field kept reference =
+      -- a reference of a kept piece that has not moved is one for the walk, ..
+      pub kept_field : is_forwarded (m (Heap a)) ≡ false → is_kept c m a ≡ true → is_reference m a (a + j) ≡ true → is_kept_field c m (a + j) ≡ true
+      kept_field plain kept reference =
           and_from _ (is_reference m (object_of c m (a + j)) (a + j))
-          (and_from (is_outside c m (a + j)) (is_kept c m (object_of c m (a + j))) outside_is (ap (is_kept c m) object_is ∙ kept))
+          (and_from (is_staying c m (a + j)) (is_kept_here c m (object_of c m (a + j))) staying_is
+          (ap (is_kept_here c m) object_is ∙ and_from (not (is_forwarded (m (Heap a)))) (is_kept c m a) (not_from_false (is_forwarded (m (Heap a))) plain) kept))
           (ap (λ b. is_reference m b (a + j)) object_is ∙ reference)
 
       -- .. and is updated
-      pub field_updated : HasMark c (λ n. m (Black n)) a ⊎ IsYoung c (λ r. m (Tams r)) a → is_reference m a (a + j) ≡ true
+      pub field_updated : is_forwarded (m (Heap a)) ≡ false → HasMark c (λ n. m (Black n)) a ⊎ IsYoung c (λ r. m (Tams r)) a → is_reference m a (a + j) ≡ true
           → all_updated c m (Heap (a + j)) ≡ updated_word c m (m (Heap (a + j)))
-      field_updated kept reference = cond-true (is_kept_field c m (a + j)) (updated_word c m (m (Heap (a + j)))) (m (Heap (a + j))) (kept_field kept_is reference)
+      field_updated plain kept reference = cond-true (is_kept_field c m (a + j)) (updated_word c m (m (Heap (a + j)))) (m (Heap (a + j))) (kept_field plain kept_is reference)
         where
           kept_is : is_kept c m a ≡ true
           kept_is =
@@ -202,10 +159,11 @@ module _ (c : Config) (m : Word → ℕ) (block : Plot) (plotted : IsPlotted c (
               (le-leb (m (Tams (region_with c a))) (a - base_of c (region_with c a)) (omega (arith, young, from))))
               kept
 
-    -- a word of the collection set stays
-    pub collected_stays : IsCollected c (m Cset) a → all_updated c m (Heap (a + j)) ≡ m (Heap (a + j))
-    collected_stays inside = cond-false (is_kept_field c m (a + j)) (updated_word c m (m (Heap (a + j)))) (m (Heap (a + j))) (and_left _ _ (and_left _ _ no_region))
-      where
-        no_region : is_outside c m (a + j) ≡ false
-        no_region = subst (λ r. (nat_le c.region_words (a + j) && nat_lt r c.regions && (bit_at (m Cset) r == 0) && nat_lt (a + j - base_of c r) (m (Top r))) ≡ false) (sym same_region)
-            (and_left _ _ (and_right _ (bit_at (m Cset) (region_with c a) == 0) (ne_eqb (bit_at (m Cset) (region_with c a)) 0 (λ none. omega (arith, none, inside)))))
+    -- a word of a region that goes stays
+    pub gone_stays : stays c m (region_with c a) ≡ false → all_updated c m (Heap (a + j)) ≡ m (Heap (a + j))
+    gone_stays gone =
+        cond-false (is_kept_field c m (a + j)) (updated_word c m (m (Heap (a + j)))) (m (Heap (a + j)))
+        (and_left _ _ (and_left _ _ (and_right (is_in_use c m (a + j)) (stays c m (region_with c (a + j))) (ap (stays c m) same_region ∙ gone))))
+
+    pub collected_stays : IsCollected c (m Cset) a → is_pinned c m (region_with c a) ≡ false → all_updated c m (Heap (a + j)) ≡ m (Heap (a + j))
+    collected_stays inside unpinned = gone_stays (gone_inside c m (region_with c a) inside unpinned)

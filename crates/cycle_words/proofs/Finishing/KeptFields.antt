@@ -1,24 +1,24 @@
--- The fields that updating all references changes are those of kept objects outside the collection set.
-use Rattle.std.proofs.Common.{◌≡◌, ℕ, ◌+◌, ◌-◌, ◌<◌, ◌≤◌, ◌==◌, ◌&&◌, not, nat_le, nat_lt, true, false, inl, inr, Option, Some, sym, ap, ◌∙◌, subst, ⊎_elim, arith}
-use Rattle.std.specs.Int.{bit_at}
-use Rattle.std.proofs.lemmas.Bool.{and_parts, and_from, or_cases, or_left, or_right, leb-true, ltb-true, le-leb, lt-ltb, eqb-true, not-true, not_from_false, true≢false}
+-- The fields that updating all references changes are those of kept objects that stay.
+use Rattle.std.proofs.Common.{◌≡◌, ℕ, ◌+◌, ◌-◌, ◌<◌, ◌≤◌, ◌&&◌, not, nat_le, nat_lt, true, false, inl, inr, Option, Some, sym, ap, ◌∙◌, subst, ⊎_elim, arith}
+use Rattle.std.proofs.lemmas.Bool.{and_parts, and_from, or_cases, or_left, or_right, leb-true, ltb-true, le-leb, lt-ltb, not-true, not_from_false, true≢false}
 use Rattle.heap_words.specs.declared.config.Config.{Config}
-use Rattle.heap_words.specs.Words.{Word, Cset, Top, Tams, Heap}
-use Rattle.heap_words.specs.Encoding.{refs_in}
+use Rattle.heap_words.specs.Words.{Word, Top, Tams, Heap}
+use Rattle.heap_words.specs.Encoding.{is_forwarded, refs_in}
 use Rattle.regions.specs.Place.{base_of, region_with}
-use Rattle.regions.specs.Sets.{IsIn}
 use Rattle.regions.specs.Walk.{is_filler, stride_at}
 use Rattle.shen_graph.specs.Graph.{Graph}
-use Rattle.heap_world.specs.World.{Block, filler, words_of, room_of, is_loose, Plot, HasNoRoom, IsCollected}
+use Rattle.heap_world.specs.World.{Block, filler, words_of, room_of, is_loose, Plot, HasNoRoom}
 use Rattle.full_words.specs.Promised.{Promises}
 use Rattle.image_graph.specs.Holds.{HoldsBy, AreSized}
 use Rattle.cycle_words.specs.Marking.Marks.{is_black, IsNew, IsKept}
 use Rattle.cycle_words.proofs.Marking.Plain.{below_top}
 use Rattle.cycle_words.proofs.Evacuation.RegionAddresses as regions
 use Rattle.cycle_words.proofs.Evacuation.RegionAddresses.{from_base}
-use Rattle.cycle_words.specs.Finishing.Updated.{object_of, is_kept, is_reference, is_outside, is_kept_field}
+use Rattle.full_words.specs.Pinned.{object_of, is_in_use}
+use Rattle.cycle_words.specs.Finishing.Updated.{is_kept, is_kept_here, is_reference, stays, is_staying, is_kept_field}
 use Rattle.cycle_words.specs.Finishing.Laws.{IsFieldOfKept, KeptFieldsAreFields}
-use Rattle.cycle_words.proofs.Finishing.Fields.{covered, same_region, kept_field}
+use Rattle.cycle_words.proofs.Finishing.Walking.{covered}
+use Rattle.cycle_words.proofs.Finishing.Fields.{same_region, kept_field}
 use Rattle.image_graph.proofs.Loosening.Loosened.{kind_of}
 use Rattle.cycle_words.proofs.Finishing.Strides.{filler_fills, strides}
 
@@ -40,8 +40,8 @@ module _ (c : Config) (m : Word → ℕ) (block : Plot) (owner : ℕ → Option 
   some : (a : ℕ) (b : Block) → block a ≡ Some b → 1 ≤ words_of b
   some = holds.pieces.some
 
-  sizes : (a : ℕ) (b : Block) → block a ≡ Some b → (IsCollected c (m Cset) a → ⊥) → stride_at (λ y. m (Heap y)) a ≡ words_of b
-  sizes a b is away = strides m block sized none a b is
+  sizes : (a : ℕ) (b : Block) → block a ≡ Some b → stays c m (region_with c a) ≡ true → stride_at (λ y. m (Heap y)) a ≡ words_of b
+  sizes a b is stay = strides m block sized none a b is
 
   -- what the walk finds is a field of a kept object
   module _ (x : ℕ) (is : is_kept_field c m x ≡ true) where
@@ -51,25 +51,26 @@ module _ (c : Config) (m : Word → ℕ) (block : Plot) (owner : ℕ → Option 
     abbrev a : ℕ
     a = object_of c m x
 
-    parts : ((is_outside c m x ≡ true) × (is_kept c m a ≡ true)) × (is_reference m a x ≡ true)
-    parts = let both = and_parts _ (is_reference m a x) is in (and_parts (is_outside c m x) (is_kept c m a) both.0, both.1)
+    parts : ((is_staying c m x ≡ true) × (is_kept_here c m a ≡ true)) × (is_reference m a x ≡ true)
+    parts = let both = and_parts _ (is_reference m a x) is in (and_parts (is_staying c m x) (is_kept_here c m a) both.0, both.1)
 
-    lies : (c.region_words ≤ x) × (r < c.regions) × (bit_at (m Cset) r ≡ 0) × (x - base_of c r < m (Top r))
+    -- the object has not moved, and is kept
+    kept_here : (is_forwarded (m (Heap a)) ≡ false) × (is_kept c m a ≡ true)
+    kept_here = let both = and_parts (not (is_forwarded (m (Heap a)))) (is_kept c m a) parts.0.1 in (not-true (is_forwarded (m (Heap a))) both.0, both.1)
+
+    lies : (c.region_words ≤ x) × (r < c.regions) × (stays c m r ≡ true) × (x - base_of c r < m (Top r))
     lies =
-        let last = and_parts _ (nat_lt (x - base_of c r) (m (Top r))) parts.0.0 in
-        let set = and_parts _ (bit_at (m Cset) r == 0) last.0 in
-        let first = and_parts (nat_le c.region_words x) (nat_lt r c.regions) set.0 in
-        (leb-true c.region_words x first.0, ltb-true r c.regions first.1, eqb-true (bit_at (m Cset) r) 0 set.1, ltb-true (x - base_of c r) (m (Top r)) last.1)
+        let last = and_parts (is_in_use c m x) (stays c m r) parts.0.0 in
+        let first = and_parts (nat_le c.region_words x) (nat_lt r c.regions && nat_lt (x - base_of c r) (m (Top r))) last.0 in
+        let rest = and_parts (nat_lt r c.regions) (nat_lt (x - base_of c r) (m (Top r))) first.1 in
+        (leb-true c.region_words x first.0, ltb-true r c.regions rest.0, last.1, ltb-true (x - base_of c r) (m (Top r)) rest.1)
 
     from : base_of c r ≤ x
     from = let again = from_base c.region_words x (regions.some_words c) lies.0 in omega (arith, again)
 
-    outside : IsIn (m Cset) r → ⊥
-    outside member = let none = lies.2 in omega (arith, member, none)
-
     found : (b : Block) × (block a ≡ Some b) × (a ≤ x) × (x < a + words_of b)
     found =
-        let at = covered c m block holds.objects.plotted holds.filled some sizes r (x - base_of c r) lies.1 outside lies.3 in
+        let at = covered c m block holds.objects.plotted holds.filled some (λ q. stays c m q ≡ true) sizes r (x - base_of c r) lies.1 lies.2 lies.3 in
         let start = from in
         let low = at.2 in
         let high = at.3 in
@@ -106,8 +107,9 @@ module _ (c : Config) (m : Word → ℕ) (block : Plot) (owner : ℕ → Option 
       piece = found.0;
       here = found.1;
       is_object = object_there;
-      outside = ap (bit_at (m Cset)) region_is ∙ lies.2;
-      kept = kept_is c m a (below_top c (λ q. m (Top q)) block holds.objects.plotted a found.0 found.1 (some a found.0 found.1)).1 parts.0.1;
+      stays_there = ap (stays c m) region_is ∙ lies.2;
+      unmoved = kept_here.0;
+      kept = kept_is c m a (below_top c (λ q. m (Top q)) block holds.objects.plotted a found.0 found.1 (some a found.0 found.1)).1 kept_here.1;
       field = x - (a + 3);
       few = (let low = tests.0.1 in let high = tests.1 in omega (arith, low, high));
       at = (let low = tests.0.1 in omega (arith, low));
@@ -116,13 +118,13 @@ module _ (c : Config) (m : Word → ℕ) (block : Plot) (owner : ℕ → Option 
   -- and the walk finds each
   pub is_field : (x : ℕ) → IsFieldOfKept c m block x → is_kept_field c m x ≡ true
   is_field x field =
-      let away : IsCollected c (m Cset) field.object → ⊥ = λ member. (let none = field.outside in omega (arith, member, none)) in
       let size = sized.objects field.object field.piece field.here field.is_object in
       let few = field.few in
       let place : field.object + (3 + field.field) ≡ x = (let at = field.at in omega (arith, at)) in
       let below : 3 + field.field < words_of field.piece = omega (arith, size, few) in
       subst (λ y. is_kept_field c m y ≡ true) place
-      (kept_field c m block holds.objects.plotted holds.filled some sizes field.object (3 + field.field) field.piece field.here below away (is_kept_is c m field.object field.kept)
+      (kept_field c m block holds.objects.plotted holds.filled some sizes field.object (3 + field.field) field.piece field.here below field.stays_there field.unmoved
+      (is_kept_is c m field.object field.kept)
       (and_from (not (is_filler (m (Heap field.object))) && nat_le (field.object + 3) (field.object + (3 + field.field))) (nat_lt (field.object + (3 + field.field)) (field.object + 3 + refs_in (m (Heap (field.object + 1)))))
       (and_from (not (is_filler (m (Heap field.object)))) (nat_le (field.object + 3) (field.object + (3 + field.field)))
       (not_from_false (is_filler (m (Heap field.object))) (sized.headers field.object field.piece field.here field.is_object))

@@ -11,11 +11,10 @@ use Rattle.regions.specs.Sets.{IsIn}
 use Rattle.shen_graph.specs.Graph.{Graph}
 use Rattle.heap_world.specs.World.{Plot}
 use Rattle.full_words.specs.Promised.{Promises}
-use Rattle.image_graph.specs.Holds.{HoldsBy, AreSized}
+use Rattle.image_graph.specs.Holds.{HoldsBy}
 use Rattle.cycle_words.specs.Marking.Final.{freed, freed_block, freed_owner}
 use Rattle.cycle_words.specs.Updating.Changes.{is_chosen, final_updated}
 use Rattle.cycle_words.specs.StillHolds.{NothingNames, EndingHolds}
-use Rattle.cycle_words.specs.Finishing.Finish.{set_freed}
 use Rattle.cycle_words.specs.Evacuation.Begun.{with_set}
 use Rattle.cycle_words.proofs.Evacuation.ClearedHolds.{set_stored_holds}
 use Rattle.cycle_words.proofs.Marking.Alike.{sized_alike, holds_alike}
@@ -43,10 +42,10 @@ module _ (c : Config) (m : Word → ℕ) (block : Plot) (owner : ℕ → Option 
   abbrev n : Word → ℕ
   n = freed c out m
 
-  abbrev pub left : Plot
+  abbrev left : Plot
   left = freed_block c out block
 
-  abbrev pub owned : ℕ → Option ℕ
+  abbrev owned : ℕ → Option ℕ
   owned = freed_owner out owner
 
   -- nothing that is left has moved, so no region need be in the set
@@ -56,16 +55,8 @@ module _ (c : Config) (m : Word → ℕ) (block : Plot) (owner : ℕ → Option 
 
   pub set_ended_holds : HoldsBy c (final_updated c m) left owned p g
   set_ended_holds = holds_alike (with_set n 0) (final_updated c m)
-      (record { heap = λ a. refl; top = λ r. refl; root = λ t i. refl; answer = λ t. refl; wait = λ t. refl; current = λ s. refl; free = refl; cset = refl; share = refl })
+      (record { heap = λ a. refl; top = λ r. refl; root = λ t i. refl; answer = λ t. refl; wait = λ t. refl; current = λ s. refl; free = refl; cset = refl; share = refl; pin = λ t i. refl })
       c left owned p g calm_holds
-
-  pub set_freed_holds : HoldsBy c (set_freed c m) left owned p g
-  set_freed_holds = holds_alike (with_set n 0) (set_freed c m)
-      (record { heap = λ a. refl; top = λ r. refl; root = λ t i. refl; answer = λ t. refl; wait = λ t. refl; current = λ s. refl; free = refl; cset = refl; share = refl })
-      c left owned p g calm_holds
-
-  pub set_freed_sized : AreSized m block → AreSized (set_freed c m) left
-  set_freed_sized sized = sized_alike m (set_freed c m) left (λ a. refl) (freed_sized c out m block sized)
 
 pub ending_holds : (c : Config) (m : Word → ℕ) → EndingHolds c m (final_updated c m)
 ending_holds c m block owner p g holds nothing = record {

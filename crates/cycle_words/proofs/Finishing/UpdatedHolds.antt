@@ -1,23 +1,22 @@
 -- All references are updated: words that held a graph hold it in the same way, where each piece says how many words it has.
 use Rattle.std.proofs.Common.{◌≡◌, ℕ, ◌+◌, ◌<◌, ◌≤◌, ◌⊎◌, ◌&&◌, not, nat_le, nat_lt, true, false, inl, inr, Some, Option, refl, sym, ap, ◌∙◌, ⊎_elim, arith}
-use Rattle.std.specs.Int.{bit_at}
-use Rattle.std.proofs.lemmas.Bool.{cases_Bool, cases_eq, cond-true, cond-false, and_left, and_right, lt-leb, le-ltb}
+use Rattle.std.proofs.lemmas.Bool.{cases_Bool, cond-true, cond-false, and_left, and_right, lt-leb, le-ltb}
 use Rattle.heap_words.specs.declared.config.Config.{Config}
-use Rattle.heap_words.specs.Words.{Word, Cset, Root, Answer, Heap}
+use Rattle.heap_words.specs.Words.{Word, Root, Answer, Heap}
 use Rattle.heap_words.specs.Encoding.{refs_in, object_words}
 use Rattle.regions.specs.Place.{region_with}
 use Rattle.regions.specs.Walk.{is_filler}
 use Rattle.shen_graph.specs.Graph.{Graph}
-use Rattle.heap_world.specs.World.{Block, thing, filler, words_of, Plot, HasNoRoom, IsCollected}
+use Rattle.heap_world.specs.World.{Block, thing, filler, words_of, Plot, HasNoRoom}
 use Rattle.full_words.specs.Full.{now_in}
 use Rattle.full_words.specs.Promised.{Promises}
 use Rattle.image_graph.specs.Holds.{HoldsBy, AreSized}
 use Rattle.cycle_words.specs.Evacuation.Begun.{is_collected}
-use Rattle.cycle_words.specs.Finishing.Updated.{updated_word, is_reference, is_kept_field, all_updated}
+use Rattle.cycle_words.specs.Finishing.Updated.{updated_word, is_reference, stays, is_kept_field, all_updated}
 use Rattle.image_graph.proofs.Carried.{IsRenamed, not_renamed}
 use Rattle.cycle_words.proofs.Evacuation.RenamedInPlace.{IsRenaming, renamed_holds}
 use Rattle.cycle_words.proofs.Finishing.Strides.{strides}
-use Rattle.cycle_words.proofs.Finishing.Fields.{low_spared, other_stays, collected_stays}
+use Rattle.cycle_words.proofs.Finishing.Fields.{low_spared, other_stays, gone_stays}
 
 -- an updated word is renamed
 pub updated_renamed : (c : Config) (m : Word → ℕ) (v : ℕ) → IsRenamed m v (updated_word c m v)
@@ -49,12 +48,13 @@ module _ (c : Config) (m : Word → ℕ) (block : Plot) (owner : ℕ → Option 
 
   pub word_stays : (a k refs : ℕ) (b : Block) → block a ≡ Some b → k < words_of b → (k < 3) ⊎ ((3 + refs ≤ k) × (refs_in (heap (a + 1)) ≡ refs)) → n (Heap (a + k)) ≡ m (Heap (a + k))
   word_stays a k refs b is below out = ⊎_elim
-      (λ (inside : IsCollected c (m Cset) a). collected_stays c m block holds.objects.plotted holds.filled holds.pieces.some (λ q z here away. strides m block sized none q z here) a k b is below inside)
-      (λ (away : IsCollected c (m Cset) a → ⊥).
-      other_stays c m block holds.objects.plotted holds.filled holds.pieces.some (λ q z here off. strides m block sized none q z here) a k b is below away (not_reference a k refs out))
-      (cases_eq (bit_at (m Cset) (region_with c a)) 1)
+      (λ (stay : stays c m (region_with c a) ≡ true).
+      other_stays c m block holds.objects.plotted holds.filled holds.pieces.some (λ q z here off. strides m block sized none q z here) a k b is below stay (not_reference a k refs out))
+      (λ (gone : stays c m (region_with c a) ≡ false).
+      gone_stays c m block holds.objects.plotted holds.filled holds.pieces.some (λ q z here off. strides m block sized none q z here) a k b is below gone)
+      (cases_Bool (stays c m (region_with c a)))
 
-  header_stays : (a : ℕ) (b : Block) → block a ≡ Some b → n (Heap a) ≡ m (Heap a)
+  pub header_stays : (a : ℕ) (b : Block) → block a ≡ Some b → n (Heap a) ≡ m (Heap a)
   header_stays a b is =
       let first : a + 0 ≡ a = omega arith in
       sym (ap (λ y. n (Heap y)) first) ∙ word_stays a 0 0 b is (holds.pieces.some a b is) (inl (omega arith)) ∙ ap heap first
@@ -83,6 +83,7 @@ module _ (c : Config) (m : Word → ℕ) (block : Plot) (owner : ℕ → Option 
     cset = refl;
     currents = λ s. refl;
     share = refl;
+    pins = λ t i. refl;
   }
 
   pub updated_holds : HoldsBy c n block owner p g

@@ -3,17 +3,20 @@ use Rattle.std.proofs.Common.{◌≡◌, ℕ, ◌+◌, ◌≤◌, ◌++◌, ◌�
 use Rattle.std.specs.List.{range_with_len}
 use Rattle.std.proofs.Math.Path.{fun_ext}
 use Rattle.heap_words.specs.declared.config.Config.{Config}
-use Rattle.heap_words.specs.Words.{Word, Cset, Free, Top, Current, Root, Wait, Answer, Heap, Share}
+use Rattle.heap_words.specs.Words.{Word, Cset, Free, Top, Current, Root, Wait, Answer, Heap, Share, Pin}
 use Rattle.heap_words.specs.Encoding.{is_forwarded, object_words, refs_in, nums_in, shape_word, request_count_in, request_shape_in}
 use Rattle.regions.specs.Sets.{IsIn, IsOutside}
 use Rattle.regions.specs.Place.{region_with}
 use Rattle.regions.specs.Walk.{is_filler}
+use Rattle.shen_graph.specs.declared.pin.Pinned.{Pinned}
 use Rattle.shen_graph.specs.Graph.{Graph}
 use Rattle.heap_world.specs.World.{Plot, Points, IsFilled, IsFreeWord, ShareIsOpen, AreBuffers}
 use Rattle.full_words.specs.Held.{IsAmong, HoldsGraph}
-use Rattle.full_words.specs.Full.{now_in, roots_below, answers_below, root_words}
+use Rattle.full_words.specs.Full.{now_in, roots_below, answers_below, root_words, held_words}
+use Rattle.full_words.specs.Pinned.{pins_below}
 use Rattle.full_words.specs.Promised.{Promises, with_promised}
-use Rattle.full_words.specs.Image.{AnswerStands, RootsStand}
+use Rattle.full_words.specs.Image.{AnswerStands, PinWordStands, RootsStand}
+use Rattle.full_words.proofs.Roots.{pin_stays}
 use Rattle.full_words.specs.Serving.{asked_shape, AreAsking}
 use Rattle.image_graph.specs.Holds.{HoldsBy, AreSized}
 
@@ -28,9 +31,10 @@ pub record AreAlike (m n : Word → ℕ) : Type 0 where
   pub free : n Free ≡ m Free
   pub cset : n Cset ≡ m Cset
   pub share : n Share ≡ m Share
+  pub pin : (t i : ℕ) → n (Pin t i) ≡ m (Pin t i)
 
--- the words that hold objects, where roots and answers are the same
-module _ (m n : Word → ℕ) (root : (t i : ℕ) → n (Root t i) ≡ m (Root t i)) (answer : (t : ℕ) → n (Answer t) ≡ m (Answer t)) where
+-- the words that hold objects, where roots, answers and pin slots are the same
+module _ (m n : Word → ℕ) (root : (t i : ℕ) → n (Root t i) ≡ m (Root t i)) (answer : (t : ℕ) → n (Answer t) ≡ m (Answer t)) (pin : (t i : ℕ) → n (Pin t i) ≡ m (Pin t i)) where
   roots_same : (t : ℕ) → roots_below n t ≡ roots_below m t
   roots_same zero = refl
   roots_same (suc t) =
@@ -43,8 +47,22 @@ module _ (m n : Word → ℕ) (root : (t i : ℕ) → n (Root t i) ≡ m (Root t
       ap (λ xs. xs ++ cond (nat_le (n (Answer t)) 1) [] (n (Answer t) ∷ [])) (answers_same t)
       ∙ ap (λ k. answers_below m t ++ cond (nat_le k 1) [] (k ∷ [])) (answer t)
 
-  pub same_root_words : (c : Config) → root_words c n ≡ root_words c m
+  pins_same : (t : ℕ) → pins_below n t ≡ pins_below m t
+  pins_same zero = refl
+  pins_same (suc t) =
+      ap (λ xs. xs ++ map (λ i. n (Pin t i)) (range_with_len 0 4)) (pins_same t)
+      ∙ ap (λ (f : ℕ → ℕ). pins_below m t ++ map f (range_with_len 0 4)) (fun_ext (pin t))
+
+  same_root_words : (c : Config) → root_words c n ≡ root_words c m
   same_root_words c = ap (λ xs. xs ++ answers_below n c.mutators) (roots_same c.mutators) ∙ ap (λ ys. roots_below m c.mutators ++ ys) (answers_same c.mutators)
+
+  pub same_held_words : (c : Config) → held_words c n ≡ held_words c m
+  same_held_words c = ap (λ xs. xs ++ pins_below n c.mutators) (same_root_words c) ∙ ap (λ ys. root_words c m ++ ys) (pins_same c.mutators)
+
+-- a pin word stands for what it stood for, where it is the same and the header of what it holds is
+pub pin_word_same : (m n : Word → ℕ) (block : Plot) (v w : ℕ) (held : Option Pinned) → w ≡ v → n (Heap v) ≡ m (Heap v) → PinWordStands m block v held → PinWordStands n block w held
+pin_word_same m n block v w held same header stands =
+    subst (λ k. PinWordStands n block k held) (sym same) (pin_stays m n block block v held (λ name copy plain. (copy, ap is_forwarded header ∙ plain)) stands)
 
 -- each piece says how many words it has, where the heap has the same words
 pub sized_alike : (m n : Word → ℕ) (block : Plot) → ((a : ℕ) → n (Heap a) ≡ m (Heap a)) → AreSized m block → AreSized n block
@@ -67,22 +85,24 @@ module _ (m n : Word → ℕ) (alike : AreAlike m n) where
   pub now_is : now_in n ≡ now_in m
   now_is = fun_ext now_same
 
-  pub root_words_same : (c : Config) → root_words c n ≡ root_words c m
-  root_words_same = same_root_words m n alike.root alike.answer
+  pub held_words_same : (c : Config) → held_words c n ≡ held_words c m
+  held_words_same = same_held_words m n alike.root alike.answer alike.pin
 
   module _ (c : Config) (block : Plot) (owner : ℕ → Option ℕ) (p : Promises) (g : Graph) (holds : HoldsBy c m block owner p g) where
-    objects_again : HoldsGraph c (λ r. n (Top r)) (λ a. n (Heap a)) block (now_in n) (IsAmong (root_words c n)) (with_promised g p)
+    objects_again : HoldsGraph c (λ r. n (Top r)) (λ a. n (Heap a)) block (now_in n) (IsAmong (held_words c n)) (with_promised g p)
     objects_again =
-        subst (λ xs. HoldsGraph c (λ r. n (Top r)) (λ a. n (Heap a)) block (now_in n) (IsAmong xs) (with_promised g p)) (sym (root_words_same c))
-        (subst (λ f. HoldsGraph c (λ r. n (Top r)) (λ a. n (Heap a)) block f (IsAmong (root_words c m)) (with_promised g p)) (sym now_is)
-        (subst (λ f. HoldsGraph c (λ r. n (Top r)) f block (now_in m) (IsAmong (root_words c m)) (with_promised g p)) (sym heap_is)
-        (subst (λ f. HoldsGraph c f (λ a. m (Heap a)) block (now_in m) (IsAmong (root_words c m)) (with_promised g p)) (sym top_is) holds.objects)))
+        subst (λ xs. HoldsGraph c (λ r. n (Top r)) (λ a. n (Heap a)) block (now_in n) (IsAmong xs) (with_promised g p)) (sym (held_words_same c))
+        (subst (λ f. HoldsGraph c (λ r. n (Top r)) (λ a. n (Heap a)) block f (IsAmong (held_words c m)) (with_promised g p)) (sym now_is)
+        (subst (λ f. HoldsGraph c (λ r. n (Top r)) f block (now_in m) (IsAmong (held_words c m)) (with_promised g p)) (sym heap_is)
+        (subst (λ f. HoldsGraph c f (λ a. m (Heap a)) block (now_in m) (IsAmong (held_words c m)) (with_promised g p)) (sym top_is) holds.objects)))
 
     rooted_again : RootsStand c n block g p
     rooted_again = record {
       roots = λ t i inside few. subst (λ w. Points block w (g.root (t + 1) i)) (sym (alike.root t i)) (holds.rooted.roots t i inside few);
       answers = λ t inside. subst (λ w. AnswerStands block w (p.ref (t + 1))) (sym (alike.answer t)) (holds.rooted.answers t inside);
       no_more_roots = holds.rooted.no_more_roots;
+      pins = λ t i inside few. pin_word_same m n block (m (Pin t i)) (n (Pin t i)) (g.pin (t + 1) i) (alike.pin t i) (alike.heap (m (Pin t i))) (holds.rooted.pins t i inside few);
+      no_more_pins = holds.rooted.no_more_pins;
       no_more_promised = holds.rooted.no_more_promised;
     }
 

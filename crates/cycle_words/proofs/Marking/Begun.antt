@@ -2,7 +2,7 @@
 use Rattle.std.proofs.Common.{◌≡◌, ◌≢◌, ℕ, ◌+◌, ◌<◌, Bool, true, Option, Some, refl, sym, ap, ◌∙◌, subst, arith}
 use Rattle.std.proofs.lemmas.Bool.{true≢false}
 use Rattle.heap_words.specs.declared.config.Config.{Config}
-use Rattle.heap_words.specs.Words.{Word, Cset, Top, Current, Root, Answer, Heap}
+use Rattle.heap_words.specs.Words.{Word, Cset, Top, Current, Root, Answer, Pin, Heap}
 use Rattle.heap_words.specs.Encoding.{refs_in}
 use Rattle.shen_graph.specs.declared.name.Name.{Name}
 use Rattle.shen_graph.specs.Graph.{Graph}
@@ -13,7 +13,7 @@ use Rattle.buffer_words.specs.Settled.{buffers_settled}
 use Rattle.buffer_words.proofs.Settling.{settling_leaves}
 use Rattle.buffer_pauses.specs.Divided.{AreDivided}
 use Rattle.full_words.specs.Held.{IsAmong, IsCopy}
-use Rattle.full_words.specs.Full.{root_words, held_in}
+use Rattle.full_words.specs.Full.{held_words, held_in}
 use Rattle.full_words.specs.Promised.{Promises, with_promised}
 use Rattle.full_words.proofs.Reached.{refs_read}
 use Rattle.full_words.proofs.Walked.{held_is_found, found_is_held}
@@ -27,9 +27,9 @@ use Rattle.image_graph.proofs.Loosening.Loosened.{loosened_seats, loosened_sized
 use Rattle.image_graph.proofs.Loosening.OneTurn.{HoldsLoosened}
 use Rattle.image_graph.proofs.Loosening.AllSettled.{settled_holds}
 use Rattle.image_graph.proofs.Loosening.Divided.{holds_divided}
-use Rattle.cycle_words.proofs.Marking.Alike.{AreAlike, sized_alike, holds_alike, same_root_words}
+use Rattle.cycle_words.proofs.Marking.Alike.{AreAlike, sized_alike, holds_alike, same_held_words}
 use Rattle.cycle_words.proofs.Marking.Plain.{reached_object, root_reached, field_reached, object_above, reach_ind}
-use Rattle.cycle_words.proofs.Marking.Trimmed.{IsTrimmed, calm_trimmed, trimmed_objects, trimmed_rooted}
+use Rattle.cycle_words.proofs.Marking.Trimmed.{IsTrimmed, calm_unmoved, calm_trimmed, trimmed_objects, trimmed_rooted}
 use Rattle.cycle_words.proofs.Marking.Pruned.{thing_stays, thing_was, room_was, promised_was, moved_was, pruned_from, pruned_plotted, pruned_filled, pruned_rooms, pruned_sized}
 use Rattle.cycle_words.proofs.Marking.FirstSnapshot.{first_snapshot, is_first, first_marked}
 
@@ -50,6 +50,7 @@ module _ (c : Config) (m : Word → ℕ) (block : Plot) (owner : ℕ → Option 
     free = refl;
     cset = refl;
     share = refl;
+    pin = λ t i. refl;
   }
 
   abbrev heap : ℕ → ℕ
@@ -93,7 +94,7 @@ module _ (c : Config) (m : Word → ℕ) (block : Plot) (owner : ℕ → Option 
   left_holds = record {
     objects = trimmed_objects c m block owner p g holds top left trimmed;
     rooted = trimmed_rooted c m block owner p g holds top left trimmed;
-    moved = λ a refs nums name is forwarded. absurd (true≢false (sym forwarded ∙ trimmed.unmoved a refs nums name is));
+    moved = λ a refs nums name is forwarded. absurd (true≢false (sym forwarded ∙ calm_unmoved c m block owner p g holds calm a refs nums name (was a refs nums name is)));
     filled = pruned_filled found block c top holds.filled;
     pieces = record {
       named = named;
@@ -124,10 +125,10 @@ module _ (c : Config) (m : Word → ℕ) (block : Plot) (owner : ℕ → Option 
   reached_thing : (a : ℕ) → CanBeReached c m a → IsMarkable left a
   reached_thing a held = let at = reached_object c m left owner p g left_holds calm a held in IsMarkable.object at.name at.refs at.nums at.here
 
-  root_markable : (a : ℕ) → IsAmong (root_words c m) a → a ≢ 0 → IsMarkable left a
+  root_markable : (a : ℕ) → IsAmong (held_words c m) a → a ≢ 0 → IsMarkable left a
   root_markable a among some = reached_thing a (root_reached c m left owner p g left_holds calm a among some)
 
-  -- roots and answers lead to it
+  -- roots, answers and pin slots lead to it
   led : (a : ℕ) → CanBeReached c m a → IsLed (first_snapshot c m left) a
   led = reach_ind c m left owner p g left_holds calm (IsLed (first_snapshot c m left))
       (λ word is some.
@@ -173,8 +174,8 @@ module _ (c : Config) (m : Word → ℕ) (block : Plot) (owner : ℕ → Option 
   abbrev found : ℕ → Bool
   found = has (held_in c m)
 
-  same_roots : root_words c s ≡ root_words c m
-  same_roots = same_root_words m s (λ t i. after.loosened.others (Root t i) refl) (λ t. after.loosened.others (Answer t) refl) c
+  same_roots : held_words c s ≡ held_words c m
+  same_roots = same_held_words m s (λ t i. after.loosened.others (Root t i) refl) (λ t. after.loosened.others (Answer t) refl) (λ t i. after.loosened.others (Pin t i) refl) c
 
   was_reached : (a : ℕ) → CanBeReached c s a → CanBeReached c m a
   was_reached = loosened_reached c m s block settled owner p g holds after.loosened after.holds.objects.plotted

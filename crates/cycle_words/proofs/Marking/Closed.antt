@@ -24,7 +24,7 @@ use Rattle.cycle_words.specs.Marking.WhileMarking.{IsObjectAt, CanBeReached, IsM
 use Rattle.cycle_words.specs.Marking.Final.{IsDead, dead_in}
 use Rattle.cycle_words.specs.Marking.Laws.{AreClosed}
 use Rattle.cycle_words.proofs.Marking.Bits.{one, mark_at, address_again}
-use Rattle.cycle_words.proofs.Marking.Alike.{AreAlike, holds_alike, root_words_same}
+use Rattle.cycle_words.proofs.Marking.Alike.{AreAlike, holds_alike, held_words_same}
 use Rattle.cycle_words.proofs.Marking.Plain.{object_above, object_below, reached_object, reach_ind, root_reached, field_reached}
 use Rattle.cycle_words.proofs.Marking.Traced.{listed_traced, traced_listed}
 use Rattle.cycle_words.proofs.Marking.Dead.{dead_is_dead}
@@ -43,7 +43,7 @@ module _ (c : Config) (m : Word → ℕ) (block : Plot) (owner : ℕ → Option 
   n = closed c m
 
   alike : AreAlike m n
-  alike = record { heap = λ a. refl; top = λ r. refl; root = λ t i. refl; answer = λ t. refl; wait = λ t. refl; current = λ s. refl; free = refl; cset = refl; share = refl }
+  alike = record { heap = λ a. refl; top = λ r. refl; root = λ t i. refl; answer = λ t. refl; wait = λ t. refl; current = λ s. refl; free = refl; cset = refl; share = refl; pin = λ t i. refl }
 
   pub closed_holds : HoldsBy c n block owner p g
   closed_holds = holds_alike m n alike c block owner p g holds
@@ -216,7 +216,7 @@ module _ (c : Config) (m : Word → ℕ) (block : Plot) (owner : ℕ → Option 
   -- each object that can be reached
   reached_before : (a : ℕ) → CanBeReached c n a → CanBeReached c m a
   reached_before = reach_ind c n block owner p g closed_holds marking.uncollected (CanBeReached c m)
-      (λ word is some. root_reached c m block owner p g holds marking.uncollected word (ap (λ xs. has xs word) (sym (root_words_same m n alike c)) ∙ is) some)
+      (λ word is some. root_reached c m block owner p g holds marking.uncollected word (ap (λ xs. has xs word) (sym (held_words_same m n alike c)) ∙ is) some)
       (λ a i held before few some. field_reached c m block owner p g holds marking.uncollected a i before few some)
 
   -- so none lies in a dead region

@@ -8,6 +8,7 @@ use Rattle.heap_words.specs.Words.{Word, Free, Top, Tams, Current, Share}
 use Rattle.heap_words.specs.Encoding.{end_in}
 use Rattle.heap_words.specs.Ranges.{seat_count}
 use Rattle.regions.specs.Place.{base_of, IsOf}
+use Rattle.full_words.specs.Pinned.{is_pinned}
 use Rattle.image_graph.specs.State.{EndsIn, IsSomeSeats}
 use Rattle.cycle_words.specs.Marking.Marks.{is_black}
 use Rattle.cycle_words.specs.Marking.Close.{closed}
@@ -70,6 +71,9 @@ module _ (c : Config) (m : Word → ℕ) (r : ℕ) where
   abbrev used : Bool
   used = bit_at (m Free) r == 0
 
+  abbrev loose : Bool
+  loose = not (is_pinned c m r)
+
   abbrev unseated : Bool
   unseated = not (is_current c m r)
 
@@ -81,11 +85,13 @@ module _ (c : Config) (m : Word → ℕ) (r : ℕ) where
 
   is_so : is_dead c m r ≡ true → IsDead c m r
   is_so is =
-      let first = and_parts (used && unseated && filled) bare is in
-      let second = and_parts (used && unseated) filled first.0 in
-      let third = and_parts used unseated second.0 in
+      let first = and_parts (used && loose && unseated && filled) bare is in
+      let second = and_parts (used && loose && unseated) filled first.0 in
+      let third = and_parts (used && loose) unseated second.0 in
+      let fourth = and_parts used loose third.0 in
       record {
-        in_use = eqb-true (bit_at (m Free) r) 0 third.0;
+        in_use = eqb-true (bit_at (m Free) r) 0 fourth.0;
+        unpinned = not-true (is_pinned c m r) fourth.1;
         nobodys = λ seat. true≢false (sym (is_current_of seat) ∙ not-true (is_current c m r) third.1);
         no_new = eqb-true (m (Top r)) (m (Tams r)) second.1;
         unmarked = λ a of. false_from_ne_true (is_black c m a) (λ black. true≢false (sym (has_black_at a of black) ∙ not-true (has_black c m r) first.1));
@@ -96,9 +102,10 @@ module _ (c : Config) (m : Word → ℕ) (r : ℕ) where
       let no_seat : is_current c m r ≡ false = false_from_ne_true (is_current c m r) (λ seat. is.nobodys (current_is seat)) in
       let no_mark : has_black c m r ≡ false = false_from_ne_true (has_black c m r)
       (λ black. let at = black_in black in true≢false (sym at.2 ∙ is.unmarked at.0 at.1)) in
-      and_from (used && unseated && filled) bare
-      (and_from (used && unseated) filled
-      (and_from used unseated (eq-eqb (bit_at (m Free) r) 0 is.in_use) (not_from_false (is_current c m r) no_seat))
+      and_from (used && loose && unseated && filled) bare
+      (and_from (used && loose && unseated) filled
+      (and_from (used && loose) unseated (and_from used loose (eq-eqb (bit_at (m Free) r) 0 is.in_use) (not_from_false (is_pinned c m r) is.unpinned))
+      (not_from_false (is_current c m r) no_seat))
       (eq-eqb (m (Top r)) (m (Tams r)) is.no_new))
       (not_from_false (has_black c m r) no_mark)
 
@@ -106,9 +113,10 @@ module _ (c : Config) (m : Word → ℕ) (r : ℕ) where
   dead_is_dead = (is_so, is_told)
 
   -- where all else of a dead region holds, the marks decide
-  pub marks_decide : bit_at (m Free) r ≡ 0 → is_current c m r ≡ false → m (Top r) ≡ m (Tams r) → is_dead c m r ≡ not (has_black c m r)
-  marks_decide free seat top =
-      ap (λ b. b && unseated && filled && bare) (eq-eqb (bit_at (m Free) r) 0 free)
+  pub marks_decide : bit_at (m Free) r ≡ 0 → is_pinned c m r ≡ false → is_current c m r ≡ false → m (Top r) ≡ m (Tams r) → is_dead c m r ≡ not (has_black c m r)
+  marks_decide free pin seat top =
+      ap (λ b. b && loose && unseated && filled && bare) (eq-eqb (bit_at (m Free) r) 0 free)
+      ∙ ap (λ b. not b && unseated && filled && bare) pin
       ∙ ap (λ b. not b && filled && bare) seat
       ∙ ap (λ b. b && bare) (eq-eqb (m (Top r)) (m (Tams r)) top)
 

@@ -1,4 +1,4 @@
--- The snapshot of the words with which marking begins: the pieces, what roots and answers name, and the edges of regions.
+-- The snapshot of the words with which marking begins: the pieces, what roots, answers and pin slots hold, and the edges of regions.
 use Rattle.std.proofs.Common.{◌≡◌, ◌≢◌, ℕ, ◌+◌, ◌*◌, ◌≤◌, ◌&&◌, nat_le, Bool, true, false, Option, Some, inl, refl, sym, ap, ◌∙◌, arith}
 use Rattle.std.proofs.lemmas.Bool.{and_parts, and_from, le-leb, leb-true}
 use Rattle.std.proofs.lemmas.Nat.Bits.{bit_at-zero}
@@ -11,7 +11,7 @@ use Rattle.heap_world.specs.World.{thing, promised, dead, Plot, Scan, Snapshot, 
 use Rattle.buffer_words.specs.Edge.{edge}
 use Rattle.buffer_pauses.specs.Divided.{AreDivided}
 use Rattle.full_words.specs.Held.{IsAmong}
-use Rattle.full_words.specs.Full.{root_words}
+use Rattle.full_words.specs.Full.{held_words}
 use Rattle.cycle_words.specs.Marking.Marks.{mark_bits}
 use Rattle.cycle_words.proofs.Marking.Bits.{one, bits_small, bits_at, mark_at}
 
@@ -21,7 +21,7 @@ one_is false is = absurd (omega (arith, is))
 
 module _ (c : Config) (m : Word → ℕ) (plot : Plot) where
   abbrev named : ℕ → Bool
-  named = has (root_words c m)
+  named = has (held_words c m)
 
   abbrev pub first : ℕ → Bool
   first a = nat_le c.region_words a && named a
@@ -29,14 +29,14 @@ module _ (c : Config) (m : Word → ℕ) (plot : Plot) where
   abbrev pub first_snapshot : Snapshot
   first_snapshot = record { block = plot; heap = λ a. m (Heap a); starts = first; top = edge c m }
 
-  pub is_first : (a : ℕ) → c.region_words ≤ a → IsAmong (root_words c m) a → first a ≡ true
+  pub is_first : (a : ℕ) → c.region_words ≤ a → IsAmong (held_words c m) a → first a ≡ true
   is_first a above is = and_from (nat_le c.region_words a) (named a) (le-leb c.region_words a above) is
 
-  -- Where its objects are those that it leads to, what roots and answers name can be marked, and what is promised is so named.
+  -- Where its objects are those that it leads to, what roots, answers and pin slots hold can be marked, and what is promised is so held.
   module _ (recording : ℕ → Option ℕ) (scanning : ℕ → Option Scan) (led : (a refs nums : ℕ) (name : Name) → plot a ≡ Some (thing name refs nums) → IsLed first_snapshot a)
-      (markable : (a : ℕ) → IsAmong (root_words c m) a → a ≢ 0 → IsMarkable plot a) (promises : (a seat words : ℕ) → plot a ≡ Some (promised seat words) → first a ≡ true)
+      (markable : (a : ℕ) → IsAmong (held_words c m) a → a ≢ 0 → IsMarkable plot a) (promises : (a seat words : ℕ) → plot a ≡ Some (promised seat words) → first a ≡ true)
       (divided : AreDivided c m plot) where
-    -- what roots and answers name is grey
+    -- what they hold is grey
     first_noted : (a : ℕ) → first a ≡ true → IsNoted c (mark_bits c named) (λ t. 0) (λ t k. m (Buffer t k)) recording a
     first_noted a is =
         let both = and_parts (nat_le c.region_words a) (named a) is in

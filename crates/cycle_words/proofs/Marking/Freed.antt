@@ -13,7 +13,7 @@ use Rattle.heap_world.specs.World.{Plot, thing, promised, name_at, hand, spare, 
 use Rattle.heap_world.proofs.Pointing.{named_piece}
 use Rattle.heap_world.proofs.Roomless.{only_spares}
 use Rattle.full_words.specs.Held.{IsAmong, IsCopy, HoldsGraph}
-use Rattle.full_words.specs.Full.{now_in, root_words}
+use Rattle.full_words.specs.Full.{now_in, held_words}
 use Rattle.full_words.specs.Promised.{Promises, with_promised}
 use Rattle.full_words.specs.Image.{RootsStand}
 use Rattle.full_words.specs.Serving.{AreAsking}
@@ -23,17 +23,33 @@ use Rattle.image_graph.specs.State.{EndsIn}
 use Rattle.image_graph.specs.Holds.{HoldsBy}
 use Rattle.cycle_words.specs.Marking.WhileMarking.{CanBeReached}
 use Rattle.cycle_words.specs.Marking.Final.{freed, freed_block, freed_owner}
-use Rattle.cycle_words.proofs.Marking.Alike.{same_root_words}
+use Rattle.cycle_words.proofs.Marking.Alike.{same_held_words}
 use Rattle.cycle_words.proofs.Marking.Plain.{root_reached, field_reached}
-use Rattle.cycle_words.proofs.Marking.Trimmed.{IsTrimmed, calm_unmoved, trimmed_objects, trimmed_rooted}
+use Rattle.cycle_words.proofs.Marking.Trimmed.{IsTrimmed, calm_unmoved, own_current, trimmed_objects, trimmed_rooted}
 use Rattle.cycle_words.proofs.Marking.Vanished.{free_was, top_stays, piece_was, piece_stays, plotted_again, filled_again, free_again}
+
+-- Free words of a buffer lie in the region in which it ends.
+pub spare_ends : (c : Config) (m : Word → ℕ) (block : Plot) (owner : ℕ → Option ℕ) (p : Promises) (g : Graph) → HoldsBy c m block owner p g
+    → (a seat words : ℕ) → block a ≡ Some (spare seat words) → EndsIn c m seat (region_with c a)
+spare_ends c m block owner p g holds a seat words is =
+    let own = holds.buffers.spares a seat words is in
+    let one = own.0 in
+    let two = own.1 in
+    let long = holds.pieces.some a (spare seat words) is in
+    let some : m (Current seat) ≢ 0 = λ none. (let zero_end = ap end_in none in omega (arith, zero_end, two, long)) in
+    let b = holds.buffers.each seat some in
+    let low = b.from_base in
+    let high = b.to_top in
+    let most = holds.objects.plotted.tops b.region b.within in
+    let of : region_with c a ≡ b.region = regions_tile.of_no_other c b.region a (record { from = omega (arith, low, one); before = omega (arith, high, most, two, long) }) in
+    subst (EndsIn c m seat) (sym of) (some, buffer_ends c (λ r. m (Top r)) block seat (m (Current seat)) b most)
 
 -- What is freed: regions in which nothing lies that a root, or a field of what can be reached, names, and that are not current. All that has
 -- moved lies there.
 pub record CanFree (c : Config) (out : ℕ → Bool) (m : Word → ℕ) (block : Plot) : Type 0 where
   pub unseated : (seat r : ℕ) → EndsIn c m seat r → out r ≡ false
   pub unshared : (r : ℕ) → m Share ≡ r + 1 → out r ≡ false
-  pub unnamed_roots : (word : ℕ) → IsAmong (root_words c m) word → word ≢ 0 → out (region_with c word) ≡ false
+  pub unnamed_roots : (word : ℕ) → IsAmong (held_words c m) word → word ≢ 0 → out (region_with c word) ≡ false
   pub unnamed_fields : (a i : ℕ) → CanBeReached c m a → i < refs_in (m (Heap (a + 1))) → m (Heap (a + 3 + i)) ≢ 0 → out (region_with c (m (Heap (a + 3 + i)))) ≡ false
   pub unmoved : (a refs nums : ℕ) (name : Name) → block a ≡ Some (thing name refs nums) → out (region_with c a) ≡ false → is_forwarded (m (Heap a)) ≡ false
 
@@ -66,7 +82,7 @@ module _ (c : Config) (out : ℕ → Bool) (m : Word → ℕ) (block : Plot) (ow
   top r = m (Top r)
 
   abbrev IsRoot : ℕ → Type 0
-  IsRoot = IsAmong (root_words c m)
+  IsRoot = IsAmong (held_words c m)
 
   abbrev more : Graph
   more = with_promised g p
@@ -91,9 +107,8 @@ module _ (c : Config) (out : ℕ → Bool) (m : Word → ℕ) (block : Plot) (ow
     plotted = plotted;
     roots = λ word among some. piece_stays c out block word (can.unnamed_roots word among some);
     fields = λ a i held few some. piece_stays c out block (m (Heap (a + 3 + i))) (can.unnamed_fields a i held few some);
-    named = named;
+    current = own_current m left named left_unmoved;
     was = λ a refs nums name is. (piece_was c out block a (thing name refs nums) is).1;
-    unmoved = left_unmoved;
   }
 
   objects : HoldsGraph c (λ r. n (Top r)) heap left (now_in m) IsRoot more
@@ -132,18 +147,7 @@ module _ (c : Config) (out : ℕ → Bool) (m : Word → ℕ) (block : Plot) (ow
 
   -- nor that of its free words
   free_stays : (a seat words : ℕ) → block a ≡ Some (spare seat words) → out (region_with c a) ≡ false
-  free_stays a seat words is =
-      let own = holds.buffers.spares a seat words is in
-      let one = own.0 in
-      let two = own.1 in
-      let long = holds.pieces.some a (spare seat words) is in
-      let some : m (Current seat) ≢ 0 = λ none. (let zero_end = ap end_in none in omega (arith, zero_end, two, long)) in
-      let b = holds.buffers.each seat some in
-      let low = b.from_base in
-      let high = b.to_top in
-      let most = holds.objects.plotted.tops b.region b.within in
-      let of : region_with c a ≡ b.region = regions_tile.of_no_other c b.region a (record { from = omega (arith, low, one); before = omega (arith, high, most, two, long) }) in
-      ap out of ∙ buffer_stays seat some
+  free_stays a seat words is = can.unseated seat (region_with c a) (spare_ends c m block owner p g holds a seat words is)
 
   same_room : SameRoom block left
   same_room = record {
@@ -162,13 +166,13 @@ module _ (c : Config) (out : ℕ → Bool) (m : Word → ℕ) (block : Plot) (ow
       let was = holds.asking t from below some in
       record { shape = was.shape; few_refs = was.few_refs; few_nums = was.few_nums; unanswered = was.unanswered; new = was.new }
 
-  pub same_roots : root_words c n ≡ root_words c m
-  same_roots = same_root_words m n (λ t i. refl) (λ t. refl) c
+  pub same_roots : held_words c n ≡ held_words c m
+  same_roots = same_held_words m n (λ t i. refl) (λ t. refl) (λ t i. refl) c
 
   pub freed_holds : HoldsBy c n left owned p g
   freed_holds = record {
     objects = subst (λ xs. HoldsGraph c (λ r. n (Top r)) heap left (now_in m) (IsAmong xs) more) (sym same_roots) objects;
-    rooted = record { roots = rooted.roots; answers = rooted.answers; no_more_roots = rooted.no_more_roots; no_more_promised = rooted.no_more_promised };
+    rooted = record { roots = rooted.roots; answers = rooted.answers; no_more_roots = rooted.no_more_roots; pins = rooted.pins; no_more_pins = rooted.no_more_pins; no_more_promised = rooted.no_more_promised };
     moved = λ a refs nums name is forwarded. absurd (true≢false (sym forwarded ∙ left_unmoved a refs nums name is));
     filled = filled_again c out m block holds.objects.plotted holds.pieces.some holds.filled;
     pieces = record {

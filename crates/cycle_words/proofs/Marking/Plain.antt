@@ -11,11 +11,11 @@ use Rattle.regions.specs.Place.{base_of, region_with, IsOf}
 use Rattle.regions.proofs.PlaceLemmas.{regions_tile}
 use Rattle.shen_graph.specs.declared.name.Name.{Name}
 use Rattle.shen_graph.specs.Graph.{Graph, Reference}
-use Rattle.heap_world.specs.World.{Plot, Block, thing, words_of, IsPlotted}
+use Rattle.heap_world.specs.World.{Plot, Block, thing, words_of, name_at, IsPlotted}
 use Rattle.heap_world.proofs.Pointing.{piece_inside, named_if_not_0}
 use Rattle.full_words.specs.Held.{from_root, from_field, IsAmong}
 use Rattle.full_words.specs.Plot.{heap_end}
-use Rattle.full_words.specs.Full.{now_in, root_words}
+use Rattle.full_words.specs.Full.{now_in, held_words}
 use Rattle.full_words.specs.Promised.{Promises, with_promised}
 use Rattle.full_words.proofs.Reached.{held_is_reached, refs_read}
 use Rattle.image_graph.specs.Holds.{HoldsBy}
@@ -30,6 +30,19 @@ below_top c top block plotted a b is some =
     let of : IsOf c used.region a = record { from = used.from_base; before = omega (arith, used.to_top, most, some) } in
     let same : used.region ≡ region_with c a = sym (regions_tile.of_no_other c used.region a of) in
     subst (λ r. (r < c.regions) × (base_of c r ≤ a) × (a + words_of b ≤ base_of c r + top r)) same (used.within, used.from_base, used.to_top)
+
+-- a field of what can be reached names an object
+pub field_named : (c : Config) (m : Word → ℕ) (block : Plot) (owner : ℕ → Option ℕ) (p : Promises) (g : Graph) → HoldsBy c m block owner p g
+    → (a i : ℕ) → CanBeReached c m a → i < refs_in (m (Heap (a + 1))) → m (Heap (a + 3 + i)) ≢ 0 → (name : Name) × (name_at (block (m (Heap (a + 3 + i)))) ≡ Some name)
+field_named c m block owner p g holds a i held few some =
+    let at = held_is_reached c (λ r. m (Top r)) (λ y. m (Heap y)) block (now_in m) (IsAmong (held_words c m)) (with_promised g p) holds.objects a held in
+    let object = holds.objects.each a at.1 at.2 at.0 held at.3 in
+    let is = object.2 in
+    let shape : refs_in (m (Heap (a + 1))) ≡ at.1 = ap refs_in is.shape ∙ refs_read at.1 at.2 is.few_refs is.few_nums in
+    let r : Reference = get_or object.0.refs i None in
+    let there : slice_get object.0.refs i ≡ Some r = slice_get-get_or object.0.refs i None (omega (arith, few, shape, is.refs_are)) in
+    let to = named_if_not_0 c (λ q. m (Top q)) block holds.objects.plotted (m (Heap (a + 3 + i))) r (is.references i r there) some in
+    (to.0, to.2)
 
 module _ (c : Config) (m : Word → ℕ) (block : Plot) (owner : ℕ → Option ℕ) (p : Promises) (g : Graph) (holds : HoldsBy c m block owner p g) (calm : m Cset ≡ 0) where
   abbrev top : ℕ → ℕ
@@ -54,12 +67,12 @@ module _ (c : Config) (m : Word → ℕ) (block : Plot) (owner : ℕ → Option 
   -- what can be reached is an object
   pub reached_object : (a : ℕ) → CanBeReached c m a → IsObjectAt m block a
   reached_object a held =
-      let at = held_is_reached c top heap block (now_in m) (IsAmong (root_words c m)) more holds.objects a held in
+      let at = held_is_reached c top heap block (now_in m) (IsAmong (held_words c m)) more holds.objects a held in
       let object = holds.objects.each a at.1 at.2 at.0 held at.3 in
       record { name = at.0; refs = at.1; nums = at.2; here = at.3; shape = object.2.shape; few_refs = object.2.few_refs; few_nums = object.2.few_nums }
 
   -- so roots and fields lead to themselves
-  pub root_own : (word : ℕ) → IsAmong (root_words c m) word → word ≢ 0 → now_in m word ≡ word
+  pub root_own : (word : ℕ) → IsAmong (held_words c m) word → word ≢ 0 → now_in m word ≡ word
   root_own word is some =
       let named = holds.objects.root_named word is some in
       let piece = holds.pieces.named word named.2 named.4 in
@@ -67,18 +80,12 @@ module _ (c : Config) (m : Word → ℕ) (block : Plot) (owner : ℕ → Option 
 
   pub field_own : (a i : ℕ) → CanBeReached c m a → i < refs_in (heap (a + 1)) → heap (a + 3 + i) ≢ 0 → now_in m (heap (a + 3 + i)) ≡ heap (a + 3 + i)
   field_own a i held few some =
-      let at = held_is_reached c top heap block (now_in m) (IsAmong (root_words c m)) more holds.objects a held in
-      let object = holds.objects.each a at.1 at.2 at.0 held at.3 in
-      let is = object.2 in
-      let shape : refs_in (heap (a + 1)) ≡ at.1 = ap refs_in is.shape ∙ refs_read at.1 at.2 is.few_refs is.few_nums in
-      let r : Reference = get_or object.0.refs i None in
-      let there : slice_get object.0.refs i ≡ Some r = slice_get-get_or object.0.refs i None (omega (arith, few, shape, is.refs_are)) in
-      let to = named_if_not_0 c top block holds.objects.plotted (heap (a + 3 + i)) r (is.references i r there) some in
-      let piece = holds.pieces.named (heap (a + 3 + i)) to.0 to.2 in
+      let to = field_named c m block owner p g holds a i held few some in
+      let piece = holds.pieces.named (heap (a + 3 + i)) to.0 to.1 in
       own_copy (heap (a + 3 + i)) piece.0 piece.1 to.0 piece.2
 
   -- in a simpler form
-  pub root_reached : (word : ℕ) → IsAmong (root_words c m) word → word ≢ 0 → CanBeReached c m word
+  pub root_reached : (word : ℕ) → IsAmong (held_words c m) word → word ≢ 0 → CanBeReached c m word
   root_reached word is some = subst (CanBeReached c m) (root_own word is some) (from_root word is some)
 
   pub field_reached : (a i : ℕ) → CanBeReached c m a → i < refs_in (heap (a + 1)) → heap (a + 3 + i) ≢ 0 → CanBeReached c m (heap (a + 3 + i))
@@ -100,7 +107,7 @@ module _ (c : Config) (m : Word → ℕ) (block : Plot) (owner : ℕ → Option 
 -- what is true of roots, and of what a field names where it is true of the object, is true of all that can be reached
 pub reach_ind : (c : Config) (m : Word → ℕ) (block : Plot) (owner : ℕ → Option ℕ) (p : Promises) (g : Graph) → HoldsBy c m block owner p g → m Cset ≡ 0
     → (P : ℕ → Type 0)
-    → ((word : ℕ) → IsAmong (root_words c m) word → word ≢ 0 → P word)
+    → ((word : ℕ) → IsAmong (held_words c m) word → word ≢ 0 → P word)
     → ((a i : ℕ) → CanBeReached c m a → P a → i < refs_in (m (Heap (a + 1))) → m (Heap (a + 3 + i)) ≢ 0 → P (m (Heap (a + 3 + i))))
     → (a : ℕ) → CanBeReached c m a → P a
 reach_ind c m block owner p g holds calm P root field _ (from_root word is some) =

@@ -5,18 +5,19 @@ use Rattle.std.proofs.lemmas.Bool.{cond-false, false_from_ne_true}
 use Rattle.std.proofs.lemmas.Nat.Bits.{bit_at-zero}
 use Rattle.std.proofs.lemmas.Option.{slice_get_within}
 use Rattle.heap_words.specs.declared.config.Config.{Config}
-use Rattle.heap_words.specs.Words.{Word, Cset, Top, Root, Answer, Heap}
+use Rattle.heap_words.specs.Words.{Word, Cset, Top, Root, Answer, Pin, Heap}
 use Rattle.heap_words.specs.Encoding.{is_forwarded, forwardee_in, refs_in}
 use Rattle.regions.specs.Place.{region_with}
 use Rattle.shen_graph.specs.declared.name.Name.{Name}
+use Rattle.shen_graph.specs.declared.pin.Pinned.{Pinned}
 use Rattle.shen_graph.specs.Graph.{Graph, Reference, Object}
 use Rattle.heap_world.specs.World.{Plot, thing, name_at, Points, IsPlotted, IsThing}
 use Rattle.full_words.specs.Held.{IsAmong, IsCopy, HoldsGraph}
-use Rattle.full_words.specs.Full.{now_in, root_words}
+use Rattle.full_words.specs.Full.{now_in, held_words}
 use Rattle.full_words.specs.Promised.{Promises, with_promised}
-use Rattle.full_words.specs.Image.{AnswerStands, RootsStand}
+use Rattle.full_words.specs.Image.{AnswerStands, PinWordStands, RootsStand}
 use Rattle.full_words.proofs.Reached.{refs_read, none_at_0}
-use Rattle.full_words.proofs.Roots.{root_among, answer_among}
+use Rattle.full_words.proofs.Roots.{root_among, answer_among, pin_among, pin_stays}
 use Rattle.image_graph.specs.Holds.{HoldsBy}
 use Rattle.cycle_words.specs.Marking.WhileMarking.{CanBeReached}
 use Rattle.cycle_words.proofs.Marking.Plain.{root_reached, field_reached}
@@ -46,14 +47,22 @@ calm_unmoved c m block owner p g holds calm a refs nums name is = false_from_ne_
     let set = moved.in_set in
     omega (arith, set, none))
 
--- What names lead to stands as it stood, each piece that stands for a name is an object and was one, and none has moved.
+-- where each piece that stands for a name is an object, and none has moved, each is its own current copy
+pub own_current : (m : Word → ℕ) (left : Plot) → ((a : ℕ) (name : Name) → name_at (left a) ≡ Some name → IsCopy left a name)
+    → ((a refs nums : ℕ) (name : Name) → left a ≡ Some (thing name refs nums) → is_forwarded (m (Heap a)) ≡ false)
+    → (a : ℕ) (name : Name) → name_at (left a) ≡ Some name → IsCopy left (now_in m a) name
+own_current m left named unmoved a name is =
+    let piece = named a name is in
+    let own = cond-false (is_forwarded (m (Heap a))) (forwardee_in (m (Heap a))) a (unmoved a piece.0 piece.1 name piece.2) in
+    (piece.0, piece.1, ap left own ∙ piece.2)
+
+-- What names lead to stands as it stood, each piece that stands for a name has its current copy, and each object was one.
 pub record IsTrimmed (c : Config) (m : Word → ℕ) (block : Plot) (new_top : ℕ → ℕ) (left : Plot) : Type 0 where
   pub plotted : IsPlotted c new_top left
-  pub roots : (word : ℕ) → IsAmong (root_words c m) word → word ≢ 0 → left word ≡ block word
+  pub roots : (word : ℕ) → IsAmong (held_words c m) word → word ≢ 0 → left word ≡ block word
   pub fields : (a i : ℕ) → CanBeReached c m a → i < refs_in (m (Heap (a + 1))) → m (Heap (a + 3 + i)) ≢ 0 → left (m (Heap (a + 3 + i))) ≡ block (m (Heap (a + 3 + i)))
-  pub named : (a : ℕ) (name : Name) → name_at (left a) ≡ Some name → IsCopy left a name
+  pub current : (a : ℕ) (name : Name) → name_at (left a) ≡ Some name → IsCopy left (now_in m a) name
   pub was : (a refs nums : ℕ) (name : Name) → left a ≡ Some (thing name refs nums) → block a ≡ Some (thing name refs nums)
-  pub unmoved : (a refs nums : ℕ) (name : Name) → left a ≡ Some (thing name refs nums) → is_forwarded (m (Heap a)) ≡ false
 
 -- so it is while no region is in the collection set, where what can be reached stands as it stood
 pub calm_trimmed : (c : Config) (m : Word → ℕ) (block : Plot) (owner : ℕ → Option ℕ) (p : Promises) (g : Graph) → HoldsBy c m block owner p g → m Cset ≡ 0
@@ -64,9 +73,8 @@ calm_trimmed c m block owner p g holds calm new_top left plotted reached_stays n
   plotted = plotted;
   roots = λ word among some. reached_stays word (root_reached c m block owner p g holds calm word among some);
   fields = λ a i held few some. reached_stays (m (Heap (a + 3 + i))) (field_reached c m block owner p g holds calm a i held few some);
-  named = named;
+  current = own_current m left named (λ a refs nums name is. calm_unmoved c m block owner p g holds calm a refs nums name (was a refs nums name is));
   was = was;
-  unmoved = λ a refs nums name is. calm_unmoved c m block owner p g holds calm a refs nums name (was a refs nums name is);
 }
 
 module _ (c : Config) (m : Word → ℕ) (block : Plot) (owner : ℕ → Option ℕ) (p : Promises) (g : Graph) (holds : HoldsBy c m block owner p g)
@@ -78,7 +86,7 @@ module _ (c : Config) (m : Word → ℕ) (block : Plot) (owner : ℕ → Option 
   top r = m (Top r)
 
   abbrev IsRoot : ℕ → Type 0
-  IsRoot = IsAmong (root_words c m)
+  IsRoot = IsAmong (held_words c m)
 
   abbrev more : Graph
   more = with_promised g p
@@ -104,10 +112,7 @@ module _ (c : Config) (m : Word → ℕ) (block : Plot) (owner : ℕ → Option 
   pub trimmed_objects : HoldsGraph c new_top heap left (now_in m) IsRoot more
   trimmed_objects = record {
     plotted = is_trimmed.plotted;
-    current = λ word name is.
-        let piece = is_trimmed.named word name is in
-        let own = cond-false (is_forwarded (heap word)) (forwardee_in (heap word)) word (is_trimmed.unmoved word piece.0 piece.1 name piece.2) in
-        (piece.0, piece.1, ap left own ∙ piece.2);
+    current = is_trimmed.current;
     each = λ a refs nums name held is.
         let object = holds.objects.each a refs nums name held (is_trimmed.was a refs nums name is) in
         (object.0, object.1, object_stays a refs nums name object.0 held object.2);
@@ -120,6 +125,7 @@ module _ (c : Config) (m : Word → ℕ) (block : Plot) (owner : ℕ → Option 
         let held = holds.objects.root_held t i name is in
         let some = none_at_0 c top block holds.objects.plotted held.0 name held.2 in
         (held.0, held.1, named_stays held.0 (is_trimmed.roots held.0 held.1 some) ∙ held.2);
+    pinless = holds.objects.pinless;
   }
 
   answer_stays : (word : ℕ) (r : Reference) → (1 < word → left word ≡ block word) → AnswerStands block word r → AnswerStands left word r
@@ -128,6 +134,10 @@ module _ (c : Config) (m : Word → ℕ) (block : Plot) (owner : ℕ → Option 
       (λ (some : (1 < word) × (name : Name) × (r ≡ Some name) × (name_at (block word) ≡ Some name)).
       inr (some.0, some.1, some.2, named_stays word (stays some.0) ∙ some.3))
       stands
+
+  slot_stays : (word : ℕ) (held : Option Pinned) → (word ≢ 0 → left word ≡ block word) → PinWordStands m block word held → PinWordStands m left word held
+  slot_stays word held stays = pin_stays m m block left word held
+      (λ name copy plain. ((copy.0, copy.1, stays (none_at_0 c top block holds.objects.plotted word name (ap name_at copy.2)) ∙ copy.2), plain))
 
   pub trimmed_rooted : RootsStand c m left g p
   trimmed_rooted = record {
@@ -140,5 +150,10 @@ module _ (c : Config) (m : Word → ℕ) (block : Plot) (owner : ℕ → Option 
         (λ some. is_trimmed.roots (m (Answer t)) (answer_among c top m block g p holds.objects.plotted holds.rooted t below some) (λ zero'. omega (arith, some, zero')))
         (holds.rooted.answers t below);
     no_more_roots = holds.rooted.no_more_roots;
+    pins = λ t i below few.
+        slot_stays (m (Pin t i)) (g.pin (t + 1) i)
+        (is_trimmed.roots (m (Pin t i)) (pin_among c top m block g p holds.objects.plotted holds.rooted t i below few))
+        (holds.rooted.pins t i below few);
+    no_more_pins = holds.rooted.no_more_pins;
     no_more_promised = holds.rooted.no_more_promised;
   }

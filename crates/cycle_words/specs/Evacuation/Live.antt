@@ -1,5 +1,5 @@
 -- How much of a region lives once the marks are closed, and which regions are candidates for evacuation.
-use Rattle.std.specs.Prelude.{ℕ, ◌≡◌, ◌+◌, ◌-◌, ◌/◌, ◌≤◌, ◌==◌, ◌&&◌, nat_le, not, if◌then◌else◌, Bool}
+use Rattle.std.specs.Prelude.{ℕ, ◌≡◌, ◌+◌, ◌-◌, ◌/◌, ◌≤◌, ◌==◌, ◌&&◌, nat_le, not, if◌then◌else◌, Bool, false}
 use Rattle.std.specs.Int.{bit_at}
 use Rattle.heap_words.specs.declared.config.Config.{Config}
 use Rattle.heap_words.specs.Words.{Word, Free, Top, Tams, Heap}
@@ -7,6 +7,7 @@ use Rattle.heap_words.specs.Encoding.{object_words}
 use Rattle.regions.specs.Place.{base_of}
 use Rattle.regions.specs.Sets.{IsOutside}
 use Rattle.packing.specs.Tops.{sum_below}
+use Rattle.full_words.specs.Pinned.{is_pinned}
 use Rattle.image_graph.specs.State.{IsSomeSeats}
 use Rattle.cycle_words.specs.Marking.Marks.{is_black}
 use Rattle.cycle_words.specs.Marking.Final.{is_current}
@@ -27,15 +28,16 @@ live_words c memory r = sum_below (λ k. marked_words c memory (base_of c r + k)
 abbrev pub garbage : Config → (Word → ℕ) → ℕ → ℕ
 garbage c memory r = memory (Top r) - live_words c memory r
 
--- A region is a candidate: it is in use, not current, nothing was allocated in it since marking began, and a quarter
+-- A region is a candidate: it is in use, neither pinned nor current, nothing was allocated in it since marking began, and a quarter
 -- of a region in it is garbage.
 abbrev pub is_candidate : Config → (Word → ℕ) → ℕ → Bool
 is_candidate c memory r =
-    (bit_at (memory Free) r == 0) && not (is_current c memory r) && (memory (Top r) == memory (Tams r)) && nat_le (c.region_words / 4) (garbage c memory r)
+    (bit_at (memory Free) r == 0) && not (is_pinned c memory r) && not (is_current c memory r) && (memory (Top r) == memory (Tams r)) && nat_le (c.region_words / 4) (garbage c memory r)
 
 -- the same, as a relation
 pub record IsCandidate (c : Config) (memory : Word → ℕ) (r : ℕ) : Type 0 where
   pub in_use : IsOutside (memory Free) r
+  pub unpinned : is_pinned c memory r ≡ false
   pub nobodys : IsSomeSeats c memory r → ⊥
   pub no_new : memory (Top r) ≡ memory (Tams r)
   pub quarter : c.region_words / 4 ≤ garbage c memory r

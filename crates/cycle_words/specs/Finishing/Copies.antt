@@ -4,13 +4,15 @@ use Rattle.std.specs.Prelude.{ℕ, ◌≡◌, ◌+◌, ◌*◌, ◌==◌, ◌&&�
 use Rattle.heap_words.specs.declared.config.Config.{Config}
 use Rattle.heap_words.specs.Words.{Word, Phase, Heap}
 use Rattle.heap_words.specs.Encoding.{is_forwarded}
+use Rattle.regions.specs.Place.{region_with}
+use Rattle.full_words.specs.Pinned.{is_pinned}
 use Rattle.cycle_words.specs.Marking.Marks.{is_black}
 use Rattle.cycle_words.specs.Evacuation.Copied.{CanCopyOut, copy_room, copied_out}
 use Rattle.cycle_words.specs.Evacuation.Begun.{is_collected}
 
--- an address is that of an object that is left in the collection set: it is marked, and has not moved
+-- an address is that of an object that is left in the collection set: it is marked, and has not moved. Those of pinned regions stay
 abbrev pub is_left : Config → (Word → ℕ) → ℕ → Bool
-is_left c memory a = is_collected c memory a && is_black c memory a && not (is_forwarded (memory (Heap a)))
+is_left c memory a = is_collected c memory a && not (is_pinned c memory (region_with c a)) && is_black c memory a && not (is_forwarded (memory (Heap a)))
 
 -- some region was found
 abbrev pub is_found : Option ℕ → Bool

@@ -1,20 +1,43 @@
 -- What finishing a cycle in one pause makes of the words of an image.
-use Rattle.std.specs.Prelude.{ℕ, ◌≡◌, ◌*◌, ◌==◌, ◌&&◌, if◌then◌else◌, Bool, true}
+use Rattle.std.specs.Prelude.{ℕ, ◌≡◌, ◌*◌, ◌^◌, ◌<◌, ◌==◌, ◌&&◌, not, if◌then◌else◌, Bool, true}
 use Rattle.std.specs.List.{range_with_len, list_all}
 use Rattle.heap_words.specs.declared.config.Config.{Config}
-use Rattle.heap_words.specs.Words.{Word, Phase, Evac, Ask, Wait}
+use Rattle.heap_words.specs.Words.{Word, Phase, Cset, Evac, Ask, Wait, Heap}
 use Rattle.buffer_words.specs.Buffers.{AreInside}
 use Rattle.buffer_words.specs.LetGo.{let_go}
 use Rattle.full_words.specs.Full.{served}
-use Rattle.cycle_words.specs.Updating.Changes.{final_updated}
+use Rattle.heap_words.specs.Encoding.{is_forwarded}
+use Rattle.full_words.specs.Pinned.{is_pinned, filled_in, CanFill}
+use Rattle.cycle_words.specs.Marking.Final.{freed}
+use Rattle.cycle_words.specs.Updating.Changes.{is_chosen, cycle_ended}
 use Rattle.cycle_words.specs.Finishing.Updated.{all_updated, CanUpdateAll}
 use Rattle.cycle_words.specs.Finishing.Copies.{CanCopyFrom, all_copied, is_room_for_all}
 
--- The regions of the collection set are freed, and nothing is left of the cycle: no copier is counted, and nothing is asked for.
+-- the regions of the collection set that are freed, and those that are pinned
+abbrev pub is_to_free : Config → (Word → ℕ) → ℕ → Bool
+is_to_free c memory r = is_chosen memory r && not (is_pinned c memory r)
+
+abbrev pub is_to_stay : Config → (Word → ℕ) → ℕ → Bool
+is_to_stay c memory r = is_chosen memory r && is_pinned c memory r
+
+-- what has moved
+abbrev pub has_moved : (Word → ℕ) → ℕ → Bool
+has_moved memory a = is_forwarded (memory (Heap a))
+
+-- The regions of the collection set that are not pinned are freed; in the others what has moved only fills.
+abbrev pub set_left : Config → (Word → ℕ) → Word → ℕ
+set_left c memory = freed c (is_to_free c memory) (filled_in c (is_to_stay c memory) (has_moved memory) memory)
+
+-- The set is left so, and nothing is left of the cycle: no copier is counted, and nothing is asked for.
 abbrev pub set_freed : Config → (Word → ℕ) → Word → ℕ
 set_freed c memory Evac = 0
 set_freed c memory Ask = 0
-set_freed c memory word = final_updated c memory word
+set_freed c memory word = cycle_ended (set_left c memory) word
+
+-- The set can be left: the collection set has regions of the heap alone, and in its pinned regions each object ends at the top, or before.
+pub record CanFree (c : Config) (memory : Word → ℕ) : Type 0 where
+  pub set : memory Cset < 2 ^ c.regions
+  pub fills : (r : ℕ) → r < c.regions → is_to_stay c memory r ≡ true → CanFill c memory r
 
 -- the words once the cycle is over, before requests are served: where all that was left found room
 abbrev pub cycle_finished : Config → (Word → ℕ) → Word → ℕ
@@ -38,8 +61,9 @@ abbrev pub is_whole : Config → (Word → ℕ) → Bool
 is_whole c memory = is_room_for_all c (let_go c memory) && nobody_waits c (finished c memory)
 
 -- A cycle can be finished: buffers lie in regions of the heap; once they were let go, while objects are evacuated what is left can be copied
--- out; and once that is done references can be updated.
+-- out; and once that is done references can be updated, and then the set can be left.
 pub record CanFinish (c : Config) (memory : Word → ℕ) : Type 0 where
   pub buffers : AreInside c memory
   pub copies : let_go c memory Phase ≡ 2 → CanCopyFrom c (let_go c memory) c.region_words (c.regions * c.region_words)
   pub updates : is_room_for_all c (let_go c memory) ≡ true → CanUpdateAll c (all_copied c (let_go c memory))
+  pub frees : is_room_for_all c (let_go c memory) ≡ true → CanFree c (all_updated c (all_copied c (let_go c memory)))

@@ -2,9 +2,8 @@
 use Rattle.std.specs.Prelude.{ℕ, ◌≡◌, ◌≢◌, ◌+◌, ◌^◌, ◌<◌, ◌↔◌, true, false, Option, Some, None}
 use Rattle.heap_words.specs.declared.config.Config.{Config}
 use Rattle.heap_words.specs.Words.{Word, Cset, Wait, Heap}
-use Rattle.heap_words.specs.Encoding.{refs_in}
+use Rattle.heap_words.specs.Encoding.{is_forwarded, refs_in}
 use Rattle.regions.specs.Place.{region_with}
-use Rattle.regions.specs.Sets.{IsOutside}
 use Rattle.shen_graph.specs.Graph.{Graph}
 use Rattle.heap_world.specs.World.{Block, Plot, is_loose, HasNoRoom}
 use Rattle.full_words.specs.Full.{served}
@@ -16,8 +15,8 @@ use Rattle.image_graph.specs.Buffers.{HasNoMoreSeats}
 use Rattle.cycle_words.specs.Evacuation.Copied.{copy_room}
 use Rattle.cycle_words.specs.Finishing.Copies.{is_left, all_copied, is_room_for_all}
 use Rattle.cycle_words.specs.Finishing.Finish.{nobody_waits, CanFinish}
-use Rattle.cycle_words.specs.Finishing.Updated.{is_kept_field, all_updated, CanUpdateAll}
-use Rattle.cycle_words.specs.StillHolds.{NothingInside, NothingNames, WhileCollecting}
+use Rattle.cycle_words.specs.Finishing.Updated.{stays, is_kept_field, all_updated, CanUpdateAll}
+use Rattle.cycle_words.specs.StillHolds.{NothingInside, NothingNamesGone, WhileCollecting}
 
 -- An object is left in the collection set, and no region outside has room for it.
 pub record IsStuck (c : Config) (memory : Word → ℕ) : Type 0 where
@@ -37,14 +36,15 @@ pub record ServesAll (c : Config) (memory : Word → ℕ) : Type 0 where
 abbrev pub ServingServesAll : Type 0
 ServingServesAll = (c : Config) (memory : Word → ℕ) → ServesAll c memory
 
--- An address is that of a reference of a kept object outside the collection set: an object lies there that is marked, or was allocated since
--- marking began, and the address is one of the references that its shape word counts.
+-- An address is that of a reference of a kept object that stays: outside the collection set, or in a pinned region of it, an object lies that has
+-- not moved, and is marked or was allocated since marking began; and the address is one of the references that its shape word counts.
 pub record IsFieldOfKept (c : Config) (memory : Word → ℕ) (block : Plot) (x : ℕ) : Type 0 where
   pub object : ℕ
   pub piece : Block
   pub here : block object ≡ Some piece
   pub is_object : is_loose piece ≡ false
-  pub outside : IsOutside (memory Cset) (region_with c object)
+  pub stays_there : stays c memory (region_with c object) ≡ true
+  pub unmoved : is_forwarded (memory (Heap object)) ≡ false
   pub kept : IsKept c memory object
   pub field : ℕ
   pub few : field < refs_in (memory (Heap (object + 1)))
@@ -67,12 +67,12 @@ abbrev pub CollectingCanFinish : Type 0
 CollectingCanFinish = (c : Config) (memory : Word → ℕ) (block : Plot) (owner : ℕ → Option ℕ) (p : Promises) (g : Graph) → HoldsBy c memory block owner p g → AreSized memory block
     → HasNoMoreSeats c memory → WhileCollecting c memory block → memory Cset < 2 ^ c.regions → CanFinish c memory
 
--- Where no object is left in the set, nothing that can be reached lies there, ..
+-- Where no object is left in the set, nothing that can be reached lies there but in pinned regions, ..
 abbrev pub NoneLeftInside : Type 0
 NoneLeftInside = (c : Config) (memory : Word → ℕ) (block : Plot) (owner : ℕ → Option ℕ) (p : Promises) (g : Graph) → HoldsBy c memory block owner p g → AreSized memory block
     → WhileCollecting c memory block → ((a : ℕ) → is_left c memory a ≡ false) → NothingInside c memory
 
--- .. and then nothing names the set once all references were updated: it may be freed.
+-- .. and then nothing names what goes once all references were updated: it may be freed, and what has moved in pinned regions filled over.
 abbrev pub UpdatedNamesNothing : Type 0
 UpdatedNamesNothing = (c : Config) (memory : Word → ℕ) (block : Plot) (owner : ℕ → Option ℕ) (p : Promises) (g : Graph) → HoldsBy c memory block owner p g → AreSized memory block
-    → HasNoRoom block → WhileCollecting c memory block → NothingInside c memory → NothingNames c (all_updated c memory)
+    → HasNoRoom block → WhileCollecting c memory block → NothingInside c memory → NothingNamesGone c (all_updated c memory)

@@ -10,6 +10,7 @@ use Rattle.heap_words.specs.Encoding.{end_in}
 use Rattle.regions.specs.Place.{base_of, region_with, IsOf}
 use Rattle.regions.specs.Sets.{IsOutside}
 use Rattle.heap_world.specs.World.{Plot}
+use Rattle.full_words.specs.Pinned.{is_pinned}
 use Rattle.image_graph.specs.State.{IsSomeSeats}
 use Rattle.cycle_words.specs.Marking.Marks.{is_black, bits_of}
 use Rattle.cycle_words.specs.Marking.Close.{closed}
@@ -27,14 +28,15 @@ is_current c memory r = (memory Share == r + 1) || list_any (ends_in c memory r)
 abbrev pub has_black : Config → (Word → ℕ) → ℕ → Bool
 has_black c memory r = list_any (is_black c memory) (range_with_len (base_of c r) c.region_words)
 
--- A region is dead: it is in use, not current, nothing was allocated in it since marking began, and nothing in it is
+-- A region is dead: it is in use, neither pinned nor current, nothing was allocated in it since marking began, and nothing in it is
 -- marked.
 abbrev pub is_dead : Config → (Word → ℕ) → ℕ → Bool
-is_dead c memory r = (bit_at (memory Free) r == 0) && not (is_current c memory r) && (memory (Top r) == memory (Tams r)) && not (has_black c memory r)
+is_dead c memory r = (bit_at (memory Free) r == 0) && not (is_pinned c memory r) && not (is_current c memory r) && (memory (Top r) == memory (Tams r)) && not (has_black c memory r)
 
 -- the same, as a relation
 pub record IsDead (c : Config) (memory : Word → ℕ) (r : ℕ) : Type 0 where
   pub in_use : IsOutside (memory Free) r
+  pub unpinned : is_pinned c memory r ≡ false
   pub nobodys : IsSomeSeats c memory r → ⊥
   pub no_new : memory (Top r) ≡ memory (Tams r)
   pub unmarked : (a : ℕ) → IsOf c r a → is_black c memory a ≡ false

@@ -7,13 +7,13 @@ use Rattle.buffer_words.specs.Settled.{buffers_settled}
 use Rattle.buffer_words.specs.Edge.{edge}
 use Rattle.heap_graph.specs.Walk.{has}
 use Rattle.heap_world.specs.World.{Block, thing, dead, Plot}
-use Rattle.full_words.specs.Full.{root_words}
+use Rattle.full_words.specs.Full.{held_words}
 use Rattle.cycle_words.specs.Marking.Marks.{mark_bits}
 
--- Nothing is black, and exactly what roots and answers name is grey. The edges are noted, no SATB buffer has an entry, no unit is
+-- Nothing is black, and exactly what roots, answers and pin slots hold is grey. The edges are noted, no SATB buffer has an entry, no unit is
 -- claimed and nothing is asked for. All other words stay.
 abbrev pub marking_begun : Config → (Word → ℕ) → Word → ℕ
-marking_begun c memory (Grey n) = mark_bits c (has (root_words c memory)) n
+marking_begun c memory (Grey n) = mark_bits c (has (held_words c memory)) n
 marking_begun c memory (Black n) = 0
 marking_begun c memory (Tams r) = edge c memory r
 marking_begun c memory (Count t) = 0

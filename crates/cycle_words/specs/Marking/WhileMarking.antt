@@ -8,7 +8,7 @@ use Rattle.shen_graph.specs.Graph.{Object}
 use Rattle.heap_world.specs.World.{Plot, Ghost, thing, AreObjects, KeepsSnapshot}
 use Rattle.heap_world.specs.Represents.{NobodyMarks}
 use Rattle.full_words.specs.Held.{IsLedTo, IsAmong}
-use Rattle.full_words.specs.Full.{now_in, root_words}
+use Rattle.full_words.specs.Full.{now_in, held_words}
 use Rattle.cycle_words.specs.Marking.Marks.{IsKept}
 
 -- an object stands at an address, and its shape word says so
@@ -21,9 +21,9 @@ pub record IsObjectAt (memory : Word → ℕ) (block : Plot) (a : ℕ) : Type 0 
   pub few_refs : refs ≤ 16
   pub few_nums : nums ≤ 16
 
--- an object can be reached: roots or answers lead to it
+-- an object can be reached: roots, answers or pin slots lead to it
 abbrev pub CanBeReached : Config → (Word → ℕ) → ℕ → Type 0
-CanBeReached c memory = IsLedTo (now_in memory) (λ a. memory (Heap a)) (IsAmong (root_words c memory))
+CanBeReached c memory = IsLedTo (now_in memory) (λ a. memory (Heap a)) (IsAmong (held_words c memory))
 
 -- While marking runs: objects are marked from a snapshot, of which no machine holds back what it is about to record or scan; each piece that
 -- is an object is one of some graph, also where nothing leads to it; and no region is collected.

@@ -2,7 +2,7 @@
 use Rattle.std.proofs.Common.{◌≡◌, ◌≢◌, ℕ, ◌+◌, ◌<◌, ◌≤◌, ◌⊎◌, Bool, true, false, Option, Some, inl, inr, ⊎_elim, refl, sym, ap, ◌∙◌, subst, arith}
 use Rattle.std.proofs.lemmas.Bool.{cases_eq}
 use Rattle.heap_words.specs.declared.config.Config.{Config}
-use Rattle.heap_words.specs.Words.{Word, Cset, Free, Top, Current, Root, Wait, Answer, Heap, Share}
+use Rattle.heap_words.specs.Words.{Word, Cset, Free, Top, Current, Root, Wait, Answer, Heap, Share, Pin}
 use Rattle.heap_words.specs.Encoding.{is_forwarded, object_words, filler_header}
 use Rattle.regions.specs.Place.{region_with}
 use Rattle.regions.specs.Sets.{IsIn, IsOutside}
@@ -12,7 +12,7 @@ use Rattle.shen_graph.specs.Graph.{Graph}
 use Rattle.heap_world.specs.World.{Block, thing, hand, promised, filler, spare, carved, words_of, room_of, is_loose, Plot, name_at, IsPlotted, IsFilled, IsFreeWord, ShareIsOpen, AreBuffers}
 use Rattle.heap_world.proofs.Loose.{SameButLoose, names_stay}
 use Rattle.full_words.specs.Held.{IsLedTo, IsAmong}
-use Rattle.full_words.specs.Full.{now_in, root_words}
+use Rattle.full_words.specs.Full.{now_in, held_words}
 use Rattle.full_words.specs.Promised.{Promises}
 use Rattle.full_words.specs.Plot.{NamedAreThings}
 use Rattle.image_graph.specs.Holds.{HasMoved, HoldsBy, AreSized}
@@ -162,6 +162,8 @@ module _ (c : Config) (m n : Word → ℕ) (block plot : Plot) (owner : ℕ → 
           (ap (λ k. n (Heap k)) place ∙ is.words x (3 + i) (thing name refs nums) refl (is.same.came x (thing name refs nums) refl here) (omega (arith, few)) ∙ ap (λ k. m (Heap k)) (sym place));
       roots = λ t i inside few. not_renamed m (m (Root t i)) (n (Root t i)) (is.others (Root t i) refl);
       answers = λ t inside. not_renamed m (m (Answer t)) (n (Answer t)) (is.others (Answer t) refl);
+      pins = λ t i inside few. is.others (Pin t i) refl;
+      pinned = λ t i inside few name copy plain. ap is_forwarded (thing_header (m (Pin t i)) copy.0 copy.1 name copy.2) ∙ plain;
       waits = λ t. is.others (Wait t) refl;
     }
 
@@ -196,5 +198,5 @@ module _ (c : Config) (m n : Word → ℕ) (block plot : Plot) (owner : ℕ → 
     loosened_holds filled buffers = carried_holds c m n block plot owner p g holds same_place Anywhere carried moved_again filled pieces_again free_again share_again buffers
 
     -- what can be reached could be
-    pub loosened_reached : (x : ℕ) → IsLedTo (now_in n) (λ a. n (Heap a)) (IsAmong (root_words c n)) x → IsLedTo (now_in m) (λ a. m (Heap a)) (IsAmong (root_words c m)) x
+    pub loosened_reached : (x : ℕ) → IsLedTo (now_in n) (λ a. n (Heap a)) (IsAmong (held_words c n)) x → IsLedTo (now_in m) (λ a. m (Heap a)) (IsAmong (held_words c m)) x
     loosened_reached x reached = (led_comes c m n block plot owner p g holds same_place Anywhere carried x reached).led

@@ -3,7 +3,7 @@ use Rattle.std.proofs.lemmas.Bool.{cases_Bool}
 use Rattle.heap_words.specs.Words.{Word}
 use Rattle.heap_words.specs.declared.config.Config.{Config}
 use Rattle.full_words.specs.Full.{full}
-use Rattle.image_graph.specs.Holds.{HoldsSome}
+use Rattle.image_graph.specs.Holds.{HoldsSized}
 use Rattle.image_graph.specs.State.{config_of, memory_of}
 use Rattle.cycle_words.specs.Finishing.Finish.{finished, is_whole}
 use Rattle.degenerated.specs.declared.cycle.Finished.{Finished}
@@ -16,7 +16,7 @@ not_whole result other c m tells = ⊎_elim (λ (is : is_whole c m ≡ true). ab
 
 pub full-requires : goal.full-requires
 full-requires c =
-    of-same HoldsSome (config_of c.args.image.now) (config_of c.finish.new.image) (finished (config_of c.args.image.now) (memory_of c.args.image.now)) (memory_of c.finish.new.image)
+    of-same HoldsSized (config_of c.args.image.now) (config_of c.finish.new.image) (finished (config_of c.args.image.now) (memory_of c.args.image.now)) (memory_of c.finish.new.image)
     c.finish.ensures.config c.finish.ensures.words
     (c.requires.holds
     (not_whole c.finish.result (λ is. (let differ = sym is ∙ c.in-Short.is in cc)) (config_of c.args.image.now) (memory_of c.args.image.now) c.finish.ensures.whole.1))

@@ -5,11 +5,11 @@ use Rattle.image_graph.proofs.BufferTurns.{no_more_seats}
 use Rattle.cycle_pauses.specs.Ended.{ended, CanEnd}
 use Rattle.cycle_pauses.specs.Collect.{past_marking}
 use Rattle.cycle_pauses.proofs.Pauses.{ended_can_begin, running_can_end}
-use Rattle.control.proofs.Collecting.{can_hold, can_end, of-same, full-made, ended-made, marking-past, others-past}
+use Rattle.control.proofs.Collecting.{can_sized, can_end, of-same, full-made, ended-made, marking-past, others-past}
 use Rattle.control.proofs.collect.make_room.Goals as goal
 
 pub full-requires : goal.full-requires
-full-requires c = can_hold (config_of c.args.image.now) (memory_of c.args.image.now) c.requires.can
+full-requires c = can_sized (config_of c.args.image.now) (memory_of c.args.image.now) c.requires.can
 
 pub end_mark-requires-clause-marks : goal.end_mark-requires-clause-marks
 end_mark-requires-clause-marks c = can_end (config_of c.args.image.now) (memory_of c.args.image.now) c.requires.can (sym c.phase.ensures ∙ c.in-1.is)

@@ -28,6 +28,15 @@ returns-then-is_in c =
       | then-is_in-via-else-is_in+then-is_current w ↦ candidate.nobodys (w.is_current.ensures.yes w.if-is_current.true)
     ]))
 
+pub returns-then-is_pinned : goal.returns-then-is_pinned
+returns-then-is_pinned c =
+    let g = config_of c.args.image.now in
+    let m : Word → ℕ = memory_of c.args.image.now in
+    let r = c.args.region in
+    sym (false_from_ne_true (is_candidate g m r) (λ told.
+    let candidate = (candidate_is_candidate g m r).0 told in
+    true≢false (sym c.if-is_pinned.true ∙ c.is_pinned.ensures ∙ candidate.unpinned)))
+
 pub returns : goal.returns
 returns c =
     let g = config_of c.args.image.now in
@@ -43,4 +52,4 @@ returns c =
     let words : c.region_words.result ≡ g.region_words = c.region_words.ensures ∙ ap (λ (k : Config). k.region_words) c.config-config.ensures in
     let rest : c.saturating_sub.result ≡ garbage g m r =
     c.saturating_sub.ensures ∙ ap (λ t. t - c.args.live) c.top-top.ensures ∙ ap (λ n. m (Top r) - n) c.requires.live in
-    ap (λ n. nat_le (n / 4) c.saturating_sub.result) words ∙ ap (nat_le (g.region_words / 4)) rest ∙ sym (garbage_decides g m r unset unseated top)
+    ap (λ n. nat_le (n / 4) c.saturating_sub.result) words ∙ ap (nat_le (g.region_words / 4)) rest ∙ sym (garbage_decides g m r unset (sym c.is_pinned.ensures ∙ c.if-is_pinned.false) unseated top)

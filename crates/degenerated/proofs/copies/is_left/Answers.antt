@@ -8,11 +8,11 @@ use Rattle.degenerated.proofs.copies.is_left.Goals as goal
 pub word-requires : goal.word-requires
 word-requires c = placed_inside (config_of c.args.image.now) c.config-config.result Cset _ (sym c.config-config.ensures) tt c.cset_at.ensures
 
-pub region_of-requires : goal.region_of-requires
-region_of-requires c = subst (λ (j : Config). IsWord j (Heap c.args.address)) (sym c.config-config.ensures) c.requires
+pub region_of-region-requires : goal.region_of-region-requires
+region_of-region-requires c = subst (λ (j : Config). IsWord j (Heap c.args.address)) (sym c.config-config.ensures) c.requires
 
 pub is_in-requires : goal.is_in-requires
-is_in-requires c = omega (arith, c.region_of.ensures.below, c.config-config.result.in_range.most_regions)
+is_in-requires c = omega (arith, c.region_of-region.ensures.below, c.config-config.result.in_range.most_regions)
 
 pub is_black-requires : goal.is_black-requires
 is_black-requires c = c.requires

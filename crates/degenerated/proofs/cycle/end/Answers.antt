@@ -8,7 +8,7 @@ use Rattle.image_graph.specs.Left.{IsLeft}
 use Rattle.image_graph.specs.Make.{AreWithin}
 use Rattle.cycle_words.specs.Finishing.Updated.{all_updated}
 use Rattle.cycle_words.specs.Finishing.Copies.{is_room_for_all, all_copied}
-use Rattle.cycle_words.specs.Finishing.Finish.{set_freed, cycle_finished, finished_from, nobody_waits}
+use Rattle.cycle_words.specs.Finishing.Finish.{CanFree, set_freed, cycle_finished, finished_from, nobody_waits}
 use Rattle.degenerated.proofs.Finishing.{stops_short, goes_through, all_served, not_all_served, whole_is, within_still}
 use Rattle.degenerated.proofs.cycle.end.Goals as goal
 
@@ -24,6 +24,18 @@ returns-then-not-copy_rest-clause-words c =
     let g = config_of c.args.image.now in
     let m : Word → ℕ = memory_of c.args.image.now in
     c.copy_rest.ensures.words ∙ stops_short g m (sym c.copy_rest.ensures.room ∙ c.if-not-copy_rest.true)
+
+pub end_cycle-requires : goal.end_cycle-requires
+end_cycle-requires c =
+    let g = config_of c.args.image.now in
+    let m : Word → ℕ = memory_of c.args.image.now in
+    let one = c.copy_rest.new.image in
+    let two = c.update_all.new.image in
+    let room : is_room_for_all g m ≡ true = sym c.copy_rest.ensures.room ∙ c.if-not-copy_rest.false in
+    let config : config_of two ≡ g = c.update_all.ensures.config ∙ c.copy_rest.ensures.config in
+    let words : memory_of two ≡ all_updated g (all_copied g m) =
+    c.update_all.ensures.words ∙ ap (λ (k : Config). all_updated k (memory_of one)) c.copy_rest.ensures.config ∙ ap (all_updated g) c.copy_rest.ensures.words in
+    subst (λ (k : Config). CanFree k (memory_of two)) (sym config) (subst (CanFree g) (sym words) (c.requires.frees room))
 
 pub give_turns-requires : goal.give_turns-requires
 give_turns-requires c =

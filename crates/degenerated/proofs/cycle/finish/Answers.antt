@@ -3,9 +3,9 @@ use Rattle.heap_words.specs.declared.config.Config.{Config}
 use Rattle.heap_words.specs.Words.{Word, Phase}
 use Rattle.image_graph.specs.State.{config_of, words_of, memory_of}
 use Rattle.image_graph.proofs.BufferTurns.{no_more_seats}
-use Rattle.cycle_words.specs.Finishing.Updated.{CanUpdateAll}
+use Rattle.cycle_words.specs.Finishing.Updated.{all_updated, CanUpdateAll}
 use Rattle.cycle_words.specs.Finishing.Copies.{CanCopyFrom, all_copied, is_room_for_all}
-use Rattle.cycle_words.specs.Finishing.Finish.{finished_from, nobody_waits}
+use Rattle.cycle_words.specs.Finishing.Finish.{CanFree, finished_from, nobody_waits}
 use Rattle.cycle_words.specs.StillHolds.{FinishingHolds}
 use Rattle.cycle_words.proofs.Finishing.FinishingHolds.{finishing_holds}
 use Rattle.degenerated.specs.declared.cycle.Finished.{Finished}
@@ -18,6 +18,9 @@ Copies k n = n Phase ≡ 2 → CanCopyFrom k n k.region_words (k.regions * k.reg
 
 abbrev Updates : Config → (Word → ℕ) → Type 0
 Updates k n = is_room_for_all k n ≡ true → CanUpdateAll k (all_copied k n)
+
+abbrev Frees : Config → (Word → ℕ) → Type 0
+Frees k n = is_room_for_all k n ≡ true → CanFree k (all_updated k (all_copied k n))
 
 abbrev Tells : Finished → Config → (Word → ℕ) → Type 0
 Tells result k n = (result ≡ Whole) ↔ ((is_room_for_all k n && nobody_waits k (finished_from k n)) ≡ true)
@@ -34,6 +37,11 @@ pub end-requires-clause-updates : goal.end-requires-clause-updates
 end-requires-clause-updates c =
     subst (λ (k : Config). Updates k (memory_of c.let_go.new.self)) (sym c.let_go.ensures.config)
     (subst (Updates (config_of c.args.image.now)) (sym c.let_go.ensures.words) c.requires.updates)
+
+pub end-requires-clause-frees : goal.end-requires-clause-frees
+end-requires-clause-frees c =
+    subst (λ (k : Config). Frees k (memory_of c.let_go.new.self)) (sym c.let_go.ensures.config)
+    (subst (Frees (config_of c.args.image.now)) (sym c.let_go.ensures.words) c.requires.frees)
 
 pub returns-clause-words : goal.returns-clause-words
 returns-clause-words c =

@@ -3,36 +3,40 @@ use Rattle.heap_words.specs.declared.config.Config.{Config}
 use Rattle.heap_words.specs.Words.{Word}
 use Rattle.image_graph.specs.State.{config_of, memory_of}
 use Rattle.cycle_words.specs.Finishing.Updated.{CanUpdateAll}
-use Rattle.degenerated.specs.Steps.{fields_updated, is_of, is_of_first}
+use Rattle.degenerated.specs.Steps.{kept_now, fields_updated, is_of, is_of_first}
 use Rattle.degenerated.proofs.UpdatedFields.{can_still, no_fields, then_updated, none_of_first, one_region_more, regions_apart}
+use Rattle.degenerated.proofs.KeptHeap.{kept_same}
 use Rattle.degenerated.proofs.fields.update_fields.Goals as goal
 
 pub loop-region-init : goal.loop-region-init
 loop-region-init c =
     let g = config_of c.args.image.now in
-    record { config = refl; words = no_fields g (memory_of c.args.image.now) (is_of_first g 0) (λ x field. none_of_first g x) }
+    record { config = refl; places = refl; words = no_fields g (memory_of c.args.image.now) (kept_now c.args.image.now) (is_of_first g 0) (λ x field. none_of_first g x) }
 
-pub update_if_outside-requires-clause-can : goal.update_if_outside-requires-clause-can
-update_if_outside-requires-clause-can c =
+pub update_if_staying-requires-clause-can : goal.update_if_staying-requires-clause-can
+update_if_staying-requires-clause-can c =
     let g = config_of c.args.image.now in
     let m : Word → ℕ = memory_of c.args.image.now in
     let is = c.loop-region.invariant in
     subst (λ (k : Config). CanUpdateAll k (memory_of c.loop-region.image)) (sym is.config)
-    (subst (CanUpdateAll g) (sym is.words) (can_still g m c.requires (is_of_first g c.loop-region.region)))
+    (subst (CanUpdateAll g) (sym is.words) (can_still g (kept_now c.args.image.now) m c.requires (is_of_first g c.loop-region.region)))
 
 pub loop-region-preserved : goal.loop-region-preserved
 loop-region-preserved c =
     let g = config_of c.args.image.now in
     let m : Word → ℕ = memory_of c.args.image.now in
     let r = c.loop-region.region in
+    let lead : ℕ → ℕ = kept_now c.args.image.now in
     let now = c.loop-region.image in
     let is = c.loop-region.invariant in
     record {
-      config = c.update_if_outside.ensures.config ∙ is.config;
-      words = c.update_if_outside.ensures.words
-          ∙ ap (λ (k : Config). fields_updated k (is_of k r) (memory_of now)) is.config
-          ∙ ap (fields_updated g (is_of g r)) is.words
-          ∙ then_updated g m c.requires (is_of_first g r) (is_of g r) (is_of_first g (r + 1)) (λ x field before. regions_apart g r x before) (λ x field. one_region_more g r x);
+      config = c.update_if_staying.ensures.config ∙ is.config;
+      places = c.update_if_staying.ensures.places ∙ is.places;
+      words = c.update_if_staying.ensures.words
+          ∙ ap (λ (f : ℕ → ℕ). fields_updated (config_of now) f (is_of (config_of now) r) (memory_of now)) (kept_same c.args.image.now now is.config is.places)
+          ∙ ap (λ (k : Config). fields_updated k lead (is_of k r) (memory_of now)) is.config
+          ∙ ap (fields_updated g lead (is_of g r)) is.words
+          ∙ then_updated g lead m c.requires (is_of_first g r) (is_of g r) (is_of_first g (r + 1)) (λ x field before. regions_apart g r x before) (λ x field. one_region_more g r x);
     }
 
 pub returns-clause-words : goal.returns-clause-words
@@ -40,4 +44,4 @@ returns-clause-words c =
     let g = config_of c.args.image.now in
     let all : c.loop-region.region ≡ g.regions =
     omega (arith, c.loop-region-test.false, c.loop-region.auto.region-end, c.regions-region-end.ensures, ap (λ (k : Config). k.regions) c.config-config.ensures) in
-    c.loop-region.invariant.words ∙ ap (λ n. fields_updated g (is_of_first g n) (memory_of c.args.image.now)) all
+    c.loop-region.invariant.words ∙ ap (λ n. fields_updated g (kept_now c.args.image.now) (is_of_first g n) (memory_of c.args.image.now)) all

@@ -1,55 +1,56 @@
 use Rattle.std.proofs.Common.{◌≡◌, ◌+◌, ◌-◌, ◌<◌, ◌==◌, ℕ, Bool, true, false, refl, sym, ap, ◌∙◌, subst, arith}
 use Rattle.heap_words.specs.declared.config.Config.{Config}
-use Rattle.heap_words.specs.Words.{Word, Cset, Top, Heap}
+use Rattle.heap_words.specs.Words.{Word, Top, Heap}
 use Rattle.regions.specs.Place.{base_of}
-use Rattle.regions.specs.Sets.{IsOutside}
-use Rattle.regions.specs.Walk.{stride_at}
+use Rattle.regions.specs.Walk.{start_of, stride_at}
+use Rattle.full_words.specs.Pinned.{object_of}
 use Rattle.image_graph.specs.State.{config_of, memory_of}
-use Rattle.cycle_words.specs.Finishing.Updated.{start_of, object_of, is_outside, CanUpdateAll}
-use Rattle.cycle_words.proofs.Finishing.Starts.{start_first}
-use Rattle.degenerated.specs.Steps.{fields_updated, is_at, is_below, is_of}
-use Rattle.degenerated.proofs.UpdatedFields.{CanRead, outside_told, object_in, same_fields, no_fields, can_still, same_object, then_updated, last_in_heap, here, still, none_below, addresses_apart, one_address_more, fields_below}
+use Rattle.full_words.proofs.Starts.{start_first}
+use Rattle.cycle_words.specs.Finishing.Updated.{stays, is_staying, CanUpdateAll}
+use Rattle.degenerated.specs.Steps.{kept_now, fields_updated, is_at, is_below, is_of}
+use Rattle.degenerated.proofs.UpdatedFields.{CanRead, staying_told, object_in, same_fields, no_fields, can_still, same_object, then_updated, last_in_heap, here, still, none_below, addresses_apart, one_address_more, fields_below}
+use Rattle.degenerated.proofs.KeptHeap.{kept_same}
 use Rattle.degenerated.proofs.fields.update_region.Goals as goal
 use Rattle.degenerated.proofs.fields.update_region.Goals.{then-ends_at, else-ends_at}
 
 -- what was found of an object is so of the words at first
-module _ (g d : Config) (m now : Word → ℕ) (can : CanUpdateAll g m) (r i : ℕ) (below : r < g.regions) (outside : IsOutside (m Cset) r) (some : i < m (Top r))
-    (same : d ≡ g) (words : now ≡ fields_updated g (is_below g r i) m) (first : ℕ) (base : first ≡ base_of g r) where
+module _ (lead : ℕ → ℕ) (g d : Config) (m now : Word → ℕ) (can : CanUpdateAll g m) (r i : ℕ) (below : r < g.regions) (staying : stays g m r ≡ true) (some : i < m (Top r))
+    (same : d ≡ g) (words : now ≡ fields_updated g lead (is_below g r i) m) (first : ℕ) (base : first ≡ base_of g r) where
   abbrev p : ℕ → Bool
   p = is_below g r i
 
   abbrev n : Word → ℕ
-  n = fields_updated g p m
+  n = fields_updated g lead p m
 
   module _ (object : ℕ) (at : object ≡ base_of g r + start_of (λ a. m (Heap a)) (base_of g r) (i - 1)) where
     pub first_is : CanRead d now object
     first_is =
         subst (λ (k : Config). CanRead k now object) (sym same)
-        (subst (λ (k : Word → ℕ). CanRead g k object) (sym words) (subst (CanRead g n) (sym at) (last_in_heap g m can p r below outside i some)))
+        (subst (λ (k : Word → ℕ). CanRead g k object) (sym words) (subst (CanRead g n) (sym at) (last_in_heap g lead m can p r below staying i some)))
 
     pub begun_here : (told : Bool) → told ≡ (object + stride_at (λ a. now (Heap a)) object == first + i) → told ≡ true
         → first + i ≡ base_of g r + start_of (λ a. m (Heap a)) (base_of g r) i
     begun_here told is yes' =
-        here g m can p r below outside i some object first at base (ap (λ (k : Word → ℕ). object + stride_at (λ a. k (Heap a)) object == first + i) (sym words) ∙ sym is ∙ yes')
+        here g lead m can p r below staying i some object first at base (ap (λ (k : Word → ℕ). object + stride_at (λ a. k (Heap a)) object == first + i) (sym words) ∙ sym is ∙ yes')
 
     pub goes_on_here : (told : Bool) → told ≡ (object + stride_at (λ a. now (Heap a)) object == first + i) → told ≡ false
         → object ≡ base_of g r + start_of (λ a. m (Heap a)) (base_of g r) i
     goes_on_here told is no' =
-        still g m can p r below outside i some object first at base (ap (λ (k : Word → ℕ). object + stride_at (λ a. k (Heap a)) object == first + i) (sym words) ∙ sym is ∙ no')
+        still g lead m can p r below staying i some object first at base (ap (λ (k : Word → ℕ). object + stride_at (λ a. k (Heap a)) object == first + i) (sym words) ∙ sym is ∙ no')
 
   pub can_now : CanUpdateAll d now
-  can_now = subst (λ (k : Config). CanUpdateAll k now) (sym same) (subst (CanUpdateAll g) (sym words) (can_still g m can p))
+  can_now = subst (λ (k : Config). CanUpdateAll k now) (sym same) (subst (CanUpdateAll g) (sym words) (can_still g lead m can p))
 
-  lies : is_outside g m (first + i) ≡ true
-  lies = ap (λ b. is_outside g m (b + i)) base ∙ outside_told g m r i below outside (can.within r below) some
+  lies : is_staying g m (first + i) ≡ true
+  lies = ap (λ b. is_staying g m (b + i)) base ∙ staying_told g m r i below staying (can.within r below) some
 
-  pub outside_now : is_outside d now (first + i) ≡ true
-  outside_now = ap (λ (k : Config). is_outside k now (first + i)) same ∙ ap (λ (k : Word → ℕ). is_outside g k (first + i)) words ∙ lies
+  pub staying_now : is_staying d now (first + i) ≡ true
+  staying_now = ap (λ (k : Config). is_staying k now (first + i)) same ∙ ap (λ (k : Word → ℕ). is_staying g k (first + i)) words ∙ lies
 
   pub object_now : (object : ℕ) → object ≡ base_of g r + start_of (λ a. m (Heap a)) (base_of g r) i → object ≡ object_of d now (first + i)
   object_now object at =
       at ∙ sym (ap (λ (k : Config). object_of k now (first + i)) same ∙ ap (λ (k : Word → ℕ). object_of g k (first + i)) words
-      ∙ same_object g m can p (first + i) lies ∙ ap (λ b. object_of g m (b + i)) base ∙ object_in g m r i (omega (arith, can.within r below, some)))
+      ∙ same_object g lead m can p (first + i) lies ∙ ap (λ b. object_of g m (b + i)) base ∙ object_in g m r i (omega (arith, can.within r below, some)))
 
 pub loop-offset-init : goal.loop-offset-init
 loop-offset-init c =
@@ -58,7 +59,8 @@ loop-offset-init c =
     let r = c.args.region in
     record {
       config = refl;
-      words = no_fields g m (is_below g r 0) (λ x field. none_below g r x);
+      places = refl;
+      words = no_fields g m (kept_now c.args.image.now) (is_below g r 0) (λ x field. none_below g r x);
       object = c.base-first.ensures ∙ ap (λ (k : Config). base_of k r) c.config.ensures
           ∙ (let none = start_first (λ a. m (Heap a)) (base_of g r) in let first : base_of g r ≡ base_of g r + start_of (λ a. m (Heap a)) (base_of g r) 0 = omega (arith, none) in first);
     }
@@ -68,7 +70,7 @@ ends_at-requires-clause-header c =
     let g = config_of c.args.image.now in
     let m : Word → ℕ = memory_of c.args.image.now in
     let is = c.loop-offset.invariant in
-    (first_is g (config_of c.loop-offset.image) m (memory_of c.loop-offset.image) c.requires.can c.args.region c.loop-offset.offset c.requires.region c.requires.outside
+    (first_is (kept_now c.args.image.now) g (config_of c.loop-offset.image) m (memory_of c.loop-offset.image) c.requires.can c.args.region c.loop-offset.offset c.requires.region c.requires.stays
     (omega (arith, c.loop-offset-test.true, c.top-top.ensures)) is.config is.words c.base-first.result
     (c.base-first.ensures ∙ ap (λ (k : Config). base_of k c.args.region) c.config.ensures) c.loop-offset.object is.object).0
 
@@ -77,7 +79,7 @@ ends_at-requires-clause-shape c =
     let g = config_of c.args.image.now in
     let m : Word → ℕ = memory_of c.args.image.now in
     let is = c.loop-offset.invariant in
-    (first_is g (config_of c.loop-offset.image) m (memory_of c.loop-offset.image) c.requires.can c.args.region c.loop-offset.offset c.requires.region c.requires.outside
+    (first_is (kept_now c.args.image.now) g (config_of c.loop-offset.image) m (memory_of c.loop-offset.image) c.requires.can c.args.region c.loop-offset.offset c.requires.region c.requires.stays
     (omega (arith, c.loop-offset-test.true, c.top-top.ensures)) is.config is.words c.base-first.result
     (c.base-first.ensures ∙ ap (λ (k : Config). base_of k c.args.region) c.config.ensures) c.loop-offset.object is.object).1
 
@@ -86,16 +88,16 @@ update_word-requires-clause-can c =
     let g = config_of c.args.image.now in
     let m : Word → ℕ = memory_of c.args.image.now in
     let is = c.loop-offset.invariant in
-    can_now g (config_of c.loop-offset.image) m (memory_of c.loop-offset.image) c.requires.can c.args.region c.loop-offset.offset c.requires.region c.requires.outside
+    can_now (kept_now c.args.image.now) g (config_of c.loop-offset.image) m (memory_of c.loop-offset.image) c.requires.can c.args.region c.loop-offset.offset c.requires.region c.requires.stays
     (omega (arith, c.loop-offset-test.true, c.top-top.ensures)) is.config is.words c.base-first.result
     (c.base-first.ensures ∙ ap (λ (k : Config). base_of k c.args.region) c.config.ensures)
 
-pub update_word-requires-clause-outside : goal.update_word-requires-clause-outside
-update_word-requires-clause-outside c =
+pub update_word-requires-clause-stays : goal.update_word-requires-clause-stays
+update_word-requires-clause-stays c =
     let g = config_of c.args.image.now in
     let m : Word → ℕ = memory_of c.args.image.now in
     let is = c.loop-offset.invariant in
-    outside_now g (config_of c.loop-offset.image) m (memory_of c.loop-offset.image) c.requires.can c.args.region c.loop-offset.offset c.requires.region c.requires.outside
+    staying_now (kept_now c.args.image.now) g (config_of c.loop-offset.image) m (memory_of c.loop-offset.image) c.requires.can c.args.region c.loop-offset.offset c.requires.region c.requires.stays
     (omega (arith, c.loop-offset-test.true, c.top-top.ensures)) is.config is.words c.base-first.result
     (c.base-first.ensures ∙ ap (λ (k : Config). base_of k c.args.region) c.config.ensures)
 
@@ -109,11 +111,11 @@ update_word-requires-clause-object c =
     let is = c.loop-offset.invariant in
     let some : i < m (Top r) = omega (arith, c.loop-offset-test.true, c.top-top.ensures) in
     let base = c.base-first.ensures ∙ ap (λ (k : Config). base_of k r) c.config.ensures in
-    object_now g (config_of now) m (memory_of now) c.requires.can r i c.requires.region c.requires.outside some is.config is.words c.base-first.result base c.if-ends_at.object
+    object_now (kept_now c.args.image.now) g (config_of now) m (memory_of now) c.requires.can r i c.requires.region c.requires.stays some is.config is.words c.base-first.result base c.if-ends_at.object
     (elim c.if-ends_at.branch [
-      | then-ends_at w ↦ w.object-is ∙ begun_here g (config_of now) m (memory_of now) c.requires.can r i c.requires.region c.requires.outside some is.config is.words c.base-first.result base
+      | then-ends_at w ↦ w.object-is ∙ begun_here (kept_now c.args.image.now) g (config_of now) m (memory_of now) c.requires.can r i c.requires.region c.requires.stays some is.config is.words c.base-first.result base
           c.loop-offset.object is.object c.ends_at.result c.ends_at.ensures w.if-ends_at.true
-      | else-ends_at w ↦ w.object-is ∙ goes_on_here g (config_of now) m (memory_of now) c.requires.can r i c.requires.region c.requires.outside some is.config is.words c.base-first.result base
+      | else-ends_at w ↦ w.object-is ∙ goes_on_here (kept_now c.args.image.now) g (config_of now) m (memory_of now) c.requires.can r i c.requires.region c.requires.stays some is.config is.words c.base-first.result base
           c.loop-offset.object is.object c.ends_at.result c.ends_at.ensures w.if-ends_at.false
     ])
 
@@ -128,19 +130,22 @@ loop-offset-preserved c =
     let some : i < m (Top r) = omega (arith, c.loop-offset-test.true, c.top-top.ensures) in
     let base : c.base-first.result ≡ base_of g r = c.base-first.ensures ∙ ap (λ (k : Config). base_of k r) c.config.ensures in
     let object : c.if-ends_at.object ≡ base_of g r + start_of (λ a. m (Heap a)) (base_of g r) i = elim c.if-ends_at.branch [
-      | then-ends_at w ↦ w.object-is ∙ begun_here g (config_of now) m (memory_of now) c.requires.can r i c.requires.region c.requires.outside some is.config is.words c.base-first.result base
+      | then-ends_at w ↦ w.object-is ∙ begun_here (kept_now c.args.image.now) g (config_of now) m (memory_of now) c.requires.can r i c.requires.region c.requires.stays some is.config is.words c.base-first.result base
           c.loop-offset.object is.object c.ends_at.result c.ends_at.ensures w.if-ends_at.true
-      | else-ends_at w ↦ w.object-is ∙ goes_on_here g (config_of now) m (memory_of now) c.requires.can r i c.requires.region c.requires.outside some is.config is.words c.base-first.result base
+      | else-ends_at w ↦ w.object-is ∙ goes_on_here (kept_now c.args.image.now) g (config_of now) m (memory_of now) c.requires.can r i c.requires.region c.requires.stays some is.config is.words c.base-first.result base
           c.loop-offset.object is.object c.ends_at.result c.ends_at.ensures w.if-ends_at.false
     ] in
     let last : i ≡ i + 1 - 1 = omega arith in
+    let lead : ℕ → ℕ = kept_now c.args.image.now in
     record {
       config = c.update_word.ensures.config ∙ is.config;
+      places = c.update_word.ensures.places ∙ is.places;
       words = c.update_word.ensures.words
-          ∙ ap (λ (k : Config). fields_updated k (is_at (c.base-first.result + i)) (memory_of now)) is.config
-          ∙ ap (fields_updated g (is_at (c.base-first.result + i))) is.words
-          ∙ ap (λ b. fields_updated g (is_at (b + i)) (fields_updated g (is_below g r i) m)) base
-          ∙ then_updated g m c.requires.can (is_below g r i) (is_at (base_of g r + i)) (is_below g r (i + 1)) (λ x field before. addresses_apart g r i x before) (λ x field. one_address_more g r i x);
+          ∙ ap (λ (f : ℕ → ℕ). fields_updated (config_of now) f (is_at (c.base-first.result + i)) (memory_of now)) (kept_same c.args.image.now now is.config is.places)
+          ∙ ap (λ (k : Config). fields_updated k lead (is_at (c.base-first.result + i)) (memory_of now)) is.config
+          ∙ ap (fields_updated g lead (is_at (c.base-first.result + i))) is.words
+          ∙ ap (λ b. fields_updated g lead (is_at (b + i)) (fields_updated g lead (is_below g r i) m)) base
+          ∙ then_updated g lead m c.requires.can (is_below g r i) (is_at (base_of g r + i)) (is_below g r (i + 1)) (λ x field before. addresses_apart g r i x before) (λ x field. one_address_more g r i x);
       object = object ∙ ap (λ k. base_of g r + start_of (λ a. m (Heap a)) (base_of g r) k) last;
     }
 
@@ -150,5 +155,5 @@ returns-clause-words c =
     let m : Word → ℕ = memory_of c.args.image.now in
     let r = c.args.region in
     let all : c.loop-offset.offset ≡ m (Top r) = omega (arith, c.loop-offset-test.false, c.loop-offset.auto.offset-end, c.top-top.ensures) in
-    c.loop-offset.invariant.words ∙ ap (λ k. fields_updated g (is_below g r k) m) all
-    ∙ same_fields g m (is_below g r (m (Top r))) (is_of g r) (fields_below g m r c.requires.region (c.requires.can.within r c.requires.region))
+    c.loop-offset.invariant.words ∙ ap (λ k. fields_updated g (kept_now c.args.image.now) (is_below g r k) m) all
+    ∙ same_fields g m (kept_now c.args.image.now) (is_below g r (m (Top r))) (is_of g r) (fields_below g m r c.requires.region (c.requires.can.within r c.requires.region))

@@ -1,44 +1,71 @@
 use Rattle.std.proofs.Common.{◌≡◌, ◌^◌, ◌<◌, ℕ, sym, ap, ◌∙◌, subst}
 use Rattle.heap_words.specs.declared.config.Config.{Config}
-use Rattle.heap_words.specs.Words.{Word, Cset}
+use Rattle.heap_words.specs.Words.{Word, Cset, heap_in}
+use Rattle.packing.specs.Table.{now_of}
 use Rattle.image_graph.specs.State.{config_of, words_of, memory_of}
+use Rattle.image_graph.proofs.Same.{memory_same, carried}
+use Rattle.cycle_words.specs.Finishing.Updated.{CanUpdateAll}
 use Rattle.cycle_words.specs.StillHolds.{HoldsUpdated}
 use Rattle.cycle_words.proofs.Finishing.UpdatedHolds.{updated_holds, updated_sized}
-use Rattle.degenerated.specs.Steps.{fields_updated, is_of_first, roots_updated, answers_updated}
+use Rattle.degenerated.specs.Steps.{kept_now, fields_updated, is_of_first, roots_updated, answers_updated}
+use Rattle.degenerated.proofs.KeptHeap.{kept_same, kept_from}
 use Rattle.degenerated.proofs.Naming.{all}
 use Rattle.degenerated.proofs.update.update_all.Goals as goal
+
+pub update_fields-requires : goal.update_fields-requires
+update_fields-requires c = carried CanUpdateAll c.args.image.now c.keep_heap.new.self c.keep_heap.ensures.unchanged c.requires
 
 pub update_all_roots-requires : goal.update_all_roots-requires
 update_all_roots-requires c =
     let g = config_of c.args.image.now in
-    subst (λ (k : Config). memory_of c.update_fields.new.image Cset < 2 ^ k.regions) (sym c.update_fields.ensures.config)
-    (subst (λ (n : Word → ℕ). n Cset < 2 ^ g.regions) (sym c.update_fields.ensures.words) c.requires.set)
+    let zero' = c.keep_heap.new.self in
+    let one = c.update_fields.new.image in
+    let same : memory_of one Cset ≡ memory_of c.args.image.now Cset =
+    ap (λ (n : Word → ℕ). n Cset) c.update_fields.ensures.words ∙ ap (λ (n : Word → ℕ). n Cset) (memory_same c.args.image.now zero' c.keep_heap.ensures.unchanged) in
+    subst (λ (k : Config). memory_of one Cset < 2 ^ k.regions) (sym (c.update_fields.ensures.config ∙ c.keep_heap.ensures.unchanged.config))
+    (subst (λ x. x < 2 ^ g.regions) (sym same) c.requires.set)
 
 pub update_answers-requires : goal.update_answers-requires
 update_answers-requires c =
     let g = config_of c.args.image.now in
+    let zero' = c.keep_heap.new.self in
     let one = c.update_fields.new.image in
     let two = c.update_all_roots.new.image in
     let same : memory_of two Cset ≡ memory_of one Cset = ap (λ (n : Word → ℕ). n Cset) c.update_all_roots.ensures.words in
-    let first : memory_of one Cset ≡ memory_of c.args.image.now Cset = ap (λ (n : Word → ℕ). n Cset) c.update_fields.ensures.words in
-    subst (λ (k : Config). memory_of two Cset < 2 ^ k.regions) (sym (c.update_all_roots.ensures.config ∙ c.update_fields.ensures.config))
+    let first : memory_of one Cset ≡ memory_of c.args.image.now Cset =
+    ap (λ (n : Word → ℕ). n Cset) c.update_fields.ensures.words ∙ ap (λ (n : Word → ℕ). n Cset) (memory_same c.args.image.now zero' c.keep_heap.ensures.unchanged) in
+    subst (λ (k : Config). memory_of two Cset < 2 ^ k.regions) (sym (c.update_all_roots.ensures.config ∙ c.update_fields.ensures.config ∙ c.keep_heap.ensures.unchanged.config))
     (subst (λ x. x < 2 ^ g.regions) (sym (same ∙ first)) c.requires.set)
 
 pub returns-clause-words : goal.returns-clause-words
 returns-clause-words c =
-    let g = config_of c.args.image.now in
-    let m : Word → ℕ = memory_of c.args.image.now in
+    let old = c.args.image.now in
+    let g = config_of old in
+    let m : Word → ℕ = memory_of old in
+    let zero' = c.keep_heap.new.self in
     let one = c.update_fields.new.image in
     let two = c.update_all_roots.new.image in
-    let config_two = c.update_all_roots.ensures.config ∙ c.update_fields.ensures.config in
-    let to_two : memory_of two ≡ roots_updated g g.mutators (fields_updated g (is_of_first g g.regions) m) =
+    let lead : ℕ → ℕ = now_of g.region_words (heap_in g (words_of old)) in
+    let kept : kept_now zero' ≡ lead = kept_from old zero' c.keep_heap.ensures.unchanged c.keep_heap.ensures.kept in
+    let config_one = c.update_fields.ensures.config ∙ c.keep_heap.ensures.unchanged.config in
+    let config_two = c.update_all_roots.ensures.config ∙ config_one in
+    let kept_one : kept_now one ≡ lead = kept_same zero' one c.update_fields.ensures.config c.update_fields.ensures.places ∙ kept in
+    let kept_two : kept_now two ≡ lead = kept_same one two c.update_all_roots.ensures.config c.update_all_roots.ensures.places ∙ kept_one in
+    let to_one : memory_of one ≡ fields_updated g lead (is_of_first g g.regions) m =
+    c.update_fields.ensures.words
+    ∙ ap (λ (f : ℕ → ℕ). fields_updated (config_of zero') f (is_of_first (config_of zero') (config_of zero').regions) (memory_of zero')) kept
+    ∙ ap (λ (k : Config). fields_updated k lead (is_of_first k k.regions) (memory_of zero')) c.keep_heap.ensures.unchanged.config
+    ∙ ap (fields_updated g lead (is_of_first g g.regions)) (memory_same old zero' c.keep_heap.ensures.unchanged) in
+    let to_two : memory_of two ≡ roots_updated g lead g.mutators (fields_updated g lead (is_of_first g g.regions) m) =
     c.update_all_roots.ensures.words
-    ∙ ap (λ (k : Config). roots_updated k k.mutators (memory_of one)) c.update_fields.ensures.config
-    ∙ ap (roots_updated g g.mutators) c.update_fields.ensures.words in
+    ∙ ap (λ (f : ℕ → ℕ). roots_updated (config_of one) f (config_of one).mutators (memory_of one)) kept_one
+    ∙ ap (λ (k : Config). roots_updated k lead k.mutators (memory_of one)) config_one
+    ∙ ap (roots_updated g lead g.mutators) to_one in
     c.update_answers.ensures.words
-    ∙ ap (λ (k : Config). answers_updated k k.mutators (memory_of two)) config_two
-    ∙ ap (answers_updated g g.mutators) to_two
-    ∙ all g (words_of c.args.image.now) c.requires
+    ∙ ap (λ (f : ℕ → ℕ). answers_updated (config_of two) f (config_of two).mutators (memory_of two)) kept_two
+    ∙ ap (λ (k : Config). answers_updated k lead k.mutators (memory_of two)) config_two
+    ∙ ap (answers_updated g lead g.mutators) to_two
+    ∙ all g (words_of old) old.all_words
 
 pub returns-clause-holds : goal.returns-clause-holds
 returns-clause-holds c = λ block owner p graph holds sized none.

@@ -2,12 +2,13 @@ use Rattle.std.proofs.Common.{◌^◌, ◌<◌, ◌≡◌, ℕ, refl, sym, ap, �
 use Rattle.heap_words.specs.declared.config.Config.{Config}
 use Rattle.heap_words.specs.Words.{Word, Cset}
 use Rattle.image_graph.specs.State.{config_of, memory_of}
-use Rattle.degenerated.specs.Steps.{row_updated, roots_updated}
+use Rattle.degenerated.specs.Steps.{kept_now, row_updated, roots_updated}
 use Rattle.degenerated.proofs.Naming.{no_roots, roots_next}
+use Rattle.degenerated.proofs.KeptHeap.{kept_same}
 use Rattle.degenerated.proofs.update.update_all_roots.Goals as goal
 
 pub loop-mutator-init : goal.loop-mutator-init
-loop-mutator-init c = record { config = refl; words = no_roots (config_of c.args.image.now) (memory_of c.args.image.now) }
+loop-mutator-init c = record { config = refl; places = refl; words = no_roots (config_of c.args.image.now) (kept_now c.args.image.now) (memory_of c.args.image.now) }
 
 pub update_roots-requires-clause-set : goal.update_roots-requires-clause-set
 update_roots-requires-clause-set c =
@@ -20,13 +21,17 @@ loop-mutator-preserved c =
     let g = config_of c.args.image.now in
     let m : Word → ℕ = memory_of c.args.image.now in
     let t = c.loop-mutator.mutator in
+    let now = c.loop-mutator.image in
+    let lead : ℕ → ℕ = kept_now c.args.image.now in
     let is = c.loop-mutator.invariant in
     record {
       config = c.update_roots.ensures.config ∙ is.config;
+      places = c.update_roots.ensures.places ∙ is.places;
       words = c.update_roots.ensures.words
-          ∙ ap (λ (k : Config). row_updated k t 16 (memory_of c.loop-mutator.image)) is.config
-          ∙ ap (row_updated g t 16) is.words
-          ∙ roots_next g m t;
+          ∙ ap (λ (f : ℕ → ℕ). row_updated (config_of now) f t 16 (memory_of now)) (kept_same c.args.image.now now is.config is.places)
+          ∙ ap (λ (k : Config). row_updated k lead t 16 (memory_of now)) is.config
+          ∙ ap (row_updated g lead t 16) is.words
+          ∙ roots_next g lead m t;
     }
 
 pub returns-clause-words : goal.returns-clause-words
@@ -34,4 +39,4 @@ returns-clause-words c =
     let g = config_of c.args.image.now in
     let all : c.loop-mutator.mutator ≡ g.mutators =
     omega (arith, c.loop-mutator-test.false, c.loop-mutator.auto.mutator-end, c.mutators-mutator-end.ensures, ap (λ (k : Config). k.mutators) c.config-config.ensures) in
-    c.loop-mutator.invariant.words ∙ ap (λ n. roots_updated g n (memory_of c.args.image.now)) all
+    c.loop-mutator.invariant.words ∙ ap (λ n. roots_updated g (kept_now c.args.image.now) n (memory_of c.args.image.now)) all

@@ -2,13 +2,13 @@ use Rattle.std.proofs.Common.{◌≡◌, ◌^◌, ◌<◌, ℕ, refl, sym, ap, �
 use Rattle.heap_words.specs.declared.config.Config.{Config}
 use Rattle.heap_words.specs.Words.{Word, Cset, Answer, IsWord, word_at, write}
 use Rattle.image_graph.specs.State.{config_of, memory_of}
-use Rattle.cycle_words.specs.Finishing.Updated.{updated_word}
-use Rattle.degenerated.specs.Steps.{answers_updated}
+use Rattle.degenerated.specs.Steps.{kept_now, updated_by, answers_updated}
 use Rattle.degenerated.proofs.Naming.{no_answers, answers_next, answer_still}
+use Rattle.degenerated.proofs.KeptHeap.{kept_same}
 use Rattle.degenerated.proofs.update.update_answers.Goals as goal
 
 pub loop-mutator-init : goal.loop-mutator-init
-loop-mutator-init c = record { config = refl; words = no_answers (config_of c.args.image.now) (memory_of c.args.image.now) }
+loop-mutator-init c = record { config = refl; places = refl; words = no_answers (config_of c.args.image.now) (kept_now c.args.image.now) (memory_of c.args.image.now) }
 
 pub update_place-requires-clause-set : goal.update_place-requires-clause-set
 update_place-requires-clause-set c =
@@ -21,6 +21,7 @@ loop-mutator-preserved c =
     let g = config_of c.args.image.now in
     let m : Word → ℕ = memory_of c.args.image.now in
     let t = c.loop-mutator.mutator in
+    let lead : ℕ → ℕ = kept_now c.args.image.now in
     let below : t < g.mutators = omega (arith, c.loop-mutator-test.true, c.mutators-mutator-end.ensures, ap (λ (k : Config). k.mutators) c.config-config.ensures) in
     let now = c.loop-mutator.image in
     let is = c.loop-mutator.invariant in
@@ -28,11 +29,13 @@ loop-mutator-preserved c =
     let at : c.answer_at.result ≡ word_at (config_of now) (Answer t) = c.answer_at.ensures ∙ ap (λ (k : Config). word_at k (Answer t)) (c.config-config.ensures ∙ sym is.config) in
     record {
       config = c.update_place.ensures.config ∙ is.config;
+      places = c.update_place.ensures.places ∙ is.places;
       words = c.update_place.ensures.words (Answer t) word (sym at)
-          ∙ ap (λ (k : Config). write (memory_of now) (Answer t) (updated_word k (memory_of now) (memory_of now (Answer t)))) is.config
-          ∙ ap (λ (n : Word → ℕ). write n (Answer t) (updated_word g n (n (Answer t)))) is.words
-          ∙ ap (λ v. write (answers_updated g t m) (Answer t) (updated_word g m v)) (answer_still g m t)
-          ∙ answers_next g m t;
+          ∙ ap (λ (f : ℕ → ℕ). write (memory_of now) (Answer t) (updated_by (config_of now) f (memory_of now) (memory_of now (Answer t)))) (kept_same c.args.image.now now is.config is.places)
+          ∙ ap (λ (k : Config). write (memory_of now) (Answer t) (updated_by k lead (memory_of now) (memory_of now (Answer t)))) is.config
+          ∙ ap (λ (n : Word → ℕ). write n (Answer t) (updated_by g lead n (n (Answer t)))) is.words
+          ∙ ap (λ v. write (answers_updated g lead t m) (Answer t) (updated_by g lead m v)) (answer_still g lead m t)
+          ∙ answers_next g lead m t;
     }
 
 pub returns-clause-words : goal.returns-clause-words
@@ -40,4 +43,4 @@ returns-clause-words c =
     let g = config_of c.args.image.now in
     let all : c.loop-mutator.mutator ≡ g.mutators =
     omega (arith, c.loop-mutator-test.false, c.loop-mutator.auto.mutator-end, c.mutators-mutator-end.ensures, ap (λ (k : Config). k.mutators) c.config-config.ensures) in
-    c.loop-mutator.invariant.words ∙ ap (λ n. answers_updated g n (memory_of c.args.image.now)) all
+    c.loop-mutator.invariant.words ∙ ap (λ n. answers_updated g (kept_now c.args.image.now) n (memory_of c.args.image.now)) all

@@ -1,7 +1,7 @@
 use Rattle.std.proofs.Common.{◌≡◌, ℕ, ap, ◌∙◌}
 use Rattle.heap_words.specs.Words.{Word, write}
 use Rattle.image_graph.specs.State.{config_of, memory_of}
-use Rattle.cycle_words.specs.Finishing.Updated.{updated_word}
+use Rattle.degenerated.specs.Steps.{kept_now, updated_by}
 use Rattle.degenerated.proofs.update.update_place.Goals as goal
 
 pub returns-clause-words : goal.returns-clause-words
@@ -9,5 +9,5 @@ returns-clause-words c = λ place is at.
     let g = config_of c.args.image.now in
     let m : Word → ℕ = memory_of c.args.image.now in
     let read : c.word.result ≡ m place = c.word.ensures.named place is at in
-    let value : c.updated-word.result ≡ updated_word g m (m place) = c.updated-word.ensures ∙ ap (updated_word g m) read in
+    let value : c.updated-word.result ≡ updated_by g (kept_now c.args.image.now) m (m place) = c.updated-word.ensures ∙ ap (updated_by g (kept_now c.args.image.now) m) read in
     c.set_word.ensures.named place is at ∙ ap (write m place) value

@@ -2,13 +2,13 @@ use Rattle.std.proofs.Common.{◌≡◌, ◌^◌, ◌<◌, ℕ, refl, sym, ap, �
 use Rattle.heap_words.specs.declared.config.Config.{Config}
 use Rattle.heap_words.specs.Words.{Word, Cset, Root, IsWord, word_at, write}
 use Rattle.image_graph.specs.State.{config_of, memory_of}
-use Rattle.cycle_words.specs.Finishing.Updated.{updated_word}
-use Rattle.degenerated.specs.Steps.{row_updated}
+use Rattle.degenerated.specs.Steps.{kept_now, updated_by, row_updated}
 use Rattle.degenerated.proofs.Naming.{none_of_row, row_next, row_still}
+use Rattle.degenerated.proofs.KeptHeap.{kept_same}
 use Rattle.degenerated.proofs.update.update_roots.Goals as goal
 
 pub loop-index-init : goal.loop-index-init
-loop-index-init c = record { config = refl; words = none_of_row (config_of c.args.image.now) (memory_of c.args.image.now) c.args.mutator }
+loop-index-init c = record { config = refl; places = refl; words = none_of_row (config_of c.args.image.now) (kept_now c.args.image.now) (memory_of c.args.image.now) c.args.mutator }
 
 pub update_place-requires-clause-set : goal.update_place-requires-clause-set
 update_place-requires-clause-set c =
@@ -22,20 +22,23 @@ loop-index-preserved c =
     let m : Word → ℕ = memory_of c.args.image.now in
     let t = c.args.mutator in
     let i = c.loop-index.index in
+    let lead : ℕ → ℕ = kept_now c.args.image.now in
     let now = c.loop-index.image in
     let is = c.loop-index.invariant in
     let word : IsWord (config_of now) (Root t i) = subst (λ (k : Config). IsWord k (Root t i)) (sym is.config) (c.requires.mutator, c.loop-index-test.true) in
     let at : c.root_at.result ≡ word_at (config_of now) (Root t i) = c.root_at.ensures ∙ ap (λ (k : Config). word_at k (Root t i)) (c.config-config.ensures ∙ sym is.config) in
     record {
       config = c.update_place.ensures.config ∙ is.config;
+      places = c.update_place.ensures.places ∙ is.places;
       words = c.update_place.ensures.words (Root t i) word (sym at)
-          ∙ ap (λ (k : Config). write (memory_of now) (Root t i) (updated_word k (memory_of now) (memory_of now (Root t i)))) is.config
-          ∙ ap (λ (n : Word → ℕ). write n (Root t i) (updated_word g n (n (Root t i)))) is.words
-          ∙ ap (λ v. write (row_updated g t i m) (Root t i) (updated_word g m v)) (row_still g m t i)
-          ∙ row_next g m t i;
+          ∙ ap (λ (f : ℕ → ℕ). write (memory_of now) (Root t i) (updated_by (config_of now) f (memory_of now) (memory_of now (Root t i)))) (kept_same c.args.image.now now is.config is.places)
+          ∙ ap (λ (k : Config). write (memory_of now) (Root t i) (updated_by k lead (memory_of now) (memory_of now (Root t i)))) is.config
+          ∙ ap (λ (n : Word → ℕ). write n (Root t i) (updated_by g lead n (n (Root t i)))) is.words
+          ∙ ap (λ v. write (row_updated g lead t i m) (Root t i) (updated_by g lead m v)) (row_still g lead m t i)
+          ∙ row_next g lead m t i;
     }
 
 pub returns-clause-words : goal.returns-clause-words
 returns-clause-words c =
     let all : c.loop-index.index ≡ 16 = omega (arith, c.loop-index-test.false, c.loop-index.auto.index-end) in
-    c.loop-index.invariant.words ∙ ap (λ n. row_updated (config_of c.args.image.now) c.args.mutator n (memory_of c.args.image.now)) all
+    c.loop-index.invariant.words ∙ ap (λ n. row_updated (config_of c.args.image.now) (kept_now c.args.image.now) c.args.mutator n (memory_of c.args.image.now)) all

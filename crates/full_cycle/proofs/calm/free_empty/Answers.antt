@@ -1,4 +1,4 @@
-use Rattle.std.proofs.Common.{◌≡◌, ◌≤◌, ◌+◌, ◌^◌, ℕ, sym, ap, ◌∙◌, arith}
+use Rattle.std.proofs.Common.{◌≡◌, ◌≤◌, ◌<◌, ◌+◌, ◌^◌, ℕ, sym, ap, ◌∙◌, arith}
 use Rattle.std.proofs.Math.Nat.{pow-le-pow_right}
 use Rattle.heap_words.specs.declared.config.Config.{Config}
 use Rattle.heap_words.specs.Words.{Top, Free, write}
@@ -17,7 +17,7 @@ overflow_add-free c =
     let top : ℕ → ℕ = λ r. memory_of c.args.image.now (Top r) in
     let r = c.loop-region.region in
     let sum = empty_more top r c.set_if_empty-free.result c.loop-region.free c.top.result c.top.ensures c.set_if_empty-free.ensures c.loop-region.invariant in
-    let small = empty_small top (r + 1) in
+    let small : empty_regions top (r + 1) < 2 ^ (r + 1) = empty_small top (r + 1) in
     let few : r + 1 ≤ 64 = omega (arith, c.loop-region-test.true, c.regions-region-end.ensures, ap (λ (k : Config). k.regions) c.config-config.ensures, (config_of c.args.image.now).in_range.most_regions) in
     let power : 2 ^ (r + 1) ≤ 2 ^ 64 = pow-le-pow_right (omega arith) few in
     omega (arith, sum, small, power)

@@ -1,12 +1,12 @@
-use Rattle.std.proofs.Common.{◌≡◌, ℕ, ap, ◌∙◌}
+use Rattle.std.proofs.Common.{◌≡◌, ℕ, sym, ap, ◌∙◌}
 use Rattle.heap_words.specs.declared.config.Config.{Config}
 use Rattle.heap_words.specs.Words.{Word}
-use Rattle.full_words.specs.Full.{served, refused}
+use Rattle.full_words.specs.Full.{held_in, served, refused}
 use Rattle.image_graph.specs.State.{config_of, memory_of}
 use Rattle.full_cycle.specs.Collect.{CanCollect}
-use Rattle.image_graph.proofs.Same.{carried}
-use Rattle.full_cycle.proofs.Holding.{can_collect_some}
-use Rattle.full_cycle.proofs.Whole.{roots_in_table, answers_in_table, five_config, five_words, five_within}
+use Rattle.image_graph.proofs.Same.{memory_same, carried}
+use Rattle.full_cycle.proofs.Holding.{can_collect_some, kept_begin_some}
+use Rattle.full_cycle.proofs.Whole.{can_fill_still, roots_in_table, answers_in_table, six_config, six_words, six_within}
 use Rattle.full_cycle.proofs.collect.collect.Goals as goal
 
 pub find_held-requires : goal.find_held-requires
@@ -17,23 +17,41 @@ pack_held-requires-clause-can c =
     let old = c.args.image.now in
     carried (λ k m. CanCollect k m) old c.find_held.new.image c.find_held.ensures.unchanged (can_collect_some (config_of old) (memory_of old) c.requires)
 
+pub pack_held-requires-clause-held : goal.pack_held-requires-clause-held
+pack_held-requires-clause-held c =
+    let old = c.args.image.now in
+    let one = c.find_held.new.image in
+    let same = c.find_held.ensures.unchanged in
+    c.find_held.ensures.held ∙ sym (ap (λ (k : Config). held_in k (memory_of one)) same.config ∙ ap (λ (n : Word → ℕ). held_in (config_of old) n) (memory_same old one same))
+
+pub fill_unkept-requires-clause-can : goal.fill_unkept-requires-clause-can
+fill_unkept-requires-clause-can c =
+    let old = c.args.image.now in
+    can_fill_still old c.find_held.new.image c.pack_held.new.image (can_collect_some (config_of old) (memory_of old) c.requires)
+    c.find_held.ensures.unchanged c.pack_held.ensures.config c.pack_held.ensures.words c.pack_held.ensures.renews
+    (kept_begin_some (config_of old) (memory_of old) c.requires)
+
 pub renew_roots-requires-clause-roots : goal.renew_roots-requires-clause-roots
 renew_roots-requires-clause-roots c =
     let old = c.args.image.now in
     roots_in_table old c.find_held.new.image c.pack_held.new.image (can_collect_some (config_of old) (memory_of old) c.requires)
     c.find_held.ensures.unchanged c.pack_held.ensures.config c.pack_held.ensures.words c.pack_held.ensures.renews
+    c.fill_unkept.new.image (c.pack_held.ensures.found ∙ c.find_held.ensures.held) c.fill_unkept.ensures.config c.fill_unkept.ensures.places c.fill_unkept.ensures.words
 
 pub renew_roots-requires-clause-answers : goal.renew_roots-requires-clause-answers
 renew_roots-requires-clause-answers c =
     let old = c.args.image.now in
     answers_in_table old c.find_held.new.image c.pack_held.new.image (can_collect_some (config_of old) (memory_of old) c.requires)
     c.find_held.ensures.unchanged c.pack_held.ensures.config c.pack_held.ensures.words c.pack_held.ensures.renews
+    c.fill_unkept.new.image (c.pack_held.ensures.found ∙ c.find_held.ensures.held) c.fill_unkept.ensures.config c.fill_unkept.ensures.places c.fill_unkept.ensures.words
 
 pub give_turns-requires : goal.give_turns-requires
 give_turns-requires c =
     let old = c.args.image.now in
-    five_within old c.find_held.new.image c.pack_held.new.image (can_collect_some (config_of old) (memory_of old) c.requires)
+    six_within old c.find_held.new.image c.pack_held.new.image (can_collect_some (config_of old) (memory_of old) c.requires)
     c.find_held.ensures.unchanged c.pack_held.ensures.config c.pack_held.ensures.words c.pack_held.ensures.renews
+    c.fill_unkept.new.image (c.pack_held.ensures.found ∙ c.find_held.ensures.held) c.fill_unkept.ensures.config c.fill_unkept.ensures.places c.fill_unkept.ensures.words
+    (kept_begin_some (config_of old) (memory_of old) c.requires)
     c.renew_roots.new.image c.clear_collection.new.image c.free_empty.new.image
     c.renew_roots.ensures.config c.clear_collection.ensures.config c.free_empty.ensures.config
     c.renew_roots.ensures.words c.clear_collection.ensures.words c.free_empty.ensures.words
@@ -41,21 +59,24 @@ give_turns-requires c =
 pub returns-clause-words : goal.returns-clause-words
 returns-clause-words c =
     let old = c.args.image.now in
-    let five = c.free_empty.new.image in
+    let six = c.free_empty.new.image in
     let can = can_collect_some (config_of old) (memory_of old) c.requires in
-    let config : config_of five ≡ config_of old =
-    five_config old c.find_held.new.image c.pack_held.new.image can
+    let begin = kept_begin_some (config_of old) (memory_of old) c.requires in
+    let config : config_of six ≡ config_of old =
+    six_config old c.find_held.new.image c.pack_held.new.image can
     c.find_held.ensures.unchanged c.pack_held.ensures.config c.pack_held.ensures.words c.pack_held.ensures.renews
-    c.renew_roots.new.image c.clear_collection.new.image five
+    c.fill_unkept.new.image (c.pack_held.ensures.found ∙ c.find_held.ensures.held) c.fill_unkept.ensures.config c.fill_unkept.ensures.places c.fill_unkept.ensures.words begin
+    c.renew_roots.new.image c.clear_collection.new.image six
     c.renew_roots.ensures.config c.clear_collection.ensures.config c.free_empty.ensures.config
     c.renew_roots.ensures.words c.clear_collection.ensures.words c.free_empty.ensures.words in
     let words =
-    five_words old c.find_held.new.image c.pack_held.new.image can
+    six_words old c.find_held.new.image c.pack_held.new.image can
     c.find_held.ensures.unchanged c.pack_held.ensures.config c.pack_held.ensures.words c.pack_held.ensures.renews
-    c.renew_roots.new.image c.clear_collection.new.image five
+    c.fill_unkept.new.image (c.pack_held.ensures.found ∙ c.find_held.ensures.held) c.fill_unkept.ensures.config c.fill_unkept.ensures.places c.fill_unkept.ensures.words begin
+    c.renew_roots.new.image c.clear_collection.new.image six
     c.renew_roots.ensures.config c.clear_collection.ensures.config c.free_empty.ensures.config
     c.renew_roots.ensures.words c.clear_collection.ensures.words c.free_empty.ensures.words in
     c.refuse.ensures.words
     ∙ ap refused (c.give_turns.ensures.words
-    ∙ ap (λ (k : Config). served k (memory_of five) k.mutators) config
+    ∙ ap (λ (k : Config). served k (memory_of six) k.mutators) config
     ∙ ap (λ (n : Word → ℕ). served (config_of old) n (config_of old).mutators) words)

@@ -1,23 +1,31 @@
-use Rattle.std.proofs.Common.{ℕ, sym, ap, ◌∙◌, subst}
+use Rattle.std.proofs.Common.{ℕ, sym, ap, ◌∙◌, subst, arith}
+use Rattle.std.proofs.Math.Logic.{∥∥₁_map}
+use Rattle.std.proofs.lemmas.Bool.Decides.{nat_tests}
 use Rattle.heap_words.specs.declared.config.Config.{Config}
-use Rattle.heap_words.specs.Words.{Word}
+use Rattle.heap_words.specs.Words.{Word, Current}
+use Rattle.heap_words.proofs.Stores.{view_none}
 use Rattle.buffer_words.specs.LetGo.{let_go}
 use Rattle.full_words.specs.Full.{full_from}
-use Rattle.image_graph.specs.State.{config_of, memory_of}
+use Rattle.image_graph.specs.State.{config_of, words_of, memory_of}
 use Rattle.image_graph.specs.Holds.{HoldsSome}
-use Rattle.image_graph.specs.Buffers.{LettingGoHolds}
-use Rattle.image_graph.proofs.Loosening.Inside.{inside_some, let_go_some}
+use Rattle.image_graph.specs.Buffers.{HasNoMoreSeats, LettingGoHolds}
+use Rattle.image_graph.proofs.Loosening.Inside.{inside_some}
+use Rattle.full_cycle.specs.Collect.{HoldsWalked}
 use Rattle.full_cycle.proofs.Again.{holds_full}
-use Rattle.full_cycle.proofs.Result.{keeps_graph, keeps_reachable, refuses_left}
+use Rattle.full_cycle.proofs.Result.{keeps_graph, keeps_reachable, let_go_walked, refuses_left}
+use Rattle.full_cycle.proofs.PinnedStay.{pinned_stay_some}
 use Rattle.full_cycle.proofs.collect.full.Goals as goal
 
 pub let_go-requires : goal.let_go-requires
-let_go-requires c = inside_some (config_of c.args.image.now) (memory_of c.args.image.now) c.requires
+let_go-requires c = inside_some (config_of c.args.image.now) (memory_of c.args.image.now) (∥∥₁_map c.requires (λ h. (h.0, (h.1, h.2, h.3, h.4))))
 
 pub collect-requires : goal.collect-requires
 collect-requires c =
-    subst (λ (k : Config). HoldsSome k (memory_of c.let_go.new.self)) (sym c.let_go.ensures.config)
-    (let_go_some (config_of c.args.image.now) (memory_of c.args.image.now) (memory_of c.let_go.new.self) c.let_go.ensures.holds c.requires)
+    let g = config_of c.args.image.now in
+    let m : Word → ℕ = memory_of c.args.image.now in
+    let lets : LettingGoHolds g m (let_go g m) = subst (LettingGoHolds g m) c.let_go.ensures.words c.let_go.ensures.holds in
+    subst (λ (k : Config). HoldsWalked k (memory_of c.let_go.new.self)) (sym c.let_go.ensures.config)
+    (subst (HoldsWalked g) (sym c.let_go.ensures.words) (let_go_walked g m lets c.requires))
 
 pub returns-clause-words : goal.returns-clause-words
 returns-clause-words c =
@@ -29,7 +37,7 @@ returns-clause-holds c =
     let g = config_of c.args.image.now in
     let m : Word → ℕ = memory_of c.args.image.now in
     let lets : LettingGoHolds g m (let_go g m) = subst (LettingGoHolds g m) c.let_go.ensures.words c.let_go.ensures.holds in
-    subst (HoldsSome g) (sym (returns-clause-words c)) (holds_full g (let_go g m) (let_go_some g m (let_go g m) lets c.requires))
+    subst (HoldsSome g) (sym (returns-clause-words c)) (holds_full g (let_go g m) (let_go_walked g m lets c.requires))
 
 pub returns-clause-graph : goal.returns-clause-graph
 returns-clause-graph c =
@@ -44,6 +52,14 @@ returns-clause-kept c =
     let m : Word → ℕ = memory_of c.args.image.now in
     let lets : LettingGoHolds g m (let_go g m) = subst (LettingGoHolds g m) c.let_go.ensures.words c.let_go.ensures.holds in
     keeps_reachable g m lets
+
+pub returns-clause-pinned : goal.returns-clause-pinned
+returns-clause-pinned c =
+    let g = config_of c.args.image.now in
+    let m : Word → ℕ = memory_of c.args.image.now in
+    let lets : LettingGoHolds g m (let_go g m) = subst (LettingGoHolds g m) c.let_go.ensures.words c.let_go.ensures.holds in
+    let seats : HasNoMoreSeats g m = λ seat past. view_none g (words_of c.args.image.now) (Current seat) (grind (arith, nat_tests)) in
+    pinned_stay_some g m (memory_of c.collect.new.image) (let_go_walked g m lets c.requires) seats (returns-clause-words c) c.requires
 
 pub returns-clause-refused : goal.returns-clause-refused
 returns-clause-refused c = refuses_left (config_of c.args.image.now) (memory_of c.args.image.now) (memory_of c.collect.new.image) (returns-clause-words c)

@@ -1,26 +1,36 @@
-use Rattle.std.proofs.Common.{ap, ◌∙◌}
+use Rattle.std.proofs.Common.{List, Bool, ℕ, sym, ap, ◌∙◌, subst}
 use Rattle.heap_words.specs.declared.config.Config.{Config}
 use Rattle.heap_words.specs.Words.{view, table_words}
-use Rattle.image_graph.specs.State.{config_of, words_of, marks_of, found_of, places_of}
+use Rattle.heap_graph.specs.Walk.{IsMarked}
+use Rattle.full_words.specs.Pinned.{is_row_pinned}
+use Rattle.image_graph.specs.State.{config_of, words_of, memory_of, marks_of, found_of, places_of}
 use Rattle.full_cycle.proofs.Slices.{can_compact, moved, renews}
 use Rattle.full_cycle.proofs.pack.pack_held.Goals as goal
 
 pub pack_found-requires : goal.pack_found-requires
 pack_found-requires c =
     let i = c.args.image.now in
-    can_compact (config_of i) (words_of i) (marks_of i) (found_of i) i.all_words i.all_marks c.requires.found c.requires.held c.requires.can
+    can_compact (config_of i) (is_row_pinned (config_of i) (memory_of i)) (words_of i) (marks_of i) (found_of i) i.all_words i.all_marks c.requires.found c.requires.held c.requires.can
+
+pub returns-clause-still : goal.returns-clause-still
+returns-clause-still c =
+    let i = c.args.image.now in
+    let j = c.pack_found.new.self in
+    subst (λ (k : Config). IsMarked k.region_words (marks_of j) (found_of j)) (sym c.pack_found.ensures.config)
+    (subst (λ (marks : List Bool). IsMarked (config_of i).region_words marks (found_of j)) (sym c.pack_found.ensures.marks)
+    (subst (λ (found : List ℕ). IsMarked (config_of i).region_words (marks_of i) found) (sym c.pack_found.ensures.found) c.requires.found))
 
 pub returns-clause-words : goal.returns-clause-words
 returns-clause-words c =
     let i = c.args.image.now in
     let j = c.pack_found.new.self in
     ap (λ (k : Config). view k (words_of j)) c.pack_found.ensures.config
-    ∙ moved (config_of i) (words_of i) (marks_of i) (found_of i) i.all_words i.all_marks c.requires.found c.requires.held c.requires.can
+    ∙ moved (config_of i) (is_row_pinned (config_of i) (memory_of i)) (words_of i) (marks_of i) (found_of i) i.all_words i.all_marks c.requires.found c.requires.held c.requires.can
     (words_of j) (places_of j) (j.all_words ∙ ap table_words c.pack_found.ensures.config) c.pack_found.ensures.packed
 
 pub returns-clause-renews : goal.returns-clause-renews
 returns-clause-renews c =
     let i = c.args.image.now in
     let j = c.pack_found.new.self in
-    renews (config_of i) (words_of i) (marks_of i) (found_of i) i.all_words i.all_marks c.requires.found c.requires.held c.requires.can
+    renews (config_of i) (is_row_pinned (config_of i) (memory_of i)) (words_of i) (marks_of i) (found_of i) i.all_words i.all_marks c.requires.found c.requires.held c.requires.can
     (words_of j) (places_of j) (j.all_words ∙ ap table_words c.pack_found.ensures.config) c.pack_found.ensures.packed

@@ -5,6 +5,7 @@ use Rattle.heap_words.specs.Words.{Word, heap_size}
 use Rattle.heap_graph.specs.Walk.{with_addresses}
 use Rattle.heap_graph.proofs.Marks as marks
 use Rattle.full_words.specs.Full.{copies_of, roots_below, answers_below, field_words, kept_in}
+use Rattle.full_words.specs.Pinned.{pins_below}
 use Rattle.image_graph.specs.State.{config_of, memory_of, found_of, marks_of}
 use Rattle.full_cycle.specs.Collect.{found_in_turns}
 use Rattle.image_graph.proofs.Same.{memory_same, carried, both}
@@ -20,21 +21,28 @@ loop-address-init c =
     let one = c.forget_found.new.self in
     let two = c.find_all_roots.new.image in
     let three = c.find_answers.new.image in
+    let four = c.find_all_pins.new.image in
     let to_one = c.forget_found.ensures.unchanged in
     let to_two = both old one two to_one c.find_all_roots.ensures.unchanged in
     let to_three = both old two three to_two c.find_answers.ensures.unchanged in
+    let to_four = both old three four to_three c.find_all_pins.ensures.unchanged in
     let roots : found_of two ≡ with_addresses [] (copies_of m (roots_below m g.mutators)) =
     c.find_all_roots.ensures.noted
     ∙ ap (λ (k : Word → ℕ). with_addresses (found_of one) (copies_of k (roots_below k (config_of one).mutators))) (memory_same old one to_one)
     ∙ ap (λ (k : Config). with_addresses (found_of one) (copies_of m (roots_below m k.mutators))) to_one.config
     ∙ ap (λ xs. with_addresses xs (copies_of m (roots_below m g.mutators))) c.forget_found.ensures.none in
+    let answers : found_of three ≡ with_addresses (with_addresses [] (copies_of m (roots_below m g.mutators))) (copies_of m (answers_below m g.mutators)) =
+    c.find_answers.ensures.noted
+    ∙ ap (λ (k : Word → ℕ). with_addresses (found_of two) (copies_of k (answers_below k (config_of two).mutators))) (memory_same old two to_two)
+    ∙ ap (λ (k : Config). with_addresses (found_of two) (copies_of m (answers_below m k.mutators))) to_two.config
+    ∙ ap (λ xs. with_addresses xs (copies_of m (answers_below m g.mutators))) roots in
     record {
-      unchanged = to_three;
-      found = c.find_answers.ensures.found;
-      turns = c.find_answers.ensures.noted
-          ∙ ap (λ (k : Word → ℕ). with_addresses (found_of two) (copies_of k (answers_below k (config_of two).mutators))) (memory_same old two to_two)
-          ∙ ap (λ (k : Config). with_addresses (found_of two) (copies_of m (answers_below m k.mutators))) to_two.config
-          ∙ ap (λ xs. with_addresses xs (copies_of m (answers_below m g.mutators))) roots
+      unchanged = to_four;
+      found = c.find_all_pins.ensures.found;
+      turns = c.find_all_pins.ensures.noted
+          ∙ ap (λ (k : Word → ℕ). with_addresses (found_of three) (copies_of k (pins_below k (config_of three).mutators))) (memory_same old three to_three)
+          ∙ ap (λ (k : Config). with_addresses (found_of three) (copies_of m (pins_below m k.mutators))) to_three.config
+          ∙ ap (λ xs. with_addresses xs (copies_of m (pins_below m g.mutators))) answers
           ∙ no_turn g m;
       few = omega arith;
     }

@@ -31,6 +31,7 @@ loop-address-preserved c =
           ∙ ap (λ xs. c.args.text.now.rows ++ xs)
           (sym (map-append (row_in_heap first heap) (take i order) (address ∷ [])) ∙ ap (map (row_in_heap first heap)) (sym (take_more order i 0 low))));
       roots = ap (λ t. t.roots) made ∙ c.loop-address.invariant.roots;
+      pins = ap (λ t. t.pins) made ∙ c.loop-address.invariant.pins;
       room = ap (λ t. t.room) made ∙ c.loop-address.invariant.room;
       spare = (omega (
         arith,

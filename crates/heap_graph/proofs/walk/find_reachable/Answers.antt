@@ -1,13 +1,15 @@
-use Rattle.std.proofs.Common.{rules, ◌≡◌, ◌-◌, ◌<◌, [], length, get_or, arith, ap, sym, ◌∙◌}
+use Rattle.std.proofs.Common.{rules, ◌≡◌, ◌-◌, ◌<◌, [], ◌++◌, length, get_or, arith, ap, sym, ◌∙◌}
 use Rattle.std.proofs.lemmas.List.{get_or_read, length-append}
 use Rattle.std.proofs.lemmas.Bool.{false≢true}
 use Rattle.heap_graph.specs.Walk.{has, refs_at, currents, IsNamed, from_root, from_field, with_addresses}
-use Rattle.heap_graph.proofs.Marks.{few, kept, new, prefix}
-use Rattle.heap_graph.proofs.Walks.{all_named-in, IsMarked-none, all_among, led_step, closed_step, has-read, IsWalk-from}
+use Rattle.heap_graph.proofs.Marks.{few, kept, new, prefix, has-left, has-right}
+use Rattle.heap_graph.proofs.Walks.{all_named-in, IsMarked-none, all_among, led_step, closed_step, has-read, IsWalk-from, currents-left, currents-right, taken_both}
 use Rattle.heap_graph.proofs.walk.find_reachable.Goals as goal
 
 pub take_each_down-requires-clause-named : goal.take_each_down-requires-clause-named
-take_each_down-requires-clause-named c = all_named-in c.args.roots.now (IsNamed c.args.first c.args.heap.now) c.requires.sound.roots_named
+take_each_down-requires-clause-named c =
+    all_named-in c.args.roots.now (IsNamed c.args.first c.args.heap.now)
+    (λ a h. c.requires.sound.roots_named a (has-left c.args.roots.now c.args.pins.now a h))
 
 pub take_each_down-requires-clause-marked : goal.take_each_down-requires-clause-marked
 take_each_down-requires-clause-marked c =
@@ -15,20 +17,37 @@ take_each_down-requires-clause-marked c =
 
 pub take_each_down-requires-clause-among : goal.take_each_down-requires-clause-among
 take_each_down-requires-clause-among c =
-    all_among c.args.first c.args.heap.now c.args.roots.now _ _ c.requires.sound (omega arith) from_root
+    all_among c.args.first c.args.heap.now (c.args.roots.now ++ c.args.pins.now) _ _ c.requires.sound (omega arith)
+    (λ a ne h. from_root a ne (currents-left c.args.first c.args.heap.now c.args.roots.now c.args.pins.now a h))
+
+pub take_each_down-requires-2-clause-named : goal.take_each_down-requires-2-clause-named
+take_each_down-requires-2-clause-named c =
+    all_named-in c.args.pins.now (IsNamed c.args.first c.args.heap.now)
+    (λ a h. c.requires.sound.roots_named a (has-right c.args.roots.now c.args.pins.now a h))
+
+pub take_each_down-requires-2-clause-among : goal.take_each_down-requires-2-clause-among
+take_each_down-requires-2-clause-among c =
+    all_among c.args.first c.args.heap.now (c.args.roots.now ++ c.args.pins.now) _ _ c.requires.sound (omega arith)
+    (λ a ne h. from_root a ne (currents-right c.args.first c.args.heap.now c.args.roots.now c.args.pins.now a h))
 
 pub loop-next-init : goal.loop-next-init
 loop-next-init c =
-    let start = c.take_each_down.ensures.taken ∙ ap (λ xs. with_addresses xs (currents c.args.first c.args.heap.now c.args.roots.now)) c.clear.ensures.items in
+    let first = c.args.first in
+    let heap = c.args.heap.now in
+    let words = c.args.roots.now ++ c.args.pins.now in
+    let start = c.take_each_down-2.ensures.taken
+    ∙ ap (λ xs. with_addresses xs (currents first heap c.args.pins.now))
+    (c.take_each_down.ensures.taken ∙ ap (λ xs. with_addresses xs (currents first heap c.args.roots.now)) c.clear.ensures.items)
+    ∙ taken_both first heap [] c.args.roots.now c.args.pins.now in
     record {
-      marked = c.take_each_down.ensures.marked;
+      marked = c.take_each_down-2.ensures.marked;
       room = omega arith;
       flags = omega arith;
       within = omega arith;
       led = (λ a h.
-          led_step c.args.first c.args.heap.now c.args.roots.now [] (currents c.args.first c.args.heap.now c.args.roots.now) (λ a none. absurd (false≢true none)) from_root a
+          led_step first heap words [] (currents first heap words) (λ a none. absurd (false≢true none)) from_root a
           (ap (λ xs. has xs a) (sym start) ∙ h));
-      roots = (λ a ne h. ap (λ xs. has xs a) start ∙ new [] (currents c.args.first c.args.heap.now c.args.roots.now) a ne h);
+      roots = (λ a ne h. ap (λ xs. has xs a) start ∙ new [] (currents first heap words) a ne h);
       closed = (λ j a low. absurd (omega arith));
     }
 
@@ -56,7 +75,7 @@ pub take_each_down-requires-in-loop-next-clause-among :
 take_each_down-requires-in-loop-next-clause-among c =
     let x = c.index.result.now in
     let led = c.loop-next.invariant.led x (has-read _ c.loop-next.next x (omega arith) c.index.ensures) in
-    all_among c.args.first c.args.heap.now c.args.roots.now _ _ c.requires.sound (omega arith)
+    all_among c.args.first c.args.heap.now (c.args.roots.now ++ c.args.pins.now) _ _ c.requires.sound (omega arith)
     (λ a ne h. from_field x a led ne (ap (λ xs. has (currents c.args.first c.args.heap.now xs) a) (sym c.references.ensures) ∙ h))
 
 pub loop-next-smaller : goal.loop-next-smaller
@@ -67,7 +86,7 @@ pub loop-next-preserved : goal.loop-next-preserved
 loop-next-preserved c =
     let first = c.args.first in
     let heap = c.args.heap.now in
-    let roots = c.args.roots.now in
+    let roots = c.args.roots.now ++ c.args.pins.now in
     let order = c.loop-next.order.items in
     let words = currents first heap c.references.result.now in
     let x = c.index.result.now in
@@ -93,6 +112,6 @@ loop-next-preserved c =
 
 pub returns-clause-walk : goal.returns-clause-walk
 returns-clause-walk c =
-    IsWalk-from c.args.first c.args.heap.now c.args.roots.now c.loop-next.order.items c.loop-next.marks c.loop-next.next
+    IsWalk-from c.args.first c.args.heap.now (c.args.roots.now ++ c.args.pins.now) c.loop-next.order.items c.loop-next.marks c.loop-next.next
     c.loop-next.invariant.marked c.loop-next.invariant.led c.loop-next.invariant.roots c.loop-next.invariant.closed
     (omega arith)

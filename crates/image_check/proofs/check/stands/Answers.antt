@@ -1,12 +1,12 @@
 use Rattle.std.proofs.Common.{refl}
 use Rattle.image_graph.specs.State.{config_of, words_of, memory_of}
-use Rattle.image_check.proofs.Holding.{laid_holds}
+use Rattle.image_check.proofs.Holding.{laid_sized, sized_holds}
 use Rattle.image_check.proofs.Seats.{no_seat}
 use Rattle.image_check.proofs.check.stands.Goals as goal
 
-pub returns : goal.returns
-returns c told =
-    laid_holds (config_of c.args.image.now) (memory_of c.args.image.now) c.args.objects.now (record {
+pub returns-clause-sized : goal.returns-clause-sized
+returns-clause-sized c told =
+    laid_sized (config_of c.args.image.now) (memory_of c.args.image.now) c.args.objects.now (record {
       regions = c.if-not-are_regions_right.ensures refl;
       free = c.if-not-is_free_word_right.ensures refl;
       unbuffered = c.if-not-has_no_buffers.ensures refl;
@@ -17,3 +17,6 @@ returns c told =
       mutators = c.are_mutators_right.ensures told;
     })
     (no_seat (config_of c.args.image.now) (words_of c.args.image.now))
+
+pub returns-clause-holds : goal.returns-clause-holds
+returns-clause-holds c told = sized_holds (config_of c.args.image.now) (memory_of c.args.image.now) (returns-clause-sized c told)

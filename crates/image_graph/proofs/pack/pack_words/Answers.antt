@@ -1,7 +1,9 @@
 use Rattle.std.proofs.Common.{ℕ, List, ◌≡◌, ◌+◌, ◌-◌, ◌++◌, take, drop, length, arith, sym, ap, ◌∙◌, subst}
+use Rattle.std.specs.List.{between}
 use borrow.Rule.Slice.PartMut.{put_mid}
 use Rattle.heap_words.specs.Words.{Top, word_at, heap_size, heap_in}
 use Rattle.packing.specs.Table.{CanCompact}
+use Rattle.packing.specs.Places.{is_shut}
 use Rattle.image_graph.specs.Pack.{IsPacked}
 use Rattle.image_graph.proofs.Packed.{packed_from, heap_part}
 use Rattle.image_graph.proofs.pack.pack_words.Goals as goal
@@ -21,14 +23,16 @@ returns c =
     let after_heap = c.compact_marked.new.heap in
     let top_is : word_at config (Top 0) ≡ c.top_at-top.result = sym c.top_at-top.ensures in
     let wide : config.regions ≡ c.top_at-top.result + c.regions.result - c.top_at-top.result = omega (arith, c.regions.ensures) in
+    let shut = is_shut c.args.shut in
     let all = packed_from config c.args.marks.now before low heap behind tops after_heap c.compact_marked.new.places c.requires.table
     (split.front ∙ ap (λ k. take k before) c.heap_start.ensures.value)
     (parts.front ∙ ap (λ k. take k rest) c.heap_size.ensures.value ∙ ap (take (heap_size config)) rest_is)
     (parts.back ∙ ap (λ k. drop k rest) c.heap_size.ensures.value ∙ ap (drop (heap_size config)) rest_is)
     (omega arith) (omega arith)
-    c.region_words.result c.region_words.ensures c.compact_marked.ensures.slid (λ r inside. c.compact_marked.ensures.tops r (omega (arith, inside))) c.compact_marked.ensures.renews in
-    subst (λ k. IsPacked config c.args.marks.now before (put_mid c.top_at-top.result k low tops ++ (after_heap ++ behind)) c.compact_marked.new.places) wide
-    (subst (λ t. IsPacked config c.args.marks.now before (put_mid t config.regions low tops ++ (after_heap ++ behind)) c.compact_marked.new.places) top_is all)
+    shut c.region_words.result _ c.region_words.ensures c.compact_marked.ensures.slid (λ r inside. c.compact_marked.ensures.tops r (omega (arith, inside))) c.compact_marked.ensures.renews
+    (ap (λ k. between c.top_at-top.result (c.top_at-top.result + k) low) c.regions.ensures ∙ ap (λ t. between t (t + config.regions) low) c.top_at-top.ensures) in
+    subst (λ k. IsPacked config shut c.args.marks.now before (put_mid c.top_at-top.result k low tops ++ (after_heap ++ behind)) c.compact_marked.new.places) wide
+    (subst (λ t. IsPacked config shut c.args.marks.now before (put_mid t config.regions low tops ++ (after_heap ++ behind)) c.compact_marked.new.places) top_is all)
 
 pub top_at-top-requires : goal.top_at-top-requires
 top_at-top-requires c = omega (arith, c.args.config.in_range.least_regions)

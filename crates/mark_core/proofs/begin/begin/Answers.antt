@@ -2,33 +2,33 @@ use Rattle.std.proofs.Common.{◌≡◌, ℕ, [], ap, ◌∙◌}
 use Rattle.heap_words.specs.declared.config.Config.{Config}
 use Rattle.heap_words.specs.Words.{Word, Phase, Claim, Ask, bit_words, word_at, write}
 use Rattle.heap_graph.specs.Walk.{has, with_addresses}
-use Rattle.full_words.specs.Full.{root_words}
+use Rattle.full_words.specs.Full.{held_words}
 use Rattle.image_graph.specs.State.{config_of, words_of, memory_of, found_of}
 use Rattle.image_graph.proofs.NamedStores.{stored}
 use Rattle.mark_core.specs.Steps.{greyed, noted, emptied}
 use Rattle.image_graph.proofs.Same.{memory_same}
-use Rattle.mark_core.proofs.MarkingBegun.{roots_inside_some, all_inside, begun}
+use Rattle.mark_core.proofs.MarkingBegun.{held_inside_some, all_inside, begun}
 use Rattle.mark_core.proofs.begin.begin.Goals as goal
 
-pub find_named-requires : goal.find_named-requires
-find_named-requires c = roots_inside_some (config_of c.args.image.now) (memory_of c.args.image.now) c.requires
+pub find_all_held-requires : goal.find_all_held-requires
+find_all_held-requires c = held_inside_some (config_of c.args.image.now) (memory_of c.args.image.now) c.requires
 
 pub returns-clause-words : goal.returns-clause-words
 returns-clause-words c =
     let old = c.args.image.now in
     let g = config_of old in
     let m : Word → ℕ = memory_of old in
-    let one = c.find_named.new.image in
+    let one = c.find_all_held.new.image in
     let two = c.grey_found.new.image in
     let three = c.note_edges.new.image in
     let four = c.empty_buffers.new.image in
-    let same = c.find_named.ensures.unchanged in
-    let set = has (with_addresses [] (root_words g m)) in
+    let same = c.find_all_held.ensures.unchanged in
+    let set = has (with_addresses [] (held_words g m)) in
     let to_two : memory_of two ≡ greyed g set (bit_words g) m =
     c.grey_found.ensures.words
     ∙ ap (λ (k : Config). greyed k (has (found_of one)) (bit_words k) (memory_of one)) same.config
     ∙ ap (λ n. greyed g (has (found_of one)) (bit_words g) n) (memory_same old one same)
-    ∙ ap (λ xs. greyed g (has xs) (bit_words g) m) c.find_named.ensures.named in
+    ∙ ap (λ xs. greyed g (has xs) (bit_words g) m) c.find_all_held.ensures.held in
     let config_two = c.grey_found.ensures.config ∙ same.config in
     let to_three : memory_of three ≡ noted g g.regions (greyed g set (bit_words g) m) =
     c.note_edges.ensures.words ∙ ap (λ (k : Config). noted k k.regions (memory_of two)) config_two ∙ ap (noted g g.regions) to_two in

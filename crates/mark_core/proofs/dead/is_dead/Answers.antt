@@ -25,6 +25,15 @@ returns-then-is_in c =
       | then-is_in-via-else-is_in+then-is_current w ↦ dead.nobodys (w.is_current.ensures.yes w.if-is_current.true)
     ]))
 
+pub returns-then-is_pinned : goal.returns-then-is_pinned
+returns-then-is_pinned c =
+    let g = config_of c.args.image.now in
+    let m : Word → ℕ = memory_of c.args.image.now in
+    let r = c.args.region in
+    sym (false_from_ne_true (is_dead g m r) (λ told.
+    let dead = (dead_is_dead g m r).0 told in
+    true≢false (sym c.if-is_pinned.true ∙ c.is_pinned.ensures ∙ dead.unpinned)))
+
 pub returns : goal.returns
 returns c =
     let g = config_of c.args.image.now in
@@ -37,4 +46,4 @@ returns c =
     let unset : bit_at (m Free) r ≡ 0 = omega (arith, outside, bit_at-lt (m Free) r) in
     let unseated : is_current g m r ≡ false = false_from_ne_true (is_current g m r) (λ is. c.is_current.ensures.no c.if-is_current.false (current_is g m r is)) in
     let top : m (Top r) ≡ m (Tams r) = omega (arith, c.top.ensures, tams, c.if-top-word.false) in
-    ap not c.has_black.ensures ∙ sym (marks_decide g m r unset unseated top)
+    ap not c.has_black.ensures ∙ sym (marks_decide g m r unset (sym c.is_pinned.ensures ∙ c.if-is_pinned.false) unseated top)

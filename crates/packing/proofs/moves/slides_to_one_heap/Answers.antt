@@ -3,6 +3,6 @@ use Rattle.packing.proofs.moves.slides_to_one_heap.Goals as goal
 
 pub returns : goal.returns
 returns c = record {
-  is = λ w kept renew before lie end. slid_is w kept renew before lie end;
-  only = λ w kept renew before lie end after is x above. slid_only w kept renew before lie end after is x above;
+  is = λ first place kept renew before apart end. slid_is place kept renew before apart first end;
+  only = λ first place kept renew before apart end after is x above. slid_only place kept renew before apart first end after is x above;
 }

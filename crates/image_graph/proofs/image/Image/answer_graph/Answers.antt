@@ -1,22 +1,25 @@
 use Rattle.std.proofs.Common.{length, ap, ◌∙◌, arith}
-use Rattle.image_graph.proofs.Read.{heap_length, roots_length}
+use Rattle.image_graph.proofs.Read.{heap_length, roots_length, pins_length}
 use Rattle.std.proofs.Common.{subst}
 use Rattle.heap_graph.specs.Shows as texts
 use Rattle.image_graph.proofs.image.Image.answer_graph.Goals as goal
 
 pub write_graph-requires-clause-stand : goal.write_graph-requires-clause-stand
-write_graph-requires-clause-stand c = rw (c.region_words.ensures, c.heap_in.ensures, c.deref.ensures.value, c.roots_in.ensures, c.deref-2.ensures.value) c.requires.stand
+write_graph-requires-clause-stand c = rw (c.region_words.ensures, c.heap_in.ensures, c.deref.ensures.value, c.roots_in.ensures, c.deref-2.ensures.value, c.pins_in.ensures, c.deref-3.ensures.value) c.requires.stand
 
 pub returns-clause-shows : goal.returns-clause-shows
 returns-clause-shows c = λ at g stands.
     subst (λ threads. texts.ShowsGraph c.write_graph.new.text threads g) c.requires.threads
-    (c.write_graph.ensures.shows at g (rw (c.region_words.ensures, c.heap_in.ensures, c.deref.ensures.value, c.roots_in.ensures, c.deref-2.ensures.value) stands))
+    (c.write_graph.ensures.shows at g (rw (c.region_words.ensures, c.heap_in.ensures, c.deref.ensures.value, c.roots_in.ensures, c.deref-2.ensures.value, c.pins_in.ensures, c.deref-3.ensures.value) stands))
 
 pub heap_in-requires : goal.heap_in-requires
 heap_in-requires c = ap length c.deref.ensures.value ∙ c.args.self.now.all_words
 
 pub roots_in-requires : goal.roots_in-requires
 roots_in-requires c = ap length c.deref-2.ensures.value ∙ c.args.self.now.all_words
+
+pub pins_in-requires : goal.pins_in-requires
+pins_in-requires c = ap length c.deref-3.ensures.value ∙ c.args.self.now.all_words
 
 pub write_graph-requires-clause-first : goal.write_graph-requires-clause-first
 write_graph-requires-clause-first c = omega (arith, c.region_words.ensures, c.args.self.now.config.in_range.least_words)
@@ -43,3 +46,8 @@ write_graph-requires-clause-threads c =
 
 pub write_graph-requires-clause-few : goal.write_graph-requires-clause-few
 write_graph-requires-clause-few c = omega (arith, c.requires.threads, c.args.self.now.config.in_range.most_mutators)
+
+pub write_graph-requires-clause-slots : goal.write_graph-requires-clause-slots
+write_graph-requires-clause-slots c =
+    let pins = ap length c.pins_in.ensures ∙ pins_length c.args.self.now.config c.deref-3.result.now (ap length c.deref-3.ensures.value ∙ c.args.self.now.all_words) in
+    omega (arith, pins, c.requires.threads)

@@ -1,0 +1,65 @@
+-- In phase 3 no region of the collection set is pinned: what a slot holds is an object, and none is in the set.
+use Rattle.std.proofs.Common.{◌≡◌, ℕ, ◌+◌, ◌*◌, ◌<◌, ◌≤◌, nat_le, nat_lt, true, false, Option, Some, None, refl, sym, ap, ◌∙◌, subst, arith}
+use Rattle.std.proofs.Math.Nat.{mul-le-mul_right}
+use Rattle.std.proofs.lemmas.Bool.{and_parts, leb-true, ltb-true, false_from_ne_true}
+use Rattle.heap_words.specs.declared.config.Config.{Config}
+use Rattle.heap_words.specs.Words.{Word, Phase, Cset, Evac, Pin}
+use Rattle.regions.specs.Place.{base_of, region_with}
+use Rattle.regions.specs.Sets.{IsIn}
+use Rattle.regions.proofs.PlaceLemmas.{regions_tile}
+use Rattle.shen_graph.specs.declared.pin.Pinned.{Pinned}
+use Rattle.shen_graph.specs.Graph.{Graph}
+use Rattle.heap_world.specs.World.{PinStands}
+use Rattle.heap_world.specs.Asking.{Asking}
+use Rattle.heap_world.specs.Represents.{Represents}
+use Rattle.full_words.specs.Pinned.{lies_in, has_pin, is_pinned}
+use Rattle.cycle_words.specs.Updating.Changes.{final_updated}
+use Rattle.cycle_words.proofs.Marking.Ranges.{any_is}
+use Rattle.cycle_words.proofs.Pinned.{same_pinned}
+use Rattle.cycle_pauses.specs.Updating.Laws.{NoneIsPinned}
+
+-- a slot that holds an address of a region
+record HasSlot (c : Config) (m : Word → ℕ) (q : ℕ) : Type 0 where
+  mutator : ℕ
+  slot : ℕ
+  inside : mutator < c.mutators
+  few : slot < 4
+  from : base_of c q ≤ m (Pin mutator slot)
+  before : m (Pin mutator slot) < base_of c q + c.region_words
+
+slot_there : (c : Config) (m : Word → ℕ) (q : ℕ) → is_pinned c m q ≡ true → HasSlot c m q
+slot_there c m q is =
+    let t = any_is (has_pin c m q) 0 c.mutators is in
+    let seat : 0 + t.0 ≡ t.0 = omega arith in
+    let i = any_is (λ k. lies_in c q (m (Pin t.0 k))) 0 4 (sym (ap (has_pin c m q) seat) ∙ t.2) in
+    let place : 0 + i.0 ≡ i.0 = omega arith in
+    let lies : lies_in c q (m (Pin t.0 i.0)) ≡ true = sym (ap (λ k. lies_in c q (m (Pin t.0 k))) place) ∙ i.2 in
+    let both = and_parts (nat_le (base_of c q) (m (Pin t.0 i.0))) (nat_lt (m (Pin t.0 i.0)) (base_of c q + c.region_words)) lies in
+    record {
+      mutator = t.0;
+      slot = i.0;
+      inside = t.1;
+      few = i.1;
+      from = leb-true (base_of c q) (m (Pin t.0 i.0)) both.0;
+      before = ltb-true (m (Pin t.0 i.0)) (base_of c q + c.region_words) both.1;
+    }
+
+module _ (c : Config) (m : Word → ℕ) (g : Graph) (asking : ℕ → Asking) (r : Represents c m g asking) (on : m Phase ≡ 3) where
+  -- what a slot holds lies outside of the set
+  held_outside : (word : ℕ) (held : Option Pinned) (q : ℕ) → IsIn (m Cset) q → base_of c q ≤ word → word < base_of c q + c.region_words
+      → PinStands c (m Cset) (m Evac) r.block word held → ⊥
+  held_outside word None q member from before none =
+      let long = c.in_range.least_words in
+      let low : 1 * c.region_words ≤ (q + 1) * c.region_words = mul-le-mul_right c.region_words (omega arith) in
+      omega (arith, none, from, low, long)
+  held_outside word (Some p) q member from before is =
+      let region : region_with c word ≡ q = regions_tile.of_no_other c q word (record { from = from; before = before }) in
+      (r.shared.updated on).outside word is.1 is.2 p.name is.3.piece (subst (IsIn (m Cset)) (sym region) member)
+
+  none_pinned : (q : ℕ) → IsIn (m Cset) q → is_pinned c m q ≡ false
+  none_pinned q member = false_from_ne_true (is_pinned c m q) (λ is.
+      let at = slot_there c m q is in
+      held_outside (m (Pin at.mutator at.slot)) (g.pin (at.mutator + 1) at.slot) q member at.from at.before (r.shared.pinned at.mutator at.slot at.inside at.few))
+
+pub none_is_pinned : NoneIsPinned
+none_is_pinned c m g asking r on q inside member = same_pinned c m (final_updated c m) (λ t i. refl) q ∙ none_pinned c m g asking r on q member

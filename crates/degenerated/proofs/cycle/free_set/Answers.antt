@@ -1,0 +1,77 @@
+use Rattle.std.proofs.Common.{◌≡◌, ◌<◌, ℕ, ◌&&◌, ◌==◌, not, true, false, refl, sym, ap, ◌∙◌, subst, ⊎_elim, arith}
+use Rattle.std.proofs.lemmas.Bool.{cases_Bool}
+use Rattle.heap_words.specs.declared.config.Config.{Config}
+use Rattle.heap_words.specs.Words.{Word}
+use Rattle.full_words.specs.Pinned.{is_pinned, filled_in, CanFill}
+use Rattle.image_graph.specs.State.{config_of, words_of, memory_of}
+use Rattle.mark_core.specs.Steps.{freed_one}
+use Rattle.cycle_words.specs.Updating.Changes.{is_chosen}
+use Rattle.cycle_words.specs.Finishing.Finish.{is_to_free, is_to_stay, has_moved}
+use Rattle.degenerated.proofs.FreedSet.{left_below, none_left, spared_next, freed_region, can_fill_now, filled_region, all_left}
+use Rattle.degenerated.proofs.cycle.free_set.Goals as goal
+
+pub loop-region-init : goal.loop-region-init
+loop-region-init c = record { config = refl; words = none_left (config_of c.args.image.now) (memory_of c.args.image.now) }
+
+-- which regions are chosen, and pinned, is told by words that stay
+stays_still : (g d : Config) (m now : Word → ℕ) (r k : ℕ) → d ≡ g → now ≡ left_below g m k → is_to_stay d now r ≡ is_to_stay g m r
+stays_still g d m now r k same words = ap (λ (j : Config). is_to_stay j now r) same ∙ ap (λ (n : Word → ℕ). is_to_stay g n r) words
+
+frees_still : (g d : Config) (m now : Word → ℕ) (r k : ℕ) → d ≡ g → now ≡ left_below g m k → is_to_free d now r ≡ is_to_free g m r
+frees_still g d m now r k same words = ap (λ (j : Config). is_to_free j now r) same ∙ ap (λ (n : Word → ℕ). is_to_free g n r) words
+
+chosen_still : (g : Config) (m now : Word → ℕ) (r k : ℕ) → now ≡ left_below g m k → is_chosen now r ≡ is_chosen m r
+chosen_still g m now r k words = ap (λ (n : Word → ℕ). is_chosen n r) words
+
+pub free_or_fill-requires-clause-can : goal.free_or_fill-requires-clause-can
+free_or_fill-requires-clause-can c = λ stays.
+    let g = config_of c.args.image.now in
+    let m : Word → ℕ = memory_of c.args.image.now in
+    let now = c.loop-region.image in
+    let r = c.loop-region.region in
+    let is = c.loop-region.invariant in
+    let below : r < g.regions = omega (arith, c.loop-region-test.true, c.regions-region-end.ensures, ap (λ (k : Config). k.regions) c.config-config.ensures) in
+    let stay : is_to_stay g m r ≡ true = sym (stays_still g (config_of now) m (memory_of now) r r is.config is.words) ∙ stays in
+    subst (λ (k : Config). CanFill k (memory_of now) r) (sym is.config)
+    (subst (λ (n : Word → ℕ). CanFill g n r) (sym is.words) (can_fill_now g m r (c.requires.fills r below stay)))
+
+pub loop-region-preserved : goal.loop-region-preserved
+loop-region-preserved c =
+    let g = config_of c.args.image.now in
+    let m : Word → ℕ = memory_of c.args.image.now in
+    let now = c.loop-region.image in
+    let r = c.loop-region.region in
+    let is = c.loop-region.invariant in
+    let turn = c.free_or_fill.ensures in
+    let below : r < g.regions = omega (arith, c.loop-region-test.true, c.regions-region-end.ensures, ap (λ (k : Config). k.regions) c.config-config.ensures) in
+    let stay = stays_still g (config_of now) m (memory_of now) r r is.config is.words in
+    let free = frees_still g (config_of now) m (memory_of now) r r is.config is.words in
+    record {
+      config = turn.config ∙ is.config;
+      words = ⊎_elim
+          (λ (chosen : is_chosen m r ≡ true). ⊎_elim
+          (λ (pinned : is_pinned g m r ≡ true).
+          let stays : is_to_stay g m r ≡ true = ap (λ b. b && is_pinned g m r) chosen ∙ pinned in
+          let kept : is_to_free g m r ≡ false = ap (λ b. b && not (is_pinned g m r)) chosen ∙ ap not pinned in
+          turn.fills (stay ∙ stays)
+          ∙ ap (λ (k : Config). filled_in k (λ q. q == r) (has_moved (memory_of now)) (memory_of now)) is.config
+          ∙ ap (λ (n : Word → ℕ). filled_in g (λ q. q == r) (has_moved n) n) is.words
+          ∙ filled_region g m r (c.requires.fills r below stays) stays kept)
+          (λ (unpinned : is_pinned g m r ≡ false).
+          let frees : is_to_free g m r ≡ true = ap (λ b. b && not (is_pinned g m r)) chosen ∙ ap not unpinned in
+          let gone : is_to_stay g m r ≡ false = ap (λ b. b && is_pinned g m r) chosen ∙ unpinned in
+          turn.frees (free ∙ frees) ∙ ap (freed_one r) is.words ∙ freed_region g m r (omega (arith, below, g.in_range.most_regions)) frees gone)
+          (cases_Bool (is_pinned g m r)))
+          (λ (spared : is_chosen m r ≡ false).
+          turn.spares (chosen_still g m (memory_of now) r r is.words ∙ spared) ∙ is.words
+          ∙ spared_next g m r (ap (λ b. b && not (is_pinned g m r)) spared) (ap (λ b. b && is_pinned g m r) spared))
+          (cases_Bool (is_chosen m r));
+    }
+
+pub returns-clause-words : goal.returns-clause-words
+returns-clause-words c =
+    let g = config_of c.args.image.now in
+    let m : Word → ℕ = memory_of c.args.image.now in
+    let all : c.loop-region.region ≡ g.regions =
+    omega (arith, c.loop-region-test.false, c.loop-region.auto.region-end, c.regions-region-end.ensures, ap (λ (k : Config). k.regions) c.config-config.ensures) in
+    c.loop-region.invariant.words ∙ ap (left_below g m) all ∙ all_left g (words_of c.args.image.now)

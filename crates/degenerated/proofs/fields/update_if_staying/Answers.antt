@@ -1,0 +1,23 @@
+use Rattle.std.proofs.Common.{◌≡◌, ℕ, ◌==◌, false, sym, ap, ◌∙◌, arith}
+use Rattle.std.specs.Int.{bit_at}
+use Rattle.std.proofs.lemmas.Bool.{or_from, ne_eqb}
+use Rattle.heap_words.specs.declared.config.Config.{Config}
+use Rattle.heap_words.specs.Words.{Word, Cset, word_at}
+use Rattle.regions.specs.Sets.{IsIn}
+use Rattle.full_words.specs.Pinned.{is_pinned}
+use Rattle.image_graph.specs.State.{config_of, memory_of}
+use Rattle.cycle_words.specs.Finishing.Updated.{stays}
+use Rattle.degenerated.specs.Steps.{kept_now, is_of}
+use Rattle.degenerated.proofs.UpdatedFields.{no_fields, none_where_nothing_stays}
+use Rattle.degenerated.proofs.fields.update_if_staying.Goals as goal
+
+pub returns-then-not-is_pinned-clause-words : goal.returns-then-not-is_pinned-clause-words
+returns-then-not-is_pinned-clause-words c =
+    let g = config_of c.args.image.now in
+    let m : Word → ℕ = memory_of c.args.image.now in
+    let r = c.args.region in
+    let set : c.word.result ≡ m Cset = c.word.ensures.named Cset tt (ap (λ (k : Config). word_at k Cset) (sym c.config.ensures) ∙ sym c.cset_at.ensures) in
+    let member : IsIn (m Cset) r = ap (λ x. bit_at x r) (sym set) ∙ c.is_in.ensures.0 c.if-is_in.true in
+    let gone : stays g m r ≡ false =
+    or_from (bit_at (m Cset) r == 0) (is_pinned g m r) (ne_eqb (bit_at (m Cset) r) 0 (λ none. omega (arith, none, member))) (sym c.is_pinned.ensures ∙ c.if-not-is_pinned.true) in
+    no_fields g m (kept_now c.args.image.now) (is_of g r) (none_where_nothing_stays g m r gone)

@@ -1,0 +1,70 @@
+use Rattle.std.proofs.Common.{◌≡◌, ◌<◌, ℕ, ◌==◌, ◌&&◌, List, Bool, true, refl, sym, ap, ◌∙◌, subst, arith}
+use Rattle.heap_words.specs.declared.config.Config.{Config}
+use Rattle.heap_words.specs.Words.{Word}
+use Rattle.heap_graph.specs.Walk.{IsMarked}
+use Rattle.full_words.specs.Pinned.{is_pinned, filled_in, CanFill}
+use Rattle.image_graph.specs.Leftovers.{is_left_over}
+use Rattle.image_graph.specs.declared.leftovers.Leftover.TheVariants.{NotFound}
+use Rattle.image_graph.specs.State.{config_of, memory_of, found_of, marks_of}
+use Rattle.full_cycle.proofs.FilledRegions.{unkept_filled, none_filled, can_still, one_filled}
+use Rattle.full_cycle.proofs.pack.fill_unkept.Goals as goal
+
+pub loop-region-init : goal.loop-region-init
+loop-region-init c = record {
+  config = refl;
+  places = refl;
+  found = refl;
+  marks = refl;
+  words = none_filled (config_of c.args.image.now) (memory_of c.args.image.now) (found_of c.args.image.now);
+}
+
+pub fill_if_pinned-requires-clause-can : goal.fill_if_pinned-requires-clause-can
+fill_if_pinned-requires-clause-can c = λ pinned.
+    let old = c.args.image.now in
+    let g = config_of old in
+    let m : Word → ℕ = memory_of old in
+    let now = c.loop-region.image in
+    let r = c.loop-region.region in
+    let is = c.loop-region.invariant in
+    let below : r < g.regions = omega (arith, c.loop-region-test.true, c.regions-region-end.ensures, ap (λ (k : Config). k.regions) c.config-config.ensures) in
+    let still : is_pinned g (unkept_filled g m (found_of old) r) r ≡ true =
+    sym (ap (λ (n : Word → ℕ). is_pinned g n r) is.words) ∙ sym (ap (λ (k : Config). is_pinned k (memory_of now) r) is.config) ∙ pinned in
+    subst (λ (k : Config). CanFill k (memory_of now) r) (sym is.config)
+    (subst (λ (n : Word → ℕ). CanFill g n r) (sym is.words) (can_still g m (found_of old) r (c.requires.can r below) still))
+
+pub fill_if_pinned-requires-clause-found : goal.fill_if_pinned-requires-clause-found
+fill_if_pinned-requires-clause-found c =
+    let old = c.args.image.now in
+    let now = c.loop-region.image in
+    let is = c.loop-region.invariant in
+    subst (λ (k : Config). IsMarked k.region_words (marks_of now) (found_of now)) (sym is.config)
+    (subst (λ (marks : List Bool). IsMarked (config_of old).region_words marks (found_of now)) (sym is.marks)
+    (subst (λ (found : List ℕ). IsMarked (config_of old).region_words (marks_of old) found) (sym is.found) c.requires.found))
+
+pub loop-region-preserved : goal.loop-region-preserved
+loop-region-preserved c =
+    let old = c.args.image.now in
+    let g = config_of old in
+    let m : Word → ℕ = memory_of old in
+    let now = c.loop-region.image in
+    let r = c.loop-region.region in
+    let is = c.loop-region.invariant in
+    let turn = c.fill_if_pinned.ensures in
+    let below : r < g.regions = omega (arith, c.loop-region-test.true, c.regions-region-end.ensures, ap (λ (k : Config). k.regions) c.config-config.ensures) in
+    record {
+      config = turn.config ∙ is.config;
+      places = turn.places ∙ is.places;
+      found = turn.found ∙ is.found;
+      marks = turn.marks ∙ is.marks;
+      words = turn.words
+          ∙ ap (λ (k : Config). filled_in k (λ q. (q == r) && is_pinned k (memory_of now) q) (is_left_over (memory_of now) (found_of now) NotFound) (memory_of now)) is.config
+          ∙ ap (λ (n : Word → ℕ). filled_in g (λ q. (q == r) && is_pinned g n q) (is_left_over n (found_of now) NotFound) n) is.words
+          ∙ one_filled g m (found_of old) r (c.requires.can r below) (found_of now) is.found;
+    }
+
+pub returns-clause-words : goal.returns-clause-words
+returns-clause-words c =
+    let old = c.args.image.now in
+    let all : c.loop-region.region ≡ (config_of old).regions =
+    omega (arith, c.loop-region-test.false, c.loop-region.auto.region-end, c.regions-region-end.ensures, ap (λ (k : Config). k.regions) c.config-config.ensures) in
+    c.loop-region.invariant.words ∙ ap (unkept_filled (config_of old) (memory_of old) (found_of old)) all

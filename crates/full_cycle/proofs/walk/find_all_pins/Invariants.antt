@@ -1,0 +1,13 @@
+use Rattle.std.proofs.Common.{◌≡◌}
+use Rattle.heap_graph.specs.Walk.{with_addresses}
+use Rattle.full_words.specs.Full.{copies_of}
+use Rattle.full_words.specs.Pinned.{pins_below}
+use Rattle.image_graph.specs.State.{memory_of, found_of, AreFound, IsUnchanged}
+use Rattle.full_cycle.proofs.walk.find_all_pins.Given as goal
+
+abbrev pub invariant-loop-mutator : goal.invariant-loop-mutator
+invariant-loop-mutator l = record {
+  unchanged : IsUnchanged l.fn.image l.image;
+  found : AreFound l.image;
+  noted : found_of l.image ≡ with_addresses (found_of l.fn.image) (copies_of (memory_of l.fn.image) (pins_below (memory_of l.fn.image) l.mutator));
+}

@@ -1,0 +1,50 @@
+use Rattle.std.proofs.Common.{◌≡◌, ◌<◌, map, sym, ap, ◌∙◌, subst, arith}
+use Rattle.std.specs.List.{range_with_len}
+use Rattle.heap_words.specs.declared.config.Config.{Config}
+use Rattle.heap_words.specs.Words.{Pin, word_at}
+use Rattle.heap_graph.specs.Walk.{with_addresses}
+use Rattle.full_words.specs.Full.{copies_of}
+use Rattle.image_graph.specs.State.{config_of, memory_of, found_of}
+use Rattle.full_cycle.specs.Collect.{LeadsToHeld}
+use Rattle.image_graph.proofs.Same.{memory_same, carried, both}
+use Rattle.full_cycle.proofs.Kept.{noted_step}
+use Rattle.full_cycle.proofs.walk.find_pins.Goals as goal
+
+pub find_copy-requires-clause-leads : goal.find_copy-requires-clause-leads
+find_copy-requires-clause-leads c =
+    let t = c.args.mutator in
+    let i = c.loop-slot.slot in
+    let old = c.args.image.now in
+    let now = c.loop-slot.image in
+    let same = c.loop-slot.invariant.unchanged in
+    let few : i < 4 = c.loop-slot-test.true in
+    let value : c.word-word.result ≡ memory_of now (Pin t i) =
+    c.word-word.ensures.named (Pin t i) (omega (arith, c.requires.mutator, ap (λ (k : Config). k.mutators) same.config), few)
+    (ap (λ (k : Config). word_at k (Pin t i)) (same.config ∙ sym c.config-config.ensures) ∙ sym c.pin_at.ensures) in
+    subst (LeadsToHeld (config_of now) (memory_of now)) (sym value)
+    (carried (λ k m. LeadsToHeld k m (m (Pin t i))) old now same (c.requires.can.pins t i c.requires.mutator few))
+
+pub loop-slot-preserved : goal.loop-slot-preserved
+loop-slot-preserved c =
+    let t = c.args.mutator in
+    let i = c.loop-slot.slot in
+    let old = c.args.image.now in
+    let now = c.loop-slot.image in
+    let same = c.loop-slot.invariant.unchanged in
+    let few : i < 4 = c.loop-slot-test.true in
+    let value : c.word-word.result ≡ memory_of now (Pin t i) =
+    c.word-word.ensures.named (Pin t i) (omega (arith, c.requires.mutator, ap (λ (k : Config). k.mutators) same.config), few)
+    (ap (λ (k : Config). word_at k (Pin t i)) (same.config ∙ sym c.config-config.ensures) ∙ sym c.pin_at.ensures) in
+    let is : c.word-word.result ≡ memory_of old (Pin t i) = value ∙ ap (λ m. m (Pin t i)) (memory_same old now same) in
+    record {
+      unchanged = both old now c.find_copy.new.image same c.find_copy.ensures.unchanged;
+      found = c.find_copy.ensures.found;
+      noted = noted_step old now c.find_copy.new.image (λ j. memory_of old (Pin t j)) i c.word-word.result same c.loop-slot.invariant.noted is c.find_copy.ensures.noted;
+    }
+
+pub returns-clause-noted : goal.returns-clause-noted
+returns-clause-noted c =
+    let old = c.args.image.now in
+    let all : c.loop-slot.slot ≡ 4 = omega (arith, c.loop-slot-test.false, c.loop-slot.auto.slot-end) in
+    c.loop-slot.invariant.noted
+    ∙ ap (λ n. with_addresses (found_of old) (copies_of (memory_of old) (map (λ i. memory_of old (Pin c.args.mutator i)) (range_with_len 0 n)))) all

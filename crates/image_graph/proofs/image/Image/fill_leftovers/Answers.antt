@@ -1,0 +1,169 @@
+use Rattle.std.proofs.Common.{◌≡◌, ◌+◌, ◌-◌, ◌<◌, ◌==◌, ◌&&◌, ℕ, Bool, true, false, List, refl, sym, ap, ◌∙◌, subst, arith}
+use Rattle.heap_words.specs.declared.config.Config.{Config}
+use Rattle.heap_words.specs.Words.{Word, Top, Heap, IsWord}
+use Rattle.regions.specs.Place.{base_of}
+use Rattle.regions.specs.Walk.{is_filler, stride_at, start_of}
+use Rattle.full_words.specs.Pinned.{CanFill, is_filled_from}
+use Rattle.image_graph.specs.declared.leftovers.Leftover.{Leftover}
+use Rattle.image_graph.specs.State.{config_of, memory_of, found_of}
+use Rattle.image_graph.specs.Leftovers.{is_left_over}
+use Rattle.image_graph.proofs.Room.{room_in_heap}
+use Rattle.image_graph.proofs.Same.{found_same}
+use Rattle.full_words.proofs.Starts.{start_first}
+use Rattle.image_graph.proofs.Filling.{filled_at, is_below, left_is_object, left_same, filled_none, filled_all, still, last_read, ends_here, goes_on, place_read, turn}
+use Rattle.image_graph.proofs.image.Image.fill_leftovers.Goals as goal
+use Rattle.image_graph.proofs.image.Image.fill_leftovers.Goals.{then-ends_at, else-ends_at}
+
+-- what was found of an object is so of the words at first
+module _ (g d : Config) (m now : Word → ℕ) (found : List ℕ) (left : Leftover) (r i : ℕ) (below : r < g.regions) (can : CanFill g m r) (some : i < m (Top r))
+    (same : d ≡ g) (words : now ≡ filled_at g (is_below g r i) (is_left_over m found left) m) (first : ℕ) (base : first ≡ base_of g r) where
+  abbrev lost : ℕ → Bool
+  lost = is_left_over m found left
+
+  objects : (a : ℕ) → lost a ≡ true → is_filler (m (Heap a)) ≡ false
+  objects = left_is_object m found left
+
+  abbrev n : Word → ℕ
+  n = filled_at g (is_below g r i) lost m
+
+  abbrev CanRead : Config → (Word → ℕ) → ℕ → Type 0
+  CanRead c k a = IsWord c (Heap a) × (is_filler (k (Heap a)) ≡ false → IsWord c (Heap (a + 1)))
+
+  inside : IsWord d (Heap (first + i))
+  inside =
+      let part = room_in_heap g r i 1 below (let within = can.within in omega (arith, some, within)) in
+      subst (λ (k : Config). IsWord k (Heap (first + i))) (sym same) (omega (arith, part.from, base), omega (arith, part.to, base))
+
+  module _ (object : ℕ) (at : object ≡ base_of g r + start_of (λ a. m (Heap a)) (base_of g r) (i - 1)) where
+    first_is : CanRead d now object
+    first_is =
+        subst (λ (k : Config). CanRead k now object) (sym same)
+        (subst (λ (k : Word → ℕ). CanRead g k object) (sym words) (subst (CanRead g n) (sym at) (last_read g m r below can lost objects i some)))
+
+    test_is : (told : Bool) → told ≡ (object + stride_at (λ a. now (Heap a)) object == first + i) → (object + stride_at (λ a. n (Heap a)) object == base_of g r + i) ≡ told
+    test_is told is =
+        ap (λ (k : Word → ℕ). object + stride_at (λ a. k (Heap a)) object == base_of g r + i) (sym words)
+        ∙ ap (λ b. object + stride_at (λ a. now (Heap a)) object == b + i) (sym base) ∙ sym is
+
+    begun_here : (told : Bool) → told ≡ (object + stride_at (λ a. now (Heap a)) object == first + i) → told ≡ true
+        → first + i ≡ base_of g r + start_of (λ a. m (Heap a)) (base_of g r) i
+    begun_here told is yes' = ap (λ b. b + i) base ∙ ends_here g m r below can lost objects i some object at (test_is told is ∙ yes')
+
+    goes_on_here : (told : Bool) → told ≡ (object + stride_at (λ a. now (Heap a)) object == first + i) → told ≡ false
+        → object ≡ base_of g r + start_of (λ a. m (Heap a)) (base_of g r) i
+    goes_on_here told is no' = goes_on g m r below can lost objects i some object at (test_is told is ∙ no')
+
+  module _ (object : ℕ) (at : object ≡ base_of g r + start_of (λ a. m (Heap a)) (base_of g r) i) where
+    place_is : object ≡ first + i → is_filler (now (Heap (first + i))) ≡ false → IsWord d (Heap (first + i + 1))
+    place_is here plain =
+        let place : first + i ≡ base_of g r + i = ap (λ b. b + i) base in
+        subst (λ (k : Config). IsWord k (Heap (first + i + 1))) (sym same)
+        (subst (λ a. IsWord g (Heap (a + 1))) (sym place)
+        (place_read g m r below can lost objects i some object at (here ∙ place) (ap (λ (k : Word → ℕ). is_filler (k (Heap (base_of g r + i)))) (sym words) ∙ ap (λ a. is_filler (now (Heap a))) (sym place) ∙ plain)))
+
+    turn_is : (seen : List ℕ) → seen ≡ found → is_filled_from d (λ a. (object == a) && is_left_over now seen left a) (first + i) now ≡ filled_at g (is_below g r (i + 1)) lost m
+    turn_is seen known =
+        let place : first + i ≡ base_of g r + i = ap (λ b. b + i) base in
+        ap (λ (k : Config). is_filled_from k (λ a. (object == a) && is_left_over now seen left a) (first + i) now) same
+        ∙ ap (λ a. is_filled_from g (λ b. (object == b) && is_left_over now seen left b) a now) place
+        ∙ ap (λ (k : Word → ℕ). is_filled_from g (λ b. (object == b) && is_left_over k seen left b) (base_of g r + i) k) words
+        ∙ ap (λ (k : List ℕ). is_filled_from g (λ b. (object == b) && is_left_over n k left b) (base_of g r + i) n) known
+        ∙ turn g m r below can lost objects i some object at (is_left_over n found left) (left_same m n found left (base_of g r + i) (still g m r below can lost objects i (base_of g r + i) (omega arith)))
+
+pub loop-offset-init : goal.loop-offset-init
+loop-offset-init c =
+    let g = config_of c.args.self.now in
+    let m : Word → ℕ = memory_of c.args.self.now in
+    let found = found_of c.args.self.now in
+    let r = c.args.region in
+    record {
+      config = refl;
+      places = refl;
+      found = refl;
+      marks = refl;
+      words = filled_none g m r c.requires.region c.requires.can (is_left_over m found c.args.left) (left_is_object m found c.args.left);
+      object = c.base-first.ensures
+          ∙ (let none = start_first (λ a. m (Heap a)) (base_of g r) in let first : base_of g r ≡ base_of g r + start_of (λ a. m (Heap a)) (base_of g r) 0 = omega (arith, none) in first);
+    }
+
+pub ends_at-requires-clause-header : goal.ends_at-requires-clause-header
+ends_at-requires-clause-header c =
+    let g = config_of c.args.self.now in
+    let m : Word → ℕ = memory_of c.args.self.now in
+    let is = c.loop-offset.invariant in
+    (first_is g (config_of c.loop-offset.self) m (memory_of c.loop-offset.self) (found_of c.args.self.now) c.args.left c.args.region c.loop-offset.offset c.requires.region c.requires.can
+    (omega (arith, c.loop-offset-test.true, c.top-top.ensures)) is.config is.words c.base-first.result c.base-first.ensures c.loop-offset.object is.object).0
+
+pub ends_at-requires-clause-shape : goal.ends_at-requires-clause-shape
+ends_at-requires-clause-shape c =
+    let g = config_of c.args.self.now in
+    let m : Word → ℕ = memory_of c.args.self.now in
+    let is = c.loop-offset.invariant in
+    (first_is g (config_of c.loop-offset.self) m (memory_of c.loop-offset.self) (found_of c.args.self.now) c.args.left c.args.region c.loop-offset.offset c.requires.region c.requires.can
+    (omega (arith, c.loop-offset-test.true, c.top-top.ensures)) is.config is.words c.base-first.result c.base-first.ensures c.loop-offset.object is.object).1
+
+pub fill_if_left-requires-clause-inside : goal.fill_if_left-requires-clause-inside
+fill_if_left-requires-clause-inside c =
+    let g = config_of c.args.self.now in
+    let m : Word → ℕ = memory_of c.args.self.now in
+    let is = c.loop-offset.invariant in
+    inside g (config_of c.loop-offset.self) m (memory_of c.loop-offset.self) (found_of c.args.self.now) c.args.left c.args.region c.loop-offset.offset c.requires.region c.requires.can
+    (omega (arith, c.loop-offset-test.true, c.top-top.ensures)) is.config is.words c.base-first.result c.base-first.ensures
+
+pub fill_if_left-requires-clause-shape : goal.fill_if_left-requires-clause-shape
+fill_if_left-requires-clause-shape c =
+    let g = config_of c.args.self.now in
+    let m : Word → ℕ = memory_of c.args.self.now in
+    let found = found_of c.args.self.now in
+    let r = c.args.region in
+    let i = c.loop-offset.offset in
+    let now = c.loop-offset.self in
+    let is = c.loop-offset.invariant in
+    let some : i < m (Top r) = omega (arith, c.loop-offset-test.true, c.top-top.ensures) in
+    place_is g (config_of now) m (memory_of now) found c.args.left r i c.requires.region c.requires.can some is.config is.words c.base-first.result c.base-first.ensures c.if-ends_at.object
+    (elim c.if-ends_at.branch [
+      | then-ends_at w ↦ w.object-is ∙ begun_here g (config_of now) m (memory_of now) found c.args.left r i c.requires.region c.requires.can some is.config is.words c.base-first.result c.base-first.ensures
+          c.loop-offset.object is.object c.ends_at.result c.ends_at.ensures w.if-ends_at.true
+      | else-ends_at w ↦ w.object-is ∙ goes_on_here g (config_of now) m (memory_of now) found c.args.left r i c.requires.region c.requires.can some is.config is.words c.base-first.result c.base-first.ensures
+          c.loop-offset.object is.object c.ends_at.result c.ends_at.ensures w.if-ends_at.false
+    ])
+
+pub fill_if_left-requires-clause-found : goal.fill_if_left-requires-clause-found
+fill_if_left-requires-clause-found c = λ which. found_same c.args.self.now c.loop-offset.self c.loop-offset.invariant.config c.loop-offset.invariant.marks c.loop-offset.invariant.found (c.requires.found which)
+
+pub loop-offset-preserved : goal.loop-offset-preserved
+loop-offset-preserved c =
+    let g = config_of c.args.self.now in
+    let m : Word → ℕ = memory_of c.args.self.now in
+    let found = found_of c.args.self.now in
+    let r = c.args.region in
+    let i = c.loop-offset.offset in
+    let now = c.loop-offset.self in
+    let is = c.loop-offset.invariant in
+    let some : i < m (Top r) = omega (arith, c.loop-offset-test.true, c.top-top.ensures) in
+    let object : c.if-ends_at.object ≡ base_of g r + start_of (λ a. m (Heap a)) (base_of g r) i = elim c.if-ends_at.branch [
+      | then-ends_at w ↦ w.object-is ∙ begun_here g (config_of now) m (memory_of now) found c.args.left r i c.requires.region c.requires.can some is.config is.words c.base-first.result c.base-first.ensures
+          c.loop-offset.object is.object c.ends_at.result c.ends_at.ensures w.if-ends_at.true
+      | else-ends_at w ↦ w.object-is ∙ goes_on_here g (config_of now) m (memory_of now) found c.args.left r i c.requires.region c.requires.can some is.config is.words c.base-first.result c.base-first.ensures
+          c.loop-offset.object is.object c.ends_at.result c.ends_at.ensures w.if-ends_at.false
+    ] in
+    let last : i ≡ i + 1 - 1 = omega arith in
+    record {
+      config = c.fill_if_left.ensures.config ∙ is.config;
+      places = c.fill_if_left.ensures.places ∙ is.places;
+      found = c.fill_if_left.ensures.found ∙ is.found;
+      marks = c.fill_if_left.ensures.marks ∙ is.marks;
+      words = c.fill_if_left.ensures.words
+          ∙ turn_is g (config_of now) m (memory_of now) found c.args.left r i c.requires.region c.requires.can some is.config is.words c.base-first.result c.base-first.ensures c.if-ends_at.object object (found_of now) is.found;
+      object = object ∙ ap (λ k. base_of g r + start_of (λ a. m (Heap a)) (base_of g r) k) last;
+    }
+
+pub returns-clause-words : goal.returns-clause-words
+returns-clause-words c =
+    let g = config_of c.args.self.now in
+    let m : Word → ℕ = memory_of c.args.self.now in
+    let found = found_of c.args.self.now in
+    let r = c.args.region in
+    let all : c.loop-offset.offset ≡ m (Top r) = omega (arith, c.loop-offset-test.false, c.loop-offset.auto.offset-end, c.top-top.ensures) in
+    c.loop-offset.invariant.words ∙ ap (λ k. filled_at g (is_below g r k) (is_left_over m found c.args.left) m) all
+    ∙ filled_all g m r c.requires.region c.requires.can (is_left_over m found c.args.left) (left_is_object m found c.args.left)

@@ -1,0 +1,8 @@
+use Rattle.std.proofs.Common.{◌≡◌, ℕ, ◌<◌, false}
+use Rattle.heap_words.specs.Words.{Pin}
+use Rattle.full_words.specs.Pinned.{lies_in}
+use Rattle.image_graph.specs.State.{config_of, memory_of}
+use Rattle.image_graph.proofs.image.Image.has_pin.Given as goal
+
+abbrev pub invariant-loop-slot : goal.invariant-loop-slot
+invariant-loop-slot l = (i : ℕ) → i < l.slot → lies_in (config_of l.self) l.region (memory_of l.self (Pin l.mutator i)) ≡ false

@@ -1,0 +1,23 @@
+use Rattle.std.proofs.Common.{◌≡◌, sym, ap, ◌∙◌, ⊎_elim, arith}
+use Rattle.std.proofs.lemmas.Bool.{cases_eq}
+use Rattle.full_words.specs.Pinned.{has_pin}
+use Rattle.image_graph.specs.State.{config_of, memory_of}
+use Rattle.full_words.proofs.PinnedRows.{range_has_any}
+use Rattle.image_graph.proofs.RegionSets.{none_passes}
+use Rattle.image_graph.proofs.image.Image.is_pinned.Goals as goal
+
+pub loop-mutator-preserved : goal.loop-mutator-preserved
+loop-mutator-preserved c = λ t below. ⊎_elim
+    (λ (last : t ≡ c.loop-mutator.mutator). ap (has_pin (config_of c.args.self.now) (memory_of c.args.self.now) c.args.region) last ∙ sym c.has_pin.ensures ∙ c.if-has_pin.false)
+    (λ other. c.loop-mutator.invariant t (omega (arith, below, other)))
+    (cases_eq t c.loop-mutator.mutator)
+
+pub returns-then-has_pin : goal.returns-then-has_pin
+returns-then-has_pin c =
+    let g = config_of c.args.self.now in
+    sym (range_has_any (has_pin g (memory_of c.args.self.now) c.args.region) g.mutators c.loop-mutator.mutator (omega (arith, c.loop-mutator-test.true, c.mutators-mutator-end.ensures)) (sym c.has_pin.ensures ∙ c.if-has_pin.true))
+
+pub returns : goal.returns
+returns c =
+    let g = config_of c.args.self.now in
+    sym (none_passes (has_pin g (memory_of c.args.self.now) c.args.region) g.mutators (λ t below. c.loop-mutator.invariant t (omega (arith, below, c.loop-mutator-test.false, c.mutators-mutator-end.ensures))))

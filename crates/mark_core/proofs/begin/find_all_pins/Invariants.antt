@@ -1,0 +1,12 @@
+use Rattle.std.proofs.Common.{◌≡◌}
+use Rattle.full_words.specs.Pinned.{pins_below}
+use Rattle.heap_graph.specs.Walk.{with_addresses}
+use Rattle.image_graph.specs.State.{memory_of, found_of, AreFound, IsUnchanged}
+use Rattle.mark_core.proofs.begin.find_all_pins.Given as goal
+
+abbrev pub invariant-loop-mutator : goal.invariant-loop-mutator
+invariant-loop-mutator l = record {
+  unchanged : IsUnchanged l.fn.image l.image;
+  found : AreFound l.image;
+  noted : found_of l.image ≡ with_addresses (found_of l.fn.image) (pins_below (memory_of l.fn.image) l.mutator);
+}

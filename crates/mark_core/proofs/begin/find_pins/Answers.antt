@@ -1,0 +1,33 @@
+use Rattle.std.proofs.Common.{◌≡◌, ◌<◌, map, sym, ap, ◌∙◌, arith}
+use Rattle.std.specs.List.{range_with_len}
+use Rattle.heap_words.specs.declared.config.Config.{Config}
+use Rattle.heap_words.specs.Words.{Pin, word_at}
+use Rattle.heap_graph.specs.Walk.{with_addresses}
+use Rattle.image_graph.specs.State.{memory_of, found_of}
+use Rattle.image_graph.proofs.Same.{memory_same, both}
+use Rattle.mark_core.proofs.Listed.{noted_step}
+use Rattle.mark_core.proofs.begin.find_pins.Goals as goal
+
+pub loop-slot-preserved : goal.loop-slot-preserved
+loop-slot-preserved c =
+    let t = c.args.mutator in
+    let i = c.loop-slot.slot in
+    let old = c.args.image.now in
+    let now = c.loop-slot.image in
+    let same = c.loop-slot.invariant.unchanged in
+    let few : i < 4 = c.loop-slot-test.true in
+    let value : c.word-word.result ≡ memory_of now (Pin t i) =
+    c.word-word.ensures.named (Pin t i) (omega (arith, c.requires.mutator, ap (λ (k : Config). k.mutators) same.config), few)
+    (ap (λ (k : Config). word_at k (Pin t i)) (same.config ∙ sym c.config-config.ensures) ∙ sym c.pin_at.ensures) in
+    record {
+      unchanged = both old now c.find.new.self same c.find.ensures.unchanged;
+      found = c.find.ensures.found;
+      noted = noted_step (found_of old) (found_of now) (found_of c.find.new.self) (λ j. memory_of old (Pin t j)) i c.word-word.result c.loop-slot.invariant.noted
+          (value ∙ ap (λ m. m (Pin t i)) (memory_same old now same)) c.find.ensures.noted;
+    }
+
+pub returns-clause-noted : goal.returns-clause-noted
+returns-clause-noted c =
+    let old = c.args.image.now in
+    let all : c.loop-slot.slot ≡ 4 = omega (arith, c.loop-slot-test.false, c.loop-slot.auto.slot-end) in
+    c.loop-slot.invariant.noted ∙ ap (λ n. with_addresses (found_of old) (map (λ i. memory_of old (Pin c.args.mutator i)) (range_with_len 0 n))) all
