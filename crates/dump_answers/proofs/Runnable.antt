@@ -11,7 +11,7 @@ use Rattle.trace_grammar.specs.Spelling.{line, schedule_line}
 use Rattle.trace_grammar.specs.Grammar.{scripts_of}
 use Rattle.dump_writing.specs.Dumped.{Dumped, most_made}
 use Rattle.dump_writing.specs.DumpText.{dump_text}
-use Rattle.dump_reading.specs.Resumes.{Resumes, mark_line}
+use Rattle.dump_reading.specs.Resumes.{run_version, Resumes, mark_line}
 use Rattle.dump_runs.specs.Resumed.{IsRunnableAfter}
 use Rattle.dump_answers.proofs.ScriptLines.{count_scripts, valid_script, short_script, items_in_seats}
 
@@ -31,7 +31,7 @@ module _ (bytes : List ℕ) (d : Dumped) (scripts : List (List Command)) (items 
       (All-from_get_or IsRunnableAfter (scripts_of d.config.mutators reads.lines) [] (λ t within.
       let count = count_scripts d.config.mutators reads.lines in
       let below : t < d.config.mutators = omega (arith, within, count) in
-      (valid_script d.config.mutators reads.lines t reads.in_range below, few_commands t below)))
+      (valid_script run_version d.config.mutators reads.lines t reads.in_range below, few_commands t below)))
 
   pub items_read : All (IsInSeats d.config) items
   items_read = subst (All (IsInSeats d.config)) (sym reads.in_order) (items_in_seats d.config reads.turns reads.turns_in_range)

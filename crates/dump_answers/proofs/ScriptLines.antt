@@ -16,9 +16,9 @@ use Rattle.trace_grammar.specs.Spelling.{TraceLine, IsLine, line, space, newline
 use Rattle.trace_grammar.specs.Grammar.{scripts_of, items_of, commands_in}
 
 -- the commands of lines in range are valid
-valid_lines : (threads : ℕ) (lines : List TraceLine) (t : ℕ) → AllByRecursion (IsLine threads) lines → AllByRecursion IsValid (commands_in lines t)
-valid_lines threads [] t all = tt
-valid_lines threads (l ∷ lines) t all = by_thread (eqb l.thread t) (valid_lines threads lines t all.1)
+valid_lines : (version threads : ℕ) (lines : List TraceLine) (t : ℕ) → AllByRecursion (IsLine version threads) lines → AllByRecursion IsValid (commands_in lines t)
+valid_lines version threads [] t all = tt
+valid_lines version threads (l ∷ lines) t all = by_thread (eqb l.thread t) (valid_lines version threads lines t all.1)
   where
     by_thread : (own : Bool) → AllByRecursion IsValid (commands_in lines t) → AllByRecursion IsValid (map (λ x. x.command) (cond own (l ∷ filter (λ x. eqb x.thread t) lines) (filter (λ x. eqb x.thread t) lines)))
     by_thread true others = (all.0.valid, others)
@@ -32,13 +32,13 @@ script_at threads lines t below =
     let none : List Command = [] in
     get_or-map-range_with_len (commands_in lines) 1 threads t (t + 1) none below (omega arith)
 
-pub valid_script : (threads : ℕ) (lines : List TraceLine) (t : ℕ) → AllByRecursion (IsLine threads) lines → t < threads → All IsValid (get_or (scripts_of threads lines) t [])
-valid_script threads lines t in_range below =
-    subst (All IsValid) (sym (script_at threads lines t below)) (All-from_recursion IsValid _ (valid_lines threads lines (t + 1) in_range))
+pub valid_script : (version threads : ℕ) (lines : List TraceLine) (t : ℕ) → AllByRecursion (IsLine version threads) lines → t < threads → All IsValid (get_or (scripts_of threads lines) t [])
+valid_script version threads lines t in_range below =
+    subst (All IsValid) (sym (script_at threads lines t below)) (All-from_recursion IsValid _ (valid_lines version threads lines (t + 1) in_range))
 
-pub valid_scripts : (threads : ℕ) (lines : List TraceLine) → AllByRecursion (IsLine threads) lines → All (All IsValid) (scripts_of threads lines)
-valid_scripts threads lines in_range =
-    All-from_get_or (All IsValid) (scripts_of threads lines) [] (λ t within. let count = count_scripts threads lines in valid_script threads lines t in_range (omega (arith, within, count)))
+pub valid_scripts : (version threads : ℕ) (lines : List TraceLine) → AllByRecursion (IsLine version threads) lines → All (All IsValid) (scripts_of threads lines)
+valid_scripts version threads lines in_range =
+    All-from_get_or (All IsValid) (scripts_of threads lines) [] (λ t within. let count = count_scripts threads lines in valid_script version threads lines t in_range (omega (arith, within, count)))
 
 -- a script has no more commands than its lines have bytes
 some_bytes : (l : TraceLine) → 1 ≤ length (line l)

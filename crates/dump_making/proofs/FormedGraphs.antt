@@ -1,16 +1,17 @@
 -- The graph of a legal history is formed: its names are those of the hub and of objects that threads made, and fields and numbers are in
 -- range.
 use Rattle.std.proofs.Common.{◌≡◌, ◌⊎◌, inl, inr, ℕ, ◌+◌, ◌^◌, ◌<◌, ◌≤◌, ◌&&◌, Bool, true, false, cond, eqb, List, [], ◌∷◌, length, Option, Some, None, refl, sym, ap, ◌∙◌, subst, arith, All}
-use Rattle.std.specs.Prelude.{slice_get, slice_set, unwrap_or}
+use Rattle.std.specs.Prelude.{slice_get, slice_set, unwrap_or, is_some}
 use Rattle.std.proofs.lemmas.List.{length-replicate, length-set}
 use Rattle.std.proofs.lemmas.List.Elements.{All-nil, All-replicate, All-set, All-head, All-tail}
 use Rattle.std.proofs.lemmas.Option.{slice_get_within, get_or_from_slice_get, same_Some}
 use Rattle.std.proofs.lemmas.Bool.Decides.{nat_tests}
 use Rattle.shen_graph.specs.declared.name.Name.{Name}
 use Rattle.shen_graph.specs.declared.command.Command.{Command}
-use Rattle.shen_graph.specs.declared.command.Command.TheVariants.{New, Get, Set, Cas, Xchg, Rd, Wr, Copy, Drop, Same, Gc}
-use Rattle.shen_graph.specs.Graph.{Reference, Object, Graph, same_name, same_reference, hub, blank, named, field_at, number_at, with_root, with_object, with_named, with_field, with_number, with_fresh, fresh, opening}
-use Rattle.shen_graph.specs.Step.{Outcome, on, outcome, IsLegal}
+use Rattle.shen_graph.specs.declared.command.Command.TheVariants.{New, Get, Set, Cas, Xchg, Rd, Wr, Copy, Drop, Same, Gc, Pin, Unpin}
+use Rattle.shen_graph.specs.declared.pin.Pinned.{Pinned}
+use Rattle.shen_graph.specs.Graph.{Reference, Object, Graph, same_name, same_reference, hub, blank, named, field_at, number_at, with_root, with_object, with_named, with_field, with_number, with_fresh, with_pin, fresh, opening}
+use Rattle.shen_graph.specs.Step.{Outcome, on, outcome, pinned_by, name_in, slot_of, IsLegal}
 use Rattle.shen_graph.specs.Valid.{IsValid, FitsValue}
 use Rattle.shen_graph.specs.History.{Entry, after, after_entry, EachIsLegal}
 use Rattle.shen_graph.proofs.PlainLemmas.{same_name-true}
@@ -48,6 +49,7 @@ pub record IsFormed (threads : ℕ) (g : Graph) : Type 0 where
   pub within : (t r : ℕ) (n : Name) → g.root t r ≡ Some n → IsRootWithin threads t r
   pub object : (n : Name) (o : Object) → g.object n ≡ Some o → IsFormedObject threads g.count n o
   pub hub_there : (o : Object) × (g.object hub ≡ Some o)
+  pub pin : (t s : ℕ) → IsKnown threads g.count (name_in (g.pin t s))
 
 -- ---- more objects
 
@@ -112,6 +114,7 @@ root_formed threads g t r value first last low known formed = record {
   within = λ u s n is. by_thread u s n (eqb u t) (eqb s r) refl refl is;
   object = formed.object;
   hub_there = formed.hub_there;
+  pin = formed.pin;
 }
   where
     by_thread : (u s : ℕ) (n : Name) (a b : Bool) → eqb u t ≡ a → eqb s r ≡ b → cond (a && b) value (g.root u s) ≡ Some n → IsRootWithin threads u s
@@ -137,6 +140,21 @@ object_formed threads g n o fits formed = record {
   within = formed.within;
   object = λ m p e. object_either threads g.count n m (same_name m n) o (g.object m) p (λ same. same_name-true m n same) fits (λ other. formed.object m p other) e;
   hub_there = there_either (same_name hub n) o (g.object hub) formed.hub_there;
+  pin = formed.pin;
+}
+
+held_either : (threads : ℕ) (count : ℕ → ℕ) (b : Bool) (x y : Option Pinned) → IsKnown threads count (name_in x) → IsKnown threads count (name_in y) → IsKnown threads count (name_in (cond b x y))
+held_either threads count true x y p q = p
+held_either threads count false x y p q = q
+
+-- a pin slot holds something else
+pin_formed : (threads : ℕ) (g : Graph) (t slot : ℕ) (held : Option Pinned) → IsKnown threads g.count (name_in held) → IsFormed threads g → IsFormed threads (with_pin g t slot held)
+pin_formed threads g t slot held known formed = record {
+  root = formed.root;
+  within = formed.within;
+  object = formed.object;
+  hub_there = formed.hub_there;
+  pin = λ u s. held_either threads g.count (eqb u t && eqb s slot) held (g.pin u s) known (formed.pin u s);
 }
 
 -- the object that a reference names has other references, as many
@@ -177,6 +195,7 @@ fresh_formed threads g t refs nums first last few_refs few_nums formed = record 
   within = formed.within;
   object = λ m p e. object_either threads more n m (same_name m n) (blank refs nums) (g.object m) p (λ same. same_name-true m n same) blank_formed (λ other. more_formed threads g.count more m p up (formed.object m p other)) e;
   hub_there = there_either (same_name hub n) (blank refs nums) (g.object hub) formed.hub_there;
+  pin = λ u s. more_known threads g.count more _ up (formed.pin u s);
 }
   where
     n : Name
@@ -256,6 +275,24 @@ outcome_formed threads g t (Copy dst src) first last valid fits formed = root_fo
 outcome_formed threads g t (Drop dst) first last valid fits formed = root_formed threads g t dst None first last valid tt formed
 outcome_formed threads g t (Same a b) first last valid fits formed = formed
 outcome_formed threads g t Gc first last valid fits formed = formed
+outcome_formed threads g t (Pin slot obj) first last valid fits formed = formed
+outcome_formed threads g t (Unpin slot) first last valid fits formed = on_formed threads (g.pin t slot) g _ formed (λ v there. pin_formed threads g t slot None tt formed)
+
+-- what a command pins is known
+pinned_known : (threads : ℕ) (g : Graph) (t : ℕ) (c : Command) → IsFormed threads g → IsKnown threads g.count (pinned_by g t c)
+pinned_known threads g t (New dst refs nums) formed = tt
+pinned_known threads g t (Get dst src field) formed = tt
+pinned_known threads g t (Set obj field val) formed = tt
+pinned_known threads g t (Cas obj field expect val) formed = tt
+pinned_known threads g t (Xchg dst obj field val) formed = tt
+pinned_known threads g t (Rd obj index) formed = tt
+pinned_known threads g t (Wr obj index value) formed = tt
+pinned_known threads g t (Copy dst src) formed = tt
+pinned_known threads g t (Drop dst) formed = tt
+pinned_known threads g t (Same a b) formed = tt
+pinned_known threads g t Gc formed = tt
+pinned_known threads g t (Pin slot obj) formed = known_either threads g.count (is_some (g.pin t slot)) None (g.root t obj) tt (formed.root t obj)
+pinned_known threads g t (Unpin slot) formed = tt
 
 -- ---- histories
 
@@ -265,6 +302,7 @@ opening_formed threads = record {
   within = λ t r n is. grind (arith, nat_tests);
   object = λ n o e. object_either threads (λ _. 0) hub n (same_name n hub) (blank 16 0) None o (λ same. same_name-true n hub same) hub_formed (λ none. absurd cc) e;
   hub_there = (blank 16 0, refl);
+  pin = λ t s. tt;
 }
   where
     hub_formed : IsFormedObject threads (λ _. 0) hub (blank 16 0)
@@ -277,12 +315,16 @@ opening_formed threads = record {
       hub_nums = λ is. refl;
     }
 
-entry_formed : (threads : ℕ) (g : Graph) (e : Entry) (h : Graph) → IsEntryInRange threads e → IsLegal g e.thread e.command e.reply h → IsFormed threads g → IsFormed threads h
-entry_formed threads g e h range (inl told) formed =
-    subst (IsFormed threads) (sym (ap (λ (o : Outcome). o.graph) told)) (outcome_formed threads g e.thread e.command range.from_first range.to_last range.valid range.fits formed)
-entry_formed threads g e h range (inr full) formed = subst (IsFormed threads) (sym full.2) formed
+entry_formed : (threads regions region_words : ℕ) (g : Graph) (e : Entry) (h : Graph) → IsEntryInRange threads e → IsLegal regions region_words g e.thread e.command e.reply h → IsFormed threads g → IsFormed threads h
+entry_formed threads regions region_words g e h range (inl told) formed =
+    subst (IsFormed threads) (sym (ap (λ (o : Outcome). o.graph) told.1)) (outcome_formed threads g e.thread e.command range.from_first range.to_last range.valid range.fits formed)
+entry_formed threads regions region_words g e h range (inr (inl full)) formed = subst (IsFormed threads) (sym full.2) formed
+entry_formed threads regions region_words g e h range (inr (inr pinning)) formed =
+    let known = subst (IsKnown threads g.count) pinning.pins (pinned_known threads g e.thread e.command formed) in
+    subst (IsFormed threads) (sym pinning.graph) (pin_formed threads g e.thread (slot_of e.command) (Some (record { name = pinning.name; place = pinning.place })) known formed)
 
-pub history_formed : (threads : ℕ) (g : Graph) (es : List Entry) → EachIsLegal g es → All (IsEntryInRange threads) es → IsFormed threads g → IsFormed threads (after g es)
-history_formed threads g [] legal range formed = formed
-history_formed threads g (e ∷ es) legal range formed =
-    history_formed threads (after_entry g e) es legal.1 (All-tail (IsEntryInRange threads) e es range) (entry_formed threads g e (after_entry g e) (All-head (IsEntryInRange threads) e es range) legal.0 formed)
+pub history_formed : (threads regions region_words : ℕ) (g : Graph) (es : List Entry) → EachIsLegal regions region_words g es → All (IsEntryInRange threads) es → IsFormed threads g → IsFormed threads (after g es)
+history_formed threads regions region_words g [] legal range formed = formed
+history_formed threads regions region_words g (e ∷ es) legal range formed =
+    history_formed threads regions region_words (after_entry g e) es legal.1 (All-tail (IsEntryInRange threads) e es range)
+    (entry_formed threads regions region_words g e (after_entry g e) (All-head (IsEntryInRange threads) e es range) legal.0 formed)

@@ -3,7 +3,7 @@ use Rattle.std.proofs.Common.{◌≡◌, ◌⊎◌, inl, inr, ℕ, ◌+◌, ◌�
 use Rattle.std.proofs.lemmas.List.Sums.{sum_by-cons}
 use Rattle.std.proofs.lemmas.Bool.Decides.{nat_tests}
 use Rattle.shen_graph.specs.declared.command.Command.{Command}
-use Rattle.shen_graph.specs.declared.command.Command.TheVariants.{New, Get, Set, Cas, Xchg, Rd, Wr, Copy, Drop, Same, Gc}
+use Rattle.shen_graph.specs.declared.command.Command.TheVariants.{New, Get, Set, Cas, Xchg, Rd, Wr, Copy, Drop, Same, Gc, Pin, Unpin}
 use Rattle.shen_graph.specs.declared.command.Reply.{Reply}
 use Rattle.shen_graph.specs.declared.command.Reply.TheVariants.{Ref}
 use Rattle.shen_graph.specs.Graph.{Reference, Object, Graph, same_reference, named, with_named, field_at, number_at, opening}
@@ -52,6 +52,8 @@ other-count g u t (Copy dst src) other = refl
 other-count g u t (Drop dst) other = refl
 other-count g u t (Same a b) other = refl
 other-count g u t Gc other = refl
+other-count g u t (Pin slot obj) other = refl
+other-count g u t (Unpin slot) other = on-count (g.pin u slot) g _ t (λ v. refl)
 
 -- ---- entries
 
@@ -88,18 +90,23 @@ told-count g u t (Copy dst src) r h told = other-told g u t (Copy dst src) r h r
 told-count g u t (Drop dst) r h told = other-told g u t (Drop dst) r h refl told
 told-count g u t (Same a b) r h told = other-told g u t (Same a b) r h refl told
 told-count g u t Gc r h told = other-told g u t Gc r h refl told
+told-count g u t (Pin slot obj) r h told = other-told g u t (Pin slot obj) r h refl told
+told-count g u t (Unpin slot) r h told = other-told g u t (Unpin slot) r h refl told
 
-entry-count : (g : Graph) (e : Entry) (h : Graph) (t : ℕ) → IsLegal g e.thread e.command e.reply h → h.count t ≡ g.count t + one_if (has_made t e)
-entry-count g e h t (inl told) = told-count g e.thread t e.command e.reply h told
-entry-count g e h t (inr full) = ap (λ (k : Graph). k.count t) full.2 ∙ no_name (eqb e.thread t) (is_allocation e.command) (is_name_reply e.reply) (g.count t) (ap is_name_reply full.1)
+entry-count : (regions region_words : ℕ) (g : Graph) (e : Entry) (h : Graph) (t : ℕ) → IsLegal regions region_words g e.thread e.command e.reply h → h.count t ≡ g.count t + one_if (has_made t e)
+entry-count regions region_words g e h t (inl told) = told-count g e.thread t e.command e.reply h told.1
+entry-count regions region_words g e h t (inr (inl full)) =
+    ap (λ (k : Graph). k.count t) full.2 ∙ no_name (eqb e.thread t) (is_allocation e.command) (is_name_reply e.reply) (g.count t) (ap is_name_reply full.1)
+entry-count regions region_words g e h t (inr (inr pinning)) =
+    ap (λ (k : Graph). k.count t) pinning.graph ∙ no_name (eqb e.thread t) (is_allocation e.command) (is_name_reply e.reply) (g.count t) (ap is_name_reply pinning.reply)
 
 -- ---- histories
 
 count_cons : (first rest end n one all : ℕ) → first ≡ n + one → end ≡ first + rest → all ≡ one + rest → end ≡ n + all
 count_cons first rest end n one all p q r = omega (arith, p, q, r)
 
-pub made-count : (g : Graph) (es : List Entry) (t : ℕ) → EachIsLegal g es → (after g es).count t ≡ g.count t + objects_made es t
-made-count g [] t legal = omega arith
-made-count g (e ∷ es) t legal =
+pub made-count : (regions region_words : ℕ) (g : Graph) (es : List Entry) (t : ℕ) → EachIsLegal regions region_words g es → (after g es).count t ≡ g.count t + objects_made es t
+made-count regions region_words g [] t legal = omega arith
+made-count regions region_words g (e ∷ es) t legal =
     count_cons ((after_entry g e).count t) (objects_made es t) ((after (after_entry g e) es).count t) (g.count t) (one_if (has_made t e)) (objects_made (e ∷ es) t)
-    (entry-count g e (after_entry g e) t legal.0) (made-count (after_entry g e) es t legal.1) (sum_by-cons (λ (x : Entry). one_if (has_made t x)) e es)
+    (entry-count regions region_words g e (after_entry g e) t legal.0) (made-count regions region_words (after_entry g e) es t legal.1) (sum_by-cons (λ (x : Entry). one_if (has_made t x)) e es)

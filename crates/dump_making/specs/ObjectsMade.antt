@@ -1,6 +1,7 @@
 -- Histories whose graph has a dump, and how many objects their threads made.
 use Rattle.std.specs.Prelude.{ℕ, ◌≤◌, ◌==◌, ◌&&◌, Bool, true, false, List, map, All, count_by}
 use Rattle.std.specs.List.{range_with_len}
+use Rattle.heap_words.specs.declared.config.Config.{Config}
 use Rattle.shen_graph.specs.declared.command.Command.{Command}
 use Rattle.shen_graph.specs.declared.command.Command.TheVariants.{New}
 use Rattle.shen_graph.specs.declared.command.Reply.{Reply}
@@ -37,9 +38,9 @@ pub record IsEntryInRange (threads : ℕ) (e : Entry) : Type 0 where
   pub valid : IsValid e.command
   pub fits : FitsValue e.command
 
--- A legal history of so many threads from the opening on, whose commands are in range, and in which no thread made too many objects
--- for a dump.
-pub record IsDumpable (threads : ℕ) (history : List Entry) : Type 0 where
-  pub each : EachIsLegal (opening threads) history
-  pub entries : All (IsEntryInRange threads) history
+-- A legal history of the threads of a heap from the opening on, whose commands are in range, and in which no thread made too many
+-- objects for a dump.
+pub record IsDumpable (c : Config) (history : List Entry) : Type 0 where
+  pub each : EachIsLegal c.regions c.region_words (opening c.mutators) history
+  pub entries : All (IsEntryInRange c.mutators) history
   pub few : (thread : ℕ) → objects_made history thread ≤ most_made

@@ -64,7 +64,7 @@ pub fn dump_of(
     graph: &GraphText,
 ) -> Result<Dump, NoMemory>
     requires narrow { IsNarrow config }
-    requires history { IsDumpable config.mutators history.now.list }
+    requires history { IsDumpable config history.now.list }
     requires graph { ShowsGraph graph.now config.mutators (after (opening config.mutators) history.now.list) }
     ensures is_dump { IfOk result (λ d. IsDump (dumped d.config d.counts d.graph)) }
     ensures dump { IfOk result (λ d. IsDumpOf config (after (opening config.mutators) history.now.list) (dumped d.config d.counts d.graph)) }

@@ -20,10 +20,10 @@ use Rattle.trace_reading.specs.Stops.{HasReadBody, StopsBody}
 use Rattle.trace_reading.specs.declared.fault.TraceFault.{TraceFault}
 use Rattle.trace_reading.specs.declared.fault.TraceFault.TheVariants.{BadLine, NoMemory}
 use Rattle.dump_writing.specs.Dumped.{Dumped, IsDump, dumped, most_made}
-use Rattle.dump_reading.specs.Resumes.{Resumes, mark_line}
+use Rattle.dump_reading.specs.Resumes.{run_version, Resumes, mark_line}
 use Rattle.dump_reading.specs.DumpLines.{DumpStage, Version, Counts, Listed, Behind, DumpLead, DumpRefused, Spells}
 use Rattle.dump_reading.specs.HeldReferences.{held, held_row}
-use Rattle.dump_reading.specs.RowsReached.{graph_from}
+use Rattle.dump_writing.specs.RowsReached.{graph_from}
 use Rattle.dump_reading.specs.Steps.{Leads, StopsAt, IsStop}
 use Rattle.dump_reading.specs.Listing.{listed, HasTakenRows, HasTakenRoots, IsHeldDump}
 use Rattle.dump_reading.proofs.RowWords.{len_map}
@@ -131,17 +131,17 @@ module _ (config : Config) (counts b0 b1 b2 b3 b4 : List ℕ) (lines : ℕ) (g0 
     is_dump : IsDump whole × (g2.rows ≡ rowed.rows) × (g2.roots ≡ all)
     is_dump = held_is_dump whole g2 held_now few_now reach
 
-    pub to_mark : Leads Version b0 b5 (4 + (lines + length g1.roots) + 1) (Behind (Commands config))
+    pub to_mark : Leads Version b0 b5 (4 + (lines + length g1.roots) + 1) (Behind (Commands run_version config))
     to_mark =
-        leads_both Version (Listed whole) (Behind (Commands config)) b0 b4 b5 (4 + (lines + length g1.roots)) 1 to_roots
-        (leads_one (Listed whole) (Behind (Commands config)) b4 text b5 cut (inr (inr (is_dump.0, mark, refl))))
+        leads_both Version (Listed whole) (Behind (Commands run_version config)) b0 b4 b5 (4 + (lines + length g1.roots)) 1 to_roots
+        (leads_one (Listed whole) (Behind (Commands run_version config)) b4 text b5 cut (inr (inr (is_dump.0, mark, refl))))
 
-    pub bad_trace : (first n : ℕ) (why : Why) → first ≡ 5 + lines + length g1.roots + 1 → length b0 ≤ most_bytes → StopsBody config first b5 n why → DumpRefused b0 n why
+    pub bad_trace : (first n : ℕ) (why : Why) → first ≡ 5 + lines + length g1.roots + 1 → length b0 ≤ most_bytes → StopsBody run_version config first b5 n why → DumpRefused b0 n why
     bad_trace first n why number short stops =
         refused b0 n why short
-        (stops_behind Version (Behind (Commands config)) 1 first b0 b5 (4 + (lines + length g1.roots) + 1) n why to_mark (omega (arith, number)) (body_stops config first b5 n why stops))
+        (stops_behind Version (Behind (Commands run_version config)) 1 first b0 b5 (4 + (lines + length g1.roots) + 1) n why to_mark (omega (arith, number)) (body_stops config first b5 n why stops))
 
-    pub resumes : (scripts : List (List Command)) (items : List Item) → length b0 ≤ most_bytes → HasReadBody config b5 scripts items → Resumes b0 (dumped config counts g2) scripts items
+    pub resumes : (scripts : List (List Command)) (items : List Item) → length b0 ≤ most_bytes → HasReadBody run_version config b5 scripts items → Resumes b0 (dumped config counts g2) scripts items
     resumes scripts items short body =
         let smalls = dump_small whole is_dump.0 (omega (arith, sizes.0, threads, few)) in
         let same : whole ≡ dumped config counts g2 =

@@ -6,40 +6,22 @@ use Rattle.std.proofs.lemmas.List.Elements.{All-get_or}
 use Rattle.shen_graph.specs.declared.name.Name.{Name}
 use Rattle.shen_graph.specs.Graph.{Graph, Reference, hub}
 use Rattle.shen_graph.specs.GraphText.{Row, Text, bare, names_of, row_of}
-use Rattle.shen_graph.specs.PlainGraph.{graph_of}
 use Rattle.shen_graph.specs.Reach.{IsReachable, IsReach}
-use Rattle.shen_graph.specs.Reach.IsReachable.{from_root, from_field}
+use Rattle.dump_writing.proofs.Counted.{counted, reach_again}
 use Rattle.dump_writing.specs.Dumped.{Dumped, IsNamed, IsRow, IsDump, IsInForm, most_made, names_in, graph_in}
 use Rattle.dump_reading.specs.HeldReferences.{held, held_name, held_row}
-use Rattle.dump_reading.specs.RowsReached.{graph_from}
+use Rattle.dump_writing.specs.RowsReached.{graph_from}
 use Rattle.trace_grammar.specs.Spelling.{newline}
 use Rattle.trace_refusals.specs.Causes.{is_same}
 use Rattle.trace_refusals.proofs.Heads.{same_before_end}
 use Rattle.dump_reading.specs.Resumes.{mark_line}
 use Rattle.dump_reading.specs.DumpLines.{DumpStage, DumpFollows, Listed, Spells}
 use Rattle.dump_reading.specs.Listing.{IsHeldDump}
-use Rattle.dump_reading.proofs.Ordered.{lt_or_ge}
+use Rattle.dump_writing.proofs.Ordered.{lt_or_ge}
 use Rattle.dump_reading.proofs.References.{named_small, held_small, held_named, not_same}
 use Rattle.dump_reading.proofs.RowWords.{len_map}
 use Rattle.dump_reading.proofs.Spelled.{AreSmall}
-use Rattle.dump_reading.proofs.RowMarks.{field_at, root_led, there_row, row_there}
-
--- ---- what a graph leads to does not rest on its counts
-
-abbrev counted : List Row → List (List Reference) → List ℕ → Graph
-counted rows roots counts = graph_of (record { rows = rows; roots = [] ∷ roots; counts = counts })
-
-reachable_again : (rows : List Row) (roots : List (List Reference)) (counts more : List ℕ) (n : Name) → IsReachable (counted rows roots counts) n → IsReachable (counted rows roots more) n
-unfolding graph_of
-reachable_again rows roots counts more _ (from_root thread root n is) = from_root thread root n is
-reachable_again rows roots counts more _ (from_field m n field before is) = from_field m n field (reachable_again rows roots counts more m before) is
-
-reach_again : (rows : List Row) (roots : List (List Reference)) (counts more : List ℕ) (names : List Name) → IsReach (counted rows roots counts) names → IsReach (counted rows roots more) names
-reach_again rows roots counts more names r = record {
-  in_order = r.in_order;
-  all = λ n led. r.all n (reachable_again rows roots more counts n led);
-  only = λ n there. reachable_again rows roots counts more n (r.only n there);
-}
+use Rattle.dump_writing.proofs.RowMarks.{field_at, root_led, there_row, row_there}
 
 -- ---- references that are held as they are
 
@@ -101,10 +83,10 @@ module _ (counts : List ℕ) (t : Text) (reach : IsReach (graph_from t) (names_o
 -- ---- a dump and what is held of it
 
 abbrev text_in : Dumped → Text
-text_in d = record { rows = d.rows; roots = d.roots; spare = 0; room = 0 }
+text_in d = record { rows = d.rows; roots = d.roots; pins = []; spare = 0; room = 0 }
 
 abbrev text_held : Dumped → Text
-text_held d = record { rows = map held_row d.rows; roots = map (map held) d.roots; spare = 0; room = 0 }
+text_held d = record { rows = map held_row d.rows; roots = map (map held) d.roots; pins = []; spare = 0; room = 0 }
 
 module _ (d : Dumped) (form : IsInForm d) (few : length d.counts ≤ 8) where
   small : (k : ℕ) → slice_index d.counts k < 2 ^ 32

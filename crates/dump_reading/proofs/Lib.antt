@@ -3,8 +3,6 @@ pub mod Strokes
 pub mod TakenFields
 pub mod RowWords
 pub mod TakenRoots
-pub mod Ordered
-pub mod RowMarks
 pub mod HeadLines
 pub mod Steps
 pub mod CountsLine

@@ -22,7 +22,7 @@ use Rattle.dump_reading.proofs.Strokes.{same_behind}
 use Rattle.dump_reading.proofs.RowWords.{one_name}
 use Rattle.dump_reading.proofs.TakenRoots.{decimal_once}
 use Rattle.dump_reading.proofs.Lined.{line_words, numbers_are_words, object_words, roots_words, mark_words, object_is_no_roots, object_is_no_mark, roots_is_no_mark}
-use Rattle.dump_reading.proofs.Ordered.{lt_or_ge}
+use Rattle.dump_writing.proofs.Ordered.{lt_or_ge}
 use Rattle.dump_reading.proofs.Steps.{IsDumping}
 
 heads : {A : Type 0} (x y : A) (xs ys : List A) → x ∷ xs ≡ y ∷ ys → (x ≡ y) × (xs ≡ ys)
@@ -87,7 +87,7 @@ word_at ws vs i e = ap (λ (l : List (List ℕ)). get_or l i []) e
 
 same_heap : (c d : Config) (text : List ℕ) → IsNarrow c → IsNarrow d → Spells text (heap_line c) → Spells text (heap_line d) → IsHeapOf c d
 same_heap c d text one other e f =
-    let same = sym (heap_again d text other f).2 ∙ (heap_again c text one e).2 in
+    let same = sym (heap_again 2 d text other f).2 ∙ (heap_again 2 c text one e).2 in
     let ws = codes "heap" ∷ heap_numbers d in
     let vs = codes "heap" ∷ heap_numbers c in
     record {
@@ -98,7 +98,7 @@ same_heap c d text one other e f =
 
 same_threads : (h c d : Config) (text : List ℕ) → IsHeapOf h c → IsHeapOf h d → Spells text (titled (codes "threads") (c.mutators ∷ c.helpers ∷ [])) → Spells text (titled (codes "threads") (d.mutators ∷ d.helpers ∷ [])) → c ≡ d
 same_threads h c d text one other e f =
-    let same = sym (threads_again 0 0 0 c text e).2 ∙ (threads_again 0 0 0 d text f).2 in
+    let same = sym (threads_again 2 0 0 0 c text e).2 ∙ (threads_again 2 0 0 0 d text f).2 in
     let ws = codes "threads" ∷ map decimal (c.mutators ∷ c.helpers ∷ []) in
     let vs = codes "threads" ∷ map decimal (d.mutators ∷ d.helpers ∷ []) in
     let m = decimal_once c.mutators d.mutators (omega (arith, c.in_range.most_mutators)) (omega (arith, d.in_range.most_mutators)) (word_at ws vs 1 same) in

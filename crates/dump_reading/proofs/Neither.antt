@@ -15,7 +15,7 @@ use Rattle.trace_refusals.specs.Refused.LineStage.{Version as TraceVersion, Heap
 use Rattle.trace_refusals.proofs.Lines.{whole_line, cut_line}
 use Rattle.trace_refusals.proofs.Leads.{Fits, follows, first_line, bytes_of_line, bytes_of_last}
 use Rattle.dump_writing.specs.Dumped.{Dumped, IsDump}
-use Rattle.dump_reading.specs.Resumes.{Resumes, mark_line}
+use Rattle.dump_reading.specs.Resumes.{run_version, Resumes, mark_line}
 use Rattle.dump_reading.specs.DumpLines.{DumpStage, Version, Heap, Threads, Counts, Listed, Behind, DumpFollows, StopsFor, DumpRefused, Spells, with_row, with_roots, ends_by}
 use Rattle.dump_reading.specs.Steps.{Leads}
 use Rattle.dump_reading.proofs.Steps.{IsDumping, leads_none, leads_one, leads_both, ends_here, refused_here}
@@ -33,7 +33,7 @@ ended-cons text texts whole others e f = flat_map-cons ended text texts ∙ ap (
 record AreBody (c : Config) (texts : List (List ℕ)) : Type 0 where
   lines : List TraceLine
   turns : List (List Item)
-  in_range : AllByRecursion (IsLine c.mutators) lines
+  in_range : AllByRecursion (IsLine run_version c.mutators) lines
   turns_in_range : AllByRecursion (IsScheduleLine c) turns
   spelled : flat_map ended texts ≡ flat_map line lines ++ flat_map schedule_line turns
 
@@ -44,11 +44,11 @@ of_turns c (text ∷ texts) last lead =
     let others = of_turns c texts last (subst (λ (s : LineStage). Lead s texts last) lead.1.1 lead.2) in
     (it.0 ∷ others.0, (it.1, others.1), ended-cons text texts (schedule_line it.0) (flat_map schedule_line others.0) it.2 others.2 ∙ sym (flat_map-cons schedule_line it.0 others.0))
 
-of_commands : (c : Config) (texts : List (List ℕ)) (last : LineStage) → Lead (Commands c) texts last → AreBody c texts
+of_commands : (c : Config) (texts : List (List ℕ)) (last : LineStage) → Lead (Commands run_version c) texts last → AreBody c texts
 of_commands c [] last lead = record { lines = []; turns = []; in_range = tt; turns_in_range = tt; spelled = refl }
 of_commands c (text ∷ texts) last lead = by_kind lead.0 lead.1 lead.2 (of_commands c texts last)
   where
-    by_kind : (next : LineStage) → LineFollows (Commands c) text next → Lead next texts last → (Lead (Commands c) texts last → AreBody c texts) → AreBody c (text ∷ texts)
+    by_kind : (next : LineStage) → LineFollows (Commands run_version c) text next → Lead next texts last → (Lead (Commands run_version c) texts last → AreBody c texts) → AreBody c (text ∷ texts)
     by_kind next (inl f) lead go =
         let it = f.0 in
         let others = go (subst (λ (s : LineStage). Lead s texts last) f.1 lead) in
@@ -84,10 +84,10 @@ some_byte bytes text rest e le = let size = ap length e in let sizes = length-ap
 -- the bytes end where a line of a trace may begin
 nothing_left : (stage : LineStage) (text : List ℕ) → end_cause stage text ≡ None → text ≡ []
 nothing_left TraceVersion text e = absurd cc
-nothing_left TraceHeap text e = absurd cc
-nothing_left (TraceThreads r w k) text e = absurd cc
-nothing_left (Commands c) [] e = refl
-nothing_left (Commands c) (b ∷ text) e = absurd cc
+nothing_left (TraceHeap v) text e = absurd cc
+nothing_left (TraceThreads v r w k) text e = absurd cc
+nothing_left (Commands v c) [] e = refl
+nothing_left (Commands v c) (b ∷ text) e = absurd cc
 nothing_left (Turns c) [] e = refl
 nothing_left (Turns c) (b ∷ text) e = absurd cc
 
@@ -110,25 +110,25 @@ module _ (b0 : List ℕ) (short : length b0 ≤ most_bytes) (none : (d : Dumped)
 
   module _ (c : Config) (b1 b2 b4 b5 mark : List ℕ) (d0 d : Dumped) (listed : ℕ) (is : IsDump d) (config : d.config ≡ c) (counts : d.counts ≡ d0.counts) (no_rows : d0.rows ≡ []) (no_roots : d0.roots ≡ [])
       (head : Leads Version b0 b1 3 (Counts c)) (counted : Leads (Counts c) b1 b2 1 (Listed d0)) (rowed : Leads (Listed d0) b2 b4 listed (Listed d)) (cut : parts 10 b4 ≡ mark ∷ parts 10 b5) (marked : Spells mark mark_line) where
-    to_mark : Leads Version b0 b5 (3 + 1 + listed + 1) (Behind (Commands c))
+    to_mark : Leads Version b0 b5 (3 + 1 + listed + 1) (Behind (Commands run_version c))
     to_mark =
-        leads_both Version (Listed d) (Behind (Commands c)) b0 b4 b5 (3 + 1 + listed) 1
+        leads_both Version (Listed d) (Behind (Commands run_version c)) b0 b4 b5 (3 + 1 + listed) 1
         (leads_both Version (Listed d0) (Listed d) b0 b2 b4 (3 + 1) listed (leads_both Version (Counts c) (Listed d0) b0 b1 b2 3 1 head counted) rowed)
-        (leads_one (Listed d) (Behind (Commands c)) b4 mark b5 cut (inr (inr (is, marked, ap (λ (k : Config). Behind (Commands k)) (sym config)))))
+        (leads_one (Listed d) (Behind (Commands run_version c)) b4 mark b5 cut (inr (inr (is, marked, ap (λ (k : Config). Behind (Commands run_version k)) (sym config)))))
 
     few_counts : length d.counts ≤ 8
     few_counts = omega (arith, is.form.threads, d.config.in_range.most_mutators)
 
     -- nothing is left
-    complete : (l : LineStage) (n : ℕ) → Leads (Behind (Commands c)) b5 [] n (Behind l) → ⊥
+    complete : (l : LineStage) (n : ℕ) → Leads (Behind (Commands run_version c)) b5 [] n (Behind l) → ⊥
     complete l n led =
-        let lead = behind_lead led.texts (Commands c) (Behind l) led.lead in
+        let lead = behind_lead led.texts (Commands run_version c) (Behind l) led.lead in
         let body = of_commands c led.texts lead.0 lead.2 in
         let smalls = dump_small d is few_counts in
         none d (scripts_of d.config.mutators body.lines) (items_of body.turns) (record {
           dump = is;
           lines = body.lines;
-          in_range = subst (λ (k : Config). AllByRecursion (IsLine k.mutators) body.lines) (sym config) body.in_range;
+          in_range = subst (λ (k : Config). AllByRecursion (IsLine run_version k.mutators) body.lines) (sym config) body.in_range;
           turns = body.turns;
           turns_in_range = subst (λ (k : Config). AllByRecursion (IsScheduleLine k) body.turns) (sym config) body.turns_in_range;
           spelled = all_spelled b0 b1 b2 b4 b5 mark_line (flat_map line body.lines ++ flat_map schedule_line body.turns) d
@@ -136,22 +136,22 @@ module _ (b0 : List ℕ) (short : length b0 ≤ most_bytes) (none : (d : Dumped)
               (counts_spelled b1 b2 c d0 counted ∙ ap (λ (ns : List ℕ). titled (codes "counts") ns ++ b2) (sym counts))
               (listed_spelled b2 b4 listed d0 d rowed no_rows no_roots is.form.each is.form.roots smalls.0 smalls.1)
               (bytes_of_line b4 mark b5 cut ∙ sym (append_assoc mark (newline ∷ []) b5) ∙ ap (λ (bs : List ℕ). bs ++ b5) marked)
-              (leads_bytes (Behind (Commands c)) (Behind l) b5 [] n led ∙ append-nil (flat_map ended led.texts) ∙ body.spelled);
+              (leads_bytes (Behind (Commands run_version c)) (Behind l) b5 [] n led ∙ append-nil (flat_map ended led.texts) ∙ body.spelled);
           by_thread = refl;
           in_order = refl;
           short = short;
         })
 
-    from_there : (l : LineStage) (b : List ℕ) (n : ℕ) → Leads (Behind (Commands c)) b5 b n (Behind l) → Leads Version b0 b (3 + 1 + listed + 1 + n) (Behind l)
-    from_there l b n led = leads_both Version (Behind (Commands c)) (Behind l) b0 b5 b (3 + 1 + listed + 1) n to_mark led
+    from_there : (l : LineStage) (b : List ℕ) (n : ℕ) → Leads (Behind (Commands run_version c)) b5 b n (Behind l) → Leads Version b0 b (3 + 1 + listed + 1 + n) (Behind l)
+    from_there l b n led = leads_both Version (Behind (Commands run_version c)) (Behind l) b0 b5 b (3 + 1 + listed + 1) n to_mark led
 
-    at_last : (l : LineStage) (b text : List ℕ) (n : ℕ) → Leads (Behind (Commands c)) b5 b n (Behind l) → parts 10 b ≡ text ∷ [] → (cause : Option Why) → end_cause l text ≡ cause → ⊥
+    at_last : (l : LineStage) (b text : List ℕ) (n : ℕ) → Leads (Behind (Commands run_version c)) b5 b n (Behind l) → parts 10 b ≡ text ∷ [] → (cause : Option Why) → end_cause l text ≡ cause → ⊥
     at_last l b text n led e (Some why) at = fine_at (Behind l) b (3 + 1 + listed + 1 + n) (from_there l b n led) why (cut_line l b text e ∙ at)
     at_last l b text n led e None at =
         let empty : b ≡ [] = bytes_of_last b text e ∙ nothing_left l text at in
-        complete l n (subst (λ (bs : List ℕ). Leads (Behind (Commands c)) b5 bs n (Behind l)) empty led)
+        complete l n (subst (λ (bs : List ℕ). Leads (Behind (Commands run_version c)) b5 bs n (Behind l)) empty led)
 
-    body_walk : (k : ℕ) (l : LineStage) (b : List ℕ) (n : ℕ) → Fits l → length b ≤ k → Leads (Behind (Commands c)) b5 b n (Behind l) → ⊥
+    body_walk : (k : ℕ) (l : LineStage) (b : List ℕ) (n : ℕ) → Fits l → length b ≤ k → Leads (Behind (Commands run_version c)) b5 b n (Behind l) → ⊥
     body_walk zero l b n fits le led = by_first (first_line b).0 (first_line b).1 (first_line b).2
       where
         by_first : (text rest : List ℕ) → (parts 10 b ≡ text ∷ []) ⊎ (parts 10 b ≡ text ∷ parts 10 rest) → ⊥
@@ -159,20 +159,20 @@ module _ (b0 : List ℕ) (short : length b0 ≤ most_bytes) (none : (d : Dumped)
         by_first text rest (inr e) = some_byte b text rest (bytes_of_line b text rest e) le
     body_walk (suc k) l b n fits le led = by_first (λ s bs m f low leads. body_walk k s bs m f low leads) (first_line b).0 (first_line b).1 (first_line b).2
       where
-        by_cause : ((s : LineStage) (bs : List ℕ) (m : ℕ) → Fits s → length bs ≤ k → Leads (Behind (Commands c)) b5 bs m (Behind s) → ⊥) → (text rest : List ℕ) → parts 10 b ≡ text ∷ parts 10 rest
+        by_cause : ((s : LineStage) (bs : List ℕ) (m : ℕ) → Fits s → length bs ≤ k → Leads (Behind (Commands run_version c)) b5 bs m (Behind s) → ⊥) → (text rest : List ℕ) → parts 10 b ≡ text ∷ parts 10 rest
             → (cause : Option Why) → words_cause l (parts 32 text) ≡ cause → ⊥
         by_cause go text rest e (Some why) at = fine_at (Behind l) b (3 + 1 + listed + 1 + n) (from_there l b n led) why (whole_line l b text rest e ∙ at)
         by_cause go text rest e None at =
             let next = follows l text fits at in
             go next.0 rest (n + 1) next.2 (fewer b text rest k (bytes_of_line b text rest e) le)
-            (leads_both (Behind (Commands c)) (Behind l) (Behind next.0) b5 b rest n 1 led (leads_one (Behind l) (Behind next.0) b text rest e (next.0, next.1, refl)))
+            (leads_both (Behind (Commands run_version c)) (Behind l) (Behind next.0) b5 b rest n 1 led (leads_one (Behind l) (Behind next.0) b text rest e (next.0, next.1, refl)))
 
-        by_first : ((s : LineStage) (bs : List ℕ) (m : ℕ) → Fits s → length bs ≤ k → Leads (Behind (Commands c)) b5 bs m (Behind s) → ⊥) → (text rest : List ℕ) → (parts 10 b ≡ text ∷ []) ⊎ (parts 10 b ≡ text ∷ parts 10 rest) → ⊥
+        by_first : ((s : LineStage) (bs : List ℕ) (m : ℕ) → Fits s → length bs ≤ k → Leads (Behind (Commands run_version c)) b5 bs m (Behind s) → ⊥) → (text rest : List ℕ) → (parts 10 b ≡ text ∷ []) ⊎ (parts 10 b ≡ text ∷ parts 10 rest) → ⊥
         by_first go text rest (inl e) = at_last l b text n led e (end_cause l text) refl
         by_first go text rest (inr e) = by_cause go text rest e (words_cause l (parts 32 text)) refl
 
     from_mark : ⊥
-    from_mark = body_walk (length b5) (Commands c) b5 0 tt (omega arith) (leads_none (Behind (Commands c)) b5)
+    from_mark = body_walk (length b5) (Commands run_version c) b5 0 tt (omega arith) (leads_none (Behind (Commands run_version c)) b5)
 
   -- ---- objects and roots
 

@@ -17,7 +17,7 @@ use Rattle.trace_refusals.proofs.Heads.{titled_is}
 use Rattle.trace_writing.specs.Answer.{line_of, name_word, reference_word, object_line, thread_numbers}
 use Rattle.dump_writing.specs.Dumped.{Dumped, IsRow, IsDump, IsInForm, most_made}
 use Rattle.dump_writing.specs.DumpText.{sizes_head, roots_line_in, dump_text}
-use Rattle.dump_reading.specs.Resumes.{mark_line}
+use Rattle.dump_reading.specs.Resumes.{run_version, mark_line}
 use Rattle.dump_reading.specs.DumpLines.{DumpStage, Version, Heap, Threads, Counts, Listed, Behind, DumpFollows, Spells, AreReferences, with_roots, heap_line, threads_line}
 use Rattle.dump_reading.specs.Steps.{Leads}
 use Rattle.dump_reading.specs.Listing.{listed}
@@ -195,5 +195,5 @@ dump_leads d rest is =
     (leads_both Version s1 (Listed d) (head ++ (counts ++ b1)) b1 rest 4 (length d.rows + length d.roots) one (leads_both s1 s2 (Listed d) b1 b2 rest (length d.rows) (length d.roots) two three))
 
 -- the line `trace` behind it
-pub mark_leads : (d : Dumped) (rest : List ℕ) → IsDump d → Leads (Listed d) (mark_line ++ rest) rest 1 (Behind (Commands d.config))
-mark_leads d rest is = words_lead (Listed d) (Behind (Commands d.config)) (codes "trace") [] rest (trace_title, tt) (inr (inr (is, refl, refl)))
+pub mark_leads : (d : Dumped) (rest : List ℕ) → IsDump d → Leads (Listed d) (mark_line ++ rest) rest 1 (Behind (Commands run_version d.config))
+mark_leads d rest is = words_lead (Listed d) (Behind (Commands run_version d.config)) (codes "trace") [] rest (trace_title, tt) (inr (inr (is, refl, refl)))

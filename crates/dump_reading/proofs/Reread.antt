@@ -16,7 +16,7 @@ use Rattle.trace_refusals.proofs.Free.{parts_at}
 use Rattle.trace_refusals.specs.Refused.{body_stage, cause_of}
 use Rattle.trace_refusals.specs.Refused.LineStage.{Commands}
 use Rattle.dump_writing.specs.Dumped.{Dumped, IsDump}
-use Rattle.dump_reading.specs.Resumes.{Resumes, mark_line, IsSameReading}
+use Rattle.dump_reading.specs.Resumes.{run_version, Resumes, mark_line, IsSameReading}
 use Rattle.dump_reading.specs.DumpLines.{DumpStage, Version, Heap, Threads, Counts, Listed, Behind, DumpFollows, DumpLead, DumpStopsAt, Spells}
 use Rattle.dump_reading.specs.Steps.{Leads}
 use Rattle.dump_reading.proofs.Steps.{leads_both, IsDumping}
@@ -31,12 +31,12 @@ heads x y xs ys e = (cc, cc)
 
 -- ---- what was read leads to the end
 
-body_leads : (d : Dumped) (lines : List TraceLine) (turns : List (List Item)) → AllByRecursion (IsLine d.config.mutators) lines → AllByRecursion (IsScheduleLine d.config) turns
-    → Leads (Behind (Commands d.config)) (flat_map line lines ++ flat_map schedule_line turns) [] (length lines + length turns) (Behind (body_stage d.config (ltb 0 (length turns))))
+body_leads : (d : Dumped) (lines : List TraceLine) (turns : List (List Item)) → AllByRecursion (IsLine run_version d.config.mutators) lines → AllByRecursion (IsScheduleLine d.config) turns
+    → Leads (Behind (Commands run_version d.config)) (flat_map line lines ++ flat_map schedule_line turns) [] (length lines + length turns) (Behind (body_stage run_version d.config (ltb 0 (length turns))))
 body_leads d lines turns in_lines in_turns =
     let c = d.config in
-    let here = Behind (Commands c) in
-    let last = Behind (body_stage c (ltb 0 (length turns))) in
+    let here = Behind (Commands run_version c) in
+    let last = Behind (body_stage run_version c (ltb 0 (length turns))) in
     let later = flat_map schedule_line turns in
     let two : Leads here later [] (length turns) last = subst (λ (bs : List ℕ). Leads here bs [] (length turns) last) (append-nil later) (behind_first c turns [] in_turns) in
     leads_both here here last (flat_map line lines ++ later) later [] (length lines) (length turns) (behind_lines c lines later in_lines) two
@@ -50,15 +50,15 @@ to_mark bytes d scripts items r =
     subst (λ (bs : List ℕ). Leads Version bs (mark_line ++ body_of r.lines r.turns) (lines_of d) (Listed d)) (sym r.spelled) (dump_leads d (mark_line ++ body_of r.lines r.turns) r.dump)
 
 to_end : (bytes : List ℕ) (d : Dumped) (scripts : List (List Command)) (items : List Item) → (r : Resumes bytes d scripts items)
-    → Leads Version bytes [] (lines_of d + (1 + (length r.lines + length r.turns))) (Behind (body_stage d.config (ltb 0 (length r.turns))))
+    → Leads Version bytes [] (lines_of d + (1 + (length r.lines + length r.turns))) (Behind (body_stage run_version d.config (ltb 0 (length r.turns))))
 to_end bytes d scripts items r =
     let body = body_of r.lines r.turns in
-    let behind = Behind (Commands d.config) in
-    let last = Behind (body_stage d.config (ltb 0 (length r.turns))) in
+    let behind = Behind (Commands run_version d.config) in
+    let last = Behind (body_stage run_version d.config (ltb 0 (length r.turns))) in
     leads_both Version (Listed d) last bytes (mark_line ++ body) [] (lines_of d) (1 + (length r.lines + length r.turns)) (to_mark bytes d scripts items r)
     (leads_both (Listed d) behind last (mark_line ++ body) body [] 1 (length r.lines + length r.turns) (mark_leads d body r.dump) (body_leads d r.lines r.turns r.in_range r.turns_in_range))
 
-body_ends : (c : Config) (some : Bool) → cause_of (body_stage c some) ([] ∷ []) ≡ None
+body_ends : (c : Config) (some : Bool) → cause_of (body_stage run_version c some) ([] ∷ []) ≡ None
 unfolding cause_of
 body_ends c true = refl
 body_ends c false = refl
@@ -66,7 +66,7 @@ body_ends c false = refl
 pub never_both : (bytes : List ℕ) (d : Dumped) (scripts : List (List Command)) (items : List Item) (n : ℕ) (why : Why) → Resumes bytes d scripts items → DumpStopsAt bytes n why → ⊥
 never_both bytes d scripts items n why reads stops =
     let led = to_end bytes d scripts items reads in
-    let at = body_stage d.config (ltb 0 (length reads.turns)) in
+    let at = body_stage run_version d.config (ltb 0 (length reads.turns)) in
     let none = body_ends d.config (ltb 0 (length reads.turns)) in
     let one = dump_end Version Version led.texts stops.before (Behind at) stops.stage ([] ∷ []) stops.from_it (inl refl) tt led.lead stops.lead (sym led.cut ∙ stops.lines) (inr (at, refl, refl, none)) (inl (why, stops.cause)) in
     let e = one.causes in
@@ -86,8 +86,8 @@ listing xs (Listed e) d lead = tt
 -- behind the line `trace` no dump goes on
 no_dump : (d : Dumped) (text : List ℕ) (rest : List (List ℕ)) (next : DumpStage) (e : Dumped) → IsWithin (Listed d) → IsDump d → Spells text mark_line → DumpFollows (Listed d) text next → DumpLead next rest (Listed e) → ⊥
 no_dump d text rest next e within is mark f lead =
-    let same = listed_once d text next (Behind (Commands d.config)) within f (inr (inr (is, mark, refl))) in
-    never_back rest (Commands d.config) e (subst (λ (s : DumpStage). DumpLead s rest (Listed e)) same lead)
+    let same = listed_once d text next (Behind (Commands run_version d.config)) within f (inr (inr (is, mark, refl))) in
+    never_back rest (Commands run_version d.config) e (subst (λ (s : DumpStage). DumpLead s rest (Listed e)) same lead)
 
 listed_same : (d e : Dumped) → Same (Listed d) (Listed e) → d ≡ e
 listed_same d e (inl x) = cc
@@ -141,9 +141,9 @@ read_once bytes d e xs ys is js p q =
     let c = d.config in
     let config : c ≡ e.config = ap (λ (x : Dumped). x.config) same.dumps in
     let bodies : rest ≡ after = same_bytes rest after same.rests in
-    let in_lines = subst (λ (k : Config). AllByRecursion (IsLine k.mutators) q.lines) (sym config) q.in_range in
+    let in_lines = subst (λ (k : Config). AllByRecursion (IsLine run_version k.mutators) q.lines) (sym config) q.in_range in
     let in_turns = subst (λ (k : Config). AllByRecursion (IsScheduleLine k) q.turns) (sym config) q.turns_in_range in
-    let lines = lines_once c.mutators p.lines q.lines (flat_map schedule_line p.turns) (flat_map schedule_line q.turns) (omega (arith, c.in_range.most_mutators)) p.in_range in_lines (turns_behind p.turns) (turns_behind q.turns) bodies in
+    let lines = lines_once run_version c.mutators p.lines q.lines (flat_map schedule_line p.turns) (flat_map schedule_line q.turns) (omega (arith, c.in_range.most_mutators)) p.in_range in_lines (turns_behind p.turns) (turns_behind q.turns) bodies in
     let turns = turns_once c p.turns q.turns p.turns_in_range in_turns lines.1 in
     record {
       dump = same.dumps;

@@ -14,6 +14,7 @@ use Rattle.trace_refusals.proofs.Commands.{line_words, line_is}
 use Rattle.trace_refusals.proofs.ScheduleWords.{words_of_turn, turn_is}
 use Rattle.trace_refusals.proofs.Leads.{line_in_front}
 use Rattle.trace_reading.specs.Stops.{StopsBody}
+use Rattle.dump_reading.specs.Resumes.{run_version}
 use Rattle.dump_reading.specs.DumpLines.{DumpStage, Version, Behind, DumpRefused}
 use Rattle.dump_reading.specs.Steps.{Leads, StopsAt}
 use Rattle.dump_reading.proofs.Steps.{leads_none, leads_one, leads_both}
@@ -47,14 +48,14 @@ one_more a b bytes rest n led =
     let same : 1 + n ≡ suc n = omega arith in
     subst (λ (k : ℕ). Leads a bytes rest k b) same led
 
-pub behind_lines : (c : Config) (lines : List TraceLine) (rest : List ℕ) → AllByRecursion (IsLine c.mutators) lines → Leads (Behind (Commands c)) (flat_map line lines ++ rest) rest (length lines) (Behind (Commands c))
-behind_lines c [] rest all = leads_none (Behind (Commands c)) rest
+pub behind_lines : (c : Config) (lines : List TraceLine) (rest : List ℕ) → AllByRecursion (IsLine run_version c.mutators) lines → Leads (Behind (Commands run_version c)) (flat_map line lines ++ rest) rest (length lines) (Behind (Commands run_version c))
+behind_lines c [] rest all = leads_none (Behind (Commands run_version c)) rest
 behind_lines c (l ∷ lines) rest all =
-    let here = Behind (Commands c) in
+    let here = Behind (Commands run_version c) in
     let others = flat_map line lines ++ rest in
     let front : line l ++ others ≡ flat_map line (l ∷ lines) ++ rest = sym (append_assoc (line l) (flat_map line lines) rest) ∙ ap (λ (t : List ℕ). t ++ rest) (sym (flat_map-cons line l lines)) in
     let text = join_with_byte 32 (line_words l) in
-    let one = behind_one (Commands c) (Commands c) text (line l) others (line_is l) (inl ((l, all.0, line_is l), refl)) in
+    let one = behind_one (Commands run_version c) (Commands run_version c) text (line l) others (line_is l) (inl ((l, all.0, line_is l), refl)) in
     subst (λ (bs : List ℕ). Leads here bs rest (suc (length lines)) here) front
     (one_more here here (line l ++ others) rest (length lines) (leads_both here here here (line l ++ others) others rest 1 (length lines) one (behind_lines c lines rest all.1)))
 
@@ -69,24 +70,24 @@ behind_turns c (items ∷ turns) rest all =
     subst (λ (bs : List ℕ). Leads here bs rest (suc (length turns)) here) front
     (one_more here here (schedule_line items ++ others) rest (length turns) (leads_both here here here (schedule_line items ++ others) others rest 1 (length turns) one (behind_turns c turns rest all.1)))
 
-pub behind_first : (c : Config) (turns : List (List Item)) (rest : List ℕ) → AllByRecursion (IsScheduleLine c) turns → Leads (Behind (Commands c)) (flat_map schedule_line turns ++ rest) rest (length turns) (Behind (body_stage c (ltb 0 (length turns))))
-behind_first c [] rest all = leads_none (Behind (Commands c)) rest
+pub behind_first : (c : Config) (turns : List (List Item)) (rest : List ℕ) → AllByRecursion (IsScheduleLine c) turns → Leads (Behind (Commands run_version c)) (flat_map schedule_line turns ++ rest) rest (length turns) (Behind (body_stage run_version c (ltb 0 (length turns))))
+behind_first c [] rest all = leads_none (Behind (Commands run_version c)) rest
 behind_first c (items ∷ turns) rest all =
-    let here = Behind (Commands c) in
+    let here = Behind (Commands run_version c) in
     let later = Behind (Turns c) in
     let others = flat_map schedule_line turns ++ rest in
     let front : schedule_line items ++ others ≡ flat_map schedule_line (items ∷ turns) ++ rest = sym (append_assoc (schedule_line items) (flat_map schedule_line turns) rest) ∙ ap (λ (t : List ℕ). t ++ rest) (sym (flat_map-cons schedule_line items turns)) in
     let text = join_with_byte 32 (words_of_turn items) in
-    let one = behind_one (Commands c) (Turns c) text (schedule_line items) others (turn_is items) (inr ((items, all.0, turn_is items), refl)) in
+    let one = behind_one (Commands run_version c) (Turns c) text (schedule_line items) others (turn_is items) (inr ((items, all.0, turn_is items), refl)) in
     let some : ltb 0 (suc (length turns)) ≡ true = grind (arith, nat_tests) in
-    subst (λ (b : Bool). Leads here (flat_map schedule_line (items ∷ turns) ++ rest) rest (suc (length turns)) (Behind (body_stage c b))) (sym some)
+    subst (λ (b : Bool). Leads here (flat_map schedule_line (items ∷ turns) ++ rest) rest (suc (length turns)) (Behind (body_stage run_version c b))) (sym some)
     (subst (λ (bs : List ℕ). Leads here bs rest (suc (length turns)) later) front
     (one_more here later (schedule_line items ++ others) rest (length turns) (leads_both here later later (schedule_line items ++ others) others rest 1 (length turns) one (behind_turns c turns rest all.1))))
 
-pub body_stops : (c : Config) (first : ℕ) (bytes : List ℕ) (n : ℕ) (why : Why) → StopsBody c first bytes n why → StopsAt (Behind (Commands c)) first bytes n why
+pub body_stops : (c : Config) (first : ℕ) (bytes : List ℕ) (n : ℕ) (why : Why) → StopsBody run_version c first bytes n why → StopsAt (Behind (Commands run_version c)) first bytes n why
 body_stops c first bytes n why stops =
-    let here = Behind (Commands c) in
-    let last = Behind (body_stage c (ltb 0 (length stops.turns))) in
+    let here = Behind (Commands run_version c) in
+    let last = Behind (body_stage run_version c (ltb 0 (length stops.turns))) in
     let middle = flat_map schedule_line stops.turns ++ stops.rest in
     record {
       rest = stops.rest;

@@ -16,7 +16,7 @@ use Rattle.trace_refusals.specs.Refused.{LineStage, LineFollows, cause_of}
 use Rattle.trace_refusals.specs.Refused.LineStage.{Commands}
 use Rattle.trace_writing.specs.Answer.{line_of, name_word}
 use Rattle.dump_writing.specs.Dumped.{Dumped, names_in, most_made, IsRow, IsDump}
-use Rattle.dump_reading.specs.Resumes.{mark_line}
+use Rattle.dump_reading.specs.Resumes.{run_version, mark_line}
 
 -- what was read, and so what is to stand on the next line
 pub data DumpStage : Type 0 where
@@ -85,7 +85,7 @@ RootsFollow d text next =
 
 -- the line `trace`, behind a whole dump
 abbrev pub MarkFollows : Dumped → List ℕ → DumpStage → Type 0
-MarkFollows d text next = IsDump d × Spells text mark_line × (next ≡ Behind (Commands d.config))
+MarkFollows d text next = IsDump d × Spells text mark_line × (next ≡ Behind (Commands run_version d.config))
 
 -- this text, with the end of its line, may stand there, and what is to stand on the next line
 abbrev pub DumpFollows : DumpStage → List ℕ → DumpStage → Type 0

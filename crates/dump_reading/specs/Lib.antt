@@ -3,5 +3,4 @@ pub mod DumpLines
 pub mod HeldReferences
 pub mod ObjectWords
 pub mod Steps
-pub mod RowsReached
 pub mod Listing

@@ -9,16 +9,20 @@ use Rattle.trace_writing.specs.Answer.{line_of}
 use Rattle.dump_writing.specs.Dumped.{Dumped, IsDump}
 use Rattle.dump_writing.specs.DumpText.{dump_text}
 
+-- the version of the lines of commands behind a dump
+abbrev pub run_version : ℕ
+run_version = 2
+
 -- the line between a dump and the lines of commands
 abbrev pub mark_line : List ℕ
 mark_line = line_of (codes "trace" ∷ [])
 
--- The bytes are the text of this dump, the line `trace`, lines of commands, and lines of a schedule; and these are the threads'
--- scripts, and these the items.
+-- The bytes are the text of this dump, the line `trace`, lines of commands of version 2, and lines of a schedule; and these are the
+-- threads' scripts, and these the items.
 pub record Resumes (bytes : List ℕ) (d : Dumped) (scripts : List (List Command)) (items : List Item) : Type 0 where
   pub dump : IsDump d
   pub lines : List TraceLine
-  pub in_range : AllByRecursion (IsLine d.config.mutators) lines
+  pub in_range : AllByRecursion (IsLine run_version d.config.mutators) lines
   pub turns : List (List Item)
   pub turns_in_range : AllByRecursion (IsScheduleLine d.config) turns
   pub spelled : bytes ≡ dump_text d ++ (mark_line ++ (flat_map line lines ++ flat_map schedule_line turns))

@@ -12,7 +12,8 @@ ghost use Rattle.dump_reading.specs.DumpLines.{AreReferences};
 ghost use Rattle.dump_reading.specs.HeldReferences.{held, held_row};
 ghost use Rattle.dump_reading.specs.ObjectWords.{AreRefsWords, AreNumsWords, AreRowWords, HasHubFields, IsBehindLast};
 
-use crate::words::{is_before, name_in, reference_in};
+use crate::words::{name_in, reference_in};
+use dump_writing::is_before;
 use shen_graph::{GraphText, Name};
 use trace_grammar::value_of;
 use trace_refusals::{next_word, number_cause};

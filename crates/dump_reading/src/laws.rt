@@ -8,18 +8,18 @@ ghost use Rattle.trace_grammar.specs.Grammar.{most_bytes, scripts_of, items_of};
 ghost use Rattle.trace_grammar.specs.declared.why.Why.{Why};
 ghost use Rattle.dump_writing.specs.Dumped.{Dumped, IsDump};
 ghost use Rattle.dump_writing.specs.DumpText.{dump_text};
-ghost use Rattle.dump_reading.specs.Resumes.{Resumes, IsSameReading, mark_line};
+ghost use Rattle.dump_reading.specs.Resumes.{Resumes, IsSameReading, run_version, mark_line};
 ghost use Rattle.dump_reading.specs.DumpLines.{DumpRefused};
 
-/// A law: the text of a dump, the line `trace`, lines of commands and lines of a schedule, if they are not too long together, are read
+/// A law: the text of a dump, the line `trace`, lines of commands of version 2 and lines of a schedule, if they are not too long together, are read
 /// as that dump and what the lines say, and as nothing else; and none of these lines is refused.
 pub fn written_dumps_are_read()
     ensures once { (bytes : List ℕ) (d e : Dumped) (lines : List TraceLine) (turns : List (List Item)) (scripts : List (List Command)) (items : List Item)
-        → IsDump d → AllByRecursion (IsLine d.config.mutators) lines → AllByRecursion (IsScheduleLine d.config) turns
+        → IsDump d → AllByRecursion (IsLine run_version d.config.mutators) lines → AllByRecursion (IsScheduleLine d.config) turns
         → bytes ≡ dump_text d ++ (mark_line ++ (flat_map line lines ++ flat_map schedule_line turns)) → length bytes ≤ most_bytes
         → Resumes bytes e scripts items → IsSameReading d (scripts_of d.config.mutators lines) (items_of turns) e scripts items }
     ensures never_refused { (bytes : List ℕ) (d : Dumped) (lines : List TraceLine) (turns : List (List Item)) (n : ℕ) (why : Why)
-        → IsDump d → AllByRecursion (IsLine d.config.mutators) lines → AllByRecursion (IsScheduleLine d.config) turns
+        → IsDump d → AllByRecursion (IsLine run_version d.config.mutators) lines → AllByRecursion (IsScheduleLine d.config) turns
         → bytes ≡ dump_text d ++ (mark_line ++ (flat_map line lines ++ flat_map schedule_line turns)) → length bytes ≤ most_bytes
         → DumpRefused bytes n why → ⊥ }
 {}

@@ -12,11 +12,11 @@ ghost use Rattle.trace_grammar.specs.declared.why.Why.{Why as Cause};
 ghost use Rattle.trace_reading.specs.Calls.{HasFewCalls};
 ghost use Rattle.trace_reading.specs.Faults.{IsTextFault};
 ghost use Rattle.dump_writing.specs.Dumped.{Dumped, dumped};
-ghost use Rattle.dump_reading.specs.Resumes.{Resumes, mark_line};
+ghost use Rattle.dump_reading.specs.Resumes.{Resumes, run_version, mark_line};
 ghost use Rattle.dump_reading.specs.DumpLines.{DumpRefused, Listed, Spells};
 ghost use Rattle.dump_reading.specs.Steps.{IsStop};
 ghost use Rattle.dump_reading.specs.Listing.{separators, listed, HasTakenRows, HasTakenRoots, NoObjectLine, IsHeldDump};
-ghost use Rattle.dump_reading.specs.RowsReached.{graph_from};
+ghost use Rattle.dump_writing.specs.RowsReached.{graph_from};
 
 use crate::fields::take_object;
 use crate::head::{take_config, take_counts};
@@ -30,12 +30,15 @@ use std::alloc::Global;
 use trace_grammar::Trace;
 use trace_reading::{TraceFault, all_bytes, trace_behind};
 
+/// The version of the lines of commands behind a dump.
+const RUN_VERSION: u32 = 2;
+
 /// A dump, and what is to run from it.
 #[derive(Drop)]
 pub struct Resumed {
     /// The heap to begin with.
     pub dump: Dump,
-    /// What each thread is to run then, and the schedule. Its configuration is that of the dump.
+    /// What each thread is to run then, and the schedule. Its version is 2, and its configuration that of the dump.
     pub trace: Trace,
 }
 
@@ -131,6 +134,7 @@ fn take_mark<'a>(
 /// The dump and the trace that these bytes spell.
 fn resumed_of(alloc: Global, bytes: &[u8]) -> Result<Resumed, TraceFault>
     requires { length bytes.now ≤ most_bytes }
+    ensures version { IfOk result (λ r. r.trace.version ≡ run_version) }
     ensures config { IfOk result (λ r. r.trace.config ≡ r.dump.config) }
     ensures ok { IfOk result (λ r. Resumes bytes.now (dumped r.dump.config r.dump.counts r.dump.graph) r.trace.scripts r.trace.schedule) }
     ensures fault { IfErr result IsTextFault }
@@ -145,7 +149,7 @@ fn resumed_of(alloc: Global, bytes: &[u8]) -> Result<Resumed, TraceFault>
     let rest = take_all_roots(5 + lines, rest, &mut graph)?;
     let mark = 5 + lines + config.mutators() as u64;
     let rest = take_mark(alloc, mark, rest, &graph)?;
-    let trace = trace_behind(alloc, config, mark + 1, rest)?;
+    let trace = trace_behind(alloc, RUN_VERSION, config, mark + 1, rest)?;
     Ok(Resumed {
         dump: Dump {
             config,
@@ -159,6 +163,7 @@ fn resumed_of(alloc: Global, bytes: &[u8]) -> Result<Resumed, TraceFault>
 /// Reads a dump, the line `trace`, and the lines of commands and of a schedule that are to run from it. It reads to the end of the source, or until one
 /// byte more came than these may have together, and then looks at the lines.
 pub fn read_dump<S: Source>(alloc: Global, source: &mut S) -> Result<Resumed, TraceFault>
+    ensures version { IfOk result (λ r. r.trace.version ≡ run_version) }
     ensures config { IfOk result (λ r. r.trace.config ≡ r.dump.config) }
     ensures ok { IfOk result (λ r. (bytes : List ℕ) × Came (S.left source.old) (S.left source.new) bytes
         × Resumes bytes (dumped r.dump.config r.dump.counts r.dump.graph) r.trace.scripts r.trace.schedule) }

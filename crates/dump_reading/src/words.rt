@@ -3,7 +3,6 @@ ghost use Rattle.std.specs.Prelude.{◌≡◌, ◌≢◌, ◌^◌, ◌≤◌, �
 ghost use Rattle.std.specs.Str.Parse.{AllDigits, digits_value};
 ghost use Rattle.shen_graph.specs.declared.name.Name.{Name as Named};
 ghost use Rattle.shen_graph.specs.Graph.{Reference};
-ghost use Rattle.shen_graph.specs.Reach.{IsBefore};
 ghost use Rattle.trace_writing.specs.Answer.{name_word};
 ghost use Rattle.dump_writing.specs.Dumped.{IsNamed};
 ghost use Rattle.dump_reading.specs.DumpLines.{IsDumpReference};
@@ -58,13 +57,6 @@ pub(crate) fn reference_in(word: &[u8]) -> Option<Option<Name>>
     } else {
         None
     }
-}
-
-/// Whether a name is before another, by thread and then by count.
-pub(crate) fn is_before(one: Name, other: Name) -> bool
-    ensures { IsTrue result ↔ IsBefore one other }
-{
-    one.thread < other.thread || (one.thread == other.thread && one.count < other.count)
 }
 
 /// Whether a name is the hub's, or one of those that these threads made, each of which made so many objects.

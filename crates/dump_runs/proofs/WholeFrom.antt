@@ -14,7 +14,8 @@ use Rattle.heap_words.specs.declared.schedule.Item.{Item}
 use Rattle.heap_words.specs.Ranges.{seat_count}
 use Rattle.steps_base.specs.Steps.{Stage, Event}
 use Rattle.shen_graph.specs.Graph.{Reference, Graph}
-use Rattle.shen_graph.specs.GraphText.{Text, Row, names_of, root_of, row_in}
+use Rattle.shen_graph.specs.GraphText.{Text, Row, names_of, root_of, pin_of, row_in}
+use Rattle.shen_graph.specs.Step.{name_in}
 use Rattle.shen_graph.specs.Crowd.{AreCrowded}
 use Rattle.shen_graph.specs.History.{Entry, after, of_thread, commands_of, EachIsLegal}
 use Rattle.shen_graph.specs.History as history
@@ -41,7 +42,7 @@ use Rattle.step_core.proofs.History.Growing.{begun_many, begun_is}
 use Rattle.step_core.proofs.Theorem.EveryList.{run_sound}
 use Rattle.step_core.specs.Threads.{IsSettled}
 use Rattle.heap_graph.specs.Shows as texts
-use Rattle.heap_graph.specs.Rows.{root_rows}
+use Rattle.heap_graph.specs.Rows.{root_rows, pin_rows}
 use Rattle.shen_core.specs.declared.plain.Plain.{Plain}
 use Rattle.shen_core.specs.State.{machine_at, Shows}
 use Rattle.step_core.specs.Machines.{order_by, is_resting}
@@ -115,16 +116,26 @@ root_shown text g n t i low high lt e =
     ∙ ap (λ (row : List Reference). get_or row i None) (get_or-map-range_with_len (λ k. map (g.root k) (range_with_len 0 16)) 1 n (t - 1) t none (omega arith) (omega arith))
     ∙ get_or-map-range_with_len (g.root t) 0 16 i i None lt (omega arith)
 
+pin_shown : (text : Text) (g : Graph) (n t i : ℕ) → 1 ≤ t → t ≤ n → i < 4 → text.pins ≡ pin_rows (λ u slot. name_in (g.pin u slot)) n → pin_of text t i ≡ name_in (g.pin t i)
+pin_shown text g n t i low high lt e =
+    let none : List Reference = [] in
+    ap (λ (rows : List (List Reference)). get_or (get_or rows (t - 1) none) i None) e
+    ∙ ap (λ (row : List Reference). get_or row i None) (get_or-map-range_with_len (λ k. map (λ slot. name_in (g.pin k slot)) (range_with_len 0 4)) 1 n (t - 1) t none (omega arith) (omega arith))
+    ∙ get_or-map-range_with_len (λ slot. name_in (g.pin t slot)) 0 4 i i None lt (omega arith)
+
 text_shown : (n : ℕ) (jobs : Jobs) (h : List Entry) (text : Text) (g : Graph) → length text.roots ≡ n → texts.ShowsGraph text n g
     → ((t : ℕ) → 1 ≤ t → t ≤ n → work.replies_of jobs (t - 1) ≡ history.replies_of (of_thread h t))
-    → answer_text (length text.roots) (λ t. work.replies_of jobs (t - 1)) text.rows (root_of text) ≡ answer_text n (λ t. history.replies_of (of_thread h t)) (map (row_in g) (names_of text)) g.root
+    → answer_text 2 (length text.roots) (λ t. work.replies_of jobs (t - 1)) text.rows (root_of text) (pin_of text)
+    ≡ answer_text 2 n (λ t. history.replies_of (of_thread h t)) (map (row_in g) (names_of text)) g.root (λ t slot. name_in (g.pin t slot))
 text_shown n jobs h text g count shows told =
     let rows : text.rows ≡ map (row_in g) (names_of text) = shows.rows in
-    ap (λ (k : ℕ). answer_text k (λ t. work.replies_of jobs (t - 1)) text.rows (root_of text)) count
-    ∙ ap (λ (rs : List Row). answer_text n (λ t. work.replies_of jobs (t - 1)) rs (root_of text)) rows
-    ∙ answer_text_same n (λ t. work.replies_of jobs (t - 1)) (λ t. history.replies_of (of_thread h t)) (map (row_in g) (names_of text)) (root_of text) g.root
+    let pin : ℕ → ℕ → Reference = λ t slot. name_in (g.pin t slot) in
+    ap (λ (k : ℕ). answer_text 2 k (λ t. work.replies_of jobs (t - 1)) text.rows (root_of text) (pin_of text)) count
+    ∙ ap (λ (rs : List Row). answer_text 2 n (λ t. work.replies_of jobs (t - 1)) rs (root_of text) (pin_of text)) rows
+    ∙ answer_text_same 2 n (λ t. work.replies_of jobs (t - 1)) (λ t. history.replies_of (of_thread h t)) (map (row_in g) (names_of text)) (root_of text) g.root (pin_of text) pin
     (λ t low high. told t (omega arith) (omega arith))
     (λ t i low high lt. root_shown text g n t i (omega arith) (omega arith) lt shows.roots)
+    (λ t i low high lt. pin_shown text g n t i (omega arith) (omega arith) lt shows.pins)
 
 module _ (c : Config) (start : Stage Actor) (g : Graph) (begins : Begins c start g) where
   -- the run of some events
@@ -183,7 +194,7 @@ module _ (c : Config) (start : Stage Actor) (g : Graph) (begins : Begins c start
         ∙ sym (ap history.replies_of (ap (of_thread (history_from c start events)) (sym same) ∙ entries_called scripts count events done.called (t - 1) it))
 
     pub answer_from : (text : Text) → length text.roots ≡ c.mutators → texts.ShowsGraph text c.mutators (after g (history_from c start events))
-        → IsAnswerFrom g c.mutators (history_from c start events) (answer_text (length text.roots) (λ t. work.replies_of jobs (t - 1)) text.rows (root_of text))
+        → IsAnswerFrom g c.mutators (history_from c start events) (answer_text 2 (length text.roots) (λ t. work.replies_of jobs (t - 1)) text.rows (root_of text) (pin_of text))
     answer_from text roots shows = record {
       names = names_of text;
       reach = shows.reach;

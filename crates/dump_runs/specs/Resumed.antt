@@ -13,6 +13,7 @@ use Rattle.shen_graph.specs.GraphText.{Text, row_in}
 use Rattle.shen_graph.specs.History.{Entry, after, of_thread, replies_of, Follows, EachIsLegal}
 use Rattle.shen_graph.specs.Crowd.{AreCrowded}
 use Rattle.shen_graph.specs.Reach.{IsReach}
+use Rattle.shen_graph.specs.Step.{name_in}
 use Rattle.heap_machines.specs.Pause.{pause_image}
 use Rattle.step_core.specs.Actor.{Actor}
 use Rattle.step_core.specs.Machines.{kind}
@@ -36,14 +37,15 @@ history_from c start events = history pause_image c start events
 pub record IsWholeFrom (c : Config) (start : Stage Actor) (g : Graph) (scripts : Scripts) (events : List (Event Order)) : Type 0 where
   pub idle : AreIdle c scripts (led_to c start events)
   pub follows : Follows scripts (history_from c start events)
-  pub each : EachIsLegal g (history_from c start events)
+  pub each : EachIsLegal c.regions c.region_words g (history_from c start events)
   pub crowded : AreCrowded c.regions c.region_words g scripts (history_from c start events)
 
--- the text of the replies of a history that begins with a graph, and of the graph after it
+-- the text of the replies of a history that begins with a graph, and of the graph after it, with what is pinned
 pub record IsAnswerFrom (g : Graph) (threads : ℕ) (entries : List Entry) (out : List ℕ) : Type 0 where
   pub names : List Name
   pub reach : IsReach (after g entries) names
-  pub text : out ≡ answer_text threads (λ t. replies_of (of_thread entries t)) (map (row_in (after g entries)) names) (after g entries).root
+  pub text : out ≡ answer_text 2 threads (λ t. replies_of (of_thread entries t)) (map (row_in (after g entries)) names)
+      (after g entries).root (λ t slot. name_in ((after g entries).pin t slot))
 
 -- a script of commands in range, that are no more than there are names left for a thread of a dump
 abbrev pub IsRunnableAfter : List Command → Type 0

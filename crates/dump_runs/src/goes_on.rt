@@ -104,5 +104,9 @@ pub fn resume(
         return Ok(Resumed::Unfinished);
     };
     let graph = graph_of(alloc, dump.config, &mut plain)?;
-    Ok(Resumed::Answered(Answer { replies, graph }))
+    Ok(Resumed::Answered(Answer {
+        version: 2,
+        replies,
+        graph,
+    }))
 }

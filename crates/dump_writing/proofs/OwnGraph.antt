@@ -16,7 +16,7 @@ use Rattle.shen_graph.proofs.Distinct.{before_apart, before_join}
 use Rattle.shen_graph.proofs.OrderLemmas.{same_name-flip}
 use Rattle.shen_graph.proofs.PlainLemmas.{same_name-itself}
 use Rattle.churn.proofs.OneReach.{one_reach}
-use Rattle.dump_writing.specs.Dumped.{Dumped, names_in, graph_in, IsDump, IsDumpOf, dump_of, root_rows}
+use Rattle.dump_writing.specs.Dumped.{Dumped, names_in, graph_in, IsDump, IsDumpOf, dump_of, root_rows, unpinned}
 
 -- ---- a graph has one dump
 
@@ -24,22 +24,22 @@ names_again : (g : Graph) (names : List Name) → map (λ (r : Row). r.name) (ma
 names_again g [] = refl
 names_again g (n ∷ ns) = ap (λ (l : List Name). n ∷ l) (names_again g ns)
 
-pub some_dump : (c : Config) (g : Graph) (names : List Name) → IsReach g names → IsDumpOf c g (dump_of c g names)
+pub some_dump : (c : Config) (g : Graph) (names : List Name) → IsReach (unpinned g) names → IsDumpOf c g (dump_of c g names)
 some_dump c g names reach =
     let same = names_again g names in
     record { reach = rw same reach; parts = ap (dump_of c g) (sym same) }
 
 pub one_dump : (c : Config) (g : Graph) (d e : Dumped) → IsDumpOf c g d → IsDumpOf c g e → d ≡ e
-one_dump c g d e one other = one.parts ∙ ap (dump_of c g) (one_reach g (names_in d) (names_in e) one.reach other.reach) ∙ sym other.parts
+one_dump c g d e one other = one.parts ∙ ap (dump_of c g) (one_reach (unpinned g) (names_in d) (names_in e) one.reach other.reach) ∙ sym other.parts
 
 -- ---- the object of a row
 
-before_at : (a : Name) (ns : List Name) (k : ℕ) (d : Name) → InOrder (a ∷ ns) → k < length ns → IsBefore a (get_or ns k d)
+pub before_at : (a : Name) (ns : List Name) (k : ℕ) (d : Name) → InOrder (a ∷ ns) → k < length ns → IsBefore a (get_or ns k d)
 before_at a [] k d order low = absurd (omega arith)
 before_at a (n ∷ ns) zero d order low = order.0
 before_at a (n ∷ ns) (suc k) d order low = before_join a n (get_or ns k d) order.0 (before_at n ns k d order.1 (omega arith))
 
-order_rest : (a : Name) (ns : List Name) → InOrder (a ∷ ns) → InOrder ns
+pub order_rest : (a : Name) (ns : List Name) → InOrder (a ∷ ns) → InOrder ns
 order_rest a [] order = tt
 order_rest a (n ∷ ns) order = order.1
 
@@ -72,12 +72,12 @@ object_at (r ∷ rows) (suc k) d order low =
 
 -- ---- the dump of its graph
 
-row_again : (d : Dumped) (n : Name) (o : Object) → object_in d.rows n ≡ Some o → row_in (graph_in d) n ≡ record { name = n; refs = o.refs; nums = o.nums }
+pub row_again : (d : Dumped) (n : Name) (o : Object) → object_in d.rows n ≡ Some o → row_in (graph_in d) n ≡ record { name = n; refs = o.refs; nums = o.nums }
 unfolding graph_of
 row_again d n o is =
     ap (λ (q : Option Object). record { name = n; refs = (unwrap_or q (record { refs = []; nums = [] })).refs; nums = (unwrap_or q (record { refs = []; nums = [] })).nums }) is
 
-rows_by_names : (f : Name → Row) (rows : List Row) → ((k : ℕ) (d : Row) → k < length rows → f (name_of (get_or rows k d)) ≡ get_or rows k d) → map f (map name_of rows) ≡ rows
+pub rows_by_names : (f : Name → Row) (rows : List Row) → ((k : ℕ) (d : Row) → k < length rows → f (name_of (get_or rows k d)) ≡ get_or rows k d) → map f (map name_of rows) ≡ rows
 rows_by_names f [] each = refl
 rows_by_names f (r ∷ rows) each =
     ap (λ (q : Row). q ∷ map f (map name_of rows)) (each zero r (omega arith))
@@ -88,13 +88,13 @@ rows_again d order =
     rows_by_names (row_in (graph_in d)) d.rows
     (λ k r low. row_again d (name_of (get_or d.rows k r)) (fields_of (get_or d.rows k r)) (object_at d.rows k r order low))
 
-counts_again : (counts : List ℕ) (threads : ℕ) → length counts ≡ threads → map (λ t. get_or (0 ∷ counts) t 0) (range_with_len 1 threads) ≡ counts
+pub counts_again : (counts : List ℕ) (threads : ℕ) → length counts ≡ threads → map (λ t. get_or (0 ∷ counts) t 0) (range_with_len 1 threads) ≡ counts
 counts_again counts threads count =
     let f : ℕ → ℕ = λ t. get_or (0 ∷ counts) t 0 in
     sym (ext_get_or 0 counts (map f (range_with_len 1 threads)) (count ∙ sym (length-map-range_with_len f 1 threads))
     (λ i low. sym (get_or-map-range_with_len f 1 threads i (suc i) 0 (omega arith) (omega arith))))
 
-roots_again : (roots : List (List Reference)) (threads : ℕ) → length roots ≡ threads → All (λ (row : List Reference). length row ≡ 16) roots
+pub roots_again : (roots : List (List Reference)) (threads : ℕ) → length roots ≡ threads → All (λ (row : List Reference). length row ≡ 16) roots
     → map (λ t. map (root_in ([] ∷ roots) t) (range_with_len 0 16)) (range_with_len 1 threads) ≡ roots
 roots_again roots threads count full =
     let f : ℕ → List Reference = λ t. map (root_in ([] ∷ roots) t) (range_with_len 0 16) in
@@ -102,7 +102,7 @@ roots_again roots threads count full =
     (λ i low. fill_by_all (λ j. get_or (get_or roots i []) j None) (get_or roots i []) 16 None (All-get_or (λ (row : List Reference). length row ≡ 16) roots i [] low full) (λ k h. refl)
     ∙ sym (get_or-map-range_with_len f 1 threads i (suc i) [] (omega arith) (omega arith))))
 
-same_parts : (c : Config) (d : Dumped) (counts : List ℕ) (rows : List Row) (roots : List (List Reference)) → d.config ≡ c → counts ≡ d.counts → rows ≡ d.rows → roots ≡ d.roots
+pub same_parts : (c : Config) (d : Dumped) (counts : List ℕ) (rows : List Row) (roots : List (List Reference)) → d.config ≡ c → counts ≡ d.counts → rows ≡ d.rows → roots ≡ d.roots
     → d ≡ record { config = c; counts = counts; rows = rows; roots = roots }
 same_parts c d counts rows roots config a b e =
     ap (λ x. record d { config = x }) config

@@ -1,5 +1,5 @@
 -- Dumps: a graph of objects with the sizes of its heap and what each thread has made, by itself.
-use Rattle.std.specs.Prelude.{ℕ, ◌≡◌, ◌+◌, ◌-◌, ◌^◌, ◌<◌, ◌≤◌, ◌⊎◌, List, [], ◌∷◌, length, map, slice_index, All}
+use Rattle.std.specs.Prelude.{ℕ, ◌≡◌, ◌+◌, ◌-◌, ◌^◌, ◌<◌, ◌≤◌, ◌⊎◌, List, [], ◌∷◌, length, map, slice_index, All, Contains, None}
 use Rattle.std.specs.List.{range_with_len}
 use Rattle.heap_words.specs.declared.config.Config.{Config}
 use Rattle.heap_words.specs.Narrow.{IsNarrow}
@@ -7,7 +7,7 @@ use Rattle.shen_graph.specs.declared.name.Name.{Name}
 use Rattle.shen_graph.specs.Graph.{Graph, Reference, hub}
 use Rattle.shen_graph.specs.GraphText.{Row, Text, row_in}
 use Rattle.shen_graph.specs.PlainGraph.{graph_of}
-use Rattle.shen_graph.specs.Reach.{InOrder, IsReach}
+use Rattle.shen_graph.specs.Reach.{InOrder, IsReach, IsReachable}
 
 -- the configuration; for each thread, that of thread 1 first, how many objects it made; the objects; and for each thread its
 -- roots
@@ -17,7 +17,7 @@ pub record Dumped : Type 0 where
   pub rows : List Row
   pub roots : List (List Reference)
 
--- the dump that these are
+-- the dump that these are, which leaves pin slots out
 abbrev pub dumped : Config → List ℕ → Text → Dumped
 dumped config counts text = record { config = config; counts = counts; rows = text.rows; roots = text.roots }
 
@@ -29,9 +29,9 @@ row_words r = 3 + length r.refs + length r.nums
 abbrev pub names_in : Dumped → List Name
 names_in d = map (λ r. r.name) d.rows
 
--- the graph of a dump. The threads are counted from 1: thread 0 has no root and made nothing
+-- the graph of a dump, in which no object is pinned. The threads are counted from 1: thread 0 has no root and made nothing
 abbrev pub graph_in : Dumped → Graph
-graph_in d = graph_of (record { rows = d.rows; roots = [] ∷ d.roots; counts = 0 ∷ d.counts })
+graph_in d = graph_of (record { rows = d.rows; roots = [] ∷ d.roots; counts = 0 ∷ d.counts; pins = [] })
 
 -- the most objects that a dumped thread has made
 abbrev pub most_made : ℕ
@@ -78,6 +78,16 @@ pub record IsDump (d : Dumped) : Type 0 where
   pub form : IsInForm d
   pub reach : IsReach (graph_in d) (names_in d)
 
+-- A dump can be made of these: its lines are of their form, in the order of names, and each name to which the roots lead has a row.
+-- What only pin slots lead to may have rows besides.
+pub record HasDump (d : Dumped) : Type 0 where
+  pub form : IsInForm d
+  pub all : (n : Name) → IsReachable (graph_in d) n → Contains (names_in d) n
+
+-- the graph where no object is pinned
+abbrev pub unpinned : Graph → Graph
+unpinned g = record g { pin = λ _ _. None }
+
 -- the roots of the threads 1 to `threads`, 16 each
 abbrev pub root_rows : Graph → ℕ → List (List Reference)
 root_rows g threads = map (λ t. map (g.root t) (range_with_len 0 16)) (range_with_len 1 threads)
@@ -91,7 +101,7 @@ dump_of c g names = record {
   roots = root_rows g c.mutators;
 }
 
--- the dump of a graph, whose rows are those of the objects that can be reached, in the order of names
+-- the dump of a graph, whose rows are those of the objects that its roots lead to, in the order of names
 pub record IsDumpOf (c : Config) (g : Graph) (d : Dumped) : Type 0 where
-  pub reach : IsReach g (names_in d)
+  pub reach : IsReach (unpinned g) (names_in d)
   pub parts : d ≡ dump_of c g (names_in d)

@@ -1,2 +1,3 @@
 pub mod Dumped
 pub mod DumpText
+pub mod RowsReached

@@ -1,8 +1,10 @@
-ghost use Rattle.std.specs.Prelude.{◌≡◌, ◌-◌, ◌^◌, ◌<◌, ◌≤◌, ◌++◌, length, sum_by, slice_set, All, IfOk, MatchOption};
+ghost use Rattle.std.specs.Prelude.{◌≡◌, ◌-◌, ◌^◌, ◌<◌, ◌≤◌, ◌++◌, length, replicate, sum_by, slice_set, All, None, IfOk, MatchOption};
 ghost use Rattle.shen_graph.specs.GraphText.{row_of, roots_of, with_references, with_numbers, with_whole_row};
-ghost use Rattle.dump_writing.specs.Dumped.{dumped, row_words, IsDump};
+ghost use Rattle.dump_writing.specs.RowsReached.{marked_rows};
+ghost use Rattle.dump_writing.specs.Dumped.{dumped, row_words, graph_in, HasDump, IsDump, IsDumpOf};
 
 use crate::counts::Counts;
+use crate::reached::rows_reached;
 use heap_words::Config;
 use shen_graph::{Command, GraphText, NoMemory};
 use std::alloc::Global;
@@ -23,21 +25,25 @@ pub struct Dump {
 }
 
 impl Dump {
-    /// The dump of a graph as text, whose threads made so many objects. The text may have more room than the dump needs.
+    /// The dump of a graph as text, whose threads made so many objects: the rows of what the roots lead to, and the roots. Pin slots
+    /// are left empty, and what only they lead to is left out.
     pub fn of(
         alloc: Global,
         config: Config,
         counts: Counts,
         graph: &GraphText,
     ) -> Result<Dump, NoMemory>
-        requires { IsDump (dumped config counts graph.now) }
-        ensures { IfOk result (λ d. dumped d.config d.counts d.graph ≡ dumped config counts graph.now) }
+        requires { HasDump (dumped config counts graph.now) }
+        ensures is_dump { IfOk result (λ d. IsDump (dumped d.config d.counts d.graph)) }
+        ensures dump { IfOk result (λ d. IsDumpOf config (graph_in (dumped config counts graph.now)) (dumped d.config d.counts d.graph)) }
+        ensures pins { IfOk result (λ d. d.graph.pins ≡ replicate (length graph.now.roots) (replicate 4 None)) }
     {
         let Some(words) = words_in(graph) else {
             return Err(NoMemory);
         };
         let mut text = GraphText::open(alloc, words, graph.mutators())?;
-        copy_objects(graph, &mut text);
+        let marks = rows_reached(alloc, graph)?.unwrap();
+        copy_objects(graph, &marks, &mut text);
         copy_roots(graph, &mut text);
         Ok(Dump {
             config,
@@ -96,14 +102,18 @@ fn copy_object(graph: &GraphText, row: usize, text: &mut GraphText)
     copy_numbers(graph, row, text);
 }
 
-// Adds all rows of one text to another.
-fn copy_objects(graph: &GraphText, text: &mut GraphText)
-    requires { sum_by row_words graph.now.rows ≤ text.old.spare }
-    ensures rows { text.new.rows ≡ text.old.rows ++ graph.now.rows }
+// Adds the rows of one text that have a mark to another.
+fn copy_objects(graph: &GraphText, marks: &[bool], text: &mut GraphText)
+    requires marks { length marks.now ≡ length graph.now.rows }
+    requires room { sum_by row_words graph.now.rows ≤ text.old.spare }
+    ensures rows { text.new.rows ≡ text.old.rows ++ marked_rows marks.now graph.now.rows }
     ensures roots { text.new.roots ≡ text.old.roots }
+    ensures pins { text.new.pins ≡ text.old.pins }
 {
     for row in 0..graph.rows() {
-        copy_object(graph, row, text);
+        if marks[row] {
+            copy_object(graph, row, text);
+        }
     }
 }
 

@@ -4,11 +4,12 @@ ghost use Rattle.heap_words.specs.declared.config.Config.{Config};
 ghost use Rattle.shen_graph.specs.declared.name.Name.{Name};
 ghost use Rattle.shen_graph.specs.Graph.{Graph};
 ghost use Rattle.shen_graph.specs.Reach.{IsReach};
-ghost use Rattle.dump_writing.specs.Dumped.{Dumped, IsDump, IsDumpOf, dump_of, graph_in};
+ghost use Rattle.dump_writing.specs.Dumped.{Dumped, IsDump, IsDumpOf, dump_of, graph_in, unpinned};
 
-/// A law: a graph of which finitely much can be reached has, with a configuration, exactly one dump.
+/// A law: a graph of which finitely much can be reached from roots has, with a configuration, exactly one dump. What is pinned alone is
+/// not in it.
 pub fn graphs_have_one_dump()
-    ensures some { (c : Config) (g : Graph) (names : List Name) → IsReach g names → IsDumpOf c g (dump_of c g names) }
+    ensures some { (c : Config) (g : Graph) (names : List Name) → IsReach (unpinned g) names → IsDumpOf c g (dump_of c g names) }
     ensures once { (c : Config) (g : Graph) (d e : Dumped) → IsDumpOf c g d → IsDumpOf c g e → d ≡ e }
 {}
 

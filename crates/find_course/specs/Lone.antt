@@ -3,8 +3,8 @@ use Rattle.std.specs.Prelude.{ℕ}
 use Rattle.std.specs.Coded.{×_prop, Unit-prop, le_prop}
 use Rattle.std.proofs.Props.{props}
 use Rattle.shen_graph.specs.declared.command.Command.{Command}
-use Rattle.shen_graph.specs.declared.command.Command.TheVariants.{New, Get, Set, Cas, Xchg, Rd, Wr, Copy, Drop, Same, Gc}
-use Rattle.shen_graph.specs.Valid.{IsRoot, IsSize, IsIndex, IsValid}
+use Rattle.shen_graph.specs.declared.command.Command.TheVariants.{New, Get, Set, Cas, Xchg, Rd, Wr, Copy, Drop, Same, Gc, Pin, Unpin}
+use Rattle.shen_graph.specs.Valid.{IsRoot, IsSize, IsIndex, IsSlot, IsValid}
 
 root_prop : (root : ℕ) → IsProp (IsRoot root)
 root_prop root = le_prop
@@ -14,6 +14,9 @@ size_prop fields = le_prop
 
 index_prop : (index : ℕ) → IsProp (IsIndex index)
 index_prop index = le_prop
+
+slot_prop : (slot : ℕ) → IsProp (IsSlot slot)
+slot_prop slot = le_prop
 
 pub valid_prop : (c : Command) → IsProp (IsValid c)
 valid_prop (New dst refs nums) = λ x y. λ i. (root_prop dst x.0 y.0 i, size_prop refs x.1 y.1 i, size_prop nums x.2 y.2 i)
@@ -27,6 +30,8 @@ valid_prop (Copy dst src) = ×_prop (root_prop dst) (root_prop src)
 valid_prop (Drop dst) = root_prop dst
 valid_prop (Same a b) = ×_prop (root_prop a) (root_prop b)
 valid_prop Gc = Unit-prop
+valid_prop (Pin slot obj) = ×_prop (slot_prop slot) (root_prop obj)
+valid_prop (Unpin slot) = slot_prop slot
 
 -- what shows that `CanRun` has one proof at most
 pub ruleset can_run_props = (props, valid_prop)

@@ -28,5 +28,6 @@ pub(crate) fn reply_sum(reply: Reply) -> u64 {
         Reply::Number(number) => mixed(6, number),
         Reply::Bad => 7,
         Reply::Full => 8,
+        Reply::At(place) => mixed(9, place),
     }
 }

@@ -73,6 +73,8 @@ impl Program {
 /// A test: programs, what it claims of their runs, and within which bounds they are searched.
 #[derive(Drop)]
 pub struct Test {
+    /// The version of its format, that of traces: from version 2 on its threads can pin.
+    pub version: u32,
     /// The sizes of the heap, and how many machines work on it.
     pub config: Config,
     /// The bounds of the search.

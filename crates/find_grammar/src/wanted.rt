@@ -23,6 +23,8 @@ pub enum Wanted {
     Bad,
     /// This number.
     Number(u64),
+    /// The place of an object that was pinned.
+    Pinned,
 }
 
 impl Wanted {
@@ -37,7 +39,8 @@ impl Wanted {
             | (Wanted::Object, Reply::Ref(_))
             | (Wanted::Ok, Reply::Ok)
             | (Wanted::Full, Reply::Full)
-            | (Wanted::Bad, Reply::Bad) => true,
+            | (Wanted::Bad, Reply::Bad)
+            | (Wanted::Pinned, Reply::At(_)) => true,
             (Wanted::Number(wanted), Reply::Number(number)) => wanted == number,
             _ => false,
         }

@@ -17,15 +17,16 @@ use Rattle.find_play.specs.declared.verdict.Verdict.{Verdict}
 use Rattle.find_hunt.specs.Judged.{IsRunOf, HasVerdict, HasNoJudgement, IsLong, IsNoTrace, IsOfOther, IsCutOff, IsNoPlay}
 
 -- a trace of the heap of a test, whose replay comes to its end by this history and leaves this graph
-run_of : (test : Test) (bytes : List ℕ) (steps : ℕ) (config : Config) (scripts : Scripts) (items : List Item) (history : List Entry) (text : Text)
-    → config ≡ test.config → Reads bytes config scripts items → IsWhole config scripts (events_of config scripts items steps)
+run_of : (test : Test) (bytes : List ℕ) (steps version : ℕ) (config : Config) (scripts : Scripts) (items : List Item) (history : List Entry) (text : Text)
+    → config ≡ test.config → Reads bytes version config scripts items → IsWhole config scripts (events_of config scripts items steps)
     → history ≡ history_of config scripts items steps
     → ShowsGraph text config.mutators (after (first_graph config) (history_of config scripts items steps))
     → IsRunOf test.config bytes steps history text.rows
-run_of test bytes steps config scripts items history text same reads whole is shows = subst (λ (c : Config). IsRunOf c bytes steps history text.rows) same run
+run_of test bytes steps version config scripts items history text same reads whole is shows = subst (λ (c : Config). IsRunOf c bytes steps history text.rows) same run
   where
     run : IsRunOf config bytes steps history text.rows
     run = record {
+      version = version;
       scripts = scripts;
       items = items;
       reads = reads;
@@ -37,28 +38,28 @@ run_of test bytes steps config scripts items history text same reads whole is sh
     }
 
 -- it has the verdict on that history and on that graph
-pub judged : (test : Test) (bytes : List ℕ) (steps : ℕ) (config : Config) (scripts : Scripts) (items : List Item) (history : List Entry) (text : Text) (verdict : Verdict)
-    → config ≡ test.config → Reads bytes config scripts items → IsWhole config scripts (events_of config scripts items steps)
+pub judged : (test : Test) (bytes : List ℕ) (steps version : ℕ) (config : Config) (scripts : Scripts) (items : List Item) (history : List Entry) (text : Text) (verdict : Verdict)
+    → config ≡ test.config → Reads bytes version config scripts items → IsWhole config scripts (events_of config scripts items steps)
     → history ≡ history_of config scripts items steps
     → ShowsGraph text config.mutators (after (first_graph config) (history_of config scripts items steps))
     → IsVerdictOn test.programs.items test.bounds.returns (length test.notes) test.places.items test.claims.items history text.rows verdict
     → HasVerdict test bytes steps verdict
-judged test bytes steps config scripts items history text verdict same reads whole is shows on = record {
+judged test bytes steps version config scripts items history text verdict same reads whole is shows on = record {
   history = history;
   rows = text.rows;
-  run = run_of test bytes steps config scripts items history text same reads whole is shows;
+  run = run_of test bytes steps version config scripts items history text same reads whole is shows;
   verdict_on = on;
 }
 
 -- or none, where the test has none on that history
-pub no_play : (test : Test) (bytes : List ℕ) (steps : ℕ) (config : Config) (scripts : Scripts) (items : List Item) (history : List Entry) (text : Text)
-    → config ≡ test.config → Reads bytes config scripts items → IsWhole config scripts (events_of config scripts items steps)
+pub no_play : (test : Test) (bytes : List ℕ) (steps version : ℕ) (config : Config) (scripts : Scripts) (items : List Item) (history : List Entry) (text : Text)
+    → config ≡ test.config → Reads bytes version config scripts items → IsWhole config scripts (events_of config scripts items steps)
     → history ≡ history_of config scripts items steps
     → ShowsGraph text config.mutators (after (first_graph config) (history_of config scripts items steps))
     → HasNoVerdict test.programs.items test.bounds.returns (length test.notes) history
     → HasNoJudgement test bytes steps
-no_play test bytes steps config scripts items history text same reads whole is shows none =
-    IsNoPlay history text.rows (run_of test bytes steps config scripts items history text same reads whole is shows) none
+no_play test bytes steps version config scripts items history text same reads whole is shows none =
+    IsNoPlay history text.rows (run_of test bytes steps version config scripts items history text same reads whole is shows) none
 
 pub too_long : (test : Test) (bytes : List ℕ) (steps : ℕ) → most_bytes < length bytes → HasNoJudgement test bytes steps
 too_long test bytes steps more = IsLong more
@@ -66,9 +67,9 @@ too_long test bytes steps more = IsLong more
 pub no_trace : (test : Test) (bytes : List ℕ) (steps n : ℕ) (why : Why) → Refused bytes n why → HasNoJudgement test bytes steps
 no_trace test bytes steps n why refused = IsNoTrace n why refused
 
-pub of_other : (test : Test) (bytes : List ℕ) (steps : ℕ) (config : Config) (scripts : Scripts) (items : List Item) → Reads bytes config scripts items → config ≢ test.config
+pub of_other : (test : Test) (bytes : List ℕ) (steps version : ℕ) (config : Config) (scripts : Scripts) (items : List Item) → Reads bytes version config scripts items → config ≢ test.config
     → HasNoJudgement test bytes steps
-of_other test bytes steps config scripts items reads other = IsOfOther config scripts items reads other
+of_other test bytes steps version config scripts items reads other = IsOfOther version config scripts items reads other
 
 pub cut_off : (test : Test) (bytes : List ℕ) (steps : ℕ) → IsUnfinished bytes steps → HasNoJudgement test bytes steps
 cut_off test bytes steps cut = IsCutOff cut

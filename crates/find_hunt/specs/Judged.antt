@@ -21,9 +21,10 @@ use Rattle.find_hunt.specs.declared.judging.Judged.TheVariants.{Verdict, Nothing
 -- The bytes are a trace of this heap; so many steps of its replay lead to its end, by a legal history, which is this one; and these
 -- are the objects of the graph that is left.
 pub record IsRunOf (config : Config) (bytes : List ℕ) (steps : ℕ) (history : List Entry) (rows : List Row) : Type 0 where
+  pub version : ℕ
   pub scripts : Scripts
   pub items : List Item
-  pub reads : Reads bytes config scripts items
+  pub reads : Reads bytes version config scripts items
   pub whole : IsWhole config scripts (events_of config scripts items steps)
   pub history_is : history ≡ history_of config scripts items steps
   pub text : Text
@@ -43,7 +44,7 @@ pub record HasVerdict (test : Test) (bytes : List ℕ) (steps : ℕ) (verdict : 
 pub data HasNoJudgement (test : Test) (bytes : List ℕ) (steps : ℕ) : Type 0 where
   IsLong : most_bytes < length bytes → HasNoJudgement test bytes steps
   IsNoTrace : (n : ℕ) (why : Why) → Refused bytes n why → HasNoJudgement test bytes steps
-  IsOfOther : (config : Config) (scripts : Scripts) (items : List Item) → Reads bytes config scripts items → config ≢ test.config → HasNoJudgement test bytes steps
+  IsOfOther : (version : ℕ) (config : Config) (scripts : Scripts) (items : List Item) → Reads bytes version config scripts items → config ≢ test.config → HasNoJudgement test bytes steps
   IsCutOff : IsUnfinished bytes steps → HasNoJudgement test bytes steps
   IsNoPlay : (history : List Entry) (rows : List Row) → IsRunOf test.config bytes steps history rows
       → HasNoVerdict test.programs.items test.bounds.returns (length test.notes) history → HasNoJudgement test bytes steps

@@ -40,7 +40,13 @@ fn break_of(alloc: Global, test: &Test, found: Found, steps: u64) -> Result<Opti
     let Some(short) = shrink(alloc, test, found.items, found.verdict, test.bounds.steps)? else {
         return Ok(None);
     };
-    let text = spelled(alloc, test.config, &short.shape.scripts, &short.items)?;
+    let text = spelled(
+        alloc,
+        test.version,
+        test.config,
+        &short.shape.scripts,
+        &short.items,
+    )?;
     match judge(alloc, test, &text, steps)? {
         Judged::Nothing | Judged::Verdict(Verdict::Holds) => Ok(None),
         Judged::Verdict(verdict) => Ok(Some(Break { text, verdict })),

@@ -75,12 +75,15 @@ fn put_command(text: &mut Vec<u8>, command: Command) -> Result<(), NoMemory> {
         Command::Drop { dst } => put_words(text, b"drop", &[dst as u64]),
         Command::Same { a, b } => put_words(text, b"same", &[a as u64, b as u64]),
         Command::Gc => put_words(text, b"gc", &[]),
+        Command::Pin { slot, obj } => put_words(text, b"pin", &[slot as u64, obj as u64]),
+        Command::Unpin { slot } => put_words(text, b"unpin", &[slot as u64]),
     }
 }
 
-// Adds the three lines at the head.
-fn put_head(text: &mut Vec<u8>, config: &Config) -> Result<(), NoMemory> {
-    put(text, b"shen 1\n")?;
+// Adds the three lines at the head of a trace of a version.
+fn put_head(text: &mut Vec<u8>, version: u32, config: &Config) -> Result<(), NoMemory> {
+    put_words(text, b"shen", &[version as u64])?;
+    put(text, b"\n")?;
     let heap = [
         config.regions() as u64,
         config.region_words() as u64,
@@ -115,15 +118,16 @@ fn put_item(text: &mut Vec<u8>, item: Item) -> Result<(), NoMemory> {
     }
 }
 
-/// The text of a trace: the head, the lines of the threads one thread after the other, and all items on one line.
+/// The text of a trace of a version: the head, the lines of the threads one thread after the other, and all items on one line.
 pub fn spelled(
     alloc: Global,
+    version: u32,
     config: Config,
     scripts: &[Script],
     items: &[Item],
 ) -> Result<Vec<u8>, NoMemory> {
     let mut text = Vec::new(alloc);
-    put_head(&mut text, &config)?;
+    put_head(&mut text, version, &config)?;
     for thread in 0..scripts.len() {
         for command in scripts[thread].list() {
             put_number(&mut text, (thread as u64).saturating_add(1))?;

@@ -38,6 +38,7 @@ same_reply reply.No reply.No = true
 same_reply (reply.Number a) (reply.Number b) = a == b
 same_reply reply.Bad reply.Bad = true
 same_reply reply.Full reply.Full = true
+same_reply (reply.At a) (reply.At b) = a == b
 same_reply _ _ = false
 
 -- there is a reply, and it is such

@@ -60,6 +60,7 @@ fn same_reply(a: Reply, b: Reply) -> bool
     match (a, b) {
         (Reply::Ref(one), Reply::Ref(other)) => same_name(one, other),
         (Reply::Number(one), Reply::Number(other)) => one == other,
+        (Reply::At(one), Reply::At(other)) => one == other,
         (Reply::Null, Reply::Null)
         | (Reply::Ok, Reply::Ok)
         | (Reply::Yes, Reply::Yes)

@@ -37,6 +37,16 @@ threads_stay d e (text ∷ texts) lead =
     let f = lead.1 in
     threads_stay lead.0 e texts lead.2 ∙ ap (λ (x : Told). x.threads) f.3 ∙ adds_no_threads d f.0 f.1 (name_among (parts 32 text))
 
+adds_no_version : (d : Told) (k : LineKind) (vs : List Value) (name : List ℕ) → (added d k vs name).version ≡ d.version
+adds_no_version d line.Bounds vs name = refl
+adds_no_version d _ vs name = refl
+
+pub version_stays : (d e : Told) (texts : List (List ℕ)) → TestLinesFollow d texts e → e.version ≡ d.version
+version_stays d e [] lead = ap (λ (x : Told). x.version) (sym lead)
+version_stays d e (text ∷ texts) lead =
+    let f = lead.1 in
+    version_stays lead.0 e texts lead.2 ∙ ap (λ (x : Told). x.version) f.3 ∙ adds_no_version d f.0 f.1 (name_among (parts 32 text))
+
 -- ---- one line more
 
 pub lines_then : (d e f : Told) (texts : List (List ℕ)) (text : List ℕ) → TestLinesFollow d texts e → TestLineFollows e text f → TestLinesFollow d (texts ++ text ∷ []) f

@@ -8,9 +8,10 @@ use Rattle.heap_words.specs.declared.config.BadConfig.TheVariants.{Regions, Regi
 use Rattle.heap_words.specs.Faults.{is_within, fault_of}
 use Rattle.heap_words.specs.Ranges.{IsInRange}
 use Rattle.heap_words.specs.Narrow.{IsNarrow}
-use Rattle.trace_grammar.specs.Spelling.{header}
-use Rattle.trace_grammar.specs.Scanning.{sizes_at}
-use Rattle.trace_grammar.proofs.Header.{sizes_take, no_head, no_configuration, head_read}
+use Rattle.trace_grammar.specs.Spelling.{IsVersion, header}
+use Rattle.trace_grammar.specs.Scanning.{HeadNumbers, sizes_at}
+use Rattle.trace_grammar.specs.Grammar.{HasNoHead}
+use Rattle.trace_grammar.proofs.Header.{these_numbers, sizes_take, no_head, no_configuration, head_read}
 
 within : (least most n : ℕ) → is_within least most n ≡ true → (least ≤ n) × (n ≤ most)
 within least most n e = (grind (arith, nat_tests), grind (arith, nat_tests))
@@ -49,32 +50,30 @@ in_range r w m h e none = by_tests (is_within 4 64 r) (is_within 64 1024 w) (is_
     by_tests false b c d f p q s t u none = absurd cc
 
 abbrev pub HasHead : List ℕ → Type 0
-HasHead bytes = (config : Config) × (rest : List ℕ) × IsNarrow config × (bytes ≡ header config ++ rest)
+HasHead bytes = (version : ℕ) × (config : Config) × (rest : List ℕ) × IsVersion version × IsNarrow config × (bytes ≡ header version config ++ rest)
 
-abbrev pub HasNoHead : List ℕ → Type 0
-HasNoHead bytes = (config : Config) (rest : List ℕ) → IsNarrow config → bytes ≡ header config ++ rest → ⊥
-
-by_numbers : (bytes heap threads rest : List ℕ) → ◌≡◌ {A = Option ((List ℕ × List ℕ) × List ℕ)} (Some ((take 3 heap, take 2 threads), rest)) (sizes_at bytes) → HasHead bytes ⊎ HasNoHead bytes
-by_numbers bytes heap threads rest e = by_fault (fault_of (get_or heap 0 0) (get_or heap 1 0) (get_or threads 0 0) (get_or threads 1 0) (get_or heap 2 0)) refl
+by_numbers : (bytes : List ℕ) (version : ℕ) (heap threads rest : List ℕ) → ◌≡◌ {A = Option (HeadNumbers × List ℕ)} (Some (these_numbers version (take 3 heap) (take 2 threads), rest)) (sizes_at bytes) → HasHead bytes ⊎ HasNoHead bytes
+by_numbers bytes version heap threads rest e = by_fault (fault_of (get_or heap 0 0) (get_or heap 1 0) (get_or threads 0 0) (get_or threads 1 0) (get_or heap 2 0)) refl
   where
     by_fault : (fault : Option BadConfig) → fault_of (get_or heap 0 0) (get_or heap 1 0) (get_or threads 0 0) (get_or threads 1 0) (get_or heap 2 0) ≡ fault → HasHead bytes ⊎ HasNoHead bytes
-    by_fault (Some bad) is = inr (no_configuration bytes heap threads rest (Err bad) e (sym is) refl)
+    by_fault (Some bad) is = inr (no_configuration bytes version heap threads rest (Err bad) e (sym is) refl)
     by_fault None is =
         let fit = in_range (get_or heap 0 0) (get_or heap 1 0) (get_or threads 0 0) (get_or threads 1 0) (get_or heap 2 0) is in
         let config : Config = record { regions = get_or heap 0 0; region_words = get_or heap 1 0; mutators = get_or threads 0 0; helpers = get_or threads 1 0; reserve = get_or heap 2 0; in_range = fit.0 } in
-        inl (config, rest, fit.1, head_read bytes heap threads rest config e refl refl refl refl refl)
+        let read = head_read bytes version heap threads rest config e refl refl refl refl refl in
+        inl (version, config, rest, read.1, fit.1, read.0)
 
 pub head_or_none : (bytes : List ℕ) → HasHead bytes ⊎ HasNoHead bytes
 head_or_none bytes = by_sizes (sizes_at bytes) refl
   where
-    by_sizes : (sizes : Option ((List ℕ × List ℕ) × List ℕ)) → sizes_at bytes ≡ sizes → HasHead bytes ⊎ HasNoHead bytes
+    by_sizes : (sizes : Option (HeadNumbers × List ℕ)) → sizes_at bytes ≡ sizes → HasHead bytes ⊎ HasNoHead bytes
     by_sizes None is = inr (no_head bytes (sym is))
     by_sizes (Some x) is =
         let taken = sizes_take bytes x is in
-        let heap : take 3 x.0.0 ≡ x.0.0 = take_all 3 x.0.0 (omega (arith, taken.1)) in
-        let threads : take 2 x.0.1 ≡ x.0.1 = take_all 2 x.0.1 (omega (arith, taken.2)) in
-        let one : (List ℕ × List ℕ) × List ℕ = ((take 3 x.0.0, take 2 x.0.1), x.1) in
-        let two : (List ℕ × List ℕ) × List ℕ = ((x.0.0, take 2 x.0.1), x.1) in
-        let first : one ≡ two = ap (λ (h : List ℕ). ((h, take 2 x.0.1), x.1)) heap in
-        let second : two ≡ x = ap (λ (t : List ℕ). ((x.0.0, t), x.1)) threads in
-        by_numbers bytes x.0.0 x.0.1 x.1 (ap (λ (y : (List ℕ × List ℕ) × List ℕ). Some y) (first ∙ second) ∙ sym is)
+        let heap : take 3 x.0.heap ≡ x.0.heap = take_all 3 x.0.heap (omega (arith, taken.2)) in
+        let threads : take 2 x.0.threads ≡ x.0.threads = take_all 2 x.0.threads (omega (arith, taken.3)) in
+        let one : HeadNumbers × List ℕ = (these_numbers x.0.version (take 3 x.0.heap) (take 2 x.0.threads), x.1) in
+        let two : HeadNumbers × List ℕ = (these_numbers x.0.version x.0.heap (take 2 x.0.threads), x.1) in
+        let first : one ≡ two = ap (λ (h : List ℕ). (these_numbers x.0.version h (take 2 x.0.threads), x.1)) heap in
+        let second : two ≡ x = ap (λ (t : List ℕ). (these_numbers x.0.version x.0.heap t, x.1)) threads in
+        by_numbers bytes x.0.version x.0.heap x.0.threads x.1 (ap (λ (y : HeadNumbers × List ℕ). Some y) (first ∙ second) ∙ sym is)

@@ -46,37 +46,49 @@ number_said least most n w small e = by_tests (is_plain_number w) (ltb (digits_v
 -- ---- replies
 
 -- the value is what a reply is asked to be, and the word is its
-abbrev IsReply : List ℕ → Value → Type 0
-IsReply w v = (x : Wanted) × (v ≡ value.Wanted x) × (w ≡ wanted_word x) × FitsWhenWanted x
+abbrev IsReply : ℕ → List ℕ → Value → Type 0
+IsReply version w v = (x : Wanted) × (v ≡ value.Wanted x) × (w ≡ wanted_word x) × FitsWhenWanted version x
 
-one_reply : (w name : List ℕ) (x : Wanted) (other : Result Value TestWhy) (v : Value) → name ≡ wanted_word x → FitsWhenWanted x → cond (is_same w name) (Ok (value.Wanted x)) other ≡ Ok v → (other ≡ Ok v → IsReply w v) → IsReply w v
-one_reply w name x other v spelled fits e others = by_test (is_same w name) refl e
+one_reply : (version : ℕ) (w name : List ℕ) (x : Wanted) (other : Result Value TestWhy) (v : Value) → name ≡ wanted_word x → FitsWhenWanted version x → cond (is_same w name) (Ok (value.Wanted x)) other ≡ Ok v
+    → (other ≡ Ok v → IsReply version w v) → IsReply version w v
+one_reply version w name x other v spelled fits e others = by_test (is_same w name) refl e
   where
-    by_test : (test : Bool) → is_same w name ≡ test → cond test (Ok (value.Wanted x)) other ≡ Ok v → IsReply w v
+    by_test : (test : Bool) → is_same w name ≡ test → cond test (Ok (value.Wanted x)) other ≡ Ok v → IsReply version w v
     by_test true same e = (x, sym (same_ok _ _ e), same_text w name (sym same) ∙ spelled, fits)
     by_test false same e = others e
 
-number_reply : (w : List ℕ) (v : Value) → number_wanted w ≡ Ok v → IsReply w v
-number_reply w v e = by_test (is_plain_number w) e
+-- the word of a place, which version 1 has not
+pinned_reply : (version : ℕ) (w : List ℕ) (other : Result Value TestWhy) (v : Value) → cond (ltb 1 version && is_same w (codes "pinned")) (Ok (value.Wanted wanted.Pinned)) other ≡ Ok v
+    → (other ≡ Ok v → IsReply version w v) → IsReply version w v
+pinned_reply version w other v e others = by_tests (ltb 1 version) (is_same w (codes "pinned")) refl refl e
   where
-    by_number : (r : Result ℕ TestWhy) → number_between 0 18446744073709551615 w ≡ r → as_wanted r ≡ Ok v → IsReply w v
+    by_tests : (a b : Bool) → ltb 1 version ≡ a → is_same w (codes "pinned") ≡ b → cond (a && b) (Ok (value.Wanted wanted.Pinned)) other ≡ Ok v → IsReply version w v
+    by_tests true true later same e = (wanted.Pinned, sym (same_ok _ _ e), same_text w (codes "pinned") (sym same), ltb-true 1 version later)
+    by_tests true false later same e = others e
+    by_tests false b later same e = others e
+
+number_reply : (version : ℕ) (w : List ℕ) (v : Value) → number_wanted w ≡ Ok v → IsReply version w v
+number_reply version w v e = by_test (is_plain_number w) e
+  where
+    by_number : (r : Result ℕ TestWhy) → number_between 0 18446744073709551615 w ≡ r → as_wanted r ≡ Ok v → IsReply version w v
     by_number (Ok n) is e = let said = number_said 0 18446744073709551615 n w (omega arith) is in (wanted.Number n, sym (same_ok _ _ e), said.0, omega (arith, said.2))
     by_number (Err why) is e = absurd cc
 
-    by_test : (test : Bool) → cond test (as_wanted (number_between 0 18446744073709551615 w)) (Err why.Reply) ≡ Ok v → IsReply w v
+    by_test : (test : Bool) → cond test (as_wanted (number_between 0 18446744073709551615 w)) (Err why.Reply) ≡ Ok v → IsReply version w v
     by_test true e = by_number (number_between 0 18446744073709551615 w) refl e
     by_test false e = absurd cc
 
-pub reply_said : (w : List ℕ) (v : Value) → wanted_in w ≡ Ok v → IsReply w v
+pub reply_said : (version : ℕ) (w : List ℕ) (v : Value) → wanted_in version w ≡ Ok v → IsReply version w v
 unfolding wanted_in
-reply_said w v e =
-    one_reply w (codes "yes") wanted.Yes _ v refl tt e (λ e.
-    one_reply w (codes "no") wanted.No _ v refl tt e (λ e.
-    one_reply w (codes "null") wanted.Null _ v refl tt e (λ e.
-    one_reply w (codes "object") wanted.Object _ v refl tt e (λ e.
-    one_reply w (codes "ok") wanted.Ok _ v refl tt e (λ e.
-    one_reply w (codes "full") wanted.Full _ v refl tt e (λ e.
-    one_reply w (codes "bad") wanted.Bad _ v refl tt e (λ e. number_reply w v e)))))))
+reply_said version w v e =
+    one_reply version w (codes "yes") wanted.Yes _ v refl tt e (λ e.
+    one_reply version w (codes "no") wanted.No _ v refl tt e (λ e.
+    one_reply version w (codes "null") wanted.Null _ v refl tt e (λ e.
+    one_reply version w (codes "object") wanted.Object _ v refl tt e (λ e.
+    one_reply version w (codes "ok") wanted.Ok _ v refl tt e (λ e.
+    one_reply version w (codes "full") wanted.Full _ v refl tt e (λ e.
+    one_reply version w (codes "bad") wanted.Bad _ v refl tt e (λ e.
+    pinned_reply version w _ v e (λ e. number_reply version w v e))))))))
 
 -- ---- values
 
@@ -119,7 +131,7 @@ value_said d k slot.Place w v small e = by_number (number_of d.place_names w) re
     by_number (Some n) is e = subst (λ (u : Value). Says d k slot.Place u w) (same_ok _ _ e) is
     by_number None is e = absurd cc
 value_said d k slot.Wanted w v small e =
-    let said = reply_said w v e in
+    let said = reply_said d.version w v e in
     subst (λ (u : Value). Says d k slot.Wanted u w) (sym said.1) (said.2, said.3)
 value_said d k slot.Fresh w v small e = by_tests (is_name w) (number_of (names_beside d k) w) refl refl e
   where

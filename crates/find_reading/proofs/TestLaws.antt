@@ -4,12 +4,12 @@ use Rattle.heap_words.specs.declared.config.Config.{Config}
 use Rattle.heap_words.specs.declared.schedule.Item.{Item}
 use Rattle.heap_words.specs.Narrow.{IsNarrow}
 use Rattle.shen_graph.specs.declared.command.Command.{Command}
-use Rattle.trace_grammar.specs.Spelling.{header}
-use Rattle.trace_grammar.specs.Scanning.{sizes_at}
-use Rattle.trace_grammar.specs.Grammar.{most_bytes, Reads}
+use Rattle.trace_grammar.specs.Spelling.{IsVersion, header}
+use Rattle.trace_grammar.specs.Scanning.{HeadNumbers, sizes_at}
+use Rattle.trace_grammar.specs.Grammar.{most_bytes, Reads, HasNoHead}
 use Rattle.trace_grammar.specs.declared.why.Why.{Why}
 use Rattle.trace_grammar.proofs.Numbers.{same_some}
-use Rattle.trace_grammar.proofs.Header.{sizes_again}
+use Rattle.trace_grammar.proofs.Header.{numbers_in_head, sizes_again}
 use Rattle.trace_grammar.proofs.Once.{same_config}
 use Rattle.trace_refusals.specs.Causes.{parts}
 use Rattle.trace_refusals.specs.Refused.{Refused}
@@ -22,21 +22,27 @@ use Rattle.find_reading.specs.declared.fault.TestWhy.TheVariants as whys
 use Rattle.find_reading.specs.Told.{Told, untold}
 use Rattle.find_reading.specs.Drafts.{has_all_threads}
 use Rattle.find_reading.specs.Tests.{LineStops, TestSaid, said_in_all, IsWholeTest, IsTestBody, IsTest, StopsBehind, StopsInHead, StopsInBody, RefusesTest}
-use Rattle.find_reading.proofs.HeadFound.{HasHead, HasNoHead, head_or_none}
-use Rattle.find_reading.proofs.Following.{IsEnding, Ends, all_end, one_end, one_cause, never_whole}
+use Rattle.find_reading.proofs.HeadFound.{HasHead, head_or_none}
+use Rattle.find_reading.proofs.Following.{version_stays, IsEnding, Ends, all_end, one_end, one_cause, never_whole}
 
 -- ---- one head
 
 -- a head, and what is behind it, are one
-same_head : (c d : Config) (rest after : List ℕ) → IsNarrow c → IsNarrow d → header c ++ rest ≡ header d ++ after → (c ≡ d) × (rest ≡ after)
-same_head c d rest after p q e =
-    let one : (List ℕ × List ℕ) × List ℕ = ((c.regions ∷ c.region_words ∷ c.reserve ∷ [], c.mutators ∷ c.helpers ∷ []), rest) in
-    let two : (List ℕ × List ℕ) × List ℕ = ((d.regions ∷ d.region_words ∷ d.reserve ∷ [], d.mutators ∷ d.helpers ∷ []), after) in
-    let same : one ≡ two = same_some one two (sym (sizes_again c rest p) ∙ ap sizes_at e ∙ sizes_again d after q) in (
-      same_config c d (ap (λ (x : (List ℕ × List ℕ) × List ℕ). get_or x.0.0 0 0) same) (ap (λ (x : (List ℕ × List ℕ) × List ℕ). get_or x.0.0 1 0) same)
-          (ap (λ (x : (List ℕ × List ℕ) × List ℕ). get_or x.0.1 0 0) same) (ap (λ (x : (List ℕ × List ℕ) × List ℕ). get_or x.0.1 1 0) same) (ap (λ (x : (List ℕ × List ℕ) × List ℕ). get_or x.0.0 2 0) same),
-      ap (λ (x : (List ℕ × List ℕ) × List ℕ). x.1) same,
+same_head : (v w : ℕ) (c d : Config) (rest after : List ℕ) → IsVersion v → IsVersion w → IsNarrow c → IsNarrow d → header v c ++ rest ≡ header w d ++ after → (v ≡ w) × (c ≡ d) × (rest ≡ after)
+same_head v w c d rest after known other p q e =
+    let one : HeadNumbers × List ℕ = (numbers_in_head v c, rest) in
+    let two : HeadNumbers × List ℕ = (numbers_in_head w d, after) in
+    let same : one ≡ two = same_some one two (sym (sizes_again v c rest known p) ∙ ap sizes_at e ∙ sizes_again w d after other q) in (
+      ap (λ (x : HeadNumbers × List ℕ). x.0.version) same,
+      same_config c d (ap (λ (x : HeadNumbers × List ℕ). get_or x.0.heap 0 0) same) (ap (λ (x : HeadNumbers × List ℕ). get_or x.0.heap 1 0) same)
+          (ap (λ (x : HeadNumbers × List ℕ). get_or x.0.threads 0 0) same) (ap (λ (x : HeadNumbers × List ℕ). get_or x.0.threads 1 0) same) (ap (λ (x : HeadNumbers × List ℕ). get_or x.0.heap 2 0) same),
+      ap (λ (x : HeadNumbers × List ℕ). x.1) same,
     )
+
+-- what holds of a head and what is behind it holds of the same
+of_same : (P : ℕ → Config → List ℕ → Type 0) (v w : ℕ) (c d : Config) (rest after : List ℕ) → (v ≡ w) × (c ≡ d) × (rest ≡ after) → P v c rest → P w d after
+of_same P v w c d rest after same holds =
+    subst (P w d) same.2 (subst (λ (e : Config). P w e rest) same.1 (subst (λ (u : ℕ). P u c rest) same.0 holds))
 
 -- ---- one test
 
@@ -45,31 +51,31 @@ said_once config d t u a b =
     let bounds : t.bounds ≡ u.bounds = same_some t.bounds u.bounds (sym a.bounds ∙ b.bounds) in
     a.test_is ∙ ap (λ (x : Bounds). said_in_all config x d) bounds ∙ sym b.test_is
 
-body_once : (config : Config) (bytes : List ℕ) (t u : TestSaid) → IsTestBody config bytes t → IsTestBody config bytes u → t ≡ u
-body_once config bytes t u a b =
-    let one = one_end (untold config.mutators) a.lines b.lines a.said b.said ([] ∷ []) ([] ∷ []) a.lead b.lead (sym a.cut ∙ b.cut) (inr (refl, a.whole.whole)) (inr (refl, b.whole.whole)) in
+body_once : (version : ℕ) (config : Config) (bytes : List ℕ) (t u : TestSaid) → IsTestBody version config bytes t → IsTestBody version config bytes u → t ≡ u
+body_once version config bytes t u a b =
+    let one = one_end (untold version config.mutators) a.lines b.lines a.said b.said ([] ∷ []) ([] ∷ []) a.lead b.lead (sym a.cut ∙ b.cut) (inr (refl, a.whole.whole)) (inr (refl, b.whole.whole)) in
     said_once config b.said t u (subst (λ (d : Told). IsWholeTest config d t) one.1 a.whole) b.whole
 
 pub test_once : (bytes : List ℕ) (t u : TestSaid) → IsTest bytes t → IsTest bytes u → t ≡ u
 test_once bytes t u a b =
-    let same = same_head t.config u.config a.behind b.behind a.narrow b.narrow (sym a.head ∙ b.head) in
-    body_once u.config b.behind t u (subst (λ (bs : List ℕ). IsTestBody u.config bs t) same.1 (subst (λ (c : Config). IsTestBody c a.behind t) same.0 a.body)) b.body
+    let same = same_head t.version u.version t.config u.config a.behind b.behind a.known b.known a.narrow b.narrow (sym a.head ∙ b.head) in
+    body_once u.version u.config b.behind t u (of_same (λ v c bs. IsTestBody v c bs t) t.version u.version t.config u.config a.behind b.behind same a.body) b.body
 
 -- ---- never both
 
-body_not_refused : (config : Config) (bytes : List ℕ) (t : TestSaid) (n : ℕ) (why : TestWhy) → IsTestBody config bytes t → StopsBehind (untold config.mutators) 4 bytes n why → ⊥
-body_not_refused config bytes t n why a s =
-    let one = one_end (untold config.mutators) a.lines s.before a.said s.said ([] ∷ []) s.from_it a.lead s.lead (sym a.cut ∙ s.cut) (inr (refl, a.whole.whole)) (inl (why, s.cause)) in
+body_not_refused : (version : ℕ) (config : Config) (bytes : List ℕ) (t : TestSaid) (n : ℕ) (why : TestWhy) → IsTestBody version config bytes t → StopsBehind (untold version config.mutators) 4 bytes n why → ⊥
+body_not_refused version config bytes t n why a s =
+    let one = one_end (untold version config.mutators) a.lines s.before a.said s.said ([] ∷ []) s.from_it a.lead s.lead (sym a.cut ∙ s.cut) (inr (refl, a.whole.whole)) (inl (why, s.cause)) in
     never_whole s.said s.from_it why (sym one.2) (ap has_all_threads (sym one.1) ∙ a.whole.whole) s.cause
 
 pub never_both : (bytes : List ℕ) (t : TestSaid) (n : ℕ) (why : TestWhy) → IsTest bytes t → RefusesTest bytes n why → ⊥
 never_both bytes t n why a r = by_part r.stops
   where
     by_part : StopsInHead bytes n why ⊎ StopsInBody bytes n why → ⊥
-    by_part (inl s) = s.no_head t.config a.behind a.narrow a.head
+    by_part (inl s) = s.no_head t.version t.config a.behind a.known a.narrow a.head
     by_part (inr s) =
-        let same = same_head t.config s.config a.behind s.behind a.narrow s.narrow (sym a.head ∙ s.head) in
-        body_not_refused s.config s.behind t n why (subst (λ (bs : List ℕ). IsTestBody s.config bs t) same.1 (subst (λ (c : Config). IsTestBody c a.behind t) same.0 a.body)) s.stops
+        let same = same_head t.version s.version t.config s.config a.behind s.behind a.known s.known a.narrow s.narrow (sym a.head ∙ s.head) in
+        body_not_refused s.version s.config s.behind t n why (of_same (λ v c bs. IsTestBody v c bs t) t.version s.version t.config s.config a.behind s.behind same a.body) s.stops
 
 -- ---- refused once
 
@@ -84,12 +90,12 @@ refused_once bytes n m why other r q = by_part r.stops q.stops
   where
     by_part : StopsInHead bytes n why ⊎ StopsInBody bytes n why → StopsInHead bytes m other ⊎ StopsInBody bytes m other → (n ≡ m) × (why ≡ other)
     by_part (inl s) (inl t) = let one = trace_once bytes n m s.cause t.cause s.stops t.stops in (one.0, s.why_is ∙ ap whys.Trace one.1 ∙ sym t.why_is)
-    by_part (inl s) (inr t) = absurd (s.no_head t.config t.behind t.narrow t.head)
-    by_part (inr s) (inl t) = absurd (t.no_head s.config s.behind s.narrow s.head)
+    by_part (inl s) (inr t) = absurd (s.no_head t.version t.config t.behind t.known t.narrow t.head)
+    by_part (inr s) (inl t) = absurd (t.no_head s.version s.config s.behind s.known s.narrow s.head)
     by_part (inr s) (inr t) =
-        let same = same_head t.config s.config t.behind s.behind t.narrow s.narrow (sym t.head ∙ s.head) in
-        let stops = subst (λ (bs : List ℕ). StopsBehind (untold s.config.mutators) 4 bs m other) same.1 (subst (λ (c : Config). StopsBehind (untold c.mutators) 4 t.behind m other) same.0 t.stops) in
-        body_refused_once (untold s.config.mutators) s.behind n m why other s.stops stops
+        let same = same_head t.version s.version t.config s.config t.behind s.behind t.known s.known t.narrow s.narrow (sym t.head ∙ s.head) in
+        let stops = of_same (λ v c bs. StopsBehind (untold v c.mutators) 4 bs m other) t.version s.version t.config s.config t.behind s.behind same t.stops in
+        body_refused_once (untold s.version s.config.mutators) s.behind n m why other s.stops stops
 
 -- ---- one or the other
 
@@ -101,6 +107,21 @@ no_bounds d whole none = by_tests (eqb (length d.programs) d.threads) (eqb (leng
     by_tests true false e = cc
     by_tests false b e = cc
 
+-- a body behind a head is a test
+whole_test : (bytes : List ℕ) (version : ℕ) (config : Config) (rest : List ℕ) (said : ℕ) → version ≡ said → length bytes ≤ most_bytes → IsVersion version → IsNarrow config → bytes ≡ header version config ++ rest
+    → (t : TestSaid) → t.version ≡ said → t.config ≡ config → IsTestBody version config rest t → IsTest bytes t
+whole_test bytes version config rest said same short known narrow head t version_is config_is body =
+    let one : version ≡ t.version = same ∙ sym version_is in
+    let two : config ≡ t.config = sym config_is in
+    record {
+      known = subst IsVersion one known;
+      narrow = subst IsNarrow two narrow;
+      behind = rest;
+      head = head ∙ ap (λ (v : ℕ). header v config ++ rest) one ∙ ap (λ (c : Config). header t.version c ++ rest) two;
+      body = of_same (λ v c bs. IsTestBody v c bs t) version t.version config t.config rest rest (one, two, refl) body;
+      short = short;
+    }
+
 -- what was said of all threads is a test
 whole_said : (config : Config) (d : Told) → has_all_threads d ≡ true → (bounds : Bounds) × IsWholeTest config d (said_in_all config bounds d)
 whole_said config d whole = by_bounds d.bounds refl
@@ -109,29 +130,31 @@ whole_said config d whole = by_bounds d.bounds refl
     by_bounds (Some b) is = (b, record { whole = whole; bounds = is; test_is = refl })
     by_bounds None is = absurd (no_bounds d whole is)
 
-behind_head : (bytes : List ℕ) (config : Config) (rest : List ℕ) → length bytes ≤ most_bytes → IsNarrow config → bytes ≡ header config ++ rest → ((t : TestSaid) × IsTest bytes t) ⊎ ((n : ℕ) × (why : TestWhy) × RefusesTest bytes n why)
-behind_head bytes config rest short narrow head = by_ends (subst (Ends (untold config.mutators)) (sym (cut_parts 10 rest)) (all_end (untold config.mutators) _ _))
+behind_head : (bytes : List ℕ) (version : ℕ) (config : Config) (rest : List ℕ) → length bytes ≤ most_bytes → IsVersion version → IsNarrow config → bytes ≡ header version config ++ rest
+    → ((t : TestSaid) × IsTest bytes t) ⊎ ((n : ℕ) × (why : TestWhy) × RefusesTest bytes n why)
+behind_head bytes version config rest short known narrow head = by_ends (subst (Ends (untold version config.mutators)) (sym (cut_parts 10 rest)) (all_end (untold version config.mutators) _ _))
   where
-    by_ending : (e : Ends (untold config.mutators) (parts 10 rest)) → IsEnding e.said e.from_it → ((t : TestSaid) × IsTest bytes t) ⊎ ((n : ℕ) × (why : TestWhy) × RefusesTest bytes n why)
+    by_ending : (e : Ends (untold version config.mutators) (parts 10 rest)) → IsEnding e.said e.from_it → ((t : TestSaid) × IsTest bytes t) ⊎ ((n : ℕ) × (why : TestWhy) × RefusesTest bytes n why)
     by_ending e (inl it) =
-        inr (4 + length e.before, it.0, record { stops = inr (record { config = config; narrow = narrow; behind = rest; head = head; stops = record { before = e.before; from_it = e.from_it; cut = e.cut; number = refl; said = e.said; lead = e.lead; cause = it.1 } }); short = short })
+        inr (4 + length e.before, it.0, record { stops = inr (record { version = version; config = config; known = known; narrow = narrow; behind = rest; head = head; stops = record { before = e.before; from_it = e.from_it; cut = e.cut; number = refl; said = e.said; lead = e.lead; cause = it.1 } }); short = short })
     by_ending e (inr it) =
         let all = whole_said config e.said it.1 in
         let cut : parts 10 rest ≡ e.before ++ [] ∷ [] = e.cut ∙ ap (λ (ts : List (List ℕ)). e.before ++ ts) it.0 in
-        inl (said_in_all config all.0 e.said, record { narrow = narrow; behind = rest; head = head; body = record { lines = e.before; cut = cut; said = e.said; lead = e.lead; whole = all.1 }; short = short })
+        let same : version ≡ e.said.version = sym (version_stays (untold version config.mutators) e.said e.before e.lead) in
+        inl (said_in_all config all.0 e.said, whole_test bytes version config rest e.said.version same short known narrow head (said_in_all config all.0 e.said) refl refl (record { lines = e.before; cut = cut; said = e.said; lead = e.lead; whole = all.1 }))
 
-    by_ends : Ends (untold config.mutators) (parts 10 rest) → ((t : TestSaid) × IsTest bytes t) ⊎ ((n : ℕ) × (why : TestWhy) × RefusesTest bytes n why)
+    by_ends : Ends (untold version config.mutators) (parts 10 rest) → ((t : TestSaid) × IsTest bytes t) ⊎ ((n : ℕ) × (why : TestWhy) × RefusesTest bytes n why)
     by_ends e = by_ending e e.ending
 
 -- bytes within the limit are a test or are refused
 pub test_or_refused : (bytes : List ℕ) → length bytes ≤ most_bytes → ((t : TestSaid) × IsTest bytes t) ⊎ ((n : ℕ) × (why : TestWhy) × RefusesTest bytes n why)
 test_or_refused bytes short = by_head (head_or_none bytes)
   where
-    by_trace : HasNoHead bytes → ((c : Config) × (scripts : List (List Command)) × (items : List Item) × Reads bytes c scripts items) ⊎ ((n : ℕ) × (why : Why) × Refused bytes n why)
+    by_trace : HasNoHead bytes → ((v : ℕ) × (c : Config) × (scripts : List (List Command)) × (items : List Item) × Reads bytes v c scripts items) ⊎ ((n : ℕ) × (why : Why) × Refused bytes n why)
         → ((t : TestSaid) × IsTest bytes t) ⊎ ((n : ℕ) × (why : TestWhy) × RefusesTest bytes n why)
-    by_trace none (inl t) = absurd (none t.0 _ t.3.narrow t.3.spelled)
+    by_trace none (inl t) = absurd (none t.0 t.1 _ t.4.known t.4.narrow t.4.spelled)
     by_trace none (inr r) = inr (r.0, whys.Trace r.1, record { stops = inl (record { no_head = none; cause = r.1; why_is = refl; stops = r.2.0 }); short = short })
 
     by_head : HasHead bytes ⊎ HasNoHead bytes → ((t : TestSaid) × IsTest bytes t) ⊎ ((n : ℕ) × (why : TestWhy) × RefusesTest bytes n why)
-    by_head (inl h) = behind_head bytes h.0 h.1 short h.2 h.3
+    by_head (inl h) = behind_head bytes h.0 h.1 h.2 short h.3 h.4 h.5
     by_head (inr none) = by_trace none (either bytes short)

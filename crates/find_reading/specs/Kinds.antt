@@ -1,5 +1,5 @@
 -- The kinds of lines, their first words, and what the words behind are to be.
-use Rattle.std.specs.Prelude.{ℕ, List, [], ◌∷◌, codes, Option, Some, None, if◌then◌else◌}
+use Rattle.std.specs.Prelude.{ℕ, List, [], ◌∷◌, ◌++◌, codes, nat_lt, Option, Some, None, if◌then◌else◌}
 use Rattle.trace_refusals.specs.Causes.{is_same}
 use Rattle.trace_grammar.specs.declared.kind.CommandKind.{CommandKind}
 use Rattle.trace_grammar.specs.declared.kind.CommandKind.TheVariants as command
@@ -43,7 +43,7 @@ slots a b c d = a ∷ b ∷ c ∷ d ∷ []
 abbrev pub any_number : Slot
 any_number = Large 0 18446744073709551615
 
--- of a command's line: of sizes 16, of fields and indexes 31
+-- of a command's line: of sizes 16, of fields and indexes 31, of pin slots 3
 abbrev pub command_slots : CommandKind → List Slot
 command_slots command.New = slots Root (Small 16) (Small 16) Nothing
 command_slots command.Get = slots Root Root (Small 31) Nothing
@@ -56,6 +56,8 @@ command_slots command.Copy = slots Root Root Nothing Nothing
 command_slots command.Same = slots Root Root Nothing Nothing
 command_slots command.Drop = slots Root Nothing Nothing Nothing
 command_slots command.Gc = slots Nothing Nothing Nothing Nothing
+command_slots command.Pin = slots (Small 3) Root Nothing Nothing
+command_slots command.Unpin = slots (Small 3) Nothing Nothing Nothing
 
 -- of a line of a fact; of other lines none
 abbrev pub fact_slots : LineKind → List Slot
@@ -83,14 +85,22 @@ line_slots line.If = slots Wanted Nothing Nothing Nothing
 line_slots line.Never = slots Wanted Nothing Nothing Nothing
 line_slots k = fact_slots k
 
--- each kind once
-abbrev pub line_kinds : List LineKind
-line_kinds =
+-- each kind of version 1 once
+abbrev pub first_line_kinds : List LineKind
+first_line_kinds =
     line.Bounds ∷ line.Note ∷ line.Place ∷ line.Thread ∷ line.Root
     ∷ line.Command command.New ∷ line.Command command.Get ∷ line.Command command.Set ∷ line.Command command.Cas ∷ line.Command command.Xchg
     ∷ line.Command command.Rd ∷ line.Command command.Wr ∷ line.Command command.Copy ∷ line.Command command.Drop ∷ line.Command command.Same
     ∷ line.Command command.Gc ∷ line.Keep ∷ line.Loop ∷ line.Until ∷ line.If ∷ line.Else ∷ line.End ∷ line.Assert ∷ line.Or ∷ line.Is
     ∷ line.Isnt ∷ line.Never ∷ line.Count ∷ line.Alike ∷ line.Differ ∷ line.Number ∷ line.Null ∷ line.Chain ∷ line.One ∷ []
+
+-- those that joined in version 2
+abbrev pub later_line_kinds : List LineKind
+later_line_kinds = line.Command command.Pin ∷ line.Command command.Unpin ∷ []
+
+-- the kinds of a version
+abbrev pub line_kinds : ℕ → List LineKind
+line_kinds version = if nat_lt version 2 then first_line_kinds else first_line_kinds ++ later_line_kinds
 
 -- the kind among these that has this word
 unfoldable pub kind_of_word : List LineKind → List ℕ → Option LineKind

@@ -53,7 +53,7 @@ value_in d k (slot.Large least most) w = as_large (number_between least most w)
 value_in d k slot.Root w = as_root (number_of d.roots w)
 value_in d k slot.Note w = as_index (as_number (number_of d.notes w))
 value_in d k slot.Place w = as_index (as_number (number_of d.place_names w))
-value_in d k slot.Wanted w = wanted_in w
+value_in d k slot.Wanted w = wanted_in d.version w
 value_in d k slot.Fresh w = fresh_in (names_beside d k) w
 
 abbrev pub with_rest : Result Value TestWhy → List (List ℕ) → Result (Value × List (List ℕ)) TestWhy
@@ -100,4 +100,4 @@ words_of d (Some k) ws = words_behind d k ws
 -- then whether such a line may stand there, and then the words from left to right.
 abbrev pub line_in : Told → List (List ℕ) → Result (LineKind × List Value) TestWhy
 line_in d [] = Err why.Line
-line_in d (w ∷ ws) = words_of d (kind_of_word line_kinds w) ws
+line_in d (w ∷ ws) = words_of d (kind_of_word (line_kinds d.version) w) ws

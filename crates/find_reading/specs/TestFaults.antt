@@ -1,8 +1,6 @@
 -- Why no test is read.
-use Rattle.std.specs.Prelude.{ℕ, ◌≡◌, ◌≢◌, List, ◌++◌, codes}
-use Rattle.heap_words.specs.declared.config.Config.{Config}
-use Rattle.heap_words.specs.Narrow.{IsNarrow}
-use Rattle.trace_grammar.specs.Spelling.{header}
+use Rattle.std.specs.Prelude.{ℕ, ◌≡◌, List, codes}
+use Rattle.trace_grammar.specs.Grammar.{HasNoHead}
 use Rattle.trace_grammar.specs.Why.{text_of}
 use Rattle.trace_grammar.specs.declared.why.Why.{Why}
 use Rattle.trace_refusals.specs.Refused.{StopsAt}
@@ -20,7 +18,7 @@ IsLineFault NoMemory = Unit {0}
 
 -- where these bytes do not begin with the head of a trace, a trace is refused at this line and for this cause
 abbrev pub IsTraceRefusal : List ℕ → ℕ → TestWhy → Type 0
-IsTraceRefusal bytes n said = ((config : Config) (rest : List ℕ) → IsNarrow config → bytes ≢ header config ++ rest) → (cause : Why) × (said ≡ why.Trace cause) × StopsAt bytes n cause
+IsTraceRefusal bytes n said = HasNoHead bytes → (cause : Why) × (said ≡ why.Trace cause) × StopsAt bytes n cause
 
 -- what is said of a line that is refused
 abbrev pub why_text : TestWhy → List ℕ

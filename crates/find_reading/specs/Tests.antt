@@ -1,9 +1,9 @@
 -- Which bytes are the text of a test, and of which; and which are refused, at which line, and why.
-use Rattle.std.specs.Prelude.{ℕ, ◌≡◌, ◌≢◌, ◌⊎◌, ◌+◌, ◌≤◌, true, List, [], ◌∷◌, ◌++◌, length, slice_index_or, if◌then◌else◌, Option, Some, None, Err}
+use Rattle.std.specs.Prelude.{ℕ, ◌≡◌, ◌⊎◌, ◌+◌, ◌≤◌, true, List, [], ◌∷◌, ◌++◌, length, slice_index_or, if◌then◌else◌, Option, Some, None, Err}
 use Rattle.heap_words.specs.declared.config.Config.{Config}
 use Rattle.heap_words.specs.Narrow.{IsNarrow}
-use Rattle.trace_grammar.specs.Spelling.{space, newline, header}
-use Rattle.trace_grammar.specs.Grammar.{most_bytes}
+use Rattle.trace_grammar.specs.Spelling.{space, newline, IsVersion, header}
+use Rattle.trace_grammar.specs.Grammar.{most_bytes, HasNoHead}
 use Rattle.trace_grammar.specs.declared.why.Why.{Why}
 use Rattle.trace_grammar.specs.declared.why.Why.TheVariants.{EndOfLine}
 use Rattle.trace_refusals.specs.Causes.{parts}
@@ -42,6 +42,7 @@ TestLinesFollow d (text ∷ texts) end = (next : Told) × TestLineFollows d text
 
 -- What a test is. Of the names of places the first is `hub`, and places are those behind it.
 pub record TestSaid : Type 0 where
+  pub version : ℕ
   pub config : Config
   pub bounds : Bounds
   pub programs : List (List Statement)
@@ -52,11 +53,11 @@ pub record TestSaid : Type 0 where
 
 -- what a test in memory is
 abbrev pub test_said : Test → TestSaid
-test_said t = record { config = t.config; bounds = t.bounds; programs = t.programs.items; notes = t.notes; place_names = t.place_names; places = t.places.items; claims = t.claims.items }
+test_said t = record { version = t.version; config = t.config; bounds = t.bounds; programs = t.programs.items; notes = t.notes; place_names = t.place_names; places = t.places.items; claims = t.claims.items }
 
 -- what lines that are behind the head of this configuration, and give these bounds, say in all
 abbrev pub said_in_all : Config → Bounds → Told → TestSaid
-said_in_all config bounds d = record { config = config; bounds = bounds; programs = d.programs; notes = d.notes; place_names = d.place_names; places = d.places; claims = d.claims }
+said_in_all config bounds d = record { version = d.version; config = config; bounds = bounds; programs = d.programs; notes = d.notes; place_names = d.place_names; places = d.places; claims = d.claims }
 
 -- what was said is a whole test, which is this one
 pub record IsWholeTest (config : Config) (d : Told) (test : TestSaid) : Type 0 where
@@ -64,20 +65,22 @@ pub record IsWholeTest (config : Config) (d : Told) (test : TestSaid) : Type 0 w
   pub bounds : d.bounds ≡ Some test.bounds
   pub test_is : test ≡ said_in_all config test.bounds d
 
--- Behind the head of this configuration the bytes are lines that follow one on the other, each with its end, and say this test.
-pub record IsTestBody (config : Config) (bytes : List ℕ) (test : TestSaid) : Type 0 where
+-- Behind the head of this version and configuration the bytes are lines that follow one on the other, each with its end, and say this
+-- test.
+pub record IsTestBody (version : ℕ) (config : Config) (bytes : List ℕ) (test : TestSaid) : Type 0 where
   pub lines : List (List ℕ)
   pub cut : parts newline bytes ≡ lines ++ [] ∷ []
   pub said : Told
-  pub lead : TestLinesFollow (untold config.mutators) lines said
+  pub lead : TestLinesFollow (untold version config.mutators) lines said
   pub whole : IsWholeTest config said test
 
 -- the bytes are the head of a trace and such lines, and not too many
 pub record IsTest (bytes : List ℕ) (test : TestSaid) : Type 0 where
+  pub known : IsVersion test.version
   pub narrow : IsNarrow test.config
   pub behind : List ℕ
-  pub head : bytes ≡ header test.config ++ behind
-  pub body : IsTestBody test.config behind test
+  pub head : bytes ≡ header test.version test.config ++ behind
+  pub body : IsTestBody test.version test.config behind test
   pub short : length bytes ≤ most_bytes
 
 -- ---- the first line that is at fault
@@ -105,18 +108,20 @@ pub record StopsBehind (d : Told) (first : ℕ) (bytes : List ℕ) (n : ℕ) (wh
 
 -- bytes that do not begin with the head of a trace are refused as a trace is
 pub record StopsInHead (bytes : List ℕ) (n : ℕ) (why : TestWhy) : Type 0 where
-  pub no_head : (config : Config) (rest : List ℕ) → IsNarrow config → bytes ≢ header config ++ rest
+  pub no_head : HasNoHead bytes
   pub cause : Why
   pub why_is : why ≡ whys.Trace cause
   pub stops : StopsAt bytes n cause
 
 -- behind the head, whose three lines are before line 4
 pub record StopsInBody (bytes : List ℕ) (n : ℕ) (why : TestWhy) : Type 0 where
+  pub version : ℕ
   pub config : Config
+  pub known : IsVersion version
   pub narrow : IsNarrow config
   pub behind : List ℕ
-  pub head : bytes ≡ header config ++ behind
-  pub stops : StopsBehind (untold config.mutators) 4 behind n why
+  pub head : bytes ≡ header version config ++ behind
+  pub stops : StopsBehind (untold version config.mutators) 4 behind n why
 
 -- the bytes are not too many, and line n of them, counted from 1, is the first at fault, and why
 pub record RefusesTest (bytes : List ℕ) (n : ℕ) (why : TestWhy) : Type 0 where

@@ -8,6 +8,8 @@ use Rattle.find_reading.specs.declared.draft.Block.{Block}
 use Rattle.find_reading.specs.declared.draft.Draft.{Draft}
 
 pub record Told : Type 0 where
+  -- the version of the test
+  pub version : ℕ
   -- how many threads there are to be
   pub threads : ℕ
   -- once their line came
@@ -26,9 +28,9 @@ pub record Told : Type 0 where
   pub claims : List Claim
 
 -- before the first line behind the head
-abbrev pub untold : ℕ → Told
-untold threads = record { threads = threads; bounds = None; notes = []; place_names = codes "hub" ∷ []; places = []; roots = codes "hub" ∷ []; programs = []; blocks = []; claims = [] }
+abbrev pub untold : (version threads : ℕ) → Told
+untold version threads = record { version = version; threads = threads; bounds = None; notes = []; place_names = codes "hub" ∷ []; places = []; roots = codes "hub" ∷ []; programs = []; blocks = []; claims = [] }
 
 -- what a draft holds
 abbrev pub told_in : Draft → Told
-told_in d = record { threads = d.threads; bounds = d.bounds; notes = d.notes; place_names = d.place_names; places = d.places.items; roots = d.roots; programs = d.programs.items; blocks = d.open.items; claims = d.claims.items }
+told_in d = record { version = d.version; threads = d.threads; bounds = d.bounds; notes = d.notes; place_names = d.place_names; places = d.places.items; roots = d.roots; programs = d.programs.items; blocks = d.open.items; claims = d.claims.items }

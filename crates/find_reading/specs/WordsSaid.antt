@@ -1,5 +1,5 @@
 -- What a word says by itself.
-use Rattle.std.specs.Prelude.{ℕ, List, codes, nat_lt, if◌then◌else◌, Result, Ok, Err}
+use Rattle.std.specs.Prelude.{ℕ, List, codes, ◌&&◌, nat_lt, if◌then◌else◌, Result, Ok, Err}
 use Rattle.std.specs.Str.Parse.{digits_value}
 use Rattle.find_grammar.specs.declared.wanted.Wanted.TheVariants as wanted
 use Rattle.trace_grammar.specs.declared.why.Why.TheVariants as cause
@@ -25,9 +25,9 @@ as_wanted (Err e) = Err e
 abbrev pub number_wanted : List ℕ → Result Value TestWhy
 number_wanted w = if is_plain_number w then as_wanted (number_between 0 18446744073709551615 w) else Err why.Reply
 
--- a word where a reply is to stand
-unfoldable pub wanted_in : List ℕ → Result Value TestWhy
-wanted_in w =
+-- a word where a reply is to stand: what is pinned has a place from version 2 on
+unfoldable pub wanted_in : (version : ℕ) → List ℕ → Result Value TestWhy
+wanted_in version w =
     if is_same w (codes "yes") then Ok (value.Wanted wanted.Yes) else
     (if is_same w (codes "no") then Ok (value.Wanted wanted.No) else
     (if is_same w (codes "null") then Ok (value.Wanted wanted.Null) else
@@ -35,4 +35,5 @@ wanted_in w =
     (if is_same w (codes "ok") then Ok (value.Wanted wanted.Ok) else
     (if is_same w (codes "full") then Ok (value.Wanted wanted.Full) else
     (if is_same w (codes "bad") then Ok (value.Wanted wanted.Bad) else
-    number_wanted w))))))
+    (if nat_lt 1 version && is_same w (codes "pinned") then Ok (value.Wanted wanted.Pinned) else
+    number_wanted w)))))))

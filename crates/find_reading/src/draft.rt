@@ -20,6 +20,8 @@ pub(crate) enum Block {
 /// A test of which some lines are read.
 #[derive(Drop)]
 pub(crate) struct Draft {
+    /// The version of the test.
+    pub version: u32,
     /// The threads that there are to be.
     pub threads: usize,
     /// The bounds, once their line came.

@@ -1,6 +1,6 @@
 //! The kinds of lines.
 ghost use Rattle.std.specs.Prelude.{◌≡◌};
-ghost use Rattle.find_reading.specs.Kinds.{line_word, command_slots, fact_slots, line_slots};
+ghost use Rattle.find_reading.specs.Kinds.{line_kinds, line_word, command_slots, fact_slots, line_slots};
 
 use crate::slot::Slot;
 use trace_grammar::CommandKind;
@@ -58,8 +58,8 @@ pub enum LineKind {
     One,
 }
 
-/// Each kind once.
-pub const KINDS: [LineKind; 34] = [
+// Each kind once: those of version 1, and behind them those that joined in version 2.
+const KINDS: [LineKind; 36] = [
     LineKind::Bounds,
     LineKind::Note,
     LineKind::Place,
@@ -94,12 +94,22 @@ pub const KINDS: [LineKind; 34] = [
     LineKind::Null,
     LineKind::Chain,
     LineKind::One,
+    LineKind::Command(CommandKind::Pin),
+    LineKind::Command(CommandKind::Unpin),
 ];
+
+/// The kinds of lines of a version.
+pub(crate) fn kinds_of(version: u32) -> &'static [LineKind]
+    ensures { result.now ≡ line_kinds version }
+{
+    if version < 2 { &KINDS[..34] } else { &KINDS }
+}
 
 /// The slots of a command's line.
 fn command_slots(kind: CommandKind) -> [Slot; 4]
     ensures { result ≡ command_slots kind }
 {
+    let slot = Slot::Small(3);
     let size = Slot::Small(16);
     let field = Slot::Small(31);
     let value = Slot::Large {
@@ -119,6 +129,8 @@ fn command_slots(kind: CommandKind) -> [Slot; 4]
         }
         CommandKind::Drop => [Slot::Root, Slot::Nothing, Slot::Nothing, Slot::Nothing],
         CommandKind::Gc => [Slot::Nothing, Slot::Nothing, Slot::Nothing, Slot::Nothing],
+        CommandKind::Pin => [slot, Slot::Root, Slot::Nothing, Slot::Nothing],
+        CommandKind::Unpin => [slot, Slot::Nothing, Slot::Nothing, Slot::Nothing],
     }
 }
 

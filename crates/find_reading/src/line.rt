@@ -10,7 +10,7 @@ ghost use Rattle.find_reading.specs.Tests.{name_among};
 
 use crate::draft::Draft;
 use crate::fault::TestWhy;
-use crate::kind::{KINDS, LineKind};
+use crate::kind::{LineKind, kinds_of};
 use crate::slot::{Slot, Value};
 use crate::words::{cut, is_name, next_word, number_in, wanted_in};
 use find_grammar::Names;
@@ -90,7 +90,7 @@ fn value_in(draft: &Draft, kind: LineKind, slot: Slot, word: &[u8]) -> Result<Va
             Ok(number) => Ok(Value::Index(number)),
             Err(why) => Err(why),
         },
-        Slot::Wanted => wanted_in(word),
+        Slot::Wanted => wanted_in(draft.version, word),
         Slot::Fresh => match kind {
             LineKind::Note => fresh_in(&draft.notes, word),
             LineKind::Place => fresh_in(&draft.place_names, word),
@@ -182,7 +182,7 @@ pub(crate) fn line_in<'a>(draft: &Draft, text: &'a [u8]) -> Result<Line<'a>, Tes
     ensures err { IfErr result (λ why. line_in (told_in draft.now) (parts 32 text.now) ≡ Err why) }
 {
     let (word, words) = cut(b' ', text);
-    match kind_among(&KINDS, word) {
+    match kind_among(kinds_of(draft.version), word) {
         Some(kind) => words_in(draft, kind, words),
         None => Err(TestWhy::Line),
     }

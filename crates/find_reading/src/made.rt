@@ -57,6 +57,8 @@ fn command_of(kind: CommandKind, values: [Value; 4]) -> Command
         CommandKind::Drop => Command::Drop { dst: a },
         CommandKind::Same => Command::Same { a, b },
         CommandKind::Gc => Command::Gc,
+        CommandKind::Pin => Command::Pin { slot: a, obj: b },
+        CommandKind::Unpin => Command::Unpin { slot: a },
     }
 }
 
@@ -121,11 +123,12 @@ pub(crate) fn hub_alone(alloc: Global) -> Result<Names, NoMemory>
 }
 
 impl Draft {
-    /// A draft of no line, for so many threads.
-    pub(crate) fn open(alloc: Global, threads: usize) -> Result<Draft, NoMemory>
-        ensures { IfOk result (λ draft. told_in draft ≡ untold threads) }
+    /// A draft of no line, of a version and for so many threads.
+    pub(crate) fn open(alloc: Global, version: u32, threads: usize) -> Result<Draft, NoMemory>
+        ensures { IfOk result (λ draft. told_in draft ≡ untold version threads) }
     {
         Ok(Draft {
+            version,
             threads,
             bounds: None,
             notes: Names::open(alloc),

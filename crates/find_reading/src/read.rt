@@ -1,13 +1,9 @@
 //! Reading a test.
-ghost use Rattle.std.specs.Prelude.{◌≡◌, ◌≢◌, ℕ, ◌+◌, ◌≤◌, List, [], ◌++◌, Err, Some, length, vec_len, take, IfSome, IfNone, IfOk, OnOk, IfErr};
-ghost use Rattle.std.specs.Option.{option_map};
+ghost use Rattle.std.specs.Prelude.{◌≡◌, ℕ, ◌+◌, ◌≤◌, List, [], ◌++◌, Err, Some, length, vec_len, IfOk, OnOk, IfErr};
 ghost use Rattle.std.specs.Io.KnownBytes.{Consumes};
 ghost use Rattle.shen_base.specs.Count.{Rose};
-ghost use Rattle.heap_words.specs.declared.config.Config.{Config as Sizes};
-ghost use Rattle.heap_words.specs.Narrow.{IsNarrow};
 ghost use Rattle.trace_grammar.specs.Spelling.{header};
-ghost use Rattle.trace_grammar.specs.Scanning.{sizes_at};
-ghost use Rattle.trace_grammar.specs.Grammar.{most_bytes, Came};
+ghost use Rattle.trace_grammar.specs.Grammar.{most_bytes, HasNoHead, Came};
 ghost use Rattle.trace_grammar.specs.declared.why.Why.{Why as Cause};
 ghost use Rattle.trace_refusals.specs.Causes.{parts};
 ghost use Rattle.trace_refusals.specs.Refused.{StopsAt};
@@ -25,47 +21,13 @@ use find_grammar::{Bounds, Test};
 use heap_words::Config;
 use shen_base::Source;
 use std::alloc::Global;
-use trace_grammar::{Why, numbers_at, text_at};
-use trace_reading::{TraceFault, all_bytes};
+use trace_grammar::Why;
+use trace_reading::{TraceFault, all_bytes, head_at};
 use trace_refusals::{head_refusal, line_at};
-
-/// The numbers at the head of a test, and the bytes behind its three lines.
-#[tactic(auto, unfolding(trace_grammar::specs::Scanning::sizes_at))]
-fn sizes_at(bytes: &[u8]) -> Option<([u64; 4], [u64; 4], &[u8])>
-    ensures { option_map (λ x. ((take 3 x.0, take 2 x.1), x.2.now)) result ≡ sizes_at bytes.now }
-{
-    let rest = text_at(b"shen 1\nheap", bytes)?;
-    let (heap, rest) = numbers_at(&[64, 1024, 63], rest)?;
-    let rest = text_at(b"\nthreads", rest)?;
-    let (threads, rest) = numbers_at(&[8, 3], rest)?;
-    let rest = text_at(b"\n", rest)?;
-    Some((heap, threads, rest))
-}
-
-/// The configuration at the head of a test, and the bytes behind its three lines.
-fn config_at(bytes: &[u8]) -> Option<(Config, &[u8])>
-    ensures found { IfSome result (λ x. bytes.now ≡ header x.0 ++ x.1.now) }
-    ensures narrow { IfSome result (λ x. IsNarrow x.0) }
-    ensures none { IfNone result ((config : Sizes) (rest : List ℕ) → IsNarrow config → bytes.now ≢ header config ++ rest) }
-{
-    let (heap, threads, rest) = sizes_at(bytes)?;
-    let [regions, region_words, reserve, _] = heap;
-    let [mutators, helpers, _, _] = threads;
-    match Config::new(
-        regions as usize,
-        region_words as usize,
-        mutators as usize,
-        helpers as usize,
-        reserve as usize,
-    ) {
-        Ok(config) => Some((config, rest)),
-        Err(_) => None,
-    }
-}
 
 /// The fault of bytes that do not begin with the head of a test.
 fn bad_head(bytes: &[u8]) -> TestFault
-    requires { (config : Sizes) (rest : List ℕ) → IsNarrow config → bytes.now ≢ header config ++ rest }
+    requires { HasNoHead bytes.now }
     ensures { (n : ℕ) × (why : Cause) × (result ≡ TestFault.BadLine n (TestWhy.Trace why)) × StopsAt bytes.now n why }
 {
     let refusal = head_refusal(bytes).unwrap();
@@ -135,6 +97,7 @@ fn take_lines(alloc: Global, draft: &mut Draft, bytes: &[u8]) -> Result<u64, Tes
 fn finish(config: Config, draft: Draft, line: u64) -> Result<Test, TestFault>
     ensures ok { IfOk result (λ test. IsWholeTest config (told_in draft) (test_said test)) }
     ensures config { IfOk result (λ test. test.config ≡ config) }
+    ensures version { IfOk result (λ test. test.version ≡ draft.version) }
     ensures threads { IfOk result (λ test. vec_len test.programs ≡ draft.threads) }
     ensures bad_line { (n : ℕ) (why : Said) → result ≡ Err (TestFault.BadLine n why) → (n ≡ line) × (test_end_cause (told_in draft) [] ≡ Some why) }
     ensures fault { IfErr result IsLineFault }
@@ -143,6 +106,7 @@ fn finish(config: Config, draft: Draft, line: u64) -> Result<Test, TestFault>
     let why = TestWhy::More;
     match draft.bounds {
         Some(bounds) if whole => Ok(Test {
+            version: draft.version,
             config,
             bounds,
             programs: draft.programs,
@@ -155,16 +119,17 @@ fn finish(config: Config, draft: Draft, line: u64) -> Result<Test, TestFault>
     }
 }
 
-/// The test of this configuration whose lines behind the head these bytes are.
-fn body_of(alloc: Global, config: Config, bytes: &[u8]) -> Result<Test, TestFault>
+/// The test of this version and configuration whose lines behind the head these bytes are.
+fn body_of(alloc: Global, version: u32, config: Config, bytes: &[u8]) -> Result<Test, TestFault>
     requires { length bytes.now ≤ most_bytes }
-    ensures ok { IfOk result (λ test. IsTestBody config bytes.now (test_said test)) }
+    ensures ok { IfOk result (λ test. IsTestBody version config bytes.now (test_said test)) }
+    ensures version { IfOk result (λ test. test.version ≡ version) }
     ensures config { IfOk result (λ test. test.config ≡ config) }
     ensures threads { IfOk result (λ test. vec_len test.programs ≡ config.mutators) }
-    ensures bad_line { (n : ℕ) (why : Said) → result ≡ Err (TestFault.BadLine n why) → StopsBehind (untold config.mutators) 4 bytes.now n why }
+    ensures bad_line { (n : ℕ) (why : Said) → result ≡ Err (TestFault.BadLine n why) → StopsBehind (untold version config.mutators) 4 bytes.now n why }
     ensures fault { IfErr result IsLineFault }
 {
-    let Ok(mut draft) = Draft::open(alloc, config.mutators()) else {
+    let Ok(mut draft) = Draft::open(alloc, version, config.mutators()) else {
         return Err(TestFault::NoMemory);
     };
     let line = take_lines(alloc, &mut draft, bytes)?;
@@ -176,17 +141,16 @@ pub fn test_of(alloc: Global, bytes: &[u8]) -> Result<Test, TestFault>
     requires { length bytes.now ≤ most_bytes }
     ensures ok { IfOk result (λ test. IsTest bytes.now (test_said test)) }
     ensures refused { (n : ℕ) (why : Said) → result ≡ Err (TestFault.BadLine n why) → RefusesTest bytes.now n why }
-    ensures head { IfOk result (λ test. (rest : List ℕ) × (bytes.now ≡ header test.config ++ rest)) }
+    ensures head { IfOk result (λ test. (rest : List ℕ) × (bytes.now ≡ header test.version test.config ++ rest)) }
     ensures threads { IfOk result (λ test. vec_len test.programs ≡ test.config.mutators) }
     ensures fault { IfErr result IsLineFault }
 
     // Bytes without a head are refused where a trace would be, for the same cause.
-    ensures bad_head { ((config : Sizes) (rest : List ℕ) → IsNarrow config → bytes.now ≢ header config ++ rest)
-        → (n : ℕ) × (why : Cause) × (result ≡ Err (TestFault.BadLine n (TestWhy.Trace why))) × StopsAt bytes.now n why }
+    ensures bad_head { HasNoHead bytes.now → (n : ℕ) × (why : Cause) × (result ≡ Err (TestFault.BadLine n (TestWhy.Trace why))) × StopsAt bytes.now n why }
     ensures bad_line { (n : ℕ) (why : Said) → result ≡ Err (TestFault.BadLine n why) → IsTraceRefusal bytes.now n why }
 {
-    match config_at(bytes) {
-        Some((config, rest)) => body_of(alloc, config, rest),
+    match head_at(bytes) {
+        Some((version, config, rest)) => body_of(alloc, version, config, rest),
         None => Err(bad_head(bytes)),
     }
 }
@@ -199,7 +163,7 @@ pub fn read_test<S: Source>(alloc: Global, source: &mut S) -> Result<Test, TestF
     // The bytes came whole, and are refused at that line and for that cause.
     ensures refused { (n : ℕ) (why : Said) → result ≡ Err (TestFault.BadLine n why) → (bytes : List ℕ) × Came (S.left source.old) (S.left source.new) bytes × RefusesTest bytes n why }
 
-    ensures head { IfOk result (λ test. (bytes : List ℕ) × Came (S.left source.old) (S.left source.new) bytes × (rest : List ℕ) × (bytes ≡ header test.config ++ rest)) }
+    ensures head { IfOk result (λ test. (bytes : List ℕ) × Came (S.left source.old) (S.left source.new) bytes × (rest : List ℕ) × (bytes ≡ header test.version test.config ++ rest)) }
     ensures threads { IfOk result (λ test. vec_len test.programs ≡ test.config.mutators) }
 
     // The bytes came whole; and where they have no head, a trace would be refused at that line and for that cause.

@@ -88,10 +88,10 @@ fn number_wanted(word: &[u8]) -> Result<Value, TestWhy>
     }
 }
 
-/// What a reply is asked to be by a word.
+/// What a reply is asked to be by a word, in a test of a version.
 #[tactic(auto, unfolding(crate::specs::WordsSaid::wanted_in))]
-pub(crate) fn wanted_in(word: &[u8]) -> Result<Value, TestWhy>
-    ensures { result ≡ wanted_in word.now }
+pub(crate) fn wanted_in(version: u32, word: &[u8]) -> Result<Value, TestWhy>
+    ensures { result ≡ wanted_in version word.now }
 {
     if word == b"yes".as_slice() {
         Ok(Value::Wanted(Wanted::Yes))
@@ -107,6 +107,8 @@ pub(crate) fn wanted_in(word: &[u8]) -> Result<Value, TestWhy>
         Ok(Value::Wanted(Wanted::Full))
     } else if word == b"bad".as_slice() {
         Ok(Value::Wanted(Wanted::Bad))
+    } else if version > 1 && word == b"pinned".as_slice() {
+        Ok(Value::Wanted(Wanted::Pinned))
     } else {
         number_wanted(word)
     }

@@ -46,6 +46,8 @@ pub fn put_command(row: &mut Row, command: Command) {
         Command::Copy { dst, src } => put_words(row, b"copy", &[dst, src]),
         Command::Drop { dst } => put_words(row, b"drop", &[dst]),
         Command::Same { a, b } => put_words(row, b"same", &[a, b]),
+        Command::Pin { slot, obj } => put_words(row, b"pin", &[slot, obj]),
+        Command::Unpin { slot } => put_words(row, b"unpin", &[slot]),
         _ => put_store(row, command),
     }
 }

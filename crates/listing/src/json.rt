@@ -259,6 +259,10 @@ fn json_further(row: &mut Row, table: &Table, name: WordName) {
             json_of_thread(row, b"buffer entry", mutator);
             json_number(row, b"index", entry as u64);
         }
+        WordName::Pin { mutator, slot } => {
+            json_of_thread(row, b"pin slot", mutator);
+            json_number(row, b"index", slot as u64);
+        }
         WordName::Wait { mutator } => json_of_thread(row, b"request", mutator),
         WordName::Answer { mutator } => json_of_thread(row, b"answer", mutator),
         WordName::Grey { word } => json_numbered(row, b"grey", b"index", word),

@@ -263,6 +263,10 @@ fn put_word(row: &mut Row, config: Config, name: WordName) {
             row.put(b"word ");
             row.put_number(address);
         }
+        WordName::Pin { mutator, slot } => {
+            put_numbered(row, b"pin slot", slot);
+            put_of_thread(row, b"", mutator);
+        }
     }
 }
 
@@ -410,6 +414,10 @@ pub fn put_reply(row: &mut Row, reply: Reply) {
         Reply::Number(value) => row.put_number(value),
         Reply::Bad => row.put(b"bad"),
         Reply::Full => row.put(b"full"),
+        Reply::At(address) => {
+            row.put(b"@");
+            row.put_number(address);
+        }
     }
 }
 

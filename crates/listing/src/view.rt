@@ -151,7 +151,9 @@ pub fn reading_of(config: Config, name: WordName) -> Reading {
         WordName::Evac => Reading::Copiers,
         WordName::Current { .. } => Reading::Buffer,
         WordName::Share => Reading::Shared,
-        WordName::Root { .. } | WordName::Buffer { .. } => Reading::Reference,
+        WordName::Root { .. } | WordName::Buffer { .. } | WordName::Pin { .. } => {
+            Reading::Reference
+        }
         WordName::Wait { .. } => Reading::Request,
         WordName::Answer { .. } => Reading::Answer,
         WordName::Grey { word } | WordName::Black { word } => Reading::Marks {

@@ -103,7 +103,7 @@ fn made_before(walk: &mut Walk, plain: &mut Plain, work: &mut Work, limit: u64) 
 
 // The same of a trace.
 fn made_of(alloc: Global, trace: &Trace, steps: u64) -> Result<u64, NoMemory>
-    requires { (bytes : List ℕ) × Reads bytes trace.now.config trace.now.scripts trace.now.schedule }
+    requires { (bytes : List ℕ) × Reads bytes trace.now.version trace.now.config trace.now.scripts trace.now.schedule }
 {
     let Ok(mut work) = Work::open(alloc, trace.scripts.list()) else {
         return Err(NoMemory);
@@ -119,7 +119,7 @@ fn made_of(alloc: Global, trace: &Trace, steps: u64) -> Result<u64, NoMemory>
 /// How many of so many events of a trace are worth making: all, or as many as lead to where an item cannot end. Where there is no
 /// memory to find out, all.
 pub fn limit_of(alloc: Global, trace: &Trace, steps: u64) -> u64
-    requires { (bytes : List ℕ) × Reads bytes trace.now.config trace.now.scripts trace.now.schedule }
+    requires { (bytes : List ℕ) × Reads bytes trace.now.version trace.now.config trace.now.scripts trace.now.schedule }
 {
     made_of(alloc, trace, steps).unwrap_or(steps)
 }

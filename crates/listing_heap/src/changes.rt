@@ -1,6 +1,8 @@
 //! What of the heap is shown behind an event: the lines that say something else than before.
 
-use crate::heap::{phase, put_fields, put_heap, put_phase, put_region, put_roots};
+use crate::heap::{
+    SLOTS, phase, pin_word, put_fields, put_heap, put_phase, put_pins, put_region, put_roots,
+};
 use heap_words::refs_of;
 use listing::{Row, Table, heap_word, piece_at, region_of_buffer, shared_region, top, used};
 use regions::mark_words;
@@ -112,6 +114,7 @@ impl Change<'_> {
             || (region < 64 && bit >> (region % 64) & 1 == 1)
             || self.has_share(region)
             || self.has_buffer(region)
+            || self.has_pinned(region)
             || self.has_piece(region)
     }
 
@@ -154,6 +157,32 @@ impl Change<'_> {
         false
     }
 
+    // Whether a pin slot of a thread is another one.
+    fn has_pin(&self, mutator: usize) -> bool {
+        for slot in 0..SLOTS {
+            if pin_word(self.before, mutator, slot) != pin_word(self.after, mutator, slot) {
+                return true;
+            }
+        }
+        false
+    }
+
+    // Whether a pin slot has changed, before or behind which an object of a region is held.
+    fn has_pinned(&self, region: usize) -> bool {
+        let (first, end) = used(self.after, region);
+        for mutator in 0..self.after.config().mutators() {
+            for slot in 0..SLOTS {
+                let before = pin_word(self.before, mutator, slot);
+                let after = pin_word(self.after, mutator, slot);
+                let address = before.max(after);
+                if before != after && first <= address && address < end {
+                    return true;
+                }
+            }
+        }
+        false
+    }
+
     // Puts the lines of the regions that say something else; all where objects were marked.
     fn put_regions<K: Sink>(&self, row: &mut Row, block: &mut Block, sink: &mut K, bars: bool) {
         let marks = self.has_marks();
@@ -180,6 +209,9 @@ impl Change<'_> {
         for mutator in 0..self.after.config().mutators() {
             if self.has_root(mutator) {
                 put_roots(row, block, sink, self.after, mutator);
+            }
+            if self.has_pin(mutator) {
+                put_pins(row, block, sink, self.after, mutator, true);
             }
         }
     }

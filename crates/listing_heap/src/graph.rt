@@ -10,6 +10,9 @@ use text_writer::Block;
 // The number of roots of a thread.
 const ROOTS: usize = Command::ROOTS as usize;
 
+// The number of pin slots of a thread.
+const SLOTS: u32 = Command::SLOTS;
+
 // Puts a reference as an answer spells it.
 fn put_name_or_none(row: &mut Row, reference: Option<Name>) {
     match reference {
@@ -47,8 +50,26 @@ fn put_roots(row: &mut Row, graph: &GraphText, thread: u32)
     }
 }
 
-/// Writes the graph as an answer has it.
-pub fn put_graph<K: Sink>(row: &mut Row, block: &mut Block, sink: &mut K, graph: &GraphText)
+// Puts the line of the pin slots of a thread, counted from 1.
+fn put_pins(row: &mut Row, graph: &GraphText, thread: u32)
+    requires { (1 ≤ thread) × (thread ≤ length graph.now.roots) }
+{
+    row.put(b"pins ");
+    row.put_number(thread as u64);
+    for slot in 0..SLOTS {
+        row.put(b" ");
+        put_name_or_none(row, graph.pin_at(thread, slot));
+    }
+}
+
+/// Writes the graph as the answer to a trace of a version has it.
+pub fn put_graph<K: Sink>(
+    row: &mut Row,
+    block: &mut Block,
+    sink: &mut K,
+    version: u32,
+    graph: &GraphText,
+)
     requires { length graph.now.roots ≤ 8 }
 {
     row.put(b"graph");
@@ -60,6 +81,12 @@ pub fn put_graph<K: Sink>(row: &mut Row, block: &mut Block, sink: &mut K, graph:
     for mutator in 0..graph.mutators() {
         put_roots(row, graph, mutator as u32 + 1);
         row.send(block, sink);
+    }
+    if version >= 2 {
+        for mutator in 0..graph.mutators() {
+            put_pins(row, graph, mutator as u32 + 1);
+            row.send(block, sink);
+        }
     }
 }
 
@@ -115,8 +142,41 @@ fn json_roots(row: &mut Row, graph: &GraphText, thread: u32)
     row.put(b"]");
 }
 
-/// Writes the graph as an object of JSON.
-pub fn json_graph<K: Sink>(row: &mut Row, block: &mut Block, sink: &mut K, graph: &GraphText)
+// Puts the list of the pin slots of a thread, counted from 1.
+fn json_pins(row: &mut Row, graph: &GraphText, thread: u32)
+    requires { (1 ≤ thread) × (thread ≤ length graph.now.roots) }
+{
+    row.put(b"[");
+    for slot in 0..SLOTS {
+        json_name_or_null(row, graph.pin_at(thread, slot));
+    }
+    row.put(b"]");
+}
+
+// Puts the member that is the list of all threads' pin slots.
+fn json_all_pins<K: Sink>(row: &mut Row, block: &mut Block, sink: &mut K, graph: &GraphText)
+    requires { length graph.now.roots ≤ 8 }
+{
+    json_key(row, b"pins");
+    row.put(b"[");
+    for mutator in 0..graph.mutators() {
+        if mutator > 0 {
+            row.put(b",");
+        }
+        json_pins(row, graph, mutator as u32 + 1);
+        row.pass(block, sink);
+    }
+    row.put(b"]");
+}
+
+/// Writes the graph that the answer to a trace of a version has as an object of JSON.
+pub fn json_graph<K: Sink>(
+    row: &mut Row,
+    block: &mut Block,
+    sink: &mut K,
+    version: u32,
+    graph: &GraphText,
+)
     requires { length graph.now.roots ≤ 8 }
 {
     row.put(b"{");
@@ -140,6 +200,10 @@ pub fn json_graph<K: Sink>(row: &mut Row, block: &mut Block, sink: &mut K, graph
         json_roots(row, graph, mutator as u32 + 1);
         row.pass(block, sink);
     }
-    row.put(b"]}");
+    row.put(b"]");
+    if version >= 2 {
+        json_all_pins(row, block, sink, graph);
+    }
+    row.put(b"}");
     row.send(block, sink);
 }

@@ -7,12 +7,16 @@ use listing::{
 };
 use regions::{is_in, mark_words};
 use shen_base::Sink;
+use shen_graph::Command;
 use text_writer::Block;
 
 // The columns of a line: what a region is, and how full it is.
 const USED: usize = 13;
 
 const BAR: usize = 26;
+
+/// The number of pin slots of a thread.
+pub const SLOTS: usize = Command::SLOTS as usize;
 
 // How many characters a bar has.
 const BAR_CHARACTERS: u64 = 16;
@@ -130,8 +134,55 @@ fn put_pieces<K: Sink>(
     }
 }
 
-// Puts whether a region is the shared one, and whose buffers lie in it.
+/// The word of a pin slot of a thread, which is counted from 0: 0, or the address of the object that it holds.
+pub fn pin_word(table: &Table, mutator: usize, slot: usize) -> u64 {
+    let config = table.config();
+    if mutator < config.mutators() && slot < SLOTS {
+        table.word(config.pin_at(mutator, slot))
+    } else {
+        0
+    }
+}
+
+// Whether some pin slot of a thread holds an object.
+fn has_pin(table: &Table, mutator: usize) -> bool {
+    for slot in 0..SLOTS {
+        if pin_word(table, mutator, slot) > 0 {
+            return true;
+        }
+    }
+    false
+}
+
+/// Whether some pin slot of some thread holds an object.
+pub fn has_pins(table: &Table) -> bool {
+    for mutator in 0..table.config().mutators() {
+        if has_pin(table, mutator) {
+            return true;
+        }
+    }
+    false
+}
+
+// Whether an object that a pin slot holds lies between two addresses.
+fn has_pinned(table: &Table, first: u64, end: u64) -> bool {
+    for mutator in 0..table.config().mutators() {
+        for slot in 0..SLOTS {
+            let address = pin_word(table, mutator, slot);
+            if first <= address && address < end {
+                return true;
+            }
+        }
+    }
+    false
+}
+
+// Puts whether a region is the shared one or pinned, and whose buffers lie in it.
 fn put_owners(row: &mut Row, table: &Table, config: Config, region: usize) {
+    let (first, end) = used(table, region);
+    if has_pinned(table, first, end) {
+        row.put(b" pinned:");
+    }
     if shared_region(table) == Some(region) {
         row.put(b" shared:");
     }
@@ -246,6 +297,28 @@ pub fn put_roots<K: Sink>(
     row.send(block, sink);
 }
 
+/// Puts the line of the pin slots of a thread, counted from 0, where one holds an object or is to be shown.
+pub fn put_pins<K: Sink>(
+    row: &mut Row,
+    block: &mut Block,
+    sink: &mut K,
+    table: &Table,
+    mutator: usize,
+    shown: bool,
+) {
+    if !shown && !has_pin(table, mutator) {
+        return;
+    }
+    row.put(b"   pins of ");
+    put_machine(row, table.config(), mutator);
+    row.put(b":");
+    for slot in 0..SLOTS {
+        row.put(b" ");
+        put_reference(row, table, pin_word(table, mutator, slot));
+    }
+    row.send(block, sink);
+}
+
 // Puts a word of the heap's state behind a text.
 fn put_state(row: &mut Row, table: &Table, text: &[u8], kind: Reading, at: usize) {
     row.put(text);
@@ -352,5 +425,6 @@ pub fn put_heap<K: Sink>(
     }
     for mutator in 0..config.mutators() {
         put_roots(row, block, sink, table, mutator);
+        put_pins(row, block, sink, table, mutator, false);
     }
 }

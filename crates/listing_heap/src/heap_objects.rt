@@ -1,6 +1,6 @@
 //! The heap as an object of JSON.
 
-use crate::heap::{is_black, is_grey, live_and_garbage, phase};
+use crate::heap::{SLOTS, has_pins, is_black, is_grey, live_and_garbage, phase, pin_word};
 use heap_words::{forwarded, forwardee};
 use listing::{
     Kind, Piece, Reading, Row, Table, base, heap_word, json_field_lists, json_flag, json_key,
@@ -172,6 +172,32 @@ fn json_roots(row: &mut Row, table: &Table, mutator: usize) {
     row.put(b"]");
 }
 
+// Writes the pin slots of a thread, counted from 0, as a list.
+fn json_pins(row: &mut Row, table: &Table, mutator: usize) {
+    json_key_of_element(row);
+    row.put(b"[");
+    for slot in 0..SLOTS {
+        json_key_of_element(row);
+        json_reference(row, table, pin_word(table, mutator, slot));
+    }
+    row.put(b"]");
+}
+
+// Writes the member that is the list of all threads' pin slots, where one of them holds an object.
+fn json_all_pins<K: Sink>(row: &mut Row, block: &mut Block, sink: &mut K, table: &Table) {
+    let config = table.config();
+    if !has_pins(table) {
+        return;
+    }
+    json_key(row, b"pins");
+    row.put(b"[");
+    for mutator in 0..config.mutators() {
+        json_pins(row, table, mutator);
+        row.pass(block, sink);
+    }
+    row.put(b"]");
+}
+
 /// Writes the heap after so many events as an object.
 pub fn json_heap<K: Sink>(
     row: &mut Row,
@@ -213,6 +239,8 @@ pub fn json_heap<K: Sink>(
         json_roots(row, table, mutator);
         row.pass(block, sink);
     }
-    row.put(b"]}");
+    row.put(b"]");
+    json_all_pins(row, block, sink, table);
+    row.put(b"}");
     row.send(block, sink);
 }

@@ -159,17 +159,17 @@ impl Listing {
         }
     }
 
-    /// Writes the graph with which a listing ends, where it has listed the end.
-    pub fn graph<K: Sink>(&mut self, graph: &GraphText, sink: &mut K)
+    /// Writes the graph with which a listing of a trace of a version ends, where it has listed the end.
+    pub fn graph<K: Sink>(&mut self, version: u32, graph: &GraphText, sink: &mut K)
         requires { length graph.now.roots ≤ 8 }
     {
         if self.is_stuck || self.is_cut() {
             return;
         }
         if self.wanted.json {
-            json_graph(&mut self.pen.row, &mut self.pen.block, sink, graph);
+            json_graph(&mut self.pen.row, &mut self.pen.block, sink, version, graph);
         } else {
-            put_graph(&mut self.pen.row, &mut self.pen.block, sink, graph);
+            put_graph(&mut self.pen.row, &mut self.pen.block, sink, version, graph);
         }
     }
 }

@@ -1,5 +1,5 @@
 -- When an allocation was crowded out, by what is in memory.
-use Rattle.std.proofs.Common.{ℕ, ◌≡◌, ◌+◌, ◌-◌, ◌*◌, ◌^◌, ◌<◌, ◌≤◌, Some, sum_by, min, inl, inr, ap, sym, arith, ◌∙◌}
+use Rattle.std.proofs.Common.{ℕ, ◌≡◌, ◌+◌, ◌-◌, ◌*◌, ◌^◌, ◌<◌, ◌≤◌, Some, sum_by, min, inl, inr, ap, sym, subst, arith, ◌∙◌}
 use Rattle.std.specs.Prelude.{MatchBool, Option}
 use Rattle.std.proofs.Math.Dec.{leb}
 use Rattle.std.proofs.Math.Nat.{mul-le-mul}
@@ -8,12 +8,13 @@ use Rattle.std.proofs.Common.{List}
 use Rattle.heap_words.specs.declared.config.Config.{Config}
 use Rattle.shen_graph.specs.declared.command.Command.{Command}
 use Rattle.shen_graph.specs.declared.name.Name.{Name}
-use Rattle.shen_graph.specs.Crowd.{words_asked}
+use Rattle.shen_graph.specs.Crowd.{words_asked, Held, PinnedRegions}
 use Rattle.shen_graph.specs.Graph.{Graph, named}
 use Rattle.shen_graph.specs.Reach.{Live, size}
 use Rattle.shen_graph.specs.Work.{Progress}
 use Rattle.churn.proofs.OneReach.{one_reach}
 use Rattle.shen_check.specs.Judging.{words_waiting, IsFullFor}
+use Rattle.shen_check.proofs.HeldOnce.{held_once, regions_once}
 
 -- a graph has so many live words, and no other number
 pub live_once : (g : Graph) (a b : ℕ) → Live g a → Live g b → a ≡ b
@@ -32,20 +33,44 @@ small r short few less =
     let p : r * (short + 1) ≤ 64 * 33554433 = mul-le-mul few s in
     omega (arith, p)
 
-pub full_for : (c : Config) (g : Graph) (work : List (Option Progress)) (thread : ℕ) (command : Command) (live waiting asked short sat regions words : ℕ)
-    → Live g live → waiting ≡ words_waiting work c.mutators thread → asked ≡ words_asked (Some command) → words ≡ c.region_words → regions ≡ c.regions
-    → short ≡ words - asked → sat ≡ min (live + waiting) (2 ^ 64 - 1)
-    → MatchBool (leb (regions * (short + 1)) sat) (IsFullFor c g work thread command) (IsFullFor c g work thread command → ⊥)
-full_for c g work thread command live waiting asked short sat regions words is waits asks has count less sum =
-    let few : regions * (short + 1) < 2 ^ 32 = small regions short (omega (arith, count, c.in_range.most_regions)) (omega (arith, less, has, c.in_range.most_words)) in
-    let bound : regions * (short + 1) ≡ c.regions * (c.region_words - words_asked (Some command) + 1) =
-    ap (λ (n : ℕ). n * (short + 1)) count ∙ ap (λ (n : ℕ). c.regions * (n + 1)) (less ∙ ap (λ (n : ℕ). n - asked) has ∙ ap (λ (n : ℕ). c.region_words - n) asks) in
-    let total : live + waiting ≡ live + words_waiting work c.mutators thread = ap (λ (n : ℕ). live + n) waits in
-    elim (leb_tells (regions * (short + 1)) sat) [
-      | inl w ↦ rw w.0 (live, is, (let low = reaches (regions * (short + 1)) (live + waiting) sat few sum w.1 in omega (arith, low, bound, total)))
+clash : (a b x y : ℕ) → a < b → a ≡ y → b ≡ x → x ≤ y → ⊥
+clash a b x y lt same_a same_b le = omega (arith, lt, same_a, same_b, le)
+
+-- so many words are free in as many regions
+abbrev needed : Config → ℕ → Command → ℕ
+needed c pinned command = (c.regions - pinned) * (c.region_words - words_asked (Some command) + 1)
+
+-- what a thread that asks is told, with one number for what lives, one for what is held, and one for the regions
+told_full : (c : Config) (g : Graph) (work : List (Option Progress)) (thread : ℕ) (command : Command) (live held pinned : ℕ) → Live g live → Held g held → PinnedRegions c.region_words g pinned
+    → IsFullFor c g work thread command → needed c pinned command ≤ live - held + words_waiting work c.mutators thread
+told_full c g work thread command live held pinned lives holds pins full =
+    let waits = words_waiting work c.mutators thread in
+    subst (λ (n : ℕ). needed c pinned command ≤ n - held + waits) (live_once g full.0 live full.3 lives)
+    (subst (λ (n : ℕ). needed c pinned command ≤ full.0 - n + waits) (held_once g full.1 held full.4 holds)
+    (subst (λ (n : ℕ). needed c n command ≤ full.0 - full.1 + waits) (regions_once c.region_words g full.2 pinned full.5 pins) full.6))
+
+pub full_for : (c : Config) (g : Graph) (work : List (Option Progress)) (thread : ℕ) (command : Command) (live held pinned waiting asked short free rest sat regions words : ℕ)
+    → Live g live → Held g held → PinnedRegions c.region_words g pinned → waiting ≡ words_waiting work c.mutators thread → asked ≡ words_asked (Some command) → words ≡ c.region_words → regions ≡ c.regions
+    → short ≡ words - asked → free ≡ regions - pinned → rest ≡ live - held → sat ≡ min (rest + waiting) (2 ^ 64 - 1)
+    → MatchBool (leb (free * (short + 1)) sat) (IsFullFor c g work thread command) (IsFullFor c g work thread command → ⊥)
+full_for c g work thread command live held pinned waiting asked short free rest sat regions words lives holds pins waits asks has count less opens rests sum =
+    let few : free * (short + 1) < 2 ^ 32 = small free short (omega (arith, opens, count, c.in_range.most_regions)) (omega (arith, less, has, c.in_range.most_words)) in
+    let bound : free * (short + 1) ≡ needed c pinned command =
+    ap (λ (n : ℕ). n * (short + 1)) (opens ∙ ap (λ (n : ℕ). n - pinned) count)
+    ∙ ap (λ (n : ℕ). (c.regions - pinned) * (n + 1)) (less ∙ ap (λ (n : ℕ). n - asked) has ∙ ap (λ (n : ℕ). c.region_words - n) asks) in
+    let total : rest + waiting ≡ live - held + words_waiting work c.mutators thread = ap (λ (n : ℕ). n + waiting) rests ∙ ap (λ (n : ℕ). live - held + n) waits in
+    elim (leb_tells (free * (short + 1)) sat) [
+      | inl w ↦ rw w.0 (
+        live,
+        held,
+        pinned,
+        lives,
+        holds,
+        pins,
+        subst (λ (n : ℕ). n ≤ live - held + words_waiting work c.mutators thread) bound
+            (subst (λ (n : ℕ). free * (short + 1) ≤ n) total (reaches (free * (short + 1)) (rest + waiting) sat few sum w.1)),
+      )
       | inr w ↦ rw w.0 (λ full.
-          let same = live_once g live full.0 is full.1 in
-          let low = falls_short (regions * (short + 1)) (live + waiting) sat few sum w.1 in
-          let high = full.2 in
-          omega (arith, low, bound, total, same, high))
+          clash (rest + waiting) (free * (short + 1)) (needed c pinned command) (live - held + words_waiting work c.mutators thread) (falls_short (free * (short + 1)) (rest + waiting) sat few sum w.1) total bound
+          (told_full c g work thread command live held pinned lives holds pins full))
     ]

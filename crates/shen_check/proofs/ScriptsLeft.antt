@@ -16,26 +16,26 @@ use Rattle.trace_grammar.proofs.Traces.{few_lines}
 use Rattle.shen_check.specs.Judged.{CanBeJudged}
 
 -- the commands of lines in range are valid
-valid_lines : (threads : ℕ) (lines : List TraceLine) (t : ℕ) → AllByRecursion (IsLine threads) lines → AllByRecursion IsValid (grammar.commands_in lines t)
-valid_lines threads [] t all = tt
-valid_lines threads (l ∷ lines) t all = by_thread (eqb l.thread t) (valid_lines threads lines t all.1)
+valid_lines : (version threads : ℕ) (lines : List TraceLine) (t : ℕ) → AllByRecursion (IsLine version threads) lines → AllByRecursion IsValid (grammar.commands_in lines t)
+valid_lines version threads [] t all = tt
+valid_lines version threads (l ∷ lines) t all = by_thread (eqb l.thread t) (valid_lines version threads lines t all.1)
   where
     by_thread : (own : Bool) → AllByRecursion IsValid (grammar.commands_in lines t) → AllByRecursion IsValid (map (λ x. x.command) (cond own (l ∷ filter (λ x. eqb x.thread t) lines) (filter (λ x. eqb x.thread t) lines)))
     by_thread true others = (all.0.valid, others)
     by_thread false others = others
 
-pub count_scripts : (bytes : List ℕ) (c : Config) (scripts : List (List Command)) (items : List Item) → Reads bytes c scripts items → length scripts ≡ c.mutators
-count_scripts bytes c scripts items reads = ap length reads.by_thread ∙ length-map-range_with_len (grammar.commands_in reads.lines) 1 c.mutators
+pub count_scripts : (bytes : List ℕ) (version : ℕ) (c : Config) (scripts : List (List Command)) (items : List Item) → Reads bytes version c scripts items → length scripts ≡ c.mutators
+count_scripts bytes version c scripts items reads = ap length reads.by_thread ∙ length-map-range_with_len (grammar.commands_in reads.lines) 1 c.mutators
 
-script_at : (bytes : List ℕ) (c : Config) (scripts : List (List Command)) (items : List Item) (t : ℕ) → (reads : Reads bytes c scripts items) → t < c.mutators → get_or scripts t [] ≡ grammar.commands_in reads.lines (t + 1)
-script_at bytes c scripts items t reads below =
+script_at : (bytes : List ℕ) (version : ℕ) (c : Config) (scripts : List (List Command)) (items : List Item) (t : ℕ) → (reads : Reads bytes version c scripts items) → t < c.mutators → get_or scripts t [] ≡ grammar.commands_in reads.lines (t + 1)
+script_at bytes version c scripts items t reads below =
     let none : List Command = [] in
     ap (λ (ss : List (List Command)). get_or ss t none) reads.by_thread ∙ get_or-map-range_with_len (grammar.commands_in reads.lines) 1 c.mutators t (t + 1) none below (omega arith)
 
-pub valid_scripts : (bytes : List ℕ) (c : Config) (scripts : List (List Command)) (items : List Item) → Reads bytes c scripts items → All (All IsValid) scripts
-valid_scripts bytes c scripts items reads = All-from_get_or (All IsValid) scripts [] (λ t within.
-    let below : t < c.mutators = omega (arith, within, count_scripts bytes c scripts items reads) in
-    subst (All IsValid) (sym (script_at bytes c scripts items t reads below)) (All-from_recursion IsValid _ (valid_lines c.mutators reads.lines (t + 1) reads.in_range)))
+pub valid_scripts : (bytes : List ℕ) (version : ℕ) (c : Config) (scripts : List (List Command)) (items : List Item) → Reads bytes version c scripts items → All (All IsValid) scripts
+valid_scripts bytes version c scripts items reads = All-from_get_or (All IsValid) scripts [] (λ t within.
+    let below : t < c.mutators = omega (arith, within, count_scripts bytes version c scripts items reads) in
+    subst (All IsValid) (sym (script_at bytes version c scripts items t reads below)) (All-from_recursion IsValid _ (valid_lines version c.mutators reads.lines (t + 1) reads.in_range)))
 
 -- a trace has fewer commands than there are numbers for names
 short_script : (lines : List TraceLine) (t : ℕ) → length (grammar.commands_in lines t) ≤ length lines
@@ -46,17 +46,17 @@ short_script (l ∷ lines) t = by_thread (eqb l.thread t) (short_script lines t)
     by_thread true others = omega arith
     by_thread false others = omega arith
 
-few_commands : (bytes : List ℕ) (c : Config) (scripts : List (List Command)) (items : List Item) (t : ℕ) → Reads bytes c scripts items → t < c.mutators → length (get_or scripts t []) < 4294967295
-few_commands bytes c scripts items t reads below =
-    let script = ap length (script_at bytes c scripts items t reads below) in
+few_commands : (bytes : List ℕ) (version : ℕ) (c : Config) (scripts : List (List Command)) (items : List Item) (t : ℕ) → Reads bytes version c scripts items → t < c.mutators → length (get_or scripts t []) < 4294967295
+few_commands bytes version c scripts items t reads below =
+    let script = ap length (script_at bytes version c scripts items t reads below) in
     let lines = flat_map line reads.lines in
     let turns = flat_map schedule_line reads.turns in
-    omega (arith, script, short_script reads.lines (t + 1), few_lines reads.lines, reads.short, ap length reads.spelled, length-append (header c) (lines ++ turns), length-append lines turns)
+    omega (arith, script, short_script reads.lines (t + 1), few_lines reads.lines, reads.short, ap length reads.spelled, length-append (header version c) (lines ++ turns), length-append lines turns)
 
-pub can_be_judged : (bytes : List ℕ) (c : Config) (scripts : List (List Command)) (items : List Item) → Reads bytes c scripts items → CanBeJudged c scripts
-can_be_judged bytes c scripts items reads = record {
-  count = count_scripts bytes c scripts items reads;
-  valid = valid_scripts bytes c scripts items reads;
+pub can_be_judged : (bytes : List ℕ) (version : ℕ) (c : Config) (scripts : List (List Command)) (items : List Item) → Reads bytes version c scripts items → CanBeJudged c scripts
+can_be_judged bytes version c scripts items reads = record {
+  count = count_scripts bytes version c scripts items reads;
+  valid = valid_scripts bytes version c scripts items reads;
   few = All-from_get_or (λ (script : List Command). length script < 4294967295) scripts [] (λ t within.
-      few_commands bytes c scripts items t reads (omega (arith, within, count_scripts bytes c scripts items reads)));
+      few_commands bytes version c scripts items t reads (omega (arith, within, count_scripts bytes version c scripts items reads)));
 }

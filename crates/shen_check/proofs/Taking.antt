@@ -1,5 +1,5 @@
 -- What memory says of the next entry, and what it is after it.
-use Rattle.std.proofs.Common.{ℕ, zero, suc, ◌≡◌, ◌≢◌, ◌⊎◌, ◌+◌, ◌-◌, ◌<◌, ◌≤◌, List, [], ◌∷◌, ◌++◌, length, take, sum_by, Option, Some, inl, inr, refl, ap, sym, subst, ◌∙◌, arith}
+use Rattle.std.proofs.Common.{ℕ, zero, suc, ◌≡◌, ◌≢◌, ◌⊎◌, ◌+◌, ◌-◌, ◌*◌, ◌<◌, ◌≤◌, List, [], ◌∷◌, ◌++◌, length, take, sum_by, Option, Some, inl, inr, refl, ap, sym, subst, ◌∙◌, arith}
 use Rattle.std.specs.Prelude.{IsSome, option_map, unwrap_or, slice_get, slice_index_or, All, if◌then◌else◌, ◌==◌}
 use Rattle.std.specs.List.{range_with_len}
 use Rattle.std.proofs.lemmas.Bool.{cases_lt, cases_eq}
@@ -15,7 +15,7 @@ use Rattle.shen_graph.specs.Valid.{IsValid}
 use Rattle.shen_graph.specs.Graph.{Graph, opening}
 use Rattle.shen_graph.specs.History.{Entry, after, after_entry, of_thread, script_of}
 use Rattle.shen_graph.specs.History as history
-use Rattle.shen_graph.specs.Crowd.{words_asked, next_command, words_open, IsCrowded}
+use Rattle.shen_graph.specs.Crowd.{words_asked, next_command, words_open, Held, PinnedRegions, IsCrowded}
 use Rattle.shen_graph.specs.PlainGraph.{Plain, graph_of, threads_of}
 use Rattle.shen_graph.specs.Reach.{Live}
 use Rattle.shen_graph.specs.Work.{Progress, HasScript, replies_of, next_of, with_reply, progress_of, opened, begun}
@@ -24,9 +24,9 @@ use Rattle.shen_graph.proofs.Parts.{progress_of-opened}
 use Rattle.shen_graph.proofs.Noted.{script_kept, replies_same, replies_other, script_stays}
 use Rattle.churn.proofs.Refusals.{after-append}
 use Rattle.shen_check.specs.Judged.{MayFollow}
-use Rattle.shen_check.specs.Judging.{words_beside, words_waiting, IsFullFor, MayAnswer, HasJudged}
+use Rattle.shen_check.specs.Judging.{words_beside, words_waiting, IsFullFor, HasPinsOf, MayAnswer, HasJudged}
 use Rattle.shen_check.proofs.LiveSums.{sum_more}
-use Rattle.shen_check.proofs.Outcomes.{entry_counts}
+use Rattle.shen_check.proofs.Outcomes.{entry_counts, entry_pins, opening_pins}
 
 abbrev Jobs : Type 0
 Jobs = List (Option Progress)
@@ -114,13 +114,27 @@ waiting_is c scripts before graph work h count thread =
 
 pub crowded_is : (c : Config) (scripts : Scripts) (before : List Entry) (graph : Plain) (work : Jobs) (e : Entry) → HasJudged scripts before graph work → length scripts ≡ c.mutators
     → IsFullFor c (graph_of graph) work e.thread e.command → IsCrowded c.regions c.region_words (opening (length scripts)) scripts before e
-crowded_is c scripts before graph work e h count full =
-    (full.0, subst (λ (g : Graph). Live g full.0) h.graph_is full.1, (let same = waiting_is c scripts before graph work h count e.thread in let le = full.2 in omega (arith, same, le)))
+crowded_is c scripts before graph work e h count full = (
+  full.0,
+  full.1,
+  full.2,
+  subst (λ (g : Graph). Live g full.0) h.graph_is full.3,
+  subst (λ (g : Graph). Held g full.1) h.graph_is full.4,
+  subst (λ (g : Graph). PinnedRegions c.region_words g full.2) h.graph_is full.5,
+  subst (λ (n : ℕ). (c.regions - full.2) * (c.region_words - words_asked (Some e.command) + 1) ≤ full.0 - full.1 + n) (waiting_is c scripts before graph work h count e.thread) full.6,
+)
 
 pub full_is_for : (c : Config) (scripts : Scripts) (before : List Entry) (graph : Plain) (work : Jobs) (e : Entry) → HasJudged scripts before graph work → length scripts ≡ c.mutators
     → IsCrowded c.regions c.region_words (opening (length scripts)) scripts before e → IsFullFor c (graph_of graph) work e.thread e.command
-full_is_for c scripts before graph work e h count crowded =
-    (crowded.0, subst (λ (g : Graph). Live g crowded.0) (sym h.graph_is) crowded.1, (let same = waiting_is c scripts before graph work h count e.thread in let le = crowded.2 in omega (arith, same, le)))
+full_is_for c scripts before graph work e h count crowded = (
+  crowded.0,
+  crowded.1,
+  crowded.2,
+  subst (λ (g : Graph). Live g crowded.0) (sym h.graph_is) crowded.3,
+  subst (λ (g : Graph). Held g crowded.1) (sym h.graph_is) crowded.4,
+  subst (λ (g : Graph). PinnedRegions c.region_words g crowded.2) (sym h.graph_is) crowded.5,
+  subst (λ (n : ℕ). (c.regions - crowded.2) * (c.region_words - words_asked (Some e.command) + 1) ≤ crowded.0 - crowded.1 + n) (sym (waiting_is c scripts before graph work h count e.thread)) crowded.6,
+)
 
 -- ---- one entry more
 
@@ -142,9 +156,9 @@ counted before e t n m few more = elim (eqb_tells t e.thread) [
 ]
 
 pub one_more : (scripts : Scripts) (before : List Entry) (graph next : Plain) (work : Jobs) (e : Entry) → HasJudged scripts before graph work
-    → 1 ≤ e.thread → e.thread ≤ length scripts → threads_of next ≡ threads_of graph → graph_of next ≡ after_entry (graph_of graph) e
+    → 1 ≤ e.thread → e.thread ≤ length scripts → IsValid e.command → threads_of next ≡ threads_of graph → graph_of next ≡ after_entry (graph_of graph) e
     → HasJudged scripts (before ++ e ∷ []) next (with_reply work (e.thread - 1) e.reply)
-one_more scripts before graph next work e h low high threads made =
+one_more scripts before graph next work e h low high valid threads made =
     let here : HasScript work (e.thread - 1) = h.has (e.thread - 1) (omega (arith, low, high)) in
     record {
       graph_is = made ∙ ap (λ (g : Graph). after_entry g e) h.graph_is ∙ sym (after-append (opening (length scripts)) before (e ∷ []));
@@ -154,6 +168,7 @@ one_more scripts before graph next work e h low high threads made =
       replies = λ m below. replied m below (cases_eq m (e.thread - 1));
       counts = λ t. counted before e t ((graph_of graph).count t) ((graph_of next).count t) (h.counts t)
           (subst (λ (g : Graph). g.count t ≤ (if t == e.thread then (graph_of graph).count t + 1 else (graph_of graph).count t)) (sym made) (entry_counts (graph_of graph) e t));
+      pins = subst (HasPinsOf (length scripts)) (sym made) (entry_pins (length scripts) (graph_of graph) e low high valid h.pins);
     }
   where
     replied : (m : ℕ) → m < length scripts → (m ≡ e.thread - 1) ⊎ (m ≢ e.thread - 1) → replies_of (with_reply work (e.thread - 1) e.reply) m ≡ history.replies_of (of_thread (before ++ e ∷ []) (m + 1))
@@ -184,6 +199,7 @@ first scripts graph work few made threads is =
       script = λ m below. ap (λ (o : Option Progress). (unwrap_or o (begun [])).script) (there m below);
       replies = λ m below. ap (λ (o : Option Progress). (unwrap_or o (begun [])).replies) (there m below);
       counts = λ t. subst (λ (g : Graph). g.count t ≤ 0) (sym made) (omega arith);
+      pins = subst (HasPinsOf (length scripts)) (sym made) (opening_pins (length scripts) (length scripts));
     }
 
 -- ---- an entry may follow exactly where its command is next and may be answered so
@@ -197,7 +213,7 @@ no_next c scripts before graph work e n h count none follow =
 pub may_answer : (c : Config) (scripts : Scripts) (before : List Entry) (graph : Plain) (work : Jobs) (e : Entry) → HasJudged scripts before graph work → length scripts ≡ c.mutators
     → MayFollow c scripts before e → MayAnswer c (graph_of graph) work e
 may_answer c scripts before graph work e h count follow = record {
-  legal = subst (λ (g : Graph). IsLegal g e.thread e.command e.reply (after_entry g e)) (sym h.graph_is) follow.legal;
+  legal = subst (λ (g : Graph). IsLegal c.regions c.region_words g e.thread e.command e.reply (after_entry g e)) (sym h.graph_is) follow.legal;
   full = λ full. full_is_for c scripts before graph work e h count (follow.crowded full);
 }
 
@@ -205,7 +221,7 @@ pub may_follow : (c : Config) (scripts : Scripts) (before : List Entry) (graph :
     → slice_get (script_of scripts e.thread) (length (of_thread before e.thread)) ≡ Some e.command → MayAnswer c (graph_of graph) work e → MayFollow c scripts before e
 may_follow c scripts before graph work e h count next may = record {
   next = next;
-  legal = subst (λ (g : Graph). IsLegal g e.thread e.command e.reply (after_entry g e)) h.graph_is may.legal;
+  legal = subst (λ (g : Graph). IsLegal c.regions c.region_words g e.thread e.command e.reply (after_entry g e)) h.graph_is may.legal;
   crowded = λ full. crowded_is c scripts before graph work e h count (may.full full);
 }
 

@@ -10,7 +10,8 @@ use Rattle.shen_graph.specs.declared.command.Reply.TheVariants as reply
 use Rattle.shen_graph.specs.declared.command.Command.{Command}
 use Rattle.shen_graph.specs.declared.command.Command.TheVariants.{Gc}
 use Rattle.shen_graph.specs.Graph.{Graph}
-use Rattle.shen_graph.specs.GraphText.{Text, Row, row_in, root_of, names_of, IsTextOf}
+use Rattle.shen_graph.specs.GraphText.{Text, Row, row_in, root_of, pin_of, names_of, IsTextOf}
+use Rattle.shen_graph.specs.Step.{name_in}
 use Rattle.shen_graph.specs.History.{Entry, after, of_thread, script_of}
 use Rattle.shen_graph.specs.History as history
 use Rattle.shen_graph.specs.PlainGraph.{Plain, graph_of}
@@ -39,31 +40,37 @@ told scripts before graph work h t low high =
     let same : t - 1 + 1 ≡ t = omega (arith, low) in
     h.replies (t - 1) (omega (arith, low, high)) ∙ ap (λ (u : ℕ). history.replies_of (of_thread before u)) same
 
-text_is : (scripts : Scripts) (before : List Entry) (graph : Plain) (work : Jobs) (text : Text) → HasJudged scripts before graph work → IsTextOf (graph_after scripts before) (length scripts) text
-    → answer_text (length text.roots) (λ t. replies_of work (t - 1)) text.rows (root_of text)
-    ≡ answer_text (length scripts) (λ t. history.replies_of (of_thread before t)) (map (row_in (graph_after scripts before)) (names_of text)) (graph_after scripts before).root
-text_is scripts before graph work text h is =
-    ap (λ (n : ℕ). answer_text n (λ t. replies_of work (t - 1)) text.rows (root_of text)) is.each
-    ∙ ap (λ (rows : List Row). answer_text (length scripts) (λ t. replies_of work (t - 1)) rows (root_of text)) is.rows
-    ∙ answer_text_same (length scripts) (λ t. replies_of work (t - 1)) (λ t. history.replies_of (of_thread before t)) (map (row_in (graph_after scripts before)) (names_of text)) (root_of text) (graph_after scripts before).root
+-- the answer that a version gives to a history
+abbrev answer_of : ℕ → Scripts → List Entry → List Name → List ℕ
+answer_of version scripts before names =
+    answer_text version (length scripts) (λ t. history.replies_of (of_thread before t)) (map (row_in (graph_after scripts before)) names) (graph_after scripts before).root (λ t slot. name_in ((graph_after scripts before).pin t slot))
+
+text_is : (version : ℕ) (scripts : Scripts) (before : List Entry) (graph : Plain) (work : Jobs) (text : Text) → HasJudged scripts before graph work → IsTextOf (graph_after scripts before) (length scripts) text
+    → answer_text version (length text.roots) (λ t. replies_of work (t - 1)) text.rows (root_of text) (pin_of text) ≡ answer_of version scripts before (names_of text)
+text_is version scripts before graph work text h is =
+    ap (λ (n : ℕ). answer_text version n (λ t. replies_of work (t - 1)) text.rows (root_of text) (pin_of text)) is.each
+    ∙ ap (λ (rows : List Row). answer_text version (length scripts) (λ t. replies_of work (t - 1)) rows (root_of text) (pin_of text)) is.rows
+    ∙ answer_text_same version (length scripts) (λ t. replies_of work (t - 1)) (λ t. history.replies_of (of_thread before t)) (map (row_in (graph_after scripts before)) (names_of text)) (root_of text) (graph_after scripts before).root
+    (pin_of text) (λ t slot. name_in ((graph_after scripts before).pin t slot))
     (λ t low high. told scripts before graph work h t low high)
     (λ t i low high small. is.roots t i low high)
+    (λ t i low high small. is.pins t i low high)
 
-pub answered : (scripts : Scripts) (before : List Entry) (graph : Plain) (work : Jobs) (text : Text) (body out : List ℕ) (same : Bool) (n : ℕ) → HasJudged scripts before graph work → length scripts ≡ n → IsTextOf (graph_of graph) n text
-    → out ≡ answer_text (length text.roots) (λ t. replies_of work (t - 1)) text.rows (root_of text) → MatchBool same (body ≡ out) (body ≡ out → ⊥)
-    → MatchBool same (IsAnswerText (length scripts) before body) (IsAnswerText (length scripts) before body → ⊥)
-answered scripts before graph work text body out same n h count shows made compared =
+pub answered : (version : ℕ) (scripts : Scripts) (before : List Entry) (graph : Plain) (work : Jobs) (text : Text) (body out : List ℕ) (same : Bool) (n : ℕ) → HasJudged scripts before graph work → length scripts ≡ n
+    → IsTextOf (graph_of graph) n text
+    → out ≡ answer_text version (length text.roots) (λ t. replies_of work (t - 1)) text.rows (root_of text) (pin_of text) → MatchBool same (body ≡ out) (body ≡ out → ⊥)
+    → MatchBool same (IsAnswerText version (length scripts) before body) (IsAnswerText version (length scripts) before body → ⊥)
+answered version scripts before graph work text body out same n h count shows made compared =
     let is : IsTextOf (graph_after scripts before) (length scripts) text = subst (λ (k : ℕ). IsTextOf (graph_after scripts before) k text) (sym count) (subst (λ (g : Graph). IsTextOf g n text) h.graph_is shows) in
-    let whole = made ∙ text_is scripts before graph work text h is in
+    let whole = made ∙ text_is version scripts before graph work text h is in
     by_test same is whole compared
   where
-    by_test : (b : Bool) → IsTextOf (graph_after scripts before) (length scripts) text
-        → out ≡ answer_text (length scripts) (λ t. history.replies_of (of_thread before t)) (map (row_in (graph_after scripts before)) (names_of text)) (graph_after scripts before).root
-        → MatchBool b (body ≡ out) (body ≡ out → ⊥) → MatchBool b (IsAnswerText (length scripts) before body) (IsAnswerText (length scripts) before body → ⊥)
+    by_test : (b : Bool) → IsTextOf (graph_after scripts before) (length scripts) text → out ≡ answer_of version scripts before (names_of text)
+        → MatchBool b (body ≡ out) (body ≡ out → ⊥) → MatchBool b (IsAnswerText version (length scripts) before body) (IsAnswerText version (length scripts) before body → ⊥)
     by_test true is whole e = record { names = names_of text; reach = is.reach; text = e ∙ whole }
     by_test false is whole other = λ it.
         let names = one_reach (graph_after scripts before) it.names (names_of text) it.reach is.reach in
-        other (it.text ∙ ap (λ (ns : List Name). answer_text (length scripts) (λ t. history.replies_of (of_thread before t)) (map (row_in (graph_after scripts before)) ns) (graph_after scripts before).root) names ∙ sym whole)
+        other (it.text ∙ ap (answer_of version scripts before) names ∙ sym whole)
 
 -- ---- commands that are left
 

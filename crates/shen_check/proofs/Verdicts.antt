@@ -40,14 +40,14 @@ seam (x ∷ before) es e = seam before es e
 
 -- ---- entries that follow are legal
 
-each_from : (c : Config) (scripts : Scripts) (past rest : List Entry) → AllFollow c scripts (past ++ rest) → EachIsLegal (graph_after scripts past) rest
+each_from : (c : Config) (scripts : Scripts) (past rest : List Entry) → AllFollow c scripts (past ++ rest) → EachIsLegal c.regions c.region_words (graph_after scripts past) rest
 each_from c scripts past [] follow = tt
 each_from c scripts past (e ∷ es) follow =
     let low : length past < length (past ++ e ∷ es) = let size = length-append past (e ∷ es) in omega (arith, size) in
     let may = follow (length past) e low (seam past es e) in
-    let legal = subst (λ (p : List Entry). IsLegal (graph_after scripts p) e.thread e.command e.reply (after_entry (graph_after scripts p) e)) (take_at past (e ∷ es) (length past) refl) may.legal in
+    let legal = subst (λ (p : List Entry). IsLegal c.regions c.region_words (graph_after scripts p) e.thread e.command e.reply (after_entry (graph_after scripts p) e)) (take_at past (e ∷ es) (length past) refl) may.legal in
     let more = each_from c scripts (past ++ e ∷ []) es (subst (AllFollow c scripts) (sym (append_assoc past (e ∷ []) es)) follow) in
-    (legal, subst (λ (g : Graph). EachIsLegal g es) (after-append (opening (length scripts)) past (e ∷ [])) more)
+    (legal, subst (λ (g : Graph). EachIsLegal c.regions c.region_words g es) (after-append (opening (length scripts)) past (e ∷ [])) more)
 
 -- ---- and are fronts of the scripts
 
@@ -105,10 +105,10 @@ follows_scripts c scripts es follow none_left t =
 
 -- ---- and the other way round
 
-legal_at : (g : Graph) (es : List Entry) (k : ℕ) (e : Entry) → EachIsLegal g es → slice_get es k ≡ Some e → IsLegal (after g (take k es)) e.thread e.command e.reply (after_entry (after g (take k es)) e)
-legal_at g [] k e each there = absurd (let no = slice_get_within [] k e there in omega (arith, no))
-legal_at g (x ∷ es) zero e each there = subst (λ (y : Entry). IsLegal g y.thread y.command y.reply (after_entry g y)) (same_Some x e there) each.0
-legal_at g (x ∷ es) (suc k) e each there = legal_at (after_entry g x) es k e each.1 there
+legal_at : (regions region_words : ℕ) (g : Graph) (es : List Entry) (k : ℕ) (e : Entry) → EachIsLegal regions region_words g es → slice_get es k ≡ Some e → IsLegal regions region_words (after g (take k es)) e.thread e.command e.reply (after_entry (after g (take k es)) e)
+legal_at regions region_words g [] k e each there = absurd (let no = slice_get_within [] k e there in omega (arith, no))
+legal_at regions region_words g (x ∷ es) zero e each there = subst (λ (y : Entry). IsLegal regions region_words g y.thread y.command y.reply (after_entry g y)) (same_Some x e there) each.0
+legal_at regions region_words g (x ∷ es) (suc k) e each there = legal_at regions region_words (after_entry g x) es k e each.1 there
 
 next_at : (es : List Entry) (k : ℕ) (e : Entry) (cs : List Command) → slice_get es k ≡ Some e → commands_of (of_thread es e.thread) ≡ cs → slice_get cs (length (of_thread (take k es) e.thread)) ≡ Some e.command
 next_at es k e cs there whole =
@@ -127,15 +127,15 @@ next_at es k e cs there whole =
     command_seam [] cs c = refl
     command_seam (x ∷ before) cs c = command_seam before cs c
 
-right_follows : (c : Config) (scripts : Scripts) (es : List Entry) (body : List ℕ) → IsRight c scripts es body → AllFollow c scripts es
-right_follows c scripts es body right k e below there = record {
+right_follows : (version : ℕ) (c : Config) (scripts : Scripts) (es : List Entry) (body : List ℕ) → IsRight version c scripts es body → AllFollow c scripts es
+right_follows version c scripts es body right k e below there = record {
   next = next_at es k e (script_of scripts e.thread) there (right.follows e.thread);
-  legal = legal_at (opening (length scripts)) es k e right.legal.each there;
+  legal = legal_at c.regions c.region_words (opening (length scripts)) es k e right.legal.each there;
   crowded = λ full. right.legal.crowded k e there full;
 }
 
-right_ends : (c : Config) (scripts : Scripts) (es : List Entry) (body : List ℕ) → IsRight c scripts es body → (t : ℕ) → HasLeft scripts es t → ⊥
-right_ends c scripts es body right t left =
+right_ends : (version : ℕ) (c : Config) (scripts : Scripts) (es : List Entry) (body : List ℕ) → IsRight version c scripts es body → (t : ℕ) → HasLeft scripts es t → ⊥
+right_ends version c scripts es body right t left =
     let same = ap length (right.follows t) in
     let size = length-map (of_thread es t) (λ (x : Entry). x.command) in
     omega (arith, left, same, size)
@@ -151,21 +151,21 @@ wrong_never c scripts es place it follow = wrong_stops c scripts es place (lengt
 trichotomy : (a b : ℕ) → (a < b → ⊥) → (b < a → ⊥) → a ≡ b
 trichotomy a b not_low never = elim (cases_eq a b) [ inl same ↦ same | inr other ↦ elim (cases_lt a b) [ inl low ↦ absurd (not_low low) | inr high ↦ absurd (never (omega (arith, high, other))) ] ]
 
-pub one : (c : Config) (scripts : Scripts) (es : List Entry) (body : List ℕ) (v w : Verdict) → IsVerdict c scripts es body v → IsVerdict c scripts es body w → v ≡ w
-one c scripts es body Yes Yes p q = refl
-one c scripts es body Yes (NoEntry b) p q = absurd (wrong_never c scripts es b q (right_follows c scripts es body p))
-one c scripts es body Yes (Script u) p q = absurd (right_ends c scripts es body p u q.left)
-one c scripts es body Yes Text p q = absurd (q.other p.text)
-one c scripts es body (NoEntry a) Yes p q = absurd (wrong_never c scripts es a p (right_follows c scripts es body q))
-one c scripts es body (NoEntry a) (NoEntry b) p q =
+pub one : (version : ℕ) (c : Config) (scripts : Scripts) (es : List Entry) (body : List ℕ) (v w : Verdict) → IsVerdict version c scripts es body v → IsVerdict version c scripts es body w → v ≡ w
+one version c scripts es body Yes Yes p q = refl
+one version c scripts es body Yes (NoEntry b) p q = absurd (wrong_never c scripts es b q (right_follows version c scripts es body p))
+one version c scripts es body Yes (Script u) p q = absurd (right_ends version c scripts es body p u q.left)
+one version c scripts es body Yes Text p q = absurd (q.other p.text)
+one version c scripts es body (NoEntry a) Yes p q = absurd (wrong_never c scripts es a p (right_follows version c scripts es body q))
+one version c scripts es body (NoEntry a) (NoEntry b) p q =
     ap NoEntry (trichotomy a b (λ low. wrong_stops c scripts es a b p low q.before) (λ low. wrong_stops c scripts es b a q low p.before))
-one c scripts es body (NoEntry a) (Script u) p q = absurd (wrong_never c scripts es a p q.follow)
-one c scripts es body (NoEntry a) Text p q = absurd (wrong_never c scripts es a p q.follow)
-one c scripts es body (Script t) Yes p q = absurd (right_ends c scripts es body q t p.left)
-one c scripts es body (Script t) (NoEntry b) p q = absurd (wrong_never c scripts es b q p.follow)
-one c scripts es body (Script t) (Script u) p q = ap Script (trichotomy t u (λ low. q.before t low p.left) (λ low. p.before u low q.left))
-one c scripts es body (Script t) Text p q = absurd (q.none_left t p.left)
-one c scripts es body Text Yes p q = absurd (p.other q.text)
-one c scripts es body Text (NoEntry b) p q = absurd (wrong_never c scripts es b q p.follow)
-one c scripts es body Text (Script u) p q = absurd (p.none_left u q.left)
-one c scripts es body Text Text p q = refl
+one version c scripts es body (NoEntry a) (Script u) p q = absurd (wrong_never c scripts es a p q.follow)
+one version c scripts es body (NoEntry a) Text p q = absurd (wrong_never c scripts es a p q.follow)
+one version c scripts es body (Script t) Yes p q = absurd (right_ends version c scripts es body q t p.left)
+one version c scripts es body (Script t) (NoEntry b) p q = absurd (wrong_never c scripts es b q p.follow)
+one version c scripts es body (Script t) (Script u) p q = ap Script (trichotomy t u (λ low. q.before t low p.left) (λ low. p.before u low q.left))
+one version c scripts es body (Script t) Text p q = absurd (q.none_left t p.left)
+one version c scripts es body Text Yes p q = absurd (p.other q.text)
+one version c scripts es body Text (NoEntry b) p q = absurd (wrong_never c scripts es b q p.follow)
+one version c scripts es body Text (Script u) p q = absurd (p.none_left u q.left)
+one version c scripts es body Text Text p q = refl

@@ -20,7 +20,7 @@ graph_after scripts before = after (opening (length scripts)) before
 -- was refused, it was crowded out.
 pub record MayFollow (c : Config) (scripts : List (List Command)) (before : List Entry) (e : Entry) : Type 0 where
   pub next : slice_get (script_of scripts e.thread) (length (of_thread before e.thread)) ≡ Some e.command
-  pub legal : IsLegal (graph_after scripts before) e.thread e.command e.reply (after_entry (graph_after scripts before) e)
+  pub legal : IsLegal c.regions c.region_words (graph_after scripts before) e.thread e.command e.reply (after_entry (graph_after scripts before) e)
   pub crowded : e.reply ≡ reply.Full → IsCrowded c.regions c.region_words (opening (length scripts)) scripts before e
 
 -- each of so many entries, from the first on, may follow those before it
@@ -49,23 +49,23 @@ pub record IsFirstLeft (c : Config) (scripts : List (List Command)) (history : L
   pub before : (t : ℕ) → t < thread → HasLeft scripts history t → ⊥
 
 -- All entries may follow, no command is left, and the body is not what answers for them.
-pub record IsOtherText (c : Config) (scripts : List (List Command)) (history : List Entry) (body : List ℕ) : Type 0 where
+pub record IsOtherText (version : ℕ) (c : Config) (scripts : List (List Command)) (history : List Entry) (body : List ℕ) : Type 0 where
   pub follow : AllFollow c scripts history
   pub none_left : (t : ℕ) → HasLeft scripts history t → ⊥
-  pub other : IsAnswerText (length scripts) history body → ⊥
+  pub other : IsAnswerText version (length scripts) history body → ⊥
 
 -- The history is one that a heap may have for these scripts, whole, and the body answers for it.
-pub record IsRight (c : Config) (scripts : List (List Command)) (history : List Entry) (body : List ℕ) : Type 0 where
+pub record IsRight (version : ℕ) (c : Config) (scripts : List (List Command)) (history : List Entry) (body : List ℕ) : Type 0 where
   pub legal : IsLegalHistory c.regions c.region_words scripts history
   pub follows : Follows scripts history
-  pub text : IsAnswerText (length scripts) history body
+  pub text : IsAnswerText version (length scripts) history body
 
 -- when a verdict is the one
-abbrev pub IsVerdict : Config → List (List Command) → List Entry → List ℕ → Verdict → Type 0
-IsVerdict c scripts history body Yes = IsRight c scripts history body
-IsVerdict c scripts history body (NoEntry place) = IsFirstWrong c scripts history place
-IsVerdict c scripts history body (Script thread) = IsFirstLeft c scripts history thread
-IsVerdict c scripts history body Text = IsOtherText c scripts history body
+abbrev pub IsVerdict : (version : ℕ) → Config → List (List Command) → List Entry → List ℕ → Verdict → Type 0
+IsVerdict version c scripts history body Yes = IsRight version c scripts history body
+IsVerdict version c scripts history body (NoEntry place) = IsFirstWrong c scripts history place
+IsVerdict version c scripts history body (Script thread) = IsFirstLeft c scripts history thread
+IsVerdict version c scripts history body Text = IsOtherText version c scripts history body
 
 -- What a judge asks of a trace: a script for each of its threads, of commands in range, each with fewer commands than there are
 -- numbers for names.

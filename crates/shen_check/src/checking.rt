@@ -18,7 +18,7 @@ pub fn check(
     body: &[u8],
 ) -> Result<Verdict, NoMemory>
     requires { CanBeJudged trace.now.config trace.now.scripts }
-    ensures { IfOk result (IsVerdict trace.now.config trace.now.scripts history.now.list body.now) }
+    ensures { IfOk result (IsVerdict trace.now.version trace.now.config trace.now.scripts history.now.list body.now) }
 {
     let mut judge = Judge::open(alloc, trace)?;
     for at in 0..history.len() {
@@ -30,7 +30,7 @@ pub fn check(
     if let Some(thread) = judge.first_left(threads) {
         return Ok(Verdict::Script { thread });
     }
-    if judge.is_answered_by(alloc, threads, body)? {
+    if judge.is_answered_by(alloc, trace.version, threads, body)? {
         Ok(Verdict::Yes)
     } else {
         Ok(Verdict::Text)

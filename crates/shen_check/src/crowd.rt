@@ -1,13 +1,13 @@
 //! Whether an allocation was crowded out.
-ghost use Rattle.std.specs.Prelude.{◌≡◌, ◌≤◌, ◌<◌, ◌*◌, ◌^◌, ℕ, IfOk, MatchBool};
+ghost use Rattle.std.specs.Prelude.{◌≡◌, length, ◌≤◌, ◌<◌, ◌*◌, ◌^◌, ℕ, IfOk, MatchBool};
 ghost use Rattle.shen_graph.specs.Crowd.{words_asked};
-ghost use Rattle.shen_graph.specs.PlainGraph.{graph_of};
+ghost use Rattle.shen_graph.specs.PlainGraph.{graph_of, threads_of};
 ghost use Rattle.shen_graph.specs.Reach.{Live};
 ghost use Rattle.shen_graph.specs.Work.{HasScript};
-ghost use Rattle.shen_check.specs.Judging.{words_beside, words_waiting, IsFullFor};
+ghost use Rattle.shen_check.specs.Judging.{words_beside, words_waiting, pins_held, names_held, words_held, regions_held, HasPinsOf, IsFullFor};
 
 use heap_words::Config;
-use shen_graph::{Command, NoMemory, PlainGraph, Work};
+use shen_graph::{Command, Name, NoMemory, Pinned, PlainGraph, Work};
 use std::alloc::Global;
 
 /// The words of an object without fields: its header, its shape and its name.
@@ -27,6 +27,56 @@ pub fn live_words(alloc: Global, graph: &PlainGraph) -> Result<u64, NoMemory>
         words = sum;
     }
     Ok(words)
+}
+
+// What the pin slots of so many threads hold.
+fn pinned(alloc: Global, graph: &PlainGraph, threads: u32) -> Result<Vec<Pinned>, NoMemory>
+    requires threads { threads ≡ threads_of graph.now }
+    ensures { IfOk result (λ held. held.items ≡ pins_held (graph_of graph.now) threads) }
+{
+    let mut held = Vec::new(alloc);
+    for thread in 1..=threads {
+        for slot in 0..4 {
+            if let Some(pinned) = graph.pin_of(thread, slot) {
+                held.push(pinned)?;
+            }
+        }
+    }
+    Ok(held)
+}
+
+// The words of the objects that are pinned, each once. `NoMemory` also where no u64 holds them.
+fn held_words(alloc: Global, graph: &PlainGraph, held: &[Pinned]) -> Result<u64, NoMemory>
+    ensures { IfOk result (λ words. words ≡ words_held (graph_of graph.now) (names_held held.now)) }
+{
+    let mut names: Vec<Name> = Vec::new(alloc);
+    let mut words: u64 = 0;
+    for pinned in held {
+        if !names.contains(&pinned.name) {
+            names.push(pinned.name)?;
+            let more = graph.words_of(pinned.name).unwrap_or(HEAD);
+            let Some(sum) = words.checked_add(more) else {
+                return Err(NoMemory);
+            };
+            words = sum;
+        }
+    }
+    Ok(words)
+}
+
+// How many regions of so many words have a pinned object.
+fn pinned_regions(alloc: Global, region_words: u64, held: &[Pinned]) -> Result<u64, NoMemory>
+    requires { 0 < region_words }
+    ensures { IfOk result (λ count. count ≡ length (regions_held region_words held.now)) }
+{
+    let mut regions: Vec<u64> = Vec::new(alloc);
+    for pinned in held {
+        let region = pinned.place / region_words;
+        if !regions.contains(&region) {
+            regions.push(region)?;
+        }
+    }
+    Ok(regions.len() as u64)
 }
 
 // The words that a command asks for.
@@ -68,7 +118,8 @@ fn words_waiting(work: &Work, threads: usize, thread: u32) -> u64
     words
 }
 
-/// Whether what can be reached and what other threads ask for is so much that a command finds no region with room.
+/// Whether what can be reached and is not pinned, and what other threads ask for, is so much that a command finds no region
+/// without a pinned object that has room.
 pub fn is_full_for(
     alloc: Global,
     config: &Config,
@@ -77,13 +128,19 @@ pub fn is_full_for(
     thread: u32,
     command: Command,
 ) -> Result<bool, NoMemory>
-    requires { (m : ℕ) → m < config.now.mutators → HasScript work.now m }
+    requires has { (m : ℕ) → m < config.now.mutators → HasScript work.now m }
+    requires threads { config.now.mutators ≡ threads_of graph.now }
+    requires pins { HasPinsOf config.now.mutators (graph_of graph.now) }
     ensures { IfOk result (λ full. MatchBool full (IsFullFor config.now (graph_of graph.now) work.now thread command)
         (IsFullFor config.now (graph_of graph.now) work.now thread command → ⊥)) }
 {
     let live = live_words(alloc, graph)?;
+    let held = pinned(alloc, graph, config.mutators() as u32)?;
+    let held_words = held_words(alloc, graph, &held)?;
+    let pinned = pinned_regions(alloc, config.region_words() as u64, &held)?;
+    let open = (config.regions() as u64).saturating_sub(pinned);
     let waiting = words_waiting(work, config.mutators(), thread);
     let asked = words_asked(Some(command));
     let short = (config.region_words() as u64).saturating_sub(asked) + 1;
-    Ok(config.regions() as u64 * short <= live.saturating_add(waiting))
+    Ok(open * short <= live.saturating_sub(held_words).saturating_add(waiting))
 }

@@ -9,7 +9,7 @@ ghost use Rattle.shen_graph.specs.Work.{HasScript, next_of};
 ghost use Rattle.shen_graph.specs.declared.command.Command.{Command as Asked};
 ghost use Rattle.trace_writing.specs.Answer.{IsAnswerText};
 ghost use Rattle.shen_check.specs.Judged.{MayFollow};
-ghost use Rattle.shen_check.specs.Judging.{HasJudged, IsFullFor, MayAnswer};
+ghost use Rattle.shen_check.specs.Judging.{HasJudged, HasPinsOf, IsFullFor, MayAnswer};
 
 use crate::crowd::{is_full_for, live_words};
 use crate::kept::is_text;
@@ -63,6 +63,8 @@ impl Judge {
 
     // Whether a command of a thread may be refused.
     fn may_refuse(&self, alloc: Global, config: &Config, entry: Entry) -> Result<bool, NoMemory>
+        requires threads { config.now.mutators ≡ threads_of self.now.graph }
+        requires pins { HasPinsOf config.now.mutators (graph_of self.now.graph) }
         requires has { (m : ℕ) → m < config.now.mutators → HasScript self.now.work m }
         ensures { IfOk result (λ may. MatchBool may (IsNew entry.command × IsFullFor config.now (graph_of self.now.graph) self.now.work entry.thread entry.command)
             (IsNew entry.command → IsFullFor config.now (graph_of self.now.graph) self.now.work entry.thread entry.command → ⊥)) }
@@ -86,6 +88,8 @@ impl Judge {
         requires valid { IsValid entry.command }
         requires count { (graph_of self.old.graph).count entry.thread < 2 ^ 32 - 1 }
         requires has { (m : ℕ) → m < config.now.mutators → HasScript self.old.work m }
+        requires threads { config.now.mutators ≡ threads_of self.old.graph }
+        requires pins { HasPinsOf config.now.mutators (graph_of self.old.graph) }
         ensures answer { IfOk result (λ may. MatchBool may
             (MayAnswer config.now (graph_of self.old.graph) self.old.work (seen entry) × (graph_of self.new.graph ≡ after_entry (graph_of self.old.graph) (seen entry)))
             (MayAnswer config.now (graph_of self.old.graph) self.old.work (seen entry) → ⊥)) }
@@ -95,8 +99,14 @@ impl Judge {
         if entry.reply == Reply::Full {
             return self.may_refuse(alloc, config, entry);
         }
-        let reply = self.graph.apply(alloc, entry.thread, &entry.command)?;
-        Ok(reply == entry.reply)
+        self.graph.accept(
+            alloc,
+            config.regions() as u64,
+            config.region_words() as u64,
+            entry.thread,
+            &entry.command,
+            &entry.reply,
+        )
     }
 
     /// Whether the entry at a place may follow those before it, which were taken. Where it may, it is taken too.
@@ -142,22 +152,31 @@ impl Judge {
         None
     }
 
-    /// Whether a body is the text that answers for the entries that were taken.
+    /// Whether a body is the text that answers for the entries that were taken, to a trace of a version.
     pub fn is_answered_by(
         self,
         alloc: Global,
+        version: u32,
         threads: usize,
         body: &[u8],
     ) -> Result<bool, NoMemory>
         requires threads { threads ≡ threads_of self.graph }
         requires has { (m : ℕ) → m < threads → HasScript self.work m }
         ensures { (scripts : List (List Asked)) (before : List Claimed) → length scripts ≡ threads → HasJudged scripts before self.graph self.work
-            → IfOk result (λ same. MatchBool same (IsAnswerText (length scripts) before body.now) (IsAnswerText (length scripts) before body.now → ⊥)) }
+            → IfOk result (λ same. MatchBool same (IsAnswerText version (length scripts) before body.now) (IsAnswerText version (length scripts) before body.now → ⊥)) }
     {
         let words = live_words(alloc, &self.graph)?;
         let mut graph = GraphText::open(alloc, words as usize, threads)?;
         self.graph.write(alloc, &mut graph)?;
         let replies = self.work;
-        is_text(alloc, body, &Answer { replies, graph })
+        is_text(
+            alloc,
+            body,
+            &Answer {
+                version,
+                replies,
+                graph,
+            },
+        )
     }
 }

@@ -10,11 +10,11 @@ ghost use Rattle.shen_check.specs.declared.verdict.Verdict.{Verdict};
 
 /// A law: a history and a body have one verdict at most. So each verdict is given exactly where it is the one.
 pub fn one_verdict()
-    ensures { (c : Config) (scripts : List (List Command)) (history : List Entry) (body : List ℕ) (v w : Verdict)
-        → IsVerdict c scripts history body v → IsVerdict c scripts history body w → v ≡ w }
+    ensures { (version : ℕ) (c : Config) (scripts : List (List Command)) (history : List Entry) (body : List ℕ) (v w : Verdict)
+        → IsVerdict version c scripts history body v → IsVerdict version c scripts history body w → v ≡ w }
 {}
 
 /// A law: a trace that was read can be judged.
 pub fn read_traces_can_be_judged()
-    ensures { (bytes : List ℕ) (c : Config) (scripts : List (List Command)) (items : List Item) → Reads bytes c scripts items → CanBeJudged c scripts }
+    ensures { (bytes : List ℕ) (version : ℕ) (c : Config) (scripts : List (List Command)) (items : List Item) → Reads bytes version c scripts items → CanBeJudged c scripts }
 {}

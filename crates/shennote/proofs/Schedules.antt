@@ -67,9 +67,10 @@ schedule_bytes c (item ∷ items) good steps =
     omega (arith, items_bytes c (item ∷ items) good steps, line_bytes (item ∷ items), ap length (append-nil (schedule_line (item ∷ items))))
 
 -- A trace that can be written can be with another schedule, too, if there is room behind its text.
-writable : (c : Config) (scripts : List (List Command)) (old new : List Item) → IsWritable c scripts old → AllByRecursion (IsItem c) new → AllByRecursion IsOfSteps new
-    → length (spelling_of c scripts old) + 16 * length new ≤ most_bytes → IsWritable c scripts new
-writable c scripts old new can good steps room = record {
+writable : (v : ℕ) (c : Config) (scripts : List (List Command)) (old new : List Item) → IsWritable v c scripts old → AllByRecursion (IsItem c) new → AllByRecursion IsOfSteps new
+    → length (spelling_of v c scripts old) + 16 * length new ≤ most_bytes → IsWritable v c scripts new
+writable v c scripts old new can good steps room = record {
+  known = can.known;
   narrow = can.narrow;
   threads = can.threads;
   lines_fit = can.lines_fit;
@@ -77,13 +78,13 @@ writable c scripts old new can good steps room = record {
   short = omega (arith, schedule_bytes c new good steps, size old, size new, room);
 }
   where
-    size : (items : List Item) → length (spelling_of c scripts items) ≡ length (header c) + (length (flat_map line (lines_from 1 scripts)) + length (flat_map schedule_line (turns_of items)))
+    size : (items : List Item) → length (spelling_of v c scripts items) ≡ length (header v c) + (length (flat_map line (lines_from 1 scripts)) + length (flat_map schedule_line (turns_of items)))
     size items =
-        length-append (header c) (flat_map line (lines_from 1 scripts) ++ flat_map schedule_line (turns_of items))
-        ∙ ap (λ (n : ℕ). length (header c) + n) (length-append (flat_map line (lines_from 1 scripts)) (flat_map schedule_line (turns_of items)))
+        length-append (header v c) (flat_map line (lines_from 1 scripts) ++ flat_map schedule_line (turns_of items))
+        ∙ ap (λ (n : ℕ). length (header v c) + n) (length-append (flat_map line (lines_from 1 scripts)) (flat_map schedule_line (turns_of items)))
 
 -- the same of the text that was written, and its size
-pub fits_behind : (c : Config) (scripts : List (List Command)) (old new : List Item) (text : List ℕ) (size count : ℕ) → IsWritable c scripts old → AllByRecursion (IsItem c) new → AllByRecursion IsOfSteps new
-    → text ≡ spelling_of c scripts old → size ≡ length text → count ≡ length new → size + 16 * count ≤ most_bytes → IsWritable c scripts new
-fits_behind c scripts old new text size count can good steps is long many room =
-    let bytes = long ∙ ap length is in writable c scripts old new can good steps (omega (arith, bytes, many, room))
+pub fits_behind : (v : ℕ) (c : Config) (scripts : List (List Command)) (old new : List Item) (text : List ℕ) (size count : ℕ) → IsWritable v c scripts old → AllByRecursion (IsItem c) new → AllByRecursion IsOfSteps new
+    → text ≡ spelling_of v c scripts old → size ≡ length text → count ≡ length new → size + 16 * count ≤ most_bytes → IsWritable v c scripts new
+fits_behind v c scripts old new text size count can good steps is long many room =
+    let bytes = long ∙ ap length is in writable v c scripts old new can good steps (omega (arith, bytes, many, room))

@@ -47,20 +47,20 @@ pub memory_tells : (result : Status) (input : Input) (sink before after : Outlet
 memory_tells result input sink before after ends = line_tells (line_text line.NoMemory) NoMemory result input (kept sink) (over before after) ends refl (λ says. says)
 
 -- a trace came
-came_whole : (input : Input) (bytes : List ℕ) (config : Config) (scripts : Scripts) (items : List Item) → Came input.before input.after bytes → Reads bytes config scripts items → HasRead input IsTrace
-came_whole input bytes config scripts items came reads = record { bytes = bytes; came = came; is = (config, scripts, items, reads) }
+came_whole : (input : Input) (bytes : List ℕ) (version : ℕ) (config : Config) (scripts : Scripts) (items : List Item) → Came input.before input.after bytes → Reads bytes version config scripts items → HasRead input IsTrace
+came_whole input bytes version config scripts items came reads = record { bytes = bytes; came = came; is = (version, config, scripts, items, reads) }
 
-pub long_tells : (result : Status) (input : Input) (sink before after : Outlet) (bytes : List ℕ) (config : Config) (scripts : Scripts) (items : List Item) → Came input.before input.after bytes → Reads bytes config scripts items
+pub long_tells : (result : Status) (input : Input) (sink before after : Outlet) (bytes : List ℕ) (version : ℕ) (config : Config) (scripts : Scripts) (items : List Item) → Came input.before input.after bytes → Reads bytes version config scripts items
     → EndsWith (codes "too many steps to note them\n") Unfinished result before after → NotingTells result input (kept sink) (over before after)
-long_tells result input sink before after bytes config scripts items came reads ends =
+long_tells result input sink before after bytes version config scripts items came reads ends =
     line_tells (codes "too many steps to note them\n") Unfinished result input (kept sink) (over before after) ends refl
-    (λ says. record { read = came_whole input bytes config scripts items came reads; says = inl says })
+    (λ says. record { read = came_whole input bytes version config scripts items came reads; says = inl says })
 
-pub other_tells : (result : Status) (input : Input) (sink before after : Outlet) (bytes : List ℕ) (config : Config) (scripts : Scripts) (items : List Item) → Came input.before input.after bytes → Reads bytes config scripts items
+pub other_tells : (result : Status) (input : Input) (sink before after : Outlet) (bytes : List ℕ) (version : ℕ) (config : Config) (scripts : Scripts) (items : List Item) → Came input.before input.after bytes → Reads bytes version config scripts items
     → EndsWith (codes "the replay has another answer\n") Unfinished result before after → NotingTells result input (kept sink) (over before after)
-other_tells result input sink before after bytes config scripts items came reads ends =
+other_tells result input sink before after bytes version config scripts items came reads ends =
     line_tells (codes "the replay has another answer\n") Unfinished result input (kept sink) (over before after) ends refl
-    (λ says. record { read = came_whole input bytes config scripts items came reads; says = inr says })
+    (λ says. record { read = came_whole input bytes version config scripts items came reads; says = inr says })
 
 -- a noted trace was written into the sink
 pub trace_tells : (result : Status) (input : Input) (errors before after : Outlet) (bytes text said : List ℕ) → Came input.before input.after bytes → IsNotedRun bytes text → said ≡ text → EndsWith said Ok result before after

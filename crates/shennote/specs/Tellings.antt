@@ -38,7 +38,7 @@ pub record IsTraceTooLong (input : Input) (sink errors : Output) : Type 0 where
 
 -- the bytes are a trace
 abbrev pub IsTrace : List ℕ → Type 0
-IsTrace bytes = (config : Config) × (scripts : Scripts) × (items : List Item) × Reads bytes config scripts items
+IsTrace bytes = (version : ℕ) × (config : Config) × (scripts : Scripts) × (items : List Item) × Reads bytes version config scripts items
 
 -- A trace came whole, and its run was not noted: it made more steps than are noted or its text or answer would be too long, or the schedule
 -- does not replay it.

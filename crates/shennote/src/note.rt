@@ -58,9 +58,9 @@ fn empty(alloc: Global) -> Result<MemorySink, NoMemory>
 
 // The text of a trace.
 fn text_of(alloc: Global, trace: &Trace) -> Result<MemorySink, NoMemory>
-    requires { IsWritable trace.now.config trace.now.scripts trace.now.schedule }
-    ensures spelled { IfOk result (λ text. text.stored ≡ spelling_of trace.now.config trace.now.scripts trace.now.schedule) }
-    ensures reads { IfOk result (λ text. Reads text.stored trace.now.config trace.now.scripts trace.now.schedule) }
+    requires { IsWritable trace.now.version trace.now.config trace.now.scripts trace.now.schedule }
+    ensures spelled { IfOk result (λ text. text.stored ≡ spelling_of trace.now.version trace.now.config trace.now.scripts trace.now.schedule) }
+    ensures reads { IfOk result (λ text. Reads text.stored trace.now.version trace.now.config trace.now.scripts trace.now.schedule) }
 {
     let mut sink = empty(alloc)?;
     match write_trace(&mut sink, trace) {
@@ -84,11 +84,11 @@ fn told(alloc: Global, answer: &Answer) -> Result<Option<MemorySink>, NoMemory>
 // The trace with another schedule, of steps. None where its text might be longer than that of a trace.
 #[tactic(auto, using(crate::proofs::Schedules::fits_behind))]
 fn with_schedule(alloc: Global, trace: Trace, schedule: Schedule) -> Result<Option<Trace>, NoMemory>
-    requires writable { IsWritable trace.config trace.scripts trace.schedule }
+    requires writable { IsWritable trace.version trace.config trace.scripts trace.schedule }
     requires items { AllByRecursion (IsItem trace.config) schedule }
     requires of_steps { AllByRecursion IsOfSteps schedule }
-    ensures same { IfOk result (λ found. IfSome found (λ noted. (noted.config ≡ trace.config) × (noted.scripts ≡ trace.scripts) × (noted.schedule ≡ schedule))) }
-    ensures writable { IfOk result (λ found. IfSome found (λ noted. IsWritable noted.config noted.scripts noted.schedule)) }
+    ensures same { IfOk result (λ found. IfSome found (λ noted. (noted.version ≡ trace.version) × (noted.config ≡ trace.config) × (noted.scripts ≡ trace.scripts) × (noted.schedule ≡ schedule))) }
+    ensures writable { IfOk result (λ found. IfSome found (λ noted. IsWritable noted.version noted.config noted.scripts noted.schedule)) }
 {
     let size = text_of(alloc, &trace)?.bytes().len();
     let count = schedule.list().len();
@@ -103,9 +103,9 @@ fn with_schedule(alloc: Global, trace: Trace, schedule: Schedule) -> Result<Opti
 // The text of a trace whose replay, of so many steps at most, has the answer of a run.
 #[tactic(auto, using(crate::proofs::Replays::replay_text, crate::proofs::Replays::some_bytes))]
 fn replayed(alloc: Global, noted: Trace, steps: u64, answer: &Answer) -> Result<Noted, NoMemory>
-    requires writable { IsWritable noted.config noted.scripts noted.schedule }
+    requires writable { IsWritable noted.version noted.config noted.scripts noted.schedule }
     requires answer { (mutator : ℕ) → mutator < length answer.now.graph.roots → HasScript answer.now.replies mutator }
-    ensures { IfOk result (λ found. IsReplayIn noted.config noted.scripts noted.schedule steps (spelled_answer answer.now) found) }
+    ensures { IfOk result (λ found. IsReplayIn noted.version noted.config noted.scripts noted.schedule steps (spelled_answer answer.now) found) }
 {
     let text = text_of(alloc, &noted)?;
     let Some(wanted) = told(alloc, answer)? else {
@@ -132,7 +132,7 @@ pub fn note_trace<R: Threads + Wait + Sync>(
     bytes: &[u8],
     trace: Trace,
 ) -> Result<Noted, NoMemory>
-    requires { Reads bytes.now trace.config trace.scripts trace.schedule }
+    requires { Reads bytes.now trace.version trace.config trace.scripts trace.schedule }
     ensures { IfOk result (IsNotedAs bytes.now) }
 {
     let Ok(again) = trace_of(alloc, bytes) else {

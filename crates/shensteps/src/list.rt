@@ -220,14 +220,20 @@ fn refusal<E: Sink>(errors: &mut E, trace: &Trace, asked: &Asked) -> Option<Stat
     }
 }
 
-// Writes the graph that the heap stands for, where all machines are idle; nothing where memory is refused.
-fn list_graph<K: Sink>(alloc: Global, listing: &mut Listing, plain: &mut Plain, sink: &mut K)
+// Writes the graph that the heap stands for, for a trace of a version, where all machines are idle; nothing where memory is refused.
+fn list_graph<K: Sink>(
+    alloc: Global,
+    version: u32,
+    listing: &mut Listing,
+    plain: &mut Plain,
+    sink: &mut K,
+)
     requires { AllRest plain.old }
 {
     let config = plain.config();
     if let Ok(mut text) = GraphText::open(alloc, config.heap_size(), config.mutators()) {
         plain.graph(&mut text);
-        listing.graph(&text, sink);
+        listing.graph(version, &text, sink);
     }
 }
 
@@ -251,12 +257,13 @@ fn list_trace<K: Sink, E: Sink>(
     sink: &mut K,
     errors: &mut E,
 ) -> Status
-    requires { (bytes : List ℕ) × Reads bytes trace.config trace.scripts trace.schedule }
+    requires { (bytes : List ℕ) × Reads bytes trace.version trace.config trace.scripts trace.schedule }
 {
     if let Some(status) = refusal(errors, &trace, &asked) {
         return status;
     }
     let json = asked.wanted.json;
+    let version = trace.version;
     if json && write_head(&trace, sink).is_err() {
         return Status::WriteFault;
     }
@@ -283,7 +290,7 @@ fn list_trace<K: Sink, E: Sink>(
         errors,
     );
     if let Ran::Finished = listed.ran {
-        list_graph(alloc, &mut listing, &mut plain, sink);
+        list_graph(alloc, version, &mut listing, &mut plain, sink);
     }
     if listing.finish(sink).is_err() {
         return Status::WriteFault;

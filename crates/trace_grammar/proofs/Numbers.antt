@@ -79,7 +79,7 @@ lone_zero (suc n) small e = absurd (omega (arith, first_decimal (suc n) (omega a
 within : (limit n : ℕ) → n ≤ limit → ltb limit n ≡ false
 within limit n le = grind (arith, nat_tests)
 
-numbers-cons : (n : ℕ) (ns rest : List ℕ) → numbers (n ∷ ns) ++ rest ≡ 32 ∷ (decimal n ++ (numbers ns ++ rest))
+pub numbers-cons : (n : ℕ) (ns rest : List ℕ) → numbers (n ∷ ns) ++ rest ≡ 32 ∷ (decimal n ++ (numbers ns ++ rest))
 numbers-cons n ns rest = ap (λ (bs : List ℕ). bs ++ rest) (flat_map-cons (λ m. space ∷ decimal m) n ns) ∙ append_assoc (32 ∷ decimal n) (numbers ns) rest
 
 -- a space is no digit

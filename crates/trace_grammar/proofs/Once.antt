@@ -14,11 +14,11 @@ use Rattle.heap_words.specs.Ranges.{seat_count, IsInRange}
 use Rattle.std.proofs.Props.{props}
 use Rattle.heap_words.proofs.Codes.{same_code}
 use Rattle.trace_grammar.specs.Spelling.{IsUpTo, line, IsLine, number_of, aim, item, spaced_item, items_and_end, schedule_line, IsItem, IsScheduleLine}
-use Rattle.trace_grammar.specs.Scanning.{sizes_at}
+use Rattle.trace_grammar.specs.Scanning.{HeadNumbers, sizes_at}
 use Rattle.trace_grammar.specs.Front.{NoDigit, IsLineEnd, BeginsWith, IsAny, IsItemOf}
 use Rattle.trace_grammar.specs.Grammar.{items_of, scripts_of, Reads, IsSameTrace}
 use Rattle.trace_grammar.proofs.Numbers.{positive_again, same_some}
-use Rattle.trace_grammar.proofs.Header.{sizes_again}
+use Rattle.trace_grammar.proofs.Header.{numbers_in_head, sizes_again}
 use Rattle.trace_grammar.proofs.Traces.{lines_once, turns_behind}
 use Rattle.trace_grammar.proofs.Pieces.{ArePieces, first_piece}
 use Rattle.trace_grammar.proofs.ReadItems.{number_read, steps_read, until_read, replies_read, item_read, seat_of, aim_no_digit}
@@ -111,19 +111,22 @@ same_config c d e1 e2 e3 e4 e5 =
     (λ p. ap (of c.regions c.region_words c.mutators c.helpers c.reserve) (one_proof c.regions c.region_words c.mutators c.helpers c.reserve c.in_range p)))))) d.in_range
 
 -- bytes are read as one trace at most
-pub read_once : (bytes : List ℕ) (c d : Config) (xs ys : List (List Command)) (is js : List Item) → Reads bytes c xs is → Reads bytes d ys js → IsSameTrace c xs is d ys js
-read_once bytes c d xs ys is js p q =
+pub read_once : (bytes : List ℕ) (v w : ℕ) (c d : Config) (xs ys : List (List Command)) (is js : List Item) → Reads bytes v c xs is → Reads bytes w d ys js → IsSameTrace v c xs is w d ys js
+read_once bytes v w c d xs ys is js p q =
     let rest = flat_map line p.lines ++ flat_map schedule_line p.turns in
     let after = flat_map line q.lines ++ flat_map schedule_line q.turns in
-    let one : (List ℕ × List ℕ) × List ℕ = ((c.regions ∷ c.region_words ∷ c.reserve ∷ [], c.mutators ∷ c.helpers ∷ []), rest) in
-    let two : (List ℕ × List ℕ) × List ℕ = ((d.regions ∷ d.region_words ∷ d.reserve ∷ [], d.mutators ∷ d.helpers ∷ []), after) in
-    let same : one ≡ two = same_some one two (sym (sizes_again c rest p.narrow) ∙ ap sizes_at (sym p.spelled ∙ q.spelled) ∙ sizes_again d after q.narrow) in
-    let config : c ≡ d = same_config c d (ap (λ (x : (List ℕ × List ℕ) × List ℕ). get_or x.0.0 0 0) same) (ap (λ (x : (List ℕ × List ℕ) × List ℕ). get_or x.0.0 1 0) same)
-    (ap (λ (x : (List ℕ × List ℕ) × List ℕ). get_or x.0.1 0 0) same) (ap (λ (x : (List ℕ × List ℕ) × List ℕ). get_or x.0.1 1 0) same) (ap (λ (x : (List ℕ × List ℕ) × List ℕ). get_or x.0.0 2 0) same) in
-    let lines = lines_once c.mutators p.lines q.lines (flat_map schedule_line p.turns) (flat_map schedule_line q.turns) (omega arith) p.in_range (subst (λ (e : Config). AllByRecursion (IsLine e.mutators) q.lines) (sym config) q.in_range)
-    (turns_behind p.turns) (turns_behind q.turns) (ap (λ (x : (List ℕ × List ℕ) × List ℕ). x.1) same) in
+    let one : HeadNumbers × List ℕ = (numbers_in_head v c, rest) in
+    let two : HeadNumbers × List ℕ = (numbers_in_head w d, after) in
+    let same : one ≡ two = same_some one two (sym (sizes_again v c rest p.known p.narrow) ∙ ap sizes_at (sym p.spelled ∙ q.spelled) ∙ sizes_again w d after q.known q.narrow) in
+    let version : v ≡ w = ap (λ (x : HeadNumbers × List ℕ). x.0.version) same in
+    let config : c ≡ d = same_config c d (ap (λ (x : HeadNumbers × List ℕ). get_or x.0.heap 0 0) same) (ap (λ (x : HeadNumbers × List ℕ). get_or x.0.heap 1 0) same)
+    (ap (λ (x : HeadNumbers × List ℕ). get_or x.0.threads 0 0) same) (ap (λ (x : HeadNumbers × List ℕ). get_or x.0.threads 1 0) same) (ap (λ (x : HeadNumbers × List ℕ). get_or x.0.heap 2 0) same) in
+    let in_range = subst (λ (u : ℕ). AllByRecursion (IsLine u c.mutators) q.lines) (sym version) (subst (λ (e : Config). AllByRecursion (IsLine w e.mutators) q.lines) (sym config) q.in_range) in
+    let lines = lines_once v c.mutators p.lines q.lines (flat_map schedule_line p.turns) (flat_map schedule_line q.turns) (omega arith) p.in_range in_range
+    (turns_behind p.turns) (turns_behind q.turns) (ap (λ (x : HeadNumbers × List ℕ). x.1) same) in
     let turns = turns_once c p.turns q.turns p.turns_in_range (subst (λ (e : Config). AllByRecursion (IsScheduleLine e) q.turns) (sym config) q.turns_in_range) lines.1 in
     record {
+      version = version;
       config = config;
       scripts = p.by_thread ∙ ap (scripts_of c.mutators) lines.0 ∙ ap (λ (e : Config). scripts_of e.mutators q.lines) config ∙ sym q.by_thread;
       items = p.in_order ∙ ap items_of turns ∙ sym q.in_order;

@@ -14,16 +14,16 @@ use Rattle.shen_graph.specs.declared.command.Command.{Command}
 use Rattle.heap_words.specs.declared.config.Config.{Config}
 use Rattle.heap_words.specs.Narrow.{IsNarrow}
 use Rattle.heap_words.specs.declared.schedule.Item.{Item}
-use Rattle.trace_grammar.specs.Spelling.{TraceLine, IsLine, line, header, space, newline, numbers, command_word, numbers_of, schedule_line}
+use Rattle.trace_grammar.specs.Spelling.{TraceLine, IsVersion, IsLine, line, header, space, newline, numbers, command_word, numbers_of, schedule_line}
 use Rattle.trace_grammar.specs.Front.{IsBehindCommands}
 use Rattle.trace_grammar.specs.Scanning.{numeral, spelled_number, positive_at, line_at}
 use Rattle.trace_grammar.specs.Grammar.{most_bytes, commands_in, scripts_of, with_line, HasReadLines, HasScheduled, Reads}
 use Rattle.trace_grammar.proofs.Numbers.{same_some}
 use Rattle.trace_grammar.proofs.Lines.{line_again}
 
-all_more : (threads : ℕ) (lines : List TraceLine) (l : TraceLine) → AllByRecursion (IsLine threads) lines → IsLine threads l → AllByRecursion (IsLine threads) (lines ++ l ∷ [])
-all_more threads [] l all fits = (fits, tt)
-all_more threads (x ∷ lines) l all fits = (all.0, all_more threads lines l all.1 fits)
+all_more : (version threads : ℕ) (lines : List TraceLine) (l : TraceLine) → AllByRecursion (IsLine version threads) lines → IsLine version threads l → AllByRecursion (IsLine version threads) (lines ++ l ∷ [])
+all_more version threads [] l all fits = (fits, tt)
+all_more version threads (x ∷ lines) l all fits = (all.0, all_more version threads lines l all.1 fits)
 
 -- ---- scripts
 
@@ -48,8 +48,8 @@ commands_in_other lines l t ne =
 at_thread : (threads : ℕ) (lines : List TraceLine) (i : ℕ) (d : List Command) → i < threads → get_or (scripts_of threads lines) i d ≡ commands_in lines (1 + i)
 at_thread threads lines i d lt = get_or-map-range_with_len (commands_in lines) 1 threads i (1 + i) d lt refl
 
-scripts_more : (threads : ℕ) (lines : List TraceLine) (l : TraceLine) → IsLine threads l → with_line (scripts_of threads lines) l ≡ scripts_of threads (lines ++ l ∷ [])
-scripts_more threads lines l fits =
+scripts_more : (version threads : ℕ) (lines : List TraceLine) (l : TraceLine) → IsLine version threads l → with_line (scripts_of threads lines) l ≡ scripts_of threads (lines ++ l ∷ [])
+scripts_more version threads lines l fits =
     let olds = scripts_of threads lines in
     let i = l.thread - 1 in
     let script = slice_index_or olds i [] ++ l.command ∷ [] in
@@ -81,47 +81,47 @@ scripts_more threads lines l fits =
 
 -- ---- taking lines
 
-pub taken_none : (threads : ℕ) (bytes : List ℕ) (scripts : List (List Command)) → scripts ≡ scripts_of threads [] → HasReadLines threads bytes bytes scripts
-taken_none threads bytes scripts e = record { lines = []; in_range = tt; spelled = refl; by_thread = e }
+pub taken_none : (version threads : ℕ) (bytes : List ℕ) (scripts : List (List Command)) → scripts ≡ scripts_of threads [] → HasReadLines version threads bytes bytes scripts
+taken_none version threads bytes scripts e = record { lines = []; in_range = tt; spelled = refl; by_thread = e }
 
-pub taken_more : (threads : ℕ) (bytes rest after : List ℕ) (scripts news : List (List Command)) (l : TraceLine) → HasReadLines threads bytes rest scripts → IsLine threads l → rest ≡ line l ++ after → news ≡ with_line scripts l → HasReadLines threads bytes after news
-taken_more threads bytes rest after scripts news l taken fits parts made = record {
+pub taken_more : (version threads : ℕ) (bytes rest after : List ℕ) (scripts news : List (List Command)) (l : TraceLine) → HasReadLines version threads bytes rest scripts → IsLine version threads l → rest ≡ line l ++ after → news ≡ with_line scripts l → HasReadLines version threads bytes after news
+taken_more version threads bytes rest after scripts news l taken fits parts made = record {
   lines = taken.lines ++ l ∷ [];
-  in_range = all_more threads taken.lines l taken.in_range fits;
+  in_range = all_more version threads taken.lines l taken.in_range fits;
   spelled = taken.spelled ∙ ap (λ (bs : List ℕ). flat_map line taken.lines ++ bs) parts ∙ sym (append_assoc (flat_map line taken.lines) (line l) after) ∙ ap (λ (bs : List ℕ). bs ++ after) (sym (flat_map-append line taken.lines (l ∷ []) ∙ ap (λ (bs : List ℕ). flat_map line taken.lines ++ bs) (flat_map-cons line l [] ∙ append-nil (line l))));
-  by_thread = made ∙ ap (λ (s : List (List Command)). with_line s l) taken.by_thread ∙ scripts_more threads taken.lines l fits;
+  by_thread = made ∙ ap (λ (s : List (List Command)). with_line s l) taken.by_thread ∙ scripts_more version threads taken.lines l fits;
 }
 
-pub taken_count : (threads : ℕ) (bytes rest after : List ℕ) (scripts news : List (List Command)) (l : TraceLine) (taken : HasReadLines threads bytes rest scripts) (fits : IsLine threads l) (parts : rest ≡ line l ++ after) (made : news ≡ with_line scripts l)
-    → length (taken_more threads bytes rest after scripts news l taken fits parts made).lines ≡ length taken.lines + 1
+pub taken_count : (version threads : ℕ) (bytes rest after : List ℕ) (scripts news : List (List Command)) (l : TraceLine) (taken : HasReadLines version threads bytes rest scripts) (fits : IsLine version threads l) (parts : rest ≡ line l ++ after) (made : news ≡ with_line scripts l)
+    → length (taken_more version threads bytes rest after scripts news l taken fits parts made).lines ≡ length taken.lines + 1
 unfolding taken_more
-taken_count threads bytes rest after scripts news l taken fits parts made = length-append taken.lines (l ∷ [])
+taken_count version threads bytes rest after scripts news l taken fits parts made = length-append taken.lines (l ∷ [])
 
 flat_append : (x : TraceLine) (xs : List TraceLine) (rest : List ℕ) → flat_map line (x ∷ xs) ++ rest ≡ line x ++ (flat_map line xs ++ rest)
 flat_append x xs rest = ap (λ (bs : List ℕ). bs ++ rest) (flat_map-cons line x xs) ∙ append_assoc (line x) (flat_map line xs) rest
 
 -- what is behind the commands is no line
-no_line : (threads : ℕ) (bytes : List ℕ) → IsBehindCommands bytes → line_at threads bytes ≡ None
+no_line : (version threads : ℕ) (bytes : List ℕ) → IsBehindCommands bytes → line_at version threads bytes ≡ None
 unfolding line_at positive_at spelled_number numeral
-no_line threads [] behind = refl
-no_line threads (b ∷ bytes) behind = rw behind refl
+no_line version threads [] behind = refl
+no_line version threads (b ∷ bytes) behind = rw behind refl
 
 -- lines with something behind them that is none are the same
-pub lines_once : (threads : ℕ) (xs ys : List TraceLine) (rest after : List ℕ) → threads < 2 ^ 64 → AllByRecursion (IsLine threads) xs → AllByRecursion (IsLine threads) ys → IsBehindCommands rest → IsBehindCommands after → flat_map line xs ++ rest ≡ flat_map line ys ++ after → (xs ≡ ys) × (rest ≡ after)
-lines_once threads [] [] rest after small all_xs all_ys p q e = (refl, e)
-lines_once threads [] (y ∷ ys) rest after small all_xs all_ys p q e =
-    let here : line_at threads rest ≡ Some (y, flat_map line ys ++ after) = ap (line_at threads) (e ∙ flat_append y ys after) ∙ line_again threads y (flat_map line ys ++ after) small all_ys.0 in
-    let none = no_line threads rest p in
+pub lines_once : (version threads : ℕ) (xs ys : List TraceLine) (rest after : List ℕ) → threads < 2 ^ 64 → AllByRecursion (IsLine version threads) xs → AllByRecursion (IsLine version threads) ys → IsBehindCommands rest → IsBehindCommands after → flat_map line xs ++ rest ≡ flat_map line ys ++ after → (xs ≡ ys) × (rest ≡ after)
+lines_once version threads [] [] rest after small all_xs all_ys p q e = (refl, e)
+lines_once version threads [] (y ∷ ys) rest after small all_xs all_ys p q e =
+    let here : line_at version threads rest ≡ Some (y, flat_map line ys ++ after) = ap (line_at version threads) (e ∙ flat_append y ys after) ∙ line_again version threads y (flat_map line ys ++ after) small all_ys.0 in
+    let none = no_line version threads rest p in
     absurd cc
-lines_once threads (x ∷ xs) [] rest after small all_xs all_ys p q e =
-    let here : line_at threads after ≡ Some (x, flat_map line xs ++ rest) = ap (line_at threads) (sym e ∙ flat_append x xs rest) ∙ line_again threads x (flat_map line xs ++ rest) small all_xs.0 in
-    let none = no_line threads after q in
+lines_once version threads (x ∷ xs) [] rest after small all_xs all_ys p q e =
+    let here : line_at version threads after ≡ Some (x, flat_map line xs ++ rest) = ap (line_at version threads) (sym e ∙ flat_append x xs rest) ∙ line_again version threads x (flat_map line xs ++ rest) small all_xs.0 in
+    let none = no_line version threads after q in
     absurd cc
-lines_once threads (x ∷ xs) (y ∷ ys) rest after small all_xs all_ys p q e =
+lines_once version threads (x ∷ xs) (y ∷ ys) rest after small all_xs all_ys p q e =
     let one : TraceLine × List ℕ = (x, flat_map line xs ++ rest) in
     let two : TraceLine × List ℕ = (y, flat_map line ys ++ after) in
-    let same : one ≡ two = same_some one two (sym (line_again threads x (flat_map line xs ++ rest) small all_xs.0) ∙ ap (line_at threads) (sym (flat_append x xs rest) ∙ e ∙ flat_append y ys after) ∙ line_again threads y (flat_map line ys ++ after) small all_ys.0) in
-    let others = lines_once threads xs ys rest after small all_xs.1 all_ys.1 p q (ap (λ (z : TraceLine × List ℕ). z.1) same) in
+    let same : one ≡ two = same_some one two (sym (line_again version threads x (flat_map line xs ++ rest) small all_xs.0) ∙ ap (line_at version threads) (sym (flat_append x xs rest) ∙ e ∙ flat_append y ys after) ∙ line_again version threads y (flat_map line ys ++ after) small all_ys.0) in
+    let others = lines_once version threads xs ys rest after small all_xs.1 all_ys.1 p q (ap (λ (z : TraceLine × List ℕ). z.1) same) in
     (ap (λ (z : TraceLine × List ℕ). z.0 ∷ xs) same ∙ ap (λ (zs : List TraceLine). y ∷ zs) others.0, others.1)
 
 -- ---- whole traces
@@ -142,15 +142,16 @@ turns_behind [] = tt
 turns_behind (items ∷ turns) = refl
 
 -- what was read is a trace
-pub whole : (bytes rest behind : List ℕ) (c : Config) (threads : ℕ) (scripts : List (List Command)) (items : List Item) → IsNarrow c → length bytes ≤ most_bytes → bytes ≡ header c ++ rest → threads ≡ c.mutators
-    → HasReadLines threads rest behind scripts → HasScheduled c behind [] items → Reads bytes c scripts items
-whole bytes rest behind c threads scripts items narrow short found same taken turned = record {
+pub whole : (bytes rest behind : List ℕ) (version : ℕ) (c : Config) (threads : ℕ) (scripts : List (List Command)) (items : List Item) → IsVersion version → IsNarrow c → length bytes ≤ most_bytes → bytes ≡ header version c ++ rest → threads ≡ c.mutators
+    → HasReadLines version threads rest behind scripts → HasScheduled c behind [] items → Reads bytes version c scripts items
+whole bytes rest behind version c threads scripts items known narrow short found same taken turned = record {
+  known = known;
   narrow = narrow;
   lines = taken.lines;
-  in_range = subst (λ (n : ℕ). AllByRecursion (IsLine n) taken.lines) same taken.in_range;
+  in_range = subst (λ (n : ℕ). AllByRecursion (IsLine version n) taken.lines) same taken.in_range;
   turns = turned.turns;
   turns_in_range = turned.in_range;
-  spelled = found ∙ ap (λ (bs : List ℕ). header c ++ bs) (taken.spelled ∙ ap (λ (bs : List ℕ). flat_map line taken.lines ++ bs) turned.spelled);
+  spelled = found ∙ ap (λ (bs : List ℕ). header version c ++ bs) (taken.spelled ∙ ap (λ (bs : List ℕ). flat_map line taken.lines ++ bs) turned.spelled);
   by_thread = taken.by_thread ∙ ap (λ (n : ℕ). scripts_of n taken.lines) same;
   in_order = turned.items;
   short = short;
@@ -175,8 +176,8 @@ few_turns (items ∷ turns) =
     omega (arith, front, sizes, others)
 
 -- a line of a command is none of the schedule
-pub command_is_no_turn : (threads : ℕ) (l : TraceLine) (bytes rest : List ℕ) → threads < 2 ^ 64 → IsLine threads l → bytes ≡ line l ++ rest → IsBehindCommands bytes → ⊥
-command_is_no_turn threads l bytes rest small fits e behind =
-    let here : line_at threads bytes ≡ Some (l, rest) = ap (line_at threads) e ∙ line_again threads l rest small fits in
-    let none = no_line threads bytes behind in
+pub command_is_no_turn : (version threads : ℕ) (l : TraceLine) (bytes rest : List ℕ) → threads < 2 ^ 64 → IsLine version threads l → bytes ≡ line l ++ rest → IsBehindCommands bytes → ⊥
+command_is_no_turn version threads l bytes rest small fits e behind =
+    let here : line_at version threads bytes ≡ Some (l, rest) = ap (line_at version threads) e ∙ line_again version threads l rest small fits in
+    let none = no_line version threads bytes behind in
     absurd cc

@@ -1,12 +1,20 @@
 -- The kinds of commands, as a reader tells them apart.
-use Rattle.std.specs.Prelude.{ℕ, ◌≤◌, List, [], ◌∷◌, codes, slice_index}
+use Rattle.std.specs.Prelude.{ℕ, ◌≤◌, List, [], ◌∷◌, ◌++◌, codes, slice_index, nat_lt, if◌then◌else◌}
 use Rattle.shen_graph.specs.declared.command.Command.{Command}
 use Rattle.shen_graph.specs.declared.command.Command.TheVariants as command
 use Rattle.trace_grammar.specs.declared.kind.CommandKind.{CommandKind}
-use Rattle.trace_grammar.specs.declared.kind.CommandKind.TheVariants.{New, Get, Set, Cas, Xchg, Rd, Wr, Copy, Drop, Same, Gc}
+use Rattle.trace_grammar.specs.declared.kind.CommandKind.TheVariants.{New, Get, Set, Cas, Xchg, Rd, Wr, Copy, Drop, Same, Gc, Pin, Unpin}
 
-abbrev pub kinds : List CommandKind
-kinds = New ∷ Get ∷ Set ∷ Cas ∷ Xchg ∷ Rd ∷ Wr ∷ Copy ∷ Drop ∷ Same ∷ Gc ∷ []
+-- the kinds of version 1, and those that joined in version 2
+abbrev pub first_kinds : List CommandKind
+first_kinds = New ∷ Get ∷ Set ∷ Cas ∷ Xchg ∷ Rd ∷ Wr ∷ Copy ∷ Drop ∷ Same ∷ Gc ∷ []
+
+abbrev pub later_kinds : List CommandKind
+later_kinds = Pin ∷ Unpin ∷ []
+
+-- the kinds of a version
+abbrev pub kinds : ℕ → List CommandKind
+kinds version = if nat_lt version 2 then first_kinds else first_kinds ++ later_kinds
 
 -- the word of a kind
 abbrev pub word : CommandKind → List ℕ
@@ -21,8 +29,10 @@ word Copy = codes "copy"
 word Drop = codes "drop"
 word Same = codes "same"
 word Gc = codes "gc"
+word Pin = codes "pin"
+word Unpin = codes "unpin"
 
--- the largest numbers that may follow: of roots 15, of sizes 16, of fields and indexes 31
+-- the largest numbers that may follow: of roots 15, of sizes 16, of fields and indexes 31, of slots 3
 abbrev pub limits : CommandKind → List ℕ
 limits New = 15 ∷ 16 ∷ 16 ∷ []
 limits Get = 15 ∷ 15 ∷ 31 ∷ []
@@ -35,6 +45,8 @@ limits Copy = 15 ∷ 15 ∷ []
 limits Drop = 15 ∷ []
 limits Same = 15 ∷ 15 ∷ []
 limits Gc = []
+limits Pin = 3 ∷ 15 ∷ []
+limits Unpin = 3 ∷ []
 
 -- the command of a kind with these numbers
 abbrev pub command_from : CommandKind → List ℕ → Command
@@ -49,6 +61,8 @@ command_from Copy ns = command.Copy (slice_index ns 0) (slice_index ns 1)
 command_from Drop ns = command.Drop (slice_index ns 0)
 command_from Same ns = command.Same (slice_index ns 0) (slice_index ns 1)
 command_from Gc ns = command.Gc
+command_from Pin ns = command.Pin (slice_index ns 0) (slice_index ns 1)
+command_from Unpin ns = command.Unpin (slice_index ns 0)
 
 -- these numbers are within these limits
 abbrev pub AreWithinLimits : List ℕ → List ℕ → Type 0
@@ -70,6 +84,8 @@ Suit Copy ns = (slice_index ns 0 ≤ 15) × (slice_index ns 1 ≤ 15)
 Suit Drop ns = slice_index ns 0 ≤ 15
 Suit Same ns = (slice_index ns 0 ≤ 15) × (slice_index ns 1 ≤ 15)
 Suit Gc ns = Unit {0}
+Suit Pin ns = (slice_index ns 0 ≤ 3) × (slice_index ns 1 ≤ 15)
+Suit Unpin ns = slice_index ns 0 ≤ 3
 
 -- a command of the kind is on a field or a number of an object
 abbrev pub IsOnObject : CommandKind → Type 0
@@ -84,3 +100,5 @@ IsOnObject Copy = ⊥
 IsOnObject Drop = ⊥
 IsOnObject Same = ⊥
 IsOnObject Gc = ⊥
+IsOnObject Pin = ⊥
+IsOnObject Unpin = ⊥

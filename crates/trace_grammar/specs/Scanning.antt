@@ -67,28 +67,35 @@ unfoldable pub kind_among : List CommandKind → List ℕ → Option (CommandKin
 kind_among [] bytes = None
 kind_among (k ∷ kinds) bytes = found k (behind (word k) bytes) (kind_among kinds bytes)
 
--- a command's word and its numbers
-unfoldable pub spelled_command : List ℕ → Option (Command × List ℕ)
-spelled_command bytes = do
-  k ← kind_among kinds bytes
+-- the word of a command that the version has, and its numbers
+unfoldable pub spelled_command : ℕ → List ℕ → Option (Command × List ℕ)
+spelled_command version bytes = do
+  k ← kind_among (kinds version) bytes
   ns ← numbers_at (limits k.0) k.1
   Some (command_from k.0 ns.0, ns.1)
 
 -- a command's line, of a thread from 1 on
-unfoldable pub line_at : ℕ → List ℕ → Option (TraceLine × List ℕ)
-line_at threads bytes = do
+unfoldable pub line_at : (version threads : ℕ) → List ℕ → Option (TraceLine × List ℕ)
+line_at version threads bytes = do
   t ← positive_at threads bytes
   rest ← behind (32 ∷ []) t.1
-  c ← spelled_command rest
+  c ← spelled_command version rest
   end ← behind (10 ∷ []) c.1
   Some (record { thread = t.0; command = c.0 }, end)
 
--- the numbers at the head of a trace: those of its heap, and those of its threads
-unfoldable pub sizes_at : List ℕ → Option ((List ℕ × List ℕ) × List ℕ)
+-- the numbers at the head of a trace: the version, those of its heap, and those of its threads
+pub record HeadNumbers : Type 0 where
+  pub version : ℕ
+  pub heap : List ℕ
+  pub threads : List ℕ
+
+unfoldable pub sizes_at : List ℕ → Option (HeadNumbers × List ℕ)
 sizes_at bytes = do
-  first ← behind (codes "shen 1" ++ 10 ∷ codes "heap") bytes
-  heap ← numbers_at (64 ∷ 1024 ∷ 63 ∷ []) first
-  second ← behind (10 ∷ codes "threads") heap.1
-  threads ← numbers_at (8 ∷ 3 ∷ []) second
+  first ← behind (codes "shen ") bytes
+  version ← positive_at 2 first
+  second ← behind (10 ∷ codes "heap") version.1
+  heap ← numbers_at (64 ∷ 1024 ∷ 63 ∷ []) second
+  third ← behind (10 ∷ codes "threads") heap.1
+  threads ← numbers_at (8 ∷ 3 ∷ []) third
   end ← behind (10 ∷ []) threads.1
-  Some ((heap.0, threads.0), end)
+  Some (record { version = version.0; heap = heap.0; threads = threads.0 }, end)

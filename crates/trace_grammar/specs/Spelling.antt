@@ -4,7 +4,7 @@ use Rattle.std.specs.Prelude.{ℕ, ◌^◌, ◌+◌, ◌<◌, ◌≤◌, List, [
 use Rattle.std.specs.List.{flat_map, AllByRecursion}
 use Rattle.std.specs.Fmt.{decimal}
 use Rattle.shen_graph.specs.declared.command.Command.{Command}
-use Rattle.shen_graph.specs.declared.command.Command.TheVariants.{New, Get, Set, Cas, Xchg, Rd, Wr, Copy, Drop, Same, Gc}
+use Rattle.shen_graph.specs.declared.command.Command.TheVariants.{New, Get, Set, Cas, Xchg, Rd, Wr, Copy, Drop, Same, Gc, Pin, Unpin}
 use Rattle.shen_graph.specs.Valid.{IsValid}
 use Rattle.heap_words.specs.declared.config.Config.{Config}
 use Rattle.heap_words.specs.declared.schedule.Item.{Item}
@@ -36,6 +36,8 @@ command_word (Copy dst src) = codes "copy"
 command_word (Drop dst) = codes "drop"
 command_word (Same a b) = codes "same"
 command_word Gc = codes "gc"
+command_word (Pin slot obj) = codes "pin"
+command_word (Unpin slot) = codes "unpin"
 
 -- the numbers behind it
 abbrev pub numbers_of : Command → List ℕ
@@ -50,6 +52,8 @@ numbers_of (Copy dst src) = dst ∷ src ∷ []
 numbers_of (Drop dst) = dst ∷ []
 numbers_of (Same a b) = a ∷ b ∷ []
 numbers_of Gc = []
+numbers_of (Pin slot obj) = slot ∷ obj ∷ []
+numbers_of (Unpin slot) = slot ∷ []
 
 -- a line of a command: the thread, the command's word and its numbers
 pub record TraceLine : Type 0 where
@@ -64,10 +68,21 @@ abbrev pub FitsWhenWritten : Command → Type 0
 FitsWhenWritten (Wr obj index value) = value < 2 ^ 64
 FitsWhenWritten _ = Unit {0}
 
--- what may stand on a line where there are so many threads, counted from 1
-pub record IsLine (threads : ℕ) (l : TraceLine) : Type 0 where
+-- the versions of traces are 1 and 2
+abbrev pub IsVersion : ℕ → Type 0
+IsVersion version = (1 ≤ version) × (version ≤ 2)
+
+-- a version has the command: those on pins joined in version 2
+abbrev pub IsKnown : (version : ℕ) → Command → Type 0
+IsKnown version (Pin slot obj) = 2 ≤ version
+IsKnown version (Unpin slot) = 2 ≤ version
+IsKnown version _ = Unit {0}
+
+-- what may stand on a line of a version where there are so many threads, counted from 1
+pub record IsLine (version threads : ℕ) (l : TraceLine) : Type 0 where
   pub from_one : 1 ≤ l.thread
   pub to_last : l.thread ≤ threads
+  pub known : IsKnown version l.command
   pub valid : IsValid l.command
   pub fits : FitsWhenWritten l.command
 
@@ -75,9 +90,9 @@ pub record IsLine (threads : ℕ) (l : TraceLine) : Type 0 where
 abbrev pub titled : List ℕ → List ℕ → List ℕ
 titled title ns = title ++ (numbers ns ++ newline ∷ [])
 
--- the three lines at the head of a trace
-abbrev pub header : Config → List ℕ
-header c = titled (codes "shen") (1 ∷ []) ++ (titled (codes "heap") (c.regions ∷ c.region_words ∷ c.reserve ∷ []) ++ titled (codes "threads") (c.mutators ∷ c.helpers ∷ []))
+-- the three lines at the head of a trace of a version
+abbrev pub header : ℕ → Config → List ℕ
+header version c = titled (codes "shen") (version ∷ []) ++ (titled (codes "heap") (c.regions ∷ c.region_words ∷ c.reserve ∷ []) ++ titled (codes "threads") (c.mutators ∷ c.helpers ∷ []))
 
 -- ---- schedules
 

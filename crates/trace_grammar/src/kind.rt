@@ -1,6 +1,6 @@
 //! The kinds of commands.
 ghost use Rattle.std.specs.Prelude.{◌≡◌};
-ghost use Rattle.trace_grammar.specs.Kinds.{word, limits, command_from, Suit, IsOnObject};
+ghost use Rattle.trace_grammar.specs.Kinds.{kinds, word, limits, command_from, Suit, IsOnObject};
 
 use shen_graph::Command;
 
@@ -18,6 +18,32 @@ pub enum CommandKind {
     Drop,
     Same,
     Gc,
+    Pin,
+    Unpin,
+}
+
+// Each kind once: those of version 1, and behind them those that joined in version 2.
+const KINDS: [CommandKind; 13] = [
+    CommandKind::New,
+    CommandKind::Get,
+    CommandKind::Set,
+    CommandKind::Cas,
+    CommandKind::Xchg,
+    CommandKind::Rd,
+    CommandKind::Wr,
+    CommandKind::Copy,
+    CommandKind::Drop,
+    CommandKind::Same,
+    CommandKind::Gc,
+    CommandKind::Pin,
+    CommandKind::Unpin,
+];
+
+/// The kinds of commands of a version.
+pub fn kinds_of(version: u32) -> &'static [CommandKind]
+    ensures { result.now ≡ kinds version }
+{
+    if version < 2 { &KINDS[..11] } else { &KINDS }
 }
 
 impl CommandKind {
@@ -37,6 +63,8 @@ impl CommandKind {
             CommandKind::Drop => b"drop",
             CommandKind::Same => b"same",
             CommandKind::Gc => b"gc",
+            CommandKind::Pin => b"pin",
+            CommandKind::Unpin => b"unpin",
         }
     }
 
@@ -56,6 +84,8 @@ impl CommandKind {
             CommandKind::Drop => &[15],
             CommandKind::Same => &[15, 15],
             CommandKind::Gc => &[],
+            CommandKind::Pin => &[3, 15],
+            CommandKind::Unpin => &[3],
         }
     }
 
@@ -81,6 +111,11 @@ impl CommandKind {
                 b: second as u32,
             },
             CommandKind::Gc => Command::Gc,
+            CommandKind::Pin => Command::Pin {
+                slot: first as u32,
+                obj: second as u32,
+            },
+            CommandKind::Unpin => Command::Unpin { slot: first as u32 },
             CommandKind::Get
             | CommandKind::Set
             | CommandKind::Cas
@@ -133,7 +168,9 @@ impl CommandKind {
             | CommandKind::Copy
             | CommandKind::Drop
             | CommandKind::Same
-            | CommandKind::Gc => unreachable!(),
+            | CommandKind::Gc
+            | CommandKind::Pin
+            | CommandKind::Unpin => unreachable!(),
         }
     }
 }

@@ -4,7 +4,7 @@ ghost use Rattle.std.specs.Option.{option_map};
 ghost use Rattle.trace_grammar.specs.Kinds.{kinds};
 ghost use Rattle.trace_grammar.specs.Scanning.{kind_among};
 
-use crate::kind::CommandKind;
+use crate::kind::{CommandKind, kinds_of};
 use crate::scan::text_at;
 
 /// The first of these kinds whose word stands at the front, and what is behind the word.
@@ -19,24 +19,9 @@ fn kind_among<'a>(kinds: &[CommandKind], bytes: &'a [u8]) -> Option<(CommandKind
     None
 }
 
-/// The kind whose word stands at the front, and what is behind the word.
-pub fn kind_at(bytes: &[u8]) -> Option<(CommandKind, &[u8])>
-    ensures { option_map (λ x. (x.0, x.1.now)) result ≡ kind_among kinds bytes.now }
+/// The kind of a version whose word stands at the front, and what is behind the word.
+pub fn kind_at(version: u32, bytes: &[u8]) -> Option<(CommandKind, &[u8])>
+    ensures { option_map (λ x. (x.0, x.1.now)) result ≡ kind_among (kinds version) bytes.now }
 {
-    kind_among(
-        &[
-            CommandKind::New,
-            CommandKind::Get,
-            CommandKind::Set,
-            CommandKind::Cas,
-            CommandKind::Xchg,
-            CommandKind::Rd,
-            CommandKind::Wr,
-            CommandKind::Copy,
-            CommandKind::Drop,
-            CommandKind::Same,
-            CommandKind::Gc,
-        ],
-        bytes,
-    )
+    kind_among(kinds_of(version), bytes)
 }

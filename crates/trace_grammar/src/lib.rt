@@ -8,7 +8,7 @@ mod scan;
 mod trace;
 mod why;
 
-pub use kind::CommandKind;
+pub use kind::{CommandKind, kinds_of};
 pub use kind_scan::kind_at;
 pub use laws::traces_are_read_once;
 pub use scan::{

@@ -1,4 +1,4 @@
-//! Traces: a configuration, a script for each thread, and a schedule.
+//! Traces: a version, a configuration, a script for each thread, and a schedule.
 ghost use Rattle.std.specs.Prelude.{◌≡◌};
 
 use heap_words::{Config, Schedule};
@@ -43,9 +43,11 @@ impl Scripts {
     }
 }
 
-/// A trace: the sizes of the heap, what each thread is to run, and in which order the machines step at first.
+/// A trace: its version, the sizes of the heap, what each thread is to run, and in which order the machines step at first.
 #[derive(Drop)]
 pub struct Trace {
+    /// The version of the format, 1 or 2.
+    pub version: u32,
     /// The sizes of the heap, and how many machines work on it.
     pub config: Config,
     /// A script for each mutator.

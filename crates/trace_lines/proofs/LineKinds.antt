@@ -45,27 +45,27 @@ turn_is_marked : (c : Config) (text : List ℕ) → behind (33 ∷ []) text ≡ 
 turn_is_marked c text none it = let m = marked text (items_and_end it.0) it.2 in no_mark text m.0 none m.1
 
 -- a line with no cause against it and without the mark is that of a command
-pub is_command : (c : Config) (scheduled : Bool) (text : List ℕ) → words_cause (body_stage c scheduled) (parts 32 text) ≡ None → behind (33 ∷ []) text ≡ None → (scheduled ≡ false) × IsCommandText c text
-is_command c true text none mark = absurd (turn_is_marked c text mark (turns_follow c text none))
-is_command c false text none mark = by_kind (commands_follow c text none)
+pub is_command : (v : ℕ) (c : Config) (scheduled : Bool) (text : List ℕ) → words_cause (body_stage v c scheduled) (parts 32 text) ≡ None → behind (33 ∷ []) text ≡ None → (scheduled ≡ false) × IsCommandText v c text
+is_command v c true text none mark = absurd (turn_is_marked c text mark (turns_follow c text none))
+is_command v c false text none mark = by_kind (commands_follow v c text none)
   where
-    by_kind : IsCommandLine c text ⊎ IsTurnItem c text → (false ≡ false) × IsCommandText c text
+    by_kind : IsCommandLine v c text ⊎ IsTurnItem c text → (false ≡ false) × IsCommandText v c text
     by_kind (inl it) = (refl, it)
     by_kind (inr it) = absurd (turn_is_marked c text mark it)
 
-command_is_unmarked : (c : Config) (text rest : List ℕ) → behind (33 ∷ []) text ≡ Some rest → IsCommandLine c text → ⊥
-command_is_unmarked c text rest mark it =
+command_is_unmarked : (v : ℕ) (c : Config) (text rest : List ℕ) → behind (33 ∷ []) text ≡ Some rest → IsCommandLine v c text → ⊥
+command_is_unmarked v c text rest mark it =
     let is : text ≡ 33 ∷ rest = behind_takes (33 ∷ []) text rest mark in
     let front : IsBehindCommands (text ++ newline ∷ []) = subst (λ (t : List ℕ). IsBehindCommands (t ++ newline ∷ [])) (sym is) refl in
-    command_is_no_turn c.mutators it.0 (text ++ newline ∷ []) [] (few_threads c) it.1 (it.2 ∙ sym (append-nil (line it.0))) front
+    command_is_no_turn v c.mutators it.0 (text ++ newline ∷ []) [] (few_threads c) it.1 (it.2 ∙ sym (append-nil (line it.0))) front
 
 -- and with it, one of the schedule
-pub is_items : (c : Config) (scheduled : Bool) (text rest : List ℕ) → words_cause (body_stage c scheduled) (parts 32 text) ≡ None → behind (33 ∷ []) text ≡ Some rest → IsItemsText c text
-is_items c true text rest none mark = turns_follow c text none
-is_items c false text rest none mark = by_kind (commands_follow c text none)
+pub is_items : (v : ℕ) (c : Config) (scheduled : Bool) (text rest : List ℕ) → words_cause (body_stage v c scheduled) (parts 32 text) ≡ None → behind (33 ∷ []) text ≡ Some rest → IsItemsText c text
+is_items v c true text rest none mark = turns_follow c text none
+is_items v c false text rest none mark = by_kind (commands_follow v c text none)
   where
-    by_kind : IsCommandLine c text ⊎ IsTurnItem c text → IsItemsText c text
-    by_kind (inl it) = absurd (command_is_unmarked c text rest mark it)
+    by_kind : IsCommandLine v c text ⊎ IsTurnItem c text → IsItemsText c text
+    by_kind (inl it) = absurd (command_is_unmarked v c text rest mark it)
     by_kind (inr it) = it
 
 -- ---- what is read
@@ -81,23 +81,23 @@ line_text l =
     ap (λ (t : List ℕ). word ++ (t ++ newline ∷ [])) (sym (append-nil ns)) ∙ sym (append_assoc word (ns ++ []) (newline ∷ [])) in
     ap (λ (t : List ℕ). decimal l.thread ++ 32 ∷ t) inner ∙ sym (append_assoc (decimal l.thread) (32 ∷ words_of l) (newline ∷ []))
 
-spelled_again : (threads : ℕ) (l : TraceLine) → threads < 2 ^ 64 → IsLine threads l → spelled_line threads (decimal l.thread ++ 32 ∷ words_of l) ≡ Some l
+spelled_again : (version threads : ℕ) (l : TraceLine) → threads < 2 ^ 64 → IsLine version threads l → spelled_line version threads (decimal l.thread ++ 32 ∷ words_of l) ≡ Some l
 unfolding spelled_line
-spelled_again threads l small fits =
-    rw (positive_again threads l.thread (32 ∷ words_of l) fits.from_one fits.to_last small refl, command_again_at l.command [] fits.valid fits.fits tt) refl
+spelled_again version threads l small fits =
+    rw (positive_again threads l.thread (32 ∷ words_of l) fits.from_one fits.to_last small refl, command_again_at version l.command [] fits.known fits.valid fits.fits tt) refl
 
-pub command_read : (c : Config) (text : List ℕ) → (it : IsCommandText c text) → spelled_line c.mutators text ≡ Some it.0
-command_read c text it =
+pub command_read : (v : ℕ) (c : Config) (text : List ℕ) → (it : IsCommandText v c text) → spelled_line v c.mutators text ≡ Some it.0
+command_read v c text it =
     let l = it.0 in
     let same : text ≡ decimal l.thread ++ 32 ∷ words_of l = same_before_end text (decimal l.thread ++ 32 ∷ words_of l) newline (it.2 ∙ line_text l) in
-    ap (spelled_line c.mutators) same ∙ spelled_again c.mutators l (few_threads c) it.1
+    ap (spelled_line v c.mutators) same ∙ spelled_again v c.mutators l (few_threads c) it.1
 
-pub items_read : (c : Config) (text bytes : List ℕ) (scripts : List (List Command)) (items : List Item) → IsItemsText c text → bytes ≡ text ++ newline ∷ [] → HasReadBody c bytes scripts items → IsScheduleLine c items × (text ++ newline ∷ [] ≡ schedule_line items)
-items_read c text bytes scripts items it same body =
+pub items_read : (v : ℕ) (c : Config) (text bytes : List ℕ) (scripts : List (List Command)) (items : List Item) → IsItemsText c text → bytes ≡ text ++ newline ∷ [] → HasReadBody v c bytes scripts items → IsScheduleLine c items × (text ++ newline ∷ [] ≡ schedule_line items)
+items_read v c text bytes scripts items it same body =
     let one : List (List Item) = it.0 ∷ [] in
     let alone : flat_map schedule_line one ≡ schedule_line it.0 = flat_map-cons schedule_line it.0 [] ∙ append-nil (schedule_line it.0) in
     let both : flat_map line body.lines ++ flat_map schedule_line body.turns ≡ flat_map line [] ++ flat_map schedule_line one = sym body.spelled ∙ same ∙ it.2 ∙ sym alone in
-    let lines = lines_once c.mutators body.lines [] (flat_map schedule_line body.turns) (flat_map schedule_line one) (few_threads c) body.in_range tt (turns_behind body.turns) (turns_behind one) both in
+    let lines = lines_once v c.mutators body.lines [] (flat_map schedule_line body.turns) (flat_map schedule_line one) (few_threads c) body.in_range tt (turns_behind body.turns) (turns_behind one) both in
     let turns = turns_once c body.turns one body.turns_in_range (it.1, tt) lines.1 in
     let whole : items ≡ it.0 = body.in_order ∙ ap items_of turns ∙ (flat_map-cons (λ (is : List Item). is) it.0 [] ∙ append-nil it.0) in
     (subst (IsScheduleLine c) (sym whole) it.1, it.2 ∙ ap schedule_line (sym whole))

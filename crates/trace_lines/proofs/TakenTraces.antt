@@ -7,7 +7,7 @@ use Rattle.std.proofs.lemmas.List.Concat.{flat_map-cons}
 use Rattle.heap_words.specs.declared.config.Config.{Config}
 use Rattle.heap_words.specs.Narrow.{IsNarrow}
 use Rattle.heap_words.specs.declared.schedule.Item.{Item}
-use Rattle.trace_grammar.specs.Spelling.{newline, TraceLine, line, IsLine, schedule_line, IsScheduleLine, header}
+use Rattle.trace_grammar.specs.Spelling.{newline, TraceLine, line, IsVersion, IsLine, schedule_line, IsScheduleLine, header}
 use Rattle.trace_grammar.specs.Grammar.{most_bytes, scripts_of, items_of, with_line, HasReadLines, Reads}
 use Rattle.trace_grammar.proofs.Traces.{taken_more}
 use Rattle.trace_lines.specs.LinesTaken.{Taken, none_taken, ended_lines, TakesCommand, TakesItems, TakesLine, TakesLines}
@@ -16,10 +16,11 @@ abbrev ended : List ℕ → List ℕ
 ended text = text ++ newline ∷ []
 
 -- these bytes are the lines that were taken
-record AreTaken (c : Config) (bytes : List ℕ) (t : Taken) : Type 0 where
+record AreTaken (v : ℕ) (c : Config) (bytes : List ℕ) (t : Taken) : Type 0 where
+  version : t.version ≡ v
   config : t.config ≡ c
   lines : List TraceLine
-  in_range : AllByRecursion (IsLine c.mutators) lines
+  in_range : AllByRecursion (IsLine v c.mutators) lines
   turns : List (List Item)
   turns_in_range : AllByRecursion (IsScheduleLine c) turns
   spelled : bytes ≡ flat_map line lines ++ flat_map schedule_line turns
@@ -27,19 +28,20 @@ record AreTaken (c : Config) (bytes : List ℕ) (t : Taken) : Type 0 where
   in_order : t.items ≡ items_of turns
   none_yet : t.scheduled ≡ false → turns ≡ []
 
-none_are_taken : (c : Config) → AreTaken c [] (none_taken c)
-none_are_taken c = record { config = refl; lines = []; in_range = tt; turns = []; turns_in_range = tt; spelled = refl; by_thread = refl; in_order = refl; none_yet = λ e. refl }
+none_are_taken : (v : ℕ) (c : Config) → AreTaken v c [] (none_taken v c)
+none_are_taken v c = record { version = refl; config = refl; lines = []; in_range = tt; turns = []; turns_in_range = tt; spelled = refl; by_thread = refl; in_order = refl; none_yet = λ e. refl }
 
 -- a line of a command more
-command_more : (c : Config) (bytes text : List ℕ) (before after : Taken) → AreTaken c bytes before → TakesCommand before text after → AreTaken c (bytes ++ ended text) after
-command_more c bytes text before after s it =
+command_more : (v : ℕ) (c : Config) (bytes text : List ℕ) (before after : Taken) → AreTaken v c bytes before → TakesCommand before text after → AreTaken v c (bytes ++ ended text) after
+command_more v c bytes text before after s it =
     let l = it.0 in
     let none = s.none_yet it.1 in
-    let fits : IsLine c.mutators l = subst (λ (k : Config). IsLine k.mutators l) s.config it.2 in
+    let fits : IsLine v c.mutators l = subst (λ (w : ℕ). IsLine w c.mutators l) s.version (subst (λ (k : Config). IsLine before.version k.mutators l) s.config it.2) in
     let alone : bytes ≡ flat_map line s.lines = s.spelled ∙ ap (λ (ts : List (List Item)). flat_map line s.lines ++ flat_map schedule_line ts) none ∙ append-nil (flat_map line s.lines) in
-    let whole : HasReadLines c.mutators (bytes ++ line l) (line l) before.scripts = record { lines = s.lines; in_range = s.in_range; spelled = ap (λ (bs : List ℕ). bs ++ line l) alone; by_thread = s.by_thread } in
-    let more = taken_more c.mutators (bytes ++ line l) (line l) [] before.scripts (with_line before.scripts l) l whole fits (sym (append-nil (line l))) refl in
-    subst (AreTaken c (bytes ++ ended text)) (sym it.4) (record {
+    let whole : HasReadLines v c.mutators (bytes ++ line l) (line l) before.scripts = record { lines = s.lines; in_range = s.in_range; spelled = ap (λ (bs : List ℕ). bs ++ line l) alone; by_thread = s.by_thread } in
+    let more = taken_more v c.mutators (bytes ++ line l) (line l) [] before.scripts (with_line before.scripts l) l whole fits (sym (append-nil (line l))) refl in
+    subst (AreTaken v c (bytes ++ ended text)) (sym it.4) (record {
+      version = s.version;
       config = s.config;
       lines = more.lines;
       in_range = more.in_range;
@@ -56,8 +58,8 @@ all_more c [] items all good = (good, tt)
 all_more c (t ∷ turns) items all good = (all.0, all_more c turns items all.1 good)
 
 -- a line of the schedule more
-items_more : (c : Config) (bytes text : List ℕ) (before after : Taken) → AreTaken c bytes before → TakesItems before text after → AreTaken c (bytes ++ ended text) after
-items_more c bytes text before after s it =
+items_more : (v : ℕ) (c : Config) (bytes text : List ℕ) (before after : Taken) → AreTaken v c bytes before → TakesItems before text after → AreTaken v c (bytes ++ ended text) after
+items_more v c bytes text before after s it =
     let items = it.0 in
     let good : IsScheduleLine c items = subst (λ (k : Config). IsScheduleLine k items) s.config it.1 in
     let turns = s.turns ++ items ∷ [] in
@@ -66,7 +68,8 @@ items_more c bytes text before after s it =
     flat_map-append schedule_line s.turns (items ∷ []) ∙ ap (λ (bs : List ℕ). flat_map schedule_line s.turns ++ bs) (flat_map-cons schedule_line items [] ∙ append-nil (schedule_line items)) in
     let each : items_of turns ≡ items_of s.turns ++ items =
     flat_map-append (λ (is : List Item). is) s.turns (items ∷ []) ∙ ap (λ (is : List Item). items_of s.turns ++ is) (flat_map-cons (λ (is : List Item). is) items [] ∙ append-nil items) in
-    subst (AreTaken c (bytes ++ ended text)) (sym it.3) (record {
+    subst (AreTaken v c (bytes ++ ended text)) (sym it.3) (record {
+      version = s.version;
       config = s.config;
       lines = s.lines;
       in_range = s.in_range;
@@ -78,26 +81,28 @@ items_more c bytes text before after s it =
       none_yet = λ e. absurd (false≢true (sym e));
     })
 
-one_more : (c : Config) (bytes text : List ℕ) (before after : Taken) → AreTaken c bytes before → TakesLine before text after → AreTaken c (bytes ++ ended text) after
-one_more c bytes text before after s (inl it) = command_more c bytes text before after s it
-one_more c bytes text before after s (inr it) = items_more c bytes text before after s it
+one_more : (v : ℕ) (c : Config) (bytes text : List ℕ) (before after : Taken) → AreTaken v c bytes before → TakesLine before text after → AreTaken v c (bytes ++ ended text) after
+one_more v c bytes text before after s (inl it) = command_more v c bytes text before after s it
+one_more v c bytes text before after s (inr it) = items_more v c bytes text before after s it
 
-all_taken : (c : Config) (texts : List (List ℕ)) (bytes : List ℕ) (before after : Taken) → AreTaken c bytes before → TakesLines before texts after → AreTaken c (bytes ++ ended_lines texts) after
-all_taken c [] bytes before after s it = subst (λ (bs : List ℕ). AreTaken c bs after) (sym (append-nil bytes)) (subst (AreTaken c bytes) it s)
-all_taken c (text ∷ texts) bytes before after s it =
-    subst (λ (bs : List ℕ). AreTaken c bs after) (append_assoc bytes (ended text) (ended_lines texts) ∙ ap (λ (bs : List ℕ). bytes ++ bs) (sym (flat_map-cons (λ (t : List ℕ). t ++ newline ∷ []) text texts)))
-    (all_taken c texts (bytes ++ ended text) it.0 after (one_more c bytes text before it.0 s it.1) it.2)
+all_taken : (v : ℕ) (c : Config) (texts : List (List ℕ)) (bytes : List ℕ) (before after : Taken) → AreTaken v c bytes before → TakesLines before texts after → AreTaken v c (bytes ++ ended_lines texts) after
+all_taken v c [] bytes before after s it = subst (λ (bs : List ℕ). AreTaken v c bs after) (sym (append-nil bytes)) (subst (AreTaken v c bytes) it s)
+all_taken v c (text ∷ texts) bytes before after s it =
+    subst (λ (bs : List ℕ). AreTaken v c bs after) (append_assoc bytes (ended text) (ended_lines texts) ∙ ap (λ (bs : List ℕ). bytes ++ bs) (sym (flat_map-cons (λ (t : List ℕ). t ++ newline ∷ []) text texts)))
+    (all_taken v c texts (bytes ++ ended text) it.0 after (one_more v c bytes text before it.0 s it.1) it.2)
 
-pub read_as_taken : (c : Config) (texts : List (List ℕ)) (t : Taken) → IsNarrow c → TakesLines (none_taken c) texts t → length (header c ++ ended_lines texts) ≤ most_bytes → Reads (header c ++ ended_lines texts) c t.scripts t.items
-read_as_taken c texts t narrow it short =
-    let all = all_taken c texts [] (none_taken c) t (none_are_taken c) it in
+pub read_as_taken : (v : ℕ) (c : Config) (texts : List (List ℕ)) (t : Taken) → IsVersion v → IsNarrow c → TakesLines (none_taken v c) texts t
+    → length (header v c ++ ended_lines texts) ≤ most_bytes → Reads (header v c ++ ended_lines texts) v c t.scripts t.items
+read_as_taken v c texts t known narrow it short =
+    let all = all_taken v c texts [] (none_taken v c) t (none_are_taken v c) it in
     record {
+      known = known;
       narrow = narrow;
       lines = all.lines;
       in_range = all.in_range;
       turns = all.turns;
       turns_in_range = all.turns_in_range;
-      spelled = ap (λ (bs : List ℕ). header c ++ bs) all.spelled;
+      spelled = ap (λ (bs : List ℕ). header v c ++ bs) all.spelled;
       by_thread = all.by_thread;
       in_order = all.in_order;
       short = short;

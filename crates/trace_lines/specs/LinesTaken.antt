@@ -11,21 +11,22 @@ use Rattle.trace_grammar.specs.declared.why.Why.{Why}
 use Rattle.trace_refusals.specs.Causes.{parts}
 use Rattle.trace_refusals.specs.Refused.{body_stage, words_cause}
 
--- what was taken: the commands of each thread, the items of the schedule, and whether a line of the schedule was taken
+-- of a trace of this version, what was taken: the commands of each thread, the items of the schedule, and whether a line of the schedule was taken
 pub record Taken : Type 0 where
+  pub version : ℕ
   pub config : Config
   pub scripts : List (List Command)
   pub items : List Item
   pub scheduled : Bool
 
 -- no line was taken yet
-abbrev pub none_taken : Config → Taken
-none_taken c = record { config = c; scripts = scripts_of c.mutators []; items = []; scheduled = false }
+abbrev pub none_taken : (version : ℕ) → Config → Taken
+none_taken version c = record { version = version; config = c; scripts = scripts_of c.mutators []; items = []; scheduled = false }
 
 -- the line, without its end, is that of a command, which is now the last of its thread
 abbrev pub TakesCommand : Taken → List ℕ → Taken → Type 0
 TakesCommand before text after =
-    (l : TraceLine) × (before.scheduled ≡ false) × IsLine before.config.mutators l × (text ++ newline ∷ [] ≡ line l) × (after ≡ record before { scripts = with_line before.scripts l })
+    (l : TraceLine) × (before.scheduled ≡ false) × IsLine before.version before.config.mutators l × (text ++ newline ∷ [] ≡ line l) × (after ≡ record before { scripts = with_line before.scripts l })
 
 -- the line, without its end, is one of the schedule, whose items are now its last
 abbrev pub TakesItems : Taken → List ℕ → Taken → Type 0
@@ -37,22 +38,22 @@ TakesLine before text after = TakesCommand before text after ⊎ TakesItems befo
 
 -- the first cause that holds for the line there
 abbrev pub line_cause : Taken → List ℕ → Option Why
-line_cause t text = words_cause (body_stage t.config t.scheduled) (parts space text)
+line_cause t text = words_cause (body_stage t.version t.config t.scheduled) (parts space text)
 
--- a line of a command, without its end
-abbrev pub IsCommandText : Config → List ℕ → Type 0
-IsCommandText c text = (l : TraceLine) × IsLine c.mutators l × (text ++ newline ∷ [] ≡ line l)
+-- a line of a command of a version, without its end
+abbrev pub IsCommandText : (version : ℕ) → Config → List ℕ → Type 0
+IsCommandText version c text = (l : TraceLine) × IsLine version c.mutators l × (text ++ newline ∷ [] ≡ line l)
 
 -- a line of the schedule, without its end
 abbrev pub IsItemsText : Config → List ℕ → Type 0
 IsItemsText c text = (items : List Item) × IsScheduleLine c items × (text ++ newline ∷ [] ≡ schedule_line items)
 
--- the thread and the command that a text spells, to its end
-unfoldable pub spelled_line : ℕ → List ℕ → Option TraceLine
-spelled_line threads text = do
+-- the thread and the command of a version that a text spells, to its end
+unfoldable pub spelled_line : (version threads : ℕ) → List ℕ → Option TraceLine
+spelled_line version threads text = do
   t ← positive_at threads text
   rest ← behind (32 ∷ []) t.1
-  c ← spelled_command rest
+  c ← spelled_command version rest
   if length c.1 == 0 then Some (record { thread = t.0; command = c.0 }) else None
 
 -- lines, each without its end, are taken one after the other

@@ -1,6 +1,6 @@
 //! Taking lines.
-ghost use Rattle.std.specs.Prelude.{◌≡◌, ◌↔◌, ◌⊎◌, true, false, [], ◌∷◌, ◌++◌, Err, Some, IfOk, IfSome, OnOk, OnErr};
-ghost use Rattle.trace_grammar.specs.Spelling.{newline, schedule_line, IsScheduleLine};
+ghost use Rattle.std.specs.Prelude.{◌≡◌, ◌↔◌, true, false, [], ◌∷◌, ◌++◌, Err, Some, IfOk, IfSome, OnOk, OnErr};
+ghost use Rattle.trace_grammar.specs.Spelling.{newline, IsVersion, schedule_line, IsScheduleLine};
 ghost use Rattle.trace_grammar.specs.Grammar.{scripts_of};
 ghost use Rattle.trace_grammar.specs.declared.why.Why.{Why as Cause};
 ghost use Rattle.trace_lines.specs.LinesTaken.{none_taken, TakesCommand, TakesItems, TakesLine, line_cause, spelled_line, IsCommandText, IsItemsText};
@@ -26,6 +26,7 @@ pub enum LineFault {
 /// The lines of a trace behind its head, as far as they were taken.
 #[derive(Drop)]
 pub struct TraceLines {
+    version: u32,
     config: Config,
     scripts: Vec<Script>,
     schedule: Schedule,
@@ -37,7 +38,7 @@ impl Model for TraceLines {
 
     ghost Value = { Taken };
 
-    ghost view = { λ t. record { config = t.config; scripts = t.scripts.items; items = t.schedule; scheduled = t.scheduled } };
+    ghost view = { λ t. record { version = t.version; config = t.config; scripts = t.scripts.items; items = t.schedule; scheduled = t.scheduled } };
 }
 
 // A script without a command for each of so many threads.
@@ -56,14 +57,14 @@ fn empty_scripts(alloc: Global, threads: u32) -> Result<Vec<Script>, NoMemory>
     Ok(scripts)
 }
 
-// The thread and the command of a line without its end.
+// The thread and the command of a version, of a line without its end.
 #[tactic(auto, unfolding(crate::specs::LinesTaken::spelled_line))]
-fn command_in(threads: u64, text: &[u8]) -> Option<(u64, Command)>
-    ensures { option_map (λ x. record { thread = x.0; command = x.1 }) result ≡ spelled_line threads text.now }
+fn command_in(version: u32, threads: u64, text: &[u8]) -> Option<(u64, Command)>
+    ensures { option_map (λ x. record { thread = x.0; command = x.1 }) result ≡ spelled_line version threads text.now }
 {
     let (thread, rest) = positive_at(threads, text)?;
     let rest = text_at(b" ", rest)?;
-    let (command, rest) = command_at(rest)?;
+    let (command, rest) = command_at(version, rest)?;
     if rest.is_empty() {
         Some((thread, command))
     } else {
@@ -109,23 +110,24 @@ fn items_in(alloc: Global, config: Config, text: &[u8]) -> Option<Schedule>
     let Ok(bytes) = ended(alloc, text) else {
         return None;
     };
-    match trace_behind(alloc, config, 1, &bytes) {
+    match trace_behind(alloc, 1, config, 1, &bytes) {
         Ok(trace) => Some(trace.schedule),
         Err(_) => None,
     }
 }
 
 impl TraceLines {
-    /// No line yet, of a trace of this configuration and of version 1 or 2. Both have the same commands.
-    pub fn open(alloc: Global, config: Config, _version: u32) -> Result<TraceLines, NoMemory>
-        requires { (_version ≡ 1) ⊎ (_version ≡ 2) }
-        ensures { IfOk result (λ lines. lines ≡ none_taken config) }
+    /// No line yet, of a trace of this configuration and of version 1 or 2.
+    pub fn open(alloc: Global, config: Config, version: u32) -> Result<TraceLines, NoMemory>
+        requires { IsVersion version }
+        ensures { IfOk result (λ lines. lines ≡ none_taken version config) }
     {
         let scripts = empty_scripts(alloc, config.mutators() as u32)?;
         let Ok(schedule) = Schedule::open(alloc) else {
             return Err(NoMemory);
         };
         Ok(TraceLines {
+            version,
             config,
             scripts,
             schedule,
@@ -141,7 +143,7 @@ impl TraceLines {
         ensures bad { (why : Cause) → (result ≡ Err (LineFault.Bad why)) ↔ (line_cause self.old line.now ≡ Some why) }
         ensures kept { OnErr result (self.new ≡ self.old) }
     {
-        if let Some(why) = text_cause(&self.config, self.scheduled, line) {
+        if let Some(why) = text_cause(self.version, &self.config, self.scheduled, line) {
             return Err(LineFault::Bad { why });
         }
         let taken = match text_at(b"!", line) {
@@ -157,11 +159,13 @@ impl TraceLines {
 
     /// The trace of the lines that were taken.
     pub fn end(self) -> Trace
+        ensures version { result.version ≡ self.version }
         ensures config { result.config ≡ self.config }
         ensures scripts { result.scripts ≡ self.scripts }
         ensures schedule { result.schedule ≡ self.items }
     {
         Trace {
+            version: self.version,
             config: self.config,
             scripts: Scripts::from_vec(self.scripts),
             schedule: self.schedule,
@@ -171,11 +175,12 @@ impl TraceLines {
     // Takes the line of a command. False: memory was refused.
     fn take_command(&mut self, alloc: Global, line: &[u8]) -> bool
         requires before { self.old.scheduled ≡ false }
-        requires line { IsCommandText self.old.config line.now }
+        requires line { IsCommandText self.old.version self.old.config line.now }
         ensures taken { result ≡ true → TakesCommand self.old line.now self.new }
         ensures kept { result ≡ false → self.new ≡ self.old }
     {
-        let (thread, command) = command_in(self.config.mutators() as u64, line).unwrap();
+        let threads = self.config.mutators() as u64;
+        let (thread, command) = command_in(self.version, threads, line).unwrap();
         let script = thread as usize - 1;
         script >= self.scripts.len() || self.scripts[script].push(alloc, command).is_ok()
     }

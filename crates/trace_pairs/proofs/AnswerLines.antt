@@ -1,5 +1,5 @@
 -- An answer is lines, of which none is `history`.
-use Rattle.std.proofs.Common.{◌≡◌, ◌≢◌, ℕ, zero, suc, ◌+◌, ◌^◌, ◌<◌, ◌≤◌, true, List, [], ◌∷◌, ◌++◌, length, map, codes, Some, None, refl, sym, ap, subst, ◌∙◌, append_assoc, append-nil, arith}
+use Rattle.std.proofs.Common.{◌≡◌, ◌≢◌, ℕ, zero, suc, ◌+◌, ◌^◌, ◌<◌, ◌≤◌, Bool, true, false, cond, ltb, List, [], ◌∷◌, ◌++◌, length, map, codes, Some, None, refl, sym, ap, subst, ◌∙◌, append_assoc, append-nil, arith}
 use Rattle.std.specs.Prelude.{All}
 use Rattle.std.specs.Fmt.{decimal}
 use Rattle.std.specs.List.{flat_map, join_with_byte, range_with_len, AllByRecursion}
@@ -8,14 +8,14 @@ use Rattle.std.proofs.lemmas.Grind.{flat_map-append}
 use Rattle.std.proofs.lemmas.List.Elements.{All-head, All-tail}
 use Rattle.shen_graph.specs.declared.name.Name.{Name}
 use Rattle.shen_graph.specs.declared.command.Reply.{Reply}
-use Rattle.shen_graph.specs.declared.command.Reply.TheVariants.{Ref, Null, Ok, Yes, No, Number, Bad, Full}
+use Rattle.shen_graph.specs.declared.command.Reply.TheVariants.{Ref, Null, Ok, Yes, No, Number, Bad, Full, At}
 use Rattle.shen_graph.specs.Graph.{Reference}
 use Rattle.shen_graph.specs.GraphText.{Row}
 use Rattle.trace_grammar.specs.Spelling.{newline}
 use Rattle.trace_refusals.specs.Causes.{parts}
 use Rattle.trace_refusals.proofs.Free.{is_free, free_both, parts_at, IsWord, parts_again, joined_free}
 use Rattle.trace_refusals.proofs.Numerals.{decimal_word}
-use Rattle.trace_writing.specs.Answer.{line_of, name_word, reference_word, reply_word, reply_line, object_line, root_spellings, roots_line, thread_numbers, answer_text}
+use Rattle.trace_writing.specs.Answer.{line_of, name_word, reference_word, reply_word, reply_line, object_line, root_spellings, roots_line, pin_spellings, pins_line, pins_text, thread_numbers, answer_text}
 use Rattle.trace_pairs.specs.Entries.{FitsReply}
 use Rattle.trace_pairs.specs.LineCuts.{with_ends, IsCutAt}
 use Rattle.trace_pairs.proofs.CutLines.{AreOthers}
@@ -111,6 +111,7 @@ reply_is_word No fits = record { no_space = refl; no_end = refl }
 reply_is_word (Number n) fits = number_word n fits
 reply_is_word Bad fits = record { no_space = refl; no_end = refl }
 reply_is_word Full fits = record { no_space = refl; no_end = refl }
+reply_is_word (At place) fits = word_both (codes "@") (decimal place) (record { no_space = refl; no_end = refl }) (number_word place fits)
 
 words_each : {X : Type 0} (f : X → List ℕ) (P : X → Type 0) (xs : List X) → ((x : X) → P x → IsWord (f x)) → All P xs → AllByRecursion IsWord (map f xs)
 words_each f P [] each all = tt
@@ -148,6 +149,13 @@ spelled_roots root small = root_words root 0 16 small
 root_lines : (t : ℕ) (root : ℕ → Reference) → t < 2 ^ 64 → ((i : ℕ) → IsSmallReference (root i)) → AreLines (roots_line t root)
 root_lines t root few small = line_of_words (codes "roots") (decimal t) (root_spellings root) (record { no_space = refl; no_end = refl }, (number_word t few, spelled_roots root small))
 
+spelled_pins : (pin : ℕ → Reference) → ((i : ℕ) → IsSmallReference (pin i)) → AllByRecursion IsWord (pin_spellings pin)
+unfolding pin_spellings
+spelled_pins pin small = root_words pin 0 4 small
+
+pin_lines : (t : ℕ) (pin : ℕ → Reference) → t < 2 ^ 64 → ((i : ℕ) → IsSmallReference (pin i)) → AreLines (pins_line t pin)
+pin_lines t pin few small = line_of_words (codes "pins") (decimal t) (pin_spellings pin) (record { no_space = refl; no_end = refl }, (number_word t few, spelled_pins pin small))
+
 below : (most from n : ℕ) → from + n ≤ most → AllByRecursion (λ t. t < most) (range_with_len from n)
 below most from zero le = tt
 below most from (suc n) le = (omega (arith, le), below most (from + 1) n (omega (arith, le)))
@@ -155,10 +163,18 @@ below most from (suc n) le = (omega (arith, le), below most (from + 1) n (omega 
 graph_line : AreLines (line_of (codes "graph" ∷ []))
 graph_line = record { lines = codes "graph" ∷ []; spelled = refl; free = (refl, tt); others = (λ same. absurd (omega (arith, ap length same)), tt) }
 
-pub answer_lines : (threads : ℕ) (replies : ℕ → List Reply) (rows : List Row) (root : ℕ → ℕ → Reference) → threads + 1 ≤ 2 ^ 64 → ((t : ℕ) → AllByRecursion FitsReply (replies t)) → AllByRecursion IsSmallRow rows → ((t i : ℕ) → IsSmallReference (root t i))
-    → AreLines (answer_text threads replies rows root)
-answer_lines threads replies rows root few fit small roots =
+all_pins : (version threads : ℕ) (pin : ℕ → ℕ → Reference) → threads + 1 ≤ 2 ^ 64 → ((t i : ℕ) → IsSmallReference (pin t i)) → AreLines (pins_text version threads pin)
+all_pins version threads pin few small = by_version (ltb version 2)
+  where
+    by_version : (test : Bool) → AreLines (cond test [] (flat_map (λ t. pins_line t (pin t)) (thread_numbers threads)))
+    by_version true = no_lines
+    by_version false = lines_each (λ t. pins_line t (pin t)) (λ t. t < 2 ^ 64) (thread_numbers threads) (λ t low. pin_lines t (pin t) low (small t)) (below (2 ^ 64) 1 threads (omega (arith, few)))
+
+pub answer_lines : (version threads : ℕ) (replies : ℕ → List Reply) (rows : List Row) (root pin : ℕ → ℕ → Reference) → threads + 1 ≤ 2 ^ 64 → ((t : ℕ) → AllByRecursion FitsReply (replies t)) → AllByRecursion IsSmallRow rows
+    → ((t i : ℕ) → IsSmallReference (root t i)) → ((t i : ℕ) → IsSmallReference (pin t i)) → AreLines (answer_text version threads replies rows root pin)
+answer_lines version threads replies rows root pin few fit small roots pins =
     let numbers = below (2 ^ 64) 1 threads (omega (arith, few)) in
     lines_both _ _ (lines_each (λ t. flat_map (reply_line t) (replies t)) (λ t. t < 2 ^ 64) (thread_numbers threads) (λ t low. lines_each (reply_line t) FitsReply (replies t) (λ r fits. reply_lines t r low fits) (fit t)) numbers)
     (lines_both _ _ graph_line (lines_both _ _ (lines_each object_line IsSmallRow rows object_lines small)
-    (lines_each (λ t. roots_line t (root t)) (λ t. t < 2 ^ 64) (thread_numbers threads) (λ t low. root_lines t (root t) low (roots t)) numbers)))
+    (lines_both _ _ (lines_each (λ t. roots_line t (root t)) (λ t. t < 2 ^ 64) (thread_numbers threads) (λ t low. root_lines t (root t) low (roots t)) numbers)
+    (all_pins version threads pin few pins))))

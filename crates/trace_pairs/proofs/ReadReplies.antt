@@ -4,14 +4,14 @@ use Rattle.std.specs.Fmt.{decimal}
 use Rattle.std.specs.Char.{is_ascii_digit, digit_value}
 use Rattle.std.specs.Str.Parse.{AllDigits}
 use Rattle.std.proofs.lemmas.Bool.Decides.{nat_tests}
-use Rattle.std.proofs.lemmas.Bool.{ltb-false}
+use Rattle.std.proofs.lemmas.Bool.{eqb-true, ltb-false}
 use Rattle.std.proofs.lemmas.Fmt.{digits_decimal, decimal_nonempty}
 use Rattle.shen_graph.specs.declared.command.Reply.{Reply}
-use Rattle.shen_graph.specs.declared.command.Reply.TheVariants.{Ref, Null, Ok, Yes, No, Number, Bad, Full}
+use Rattle.shen_graph.specs.declared.command.Reply.TheVariants.{Ref, Null, Ok, Yes, No, Number, Bad, Full, At}
 use Rattle.trace_grammar.specs.Scanning.{◌>>=◌, behind, spelled_number}
 use Rattle.trace_grammar.proofs.Numbers.{own, then_some, same_some, not_stopped, behind_takes, number_takes, number_again}
 use Rattle.trace_writing.specs.Answer.{reply_word, name_word}
-use Rattle.trace_pairs.specs.Entries.{FitsReply, word_begun_by, spelled_word, count_at, number_or_name, numbered_at, spelled_reply}
+use Rattle.trace_pairs.specs.Entries.{FitsReply, word_begun_by, spelled_word, count_at, number_or_name, numbered_at, spelled_place, spelled_reply}
 
 -- the bytes are this reply and those behind it, and its numbers fit
 abbrev pub IsReadAs : List ℕ → Reply × List ℕ → Type 0
@@ -78,14 +78,24 @@ numbered_takes bytes r e =
         let counted = count_takes n rest r small.1 thread in
         subst (IsReadAs bytes) (sym counted.4) (named bytes after rest n counted.0 counted.1 spelled (behind_takes (codes ".") after rest at_dot) counted.2, (thread, counted.3))
 
+place_takes : (bytes : List ℕ) (r : Reply × List ℕ) → spelled_place bytes ≡ Some r → IsReadAs (64 ∷ bytes) r
+unfolding spelled_place
+place_takes bytes r e =
+    then_some (spelled_number 18446744073709551615 bytes) (λ n. Some (At n.0, n.1)) r e (λ n at_n e1.
+    let read = number_takes 18446744073709551615 bytes n (lit< tt) at_n in
+    let made : Reply × List ℕ = (At n.0, n.1) in
+    let spelled : 64 ∷ bytes ≡ reply_word made.0 ++ made.1 = ap (λ (bs : List ℕ). 64 ∷ bs) read.0 in
+    subst (IsReadAs (64 ∷ bytes)) (same_some made r e1) (spelled, omega (arith, read.1)))
+
 pub reply_takes : (bytes : List ℕ) (r : Reply × List ℕ) → spelled_reply bytes ≡ Some r → IsReadAs bytes r
 unfolding spelled_reply
 reply_takes [] r e = absurd cc
-reply_takes (b ∷ bytes) r e = by_test (is_ascii_digit b) e
+reply_takes (b ∷ bytes) r e = by_test (is_ascii_digit b) (eqb b 64) refl e
   where
-    by_test : (test : Bool) → cond test (numbered_at (b ∷ bytes)) (spelled_word b (b ∷ bytes)) ≡ Some r → IsReadAs (b ∷ bytes) r
-    by_test true e1 = numbered_takes (b ∷ bytes) r e1
-    by_test false e1 = word_takes b (b ∷ bytes) r e1
+    by_test : (digit mark : Bool) → eqb b 64 ≡ mark → cond digit (numbered_at (b ∷ bytes)) (cond mark (spelled_place bytes) (spelled_word b (b ∷ bytes))) ≡ Some r → IsReadAs (b ∷ bytes) r
+    by_test true mark same e1 = numbered_takes (b ∷ bytes) r e1
+    by_test false true same e1 = subst (λ (d : ℕ). IsReadAs (d ∷ bytes) r) (sym (eqb-true b 64 same)) (place_takes bytes r e1)
+    by_test false false same e1 = word_takes b (b ∷ bytes) r e1
 
 -- ---- again
 
@@ -112,6 +122,10 @@ unfolding numbered_at count_at
 name_read t c rest small few =
     rw (number_again 18446744073709551615 t (46 ∷ (decimal c ++ 10 ∷ rest)) (omega (arith, small)) (lit< tt) refl, not_above t small, number_again 4294967295 c (10 ∷ rest) (omega (arith, few)) (lit< tt) refl) refl
 
+place_read : (place : ℕ) (rest : List ℕ) → place < 2 ^ 64 → spelled_place (decimal place ++ 10 ∷ rest) ≡ Some (At place, 10 ∷ rest)
+unfolding spelled_place
+place_read place rest small = rw (number_again 18446744073709551615 place (10 ∷ rest) (omega (arith, small)) (lit< tt) refl) refl
+
 pub reply_again : (r : Reply) (rest : List ℕ) → FitsReply r → spelled_reply (reply_word r ++ 10 ∷ rest) ≡ Some (r, 10 ∷ rest)
 unfolding spelled_reply spelled_word
 reply_again (Ref n) rest fits =
@@ -125,3 +139,4 @@ reply_again No rest fits = refl
 reply_again (Number n) rest fits = decimal_numbered n (10 ∷ rest) fits ∙ number_read n rest fits
 reply_again Bad rest fits = refl
 reply_again Full rest fits = refl
+reply_again (At place) rest fits = place_read place rest fits

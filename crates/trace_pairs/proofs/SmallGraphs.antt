@@ -1,14 +1,15 @@
 -- The names and numbers of a legal history are small enough to be written and read again.
-use Rattle.std.proofs.Common.{◌≡◌, ℕ, suc, ◌+◌, ◌^◌, ◌<◌, ◌≤◌, Bool, true, false, cond, eqb, List, [], ◌∷◌, length, Option, Some, None, inl, inr, refl, sym, ap, subst, arith}
+use Rattle.std.proofs.Common.{◌≡◌, ℕ, suc, ◌+◌, ◌*◌, ◌^◌, ◌<◌, ◌≤◌, Bool, true, false, cond, eqb, List, [], ◌∷◌, length, Option, Some, None, inl, inr, refl, sym, ap, subst, arith}
 use Rattle.std.specs.Prelude.{All, slice_get, unwrap_or}
 use Rattle.std.specs.List.{AllByRecursion}
 use Rattle.std.proofs.lemmas.List.Elements.{All-nil, All-replicate, All-set}
 use Rattle.std.proofs.lemmas.Option.{slice_get_within, get_or_from_slice_get, same_Some}
 use Rattle.shen_graph.specs.declared.name.Name.{Name}
+use Rattle.shen_graph.specs.declared.pin.Pinned.{Pinned}
 use Rattle.shen_graph.specs.declared.command.Command.{Command}
-use Rattle.shen_graph.specs.declared.command.Command.TheVariants.{New, Get, Set, Cas, Xchg, Rd, Wr, Copy, Drop, Same, Gc}
-use Rattle.shen_graph.specs.Graph.{Reference, Object, Graph, same_name, same_reference, hub, blank, named, field_at, number_at, with_root, with_object, with_named, with_field, with_number, with_fresh, fresh, opening}
-use Rattle.shen_graph.specs.Step.{Outcome, shown, yes_or_no, on, outcome, IsLegal}
+use Rattle.shen_graph.specs.declared.command.Command.TheVariants.{New, Get, Set, Cas, Xchg, Rd, Wr, Copy, Drop, Same, Gc, Pin, Unpin}
+use Rattle.shen_graph.specs.Graph.{Reference, Object, Graph, same_name, same_reference, hub, blank, named, field_at, number_at, with_root, with_pin, with_object, with_named, with_field, with_number, with_fresh, fresh, opening}
+use Rattle.shen_graph.specs.Step.{Outcome, shown, yes_or_no, on, outcome, pinned_by, name_in, slot_of, IsPinning, IsLegal}
 use Rattle.shen_graph.specs.History.{Entry, after, after_entry, EachIsLegal}
 use Rattle.trace_grammar.specs.Spelling.{FitsWhenWritten}
 use Rattle.trace_pairs.specs.Entries.{FitsReply}
@@ -27,6 +28,7 @@ pub record IsSmallObject (o : Object) : Type 0 where
 -- no thread has made more than so many objects
 pub record IsSmallGraph (most : ℕ) (g : Graph) : Type 0 where
   pub root : (t r : ℕ) → IsSmallReference (g.root t r)
+  pub pin : (t s : ℕ) → IsSmallReference (name_in (g.pin t s))
   pub object : (n : Name) (o : Object) → g.object n ≡ Some o → IsSmallObject o
   pub count : (t : ℕ) → g.count t ≤ most
 
@@ -35,6 +37,10 @@ pub record IsSmallGraph (most : ℕ) (g : Graph) : Type 0 where
 small_either : (b : Bool) (x y : Reference) → IsSmallReference x → IsSmallReference y → IsSmallReference (cond b x y)
 small_either true x y p q = p
 small_either false x y p q = q
+
+pin_either : (b : Bool) (x y : Option Pinned) → IsSmallReference (name_in x) → IsSmallReference (name_in y) → IsSmallReference (name_in (cond b x y))
+pin_either true x y p q = p
+pin_either false x y p q = q
 
 object_either : (b : Bool) (x : Object) (other : Option Object) (o : Object) → IsSmallObject x → (other ≡ Some o → IsSmallObject o) → cond b (Some x) other ≡ Some o → IsSmallObject o
 object_either true x other o p q e = subst IsSmallObject (same_Some x o e) p
@@ -53,6 +59,7 @@ nothing_small = record { refs = All-nil IsSmallReference; nums = All-nil (λ n. 
 pub opening_small : (threads : ℕ) → IsSmallGraph 0 (opening threads)
 opening_small threads = record {
   root = λ t r. small_either _ (Some hub) None (omega arith, omega arith) tt;
+  pin = λ t s. tt;
   object = λ n o e. object_either (same_name n hub) (blank 16 0) None o (blank_small 16 0) (λ none. absurd cc) e;
   count = λ t. omega arith;
 }
@@ -66,10 +73,13 @@ named_small most g (Some n) small = by_object (g.object n) refl
     by_object (Some o) is = small.object n o is
 
 root_small : (most : ℕ) (g : Graph) (t r : ℕ) (value : Reference) → IsSmallGraph most g → IsSmallReference value → IsSmallGraph most (with_root g t r value)
-root_small most g t r value small fits = record { root = λ u s. small_either _ value (g.root u s) fits (small.root u s); object = small.object; count = small.count }
+root_small most g t r value small fits = record { root = λ u s. small_either _ value (g.root u s) fits (small.root u s); pin = small.pin; object = small.object; count = small.count }
+
+pin_small : (most : ℕ) (g : Graph) (t slot : ℕ) (held : Option Pinned) → IsSmallGraph most g → IsSmallReference (name_in held) → IsSmallGraph most (with_pin g t slot held)
+pin_small most g t slot held small fits = record { root = small.root; pin = λ u s. pin_either _ held (g.pin u s) fits (small.pin u s); object = small.object; count = small.count }
 
 object_small : (most : ℕ) (g : Graph) (n : Name) (o : Object) → IsSmallGraph most g → IsSmallObject o → IsSmallGraph most (with_object g n o)
-object_small most g n o small fits = record { root = small.root; object = λ m p e. object_either (same_name m n) o (g.object m) p fits (λ other. small.object m p other) e; count = small.count }
+object_small most g n o small fits = record { root = small.root; pin = small.pin; object = λ m p e. object_either (same_name m n) o (g.object m) p fits (λ other. small.object m p other) e; count = small.count }
 
 named_object_small : (most : ℕ) (g : Graph) (r : Reference) (o : Object) → IsSmallGraph most g → IsSmallObject o → IsSmallGraph most (with_named g r o)
 named_object_small most g None o small fits = small
@@ -92,12 +102,13 @@ fresh_small most g t o small fits =
     let with_it = object_small most g (fresh g t) o small fits in
     record {
       root = small.root;
+      pin = small.pin;
       object = with_it.object;
       count = λ u. let few = small.count u in count_either (eqb u t) (g.count u + 1) (g.count u) (most + 1) (omega (arith, few)) (omega (arith, few));
     }
 
 pub later_small : (most : ℕ) (g : Graph) → IsSmallGraph most g → IsSmallGraph (most + 1) g
-later_small most g small = record { root = small.root; object = small.object; count = λ t. let few = small.count t in omega (arith, few) }
+later_small most g small = record { root = small.root; pin = small.pin; object = small.object; count = λ t. let few = small.count t in omega (arith, few) }
 
 -- ---- what a command answers
 
@@ -150,6 +161,15 @@ outcome_small most g t (Copy dst src) small thread few fits = record { reply = t
 outcome_small most g t (Drop dst) small thread few fits = record { reply = tt; graph = root_small (most + 1) g t dst None (later_small most g small) tt }
 outcome_small most g t (Same a b) small thread few fits = record { reply = yes_or_no_fits _; graph = later_small most g small }
 outcome_small most g t Gc small thread few fits = record { reply = tt; graph = later_small most g small }
+outcome_small most g t (Pin slot obj) small thread few fits = record { reply = tt; graph = later_small most g small }
+outcome_small most g t (Unpin slot) small thread few fits =
+    on_small (most + 1) (g.pin t slot) g _ (later_small most g small) (λ held there. record { reply = tt; graph = pin_small (most + 1) g t slot None (later_small most g small) tt })
+
+-- what a command pins is the object of a root
+pinned_small : (most : ℕ) (g : Graph) (t : ℕ) (c : Command) → IsSmallGraph most g → IsSmallReference (pinned_by g t c)
+pinned_small most g t (Pin slot obj) small = small_either _ None (g.root t obj) tt (small.root t obj)
+pinned_small most g t (New dst refs nums) small = tt
+pinned_small most g t _ small = tt
 
 -- ---- histories
 
@@ -163,20 +183,28 @@ pub record HasSmall (most : ℕ) (g : Graph) (es : List Entry) : Type 0 where
   pub replies : AllByRecursion (λ e. FitsReply e.reply) es
   pub graph : IsSmallGraph most (after g es)
 
-entry_small : (most : ℕ) (g : Graph) (e : Entry) (h : Graph) → IsSmallGraph most g → IsAsked e → most + 1 < 2 ^ 32 → IsLegal g e.thread e.command e.reply h → FitsReply e.reply × IsSmallGraph (most + 1) h
-entry_small most g e h small asked few (inl told) =
+entry_small : (regions region_words most : ℕ) (g : Graph) (e : Entry) (h : Graph) → (regions + 1) * region_words ≤ 2 ^ 64 → IsSmallGraph most g → IsAsked e → most + 1 < 2 ^ 32 → IsLegal regions region_words g e.thread e.command e.reply h
+    → FitsReply e.reply × IsSmallGraph (most + 1) h
+entry_small regions region_words most g e h room small asked few (inl told) =
     let made = outcome_small most g e.thread e.command small asked.thread few asked.fits in
-    (subst FitsReply (sym (ap (λ (o : Outcome). o.reply) told)) made.reply, subst (IsSmallGraph (most + 1)) (sym (ap (λ (o : Outcome). o.graph) told)) made.graph)
-entry_small most g e h small asked few (inr full) = (subst FitsReply (sym full.1) tt, subst (IsSmallGraph (most + 1)) (sym full.2) (later_small most g small))
+    (subst FitsReply (sym (ap (λ (o : Outcome). o.reply) told.1)) made.reply, subst (IsSmallGraph (most + 1)) (sym (ap (λ (o : Outcome). o.graph) told.1)) made.graph)
+entry_small regions region_words most g e h room small asked few (inr (inl full)) = (subst FitsReply (sym full.1) tt, subst (IsSmallGraph (most + 1)) (sym full.2) (later_small most g small))
+entry_small regions region_words most g e h room small asked few (inr (inr pinning)) =
+    let place : pinning.place < 2 ^ 64 = omega (arith, pinning.may.within.1, room) in
+    let name : IsSmallReference (Some pinning.name) = subst IsSmallReference pinning.pins (pinned_small most g e.thread e.command small) in (
+      subst FitsReply (sym pinning.reply) place,
+      subst (IsSmallGraph (most + 1)) (sym pinning.graph) (pin_small (most + 1) g e.thread (slot_of e.command) (Some (record { name = pinning.name; place = pinning.place })) (later_small most g small) name),
+    )
 
-pub history_small : (most : ℕ) (g : Graph) (es : List Entry) → IsSmallGraph most g → EachIsLegal g es → AllByRecursion IsAsked es → most + length es < 2 ^ 32 → HasSmall (most + length es) g es
-history_small most g [] small legal asked few = record { replies = tt; graph = subst (λ (n : ℕ). IsSmallGraph n g) (no_more most) small }
+pub history_small : (regions region_words most : ℕ) (g : Graph) (es : List Entry) → (regions + 1) * region_words ≤ 2 ^ 64 → IsSmallGraph most g → EachIsLegal regions region_words g es → AllByRecursion IsAsked es → most + length es < 2 ^ 32
+    → HasSmall (most + length es) g es
+history_small regions region_words most g [] room small legal asked few = record { replies = tt; graph = subst (λ (n : ℕ). IsSmallGraph n g) (no_more most) small }
   where
     no_more : (n : ℕ) → n ≡ n + 0
     no_more n = omega arith
-history_small most g (e ∷ es) small legal asked few =
-    let one = entry_small most g e (after_entry g e) small asked.0 (omega (arith, few)) legal.0 in
-    let others = history_small (most + 1) (after_entry g e) es one.1 legal.1 asked.1 (omega (arith, few)) in
+history_small regions region_words most g (e ∷ es) room small legal asked few =
+    let one = entry_small regions region_words most g e (after_entry g e) room small asked.0 (omega (arith, few)) legal.0 in
+    let others = history_small regions region_words (most + 1) (after_entry g e) es room one.1 legal.1 asked.1 (omega (arith, few)) in
     record { replies = (one.0, others.replies); graph = subst (λ (n : ℕ). IsSmallGraph n (after (after_entry g e) es)) (one_more most (length es)) others.graph }
   where
     one_more : (n k : ℕ) → n + 1 + k ≡ n + suc k

@@ -2,10 +2,10 @@
 use Rattle.std.specs.Prelude.{ℕ, ◌≡◌, ◌==◌, ◌^◌, ◌<◌, ◌≤◌, List, [], ◌∷◌, ◌++◌, codes, Option, Some, None, nat_lt, if◌then◌else◌}
 use Rattle.std.specs.Char.{is_ascii_digit}
 use Rattle.shen_graph.specs.declared.command.Reply.{Reply}
-use Rattle.shen_graph.specs.declared.command.Reply.TheVariants.{Ref, Null, Ok, Yes, No, Number, Bad, Full}
+use Rattle.shen_graph.specs.declared.command.Reply.TheVariants.{Ref, Null, Ok, Yes, No, Number, Bad, Full, At}
 use Rattle.shen_graph.specs.Valid.{IsValid}
 use Rattle.shen_graph.specs.History.{Entry}
-use Rattle.trace_grammar.specs.Spelling.{FitsWhenWritten}
+use Rattle.trace_grammar.specs.Spelling.{IsKnown, FitsWhenWritten}
 use Rattle.trace_grammar.specs.Scanning.{◌>>=◌, behind, spelled_number, positive_at, spelled_command}
 use Rattle.trace_writing.specs.History.{entry_line}
 
@@ -13,19 +13,21 @@ use Rattle.trace_writing.specs.History.{entry_line}
 abbrev pub FitsReply : Reply → Type 0
 FitsReply (Ref n) = (n.thread < 2 ^ 32) × (n.count < 2 ^ 32)
 FitsReply (Number n) = n < 2 ^ 64
+FitsReply (At place) = place < 2 ^ 64
 FitsReply _ = Unit {0}
 
--- What an entry may say where there are so many threads, counted from 1: a valid command and any reply.
-pub record IsClaim (threads : ℕ) (e : Entry) : Type 0 where
+-- What an entry may say where there are so many threads, counted from 1: a valid command of the version and any reply.
+pub record IsClaim (version threads : ℕ) (e : Entry) : Type 0 where
   pub from_one : 1 ≤ e.thread
   pub to_last : e.thread ≤ threads
+  pub known : IsKnown version e.command
   pub valid : IsValid e.command
   pub fits : FitsWhenWritten e.command
   pub reply : FitsReply e.reply
 
 -- no line of an entry stands at the front
-abbrev pub BeginsWithNoEntry : ℕ → List ℕ → Type 0
-BeginsWithNoEntry threads bytes = (e : Entry) (rest : List ℕ) → IsClaim threads e → bytes ≡ entry_line e ++ rest → ⊥
+abbrev pub BeginsWithNoEntry : (version threads : ℕ) → List ℕ → Type 0
+BeginsWithNoEntry version threads bytes = (e : Entry) (rest : List ℕ) → IsClaim version threads e → bytes ≡ entry_line e ++ rest → ⊥
 
 -- ---- reading
 
@@ -63,17 +65,23 @@ numbered_at bytes = do
   n ← spelled_number 18446744073709551615 bytes
   number_or_name n.0 n.1 (behind (codes ".") n.1)
 
+-- a place, behind its mark
+unfoldable pub spelled_place : List ℕ → Option (Reply × List ℕ)
+spelled_place bytes = do
+  place ← spelled_number 18446744073709551615 bytes
+  Some (At place.0, place.1)
+
 -- the reply at the front
 unfoldable pub spelled_reply : List ℕ → Option (Reply × List ℕ)
 spelled_reply [] = None
-spelled_reply (b ∷ bytes) = if is_ascii_digit b then numbered_at (b ∷ bytes) else spelled_word b (b ∷ bytes)
+spelled_reply (b ∷ bytes) = if is_ascii_digit b then numbered_at (b ∷ bytes) else (if b == 64 then spelled_place bytes else spelled_word b (b ∷ bytes))
 
 -- the line of an entry at the front
-unfoldable pub entry_at : ℕ → List ℕ → Option (Entry × List ℕ)
-entry_at threads bytes = do
+unfoldable pub entry_at : (version threads : ℕ) → List ℕ → Option (Entry × List ℕ)
+entry_at version threads bytes = do
   t ← positive_at threads bytes
   words ← behind (codes " ") t.1
-  c ← spelled_command words
+  c ← spelled_command version words
   reply ← behind (codes " : ") c.1
   r ← spelled_reply reply
   end ← behind (codes "\n") r.1

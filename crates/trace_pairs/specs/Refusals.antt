@@ -24,11 +24,12 @@ LacksTrace bytes n why =
 
 -- The bytes are a trace, and behind its last line the line `answer` is missing.
 pub record LacksAnswer (bytes : List ℕ) (n : ℕ) (why : Why) : Type 0 where
+  pub version : ℕ
   pub config : Config
   pub scripts : List (List Command)
   pub items : List Item
   pub none : HasNoLine (codes "answer") bytes
-  pub reads : Reads bytes config scripts items
+  pub reads : Reads bytes version config scripts items
   pub number : n ≡ last_line bytes
   pub cause : why ≡ AnswerWanted
 
@@ -49,16 +50,16 @@ wanted_at (text ∷ []) = EndOfLine
 wanted_at (text ∷ next ∷ more) = EntryWanted
 
 -- Behind the line `history`, and lines of entries, the first other line is cut, or is none of an entry.
-pub record LacksEntry (threads : ℕ) (bytes behind : List ℕ) (n : ℕ) (why : Why) : Type 0 where
+pub record LacksEntry (version threads : ℕ) (bytes behind : List ℕ) (n : ℕ) (why : Why) : Type 0 where
   pub body : List ℕ
   pub claimed : List ℕ
   pub cut : IsCutAt (codes "history") behind body claimed
   pub entries : List Entry
-  pub in_range : AllByRecursion (IsClaim threads) entries
+  pub in_range : AllByRecursion (IsClaim version threads) entries
   pub from_it : List ℕ
   pub spelled : claimed ≡ flat_map entry_line entries ++ from_it
   pub some : 1 ≤ length from_it
-  pub none : BeginsWithNoEntry threads from_it
+  pub none : BeginsWithNoEntry version threads from_it
   pub before : List ℕ
   pub whole : bytes ≡ before ++ from_it
   pub number : n ≡ last_line before
@@ -66,12 +67,13 @@ pub record LacksEntry (threads : ℕ) (bytes behind : List ℕ) (n : ℕ) (why :
 
 -- A trace stands before the line `answer`, and what is claimed behind it is refused.
 pub record HasBadClaims (bytes : List ℕ) (n : ℕ) (why : Why) : Type 0 where
+  pub version : ℕ
   pub config : Config
   pub scripts : List (List Command)
   pub items : List Item
   pub behind : List ℕ
-  pub trace : HasTrace bytes config scripts items behind
-  pub fault : LacksHistory bytes behind n why ⊎ LacksEntry config.mutators bytes behind n why
+  pub trace : HasTrace bytes version config scripts items behind
+  pub fault : LacksHistory bytes behind n why ⊎ LacksEntry version config.mutators bytes behind n why
 
 -- the bytes are not too many, and line n, counted from 1, is the first that is at fault, and why is the first cause that holds
 abbrev pub IsPairRefused : List ℕ → ℕ → Why → Type 0

@@ -12,10 +12,10 @@ use std::alloc::Global;
 use trace_grammar::{positive_at, text_at};
 use trace_reading::command_at;
 
-/// The line of an entry at the front, where there are so many threads, and the bytes behind it.
+/// The line of an entry at the front, of a version and where there are so many threads, and the bytes behind it.
 #[tactic(auto, unfolding(crate::specs::Entries::entry_at))]
-fn entry_at(threads: u32, bytes: &[u8]) -> Option<(Entry, &[u8])>
-    ensures { option_map (λ x. (seen x.0, x.1.now)) result ≡ entry_at threads bytes.now }
+fn entry_at(version: u32, threads: u32, bytes: &[u8]) -> Option<(Entry, &[u8])>
+    ensures { option_map (λ x. (seen x.0, x.1.now)) result ≡ entry_at version threads bytes.now }
 {
     let Some((thread, rest)) = positive_at(u64::from(threads), bytes) else {
         return None;
@@ -23,7 +23,7 @@ fn entry_at(threads: u32, bytes: &[u8]) -> Option<(Entry, &[u8])>
     let Some(rest) = text_at(b" ", rest) else {
         return None;
     };
-    let Some((command, rest)) = command_at(rest) else {
+    let Some((command, rest)) = command_at(version, rest) else {
         return None;
     };
     let Some(rest) = text_at(b" : ", rest) else {
@@ -46,15 +46,16 @@ fn entry_at(threads: u32, bytes: &[u8]) -> Option<(Entry, &[u8])>
 /// The entries of the lines at the front, up to the first line that is none, and the bytes from that one on.
 pub(crate) fn entries_in(
     alloc: Global,
+    version: u32,
     threads: u32,
     bytes: &[u8],
 ) -> Result<(History, &[u8]), NoMemory>
-    ensures taken { IfOk result (λ x. AllByRecursion (IsClaim threads) x.0.list × (bytes.now ≡ flat_map entry_line x.0.list ++ x.1.now)) }
-    ensures none { IfOk result (λ x. BeginsWithNoEntry threads x.1.now) }
+    ensures taken { IfOk result (λ x. AllByRecursion (IsClaim version threads) x.0.list × (bytes.now ≡ flat_map entry_line x.0.list ++ x.1.now)) }
+    ensures none { IfOk result (λ x. BeginsWithNoEntry version threads x.1.now) }
 {
     let mut history = History::open(alloc)?;
     let mut rest = bytes;
-    'entries: while let Some((entry, behind)) = entry_at(threads, rest) {
+    'entries: while let Some((entry, behind)) = entry_at(version, threads, rest) {
         history.push(alloc, entry.thread, entry.command, entry.reply)?;
         rest = behind;
     }

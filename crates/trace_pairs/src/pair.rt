@@ -52,7 +52,7 @@ fn no_answer(alloc: Global, bytes: &[u8]) -> TraceFault
 /// The trace before the line `answer`, and the bytes behind that line.
 fn trace_before(alloc: Global, bytes: &[u8]) -> Result<(Trace, &[u8]), TraceFault>
     requires few { length bytes.now ≤ most_bytes }
-    ensures ok { IfOk result (λ x. HasTrace bytes.now x.0.config x.0.scripts x.0.schedule x.1.now) }
+    ensures ok { IfOk result (λ x. HasTrace bytes.now x.0.version x.0.config x.0.scripts x.0.schedule x.1.now) }
     ensures fault { IfErr result IsTextFault }
     ensures bad_line { (n : ℕ) (why : Cause) → result ≡ Err (TraceFault.BadLine n why) → LacksTrace bytes.now n why ⊎ LacksAnswer bytes.now n why }
 {
@@ -98,18 +98,19 @@ fn no_entry(bytes: &[u8], from_it: &[u8]) -> TraceFault
     }
 }
 
-/// What is claimed behind the line `answer`, of all bytes: the body, and the history of so many threads.
+/// What is claimed behind the line `answer`, of all bytes: the body, and the history of a version and of so many threads.
 fn claims_in(
     alloc: Global,
+    version: u32,
     threads: u32,
     bytes: &[u8],
     behind: &[u8],
 ) -> Result<(Body, History), TraceFault>
     requires few { length bytes.now ≤ most_bytes }
     requires part { (before : List ℕ) × (bytes.now ≡ before ++ behind.now) }
-    ensures ok { IfOk result (λ x. HasClaims threads behind.now x.0 x.1.list) }
+    ensures ok { IfOk result (λ x. HasClaims version threads behind.now x.0 x.1.list) }
     ensures fault { IfErr result IsTextFault }
-    ensures bad_line { (n : ℕ) (why : Cause) → result ≡ Err (TraceFault.BadLine n why) → LacksHistory bytes.now behind.now n why ⊎ LacksEntry threads bytes.now behind.now n why }
+    ensures bad_line { (n : ℕ) (why : Cause) → result ≡ Err (TraceFault.BadLine n why) → LacksHistory bytes.now behind.now n why ⊎ LacksEntry version threads bytes.now behind.now n why }
 {
     let Some((body, claimed)) = cut_at(b"history", behind) else {
         return Err(TraceFault::BadLine {
@@ -117,7 +118,7 @@ fn claims_in(
             why: wanted_behind(behind),
         });
     };
-    let Ok((history, rest)) = entries_in(alloc, threads, claimed) else {
+    let Ok((history, rest)) = entries_in(alloc, version, threads, claimed) else {
         return Err(TraceFault::NoMemory);
     };
     if !rest.is_empty() {
@@ -132,7 +133,7 @@ fn claims_in(
 /// The pair that these bytes spell.
 fn pair_of(alloc: Global, bytes: &[u8]) -> Result<Pair, TraceFault>
     requires { length bytes.now ≤ most_bytes }
-    ensures ok { IfOk result (λ pair. IsPair bytes.now pair.trace.config pair.trace.scripts pair.trace.schedule pair.body pair.history.list) }
+    ensures ok { IfOk result (λ pair. IsPair bytes.now pair.trace.version pair.trace.config pair.trace.scripts pair.trace.schedule pair.body pair.history.list) }
     ensures fault { IfErr result IsTextFault }
     ensures bad_line { (n : ℕ) (why : Cause) → result ≡ Err (TraceFault.BadLine n why) → IsPairRefused bytes.now n why }
 {
@@ -140,7 +141,8 @@ fn pair_of(alloc: Global, bytes: &[u8]) -> Result<Pair, TraceFault>
         Ok(taken) => taken,
         Err(fault) => return Err(fault),
     };
-    match claims_in(alloc, trace.config.mutators() as u32, bytes, behind) {
+    let threads = trace.config.mutators() as u32;
+    match claims_in(alloc, trace.version, threads, bytes, behind) {
         Ok((body, history)) => Ok(Pair {
             trace,
             body,
@@ -155,7 +157,7 @@ fn pair_of(alloc: Global, bytes: &[u8]) -> Result<Pair, TraceFault>
 /// body, the line `history`, and those of the entries. What is refused is the first line that is at fault.
 pub fn read_pair<S: Source>(alloc: Global, source: &mut S) -> Result<Pair, TraceFault>
     ensures ok { IfOk result (λ pair. (bytes : List ℕ) × Came (S.left source.old) (S.left source.new) bytes
-        × IsPair bytes pair.trace.config pair.trace.scripts pair.trace.schedule pair.body pair.history.list) }
+        × IsPair bytes pair.trace.version pair.trace.config pair.trace.scripts pair.trace.schedule pair.body pair.history.list) }
 
     // The bytes came whole, and are refused at that line and for that cause.
     ensures bad_line { (n : ℕ) (why : Cause) → result ≡ Err (TraceFault.BadLine n why) → (bytes : List ℕ) × Came (S.left source.old) (S.left source.new) bytes × IsPairRefused bytes n why }

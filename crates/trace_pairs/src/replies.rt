@@ -1,7 +1,7 @@
 //! The reply of an entry.
 ghost use Rattle.std.specs.Prelude.{◌≡◌};
 ghost use Rattle.std.specs.Option.{option_map};
-ghost use Rattle.trace_pairs.specs.Entries.{word_begun_by, spelled_word, count_at, numbered_at, spelled_reply};
+ghost use Rattle.trace_pairs.specs.Entries.{word_begun_by, spelled_word, count_at, numbered_at, spelled_place, spelled_reply};
 
 use shen_graph::{Name, Reply};
 use trace_grammar::{number_at, text_at};
@@ -63,6 +63,15 @@ fn numbered_at(bytes: &[u8]) -> Option<(Reply, &[u8])>
     }
 }
 
+/// The place at the front, behind its mark.
+#[tactic(auto, unfolding(crate::specs::Entries::spelled_place))]
+fn place_at(bytes: &[u8]) -> Option<(Reply, &[u8])>
+    ensures { option_map (λ x. (x.0, x.1.now)) result ≡ spelled_place bytes.now }
+{
+    let (place, rest) = number_at(u64::MAX, bytes)?;
+    Some((Reply::At(place), rest))
+}
+
 /// The reply at the front, and the bytes behind it.
 #[tactic(auto, unfolding(crate::specs::Entries::spelled_reply))]
 pub(crate) fn reply_at(bytes: &[u8]) -> Option<(Reply, &[u8])>
@@ -70,6 +79,7 @@ pub(crate) fn reply_at(bytes: &[u8]) -> Option<(Reply, &[u8])>
 {
     match bytes {
         [first, ..] if first.is_ascii_digit() => numbered_at(bytes),
+        [b'@', place @ ..] => place_at(place),
         [first, ..] => word_at(*first, bytes),
         [] => None,
     }

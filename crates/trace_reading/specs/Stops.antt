@@ -11,27 +11,27 @@ use Rattle.trace_refusals.specs.Causes.{parts}
 use Rattle.trace_refusals.specs.Refused.{body_stage, cause_of}
 
 -- behind lines of commands, of which the first has this number, these bytes are refused at line n
-pub record StopsCommands (c : Config) (first : ℕ) (bytes : List ℕ) (n : ℕ) (why : Why) : Type 0 where
+pub record StopsCommands (version : ℕ) (c : Config) (first : ℕ) (bytes : List ℕ) (n : ℕ) (why : Why) : Type 0 where
   pub lines : List TraceLine
-  pub in_range : AllByRecursion (IsLine c.mutators) lines
+  pub in_range : AllByRecursion (IsLine version c.mutators) lines
   pub rest : List ℕ
   pub spelled : bytes ≡ flat_map line lines ++ rest
   pub number : n ≡ first + length lines
-  pub cause : cause_of (body_stage c false) (parts newline rest) ≡ Some why
+  pub cause : cause_of (body_stage version c false) (parts newline rest) ≡ Some why
 
 -- behind lines of the schedule, of which the first has this number, these bytes are refused at line n
-pub record StopsTurns (c : Config) (first : ℕ) (bytes : List ℕ) (n : ℕ) (why : Why) : Type 0 where
+pub record StopsTurns (version : ℕ) (c : Config) (first : ℕ) (bytes : List ℕ) (n : ℕ) (why : Why) : Type 0 where
   pub turns : List (List Item)
   pub in_range : AllByRecursion (IsScheduleLine c) turns
   pub rest : List ℕ
   pub spelled : bytes ≡ flat_map schedule_line turns ++ rest
   pub number : n ≡ first + length turns
-  pub cause : cause_of (body_stage c (nat_lt 0 (length turns))) (parts newline rest) ≡ Some why
+  pub cause : cause_of (body_stage version c (nat_lt 0 (length turns))) (parts newline rest) ≡ Some why
 
--- the bytes are lines of commands and lines of a schedule, of these scripts and items
-pub record HasReadBody (c : Config) (bytes : List ℕ) (scripts : List (List Command)) (items : List Item) : Type 0 where
+-- the bytes are lines of commands of a version and lines of a schedule, of these scripts and items
+pub record HasReadBody (version : ℕ) (c : Config) (bytes : List ℕ) (scripts : List (List Command)) (items : List Item) : Type 0 where
   pub lines : List TraceLine
-  pub in_range : AllByRecursion (IsLine c.mutators) lines
+  pub in_range : AllByRecursion (IsLine version c.mutators) lines
   pub turns : List (List Item)
   pub turns_in_range : AllByRecursion (IsScheduleLine c) turns
   pub spelled : bytes ≡ flat_map line lines ++ flat_map schedule_line turns
@@ -39,12 +39,12 @@ pub record HasReadBody (c : Config) (bytes : List ℕ) (scripts : List (List Com
   pub in_order : items ≡ items_of turns
 
 -- behind lines of commands and of a schedule, of which the first has this number, these bytes are refused at line n
-pub record StopsBody (c : Config) (first : ℕ) (bytes : List ℕ) (n : ℕ) (why : Why) : Type 0 where
+pub record StopsBody (version : ℕ) (c : Config) (first : ℕ) (bytes : List ℕ) (n : ℕ) (why : Why) : Type 0 where
   pub lines : List TraceLine
-  pub in_range : AllByRecursion (IsLine c.mutators) lines
+  pub in_range : AllByRecursion (IsLine version c.mutators) lines
   pub turns : List (List Item)
   pub turns_in_range : AllByRecursion (IsScheduleLine c) turns
   pub rest : List ℕ
   pub spelled : bytes ≡ flat_map line lines ++ (flat_map schedule_line turns ++ rest)
   pub number : n ≡ first + length lines + length turns
-  pub cause : cause_of (body_stage c (nat_lt 0 (length turns))) (parts newline rest) ≡ Some why
+  pub cause : cause_of (body_stage version c (nat_lt 0 (length turns))) (parts newline rest) ≡ Some why

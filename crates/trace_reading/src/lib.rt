@@ -10,5 +10,5 @@ mod source_bytes;
 
 pub use fault::TraceFault;
 pub use line::command_at;
-pub use read::{read_trace, trace_behind, trace_of};
+pub use read::{head_at, read_trace, trace_behind, trace_of};
 pub use source_bytes::all_bytes;

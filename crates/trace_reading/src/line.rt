@@ -6,20 +6,20 @@ ghost use Rattle.trace_grammar.specs.Scanning.{spelled_command, line_at};
 use shen_graph::Command;
 use trace_grammar::{kind_at, numbers_at, positive_at, text_at};
 
-/// The command at the front, and what is behind its numbers.
+/// The command of a version at the front, and what is behind its numbers.
 #[tactic(auto, unfolding(trace_grammar::specs::Scanning::spelled_command))]
-pub fn command_at(bytes: &[u8]) -> Option<(Command, &[u8])>
-    ensures { option_map (λ x. (x.0, x.1.now)) result ≡ spelled_command bytes.now }
+pub fn command_at(version: u32, bytes: &[u8]) -> Option<(Command, &[u8])>
+    ensures { option_map (λ x. (x.0, x.1.now)) result ≡ spelled_command version bytes.now }
 {
-    let (kind, rest) = kind_at(bytes)?;
+    let (kind, rest) = kind_at(version, bytes)?;
     let (numbers, rest) = numbers_at(kind.limits(), rest)?;
     Some((kind.command(numbers), rest))
 }
 
-/// The line of a command at the front: the thread, the command, and the bytes behind the line.
+/// The line of a command of a version at the front: the thread, the command, and the bytes behind the line.
 #[tactic(auto, unfolding(trace_grammar::specs::Scanning::line_at))]
-pub(crate) fn line_at(threads: u32, bytes: &[u8]) -> Option<(u64, Command, &[u8])>
-    ensures { option_map (λ x. (record { thread = x.0; command = x.1 }, x.2.now)) result ≡ line_at threads bytes.now }
+pub(crate) fn line_at(version: u32, threads: u32, bytes: &[u8]) -> Option<(u64, Command, &[u8])>
+    ensures { option_map (λ x. (record { thread = x.0; command = x.1 }, x.2.now)) result ≡ line_at version threads bytes.now }
 {
     let Some((thread, rest)) = positive_at(u64::from(threads), bytes) else {
         return None;
@@ -27,7 +27,7 @@ pub(crate) fn line_at(threads: u32, bytes: &[u8]) -> Option<(u64, Command, &[u8]
     let Some(rest) = text_at(b" ", rest) else {
         return None;
     };
-    let Some((command, rest)) = command_at(rest) else {
+    let Some((command, rest)) = command_at(version, rest) else {
         return None;
     };
     let Some(rest) = text_at(b"\n", rest) else {

@@ -3,12 +3,11 @@ ghost use Rattle.std.specs.Prelude.{false, ◌≡◌, ◌≢◌, ◌↔◌, ℕ,
 ghost use Rattle.std.specs.Option.{option_map};
 ghost use Rattle.std.specs.Io.KnownBytes.{Consumes};
 ghost use Rattle.shen_base.specs.Count.{Rose};
-ghost use Rattle.heap_words.specs.declared.config.Config.{Config as Sizes};
 ghost use Rattle.heap_words.specs.Narrow.{IsNarrow};
-ghost use Rattle.trace_grammar.specs.Spelling.{TraceLine, IsLine, line, header};
+ghost use Rattle.trace_grammar.specs.Spelling.{TraceLine, IsVersion, IsLine, line, header};
 ghost use Rattle.trace_grammar.specs.Scanning.{sizes_at};
 ghost use Rattle.trace_grammar.specs.Front.{IsBehindCommands};
-ghost use Rattle.trace_grammar.specs.Grammar.{most_bytes, with_line, scripts_of, HasReadLines, Reads, Came};
+ghost use Rattle.trace_grammar.specs.Grammar.{most_bytes, with_line, scripts_of, HasReadLines, Reads, HasNoHead, Came};
 ghost use Rattle.trace_grammar.specs.declared.why.Why.{Why as Cause};
 ghost use Rattle.trace_refusals.specs.Causes.{parts};
 ghost use Rattle.trace_refusals.specs.Refused.{body_stage, cause_of, StopsAt, Refused};
@@ -24,31 +23,47 @@ use heap_words::{Config, Schedule};
 use shen_base::Source;
 use shen_graph::Script;
 use std::alloc::Global;
-use trace_grammar::{Scripts, Trace, numbers_at, text_at};
+use trace_grammar::{Scripts, Trace, numbers_at, positive_at, text_at};
 use trace_refusals::{body_refusal, head_refusal};
+
+/// The numbers at the head of a trace: its version, those of its heap, and those of its threads.
+#[derive(Clone, Copy, Debug)]
+struct HeadNumbers {
+    version: u64,
+    heap: [u64; 4],
+    threads: [u64; 4],
+}
 
 /// The numbers at the head of a trace, and the bytes behind its three lines.
 #[tactic(auto, unfolding(trace_grammar::specs::Scanning::sizes_at))]
-fn sizes_at(bytes: &[u8]) -> Option<([u64; 4], [u64; 4], &[u8])>
-    ensures { option_map (λ x. ((take 3 x.0, take 2 x.1), x.2.now)) result ≡ sizes_at bytes.now }
+fn sizes_at(bytes: &[u8]) -> Option<(HeadNumbers, &[u8])>
+    ensures { option_map (λ x. (record { version = x.0.version; heap = take 3 x.0.heap; threads = take 2 x.0.threads }, x.1.now)) result ≡ sizes_at bytes.now }
 {
-    let rest = text_at(b"shen 1\nheap", bytes)?;
+    let rest = text_at(b"shen ", bytes)?;
+    let (version, rest) = positive_at(2, rest)?;
+    let rest = text_at(b"\nheap", rest)?;
     let (heap, rest) = numbers_at(&[64, 1024, 63], rest)?;
     let rest = text_at(b"\nthreads", rest)?;
     let (threads, rest) = numbers_at(&[8, 3], rest)?;
     let rest = text_at(b"\n", rest)?;
-    Some((heap, threads, rest))
+    let numbers = HeadNumbers {
+        version,
+        heap,
+        threads,
+    };
+    Some((numbers, rest))
 }
 
-/// The configuration at the head of a trace, and the bytes behind its three lines.
-fn config_at(bytes: &[u8]) -> Option<(Config, &[u8])>
-    ensures found { IfSome result (λ x. bytes.now ≡ header x.0 ++ x.1.now) }
-    ensures narrow { IfSome result (λ x. IsNarrow x.0) }
-    ensures none { IfNone result ((config : Sizes) (rest : List ℕ) → IsNarrow config → bytes.now ≢ header config ++ rest) }
+/// The version and the configuration at the head of a trace, and the bytes behind its three lines.
+pub fn head_at(bytes: &[u8]) -> Option<(u32, Config, &[u8])>
+    ensures found { IfSome result (λ x. bytes.now ≡ header x.0 x.1 ++ x.2.now) }
+    ensures known { IfSome result (λ x. IsVersion x.0) }
+    ensures narrow { IfSome result (λ x. IsNarrow x.1) }
+    ensures none { IfNone result (HasNoHead bytes.now) }
 {
-    let (heap, threads, rest) = sizes_at(bytes)?;
-    let [regions, region_words, reserve, _] = heap;
-    let [mutators, helpers, _, _] = threads;
+    let (numbers, rest) = sizes_at(bytes)?;
+    let [regions, region_words, reserve, _] = numbers.heap;
+    let [mutators, helpers, _, _] = numbers.threads;
     match Config::new(
         regions as usize,
         region_words as usize,
@@ -56,7 +71,7 @@ fn config_at(bytes: &[u8]) -> Option<(Config, &[u8])>
         helpers as usize,
         reserve as usize,
     ) {
-        Ok(config) => Some((config, rest)),
+        Ok(config) => Some((numbers.version as u32, config, rest)),
         Err(_) => None,
     }
 }
@@ -64,15 +79,16 @@ fn config_at(bytes: &[u8]) -> Option<(Config, &[u8])>
 /// Takes one line, and adds its command to the script of its thread.
 fn take_line<'a>(
     alloc: Global,
+    version: u32,
     threads: u32,
     bytes: &'a [u8],
     scripts: &mut Vec<Script>,
 ) -> Result<&'a [u8], NotTaken>
     requires { length scripts.old.items ≡ threads }
-    ensures ok { IfOk result (λ rest. (l : TraceLine) × IsLine threads l × (bytes.now ≡ line l ++ rest.now) × (scripts.new.items ≡ with_line scripts.old.items l)) }
-    ensures refused { result ≡ Err NotTaken.Refused → (l : TraceLine) (rest : List ℕ) → IsLine threads l → bytes.now ≢ line l ++ rest }
+    ensures ok { IfOk result (λ rest. (l : TraceLine) × IsLine version threads l × (bytes.now ≡ line l ++ rest.now) × (scripts.new.items ≡ with_line scripts.old.items l)) }
+    ensures refused { result ≡ Err NotTaken.Refused → (l : TraceLine) (rest : List ℕ) → IsLine version threads l → bytes.now ≢ line l ++ rest }
 {
-    let Some((thread, command, rest)) = line_at(threads, bytes) else {
+    let Some((thread, command, rest)) = line_at(version, threads, bytes) else {
         return Err(NotTaken::Refused);
     };
     match scripts[thread as usize - 1].push(alloc, command) {
@@ -95,6 +111,7 @@ fn is_behind_commands(bytes: &[u8]) -> bool
 /// bytes from it on.
 fn take_lines<'a>(
     alloc: Global,
+    version: u32,
     config: &Config,
     first: u64,
     bytes: &'a [u8],
@@ -102,38 +119,38 @@ fn take_lines<'a>(
 ) -> Result<(u64, &'a [u8]), TraceFault>
     requires scripts { scripts.old.items ≡ scripts_of config.now.mutators [] }
     requires few { first + length bytes.now < 2 ^ 64 }
-    ensures ok { IfOk result (λ x. (taken : HasReadLines config.now.mutators bytes.now x.1.now scripts.new.items) × (x.0 ≡ first + length taken.lines)) }
+    ensures ok { IfOk result (λ x. (taken : HasReadLines version config.now.mutators bytes.now x.1.now scripts.new.items) × (x.0 ≡ first + length taken.lines)) }
     ensures behind { IfOk result (λ x. IsBehindCommands x.1.now) }
     ensures fault { IfErr result IsTextFault }
-    ensures bad_line { (n : ℕ) (why : Cause) → result ≡ Err (TraceFault.BadLine n why) → StopsCommands config.now first bytes.now n why }
+    ensures bad_line { (n : ℕ) (why : Cause) → result ≡ Err (TraceFault.BadLine n why) → StopsCommands version config.now first bytes.now n why }
 {
     let threads = config.mutators() as u32;
     let mut rest = bytes;
     let mut line = first;
     'lines: while !is_behind_commands(rest) {
-        rest = match take_line(alloc, threads, rest, scripts) {
+        rest = match take_line(alloc, version, threads, rest, scripts) {
             Ok(behind) => behind,
             Err(NotTaken::NoMemory) => return Err(TraceFault::NoMemory),
-            Err(NotTaken::Refused) => return Err(bad_command(config, line, rest)),
+            Err(NotTaken::Refused) => return Err(bad_command(version, config, line, rest)),
         };
         line += 1;
     }
     Ok((line, rest))
 }
 
-/// The fault of bytes that do not begin with a line of a command, where this is line `number`.
-fn bad_command(config: &Config, number: u64, bytes: &[u8]) -> TraceFault
+/// The fault of bytes that do not begin with a line of a command of the version, where this is line `number`.
+fn bad_command(version: u32, config: &Config, number: u64, bytes: &[u8]) -> TraceFault
     requires some { IsBehindCommands bytes.now → ⊥ }
-    requires refused { (l : TraceLine) (rest : List ℕ) → IsLine config.now.mutators l → bytes.now ≢ line l ++ rest }
-    ensures { (why : Cause) × (result ≡ TraceFault.BadLine number why) × (cause_of (body_stage config.now false) (parts 10 bytes.now) ≡ Some why) }
+    requires refused { (l : TraceLine) (rest : List ℕ) → IsLine version config.now.mutators l → bytes.now ≢ line l ++ rest }
+    ensures { (why : Cause) × (result ≡ TraceFault.BadLine number why) × (cause_of (body_stage version config.now false) (parts 10 bytes.now) ≡ Some why) }
 {
-    let why = body_refusal(config, false, bytes).unwrap();
+    let why = body_refusal(version, config, false, bytes).unwrap();
     TraceFault::BadLine { line: number, why }
 }
 
 /// The fault of bytes that do not begin with the head of a trace.
 fn bad_head(bytes: &[u8]) -> TraceFault
-    requires { (config : Sizes) (rest : List ℕ) → IsNarrow config → bytes.now ≢ header config ++ rest }
+    requires { HasNoHead bytes.now }
     ensures { (n : ℕ) × (why : Cause) × (result ≡ TraceFault.BadLine n why) × StopsAt bytes.now n why }
 {
     let refusal = head_refusal(bytes).unwrap();
@@ -163,37 +180,40 @@ fn empty_scripts(alloc: Global, threads: u32) -> Result<Vec<Script>, TraceFault>
 /// The trace that these bytes spell; or the first line that is refused, or `NoMemory`.
 pub fn trace_of(alloc: Global, bytes: &[u8]) -> Result<Trace, TraceFault>
     requires { length bytes.now ≤ most_bytes }
-    ensures ok { IfOk result (λ trace. Reads bytes.now trace.config trace.scripts trace.schedule) }
+    ensures ok { IfOk result (λ trace. Reads bytes.now trace.version trace.config trace.scripts trace.schedule) }
     ensures fault { IfErr result IsTextFault }
     ensures bad_line { (n : ℕ) (why : Cause) → result ≡ Err (TraceFault.BadLine n why) → Refused bytes.now n why }
 {
-    let Some((config, rest)) = config_at(bytes) else {
+    let Some((version, config, rest)) = head_at(bytes) else {
         return Err(bad_head(bytes));
     };
-    trace_behind(alloc, config, 4, rest)
+    trace_behind(alloc, version, config, 4, rest)
 }
 
-/// The trace of this configuration whose lines of commands and of a schedule these bytes are. The first of the lines has this
-/// number.
+/// The trace of this version and configuration whose lines of commands and of a schedule these bytes are. The first of the lines
+/// has this number.
 pub fn trace_behind(
     alloc: Global,
+    version: u32,
     config: Config,
     first: u64,
     bytes: &[u8],
 ) -> Result<Trace, TraceFault>
     requires { first + length bytes.now < 2 ^ 64 }
+    ensures version { IfOk result (λ trace. trace.version ≡ version) }
     ensures config { IfOk result (λ trace. trace.config ≡ config) }
-    ensures ok { IfOk result (λ trace. HasReadBody config bytes.now trace.scripts trace.schedule) }
+    ensures ok { IfOk result (λ trace. HasReadBody version config bytes.now trace.scripts trace.schedule) }
     ensures fault { IfErr result IsTextFault }
-    ensures bad_line { (n : ℕ) (why : Cause) → result ≡ Err (TraceFault.BadLine n why) → StopsBody config first bytes.now n why }
+    ensures bad_line { (n : ℕ) (why : Cause) → result ≡ Err (TraceFault.BadLine n why) → StopsBody version config first bytes.now n why }
 {
     let mut scripts = empty_scripts(alloc, config.mutators() as u32)?;
     let Ok(mut schedule) = Schedule::open(alloc) else {
         return Err(TraceFault::NoMemory);
     };
-    let (line, turns) = take_lines(alloc, &config, first, bytes, &mut scripts)?;
-    take_schedule(alloc, &config, line, turns, &mut schedule)?;
+    let (line, turns) = take_lines(alloc, version, &config, first, bytes, &mut scripts)?;
+    take_schedule(alloc, version, &config, line, turns, &mut schedule)?;
     Ok(Trace {
+        version,
         config,
         scripts: Scripts::from_vec(scripts),
         schedule,
@@ -203,7 +223,7 @@ pub fn trace_behind(
 /// Reads a trace. It reads to the end of the source, or until one byte more came than a trace may have, and then looks at
 /// the lines.
 pub fn read_trace<S: Source>(alloc: Global, source: &mut S) -> Result<Trace, TraceFault>
-    ensures ok { IfOk result (λ trace. (bytes : List ℕ) × Came (S.left source.old) (S.left source.new) bytes × Reads bytes trace.config trace.scripts trace.schedule) }
+    ensures ok { IfOk result (λ trace. (bytes : List ℕ) × Came (S.left source.old) (S.left source.new) bytes × Reads bytes trace.version trace.config trace.scripts trace.schedule) }
 
     // The bytes came whole, and are refused at that line and for that cause.
     ensures bad_line { (n : ℕ) (why : Cause) → result ≡ Err (TraceFault.BadLine n why) → (bytes : List ℕ) × Came (S.left source.old) (S.left source.new) bytes × Refused bytes n why }

@@ -86,9 +86,10 @@ fn take_schedule_line<'a>(
     take_items(alloc, config, items, schedule)
 }
 
-/// Takes all lines of the schedule, to the end of the bytes, of which the first is this line of the trace.
+/// Takes all lines of the schedule, to the end of the bytes, of which the first is this line of a trace of the version.
 pub(crate) fn take_schedule(
     alloc: Global,
+    version: u32,
     config: &Config,
     first: u64,
     bytes: &[u8],
@@ -98,7 +99,7 @@ pub(crate) fn take_schedule(
     requires behind { IsBehindCommands bytes.now }
     ensures ok { OnOk result (HasScheduled config.now bytes.now schedule.old schedule.new) }
     ensures fault { IfErr result IsTextFault }
-    ensures bad_line { (n : ℕ) (why : Cause) → result ≡ Err (TraceFault.BadLine n why) → StopsTurns config.now first bytes.now n why }
+    ensures bad_line { (n : ℕ) (why : Cause) → result ≡ Err (TraceFault.BadLine n why) → StopsTurns version config.now first bytes.now n why }
 {
     let mut rest = bytes;
     let mut line = first;
@@ -106,7 +107,7 @@ pub(crate) fn take_schedule(
         rest = match take_schedule_line(alloc, config, rest, schedule) {
             Ok(behind) => behind,
             Err(NotTaken::NoMemory) => return Err(TraceFault::NoMemory),
-            Err(NotTaken::Refused) => return Err(bad_turn(config, first, line, rest)),
+            Err(NotTaken::Refused) => return Err(bad_turn(version, config, first, line, rest)),
         };
         line += 1;
     }
@@ -115,12 +116,12 @@ pub(crate) fn take_schedule(
 
 /// The fault of bytes that do not begin with a line of the schedule, where the schedule begins at the line `first` and
 /// this is the line `line`.
-fn bad_turn(config: &Config, first: u64, line: u64, bytes: &[u8]) -> TraceFault
+fn bad_turn(version: u32, config: &Config, first: u64, line: u64, bytes: &[u8]) -> TraceFault
     requires some { 1 ≤ length bytes.now }
     requires mark { line ≤ first → IsBehindCommands bytes.now }
     requires refused { (items : List Piece) (rest : List ℕ) → IsScheduleLine config.now items → bytes.now ≢ schedule_line items ++ rest }
-    ensures { (why : Cause) × (result ≡ TraceFault.BadLine line why) × (cause_of (body_stage config.now (nat_lt first line)) (parts 10 bytes.now) ≡ Some why) }
+    ensures { (why : Cause) × (result ≡ TraceFault.BadLine line why) × (cause_of (body_stage version config.now (nat_lt first line)) (parts 10 bytes.now) ≡ Some why) }
 {
-    let why = body_refusal(config, first < line, bytes).unwrap();
+    let why = body_refusal(version, config, first < line, bytes).unwrap();
     TraceFault::BadLine { line, why }
 }

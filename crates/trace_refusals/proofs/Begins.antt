@@ -8,7 +8,7 @@ use Rattle.std.proofs.lemmas.List.{length-append}
 use Rattle.heap_words.specs.declared.config.Config.{Config}
 use Rattle.heap_words.specs.Narrow.{IsNarrow}
 use Rattle.heap_words.specs.declared.schedule.Item.{Item}
-use Rattle.trace_grammar.specs.Spelling.{TraceLine, IsLine, line, newline, titled, header, schedule_line, IsScheduleLine}
+use Rattle.trace_grammar.specs.Spelling.{TraceLine, IsVersion, IsLine, line, newline, titled, header, schedule_line, IsScheduleLine}
 use Rattle.trace_grammar.specs.declared.why.Why.{Why}
 use Rattle.trace_refusals.specs.Causes.{parts}
 use Rattle.trace_refusals.specs.Refused.{LineStage, Version, Heap, Threads, Commands, Turns, body_stage, cause_of, LineFollows, Lead, StopsAt}
@@ -60,47 +60,47 @@ front_line text whole rest e = sym (append_assoc text (newline ∷ []) rest) ∙
 titled_line : (title : List ℕ) (ns : List ℕ) → (text : List ℕ) × (text ++ newline ∷ [] ≡ titled title ns)
 titled_line title ns = (_, titled_is title ns)
 
-pub begun_head : (bytes rest : List ℕ) (c : Config) → IsNarrow c → bytes ≡ header c ++ rest → Begun bytes rest 3 (Commands c)
-begun_head bytes rest c narrow e =
-    let shen = titled_line (codes "shen") (1 ∷ []) in
+pub begun_head : (bytes rest : List ℕ) (v : ℕ) (c : Config) → IsVersion v → IsNarrow c → bytes ≡ header v c ++ rest → Begun bytes rest 3 (Commands v c)
+begun_head bytes rest v c known narrow e =
+    let shen = titled_line (codes "shen") (v ∷ []) in
     let heap = titled_line (codes "heap") (c.regions ∷ c.region_words ∷ c.reserve ∷ []) in
     let threads = titled_line (codes "threads") (c.mutators ∷ c.helpers ∷ []) in
     let third = threads.0 ++ 10 ∷ rest in
     let second = heap.0 ++ 10 ∷ third in
     let whole : bytes ≡ shen.0 ++ 10 ∷ second =
-    e ∙ append_assoc (titled (codes "shen") (1 ∷ [])) (titled (codes "heap") (c.regions ∷ c.region_words ∷ c.reserve ∷ []) ++ titled (codes "threads") (c.mutators ∷ c.helpers ∷ [])) rest
-    ∙ ap (λ (t : List ℕ). titled (codes "shen") (1 ∷ []) ++ t)
+    e ∙ append_assoc (titled (codes "shen") (v ∷ [])) (titled (codes "heap") (c.regions ∷ c.region_words ∷ c.reserve ∷ []) ++ titled (codes "threads") (c.mutators ∷ c.helpers ∷ [])) rest
+    ∙ ap (λ (t : List ℕ). titled (codes "shen") (v ∷ []) ++ t)
     (append_assoc (titled (codes "heap") (c.regions ∷ c.region_words ∷ c.reserve ∷ [])) (titled (codes "threads") (c.mutators ∷ c.helpers ∷ [])) rest
     ∙ ap (λ (t : List ℕ). titled (codes "heap") (c.regions ∷ c.region_words ∷ c.reserve ∷ []) ++ t) (sym (front_line threads.0 (titled (codes "threads") (c.mutators ∷ c.helpers ∷ [])) rest threads.1))
     ∙ sym (front_line heap.0 (titled (codes "heap") (c.regions ∷ c.region_words ∷ c.reserve ∷ [])) third heap.1))
-    ∙ sym (front_line shen.0 (titled (codes "shen") (1 ∷ [])) second shen.1) in
-    let one = begun_more bytes shen.0 second 0 Version Heap (subst (λ (bs : List ℕ). Begun bytes bs 0 Version) whole (begun_none bytes)) (shen.1, refl) in
-    let two = begun_more bytes heap.0 third 1 Heap (Threads c.regions c.region_words c.reserve) one (c, narrow, heap.1, refl) in
-    begun_more bytes threads.0 rest 2 (Threads c.regions c.region_words c.reserve) (Commands c) two (c, refl, refl, refl, threads.1, refl)
+    ∙ sym (front_line shen.0 (titled (codes "shen") (v ∷ [])) second shen.1) in
+    let one = begun_more bytes shen.0 second 0 Version (Heap v) (subst (λ (bs : List ℕ). Begun bytes bs 0 Version) whole (begun_none bytes)) (v, known, shen.1, refl) in
+    let two = begun_more bytes heap.0 third 1 (Heap v) (Threads v c.regions c.region_words c.reserve) one (c, narrow, heap.1, refl) in
+    begun_more bytes threads.0 rest 2 (Threads v c.regions c.region_words c.reserve) (Commands v c) two (c, refl, refl, refl, threads.1, refl)
 
 -- ---- the lines behind it
 
-pub begun_lines : (bytes : List ℕ) (lines : List TraceLine) (rest : List ℕ) (n : ℕ) (c : Config) → AllByRecursion (IsLine c.mutators) lines → Begun bytes (flat_map line lines ++ rest) n (Commands c) → Begun bytes rest (n + length lines) (Commands c)
-begun_lines bytes [] rest n c all b = subst (λ (m : ℕ). Begun bytes rest m (Commands c)) (zero_more n) b
+pub begun_lines : (bytes : List ℕ) (lines : List TraceLine) (rest : List ℕ) (n : ℕ) (v : ℕ) (c : Config) → AllByRecursion (IsLine v c.mutators) lines → Begun bytes (flat_map line lines ++ rest) n (Commands v c) → Begun bytes rest (n + length lines) (Commands v c)
+begun_lines bytes [] rest n v c all b = subst (λ (m : ℕ). Begun bytes rest m (Commands v c)) (zero_more n) b
   where
     zero_more : (n : ℕ) → n ≡ n + 0
     zero_more n = omega arith
-begun_lines bytes (l ∷ lines) rest n c all b =
+begun_lines bytes (l ∷ lines) rest n v c all b =
     let text = join_with_byte 32 (line_words l) in
     let others = flat_map line lines ++ rest in
     let front : flat_map line (l ∷ lines) ++ rest ≡ text ++ 10 ∷ others =
     ap (λ (t : List ℕ). t ++ rest) (flat_map-cons line l lines) ∙ append_assoc (line l) (flat_map line lines) rest ∙ sym (front_line text (line l) others (line_is l)) in
-    let one = begun_more bytes text others n (Commands c) (Commands c) (subst (λ (bs : List ℕ). Begun bytes bs n (Commands c)) front b) (inl ((l, all.0, line_is l), refl)) in
-    subst (λ (m : ℕ). Begun bytes rest m (Commands c)) (one_less n (length lines)) (begun_lines bytes lines rest (n + 1) c all.1 one)
+    let one = begun_more bytes text others n (Commands v c) (Commands v c) (subst (λ (bs : List ℕ). Begun bytes bs n (Commands v c)) front b) (inl ((l, all.0, line_is l), refl)) in
+    subst (λ (m : ℕ). Begun bytes rest m (Commands v c)) (one_less n (length lines)) (begun_lines bytes lines rest (n + 1) v c all.1 one)
   where
     one_less : (n k : ℕ) → (n + 1) + k ≡ n + suc k
     one_less n k = omega arith
 
-begun_turn : (bytes : List ℕ) (items : List Item) (others : List ℕ) (n : ℕ) (c : Config) (behind : Bool) → IsScheduleLine c items → Begun bytes (schedule_line items ++ others) n (body_stage c behind) → Begun bytes others (n + 1) (Turns c)
-begun_turn bytes items others n c false good b =
+begun_turn : (bytes : List ℕ) (items : List Item) (others : List ℕ) (n : ℕ) (v : ℕ) (c : Config) (behind : Bool) → IsScheduleLine c items → Begun bytes (schedule_line items ++ others) n (body_stage v c behind) → Begun bytes others (n + 1) (Turns c)
+begun_turn bytes items others n v c false good b =
     let text = join_with_byte 32 (words_of_turn items) in
-    begun_more bytes text others n (Commands c) (Turns c) (subst (λ (bs : List ℕ). Begun bytes bs n (Commands c)) (sym (front_line text (schedule_line items) others (turn_is items))) b) (inr ((items, good, turn_is items), refl))
-begun_turn bytes items others n c true good b =
+    begun_more bytes text others n (Commands v c) (Turns c) (subst (λ (bs : List ℕ). Begun bytes bs n (Commands v c)) (sym (front_line text (schedule_line items) others (turn_is items))) b) (inr ((items, good, turn_is items), refl))
+begun_turn bytes items others n v c true good b =
     let text = join_with_byte 32 (words_of_turn items) in
     begun_more bytes text others n (Turns c) (Turns c) (subst (λ (bs : List ℕ). Begun bytes bs n (Turns c)) (sym (front_line text (schedule_line items) others (turn_is items))) b) ((items, good, turn_is items), refl)
 
@@ -112,23 +112,23 @@ begun_later bytes [] rest n c all b = subst (λ (m : ℕ). Begun bytes rest m (T
 begun_later bytes (items ∷ turns) rest n c all b =
     let others = flat_map schedule_line turns ++ rest in
     let front : flat_map schedule_line (items ∷ turns) ++ rest ≡ schedule_line items ++ others = ap (λ (t : List ℕ). t ++ rest) (flat_map-cons schedule_line items turns) ∙ append_assoc (schedule_line items) (flat_map schedule_line turns) rest in
-    let one = begun_turn bytes items others n c true all.0 (subst (λ (bs : List ℕ). Begun bytes bs n (Turns c)) front b) in
+    let one = begun_turn bytes items others n 1 c true all.0 (subst (λ (bs : List ℕ). Begun bytes bs n (Turns c)) front b) in
     subst (λ (m : ℕ). Begun bytes rest m (Turns c)) (one_less n (length turns)) (begun_later bytes turns rest (n + 1) c all.1 one)
   where
     one_less : (n k : ℕ) → (n + 1) + k ≡ n + suc k
     one_less n k = omega arith
 
-pub begun_turns : (bytes : List ℕ) (turns : List (List Item)) (rest : List ℕ) (n : ℕ) (c : Config) → AllByRecursion (IsScheduleLine c) turns → Begun bytes (flat_map schedule_line turns ++ rest) n (Commands c) → Begun bytes rest (n + length turns) (body_stage c (ltb 0 (length turns)))
-begun_turns bytes [] rest n c all b = subst (λ (m : ℕ). Begun bytes rest m (Commands c)) (zero_more n) b
+pub begun_turns : (bytes : List ℕ) (turns : List (List Item)) (rest : List ℕ) (n : ℕ) (v : ℕ) (c : Config) → AllByRecursion (IsScheduleLine c) turns → Begun bytes (flat_map schedule_line turns ++ rest) n (Commands v c) → Begun bytes rest (n + length turns) (body_stage v c (ltb 0 (length turns)))
+begun_turns bytes [] rest n v c all b = subst (λ (m : ℕ). Begun bytes rest m (Commands v c)) (zero_more n) b
   where
     zero_more : (n : ℕ) → n ≡ n + 0
     zero_more n = omega arith
-begun_turns bytes (items ∷ turns) rest n c all b =
+begun_turns bytes (items ∷ turns) rest n v c all b =
     let others = flat_map schedule_line turns ++ rest in
     let front : flat_map schedule_line (items ∷ turns) ++ rest ≡ schedule_line items ++ others = ap (λ (t : List ℕ). t ++ rest) (flat_map-cons schedule_line items turns) ∙ append_assoc (schedule_line items) (flat_map schedule_line turns) rest in
-    let one = begun_turn bytes items others n c false all.0 (subst (λ (bs : List ℕ). Begun bytes bs n (Commands c)) front b) in
+    let one = begun_turn bytes items others n v c false all.0 (subst (λ (bs : List ℕ). Begun bytes bs n (Commands v c)) front b) in
     let later : Begun bytes rest (n + suc (length turns)) (Turns c) = subst (λ (m : ℕ). Begun bytes rest m (Turns c)) (one_less n (length turns)) (begun_later bytes turns rest (n + 1) c all.1 one) in
-    subst (λ (some : Bool). Begun bytes rest (n + suc (length turns)) (body_stage c some)) (sym (is_some (length turns))) later
+    subst (λ (some : Bool). Begun bytes rest (n + suc (length turns)) (body_stage v c some)) (sym (is_some (length turns))) later
   where
     is_some : (k : ℕ) → ltb 0 (suc k) ≡ true
     is_some k = grind (arith, nat_tests)
@@ -142,33 +142,38 @@ begun_turns bytes (items ∷ turns) rest n c all b =
 abbrev pub IsBehindLine : List ℕ → List ℕ → Type 0
 IsBehindLine bytes rest = (text : List ℕ) × ((parts 10 bytes ≡ text ∷ []) ⊎ (parts 10 bytes ≡ text ∷ parts 10 rest))
 
-pub version_read : (bytes rest : List ℕ) → IsBehindLine bytes rest → cause_of Version (parts 10 bytes) ≡ None → Begun bytes rest 1 Heap × (bytes ≡ titled (codes "shen") (1 ∷ []) ++ rest)
+pub version_read : (bytes rest : List ℕ) → IsBehindLine bytes rest → cause_of Version (parts 10 bytes) ≡ None → (v : ℕ) × IsVersion v × Begun bytes rest 1 (Heap v) × (bytes ≡ titled (codes "shen") (v ∷ []) ++ rest)
 version_read bytes rest behind none =
     let read = line_of Version bytes rest behind.0 behind.1 refl none in
-    let spelled = version_spelled behind.0 read.1 in
-    let whole = bytes_of_line bytes behind.0 rest read.0 in
-    (begun_more bytes behind.0 rest 0 Version Heap (subst (λ (bs : List ℕ). Begun bytes bs 0 Version) whole (begun_none bytes)) (spelled, refl), whole ∙ front_line behind.0 (titled (codes "shen") (1 ∷ [])) rest spelled)
+    let made = version_spelled behind.0 read.1 in
+    let v = made.0 in
+    let whole = bytes_of_line bytes behind.0 rest read.0 in (
+      v,
+      made.1,
+      begun_more bytes behind.0 rest 0 Version (Heap v) (subst (λ (bs : List ℕ). Begun bytes bs 0 Version) whole (begun_none bytes)) (v, made.1, made.2, refl),
+      whole ∙ front_line behind.0 (titled (codes "shen") (v ∷ [])) rest made.2,
+    )
 
-pub heap_read : (bytes first rest : List ℕ) → Begun bytes first 1 Heap → IsBehindLine first rest → cause_of Heap (parts 10 first) ≡ None
-    → (h : Config) × IsNarrow h × Begun bytes rest 2 (Threads h.regions h.region_words h.reserve) × (first ≡ titled (codes "heap") (h.regions ∷ h.region_words ∷ h.reserve ∷ []) ++ rest)
-heap_read bytes first rest b behind none =
-    let read = line_of Heap first rest behind.0 behind.1 refl none in
-    let made = heap_spelled behind.0 read.1 in
+pub heap_read : (v : ℕ) (bytes first rest : List ℕ) → Begun bytes first 1 (Heap v) → IsBehindLine first rest → cause_of (Heap v) (parts 10 first) ≡ None
+    → (h : Config) × IsNarrow h × Begun bytes rest 2 (Threads v h.regions h.region_words h.reserve) × (first ≡ titled (codes "heap") (h.regions ∷ h.region_words ∷ h.reserve ∷ []) ++ rest)
+heap_read v bytes first rest b behind none =
+    let read = line_of (Heap v) first rest behind.0 behind.1 refl none in
+    let made = heap_spelled v behind.0 read.1 in
     let h = made.0 in
     let whole = bytes_of_line first behind.0 rest read.0 in (
       h,
       made.1,
-      begun_more bytes behind.0 rest 1 Heap (Threads h.regions h.region_words h.reserve) (subst (λ (bs : List ℕ). Begun bytes bs 1 Heap) whole b) (h, made.1, made.2, refl),
+      begun_more bytes behind.0 rest 1 (Heap v) (Threads v h.regions h.region_words h.reserve) (subst (λ (bs : List ℕ). Begun bytes bs 1 (Heap v)) whole b) (h, made.1, made.2, refl),
       whole ∙ front_line behind.0 (titled (codes "heap") (h.regions ∷ h.region_words ∷ h.reserve ∷ [])) rest made.2,
     )
 
-pub threads_read : (h : Config) (first : List ℕ) → IsNarrow h → cause_of (Threads h.regions h.region_words h.reserve) (parts 10 first) ≡ None
+pub threads_read : (v : ℕ) (h : Config) (first : List ℕ) → IsNarrow h → cause_of (Threads v h.regions h.region_words h.reserve) (parts 10 first) ≡ None
     → (c : Config) × IsNarrow c × (rest : List ℕ) × (titled (codes "heap") (h.regions ∷ h.region_words ∷ h.reserve ∷ []) ≡ titled (codes "heap") (c.regions ∷ c.region_words ∷ c.reserve ∷ [])) × (first ≡ titled (codes "threads") (c.mutators ∷ c.helpers ∷ []) ++ rest)
-threads_read h first narrow none =
+threads_read v h first narrow none =
     let behind = first_line first in
-    let stage = Threads h.regions h.region_words h.reserve in
+    let stage = Threads v h.regions h.region_words h.reserve in
     let read = line_of stage first behind.1 behind.0 behind.2 refl none in
-    let made = threads_spelled h.regions h.region_words h.reserve h behind.0 refl refl refl read.1 in
+    let made = threads_spelled v h.regions h.region_words h.reserve h behind.0 refl refl refl read.1 in
     let c = made.0 in (
       c,
       omega (arith, narrow, made.2),
@@ -177,10 +182,10 @@ threads_read h first narrow none =
       bytes_of_line first behind.0 behind.1 read.0 ∙ front_line behind.0 (titled (codes "threads") (c.mutators ∷ c.helpers ∷ [])) behind.1 made.4,
     )
 
-pub head_read : (bytes first second rest : List ℕ) (h c : Config) → bytes ≡ titled (codes "shen") (1 ∷ []) ++ first → first ≡ titled (codes "heap") (h.regions ∷ h.region_words ∷ h.reserve ∷ []) ++ second
-    → titled (codes "heap") (h.regions ∷ h.region_words ∷ h.reserve ∷ []) ≡ titled (codes "heap") (c.regions ∷ c.region_words ∷ c.reserve ∷ []) → second ≡ titled (codes "threads") (c.mutators ∷ c.helpers ∷ []) ++ rest → bytes ≡ header c ++ rest
-head_read bytes first second rest h c e1 e2 same e3 =
-    let shen = titled (codes "shen") (1 ∷ []) in
+pub head_read : (bytes first second rest : List ℕ) (v : ℕ) (h c : Config) → bytes ≡ titled (codes "shen") (v ∷ []) ++ first → first ≡ titled (codes "heap") (h.regions ∷ h.region_words ∷ h.reserve ∷ []) ++ second
+    → titled (codes "heap") (h.regions ∷ h.region_words ∷ h.reserve ∷ []) ≡ titled (codes "heap") (c.regions ∷ c.region_words ∷ c.reserve ∷ []) → second ≡ titled (codes "threads") (c.mutators ∷ c.helpers ∷ []) ++ rest → bytes ≡ header v c ++ rest
+head_read bytes first second rest v h c e1 e2 same e3 =
+    let shen = titled (codes "shen") (v ∷ []) in
     let heap = titled (codes "heap") (c.regions ∷ c.region_words ∷ c.reserve ∷ []) in
     let threads = titled (codes "threads") (c.mutators ∷ c.helpers ∷ []) in
     e1 ∙ ap (λ (t : List ℕ). shen ++ t) (e2 ∙ ap (λ (t : List ℕ). t ++ second) same ∙ ap (λ (t : List ℕ). heap ++ t) e3 ∙ sym (append_assoc heap threads rest)) ∙ sym (append_assoc shen (heap ++ threads) rest)

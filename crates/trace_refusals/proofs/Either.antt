@@ -8,7 +8,7 @@ use Rattle.shen_graph.specs.declared.command.Command.{Command}
 use Rattle.heap_words.specs.declared.config.Config.{Config}
 use Rattle.heap_words.specs.Narrow.{IsNarrow}
 use Rattle.heap_words.specs.declared.schedule.Item.{Item}
-use Rattle.trace_grammar.specs.Spelling.{TraceLine, IsLine, line, newline, titled, header, schedule_line, IsScheduleLine}
+use Rattle.trace_grammar.specs.Spelling.{TraceLine, IsVersion, IsLine, line, newline, titled, header, schedule_line, IsScheduleLine}
 use Rattle.trace_grammar.specs.Grammar.{most_bytes, scripts_of, items_of, Reads}
 use Rattle.trace_grammar.specs.declared.why.Why.{Why}
 use Rattle.trace_refusals.specs.Causes.{parts}
@@ -23,9 +23,9 @@ ended texts = flat_map (λ t. t ++ newline ∷ []) texts
 -- behind the head
 abbrev IsBody : LineStage → Type 0
 IsBody Version = ⊥
-IsBody Heap = ⊥
-IsBody (Threads r w e) = ⊥
-IsBody (Commands c) = Unit {0}
+IsBody (Heap v) = ⊥
+IsBody (Threads v r w e) = ⊥
+IsBody (Commands v c) = Unit {0}
 IsBody (Turns c) = Unit {0}
 
 -- the bytes stop being lines of a trace
@@ -62,10 +62,10 @@ one_more stage next bytes text rest f e (inr s) = inr (record {
 -- where the bytes end
 at_end : (stage : LineStage) (bytes text : List ℕ) → bytes ≡ text → end_cause stage text ≡ None → Completes stage bytes
 at_end Version bytes text same e = absurd cc
-at_end Heap bytes text same e = absurd cc
-at_end (Threads r w k) bytes text same e = absurd cc
-at_end (Commands c) bytes [] same e = record { texts = []; last = Commands c; lead = refl; body = tt; spelled = same }
-at_end (Commands c) bytes (b ∷ text) same e = absurd cc
+at_end (Heap v) bytes text same e = absurd cc
+at_end (Threads v r w k) bytes text same e = absurd cc
+at_end (Commands v c) bytes [] same e = record { texts = []; last = Commands v c; lead = refl; body = tt; spelled = same }
+at_end (Commands v c) bytes (b ∷ text) same e = absurd cc
 at_end (Turns c) bytes [] same e = record { texts = []; last = Turns c; lead = refl; body = tt; spelled = same }
 at_end (Turns c) bytes (b ∷ text) same e = absurd cc
 
@@ -109,14 +109,14 @@ of_turns c (text ∷ texts) last lead =
     let others = of_turns c texts last (subst (λ (s : LineStage). Lead s texts last) lead.1.1 lead.2) in
     (it.0 ∷ others.0, (it.1, others.1), ended-cons text texts (schedule_line it.0) (flat_map schedule_line others.0) it.2 others.2 ∙ sym (flat_map-cons schedule_line it.0 others.0))
 
-of_commands : (c : Config) (texts : List (List ℕ)) (last : LineStage) → Lead (Commands c) texts last
-    → (lines : List TraceLine) × (turns : List (List Item)) × AllByRecursion (IsLine c.mutators) lines × AllByRecursion (IsScheduleLine c) turns × (ended texts ≡ flat_map line lines ++ flat_map schedule_line turns)
-of_commands c [] last lead = ([], [], tt, tt, refl)
-of_commands c (text ∷ texts) last lead = by_kind lead.0 lead.1 lead.2 (of_commands c texts last)
+of_commands : (v : ℕ) (c : Config) (texts : List (List ℕ)) (last : LineStage) → Lead (Commands v c) texts last
+    → (lines : List TraceLine) × (turns : List (List Item)) × AllByRecursion (IsLine v c.mutators) lines × AllByRecursion (IsScheduleLine c) turns × (ended texts ≡ flat_map line lines ++ flat_map schedule_line turns)
+of_commands v c [] last lead = ([], [], tt, tt, refl)
+of_commands v c (text ∷ texts) last lead = by_kind lead.0 lead.1 lead.2 (of_commands v c texts last)
   where
-    by_kind : (next : LineStage) → LineFollows (Commands c) text next → Lead next texts last
-        → (Lead (Commands c) texts last → (lines : List TraceLine) × (turns : List (List Item)) × AllByRecursion (IsLine c.mutators) lines × AllByRecursion (IsScheduleLine c) turns × (ended texts ≡ flat_map line lines ++ flat_map schedule_line turns))
-        → (lines : List TraceLine) × (turns : List (List Item)) × AllByRecursion (IsLine c.mutators) lines × AllByRecursion (IsScheduleLine c) turns × (ended (text ∷ texts) ≡ flat_map line lines ++ flat_map schedule_line turns)
+    by_kind : (next : LineStage) → LineFollows (Commands v c) text next → Lead next texts last
+        → (Lead (Commands v c) texts last → (lines : List TraceLine) × (turns : List (List Item)) × AllByRecursion (IsLine v c.mutators) lines × AllByRecursion (IsScheduleLine c) turns × (ended texts ≡ flat_map line lines ++ flat_map schedule_line turns))
+        → (lines : List TraceLine) × (turns : List (List Item)) × AllByRecursion (IsLine v c.mutators) lines × AllByRecursion (IsScheduleLine c) turns × (ended (text ∷ texts) ≡ flat_map line lines ++ flat_map schedule_line turns)
     by_kind next (inl f) lead go =
         let it = f.0 in
         let others = go (subst (λ (s : LineStage). Lead s texts last) f.1 lead) in (
@@ -132,45 +132,47 @@ of_commands c (text ∷ texts) last lead = by_kind lead.0 lead.1 lead.2 (of_comm
         let others = of_turns c texts last (subst (λ (s : LineStage). Lead s texts last) f.1 lead) in
         ([], it.0 ∷ others.0, tt, (it.1, others.1), ended-cons text texts (schedule_line it.0) (flat_map schedule_line others.0) it.2 others.2 ∙ sym (flat_map-cons schedule_line it.0 others.0))
 
-of_threads : (r w e : ℕ) (texts : List (List ℕ)) (last : LineStage) → Lead (Threads r w e) texts last → IsBody last
-    → (c : Config) × (c.regions ≡ r) × (c.region_words ≡ w) × (c.reserve ≡ e) × (lines : List TraceLine) × (turns : List (List Item)) × AllByRecursion (IsLine c.mutators) lines × AllByRecursion (IsScheduleLine c) turns
+of_threads : (v r w e : ℕ) (texts : List (List ℕ)) (last : LineStage) → Lead (Threads v r w e) texts last → IsBody last
+    → (c : Config) × (c.regions ≡ r) × (c.region_words ≡ w) × (c.reserve ≡ e) × (lines : List TraceLine) × (turns : List (List Item)) × AllByRecursion (IsLine v c.mutators) lines × AllByRecursion (IsScheduleLine c) turns
     × (ended texts ≡ titled (codes "threads") (c.mutators ∷ c.helpers ∷ []) ++ (flat_map line lines ++ flat_map schedule_line turns))
-of_threads r w e [] last lead body = absurd (subst IsBody (sym lead) body)
-of_threads r w e (text ∷ texts) last lead body =
+of_threads v r w e [] last lead body = absurd (subst IsBody (sym lead) body)
+of_threads v r w e (text ∷ texts) last lead body =
     let f = lead.1 in
     let c = f.0 in
-    let others = of_commands c texts last (subst (λ (s : LineStage). Lead s texts last) f.5 lead.2) in
+    let others = of_commands v c texts last (subst (λ (s : LineStage). Lead s texts last) f.5 lead.2) in
     (c, f.1, f.2, f.3, others.0, others.1, others.2, others.3, ended-cons text texts (titled (codes "threads") (c.mutators ∷ c.helpers ∷ [])) (flat_map line others.0 ++ flat_map schedule_line others.1) f.4 others.4)
 
-of_heap : (texts : List (List ℕ)) (last : LineStage) → Lead Heap texts last → IsBody last
-    → (c : Config) × IsNarrow c × (lines : List TraceLine) × (turns : List (List Item)) × AllByRecursion (IsLine c.mutators) lines × AllByRecursion (IsScheduleLine c) turns
+of_heap : (v : ℕ) (texts : List (List ℕ)) (last : LineStage) → Lead (Heap v) texts last → IsBody last
+    → (c : Config) × IsNarrow c × (lines : List TraceLine) × (turns : List (List Item)) × AllByRecursion (IsLine v c.mutators) lines × AllByRecursion (IsScheduleLine c) turns
     × (ended texts ≡ titled (codes "heap") (c.regions ∷ c.region_words ∷ c.reserve ∷ []) ++ (titled (codes "threads") (c.mutators ∷ c.helpers ∷ []) ++ (flat_map line lines ++ flat_map schedule_line turns)))
-of_heap [] last lead body = absurd (subst IsBody (sym lead) body)
-of_heap (text ∷ texts) last lead body =
+of_heap v [] last lead body = absurd (subst IsBody (sym lead) body)
+of_heap v (text ∷ texts) last lead body =
     let f = lead.1 in
     let h = f.0 in
-    let others = of_threads h.regions h.region_words h.reserve texts last (subst (λ (s : LineStage). Lead s texts last) f.3 lead.2) body in
+    let others = of_threads v h.regions h.region_words h.reserve texts last (subst (λ (s : LineStage). Lead s texts last) f.3 lead.2) body in
     let c = others.0 in
     let same : titled (codes "heap") (h.regions ∷ h.region_words ∷ h.reserve ∷ []) ≡ titled (codes "heap") (c.regions ∷ c.region_words ∷ c.reserve ∷ []) =
     ap (λ (r : ℕ). titled (codes "heap") (r ∷ h.region_words ∷ h.reserve ∷ [])) (sym others.1) ∙ ap (λ (w : ℕ). titled (codes "heap") (c.regions ∷ w ∷ h.reserve ∷ [])) (sym others.2) ∙ ap (λ (e : ℕ). titled (codes "heap") (c.regions ∷ c.region_words ∷ e ∷ [])) (sym others.3) in
     (c, omega (arith, f.1, others.2), others.4, others.5, others.6, others.7, ended-cons text texts (titled (codes "heap") (c.regions ∷ c.region_words ∷ c.reserve ∷ [])) (titled (codes "threads") (c.mutators ∷ c.helpers ∷ []) ++ (flat_map line others.4 ++ flat_map schedule_line others.5)) (f.2 ∙ same) others.8)
 
-of_version : (bytes : List ℕ) (texts : List (List ℕ)) (last : LineStage) → length bytes ≤ most_bytes → bytes ≡ ended texts → Lead Version texts last → IsBody last → (c : Config) × (scripts : List (List Command)) × (items : List Item) × Reads bytes c scripts items
+of_version : (bytes : List ℕ) (texts : List (List ℕ)) (last : LineStage) → length bytes ≤ most_bytes → bytes ≡ ended texts → Lead Version texts last → IsBody last
+    → (v : ℕ) × (c : Config) × (scripts : List (List Command)) × (items : List Item) × Reads bytes v c scripts items
 of_version bytes [] last short spelled lead body = absurd (subst IsBody (sym lead) body)
 of_version bytes (text ∷ texts) last short spelled lead body =
     let f = lead.1 in
-    let others = of_heap texts last (subst (λ (s : LineStage). Lead s texts last) f.1 lead.2) body in
+    let v = f.0 in
+    let others = of_heap v texts last (subst (λ (s : LineStage). Lead s texts last) f.3 lead.2) body in
     let c = others.0 in
-    let shen = titled (codes "shen") (1 ∷ []) in
+    let shen = titled (codes "shen") (v ∷ []) in
     let heap = titled (codes "heap") (c.regions ∷ c.region_words ∷ c.reserve ∷ []) in
     let threads = titled (codes "threads") (c.mutators ∷ c.helpers ∷ []) in
     let rest = flat_map line others.2 ++ flat_map schedule_line others.3 in
-    let whole : bytes ≡ header c ++ rest = spelled ∙ ended-cons text texts shen (heap ++ (threads ++ rest)) f.0 others.6 ∙ ap (λ (t : List ℕ). shen ++ t) (sym (append_assoc heap threads rest)) ∙ sym (append_assoc shen (heap ++ threads) rest) in
-    (c, scripts_of c.mutators others.2, items_of others.3, record { narrow = others.1; lines = others.2; in_range = others.4; turns = others.3; turns_in_range = others.5; spelled = whole; by_thread = refl; in_order = refl; short = short })
+    let whole : bytes ≡ header v c ++ rest = spelled ∙ ended-cons text texts shen (heap ++ (threads ++ rest)) f.2 others.6 ∙ ap (λ (t : List ℕ). shen ++ t) (sym (append_assoc heap threads rest)) ∙ sym (append_assoc shen (heap ++ threads) rest) in
+    (v, c, scripts_of c.mutators others.2, items_of others.3, record { known = f.1; narrow = others.1; lines = others.2; in_range = others.4; turns = others.3; turns_in_range = others.5; spelled = whole; by_thread = refl; in_order = refl; short = short })
 
-pub either : (bytes : List ℕ) → length bytes ≤ most_bytes → ((c : Config) × (scripts : List (List Command)) × (items : List Item) × Reads bytes c scripts items) ⊎ ((n : ℕ) × (why : Why) × Refused bytes n why)
+pub either : (bytes : List ℕ) → length bytes ≤ most_bytes → ((v : ℕ) × (c : Config) × (scripts : List (List Command)) × (items : List Item) × Reads bytes v c scripts items) ⊎ ((n : ℕ) × (why : Why) × Refused bytes n why)
 either bytes short = by_end (walk (length bytes) Version bytes tt (omega arith))
   where
-    by_end : Stops Version bytes ⊎ Completes Version bytes → ((c : Config) × (scripts : List (List Command)) × (items : List Item) × Reads bytes c scripts items) ⊎ ((n : ℕ) × (why : Why) × Refused bytes n why)
+    by_end : Stops Version bytes ⊎ Completes Version bytes → ((v : ℕ) × (c : Config) × (scripts : List (List Command)) × (items : List Item) × Reads bytes v c scripts items) ⊎ ((n : ℕ) × (why : Why) × Refused bytes n why)
     by_end (inl s) = inr (length s.before + 1, s.why, (record { before = s.before; from_it = s.from_it; lines = s.lines; number = refl; stage = s.last; lead = s.lead; cause = s.cause }, short))
     by_end (inr s) = inl (of_version bytes s.texts s.last short s.spelled s.lead s.body)

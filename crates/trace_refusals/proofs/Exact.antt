@@ -8,13 +8,13 @@ use Rattle.std.proofs.lemmas.Fmt.{digits_value-decimal}
 use Rattle.shen_graph.specs.declared.command.Command.{Command}
 use Rattle.heap_words.specs.declared.config.Config.{Config}
 use Rattle.heap_words.specs.declared.schedule.Item.{Item}
-use Rattle.trace_grammar.specs.Spelling.{line, schedule_line}
+use Rattle.trace_grammar.specs.Spelling.{IsVersion, line, schedule_line}
 use Rattle.trace_grammar.specs.Grammar.{Reads}
 use Rattle.trace_grammar.specs.declared.why.Why.{Why}
 use Rattle.trace_grammar.proofs.Numbers.{own, same_some}
 use Rattle.trace_grammar.proofs.Once.{same_config}
 use Rattle.trace_refusals.specs.Refused.{LineStage, Version, Heap, Threads, Commands, Turns, body_stage, cause_of, LineFollows, IsCommandLine, IsTurnItem, Lead, StopsAt}
-use Rattle.trace_refusals.proofs.Heads.{heap_again, threads_again}
+use Rattle.trace_refusals.proofs.Heads.{version_again, heap_again, threads_again}
 use Rattle.trace_refusals.proofs.Commands.{line_words}
 use Rattle.trace_refusals.proofs.ScheduleWords.{words_of_turn}
 use Rattle.trace_refusals.proofs.Leads.{few_threads, line_text, turn_text, no_number, fine}
@@ -28,14 +28,17 @@ same_number n m a b e = sym (digits_value-decimal own n a) ∙ ap (digits_value 
 same_words : (ws vs : List (List ℕ)) (i : ℕ) → ws ≡ vs → get_or ws i [] ≡ get_or vs i []
 same_words ws vs i e = ap (λ (l : List (List ℕ)). get_or l i []) e
 
-same_heap : (c d : Config) → codes "heap" ∷ map decimal (c.regions ∷ c.region_words ∷ c.reserve ∷ []) ≡ codes "heap" ∷ map decimal (d.regions ∷ d.region_words ∷ d.reserve ∷ []) → Threads c.regions c.region_words c.reserve ≡ Threads d.regions d.region_words d.reserve
-same_heap c d e =
+same_version : (v w : ℕ) → IsVersion v → IsVersion w → codes "shen" ∷ map decimal (v ∷ []) ≡ codes "shen" ∷ map decimal (w ∷ []) → v ≡ w
+same_version v w p q e = same_number v w (omega (arith, p.1)) (omega (arith, q.1)) (same_words (codes "shen" ∷ map decimal (v ∷ [])) (codes "shen" ∷ map decimal (w ∷ [])) 1 e)
+
+same_heap : (v : ℕ) (c d : Config) → codes "heap" ∷ map decimal (c.regions ∷ c.region_words ∷ c.reserve ∷ []) ≡ codes "heap" ∷ map decimal (d.regions ∷ d.region_words ∷ d.reserve ∷ []) → Threads v c.regions c.region_words c.reserve ≡ Threads v d.regions d.region_words d.reserve
+same_heap v c d e =
     let ws = codes "heap" ∷ map decimal (c.regions ∷ c.region_words ∷ c.reserve ∷ []) in
     let vs = codes "heap" ∷ map decimal (d.regions ∷ d.region_words ∷ d.reserve ∷ []) in
     let r = same_number c.regions d.regions (omega (arith, c.in_range.most_regions)) (omega (arith, d.in_range.most_regions)) (same_words ws vs 1 e) in
     let w = same_number c.region_words d.region_words (omega (arith, c.in_range.most_words)) (omega (arith, d.in_range.most_words)) (same_words ws vs 2 e) in
     let k = same_number c.reserve d.reserve (omega (arith, c.in_range.some_left, c.in_range.most_regions)) (omega (arith, d.in_range.some_left, d.in_range.most_regions)) (same_words ws vs 3 e) in
-    ap (λ (n : ℕ). Threads n c.region_words c.reserve) r ∙ ap (λ (n : ℕ). Threads d.regions n c.reserve) w ∙ ap (λ (n : ℕ). Threads d.regions d.region_words n) k
+    ap (λ (n : ℕ). Threads v n c.region_words c.reserve) r ∙ ap (λ (n : ℕ). Threads v d.regions n c.reserve) w ∙ ap (λ (n : ℕ). Threads v d.regions d.region_words n) k
 
 same_threads : (r w e : ℕ) (c d : Config) → c.regions ≡ r → c.region_words ≡ w → c.reserve ≡ e → d.regions ≡ r → d.region_words ≡ w → d.reserve ≡ e
     → codes "threads" ∷ map decimal (c.mutators ∷ c.helpers ∷ []) ≡ codes "threads" ∷ map decimal (d.mutators ∷ d.helpers ∷ []) → c ≡ d
@@ -47,24 +50,24 @@ same_threads r w e c d c1 c2 c3 d1 d2 d3 same =
     same_config c d (c1 ∙ sym d1) (c2 ∙ sym d2) m h (c3 ∙ sym d3)
 
 -- a line of a command is no line of the schedule
-not_both : (c : Config) (text : List ℕ) → IsCommandLine c text → IsTurnItem c text → ⊥
-not_both c text it other =
+not_both : (v : ℕ) (c : Config) (text : List ℕ) → IsCommandLine v c text → IsTurnItem c text → ⊥
+not_both v c text it other =
     let l = it.0 in
-    let one = (line_text c.mutators text l (few_threads c) it.1 it.2).0 in
+    let one = (line_text v c.mutators text l (few_threads c) it.1 it.2).0 in
     let two = (turn_text c text other.0 other.1 other.2).0 in
     let small : l.thread < 2 ^ 64 = omega (arith, it.1.to_last, few_threads c) in
     let first : decimal l.thread ≡ 33 ∷ [] = same_words (line_words l) (words_of_turn other.0) 0 (sym one ∙ two) in
     no_number l.thread small first
 
 same_next : (stage : LineStage) (text : List ℕ) (a b : LineStage) → LineFollows stage text a → LineFollows stage text b → a ≡ b
-same_next Version text a b f g = f.1 ∙ sym g.1
-same_next Heap text a b f g = f.3 ∙ same_heap f.0 g.0 (sym (heap_again f.0 text f.1 f.2).2 ∙ (heap_again g.0 text g.1 g.2).2) ∙ sym g.3
-same_next (Threads r w e) text a b f g =
-    f.5 ∙ ap Commands (same_threads r w e f.0 g.0 f.1 f.2 f.3 g.1 g.2 g.3 (sym (threads_again r w e f.0 text f.4).2 ∙ (threads_again r w e g.0 text g.4).2)) ∙ sym g.5
-same_next (Commands c) text a b (inl f) (inl g) = f.1 ∙ sym g.1
-same_next (Commands c) text a b (inl f) (inr g) = absurd (not_both c text f.0 g.0)
-same_next (Commands c) text a b (inr f) (inl g) = absurd (not_both c text g.0 f.0)
-same_next (Commands c) text a b (inr f) (inr g) = f.1 ∙ sym g.1
+same_next Version text a b f g = f.3 ∙ ap Heap (same_version f.0 g.0 f.1 g.1 (sym (version_again f.0 text f.1 f.2).2 ∙ (version_again g.0 text g.1 g.2).2)) ∙ sym g.3
+same_next (Heap v) text a b f g = f.3 ∙ same_heap v f.0 g.0 (sym (heap_again v f.0 text f.1 f.2).2 ∙ (heap_again v g.0 text g.1 g.2).2) ∙ sym g.3
+same_next (Threads v r w e) text a b f g =
+    f.5 ∙ ap (Commands v) (same_threads r w e f.0 g.0 f.1 f.2 f.3 g.1 g.2 g.3 (sym (threads_again v r w e f.0 text f.4).2 ∙ (threads_again v r w e g.0 text g.4).2)) ∙ sym g.5
+same_next (Commands v c) text a b (inl f) (inl g) = f.1 ∙ sym g.1
+same_next (Commands v c) text a b (inl f) (inr g) = absurd (not_both v c text f.0 g.0)
+same_next (Commands v c) text a b (inr f) (inl g) = absurd (not_both v c text g.0 f.0)
+same_next (Commands v c) text a b (inr f) (inr g) = f.1 ∙ sym g.1
 same_next (Turns c) text a b f g = f.1 ∙ sym g.1
 
 -- ---- lines lead to one end
@@ -111,18 +114,18 @@ refused_once bytes n m why other s t =
 
 -- ---- what is read is not refused
 
-body_ends : (c : Config) (some : Bool) → cause_of (body_stage c some) ([] ∷ []) ≡ None
+body_ends : (v : ℕ) (c : Config) (some : Bool) → cause_of (body_stage v c some) ([] ∷ []) ≡ None
 unfolding cause_of
-body_ends c true = refl
-body_ends c false = refl
+body_ends v c true = refl
+body_ends v c false = refl
 
-pub never_both : (bytes : List ℕ) (c : Config) (scripts : List (List Command)) (items : List Item) (n : ℕ) (why : Why) → Reads bytes c scripts items → StopsAt bytes n why → ⊥
-never_both bytes c scripts items n why reads stops =
-    let head = begun_head bytes (flat_map line reads.lines ++ flat_map schedule_line reads.turns) c reads.narrow reads.spelled in
-    let lines = begun_lines bytes reads.lines (flat_map schedule_line reads.turns) 3 c reads.in_range head in
-    let turns = begun_turns bytes reads.turns [] (3 + length reads.lines) c reads.turns_in_range (subst (λ (bs : List ℕ). Begun bytes bs (3 + length reads.lines) (Commands c)) (sym (append-nil (flat_map schedule_line reads.turns))) lines) in
-    let stage = body_stage c (ltb 0 (length reads.turns)) in
-    let none = body_ends c (ltb 0 (length reads.turns)) in
+pub never_both : (bytes : List ℕ) (v : ℕ) (c : Config) (scripts : List (List Command)) (items : List Item) (n : ℕ) (why : Why) → Reads bytes v c scripts items → StopsAt bytes n why → ⊥
+never_both bytes v c scripts items n why reads stops =
+    let head = begun_head bytes (flat_map line reads.lines ++ flat_map schedule_line reads.turns) v c reads.known reads.narrow reads.spelled in
+    let lines = begun_lines bytes reads.lines (flat_map schedule_line reads.turns) 3 v c reads.in_range head in
+    let turns = begun_turns bytes reads.turns [] (3 + length reads.lines) v c reads.turns_in_range (subst (λ (bs : List ℕ). Begun bytes bs (3 + length reads.lines) (Commands v c)) (sym (append-nil (flat_map schedule_line reads.turns))) lines) in
+    let stage = body_stage v c (ltb 0 (length reads.turns)) in
+    let none = body_ends v c (ltb 0 (length reads.turns)) in
     let one = one_end Version turns.before stops.before stage stops.stage ([] ∷ []) stops.from_it turns.lead stops.lead (sym turns.lines ∙ stops.lines) (inr (refl, none)) (inl (why, stops.cause)) in
     let e = sym none ∙ one.1 ∙ stops.cause in
     absurd cc

@@ -12,7 +12,7 @@ use Rattle.std.proofs.lemmas.List.Splits.{join_with_byte-slice_split}
 use Rattle.std.proofs.lemmas.Fmt.{digits_value-decimal}
 use Rattle.heap_words.specs.declared.config.Config.{Config}
 use Rattle.heap_words.specs.Narrow.{IsNarrow}
-use Rattle.trace_grammar.specs.Spelling.{newline, numbers, titled}
+use Rattle.trace_grammar.specs.Spelling.{IsVersion, newline, numbers, titled}
 use Rattle.trace_grammar.specs.declared.why.Why.TheVariants.{Header}
 use Rattle.trace_grammar.proofs.Numbers.{own}
 use Rattle.trace_refusals.specs.Causes.{parts, is_same, numbers_cause, title_cause, heap_ranges}
@@ -92,23 +92,25 @@ titled_text title ns text e = ap (λ (t : List ℕ). t ++ newline ∷ []) (joine
 shen_word : IsWord (codes "shen")
 shen_word = record { no_space = refl; no_end = refl }
 
-pub version_spelled : (text : List ℕ) → words_cause Version (parts 32 text) ≡ None → text ++ newline ∷ [] ≡ titled (codes "shen") (1 ∷ [])
+pub version_spelled : (text : List ℕ) → words_cause Version (parts 32 text) ≡ None → (v : ℕ) × IsVersion v × (text ++ newline ∷ [] ≡ titled (codes "shen") (v ∷ []))
 version_spelled text e =
-    let ranges : List (ℕ × ℕ) = (1, 1) ∷ [] in
+    let ranges : List (ℕ × ℕ) = (1, 2) ∷ [] in
     let made = title_spelled (codes "shen") ranges (parts 32 text) (lit< tt, tt) (sym (version_words (parts 32 text)) ∙ e) in
-    titled_text (codes "shen") (1 ∷ []) text (made.1 ∙ ap (λ (ns : List ℕ). codes "shen" ∷ map decimal ns) (only_one made.0 made.2))
+    let only = only_one made.0 made.2 in
+    (only.0, only.1, titled_text (codes "shen") (only.0 ∷ []) text (made.1 ∙ ap (λ (ns : List ℕ). codes "shen" ∷ map decimal ns) only.2))
   where
-    only_one : (ns : List ℕ) → AreBetween ((1, 1) ∷ []) ns → ns ≡ 1 ∷ []
+    only_one : (ns : List ℕ) → AreBetween ((1, 2) ∷ []) ns → (v : ℕ) × IsVersion v × (ns ≡ v ∷ [])
     only_one [] between = absurd between
-    only_one (n ∷ []) between = ap (λ (m : ℕ). m ∷ []) (omega (arith, between.0, between.1))
+    only_one (n ∷ []) between = (n, (between.0, between.1), refl)
     only_one (n ∷ m ∷ ns) between = absurd between.2
 
-pub version_again : (text : List ℕ) → text ++ newline ∷ [] ≡ titled (codes "shen") (1 ∷ []) → (words_cause Version (parts 32 text) ≡ None) × (is_free 10 text ≡ true)
-version_again text e =
-    let ranges : List (ℕ × ℕ) = (1, 1) ∷ [] in
-    let between : AreBetween ranges (1 ∷ []) = (omega arith, omega arith, tt) in
-    let read = titled_parts (codes "shen") ranges (1 ∷ []) text shen_word (lit< tt, tt) between e in
-    (version_words (parts 32 text) ∙ ap (title_cause (codes "shen") ranges) read.0 ∙ title_again (codes "shen") ranges (1 ∷ []) (lit< tt, tt) between, read.1)
+pub version_again : (v : ℕ) (text : List ℕ) → IsVersion v → text ++ newline ∷ [] ≡ titled (codes "shen") (v ∷ [])
+    → (words_cause Version (parts 32 text) ≡ None) × (is_free 10 text ≡ true) × (parts 32 text ≡ codes "shen" ∷ map decimal (v ∷ []))
+version_again v text known e =
+    let ranges : List (ℕ × ℕ) = (1, 2) ∷ [] in
+    let between : AreBetween ranges (v ∷ []) = (known.0, known.1, tt) in
+    let read = titled_parts (codes "shen") ranges (v ∷ []) text shen_word (lit< tt, tt) between e in
+    (version_words (parts 32 text) ∙ ap (title_cause (codes "shen") ranges) read.0 ∙ title_again (codes "shen") ranges (v ∷ []) (lit< tt, tt) between, read.1, read.0)
 
 -- ---- the heap
 
@@ -134,15 +136,15 @@ at_most_64 n = by_test (ltb 64 n) refl
     by_test true e = (64, omega arith, λ le. absurd (above n e le))
     by_test false e = (n, ltb-false _ _ e, λ le. refl)
 
-pub heap_spelled : (text : List ℕ) → words_cause Heap (parts 32 text) ≡ None → (c : Config) × IsNarrow c × (text ++ newline ∷ [] ≡ titled (codes "heap") (c.regions ∷ c.region_words ∷ c.reserve ∷ []))
-heap_spelled text e =
+pub heap_spelled : (v : ℕ) (text : List ℕ) → words_cause (Heap v) (parts 32 text) ≡ None → (c : Config) × IsNarrow c × (text ++ newline ∷ [] ≡ titled (codes "heap") (c.regions ∷ c.region_words ∷ c.reserve ∷ []))
+heap_spelled v text e =
     let words = parts 32 text in
     let d = digits_value 10 (get_or words 1 []) in
     let m = at_most_64 d in
     let ranges : List (ℕ × ℕ) = (4, 64) ∷ (64, 1024) ∷ (0, m.0 - 1) ∷ [] in
     let small : AreSmallRanges ranges = (lit< tt, (lit< tt, (omega (arith, m.1), tt))) in
     let bounded = same_heap words (m.0 - 1) (λ fine. ap (λ (n : ℕ). n - 1) (m.2 (number_fine 4 64 (get_or words 1 []) fine).2)) in
-    let made = title_spelled (codes "heap") ranges words small (bounded ∙ sym (heap_words words) ∙ e) in
+    let made = title_spelled (codes "heap") ranges words small (bounded ∙ sym (heap_words v words) ∙ e) in
     let numbers = three 4 64 64 1024 0 (m.0 - 1) made.0 made.2 in
     let r = numbers.0 in let w = numbers.1 in let k = numbers.2 in
     let spelled : words ≡ codes "heap" ∷ map decimal (r ∷ w ∷ k ∷ []) = made.1 ∙ ap (λ (ns : List ℕ). codes "heap" ∷ map decimal ns) numbers.3 in
@@ -158,9 +160,9 @@ heap_spelled text e =
     } in
     (c, numbers.7, titled_text (codes "heap") (r ∷ w ∷ k ∷ []) text spelled)
 
-pub heap_again : (c : Config) (text : List ℕ) → IsNarrow c → text ++ newline ∷ [] ≡ titled (codes "heap") (c.regions ∷ c.region_words ∷ c.reserve ∷ [])
-    → (words_cause Heap (parts 32 text) ≡ None) × (is_free 10 text ≡ true) × (parts 32 text ≡ codes "heap" ∷ map decimal (c.regions ∷ c.region_words ∷ c.reserve ∷ []))
-heap_again c text narrow e =
+pub heap_again : (v : ℕ) (c : Config) (text : List ℕ) → IsNarrow c → text ++ newline ∷ [] ≡ titled (codes "heap") (c.regions ∷ c.region_words ∷ c.reserve ∷ [])
+    → (words_cause (Heap v) (parts 32 text) ≡ None) × (is_free 10 text ≡ true) × (parts 32 text ≡ codes "heap" ∷ map decimal (c.regions ∷ c.region_words ∷ c.reserve ∷ []))
+heap_again v c text narrow e =
     let ns = c.regions ∷ c.region_words ∷ c.reserve ∷ [] in
     let ranges : List (ℕ × ℕ) = (4, 64) ∷ (64, 1024) ∷ (0, c.regions - 1) ∷ [] in
     let small : AreSmallRanges ranges = (lit< tt, (lit< tt, (omega (arith, c.in_range.most_regions), tt))) in
@@ -168,7 +170,7 @@ heap_again c text narrow e =
     let read = titled_parts (codes "heap") ranges ns text heap_word small between e in
     let value : digits_value 10 (decimal c.regions) ≡ c.regions = digits_value-decimal own c.regions (omega (arith, c.in_range.most_regions)) in
     let bounds : heap_ranges (codes "heap" ∷ map decimal ns) ≡ ranges = ap (λ (n : ℕ). up n) value in (
-      heap_words (parts 32 text) ∙ ap (λ (ws : List (List ℕ)). title_cause (codes "heap") (heap_ranges ws) ws) read.0
+      heap_words v (parts 32 text) ∙ ap (λ (ws : List (List ℕ)). title_cause (codes "heap") (heap_ranges ws) ws) read.0
           ∙ ap (λ (rs : List (ℕ × ℕ)). title_cause (codes "heap") rs (codes "heap" ∷ map decimal ns)) bounds ∙ title_again (codes "heap") ranges ns small between,
       read.1,
       read.0,
@@ -188,11 +190,11 @@ two a b c d (x ∷ []) between = absurd between.2
 two a b c d (x ∷ y ∷ []) between = (x, y, refl, between.0, between.1, between.2.0, between.2.1)
 two a b c d (x ∷ y ∷ z ∷ ns) between = absurd between.2.2
 
-pub threads_spelled : (r w k : ℕ) (h : Config) (text : List ℕ) → h.regions ≡ r → h.region_words ≡ w → h.reserve ≡ k → words_cause (Threads r w k) (parts 32 text) ≡ None
+pub threads_spelled : (v r w k : ℕ) (h : Config) (text : List ℕ) → h.regions ≡ r → h.region_words ≡ w → h.reserve ≡ k → words_cause (Threads v r w k) (parts 32 text) ≡ None
     → (c : Config) × (c.regions ≡ r) × (c.region_words ≡ w) × (c.reserve ≡ k) × (text ++ newline ∷ [] ≡ titled (codes "threads") (c.mutators ∷ c.helpers ∷ []))
-threads_spelled r w k h text same_r same_w same_k e =
+threads_spelled v r w k h text same_r same_w same_k e =
     let ranges : List (ℕ × ℕ) = (1, 8) ∷ (0, 3) ∷ [] in
-    let made = title_spelled (codes "threads") ranges (parts 32 text) (lit< tt, (lit< tt, tt)) (sym (threads_words r w k (parts 32 text)) ∙ e) in
+    let made = title_spelled (codes "threads") ranges (parts 32 text) (lit< tt, (lit< tt, tt)) (sym (threads_words v r w k (parts 32 text)) ∙ e) in
     let numbers = two 1 8 0 3 made.0 made.2 in
     let c : Config = record {
       regions = h.regions;
@@ -204,11 +206,11 @@ threads_spelled r w k h text same_r same_w same_k e =
     } in
     (c, same_r, same_w, same_k, titled_text (codes "threads") (numbers.0 ∷ numbers.1 ∷ []) text (made.1 ∙ ap (λ (ns : List ℕ). codes "threads" ∷ map decimal ns) numbers.2))
 
-pub threads_again : (r w e : ℕ) (c : Config) (text : List ℕ) → text ++ newline ∷ [] ≡ titled (codes "threads") (c.mutators ∷ c.helpers ∷ [])
-    → (words_cause (Threads r w e) (parts 32 text) ≡ None) × (is_free 10 text ≡ true) × (parts 32 text ≡ codes "threads" ∷ map decimal (c.mutators ∷ c.helpers ∷ []))
-threads_again r w e c text spelled =
+pub threads_again : (v r w e : ℕ) (c : Config) (text : List ℕ) → text ++ newline ∷ [] ≡ titled (codes "threads") (c.mutators ∷ c.helpers ∷ [])
+    → (words_cause (Threads v r w e) (parts 32 text) ≡ None) × (is_free 10 text ≡ true) × (parts 32 text ≡ codes "threads" ∷ map decimal (c.mutators ∷ c.helpers ∷ []))
+threads_again v r w e c text spelled =
     let ns = c.mutators ∷ c.helpers ∷ [] in
     let ranges : List (ℕ × ℕ) = (1, 8) ∷ (0, 3) ∷ [] in
     let between : AreBetween ranges ns = (c.in_range.least_mutators, c.in_range.most_mutators, (omega arith, c.in_range.most_helpers, tt)) in
     let read = titled_parts (codes "threads") ranges ns text threads_word (lit< tt, (lit< tt, tt)) between spelled in
-    (threads_words r w e (parts 32 text) ∙ ap (title_cause (codes "threads") ranges) read.0 ∙ title_again (codes "threads") ranges ns (lit< tt, (lit< tt, tt)) between, read.1, read.0)
+    (threads_words v r w e (parts 32 text) ∙ ap (title_cause (codes "threads") ranges) read.0 ∙ title_again (codes "threads") ranges ns (lit< tt, (lit< tt, tt)) between, read.1, read.0)

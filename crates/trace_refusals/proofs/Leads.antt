@@ -25,10 +25,10 @@ few_threads c = omega (arith, c.in_range.most_mutators)
 
 -- ---- a line of the grammar has no cause, and no end within it
 
-pub line_text : (threads : ℕ) (text : List ℕ) (l : TraceLine) → threads < 2 ^ 64 → IsLine threads l → text ++ newline ∷ [] ≡ line l → (parts 32 text ≡ line_words l) × (is_free 10 text ≡ true)
-line_text threads text l small fits e =
+pub line_text : (version threads : ℕ) (text : List ℕ) (l : TraceLine) → threads < 2 ^ 64 → IsLine version threads l → text ++ newline ∷ [] ≡ line l → (parts 32 text ≡ line_words l) × (is_free 10 text ≡ true)
+line_text version threads text l small fits e =
     let same : text ≡ join_with_byte 32 (line_words l) = same_before_end text (join_with_byte 32 (line_words l)) newline (e ∙ sym (line_is l)) in
-    let clean = line_clean threads l small fits in
+    let clean = line_clean version threads l small fits in
     let others = command_word l.command ∷ map decimal (numbers_of l.command) in
     (ap (parts 32) same ∙ parts_again (decimal l.thread) others clean, ap (is_free 10) same ∙ joined_free (decimal l.thread) others clean)
 
@@ -49,34 +49,34 @@ no_mark n small = by_test (is_same (decimal n) (33 ∷ [])) refl
     by_test false e = refl
     by_test true e = absurd (no_number n small (same_text (decimal n) (33 ∷ []) (sym e)))
 
-command_fine : (c : Config) (text : List ℕ) → IsCommandLine c text → (words_cause (Commands c) (parts 32 text) ≡ None) × (is_free 10 text ≡ true)
-command_fine c text it =
+command_fine : (v : ℕ) (c : Config) (text : List ℕ) → IsCommandLine v c text → (words_cause (Commands v c) (parts 32 text) ≡ None) × (is_free 10 text ≡ true)
+command_fine v c text it =
     let l = it.0 in
-    let read = line_text c.mutators text l (few_threads c) it.1 it.2 in
+    let read = line_text v c.mutators text l (few_threads c) it.1 it.2 in
     let small : l.thread < 2 ^ 64 = omega (arith, it.1.to_last, few_threads c) in
-    (command_words c false (parts 32 text) (decimal l.thread) (command_word l.command ∷ map decimal (numbers_of l.command)) read.0 (no_mark l.thread small) refl ∙ line_fine c.mutators l (few_threads c) it.1, read.1)
+    (command_words v c false (parts 32 text) (decimal l.thread) (command_word l.command ∷ map decimal (numbers_of l.command)) read.0 (no_mark l.thread small) refl ∙ line_fine v c.mutators l (few_threads c) it.1, read.1)
 
-turn_fine : (c : Config) (behind : Bool) (text : List ℕ) → IsTurnItem c text → (words_cause (body_stage c behind) (parts 32 text) ≡ None) × (is_free 10 text ≡ true)
-turn_fine c behind text it =
+turn_fine : (v : ℕ) (c : Config) (behind : Bool) (text : List ℕ) → IsTurnItem c text → (words_cause (body_stage v c behind) (parts 32 text) ≡ None) × (is_free 10 text ≡ true)
+turn_fine v c behind text it =
     let read = turn_text c text it.0 it.1 it.2 in
-    (turn_words c behind (parts 32 text) (33 ∷ []) (map item it.0) read.0 refl ∙ schedule_again c it.0 it.1, read.1)
+    (turn_words v c behind (parts 32 text) (33 ∷ []) (map item it.0) read.0 refl ∙ schedule_again c it.0 it.1, read.1)
 
 pub fine : (stage : LineStage) (text : List ℕ) (next : LineStage) → LineFollows stage text next → (words_cause stage (parts 32 text) ≡ None) × (is_free 10 text ≡ true)
-fine Version text next f = version_again text f.0
-fine Heap text next f = let read = heap_again f.0 text f.1 f.2 in (read.0, read.1)
-fine (Threads r w e) text next f = let read = threads_again r w e f.0 text f.4 in (read.0, read.1)
-fine (Commands c) text next (inl f) = command_fine c text f.0
-fine (Commands c) text next (inr f) = turn_fine c false text f.0
-fine (Turns c) text next f = turn_fine c true text f.0
+fine Version text next f = let read = version_again f.0 text f.1 f.2 in (read.0, read.1)
+fine (Heap v) text next f = let read = heap_again v f.0 text f.1 f.2 in (read.0, read.1)
+fine (Threads v r w e) text next f = let read = threads_again v r w e f.0 text f.4 in (read.0, read.1)
+fine (Commands v c) text next (inl f) = command_fine v c text f.0
+fine (Commands v c) text next (inr f) = turn_fine v c false text f.0
+fine (Turns c) text next f = turn_fine 1 c true text f.0
 
 -- ---- a text without a cause is a line of the grammar
 
 -- the sizes behind which the threads are wanted are those of a configuration
 abbrev pub Fits : LineStage → Type 0
 Fits Version = Unit {0}
-Fits Heap = Unit {0}
-Fits (Threads r w e) = (h : Config) × (h.regions ≡ r) × (h.region_words ≡ w) × (h.reserve ≡ e)
-Fits (Commands c) = Unit {0}
+Fits (Heap v) = Unit {0}
+Fits (Threads v r w e) = (h : Config) × (h.regions ≡ r) × (h.region_words ≡ w) × (h.reserve ≡ e)
+Fits (Commands v c) = Unit {0}
 Fits (Turns c) = Unit {0}
 
 body_turn : (c : Config) (text w : List ℕ) (more : List (List ℕ)) → parts 32 text ≡ w ∷ more → true ≡ is_same w (33 ∷ []) → schedule_cause c more ≡ None → IsTurnItem c text
@@ -85,37 +85,37 @@ body_turn c text w more e same none =
     let words : parts 32 text ≡ words_of_turn made.0 = e ∙ ap (λ (v : List ℕ). v ∷ more) (same_text w (33 ∷ []) same) ∙ ap (λ (vs : List (List ℕ)). (33 ∷ []) ∷ vs) made.2 in
     (made.0, made.1, ap (λ (t : List ℕ). t ++ newline ∷ []) (joined text (words_of_turn made.0) words) ∙ turn_is made.0)
 
-body_command : (c : Config) (text w : List ℕ) (more : List (List ℕ)) → parts 32 text ≡ w ∷ more → command_cause c.mutators w more ≡ None → IsCommandLine c text
-body_command c text w more e none =
-    let made = line_spelled c.mutators w more (few_threads c) none in
+body_command : (v : ℕ) (c : Config) (text w : List ℕ) (more : List (List ℕ)) → parts 32 text ≡ w ∷ more → command_cause v c.mutators w more ≡ None → IsCommandLine v c text
+body_command v c text w more e none =
+    let made = line_spelled v c.mutators w more (few_threads c) none in
     (made.0, made.1, ap (λ (t : List ℕ). t ++ newline ∷ []) (joined text (line_words made.0) (e ∙ made.2)) ∙ line_is made.0)
 
-pub commands_follow : (c : Config) (text : List ℕ) → words_cause (Commands c) (parts 32 text) ≡ None → IsCommandLine c text ⊎ IsTurnItem c text
-commands_follow c text none = by_test (is_same (take (count_before 32 text) text) (33 ∷ [])) refl
+pub commands_follow : (v : ℕ) (c : Config) (text : List ℕ) → words_cause (Commands v c) (parts 32 text) ≡ None → IsCommandLine v c text ⊎ IsTurnItem c text
+commands_follow v c text none = by_test (is_same (take (count_before 32 text) text) (33 ∷ [])) refl
   where
-    by_test : (test : Bool) → is_same (take (count_before 32 text) text) (33 ∷ []) ≡ test → IsCommandLine c text ⊎ IsTurnItem c text
-    by_test true same = inr (body_turn c text _ _ (cut_parts 32 text) (sym same) (sym (turn_words c false (parts 32 text) _ _ (cut_parts 32 text) (sym same)) ∙ none))
-    by_test false other = inl (body_command c text _ _ (cut_parts 32 text) (sym (command_words c false (parts 32 text) _ _ (cut_parts 32 text) (sym other) refl) ∙ none))
+    by_test : (test : Bool) → is_same (take (count_before 32 text) text) (33 ∷ []) ≡ test → IsCommandLine v c text ⊎ IsTurnItem c text
+    by_test true same = inr (body_turn c text _ _ (cut_parts 32 text) (sym same) (sym (turn_words v c false (parts 32 text) _ _ (cut_parts 32 text) (sym same)) ∙ none))
+    by_test false other = inl (body_command v c text _ _ (cut_parts 32 text) (sym (command_words v c false (parts 32 text) _ _ (cut_parts 32 text) (sym other) refl) ∙ none))
 
 pub turns_follow : (c : Config) (text : List ℕ) → words_cause (Turns c) (parts 32 text) ≡ None → IsTurnItem c text
 turns_follow c text none = by_test (is_same (take (count_before 32 text) text) (33 ∷ [])) refl
   where
     by_test : (test : Bool) → is_same (take (count_before 32 text) text) (33 ∷ []) ≡ test → IsTurnItem c text
-    by_test true same = body_turn c text _ _ (cut_parts 32 text) (sym same) (sym (turn_words c true (parts 32 text) _ _ (cut_parts 32 text) (sym same)) ∙ none)
-    by_test false other = absurd (let late = late_words c true (parts 32 text) _ _ (cut_parts 32 text) (sym other) refl in cc)
+    by_test true same = body_turn c text _ _ (cut_parts 32 text) (sym same) (sym (turn_words 1 c true (parts 32 text) _ _ (cut_parts 32 text) (sym same)) ∙ none)
+    by_test false other = absurd (let late = late_words 1 c true (parts 32 text) _ _ (cut_parts 32 text) (sym other) refl in cc)
 
 pub follows : (stage : LineStage) (text : List ℕ) → Fits stage → words_cause stage (parts 32 text) ≡ None → (next : LineStage) × LineFollows stage text next × Fits next
-follows Version text fits none = (Heap, (version_spelled text none, refl), tt)
-follows Heap text fits none =
-    let made = heap_spelled text none in
-    (Threads made.0.regions made.0.region_words made.0.reserve, (made.0, made.1, made.2, refl), (made.0, refl, refl, refl))
-follows (Threads r w e) text fits none =
-    let made = threads_spelled r w e fits.0 text fits.1 fits.2 fits.3 none in
-    (Commands made.0, (made.0, made.1, made.2, made.3, made.4, refl), tt)
-follows (Commands c) text fits none = by_kind (commands_follow c text none)
+follows Version text fits none = let made = version_spelled text none in (Heap made.0, (made.0, made.1, made.2, refl), tt)
+follows (Heap v) text fits none =
+    let made = heap_spelled v text none in
+    (Threads v made.0.regions made.0.region_words made.0.reserve, (made.0, made.1, made.2, refl), (made.0, refl, refl, refl))
+follows (Threads v r w e) text fits none =
+    let made = threads_spelled v r w e fits.0 text fits.1 fits.2 fits.3 none in
+    (Commands v made.0, (made.0, made.1, made.2, made.3, made.4, refl), tt)
+follows (Commands v c) text fits none = by_kind (commands_follow v c text none)
   where
-    by_kind : IsCommandLine c text ⊎ IsTurnItem c text → (next : LineStage) × LineFollows (Commands c) text next × Fits next
-    by_kind (inl it) = (Commands c, inl (it, refl), tt)
+    by_kind : IsCommandLine v c text ⊎ IsTurnItem c text → (next : LineStage) × LineFollows (Commands v c) text next × Fits next
+    by_kind (inl it) = (Commands v c, inl (it, refl), tt)
     by_kind (inr it) = (Turns c, inr (it, refl), tt)
 follows (Turns c) text fits none = (Turns c, (turns_follow c text none, refl), tt)
 

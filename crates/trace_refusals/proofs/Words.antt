@@ -169,18 +169,18 @@ some_items_left c bytes e = some_items c bytes (not_none bytes e)
 
 -- ---- the line of a command
 
-pub no_command_word : (threads : ℕ) (thread : List ℕ) (words : List (List ℕ)) → words ≡ [] → command_cause threads thread words ≡ Some Command
+pub no_command_word : (version threads : ℕ) (thread : List ℕ) (words : List (List ℕ)) → words ≡ [] → command_cause version threads thread words ≡ Some Command
 unfolding command_cause
-no_command_word threads thread words e = rw e refl
+no_command_word version threads thread words e = rw e refl
 
-pub no_kind : (threads : ℕ) (thread : List ℕ) (words : List (List ℕ)) (w : List ℕ) (more : List (List ℕ)) → words ≡ w ∷ more → kind_named kinds w ≡ None → command_cause threads thread words ≡ Some Command
+pub no_kind : (version threads : ℕ) (thread : List ℕ) (words : List (List ℕ)) (w : List ℕ) (more : List (List ℕ)) → words ≡ w ∷ more → kind_named (kinds version) w ≡ None → command_cause version threads thread words ≡ Some Command
 unfolding command_cause
-no_kind threads thread words w more e none = rw (e, none) refl
+no_kind version threads thread words w more e none = rw (e, none) refl
 
-pub kind_known : (threads : ℕ) (thread : List ℕ) (words : List (List ℕ)) (w : List ℕ) (more : List (List ℕ)) (k : CommandKind) → words ≡ w ∷ more → kind_named kinds w ≡ Some k
-    → command_cause threads thread words ≡ cond (eqb (length more) (length (limits k))) (numbers_cause (ranges_of threads (limits k)) (thread ∷ more)) (Some Command)
+pub kind_known : (version threads : ℕ) (thread : List ℕ) (words : List (List ℕ)) (w : List ℕ) (more : List (List ℕ)) (k : CommandKind) → words ≡ w ∷ more → kind_named (kinds version) w ≡ Some k
+    → command_cause version threads thread words ≡ cond (eqb (length more) (length (limits k))) (numbers_cause (ranges_of threads (limits k)) (thread ∷ more)) (Some Command)
 unfolding command_cause
-kind_known threads thread words w more k e known = rw (e, known) refl
+kind_known version threads thread words w more k e known = rw (e, known) refl
 
 pub thread_first : (threads : ℕ) (thread : List ℕ) (bounds : List ℕ) (more : List (List ℕ)) → numbers_cause (ranges_of threads bounds) (thread ∷ more) ≡ first_cause (number_cause 1 threads thread) (numbers_cause (map (λ limit. (0, limit)) bounds) more)
 unfolding numbers_cause
@@ -192,14 +192,14 @@ differs m n ne = grind (arith, nat_tests)
 pub agrees : (m n : ℕ) → m ≡ n → eqb m n ≡ true
 agrees m n e = grind (arith, nat_tests)
 
-pub other_numbers : (threads : ℕ) (thread : List ℕ) (words : List (List ℕ)) (w : List ℕ) (more : List (List ℕ)) (k : CommandKind) → words ≡ w ∷ more → kind_named kinds w ≡ Some k → (length more ≡ length (limits k) → ⊥)
-    → command_cause threads thread words ≡ Some Command
-other_numbers threads thread words w more k e known other = kind_known threads thread words w more k e known ∙ rw (differs (length more) (length (limits k)) other) refl
+pub other_numbers : (version threads : ℕ) (thread : List ℕ) (words : List (List ℕ)) (w : List ℕ) (more : List (List ℕ)) (k : CommandKind) → words ≡ w ∷ more → kind_named (kinds version) w ≡ Some k → (length more ≡ length (limits k) → ⊥)
+    → command_cause version threads thread words ≡ Some Command
+other_numbers version threads thread words w more k e known other = kind_known version threads thread words w more k e known ∙ rw (differs (length more) (length (limits k)) other) refl
 
-pub command_numbers : (threads : ℕ) (thread : List ℕ) (words : List (List ℕ)) (w : List ℕ) (more : List (List ℕ)) (k : CommandKind) → words ≡ w ∷ more → kind_named kinds w ≡ Some k → length more ≡ length (limits k)
-    → command_cause threads thread words ≡ first_cause (number_cause 1 threads thread) (numbers_cause (map (λ limit. (0, limit)) (limits k)) more)
-command_numbers threads thread words w more k e known same =
-    kind_known threads thread words w more k e known ∙ rw (agrees (length more) (length (limits k)) same) (thread_first threads thread (limits k) more)
+pub command_numbers : (version threads : ℕ) (thread : List ℕ) (words : List (List ℕ)) (w : List ℕ) (more : List (List ℕ)) (k : CommandKind) → words ≡ w ∷ more → kind_named (kinds version) w ≡ Some k → length more ≡ length (limits k)
+    → command_cause version threads thread words ≡ first_cause (number_cause 1 threads thread) (numbers_cause (map (λ limit. (0, limit)) (limits k)) more)
+command_numbers version threads thread words w more k e known same =
+    kind_known version threads thread words w more k e known ∙ rw (agrees (length more) (length (limits k)) same) (thread_first threads thread (limits k) more)
 
 -- ---- the loop over the words of a command
 

@@ -58,7 +58,7 @@ title_cause title ranges (w ∷ ws) = if is_same w title && (length ws == length
 
 -- the ranges of the three lines; fewer regions are reserved than there are
 abbrev pub version_ranges : List (ℕ × ℕ)
-version_ranges = (1, 1) ∷ []
+version_ranges = (1, 2) ∷ []
 
 abbrev pub heap_ranges : List (List ℕ) → List (ℕ × ℕ)
 heap_ranges ws = (4, 64) ∷ (64, 1024) ∷ (0, digits_value 10 (slice_index_or ws 1 []) - 1) ∷ []
@@ -81,10 +81,10 @@ abbrev pub numbers_of_kind : ℕ → List ℕ → Option CommandKind → List (L
 numbers_of_kind threads thread None ws = Some Command
 numbers_of_kind threads thread (Some k) ws = if length ws == length (limits k) then numbers_cause (ranges_of threads (limits k)) (thread ∷ ws) else Some Command
 
--- a line of a command: the thread's word, the command's word, and its numbers
-unfoldable pub command_cause : ℕ → List ℕ → List (List ℕ) → Option Why
-command_cause threads thread [] = Some Command
-command_cause threads thread (w ∷ ws) = numbers_of_kind threads thread (kind_named kinds w) ws
+-- a line of a command that the version has: the thread's word, the command's word, and its numbers
+unfoldable pub command_cause : (version threads : ℕ) → List ℕ → List (List ℕ) → Option Why
+command_cause version threads thread [] = Some Command
+command_cause version threads thread (w ∷ ws) = numbers_of_kind threads thread (kind_named (kinds version) w) ws
 
 -- ---- items
 

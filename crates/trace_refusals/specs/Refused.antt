@@ -3,7 +3,7 @@ use Rattle.std.specs.Prelude.{ℕ, ◌≡◌, ◌⊎◌, ◌+◌, ◌≤◌, Boo
 use Rattle.heap_words.specs.declared.config.Config.{Config}
 use Rattle.heap_words.specs.Narrow.{IsNarrow}
 use Rattle.heap_words.specs.declared.schedule.Item.{Item}
-use Rattle.trace_grammar.specs.Spelling.{space, newline, titled, TraceLine, line, IsLine, schedule_line, IsScheduleLine}
+use Rattle.trace_grammar.specs.Spelling.{space, newline, titled, TraceLine, line, IsVersion, IsLine, schedule_line, IsScheduleLine}
 use Rattle.trace_grammar.specs.Grammar.{most_bytes}
 use Rattle.trace_grammar.specs.declared.why.Why.{Why}
 use Rattle.trace_grammar.specs.declared.why.Why.TheVariants.{EndOfLine, ScheduleLast}
@@ -11,34 +11,34 @@ use Rattle.trace_refusals.specs.Causes.{parts, is_same, title_cause, version_ran
 
 -- what is to stand on a line
 pub data LineStage : Type 0 where
-  -- the version, the heap, and the threads behind a heap of these sizes
+  -- the version; the heap of a trace of that version; and the threads behind a heap of these sizes
   Version : LineStage
-  Heap : LineStage
-  Threads : (regions region_words reserve : ℕ) → LineStage
-  -- a command, or a line of the schedule
-  Commands : Config → LineStage
+  Heap : (version : ℕ) → LineStage
+  Threads : (version regions region_words reserve : ℕ) → LineStage
+  -- a command that the version has, or a line of the schedule
+  Commands : (version : ℕ) → Config → LineStage
   -- a line of the schedule
   Turns : Config → LineStage
 
 -- behind the head, where a line of the schedule stands before it or not
-abbrev pub body_stage : Config → Bool → LineStage
-body_stage c false = Commands c
-body_stage c true = Turns c
+abbrev pub body_stage : (version : ℕ) → Config → Bool → LineStage
+body_stage version c false = Commands version c
+body_stage version c true = Turns c
 
 -- ---- the lines of a trace
 
-abbrev pub IsCommandLine : Config → List ℕ → Type 0
-IsCommandLine c text = (l : TraceLine) × IsLine c.mutators l × (text ++ newline ∷ [] ≡ line l)
+abbrev pub IsCommandLine : (version : ℕ) → Config → List ℕ → Type 0
+IsCommandLine version c text = (l : TraceLine) × IsLine version c.mutators l × (text ++ newline ∷ [] ≡ line l)
 
 abbrev pub IsTurnItem : Config → List ℕ → Type 0
 IsTurnItem c text = (items : List Item) × IsScheduleLine c items × (text ++ newline ∷ [] ≡ schedule_line items)
 
 -- this text, with the end of its line, is a line of the grammar there, and what is to stand on the next
 abbrev pub LineFollows : LineStage → List ℕ → LineStage → Type 0
-LineFollows Version text next = (text ++ newline ∷ [] ≡ titled (codes "shen") (1 ∷ [])) × (next ≡ Heap)
-LineFollows Heap text next = (c : Config) × IsNarrow c × (text ++ newline ∷ [] ≡ titled (codes "heap") (c.regions ∷ c.region_words ∷ c.reserve ∷ [])) × (next ≡ Threads c.regions c.region_words c.reserve)
-LineFollows (Threads r w e) text next = (c : Config) × (c.regions ≡ r) × (c.region_words ≡ w) × (c.reserve ≡ e) × (text ++ newline ∷ [] ≡ titled (codes "threads") (c.mutators ∷ c.helpers ∷ [])) × (next ≡ Commands c)
-LineFollows (Commands c) text next = (IsCommandLine c text × (next ≡ Commands c)) ⊎ (IsTurnItem c text × (next ≡ Turns c))
+LineFollows Version text next = (v : ℕ) × IsVersion v × (text ++ newline ∷ [] ≡ titled (codes "shen") (v ∷ [])) × (next ≡ Heap v)
+LineFollows (Heap v) text next = (c : Config) × IsNarrow c × (text ++ newline ∷ [] ≡ titled (codes "heap") (c.regions ∷ c.region_words ∷ c.reserve ∷ [])) × (next ≡ Threads v c.regions c.region_words c.reserve)
+LineFollows (Threads v r w e) text next = (c : Config) × (c.regions ≡ r) × (c.region_words ≡ w) × (c.reserve ≡ e) × (text ++ newline ∷ [] ≡ titled (codes "threads") (c.mutators ∷ c.helpers ∷ [])) × (next ≡ Commands v c)
+LineFollows (Commands v c) text next = (IsCommandLine v c text × (next ≡ Commands v c)) ⊎ (IsTurnItem c text × (next ≡ Turns c))
 LineFollows (Turns c) text next = IsTurnItem c text × (next ≡ Turns c)
 
 -- these lines follow one on the other
@@ -54,21 +54,21 @@ body_cause c other [] = other
 body_cause c other (w ∷ ws) = if is_same w (33 ∷ []) then schedule_cause c ws else other
 
 -- a line of a command, by its words
-abbrev pub command_line_cause : Config → List (List ℕ) → Option Why
-command_line_cause c [] = None
-command_line_cause c (w ∷ ws) = command_cause c.mutators w ws
+abbrev pub command_line_cause : (version : ℕ) → Config → List (List ℕ) → Option Why
+command_line_cause version c [] = None
+command_line_cause version c (w ∷ ws) = command_cause version c.mutators w ws
 
 -- the first cause that holds for a line with these words
 unfoldable pub words_cause : LineStage → List (List ℕ) → Option Why
 words_cause Version ws = title_cause (codes "shen") version_ranges ws
-words_cause Heap ws = title_cause (codes "heap") (heap_ranges ws) ws
-words_cause (Threads r w e) ws = title_cause (codes "threads") threads_ranges ws
-words_cause (Commands c) ws = body_cause c (command_line_cause c ws) ws
+words_cause (Heap v) ws = title_cause (codes "heap") (heap_ranges ws) ws
+words_cause (Threads v r w e) ws = title_cause (codes "threads") threads_ranges ws
+words_cause (Commands v c) ws = body_cause c (command_line_cause v c ws) ws
 words_cause (Turns c) ws = body_cause c (Some ScheduleLast) ws
 
 -- the bytes end here, with this text behind the last end of a line
 abbrev pub end_cause : LineStage → List ℕ → Option Why
-end_cause (Commands c) [] = None
+end_cause (Commands v c) [] = None
 end_cause (Turns c) [] = None
 end_cause _ text = Some EndOfLine
 

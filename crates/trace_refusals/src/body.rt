@@ -8,21 +8,7 @@ use crate::items::schedule_cause;
 use crate::numbers::{number_cause, numbers_cause};
 use crate::parts::{count_words, cut, next_word};
 use heap_words::Config;
-use trace_grammar::{CommandKind, Why};
-
-const KINDS: [CommandKind; 11] = [
-    CommandKind::New,
-    CommandKind::Get,
-    CommandKind::Set,
-    CommandKind::Cas,
-    CommandKind::Xchg,
-    CommandKind::Rd,
-    CommandKind::Wr,
-    CommandKind::Copy,
-    CommandKind::Drop,
-    CommandKind::Same,
-    CommandKind::Gc,
-];
+use trace_grammar::{CommandKind, Why, kinds_of};
 
 /// The first of these kinds that has this word.
 fn kind_among(kinds: &[CommandKind], word: &[u8]) -> Option<CommandKind>
@@ -51,14 +37,14 @@ fn limits_cause(limits: &[u64], words: &[u8]) -> Option<Why>
     None
 }
 
-/// Why the words behind the thread's are no command, or the thread is none of so many.
-fn command_cause(threads: u64, thread: &[u8], words: &[u8]) -> Option<Why>
-    ensures { result ≡ command_cause threads thread.now (parts_behind 32 words.now) }
+/// Why the words behind the thread's are no command that the version has, or the thread is none of so many.
+fn command_cause(version: u32, threads: u64, thread: &[u8], words: &[u8]) -> Option<Why>
+    ensures { result ≡ command_cause version threads thread.now (parts_behind 32 words.now) }
 {
     let Some((word, numbers)) = next_word(words) else {
         return Some(Why::Command);
     };
-    let Some(kind) = kind_among(&KINDS, word) else {
+    let Some(kind) = kind_among(kinds_of(version), word) else {
         return Some(Why::Command);
     };
     if count_words(numbers) != kind.limits().len() {
@@ -70,10 +56,10 @@ fn command_cause(threads: u64, thread: &[u8], words: &[u8]) -> Option<Why>
     }
 }
 
-/// Why a line behind the head, given without its end, is none, where a line of the schedule stands before it or not: the first cause
-/// that holds.
-pub fn text_cause(config: &Config, behind_schedule: bool, text: &[u8]) -> Option<Why>
-    ensures { result ≡ words_cause (body_stage config.now behind_schedule) (parts 32 text.now) }
+/// Why a line behind the head of a trace of a version, given without its end, is none, where a line of the schedule stands before it
+/// or not: the first cause that holds.
+pub fn text_cause(version: u32, config: &Config, behind_schedule: bool, text: &[u8]) -> Option<Why>
+    ensures { result ≡ words_cause (body_stage version config.now behind_schedule) (parts 32 text.now) }
 {
     let (word, words) = cut(b' ', text);
     if word == b"!".as_slice() {
@@ -81,18 +67,23 @@ pub fn text_cause(config: &Config, behind_schedule: bool, text: &[u8]) -> Option
     } else if behind_schedule {
         Some(Why::ScheduleLast)
     } else {
-        command_cause(config.mutators() as u64, word, words)
+        command_cause(version, config.mutators() as u64, word, words)
     }
 }
 
-/// Why the line at the front of the bytes is none, where a line of the schedule stands before it or not. Without bytes
-/// there is no cause.
-pub fn body_refusal(config: &Config, behind_schedule: bool, bytes: &[u8]) -> Option<Why>
-    ensures { result ≡ cause_of (body_stage config.now behind_schedule) (parts 10 bytes.now) }
+/// Why the line at the front of the bytes is none in a trace of a version, where a line of the schedule stands before it or not.
+/// Without bytes there is no cause.
+pub fn body_refusal(
+    version: u32,
+    config: &Config,
+    behind_schedule: bool,
+    bytes: &[u8],
+) -> Option<Why>
+    ensures { result ≡ cause_of (body_stage version config.now behind_schedule) (parts 10 bytes.now) }
 {
     let (text, end) = cut(b'\n', bytes);
     if !end.is_empty() {
-        text_cause(config, behind_schedule, text)
+        text_cause(version, config, behind_schedule, text)
     } else if text.is_empty() {
         None
     } else {

@@ -4,7 +4,7 @@ ghost use Rattle.std.specs.Str.Parse.{digits_value};
 ghost use Rattle.trace_refusals.specs.Causes.{parts, number_cause, title_cause};
 ghost use Rattle.heap_words.specs.declared.config.Config.{Config};
 ghost use Rattle.heap_words.specs.Narrow.{IsNarrow};
-ghost use Rattle.trace_grammar.specs.Spelling.{header};
+ghost use Rattle.trace_grammar.specs.Spelling.{IsVersion, header};
 ghost use Rattle.trace_refusals.specs.Refused.{cause_of, StopsAt};
 ghost use Rattle.trace_refusals.specs.Refused as stage;
 
@@ -55,14 +55,14 @@ fn version_cause(bytes: &[u8]) -> Option<Why>
     ensures { result ≡ cause_of stage.Version (parts 10 bytes.now) }
 {
     match line_at(bytes) {
-        Some((text, _)) => title_cause(b"shen", &[(1, 1)], text),
+        Some((text, _)) => title_cause(b"shen", &[(1, 2)], text),
         None => Some(Why::EndOfLine),
     }
 }
 
 /// Why no line of the heap stands at the front.
 fn heap_cause(bytes: &[u8]) -> Option<Why>
-    ensures { result ≡ cause_of stage.Heap (parts 10 bytes.now) }
+    ensures { (v : ℕ) → result ≡ cause_of (stage.Heap v) (parts 10 bytes.now) }
 {
     match line_at(bytes) {
         Some((text, _)) => title_cause(
@@ -76,7 +76,7 @@ fn heap_cause(bytes: &[u8]) -> Option<Why>
 
 /// Why no line of the threads stands at the front.
 fn threads_cause(bytes: &[u8]) -> Option<Why>
-    ensures { (r w e : ℕ) → result ≡ cause_of (stage.Threads r w e) (parts 10 bytes.now) }
+    ensures { (v r w e : ℕ) → result ≡ cause_of (stage.Threads v r w e) (parts 10 bytes.now) }
 {
     match line_at(bytes) {
         Some((text, _)) => title_cause(b"threads", &[(1, 8), (0, 3)], text),
@@ -105,7 +105,7 @@ pub struct Refusal {
 
 /// The first line of a trace's head that is refused, and why. None: the bytes begin with a head.
 pub fn head_refusal(bytes: &[u8]) -> Option<Refusal>
-    ensures { MatchOption result ((c : Config) × (rest : List ℕ) × IsNarrow c × (bytes.now ≡ header c ++ rest)) (λ r. StopsAt bytes.now r.line r.why) }
+    ensures { MatchOption result ((v : ℕ) × (c : Config) × (rest : List ℕ) × IsVersion v × IsNarrow c × (bytes.now ≡ header v c ++ rest)) (λ r. StopsAt bytes.now r.line r.why) }
 {
     if let Some(why) = version_cause(bytes) {
         return Some(Refusal { line: 1, why });

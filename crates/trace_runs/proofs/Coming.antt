@@ -8,7 +8,7 @@ use Rattle.heap_words.specs.declared.config.Config.{Config}
 use Rattle.heap_words.specs.declared.schedule.Item.{Item}
 use Rattle.heap_words.specs.Ranges.{seat_count}
 use Rattle.steps_base.specs.Steps.{Stage, IsReached}
-use Rattle.shen_graph.specs.GraphText.{Text, names_of, root_of}
+use Rattle.shen_graph.specs.GraphText.{Text, names_of, root_of, pin_of}
 use Rattle.shen_graph.specs.History.{Entry, after, of_thread}
 use Rattle.shen_graph.specs.History as history
 use Rattle.shen_graph.specs.Work as work
@@ -136,17 +136,18 @@ module _ (c : Config) (scripts : Scripts) (jobs : Jobs) (end : Closed) (done : H
 
 -- ---- the answer
 
-pub answered : (bytes : List ℕ) (c : Config) (scripts : Scripts) (items : List Item) (jobs : Jobs) (end : Closed) (text : Text)
-    → Reads bytes c scripts items → length scripts ≡ c.mutators → (done : HasCome c scripts jobs end) → length text.roots ≡ c.mutators → texts.ShowsGraph text c.mutators (after (first_graph c) (come_past c scripts jobs end done))
-    → IsRun bytes (answer_text (length text.roots) (λ t. work.replies_of jobs (t - 1)) text.rows (root_of text))
-answered bytes c scripts items jobs end text reads count done roots shows = record {
+pub answered : (bytes : List ℕ) (v : ℕ) (c : Config) (scripts : Scripts) (items : List Item) (jobs : Jobs) (end : Closed) (text : Text)
+    → Reads bytes v c scripts items → length scripts ≡ c.mutators → (done : HasCome c scripts jobs end) → length text.roots ≡ c.mutators → texts.ShowsGraph text c.mutators (after (first_graph c) (come_past c scripts jobs end done))
+    → IsRun bytes (answer_text v (length text.roots) (λ t. work.replies_of jobs (t - 1)) text.rows (root_of text) (pin_of text))
+answered bytes v c scripts items jobs end text reads count done roots shows = record {
+  version = v;
   config = c;
   scripts = scripts;
   items = items;
   reads = reads;
   events = done.reached.events;
   whole = come_whole c scripts jobs end done count;
-  text = record { names = names_of text; reach = shows.reach; text = ends.text_shown c.mutators jobs (come_past c scripts jobs end done) text roots shows replies };
+  text = record { names = names_of text; reach = shows.reach; text = ends.text_shown v c.mutators jobs (come_past c scripts jobs end done) text roots shows replies };
 }
   where
     replies : (t : ℕ) → 1 ≤ t → t ≤ c.mutators → work.replies_of jobs (t - 1) ≡ history.replies_of (of_thread (come_past c scripts jobs end done) t)

@@ -1,6 +1,6 @@
 -- Where nothing fails, the statuses that are left by what the words ask for: where that reads a trace and one comes, and where it
 -- reads nothing.
-use Rattle.std.proofs.Common.{◌≡◌, ◌⊎◌, inl, inr, ℕ, ◌≤◌, List, ◌++◌, length, Option, Some, None, refl, sym, ap, subst, ◌∙◌, arith}
+use Rattle.std.proofs.Common.{◌≡◌, ◌⊎◌, inl, inr, ℕ, ◌≤◌, List, [], ◌++◌, length, Option, Some, None, refl, sym, ap, subst, ◌∙◌, arith}
 use Rattle.std.specs.Io.KnownBytes.{Consumes, IsAtEnd}
 use Rattle.std.proofs.lemmas.List.{length-append, append-nil}
 use Rattle.shen_base.specs.Count.{Rose}
@@ -41,14 +41,14 @@ came_short bytes other before after told taken = by_after after (subst (λ (b : 
 -- bytes that are read are not too many, and are neither refused nor too large
 takes_few : (reading : Reading) (bytes : List ℕ) → Takes reading bytes → length bytes ≤ most_bytes
 takes_few ReadNothing bytes takes = absurd takes
-takes_few ReadTrace bytes takes = takes.3.short
-takes_few ReadPair bytes takes = takes.5.short
+takes_few ReadTrace bytes takes = takes.4.short
+takes_few ReadPair bytes takes = takes.6.short
 takes_few ReadDump bytes takes = takes.0.resumes.short
 
 takes_or_refuses : (reading : Reading) (bytes : List ℕ) (n : ℕ) (why : Why) → Takes reading bytes → Refuses reading bytes n why → ⊥
 takes_or_refuses ReadNothing bytes n why takes refuses = takes
-takes_or_refuses ReadTrace bytes n why takes refuses = never_both bytes takes.0 takes.1 takes.2 n why takes.3 refuses.0
-takes_or_refuses ReadPair bytes n why takes refuses = pair.never_both bytes takes.0 takes.1 takes.2 takes.3 takes.4 n why takes.5 refuses
+takes_or_refuses ReadTrace bytes n why takes refuses = never_both bytes takes.0 takes.1 takes.2 takes.3 n why takes.4 refuses.0
+takes_or_refuses ReadPair bytes n why takes refuses = pair.never_both bytes takes.0 takes.1 takes.2 takes.3 takes.4 takes.5 n why takes.6 refuses
 takes_or_refuses ReadDump bytes n why takes refuses =
     let read = takes.0 in
     reread.never_both bytes (dumped read.config read.counts read.graph) read.scripts read.items n why read.resumes refuses.0
@@ -56,7 +56,7 @@ takes_or_refuses ReadDump bytes n why takes refuses =
 -- two readings of bytes are of one dump, and so fit alike
 fits_alike : (c k : Config) (xs ys : List ℕ) (t u : Text) → dumped c xs t ≡ dumped k ys u → Fits c t → Fits k u
 fits_alike c k xs ys t u same fits =
-    subst (λ (d : Dumped). Fits d.config (record { rows = d.rows; roots = d.roots; spare = 0; room = 0 })) same fits
+    subst (λ (d : Dumped). Fits d.config (record { rows = d.rows; roots = d.roots; pins = []; spare = 0; room = 0 })) same fits
 
 takes_or_large : (reading : Reading) (bytes : List ℕ) → Takes reading bytes → IsTooLarge reading bytes → ⊥
 takes_or_large ReadNothing bytes takes large = takes

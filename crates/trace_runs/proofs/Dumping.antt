@@ -47,49 +47,50 @@ fits_value : (c : Command) → FitsWhenWritten c → FitsValue c
 fits_value (Wr obj index value) fits = fits
 fits_value _ fits = tt
 
-in_range : (c : Config) (es : List Entry) → All (λ e. IsOfScript c e.thread e.command) es → All (IsEntryInRange c.mutators) es
-in_range c es asked =
-    All-weaker (λ (e : Entry). IsOfScript c e.thread e.command) (IsEntryInRange c.mutators) (λ e is. record { from_first = is.from_one; to_last = is.to_last; valid = is.fits.0; fits = fits_value e.command is.fits.1 }) es asked
+in_range : (v : ℕ) (c : Config) (es : List Entry) → All (λ e. IsOfScript v c e.thread e.command) es → All (IsEntryInRange c.mutators) es
+in_range v c es asked =
+    All-weaker (λ (e : Entry). IsOfScript v c e.thread e.command) (IsEntryInRange c.mutators) (λ e is. record { from_first = is.from_one; to_last = is.to_last; valid = is.fits.1; fits = fits_value e.command is.fits.2 }) es asked
 
-short_of : (bytes : List ℕ) (c : Config) (scripts : Scripts) (items : List Item) (t : ℕ) → Reads bytes c scripts items → length (script_of scripts t) ≤ most_bytes
-short_of bytes c scripts items zero reads = omega arith
-short_of bytes c scripts items (suc t) reads = by_thread (cases_lt t c.mutators)
+short_of : (bytes : List ℕ) (v : ℕ) (c : Config) (scripts : Scripts) (items : List Item) (t : ℕ) → Reads bytes v c scripts items → length (script_of scripts t) ≤ most_bytes
+short_of bytes v c scripts items zero reads = omega arith
+short_of bytes v c scripts items (suc t) reads = by_thread (cases_lt t c.mutators)
   where
     none : List Command
     none = []
 
     by_thread : (t < c.mutators) ⊎ (c.mutators ≤ t) → length (get_or scripts t []) ≤ most_bytes
-    by_thread (inl below) = short_script bytes c scripts items t reads below
+    by_thread (inl below) = short_script bytes v c scripts items t reads below
     by_thread (inr past_all) =
-        let count = count_scripts bytes c scripts items reads in
+        let count = count_scripts bytes v c scripts items reads in
         let empty = ap (λ (cs : List Command). length cs) (get_or_past scripts t none (omega (arith, count, past_all))) in
         omega (arith, empty)
 
 -- the history of a trace that comes to an end has a dump
-dumpable : (bytes : List ℕ) (c : Config) (scripts : Scripts) (items : List Item) (events : List (Event Order)) → Reads bytes c scripts items → IsWhole c scripts events → IsDumpable c.mutators (past pause_image c events)
-dumpable bytes c scripts items events reads whole = record {
-  each = subst (λ (n : ℕ). EachIsLegal (graph_opening n) h) (count_scripts bytes c scripts items reads) whole.legal.each;
-  entries = in_range c h (each_asked bytes c scripts items h reads whole.follows);
+dumpable : (bytes : List ℕ) (v : ℕ) (c : Config) (scripts : Scripts) (items : List Item) (events : List (Event Order)) → Reads bytes v c scripts items → IsWhole c scripts events → IsDumpable c (past pause_image c events)
+dumpable bytes v c scripts items events reads whole = record {
+  each = subst (λ (n : ℕ). EachIsLegal c.regions c.region_words (graph_opening n) h) (count_scripts bytes v c scripts items reads) whole.legal.each;
+  entries = in_range v c h (each_asked bytes v c scripts items h reads whole.follows);
   few = λ t.
       let same = ap (λ (cs : List Command). length cs) (whole.follows t) in
-      omega (arith, made_few h t, length-map (of_thread h t) (λ (e : Entry). e.command), same, short_of bytes c scripts items t reads);
+      omega (arith, made_few h t, length-map (of_thread h t) (λ (e : Entry). e.command), same, short_of bytes v c scripts items t reads);
 }
   where
     h : List Entry
     h = past pause_image c events
 
-module _ (bytes : List ℕ) (c : Config) (scripts : Scripts) (items : List Item) (limit : ℕ) (jobs : Jobs) (p : Plain) (noted : List Entry) (reads : Reads bytes c scripts items) (done : HasFinished c scripts items limit jobs p) (are : noted ≡ history_of c scripts items limit) where
+module _ (bytes : List ℕ) (v : ℕ) (c : Config) (scripts : Scripts) (items : List Item) (limit : ℕ) (jobs : Jobs) (p : Plain) (noted : List Entry) (reads : Reads bytes v c scripts items) (done : HasFinished c scripts items limit jobs p) (are : noted ≡ history_of c scripts items limit) where
   whole_of : IsWhole c scripts (events_of c scripts items limit)
-  whole_of = whole c scripts (events_of c scripts items limit) (count_scripts bytes c scripts items reads) done.idle done.called
+  whole_of = whole c scripts (events_of c scripts items limit) (count_scripts bytes v c scripts items reads) done.idle done.called
 
-  pub noted_dumpable : IsDumpable c.mutators noted
-  noted_dumpable = subst (IsDumpable c.mutators) (sym are) (dumpable bytes c scripts items (events_of c scripts items limit) reads whole_of)
+  pub noted_dumpable : IsDumpable c noted
+  noted_dumpable = subst (IsDumpable c) (sym are) (dumpable bytes v c scripts items (events_of c scripts items limit) reads whole_of)
 
   pub noted_shown : (text : Text) → ShowsGraph text c.mutators (after (first_graph c) (history_of c scripts items limit)) → ShowsGraph text c.mutators (after (graph_opening c.mutators) noted)
   noted_shown text shows = subst (λ (h : List Entry). ShowsGraph text c.mutators (after (graph_opening c.mutators) h)) (sym are) shows
 
   pub replayed_to_dump : (d : Dumped) → IsDumpOf c (after (graph_opening c.mutators) noted) d → d.counts ≡ objects_made_by_each noted c.mutators → IsReplayedToDump bytes limit (dump_text d)
   replayed_to_dump d is counts = record {
+    version = v;
     config = c;
     scripts = scripts;
     items = items;

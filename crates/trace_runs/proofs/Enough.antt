@@ -80,12 +80,13 @@ enough c scripts (suc few) (suc many) todo s le none = by_next (next c scripts s
 -- A trace that is replayed by so many steps is replayed by more, with the same answer.
 pub more_steps : (bytes : List ℕ) (few many : ℕ) (out : List ℕ) → few ≤ many → IsReplayed bytes few out → IsReplayed bytes many out
 more_steps bytes few many out le r = record {
+  version = r.version;
   config = r.config;
   scripts = r.scripts;
   items = r.items;
   reads = r.reads;
   whole = subst (λ events. IsWhole r.config r.scripts events) (sym same) r.whole;
-  text = subst (λ events. IsAnswerText r.config.mutators (past pause_image r.config events) out) (sym same) r.text;
+  text = subst (λ events. IsAnswerText r.version r.config.mutators (past pause_image r.config events) out) (sym same) r.text;
 }
   where
     end : ℕ → List (Event Order)

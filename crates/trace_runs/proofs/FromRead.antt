@@ -1,5 +1,5 @@
 -- What comes of a dump that was read.
-use Rattle.std.proofs.Common.{◌≡◌, ℕ, List, ◌++◌, ap}
+use Rattle.std.proofs.Common.{ℕ, List}
 use Rattle.shen_graph.specs.declared.command.Command.{Command}
 use Rattle.shen_graph.specs.GraphText.{Text}
 use Rattle.heap_words.specs.declared.config.Config.{Config}
@@ -8,15 +8,14 @@ use Rattle.graph_placing.specs.ByName.{Fits}
 use Rattle.dump_writing.specs.Dumped.{dumped}
 use Rattle.dump_reading.specs.Resumes.{Resumes}
 use Rattle.dump_runs.specs.Resumed.{IsResumed, IsCutFrom}
-use Rattle.dump_answers.specs.PinsText.{pins_text}
 use Rattle.trace_runs.specs.FromDumps.{IsDumpAndMore, IsAnswerFromDump, IsCutFromDump, IsTooLargeDump}
 
 module _ (bytes : List ℕ) (c : Config) (counts : List ℕ) (graph : Text) (scripts : List (List Command)) (items : List Item) (resumes : Resumes bytes (dumped c counts graph) scripts items) where
   abbrev read_so : IsDumpAndMore bytes
   read_so = record { config = c; counts = counts; graph = graph; scripts = scripts; items = items; resumes = resumes }
 
-  pub answered_from : (limit threads : ℕ) (answer : List ℕ) → Fits c graph → IsResumed c counts graph scripts items limit answer → threads ≡ c.mutators → IsAnswerFromDump bytes limit (answer ++ pins_text threads)
-  answered_from limit threads answer fits resumed same = record { read = read_so; fits = fits; answer = answer; resumed = resumed; out_is = ap (λ (n : ℕ). answer ++ pins_text n) same }
+  pub answered_from : (limit : ℕ) (answer : List ℕ) → Fits c graph → IsResumed c counts graph scripts items limit answer → IsAnswerFromDump bytes limit answer
+  answered_from limit answer fits resumed = record { read = read_so; fits = fits; resumed = resumed }
 
   pub cut_from : (limit : ℕ) → Fits c graph → IsCutFrom c counts graph scripts items limit → IsCutFromDump bytes limit
   cut_from limit fits cut = record { read = read_so; fits = fits; cut = cut }

@@ -51,11 +51,11 @@ finished p q c scripts items limit jobs later same shows count opened runs kept 
       jobs_are = λ t below. can.jobs_are t (subst (λ (d : Config). t < d.mutators) (sym (kept ∙ same)) below);
     }
 
-pub unfinished : (p q : Plain) (bytes : List ℕ) (c : Config) (scripts : Scripts) (items : List Item) (limit : ℕ) (jobs later : Jobs) → config_of p ≡ c → Shows p (opening c) → length scripts ≡ c.mutators → jobs ≡ work.opened scripts
-    → RunsSchedule p jobs items limit q later Unfinished → Reads bytes c scripts items → IsUnfinished bytes limit
-unfinished p q bytes c scripts items limit jobs later same shows count opened runs reads =
+pub unfinished : (p q : Plain) (bytes : List ℕ) (v : ℕ) (c : Config) (scripts : Scripts) (items : List Item) (limit : ℕ) (jobs later : Jobs) → config_of p ≡ c → Shows p (opening c) → length scripts ≡ c.mutators → jobs ≡ work.opened scripts
+    → RunsSchedule p jobs items limit q later Unfinished → Reads bytes v c scripts items → IsUnfinished bytes limit
+unfinished p q bytes v c scripts items limit jobs later same shows count opened runs reads =
     let ran = has_run p q c scripts items limit jobs later Unfinished same shows count opened runs in
-    record { config = c; scripts = scripts; items = items; reads = reads; cut = record { busy = ran.ended.0; count = ran.ended.1 } }
+    record { version = v; config = c; scripts = scripts; items = items; reads = reads; cut = record { busy = ran.ended.0; count = ran.ended.1 } }
 
 -- ---- a run that is noted
 

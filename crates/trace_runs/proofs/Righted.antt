@@ -19,18 +19,19 @@ noted_is_right bytes limit out r short =
     let c = r.config in
     let entries = history_of c r.scripts r.items limit in
     let count : length r.scripts ≡ c.mutators = ap length r.reads.by_thread ∙ length-map-range_with_len (commands_in r.reads.lines) 1 c.mutators in
-    let each : EachIsLegal (opening c.mutators) entries = subst (λ (n : ℕ). EachIsLegal (opening n) entries) count r.whole.legal.each in
+    let each : EachIsLegal c.regions c.region_words (opening c.mutators) entries = subst (λ (n : ℕ). EachIsLegal c.regions c.region_words (opening n) entries) count r.whole.legal.each in
     let behind : codes "answer\n" ++ out ≡ codes "answer\n" ++ (r.answer ++ history_text entries) = ap (λ (t : List ℕ). codes "answer\n" ++ t) r.out_is in
-    let pair : IsPair (bytes ++ (codes "answer\n" ++ (r.answer ++ history_text entries))) c r.scripts r.items r.answer entries =
-    made_pair bytes r.answer c r.scripts r.items entries r.reads each r.whole.follows r.text (subst (λ (t : List ℕ). length (bytes ++ t) ≤ most_bytes) behind short) in
+    let pair : IsPair (bytes ++ (codes "answer\n" ++ (r.answer ++ history_text entries))) r.version c r.scripts r.items r.answer entries =
+    made_pair bytes r.answer r.version c r.scripts r.items entries r.reads each r.whole.follows r.text (subst (λ (t : List ℕ). length (bytes ++ t) ≤ most_bytes) behind short) in
     record {
+      version = r.version;
       config = c;
       scripts = r.scripts;
       items = r.items;
       body = r.answer;
       entries = entries;
-      pair = subst (λ (t : List ℕ). IsPair (bytes ++ t) c r.scripts r.items r.answer entries) (sym behind) pair;
+      pair = subst (λ (t : List ℕ). IsPair (bytes ++ t) r.version c r.scripts r.items r.answer entries) (sym behind) pair;
       verdict = Yes;
-      is = record { legal = r.whole.legal; follows = r.whole.follows; text = subst (λ (n : ℕ). IsAnswerText n entries r.answer) (sym count) r.text };
+      is = record { legal = r.whole.legal; follows = r.whole.follows; text = subst (λ (n : ℕ). IsAnswerText r.version n entries r.answer) (sym count) r.text };
       text = refl;
     }

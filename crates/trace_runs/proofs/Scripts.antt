@@ -14,31 +14,31 @@ use Rattle.trace_grammar.specs.Spelling.{line, header, schedule_line}
 use Rattle.trace_grammar.specs.Grammar.{most_bytes, Reads}
 use Rattle.dump_answers.proofs.ScriptLines as lines
 
-pub count_scripts : (bytes : List ℕ) (c : Config) (scripts : List (List Command)) (items : List Item) → Reads bytes c scripts items → length scripts ≡ c.mutators
-count_scripts bytes c scripts items reads = ap length reads.by_thread ∙ lines.count_scripts c.mutators reads.lines
+pub count_scripts : (bytes : List ℕ) (v : ℕ) (c : Config) (scripts : List (List Command)) (items : List Item) → Reads bytes v c scripts items → length scripts ≡ c.mutators
+count_scripts bytes v c scripts items reads = ap length reads.by_thread ∙ lines.count_scripts c.mutators reads.lines
 
 -- a script has no more commands than a trace has bytes, so fewer than there are names
-pub short_script : (bytes : List ℕ) (c : Config) (scripts : List (List Command)) (items : List Item) (t : ℕ) → Reads bytes c scripts items → t < c.mutators → length (get_or scripts t []) ≤ most_bytes
-short_script bytes c scripts items t reads below =
+pub short_script : (bytes : List ℕ) (v : ℕ) (c : Config) (scripts : List (List Command)) (items : List Item) (t : ℕ) → Reads bytes v c scripts items → t < c.mutators → length (get_or scripts t []) ≤ most_bytes
+short_script bytes v c scripts items t reads below =
     let none : List Command = [] in
     let here = ap (λ (ss : List (List Command)). length (get_or ss t none)) reads.by_thread in
     let commands = flat_map line reads.lines in
     let turns = flat_map schedule_line reads.turns in
-    omega (arith, here, lines.short_script c.mutators reads.lines t below, reads.short, ap length reads.spelled, length-append (header c) (commands ++ turns), length-append commands turns)
+    omega (arith, here, lines.short_script c.mutators reads.lines t below, reads.short, ap length reads.spelled, length-append (header v c) (commands ++ turns), length-append commands turns)
 
-pub runnable_scripts : (bytes : List ℕ) (c : Config) (scripts : List (List Command)) (items : List Item) → Reads bytes c scripts items → All IsRunnable scripts
-runnable_scripts bytes c scripts items reads = All-from_get_or IsRunnable scripts [] (λ t within.
+pub runnable_scripts : (bytes : List ℕ) (v : ℕ) (c : Config) (scripts : List (List Command)) (items : List Item) → Reads bytes v c scripts items → All IsRunnable scripts
+runnable_scripts bytes v c scripts items reads = All-from_get_or IsRunnable scripts [] (λ t within.
     let none : List Command = [] in
-    let count = count_scripts bytes c scripts items reads in
+    let count = count_scripts bytes v c scripts items reads in
     let below : t < c.mutators = omega (arith, within, count) in
-    let few = short_script bytes c scripts items t reads below in
-    (subst (λ (ss : List (List Command)). All IsValid (get_or ss t none)) (sym reads.by_thread) (lines.valid_script c.mutators reads.lines t reads.in_range below), omega (arith, few)))
+    let few = short_script bytes v c scripts items t reads below in
+    (subst (λ (ss : List (List Command)). All IsValid (get_or ss t none)) (sym reads.by_thread) (lines.valid_script v c.mutators reads.lines t reads.in_range below), omega (arith, few)))
 
 -- and all scripts together fewer than a machine word counts
-pub few_in_all : (bytes : List ℕ) (c : Config) (scripts : List (List Command)) (items : List Item) → Reads bytes c scripts items → sum_by length scripts ≤ 34359738360
-few_in_all bytes c scripts items reads =
-    let total : sum_by length scripts ≤ length scripts * 4294967295 = sum_by-le length 4294967295 scripts (λ k d below. let few = (runnable_scripts bytes c scripts items reads k d below).1 in omega (arith, few)) in
-    let count = count_scripts bytes c scripts items reads in
+pub few_in_all : (bytes : List ℕ) (v : ℕ) (c : Config) (scripts : List (List Command)) (items : List Item) → Reads bytes v c scripts items → sum_by length scripts ≤ 34359738360
+few_in_all bytes v c scripts items reads =
+    let total : sum_by length scripts ≤ length scripts * 4294967295 = sum_by-le length 4294967295 scripts (λ k d below. let few = (runnable_scripts bytes v c scripts items reads k d below).1 in omega (arith, few)) in
+    let count = count_scripts bytes v c scripts items reads in
     omega (arith, total, count)
 
 -- a loop that has come to a script, and to the next one
@@ -46,5 +46,5 @@ pub one_script_more : (scripts : List (List Command)) (k commands : ℕ) (d : Li
     → commands + length (get_or scripts k d) + sum_by length (drop (k + 1) scripts) ≡ sum_by length scripts
 one_script_more scripts k commands d below so_far = let next = sum_by-drop_more length scripts k d below in omega (arith, next, so_far)
 
-pub items_in_seats : (bytes : List ℕ) (c : Config) (scripts : List (List Command)) (items : List Item) → Reads bytes c scripts items → All (IsInSeats c) items
-items_in_seats bytes c scripts items reads = subst (All (IsInSeats c)) (sym reads.in_order) (lines.items_in_seats c reads.turns reads.turns_in_range)
+pub items_in_seats : (bytes : List ℕ) (v : ℕ) (c : Config) (scripts : List (List Command)) (items : List Item) → Reads bytes v c scripts items → All (IsInSeats c) items
+items_in_seats bytes v c scripts items reads = subst (All (IsInSeats c)) (sym reads.in_order) (lines.items_in_seats c reads.turns reads.turns_in_range)

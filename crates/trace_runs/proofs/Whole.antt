@@ -14,7 +14,8 @@ use Rattle.heap_words.specs.declared.schedule.Item.{Item}
 use Rattle.heap_words.specs.Ranges.{seat_count}
 use Rattle.steps_base.specs.Steps.{Stage, Event}
 use Rattle.shen_graph.specs.Graph.{Reference, Graph, opening as graph_opening}
-use Rattle.shen_graph.specs.GraphText.{Text, Row, names_of, root_of, row_in}
+use Rattle.shen_graph.specs.GraphText.{Text, Row, names_of, root_of, pin_of, row_in}
+use Rattle.shen_graph.specs.Step.{name_in}
 use Rattle.shen_graph.specs.Crowd.{AreCrowded}
 use Rattle.shen_graph.specs.History.{Entry, after, of_thread, commands_of, EachIsLegal}
 use Rattle.shen_graph.specs.History as history
@@ -42,7 +43,7 @@ use Rattle.step_core.proofs.History.Growing.{begun_many, begun_is}
 use Rattle.step_core.proofs.Theorem.EveryList.{every_list}
 use Rattle.step_core.specs.Threads.{IsSettled}
 use Rattle.heap_graph.specs.Shows as texts
-use Rattle.heap_graph.specs.Rows.{root_rows}
+use Rattle.heap_graph.specs.Rows.{root_rows, pin_rows}
 use Rattle.shen_core.specs.declared.plain.Plain.{Plain}
 use Rattle.shen_core.specs.State.{machine_at, Shows}
 use Rattle.step_core.specs.Machines.{order_by, is_resting}
@@ -96,8 +97,8 @@ whole c scripts events count idle all_called = record { idle = idle; follows = f
     sound : IsSound c (first_graph c) (reached pause_image c events) (past pause_image c events)
     sound = end_sound c events
 
-    each : EachIsLegal (graph_opening (length scripts)) (past pause_image c events)
-    each = subst (λ (n : ℕ). EachIsLegal (graph_opening n) (past pause_image c events)) (sym count) sound.legal
+    each : EachIsLegal c.regions c.region_words (graph_opening (length scripts)) (past pause_image c events)
+    each = subst (λ (n : ℕ). EachIsLegal c.regions c.region_words (graph_opening n) (past pause_image c events)) (sym count) sound.legal
 
     crowded : AreCrowded c.regions c.region_words (graph_opening (length scripts)) scripts (past pause_image c events)
     crowded =
@@ -178,42 +179,54 @@ root_shown text g n t i low high lt e =
     ∙ ap (λ (row : List Reference). get_or row i None) (get_or-map-range_with_len (λ k. map (g.root k) (range_with_len 0 16)) 1 n (t - 1) t none (omega arith) (omega arith))
     ∙ get_or-map-range_with_len (g.root t) 0 16 i i None lt (omega arith)
 
-pub text_shown : (n : ℕ) (jobs : Jobs) (h : List Entry) (text : Text) → length text.roots ≡ n → texts.ShowsGraph text n (after (graph_opening n) h)
+pin_shown : (text : Text) (g : Graph) (n t i : ℕ) → 1 ≤ t → t ≤ n → i < 4 → text.pins ≡ pin_rows (λ u slot. name_in (g.pin u slot)) n → pin_of text t i ≡ name_in (g.pin t i)
+pin_shown text g n t i low high lt e =
+    let none : List Reference = [] in
+    ap (λ (rows : List (List Reference)). get_or (get_or rows (t - 1) none) i None) e
+    ∙ ap (λ (row : List Reference). get_or row i None) (get_or-map-range_with_len (λ k. map (λ slot. name_in (g.pin k slot)) (range_with_len 0 4)) 1 n (t - 1) t none (omega arith) (omega arith))
+    ∙ get_or-map-range_with_len (λ slot. name_in (g.pin t slot)) 0 4 i i None lt (omega arith)
+
+pub text_shown : (v n : ℕ) (jobs : Jobs) (h : List Entry) (text : Text) → length text.roots ≡ n → texts.ShowsGraph text n (after (graph_opening n) h)
     → ((t : ℕ) → 1 ≤ t → t ≤ n → work.replies_of jobs (t - 1) ≡ history.replies_of (of_thread h t))
-    → answer_text (length text.roots) (λ t. work.replies_of jobs (t - 1)) text.rows (root_of text) ≡ answer_text n (λ t. history.replies_of (of_thread h t)) (map (row_in (after (graph_opening n) h)) (names_of text)) (after (graph_opening n) h).root
-text_shown n jobs h text count shows told =
+    → answer_text v (length text.roots) (λ t. work.replies_of jobs (t - 1)) text.rows (root_of text) (pin_of text)
+    ≡ answer_text v n (λ t. history.replies_of (of_thread h t)) (map (row_in (after (graph_opening n) h)) (names_of text)) (after (graph_opening n) h).root (λ t slot. name_in ((after (graph_opening n) h).pin t slot))
+text_shown v n jobs h text count shows told =
     let g = after (graph_opening n) h in
     let rows : text.rows ≡ map (row_in g) (names_of text) = shows.rows in
-    ap (λ (k : ℕ). answer_text k (λ t. work.replies_of jobs (t - 1)) text.rows (root_of text)) count
-    ∙ ap (λ (rs : List Row). answer_text n (λ t. work.replies_of jobs (t - 1)) rs (root_of text)) rows
-    ∙ answer_text_same n (λ t. work.replies_of jobs (t - 1)) (λ t. history.replies_of (of_thread h t)) (map (row_in g) (names_of text)) (root_of text) g.root
+    let pin : ℕ → ℕ → Reference = λ t slot. name_in (g.pin t slot) in
+    ap (λ (k : ℕ). answer_text v k (λ t. work.replies_of jobs (t - 1)) text.rows (root_of text) (pin_of text)) count
+    ∙ ap (λ (rs : List Row). answer_text v n (λ t. work.replies_of jobs (t - 1)) rs (root_of text) (pin_of text)) rows
+    ∙ answer_text_same v n (λ t. work.replies_of jobs (t - 1)) (λ t. history.replies_of (of_thread h t)) (map (row_in g) (names_of text)) (root_of text) g.root (pin_of text) pin
     (λ t low high. told t (omega arith) (omega arith))
     (λ t i low high lt. root_shown text g n t i (omega arith) (omega arith) lt shows.roots)
+    (λ t i low high lt. pin_shown text g n t i (omega arith) (omega arith) lt shows.pins)
 
-pub replayed : (bytes : List ℕ) (c : Config) (scripts : Scripts) (items : List Item) (limit : ℕ) (jobs : Jobs) (p : Plain) (text : Text)
-    → Reads bytes c scripts items → length scripts ≡ c.mutators → HasFinished c scripts items limit jobs p → length text.roots ≡ c.mutators → texts.ShowsGraph text c.mutators (after (first_graph c) (history_of c scripts items limit))
-    → IsReplayed bytes limit (answer_text (length text.roots) (λ t. work.replies_of jobs (t - 1)) text.rows (root_of text))
-replayed bytes c scripts items limit jobs p text reads count done roots shows = record {
+pub replayed : (bytes : List ℕ) (v : ℕ) (c : Config) (scripts : Scripts) (items : List Item) (limit : ℕ) (jobs : Jobs) (p : Plain) (text : Text)
+    → Reads bytes v c scripts items → length scripts ≡ c.mutators → HasFinished c scripts items limit jobs p → length text.roots ≡ c.mutators → texts.ShowsGraph text c.mutators (after (first_graph c) (history_of c scripts items limit))
+    → IsReplayed bytes limit (answer_text v (length text.roots) (λ t. work.replies_of jobs (t - 1)) text.rows (root_of text) (pin_of text))
+replayed bytes v c scripts items limit jobs p text reads count done roots shows = record {
+  version = v;
   config = c;
   scripts = scripts;
   items = items;
   reads = reads;
   whole = whole c scripts (events_of c scripts items limit) count done.idle done.called;
-  text = record { names = names_of text; reach = shows.reach; text = text_shown c.mutators jobs (history_of c scripts items limit) text roots shows (replies_shown c scripts items limit jobs p done) };
+  text = record { names = names_of text; reach = shows.reach; text = text_shown v c.mutators jobs (history_of c scripts items limit) text roots shows (replies_shown c scripts items limit jobs p done) };
 }
 
 -- the same, with the history behind it
-pub replayed_noted : (bytes : List ℕ) (c : Config) (scripts : Scripts) (items : List Item) (limit : ℕ) (jobs : Jobs) (p : Plain) (text : Text) (noted : List Entry)
-    → Reads bytes c scripts items → length scripts ≡ c.mutators → HasFinished c scripts items limit jobs p → length text.roots ≡ c.mutators → texts.ShowsGraph text c.mutators (after (first_graph c) (history_of c scripts items limit))
-    → noted ≡ history_of c scripts items limit → IsReplayedNoted bytes limit (answer_text (length text.roots) (λ t. work.replies_of jobs (t - 1)) text.rows (root_of text) ++ history_text noted)
+pub replayed_noted : (bytes : List ℕ) (v : ℕ) (c : Config) (scripts : Scripts) (items : List Item) (limit : ℕ) (jobs : Jobs) (p : Plain) (text : Text) (noted : List Entry)
+    → Reads bytes v c scripts items → length scripts ≡ c.mutators → HasFinished c scripts items limit jobs p → length text.roots ≡ c.mutators → texts.ShowsGraph text c.mutators (after (first_graph c) (history_of c scripts items limit))
+    → noted ≡ history_of c scripts items limit → IsReplayedNoted bytes limit (answer_text v (length text.roots) (λ t. work.replies_of jobs (t - 1)) text.rows (root_of text) (pin_of text) ++ history_text noted)
 unfolding replayed
-replayed_noted bytes c scripts items limit jobs p text noted reads count done roots shows are = record {
+replayed_noted bytes v c scripts items limit jobs p text noted reads count done roots shows are = record {
+  version = v;
   config = c;
   scripts = scripts;
   items = items;
   reads = reads;
   whole = whole c scripts (events_of c scripts items limit) count done.idle done.called;
-  answer = answer_text (length text.roots) (λ t. work.replies_of jobs (t - 1)) text.rows (root_of text);
-  text = (replayed bytes c scripts items limit jobs p text reads count done roots shows).text;
-  out_is = ap (λ h. answer_text (length text.roots) (λ t. work.replies_of jobs (t - 1)) text.rows (root_of text) ++ history_text h) are;
+  answer = answer_text v (length text.roots) (λ t. work.replies_of jobs (t - 1)) text.rows (root_of text) (pin_of text);
+  text = (replayed bytes v c scripts items limit jobs p text reads count done roots shows).text;
+  out_is = ap (λ h. answer_text v (length text.roots) (λ t. work.replies_of jobs (t - 1)) text.rows (root_of text) (pin_of text) ++ history_text h) are;
 }

@@ -21,12 +21,13 @@ verdict_line Text = line.NoText
 
 -- The bytes are a trace with an answer and a history that are claimed for it, and the text is the line of the verdict on them.
 pub record IsChecked (bytes : List ℕ) (out : List ℕ) : Type 0 where
+  pub version : ℕ
   pub config : Config
   pub scripts : List (List Command)
   pub items : List Item
   pub body : List ℕ
   pub entries : List Entry
-  pub pair : IsPair bytes config scripts items body entries
+  pub pair : IsPair bytes version config scripts items body entries
   pub verdict : Verdict
-  pub is : IsVerdict config scripts entries body verdict
+  pub is : IsVerdict version config scripts entries body verdict
   pub text : out ≡ line_text (verdict_line verdict)

@@ -1,5 +1,5 @@
 -- What a dump, and what stands behind it, makes its heap do.
-use Rattle.std.specs.Prelude.{ℕ, ◌≡◌, ◌++◌, List}
+use Rattle.std.specs.Prelude.{ℕ, List}
 use Rattle.heap_words.specs.declared.config.Config.{Config}
 use Rattle.heap_words.specs.declared.schedule.Item.{Item}
 use Rattle.shen_graph.specs.GraphText.{Text}
@@ -8,7 +8,6 @@ use Rattle.graph_placing.specs.ByName.{Fits}
 use Rattle.dump_writing.specs.Dumped.{dumped}
 use Rattle.dump_reading.specs.Resumes.{Resumes}
 use Rattle.dump_runs.specs.Resumed.{IsResumed, IsCutFrom}
-use Rattle.dump_answers.specs.PinsText.{pins_text}
 
 -- The bytes are a dump, the line `trace`, and the lines of these scripts and items.
 pub record IsDumpAndMore (bytes : List ℕ) : Type 0 where
@@ -24,13 +23,11 @@ abbrev pub FitsItsHeap : {bytes : List ℕ} → IsDumpAndMore bytes → Type 0
 FitsItsHeap read = Fits read.config read.graph
 
 -- They fit, exactly the events of the schedule and of the rounds after it come to an end there, and the text is the answer of their history,
--- which goes on from the dump's graph, and behind it a line for each thread that shows that it has pinned nothing.
+-- which goes on from the dump's graph.
 pub record IsAnswerFromDump (bytes : List ℕ) (limit : ℕ) (out : List ℕ) : Type 0 where
   pub read : IsDumpAndMore bytes
   pub fits : FitsItsHeap read
-  pub answer : List ℕ
-  pub resumed : IsResumed read.config read.counts read.graph read.scripts read.items limit answer
-  pub out_is : out ≡ answer ++ pins_text read.config.mutators
+  pub resumed : IsResumed read.config read.counts read.graph read.scripts read.items limit out
 
 -- they fit, and so many events from there leave a machine that is not idle
 pub record IsCutFromDump (bytes : List ℕ) (limit : ℕ) : Type 0 where

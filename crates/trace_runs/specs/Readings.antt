@@ -48,8 +48,8 @@ ReadsNothing mode = reading_of mode ≡ ReadNothing
 -- The bytes are what is read. A dump is to fit its heap.
 abbrev pub Takes : Reading → List ℕ → Type 0
 Takes ReadNothing bytes = ⊥
-Takes ReadTrace bytes = (config : Config) × (scripts : List (List Command)) × (items : List Item) × Reads bytes config scripts items
-Takes ReadPair bytes = (config : Config) × (scripts : List (List Command)) × (items : List Item) × (body : List ℕ) × (entries : List Entry) × IsPair bytes config scripts items body entries
+Takes ReadTrace bytes = (version : ℕ) × (config : Config) × (scripts : List (List Command)) × (items : List Item) × Reads bytes version config scripts items
+Takes ReadPair bytes = (version : ℕ) × (config : Config) × (scripts : List (List Command)) × (items : List Item) × (body : List ℕ) × (entries : List Entry) × IsPair bytes version config scripts items body entries
 Takes ReadDump bytes = (read : IsDumpAndMore bytes) × FitsItsHeap read
 
 -- they are not, and this line is the first that is at fault, for this cause

@@ -43,31 +43,34 @@ pub record IsWhole (c : Config) (scripts : Scripts) (events : List (Event Order)
 
 -- The bytes are a trace, its events come to an end, and the text is the answer of their history.
 pub record IsReplayed (bytes : List ℕ) (limit : ℕ) (out : List ℕ) : Type 0 where
+  pub version : ℕ
   pub config : Config
   pub scripts : Scripts
   pub items : List Item
-  pub reads : Reads bytes config scripts items
+  pub reads : Reads bytes version config scripts items
   pub whole : IsWhole config scripts (events_of config scripts items limit)
-  pub text : IsAnswerText config.mutators (history_of config scripts items limit) out
+  pub text : IsAnswerText version config.mutators (history_of config scripts items limit) out
 
 -- The same, and behind the answer the text has that history.
 pub record IsReplayedNoted (bytes : List ℕ) (limit : ℕ) (out : List ℕ) : Type 0 where
+  pub version : ℕ
   pub config : Config
   pub scripts : Scripts
   pub items : List Item
-  pub reads : Reads bytes config scripts items
+  pub reads : Reads bytes version config scripts items
   pub whole : IsWhole config scripts (events_of config scripts items limit)
   pub answer : List ℕ
-  pub text : IsAnswerText config.mutators (history_of config scripts items limit) answer
+  pub text : IsAnswerText version config.mutators (history_of config scripts items limit) answer
   pub out_is : out ≡ answer ++ history_text (history_of config scripts items limit)
 
 -- The bytes are a trace, its events come to an end, and the text is the dump of the graph after their history. For each thread it has the
 -- number of its allocations that were answered a name.
 pub record IsReplayedToDump (bytes : List ℕ) (limit : ℕ) (out : List ℕ) : Type 0 where
+  pub version : ℕ
   pub config : Config
   pub scripts : Scripts
   pub items : List Item
-  pub reads : Reads bytes config scripts items
+  pub reads : Reads bytes version config scripts items
   pub whole : IsWhole config scripts (events_of config scripts items limit)
   pub dump : Dumped
   pub is : IsDumpOf config (after (graph_opening config.mutators) (history_of config scripts items limit)) dump
@@ -77,13 +80,14 @@ pub record IsReplayedToDump (bytes : List ℕ) (limit : ℕ) (out : List ℕ) : 
 -- The bytes are a trace, some events of its machines come to an end, and the text is the answer of their history. The events are
 -- those of the threads in an order of all; the trace's own schedule has no part in it.
 pub record IsRun (bytes : List ℕ) (out : List ℕ) : Type 0 where
+  pub version : ℕ
   pub config : Config
   pub scripts : Scripts
   pub items : List Item
-  pub reads : Reads bytes config scripts items
+  pub reads : Reads bytes version config scripts items
   pub events : List (Event Order)
   pub whole : IsWhole config scripts events
-  pub text : IsAnswerText config.mutators (past pause_image config events) out
+  pub text : IsAnswerText version config.mutators (past pause_image config events) out
 
 -- so many events of a trace leave a machine that is not idle
 pub record IsCut (c : Config) (scripts : Scripts) (items : List Item) (limit : ℕ) : Type 0 where
@@ -92,8 +96,9 @@ pub record IsCut (c : Config) (scripts : Scripts) (items : List Item) (limit : �
 
 -- the bytes are a trace, and so many of its events leave a machine that is not idle
 pub record IsUnfinished (bytes : List ℕ) (limit : ℕ) : Type 0 where
+  pub version : ℕ
   pub config : Config
   pub scripts : Scripts
   pub items : List Item
-  pub reads : Reads bytes config scripts items
+  pub reads : Reads bytes version config scripts items
   pub cut : IsCut config scripts items limit

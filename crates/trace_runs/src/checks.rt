@@ -36,7 +36,7 @@ fn pair_taken<S: Source, K: Sink>(
     sink: &mut K,
 ) -> Result<Pair, Status>
     ensures ok { IfOk result (λ pair. (bytes : List ℕ) × Came (S.left source.old) (S.left source.new) bytes
-        × IsPair bytes pair.trace.config pair.trace.scripts pair.trace.schedule pair.body pair.history.list) }
+        × IsPair bytes pair.trace.version pair.trace.config pair.trace.scripts pair.trace.schedule pair.body pair.history.list) }
     ensures unused { OnOk result (sink.new ≡ sink.old) }
     ensures refused { IfErr result (λ status. (words : List (List ℕ)) → Asks words Mode.Check → StatusFits words
         (record { before = S.left source.old; after = S.left source.new; faults_before = S.faults source.old; faults_after = S.faults source.new })

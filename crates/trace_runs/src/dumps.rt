@@ -7,17 +7,16 @@ ghost use Rattle.trace_writing.specs.Answer.{spelled_answer};
 ghost use Rattle.dump_writing.specs.Dumped.{dumped, IsDump};
 ghost use Rattle.dump_writing.specs.DumpText.{dump_text};
 ghost use Rattle.dump_reading.specs.Resumes.{Resumes};
-ghost use Rattle.dump_answers.specs.PinsText.{pins_text};
 ghost use Rattle.trace_runs.specs.Words.{Asks};
 ghost use Rattle.trace_runs.specs.Replayed.{IsReplayedToDump, IsUnfinished};
 ghost use Rattle.trace_runs.specs.CallEnds.{EndsWith};
 ghost use Rattle.trace_runs.specs.Answered.{StatusFits};
 
-use crate::lines::{refuse, say, taken};
+use crate::lines::{give, refuse, say, taken};
 use crate::mode::Mode;
 use crate::replays::{Refusal, graph_of, run_noted};
 use crate::status::Status;
-use dump_answers::{answer_from, write_pins};
+use dump_answers::answer_from;
 use dump_making::dump_of;
 use dump_reading::{Resumed as Read, read_dump};
 use dump_runs::Resumed;
@@ -25,14 +24,14 @@ use dump_writing::{Dump, write_dump};
 use shen_base::{Sink, Source};
 use std::alloc::Global;
 use trace_grammar::Trace;
-use trace_writing::{Answer, Line, write_answer};
+use trace_writing::Line;
 
 /// The dump of the heap at the end of a trace.
 fn dump_after(alloc: Global, trace: Trace, steps: u64) -> Result<Dump, Refusal>
-    requires { (bytes : List ℕ) × Reads bytes trace.config trace.scripts trace.schedule }
+    requires { (bytes : List ℕ) × Reads bytes trace.version trace.config trace.scripts trace.schedule }
     ensures is_dump { IfOk result (λ d. IsDump (dumped d.config d.counts d.graph)) }
-    ensures ok { IfOk result (λ d. (bytes : List ℕ) → Reads bytes trace.config trace.scripts trace.schedule → IsReplayedToDump bytes steps (dump_text (dumped d.config d.counts d.graph))) }
-    ensures unfinished { result ≡ Err Refusal.Unfinished → (bytes : List ℕ) → Reads bytes trace.config trace.scripts trace.schedule → IsUnfinished bytes steps }
+    ensures ok { IfOk result (λ d. (bytes : List ℕ) → Reads bytes trace.version trace.config trace.scripts trace.schedule → IsReplayedToDump bytes steps (dump_text (dumped d.config d.counts d.graph))) }
+    ensures unfinished { result ≡ Err Refusal.Unfinished → (bytes : List ℕ) → Reads bytes trace.version trace.config trace.scripts trace.schedule → IsUnfinished bytes steps }
 {
     let config = trace.config;
     let (replies, mut plain, history) = run_noted(alloc, trace, steps)?;
@@ -98,21 +97,6 @@ fn dump_taken<S: Source, K: Sink>(
     }
 }
 
-// Writes the answer of a run that went on from a dump, and what each of so many threads has pinned.
-fn give_resumed<K: Sink>(sink: &mut K, answer: &Answer, threads: usize) -> Status
-    requires { (mutator : ℕ) → mutator < length answer.now.graph.roots → HasScript answer.now.replies mutator }
-    ensures { EndsWith (spelled_answer answer.now ++ pins_text threads) Status.Ok result (outlet (K.written sink.old) (K.faults sink.old) (K.calls sink.old))
-        (outlet (K.written sink.new) (K.faults sink.new) (K.calls sink.new)) }
-{
-    match write_answer(sink, answer) {
-        Err(_) => Status::WriteFault,
-        Ok(()) => match write_pins(sink, threads) {
-            Ok(()) => Status::Ok,
-            Err(_) => Status::WriteFault,
-        },
-    }
-}
-
 /// Reads a dump with what is to run from it, runs that by its schedule in a heap in which the dump's objects were placed, and writes the
 /// answer, or the one line that says why there is none.
 pub fn resume<S: Source, K: Sink>(alloc: Global, steps: u64, source: &mut S, sink: &mut K) -> Status
@@ -124,9 +108,8 @@ pub fn resume<S: Source, K: Sink>(alloc: Global, steps: u64, source: &mut S, sin
         Ok(read) => read,
         Err(status) => return status,
     };
-    let threads = read.dump.config.mutators();
     match answer_from(alloc, read, steps) {
-        Ok(Resumed::Answered(answer)) => give_resumed(sink, &answer, threads),
+        Ok(Resumed::Answered(answer)) => give(sink, &answer),
         Ok(Resumed::Unfinished) => say(sink, Line::Unfinished { steps }, Status::Unfinished),
         Ok(Resumed::TooSmall) => say(sink, Line::HeapTooSmall, Status::BadTrace),
         Err(_) => say(sink, Line::NoMemory, Status::NoMemory),

@@ -78,7 +78,7 @@ pub fn taken<S: Source, K: Sink>(
     source: &mut S,
     sink: &mut K,
 ) -> Result<Trace, Status>
-    ensures ok { IfOk result (λ trace. (bytes : List ℕ) × Came (S.left source.old) (S.left source.new) bytes × Reads bytes trace.config trace.scripts trace.schedule) }
+    ensures ok { IfOk result (λ trace. (bytes : List ℕ) × Came (S.left source.old) (S.left source.new) bytes × Reads bytes trace.version trace.config trace.scripts trace.schedule) }
     ensures unused { OnOk result (sink.new ≡ sink.old) }
     ensures refused { IfErr result (λ status. (words : List (List ℕ)) → Asked words ReadsOnlyTrace → StatusFits words
         (record { before = S.left source.old; after = S.left source.new; faults_before = S.faults source.old; faults_after = S.faults source.new })

@@ -44,9 +44,9 @@ pub enum Refusal {
 
 /// Runs the schedule of a trace, and then rounds, on a heap of its own, until all mutators have ended and the control has.
 fn run(alloc: Global, trace: Trace, steps: u64) -> Result<(Work, Plain), Refusal>
-    requires { (bytes : List ℕ) × Reads bytes trace.config trace.scripts trace.schedule }
+    requires { (bytes : List ℕ) × Reads bytes trace.version trace.config trace.scripts trace.schedule }
     ensures finished { IfOk result (λ x. HasFinished trace.config trace.scripts trace.schedule steps x.0 x.1) }
-    ensures unfinished { result ≡ Err Refusal.Unfinished → (bytes : List ℕ) → Reads bytes trace.config trace.scripts trace.schedule → IsUnfinished bytes steps }
+    ensures unfinished { result ≡ Err Refusal.Unfinished → (bytes : List ℕ) → Reads bytes trace.version trace.config trace.scripts trace.schedule → IsUnfinished bytes steps }
 {
     let Ok(mut work) = Work::of(alloc, trace.scripts.into_vec()) else {
         return Err(Refusal::NoMemory);
@@ -62,7 +62,7 @@ fn run(alloc: Global, trace: Trace, steps: u64) -> Result<(Work, Plain), Refusal
 
 // The number of all commands of a trace.
 fn commands_of(trace: &Trace) -> usize
-    requires { (bytes : List ℕ) × Reads bytes trace.now.config trace.now.scripts trace.now.schedule }
+    requires { (bytes : List ℕ) × Reads bytes trace.now.version trace.now.config trace.now.scripts trace.now.schedule }
     ensures { result ≡ sum_by length trace.now.scripts }
 {
     let mut commands = 0;
@@ -74,7 +74,7 @@ fn commands_of(trace: &Trace) -> usize
 
 // A history with memory for all entries of a trace.
 fn history_for(alloc: Global, trace: &Trace) -> Result<History, NoMemory>
-    requires { (bytes : List ℕ) × Reads bytes trace.now.config trace.now.scripts trace.now.schedule }
+    requires { (bytes : List ℕ) × Reads bytes trace.now.version trace.now.config trace.now.scripts trace.now.schedule }
     ensures none { IfOk result (λ history. history.list ≡ []) }
     ensures spare { IfOk result (λ history. sum_by length trace.now.scripts ≤ history.spare) }
 {
@@ -89,10 +89,10 @@ pub(crate) fn run_noted(
     trace: Trace,
     steps: u64,
 ) -> Result<(Work, Plain, History), Refusal>
-    requires { (bytes : List ℕ) × Reads bytes trace.config trace.scripts trace.schedule }
+    requires { (bytes : List ℕ) × Reads bytes trace.version trace.config trace.scripts trace.schedule }
     ensures finished { IfOk result (λ x. HasFinished trace.config trace.scripts trace.schedule steps x.0 x.1) }
     ensures history { IfOk result (λ x. x.2.list ≡ history_of trace.config trace.scripts trace.schedule steps) }
-    ensures unfinished { result ≡ Err Refusal.Unfinished → (bytes : List ℕ) → Reads bytes trace.config trace.scripts trace.schedule → IsUnfinished bytes steps }
+    ensures unfinished { result ≡ Err Refusal.Unfinished → (bytes : List ℕ) → Reads bytes trace.version trace.config trace.scripts trace.schedule → IsUnfinished bytes steps }
 {
     let Ok(mut history) = history_for(alloc, &trace) else {
         return Err(Refusal::NoMemory);
@@ -130,15 +130,20 @@ pub(crate) fn graph_of(
 
 /// The answer to a trace.
 pub fn replayed_answer(alloc: Global, trace: Trace, steps: u64) -> Result<Answer, Refusal>
-    requires { (bytes : List ℕ) × Reads bytes trace.config trace.scripts trace.schedule }
-    ensures ok { IfOk result (λ answer. (bytes : List ℕ) → Reads bytes trace.config trace.scripts trace.schedule → IsReplayed bytes steps (spelled_answer answer)) }
+    requires { (bytes : List ℕ) × Reads bytes trace.version trace.config trace.scripts trace.schedule }
+    ensures ok { IfOk result (λ answer. (bytes : List ℕ) → Reads bytes trace.version trace.config trace.scripts trace.schedule → IsReplayed bytes steps (spelled_answer answer)) }
     ensures scripts { IfOk result (λ answer. (mutator : ℕ) → mutator < length answer.graph.roots → HasScript answer.replies mutator) }
-    ensures unfinished { result ≡ Err Refusal.Unfinished → (bytes : List ℕ) → Reads bytes trace.config trace.scripts trace.schedule → IsUnfinished bytes steps }
+    ensures unfinished { result ≡ Err Refusal.Unfinished → (bytes : List ℕ) → Reads bytes trace.version trace.config trace.scripts trace.schedule → IsUnfinished bytes steps }
 {
     let config = trace.config;
+    let version = trace.version;
     let (replies, mut plain) = run(alloc, trace, steps)?;
     let graph = graph_of(alloc, config, &mut plain)?;
-    Ok(Answer { replies, graph })
+    Ok(Answer {
+        version,
+        replies,
+        graph,
+    })
 }
 
 /// The answer to a trace, and its history.
@@ -150,18 +155,24 @@ pub fn noted_answer_to(
     trace: Trace,
     steps: u64,
 ) -> Result<(Answer, History), Refusal>
-    requires { (bytes : List ℕ) × Reads bytes trace.config trace.scripts trace.schedule }
+    requires { (bytes : List ℕ) × Reads bytes trace.version trace.config trace.scripts trace.schedule }
     ensures whole { IfOk result (λ x. IsWhole trace.config trace.scripts (events_of trace.config trace.scripts trace.schedule steps)) }
     ensures history { IfOk result (λ x. x.1.list ≡ history_of trace.config trace.scripts trace.schedule steps) }
     ensures graph { IfOk result (λ x. ShowsGraph x.0.graph trace.config.mutators (after (first_graph trace.config) (history_of trace.config trace.scripts trace.schedule steps))) }
-    ensures ok { IfOk result (λ x. (bytes : List ℕ) → Reads bytes trace.config trace.scripts trace.schedule → IsReplayedNoted bytes steps (spelled_answer x.0 ++ history_text x.1.list)) }
+    ensures ok { IfOk result (λ x. (bytes : List ℕ) → Reads bytes trace.version trace.config trace.scripts trace.schedule → IsReplayedNoted bytes steps (spelled_answer x.0 ++ history_text x.1.list)) }
     ensures scripts { IfOk result (λ x. (mutator : ℕ) → mutator < length x.0.graph.roots → HasScript x.0.replies mutator) }
-    ensures unfinished { result ≡ Err Refusal.Unfinished → (bytes : List ℕ) → Reads bytes trace.config trace.scripts trace.schedule → IsUnfinished bytes steps }
+    ensures unfinished { result ≡ Err Refusal.Unfinished → (bytes : List ℕ) → Reads bytes trace.version trace.config trace.scripts trace.schedule → IsUnfinished bytes steps }
 {
     let config = trace.config;
+    let version = trace.version;
     let (replies, mut plain, history) = run_noted(alloc, trace, steps)?;
     let graph = graph_of(alloc, config, &mut plain)?;
-    Ok((Answer { replies, graph }, history))
+    let answer = Answer {
+        version,
+        replies,
+        graph,
+    };
+    Ok((answer, history))
 }
 
 /// Replays a trace as `replay` does, and writes its history behind the answer.

@@ -83,15 +83,20 @@ pub fn run_answer<R: Threads + Wait + Sync, G: Gate>(
     gate: &G,
 ) -> Result<Answer, NoMemory>
     requires workers { 1 ≤ workers }
-    requires reads { (bytes : List ℕ) × Reads bytes trace.config trace.scripts trace.schedule }
-    ensures ok { IfOk result (λ answer. (bytes : List ℕ) → Reads bytes trace.config trace.scripts trace.schedule → IsRun bytes (spelled_answer answer)) }
+    requires reads { (bytes : List ℕ) × Reads bytes trace.version trace.config trace.scripts trace.schedule }
+    ensures ok { IfOk result (λ answer. (bytes : List ℕ) → Reads bytes trace.version trace.config trace.scripts trace.schedule → IsRun bytes (spelled_answer answer)) }
     ensures scripts { IfOk result (λ answer. (mutator : ℕ) → mutator < length answer.graph.roots → HasScript answer.replies mutator) }
 {
     let config = trace.config;
+    let version = trace.version;
     let scripts = trace.scripts.into_vec();
     let (replies, mut heap) = run_scripts(rt, alloc, config, scripts, workers, gate)?;
     let graph = graph_of(alloc, config, &mut heap)?;
-    Ok(Answer { replies, graph })
+    Ok(Answer {
+        version,
+        replies,
+        graph,
+    })
 }
 
 /// Reads a trace, runs it in so many bundles at most, and writes its answer, or the one line that says why there is none.

@@ -1,6 +1,7 @@
 -- How the lines of an answer come together from what is put.
-use Rattle.std.proofs.Common.{◌≡◌, ℕ, zero, suc, ◌+◌, ◌<◌, ◌≤◌, List, [], ◌∷◌, ◌++◌, length, map, take, get_or, codes, sym, ap, ◌∙◌, refl, append_assoc, append-nil, arith}
+use Rattle.std.proofs.Common.{◌≡◌, ℕ, zero, suc, ◌+◌, ◌<◌, ◌≤◌, true, false, cond, ltb, List, [], ◌∷◌, ◌++◌, length, map, take, get_or, codes, sym, ap, ◌∙◌, refl, append_assoc, append-nil, arith}
 use Rattle.std.specs.List.{flat_map, join_with_byte, range_with_len}
+use Rattle.std.proofs.lemmas.Bool.Decides.{nat_tests}
 use Rattle.std.proofs.lemmas.List.{take_more, take_all, map-id}
 use Rattle.std.proofs.lemmas.List.Concat.{flat_map-append}
 use Rattle.std.proofs.lemmas.List.Folds.{flat_map-map}
@@ -13,7 +14,7 @@ use Rattle.shen_graph.specs.GraphText.{Row}
 use Rattle.text_writer.specs.Sending.{SinkStage, Puts}
 use Rattle.text_writer.proofs.Stages.{puts_both, puts_same}
 use Rattle.trace_grammar.specs.Spelling.{space, newline}
-use Rattle.trace_writing.specs.Answer.{line_of, name_word, reference_word, reply_line, object_line, roots_line, root_spellings, answer_text}
+use Rattle.trace_writing.specs.Answer.{line_of, name_word, reference_word, reply_line, object_line, roots_line, root_spellings, pins_line, pin_spellings, pins_text, answer_text}
 
 -- Loops over a list.
 
@@ -103,6 +104,34 @@ root_words_are root n e =
     ap (λ k. flat_map (λ i. space ∷ reference_word (root i)) (range_with_len 0 k)) e
     ∙ sym (flat_map-map (λ w. space ∷ w) (λ i. reference_word (root i)) (range_with_len 0 16))
 
+-- the line of what a thread pins, as it is put
+pub pins_line_is : (thread : ℕ) (pin : ℕ → Reference)
+    → ((codes "pins " ++ decimal thread) ++ flat_map (λ w. space ∷ w) (pin_spellings pin)) ++ newline ∷ [] ≡ pins_line thread pin
+pins_line_is thread pin =
+    let words = pin_spellings pin in
+    ap (λ t. t ++ newline ∷ [])
+    (append_assoc (codes "pins ") (decimal thread) (flat_map (λ w. space ∷ w) words) ∙ sym (joined (codes "pins") (decimal thread ∷ words)))
+
+-- the words of 4 pin slots, each after a space
+pub pin_words_are : (pin : ℕ → Reference) (n : ℕ) → n ≡ 4 → flat_map (λ i. space ∷ reference_word (pin i)) (range_with_len 0 n) ≡ flat_map (λ w. space ∷ w) (pin_spellings pin)
+unfolding pin_spellings
+pin_words_are pin n e =
+    ap (λ k. flat_map (λ i. space ∷ reference_word (pin i)) (range_with_len 0 k)) e
+    ∙ sym (flat_map-map (λ w. space ∷ w) (λ i. reference_word (pin i)) (range_with_len 0 4))
+
+-- a version from 2 on has the lines of what is pinned, and one before has none
+pub has_pins : (version threads : ℕ) (pin : ℕ → ℕ → Reference) → 2 ≤ version → flat_map (λ t. pins_line t (pin t)) (range_with_len 1 threads) ≡ pins_text version threads pin
+has_pins version threads pin two = rw (not_below version two) refl
+  where
+    not_below : (n : ℕ) → 2 ≤ n → ltb n 2 ≡ false
+    not_below n le = grind (arith, nat_tests)
+
+pub has_no_pins : (version threads : ℕ) (pin : ℕ → ℕ → Reference) → version < 2 → [] ≡ pins_text version threads pin
+has_no_pins version threads pin one = rw (below version one) refl
+  where
+    below : (n : ℕ) → n < 2 → ltb n 2 ≡ true
+    below n lt = grind (arith, nat_tests)
+
 -- Equal answers.
 
 -- texts of numbers that are equal at each number in a range
@@ -129,21 +158,38 @@ unfolding root_spellings
 root_words_same root other same =
     map-range_same (λ i. reference_word (root i)) (λ i. reference_word (other i)) 0 16 (λ k low high. ap reference_word (same k (omega arith)))
 
--- the answers of equal replies and equal roots
-pub answer_text_same : (threads : ℕ) (replies others : ℕ → List Reply) (rows : List Row) (root other : ℕ → ℕ → Reference)
+-- the words of equal pin slots
+pin_words_same : (pin other : ℕ → Reference) → ((i : ℕ) → i < 4 → pin i ≡ other i) → pin_spellings pin ≡ pin_spellings other
+unfolding pin_spellings
+pin_words_same pin other same =
+    map-range_same (λ i. reference_word (pin i)) (λ i. reference_word (other i)) 0 4 (λ k low high. ap reference_word (same k (omega arith)))
+
+-- the lines of equal pin slots
+pub pins_text_same : (version threads : ℕ) (pin other : ℕ → ℕ → Reference) → ((t i : ℕ) → 1 ≤ t → t ≤ threads → i < 4 → pin t i ≡ other t i)
+    → pins_text version threads pin ≡ pins_text version threads other
+pins_text_same version threads pin other same =
+    ap (λ (t : List ℕ). cond (ltb version 2) [] t) (flat_map-range_same (λ t. pins_line t (pin t)) (λ t. pins_line t (other t)) 1 threads
+    (λ k low high. ap (λ ws. line_of (codes "pins" ∷ decimal k ∷ ws)) (pin_words_same (pin k) (other k) (λ i below. same k i low (omega arith) below))))
+
+-- the answers of equal replies, equal roots and equal pin slots
+pub answer_text_same : (version threads : ℕ) (replies others : ℕ → List Reply) (rows : List Row) (root other pin another : ℕ → ℕ → Reference)
     → ((t : ℕ) → 1 ≤ t → t ≤ threads → replies t ≡ others t)
     → ((t i : ℕ) → 1 ≤ t → t ≤ threads → i < 16 → root t i ≡ other t i)
-    → answer_text threads replies rows root ≡ answer_text threads others rows other
-answer_text_same threads replies others rows root other same_replies same_roots =
+    → ((t i : ℕ) → 1 ≤ t → t ≤ threads → i < 4 → pin t i ≡ another t i)
+    → answer_text version threads replies rows root pin ≡ answer_text version threads others rows other another
+answer_text_same version threads replies others rows root other pin another same_replies same_roots same_pins =
     let said : flat_map (λ t. flat_map (reply_line t) (replies t)) (range_with_len 1 threads) ≡ flat_map (λ t. flat_map (reply_line t) (others t)) (range_with_len 1 threads) =
     flat_map-range_same _ _ 1 threads (λ k low high. ap (flat_map (reply_line k)) (same_replies k low (omega arith))) in
     let held : flat_map (λ t. roots_line t (root t)) (range_with_len 1 threads) ≡ flat_map (λ t. roots_line t (other t)) (range_with_len 1 threads) =
     flat_map-range_same _ _ 1 threads
     (λ k low high. ap (λ ws. line_of (codes "roots" ∷ decimal k ∷ ws)) (root_words_same (root k) (other k) (λ i below. same_roots k i low (omega arith) below))) in
+    let pinned = pins_text_same version threads pin another same_pins in
     let graph = line_of (codes "graph" ∷ []) in
     let objects = flat_map object_line rows in
-    ap (λ t. t ++ (graph ++ (objects ++ flat_map (λ t. roots_line t (root t)) (range_with_len 1 threads)))) said
-    ∙ ap (λ t. flat_map (λ t. flat_map (reply_line t) (others t)) (range_with_len 1 threads) ++ (graph ++ (objects ++ t))) held
+    let whole = λ (first roots pins : List ℕ). first ++ (graph ++ (objects ++ (roots ++ pins))) in
+    ap (λ t. whole t (flat_map (λ t. roots_line t (root t)) (range_with_len 1 threads)) (pins_text version threads pin)) said
+    ∙ ap (λ t. whole (flat_map (λ t. flat_map (reply_line t) (others t)) (range_with_len 1 threads)) t (pins_text version threads pin)) held
+    ∙ ap (λ t. whole (flat_map (λ t. flat_map (reply_line t) (others t)) (range_with_len 1 threads)) (flat_map (λ t. roots_line t (other t)) (range_with_len 1 threads)) t) pinned
 
 -- a label and its number were put, and then the others
 pub puts_told : {a b c : SinkStage} (label number others : List ℕ) → Puts a b (label ++ number) → Puts b c others → Puts a c (label ++ (number ++ others))

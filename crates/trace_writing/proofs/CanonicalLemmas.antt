@@ -82,8 +82,9 @@ items_again (i ∷ items) = sym (append-nil (i ∷ items))
 
 -- ---- the text is read as the trace
 
-pub reads_again : (c : Config) (scripts : List (List Command)) (items : List Item) → IsWritable c scripts items → Reads (spelling_of c scripts items) c scripts items
-reads_again c scripts items h = record {
+pub reads_again : (version : ℕ) (c : Config) (scripts : List (List Command)) (items : List Item) → IsWritable version c scripts items → Reads (spelling_of version c scripts items) version c scripts items
+reads_again version c scripts items h = record {
+  known = h.known;
   narrow = h.narrow;
   lines = lines_from 1 scripts;
   in_range = h.lines_fit;

@@ -38,23 +38,23 @@ same_or_not a b = by_test (eqb a b) refl
 
 -- ---- the lines fit
 
-script_fits : (threads t : ℕ) (lines : List TraceLine) → 1 ≤ t → t ≤ threads → AllByRecursion (IsLine threads) lines → AllByRecursion (IsLine threads) (lines_of t (commands_in lines t))
-script_fits threads t [] low high all = tt
-script_fits threads t (l ∷ lines) low high all =
-    let others = script_fits threads t lines low high all.1 in
+script_fits : (version threads t : ℕ) (lines : List TraceLine) → 1 ≤ t → t ≤ threads → AllByRecursion (IsLine version threads) lines → AllByRecursion (IsLine version threads) (lines_of t (commands_in lines t))
+script_fits version threads t [] low high all = tt
+script_fits version threads t (l ∷ lines) low high all =
+    let others = script_fits version threads t lines low high all.1 in
     elim (same_or_not l.thread t) [
       | inl same ↦
-          subst (λ (cs : List Command). AllByRecursion (IsLine threads) (lines_of t cs)) (sym (own_script l lines t same))
-          (record { from_one = low; to_last = high; valid = all.0.valid; fits = all.0.fits }, others)
-      | inr ne ↦ subst (λ (cs : List Command). AllByRecursion (IsLine threads) (lines_of t cs)) (sym (other_script l lines t ne)) others
+          subst (λ (cs : List Command). AllByRecursion (IsLine version threads) (lines_of t cs)) (sym (own_script l lines t same))
+          (record { from_one = low; to_last = high; known = all.0.known; valid = all.0.valid; fits = all.0.fits }, others)
+      | inr ne ↦ subst (λ (cs : List Command). AllByRecursion (IsLine version threads) (lines_of t cs)) (sym (other_script l lines t ne)) others
     ]
 
-scripts_fit : (threads first n : ℕ) (lines : List TraceLine) → 1 ≤ first → first + n ≤ threads + 1 → AllByRecursion (IsLine threads) lines
-    → AllByRecursion (IsLine threads) (lines_from first (map (commands_in lines) (range_with_len first n)))
-scripts_fit threads first zero lines low high all = tt
-scripts_fit threads first (suc n) lines low high all =
-    all_append (IsLine threads) (lines_of first (commands_in lines first)) _ (script_fits threads first lines low (omega arith) all)
-    (scripts_fit threads (first + 1) n lines (omega arith) (omega arith) all)
+scripts_fit : (version threads first n : ℕ) (lines : List TraceLine) → 1 ≤ first → first + n ≤ threads + 1 → AllByRecursion (IsLine version threads) lines
+    → AllByRecursion (IsLine version threads) (lines_from first (map (commands_in lines) (range_with_len first n)))
+scripts_fit version threads first zero lines low high all = tt
+scripts_fit version threads first (suc n) lines low high all =
+    all_append (IsLine version threads) (lines_of first (commands_in lines first)) _ (script_fits version threads first lines low (omega arith) all)
+    (scripts_fit version threads (first + 1) n lines (omega arith) (omega arith) all)
 
 -- ---- the items fit
 
@@ -136,19 +136,20 @@ schedule_sorted (turn ∷ turns) = omega (arith, one_turn_bytes (items_of (turn 
 
 -- ---- all together
 
-pub can_be_written : (bytes : List ℕ) (c : Config) (scripts : List (List Command)) (items : List Item) → Reads bytes c scripts items → IsWritable c scripts items
-can_be_written bytes c scripts items r =
+pub can_be_written : (bytes : List ℕ) (version : ℕ) (c : Config) (scripts : List (List Command)) (items : List Item) → Reads bytes version c scripts items → IsWritable version c scripts items
+can_be_written bytes version c scripts items r =
     let sorted = bytes_sorted 1 c.mutators r.lines in
     let lines : length (flat_map line (lines_from 1 scripts)) ≤ length (flat_map line r.lines) = rw r.by_thread sorted in
     let turns : length (flat_map schedule_line (turns_of items)) ≤ length (flat_map schedule_line r.turns) = rw r.in_order (schedule_sorted r.turns) in
-    let read : length bytes ≡ length (header c) + (length (flat_map line r.lines) + length (flat_map schedule_line r.turns)) =
-    ap length r.spelled ∙ length-append (header c) (flat_map line r.lines ++ flat_map schedule_line r.turns) ∙ ap (λ (n : ℕ). length (header c) + n) (length-append (flat_map line r.lines) (flat_map schedule_line r.turns)) in
-    let written : length (spelling_of c scripts items) ≡ length (header c) + (length (flat_map line (lines_from 1 scripts)) + length (flat_map schedule_line (turns_of items))) =
-    length-append (header c) (flat_map line (lines_from 1 scripts) ++ flat_map schedule_line (turns_of items)) ∙ ap (λ (n : ℕ). length (header c) + n) (length-append (flat_map line (lines_from 1 scripts)) (flat_map schedule_line (turns_of items))) in
+    let read : length bytes ≡ length (header version c) + (length (flat_map line r.lines) + length (flat_map schedule_line r.turns)) =
+    ap length r.spelled ∙ length-append (header version c) (flat_map line r.lines ++ flat_map schedule_line r.turns) ∙ ap (λ (n : ℕ). length (header version c) + n) (length-append (flat_map line r.lines) (flat_map schedule_line r.turns)) in
+    let written : length (spelling_of version c scripts items) ≡ length (header version c) + (length (flat_map line (lines_from 1 scripts)) + length (flat_map schedule_line (turns_of items))) =
+    length-append (header version c) (flat_map line (lines_from 1 scripts) ++ flat_map schedule_line (turns_of items)) ∙ ap (λ (n : ℕ). length (header version c) + n) (length-append (flat_map line (lines_from 1 scripts)) (flat_map schedule_line (turns_of items))) in
     record {
+      known = r.known;
       narrow = r.narrow;
       threads = ap length r.by_thread ∙ length-map-range_with_len (commands_in r.lines) 1 c.mutators;
-      lines_fit = subst (λ (ss : List (List Command)). AllByRecursion (IsLine c.mutators) (lines_from 1 ss)) (sym r.by_thread) (scripts_fit c.mutators 1 c.mutators r.lines (omega arith) (omega arith) r.in_range);
+      lines_fit = subst (λ (ss : List (List Command)). AllByRecursion (IsLine version c.mutators) (lines_from 1 ss)) (sym r.by_thread) (scripts_fit version c.mutators 1 c.mutators r.lines (omega arith) (omega arith) r.in_range);
       items_fit = subst (AllByRecursion (IsItem c)) (sym r.in_order) (items_fit c r.turns r.turns_in_range);
       short = omega (arith, lines, turns, read, written, r.short);
     }

@@ -6,7 +6,7 @@ use Rattle.shen_graph.specs.declared.command.Command.{Command}
 use Rattle.heap_words.specs.declared.config.Config.{Config}
 use Rattle.heap_words.specs.Narrow.{IsNarrow}
 use Rattle.heap_words.specs.declared.schedule.Item.{Item}
-use Rattle.trace_grammar.specs.Spelling.{TraceLine, IsLine, line, header, IsItem, schedule_line}
+use Rattle.trace_grammar.specs.Spelling.{TraceLine, IsVersion, IsLine, line, header, IsItem, schedule_line}
 use Rattle.trace_grammar.specs.Grammar.{most_bytes}
 
 -- the lines of a thread
@@ -23,15 +23,16 @@ abbrev pub turns_of : List Item → List (List Item)
 turns_of [] = []
 turns_of (i ∷ items) = (i ∷ items) ∷ []
 
--- the text of a trace
-abbrev pub spelling_of : Config → List (List Command) → List Item → List ℕ
-spelling_of c scripts items = header c ++ (flat_map line (lines_from 1 scripts) ++ flat_map schedule_line (turns_of items))
+-- the text of a trace of a version
+abbrev pub spelling_of : ℕ → Config → List (List Command) → List Item → List ℕ
+spelling_of version c scripts items = header version c ++ (flat_map line (lines_from 1 scripts) ++ flat_map schedule_line (turns_of items))
 
--- A trace can be written: a region has at most 1,024 words, it has a script for each mutator, its commands and its items may
--- stand in a trace, and its text is not too long for one.
-pub record IsWritable (c : Config) (scripts : List (List Command)) (items : List Item) : Type 0 where
+-- A trace can be written: its version is 1 or 2, a region has at most 1,024 words, it has a script for each mutator, its commands and
+-- its items may stand in a trace of the version, and its text is not too long for one.
+pub record IsWritable (version : ℕ) (c : Config) (scripts : List (List Command)) (items : List Item) : Type 0 where
+  pub known : IsVersion version
   pub narrow : IsNarrow c
   pub threads : length scripts ≡ c.mutators
-  pub lines_fit : AllByRecursion (IsLine c.mutators) (lines_from 1 scripts)
+  pub lines_fit : AllByRecursion (IsLine version c.mutators) (lines_from 1 scripts)
   pub items_fit : AllByRecursion (IsItem c) items
-  pub short : length (spelling_of c scripts items) ≤ most_bytes
+  pub short : length (spelling_of version c scripts items) ≤ most_bytes

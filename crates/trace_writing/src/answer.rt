@@ -2,10 +2,10 @@ ghost use Rattle.std.specs.Prelude.{ℕ, ◌-◌, ◌<◌, ◌≤◌, ◌∷◌,
 ghost use Rattle.std.specs.List.{flat_map};
 ghost use Rattle.std.specs.Fmt.{decimal};
 ghost use Rattle.shen_graph.specs.Work.{HasScript, replies_of};
-ghost use Rattle.shen_graph.specs.GraphText.{row_of, root_of};
+ghost use Rattle.shen_graph.specs.GraphText.{row_of, root_of, pin_of};
 ghost use Rattle.text_writer.specs.Sending.{Puts, Writes, outlet, stage};
 ghost use Rattle.trace_grammar.specs.Spelling.{space};
-ghost use Rattle.trace_writing.specs.Answer.{name_word, reference_word, reply_word, reply_line, object_line, roots_line, root_spellings, thread_numbers, spelled_answer};
+ghost use Rattle.trace_writing.specs.Answer.{name_word, reference_word, reply_word, reply_line, object_line, roots_line, root_spellings, pins_line, pin_spellings, pins_text, thread_numbers, spelled_answer};
 
 use shen_base::Sink;
 use shen_graph::{Command, GraphText, Name, Reply, Work};
@@ -14,10 +14,15 @@ use text_writer::{Block, WriteFault};
 // The number of roots of a thread.
 const ROOTS: usize = Command::ROOTS as usize;
 
+// The number of pin slots of a thread.
+const SLOTS: usize = Command::SLOTS as usize;
+
 /// An answer: what the commands of each thread were answered, and the graph at the end. `replies` is to have the script of
 /// each thread of `graph`.
 #[derive(Debug, Drop)]
 pub struct Answer {
+    /// The version of the trace that is answered. From version 2 on the answer says what is pinned.
+    pub version: u32,
     /// The replies of thread t stand at number t − 1.
     pub replies: Work,
     /// The objects, in the order in which they are to be written, and the roots of each thread.
@@ -36,6 +41,7 @@ pub fn write_answer<K: Sink>(sink: &mut K, answer: &Answer) -> Result<(), WriteF
     block.put(sink, b"graph\n");
     put_objects(&mut block, sink, &answer.graph);
     put_roots(&mut block, sink, &answer.graph);
+    put_pins(&mut block, sink, answer.version, &answer.graph);
     block.finish(sink)
 }
 
@@ -94,6 +100,10 @@ pub(crate) fn put_reply_word<K: Sink>(block: &mut Block, sink: &mut K, reply: Re
         Reply::Number(value) => block.put_number(sink, value),
         Reply::Bad => block.put(sink, b"bad"),
         Reply::Full => block.put(sink, b"full"),
+        Reply::At(place) => {
+            block.put(sink, b"@");
+            block.put_number(sink, place);
+        }
     }
 }
 
@@ -207,5 +217,54 @@ fn put_root_words<K: Sink>(block: &mut Block, sink: &mut K, graph: &GraphText, t
 {
     for index in 0..ROOTS {
         put_reference(block, sink, graph.root_at(thread, index));
+    }
+}
+
+// Puts the line of the pin slots of each thread, in a version that has them.
+fn put_pins<K: Sink>(block: &mut Block, sink: &mut K, version: u32, graph: &GraphText)
+    requires { length graph.now.roots ≤ 8 }
+    ensures { Puts (stage (K.written sink.old) (K.faults sink.old) (K.calls sink.old) block.old)
+        (stage (K.written sink.new) (K.faults sink.new) (K.calls sink.new) block.new)
+        (pins_text version (length graph.now.roots) (pin_of graph.now)) }
+{
+    if version >= 2 {
+        put_all_pins(block, sink, graph);
+    }
+}
+
+// Puts the line of the pin slots of each thread.
+fn put_all_pins<K: Sink>(block: &mut Block, sink: &mut K, graph: &GraphText)
+    requires { length graph.now.roots ≤ 8 }
+    ensures { Puts (stage (K.written sink.old) (K.faults sink.old) (K.calls sink.old) block.old)
+        (stage (K.written sink.new) (K.faults sink.new) (K.calls sink.new) block.new)
+        (flat_map (λ t. pins_line t (pin_of graph.now t)) (thread_numbers (length graph.now.roots))) }
+{
+    for mutator in 0..graph.mutators() {
+        put_pins_of(block, sink, graph, mutator as u32 + 1);
+    }
+}
+
+// Puts the line of the pin slots of a thread.
+fn put_pins_of<K: Sink>(block: &mut Block, sink: &mut K, graph: &GraphText, thread: u32)
+    requires thread { (1 ≤ thread) × (thread ≤ length graph.now.roots) }
+    ensures { Puts (stage (K.written sink.old) (K.faults sink.old) (K.calls sink.old) block.old)
+        (stage (K.written sink.new) (K.faults sink.new) (K.calls sink.new) block.new)
+        (pins_line thread (pin_of graph.now thread)) }
+{
+    block.put(sink, b"pins ");
+    block.put_number(sink, thread as u64);
+    put_pin_words(block, sink, graph, thread);
+    block.put(sink, b"\n");
+}
+
+// Puts the pin slots of a thread, each after a space.
+fn put_pin_words<K: Sink>(block: &mut Block, sink: &mut K, graph: &GraphText, thread: u32)
+    requires thread { (1 ≤ thread) × (thread ≤ length graph.now.roots) }
+    ensures { Puts (stage (K.written sink.old) (K.faults sink.old) (K.calls sink.old) block.old)
+        (stage (K.written sink.new) (K.faults sink.new) (K.calls sink.new) block.new)
+        (flat_map (λ w. space ∷ w) (pin_spellings (pin_of graph.now thread))) }
+{
+    for slot in 0..SLOTS {
+        put_reference(block, sink, graph.pin_at(thread, slot as u32));
     }
 }

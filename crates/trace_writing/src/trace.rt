@@ -15,19 +15,19 @@ use shen_graph::{Command, Script};
 use text_writer::{Block, WriteFault};
 use trace_grammar::Trace;
 
-/// Writes the trace to the sink: the three lines at its head, the lines of threads 1 to T one thread after the other, and all
+/// Writes the trace to the sink, in its version: the three lines at its head, the lines of threads 1 to T one thread after the other, and all
 /// items of its schedule on one line, where there are any. What is written is read as the very same trace. It takes no memory,
 /// and calls the sink at most once per byte. After `WriteFault` a front of the text was written.
 pub fn write_trace<K: Sink>(sink: &mut K, trace: &Trace) -> Result<(), WriteFault>
-    requires { IsWritable trace.now.config trace.now.scripts trace.now.schedule }
+    requires { IsWritable trace.now.version trace.now.config trace.now.scripts trace.now.schedule }
     ensures written { Writes result (outlet (K.written sink.old) (K.faults sink.old) (K.calls sink.old))
         (outlet (K.written sink.new) (K.faults sink.new) (K.calls sink.new))
-        (spelling_of trace.now.config trace.now.scripts trace.now.schedule) }
-    ensures reads { Reads (spelling_of trace.now.config trace.now.scripts trace.now.schedule)
-        trace.now.config trace.now.scripts trace.now.schedule }
+        (spelling_of trace.now.version trace.now.config trace.now.scripts trace.now.schedule) }
+    ensures reads { Reads (spelling_of trace.now.version trace.now.config trace.now.scripts trace.now.schedule)
+        trace.now.version trace.now.config trace.now.scripts trace.now.schedule }
 {
     let mut block = Block::new();
-    put_header(&mut block, sink, &trace.config);
+    put_header(&mut block, sink, trace.version, &trace.config);
     put_scripts(&mut block, sink, trace.scripts.list());
     put_schedule(&mut block, sink, &trace.config, trace.schedule.list());
     block.finish(sink)
@@ -35,14 +35,14 @@ pub fn write_trace<K: Sink>(sink: &mut K, trace: &Trace) -> Result<(), WriteFaul
 
 /// A law: a trace that was read can be written.
 pub fn read_traces_can_be_written()
-    ensures { (bytes : List ℕ) (c : Sizes) (scripts : List (List Asked)) (items : List Turn) → Reads bytes c scripts items → IsWritable c scripts items }
+    ensures { (bytes : List ℕ) (version : ℕ) (c : Sizes) (scripts : List (List Asked)) (items : List Turn) → Reads bytes version c scripts items → IsWritable version c scripts items }
 {}
 
-// Puts the three lines at the head of a trace.
-fn put_header<K: Sink>(block: &mut Block, sink: &mut K, config: &Config)
+// Puts the three lines at the head of a trace of a version.
+fn put_header<K: Sink>(block: &mut Block, sink: &mut K, version: u32, config: &Config)
     ensures { Puts (stage (K.written sink.old) (K.faults sink.old) (K.calls sink.old) block.old)
         (stage (K.written sink.new) (K.faults sink.new) (K.calls sink.new) block.new)
-        (header config.now) }
+        (header version config.now) }
 {
     let heap = [
         config.regions() as u64,
@@ -50,7 +50,7 @@ fn put_header<K: Sink>(block: &mut Block, sink: &mut K, config: &Config)
         config.reserve() as u64,
     ];
     let threads = [config.mutators() as u64, config.helpers() as u64];
-    put_title(block, sink, b"shen", &[1]);
+    put_title(block, sink, b"shen", &[version as u64]);
     put_title(block, sink, b"heap", &heap);
     put_title(block, sink, b"threads", &threads);
 }
@@ -139,6 +139,8 @@ fn word_of(command: Command) -> &'static [u8]
         Command::Drop { .. } => b"drop",
         Command::Same { .. } => b"same",
         Command::Gc => b"gc",
+        Command::Pin { .. } => b"pin",
+        Command::Unpin { .. } => b"unpin",
     }
 }
 
@@ -169,6 +171,8 @@ fn numbers_of(command: Command) -> ([u64; 4], usize)
         Command::Drop { dst } => ([dst as u64, 0, 0, 0], 1),
         Command::Same { a, b } => ([a as u64, b as u64, 0, 0], 2),
         Command::Gc => ([0, 0, 0, 0], 0),
+        Command::Pin { slot, obj } => ([slot as u64, obj as u64, 0, 0], 2),
+        Command::Unpin { slot } => ([slot as u64, 0, 0, 0], 1),
     }
 }
 

@@ -6,12 +6,12 @@ use Rattle.trace_grammar.specs.Spelling.{TraceLine, line, IsLine, schedule_line,
 use Rattle.trace_grammar.specs.Grammar.{most_bytes, scripts_of, items_of}
 use Rattle.dump_writing.specs.Dumped.{Dumped, IsDump}
 use Rattle.dump_writing.specs.DumpText.{dump_text}
-use Rattle.dump_reading.specs.Resumes.{Resumes, mark_line}
+use Rattle.dump_reading.specs.Resumes.{Resumes, run_version, mark_line}
 use Rattle.dump_reading.proofs.Reread as reread
 use Rattle.dump_reading.proofs.laws.written_dumps_are_read.Goals as goal
 
 -- the bytes are that dump, with what the lines say
-reading : (bytes : List ℕ) (d : Dumped) (lines : List TraceLine) (turns : List (List Item)) → IsDump d → AllByRecursion (IsLine d.config.mutators) lines → AllByRecursion (IsScheduleLine d.config) turns
+reading : (bytes : List ℕ) (d : Dumped) (lines : List TraceLine) (turns : List (List Item)) → IsDump d → AllByRecursion (IsLine run_version d.config.mutators) lines → AllByRecursion (IsScheduleLine d.config) turns
     → bytes ≡ dump_text d ++ (mark_line ++ (flat_map line lines ++ flat_map schedule_line turns)) → length bytes ≤ most_bytes → Resumes bytes d (scripts_of d.config.mutators lines) (items_of turns)
 reading bytes d lines turns is lines_in turns_in spelled short = record {
   dump = is;

@@ -1,24 +1,10 @@
-use Rattle.std.proofs.Common.{ℕ, ◌+◌, ◌<◌, false, List, [], length, replicate, subst, sym, ap, ◌∙◌}
-use Rattle.std.specs.Prelude.{Bool}
-use Rattle.shen_graph.specs.GraphText.{root_of}
-use Rattle.dump_reading.specs.RowsReached.{RowsAreReached, IsReachMarked}
-use Rattle.dump_reading.proofs.RowMarks.{none_reached, still_marked, whole_reach, not_all_reach}
+use Rattle.dump_writing.proofs.RowMarks.{whole_reach, not_all_reach}
 use Rattle.dump_reading.proofs.whole.is_whole.Goals as goal
 
-pub reach_roots-requires-clause-reached : goal.reach_roots-requires-clause-reached
-reach_roots-requires-clause-reached c =
+pub returns-in-Some : goal.returns-in-Some
+returns-in-Some c =
     let t = c.args.graph.now in
-    let marks = c.in_ok-no_marks.ensures ∙ ap (λ n. replicate n false) c.rows.ensures in
-    subst (λ (xs : List ℕ). RowsAreReached t c.in_ok-no_marks.field-0.items xs) (sym c.new.ensures.items)
-    (subst (λ (bs : List Bool). RowsAreReached t bs []) (sym marks) (none_reached t))
-
-pub returns : goal.returns
-returns c =
-    let t = c.args.graph.now in
-    let a = rw c.if-not-branch.false at c.in_ok-reach_roots.ensures.ok in
-    let b = rw c.if-not-branch-2.false at c.in_ok-reach_on.ensures.ok in
-    let marks = c.reach_on.new.reached.marks.items in
-    let order = c.reach_on.new.reached.order.items in
-    let roots : (m i : ℕ) → m < length t.roots → i < 16 → IsReachMarked t marks (root_of t (m + 1) i) = λ m i low few. still_marked t c.reach_roots.new.reached.marks.items marks (root_of t (m + 1) i) b.1.kept (a.1 m i low few) in
+    let marks = c.in-Some.marks.items in
+    let reached = rw c.in-Some.is at c.in_ok-marks.ensures in
     let all = rw c.deref.ensures.value at c.are_all.ensures in
-    (λ is. whole_reach t marks order c.requires.order a.2 b.0 roots b.2 (all.0 is), λ reach. all.1 (not_all_reach t marks order c.requires.order a.2 b.0 roots b.2 reach))
+    (λ is. whole_reach t marks c.requires.order reached (all.0 is), λ reach. all.1 (not_all_reach t marks c.requires.order reached reach))

@@ -9,12 +9,12 @@ returns-in-Err-BadLine c =
 pub returns-then-not-are_same : goal.returns-then-not-are_same
 returns-then-not-are_same c =
     let trace = c.in-Ok.trace in
-    of_other c.args.test.now c.args.bytes.now c.args.steps trace.config trace.scripts trace.schedule c.in-Ok.ensures.ok (c.are_same.ensures.other c.if-not-are_same.true)
+    of_other c.args.test.now c.args.bytes.now c.args.steps trace.version trace.config trace.scripts trace.schedule c.in-Ok.ensures.ok (c.are_same.ensures.other c.if-not-are_same.true)
 
 pub returns-in-Ok-noted_answer_to : goal.returns-in-Ok-noted_answer_to
 returns-in-Ok-noted_answer_to c =
     let trace = c.in-Ok.trace in
     let told = c.in-Ok-noted_answer_to in
-    no_play c.args.test.now c.args.bytes.now c.args.steps trace.config trace.scripts trace.schedule told.history.list told.answer.graph
+    no_play c.args.test.now c.args.bytes.now c.args.steps trace.version trace.config trace.scripts trace.schedule told.history.list told.answer.graph
     (c.are_same.ensures.same c.if-not-are_same.false) c.in-Ok.ensures.ok told.ensures.whole told.ensures.history told.ensures.graph
     (c.in_ok-verdict-in-Ok-noted_answer_to.ensures.none (cc))

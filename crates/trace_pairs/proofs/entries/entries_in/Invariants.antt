@@ -6,7 +6,7 @@ use Rattle.trace_pairs.proofs.entries.entries_in.Given as goal
 
 abbrev pub invariant-entries : goal.invariant-entries
 invariant-entries l = record {
-  in_range : AllByRecursion (IsClaim l.threads) l.history.list;
+  in_range : AllByRecursion (IsClaim l.version l.threads) l.history.list;
   spelled : l.bytes ≡ flat_map entry_line l.history.list ++ l.rest;
 }
 

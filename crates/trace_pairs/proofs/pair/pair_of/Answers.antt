@@ -11,12 +11,13 @@ returns-in-Err-claims_in-clause-bad_line c = λ n why e.
     let taken = c.in-Ok.taken in
     let fault = c.in-Err-claims_in.ensures.bad_line n why (cc) in (
       inr (record {
+        version = taken.0.version;
         config = taken.0.config;
         scripts = taken.0.scripts;
         items = taken.0.schedule;
         behind = taken.1.now;
         trace = c.in-Ok.ensures.ok;
-        fault = subst (λ (t : ℕ). LacksHistory c.args.bytes.now taken.1.now n why ⊎ LacksEntry t c.args.bytes.now taken.1.now n why) c.mutators.ensures fault;
+        fault = subst (λ (t : ℕ). LacksHistory c.args.bytes.now taken.1.now n why ⊎ LacksEntry taken.0.version t c.args.bytes.now taken.1.now n why) c.mutators-threads.ensures fault;
       }),
       c.requires,
     )

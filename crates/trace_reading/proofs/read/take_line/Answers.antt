@@ -7,23 +7,23 @@ use Rattle.trace_grammar.proofs.Lines.{line_takes, line_again}
 use Rattle.trace_reading.proofs.read.take_line.Goals as goal
 
 pub returns-in_default-clause-refused : goal.returns-in_default-clause-refused
-returns-in_default-clause-refused c = λ _ l rest fits e. let again = line_again c.args.threads l rest (omega arith) fits in let here = ap (line_at c.args.threads) e in let none = c.in_default.ensures in cc
+returns-in_default-clause-refused c = λ _ l rest fits e. let again = line_again c.args.version c.args.threads l rest (omega arith) fits in let here = ap (line_at c.args.version c.args.threads) e in let none = c.in_default.ensures in cc
 
 pub overflow_sub-thread : goal.overflow_sub-thread
 overflow_sub-thread c =
     let read : TraceLine × List ℕ = (record { thread = c.in-Some.thread; command = c.in-Some.command }, c.in-Some.rest.now) in
-    (line_takes c.args.threads c.args.bytes.now read (omega arith) (sym c.in-Some.ensures)).1.from_one
+    (line_takes c.args.version c.args.threads c.args.bytes.now read (omega arith) (sym c.in-Some.ensures)).1.from_one
 
 pub index_mut-requires : goal.index_mut-requires
 index_mut-requires c =
     let read : TraceLine × List ℕ = (record { thread = c.in-Some.thread; command = c.in-Some.command }, c.in-Some.rest.now) in
-    let fits = (line_takes c.args.threads c.args.bytes.now read (omega arith) (sym c.in-Some.ensures)).1 in
+    let fits = (line_takes c.args.version c.args.threads c.args.bytes.now read (omega arith) (sym c.in-Some.ensures)).1 in
     omega (arith, fits.from_one, fits.to_last, c.args.scripts.now.ok.0)
 
 pub returns-in-Ok-clause-ok : goal.returns-in-Ok-clause-ok
 returns-in-Ok-clause-ok c =
     let l : TraceLine = record { thread = c.in-Some.thread; command = c.in-Some.command } in
-    let taken = line_takes c.args.threads c.args.bytes.now (l, c.in-Some.rest.now) (omega arith) (sym c.in-Some.ensures) in
+    let taken = line_takes c.args.version c.args.threads c.args.bytes.now (l, c.in-Some.rest.now) (omega arith) (sym c.in-Some.ensures) in
     let before = get_or_read c.args.scripts.now.items _ _ (omega (arith, taken.1.from_one, taken.1.to_last)) c.index_mut.ensures.value [] in (
       l,
       taken.1,

@@ -27,7 +27,7 @@ pub lines-preserved : goal.lines-preserved
 lines-preserved c =
     let took = c.in-Ok.ensures.ok in
     let taken = c.lines.invariant.0 in
-    let fits = subst (λ (threads : ℕ). IsLine threads took.0) c.mutators-threads.ensures took.1 in (
-      taken_more c.args.config.now.mutators c.args.bytes.now c.lines.rest.now c.in-Ok.behind.now c.lines.scripts.items c.take_line.new.scripts.items took.0 taken fits took.2 took.3,
-      omega (arith, c.lines.invariant.1, taken_count c.args.config.now.mutators c.args.bytes.now c.lines.rest.now c.in-Ok.behind.now c.lines.scripts.items c.take_line.new.scripts.items took.0 taken fits took.2 took.3),
+    let fits = subst (λ (threads : ℕ). IsLine c.args.version threads took.0) c.mutators-threads.ensures took.1 in (
+      taken_more c.args.version c.args.config.now.mutators c.args.bytes.now c.lines.rest.now c.in-Ok.behind.now c.lines.scripts.items c.take_line.new.scripts.items took.0 taken fits took.2 took.3,
+      omega (arith, c.lines.invariant.1, taken_count c.args.version c.args.config.now.mutators c.args.bytes.now c.lines.rest.now c.in-Ok.behind.now c.lines.scripts.items c.take_line.new.scripts.items took.0 taken fits took.2 took.3),
     )

@@ -6,7 +6,7 @@ use Rattle.trace_reading.proofs.read.trace_behind.Goals as goal
 pub returns-in_err-line-clause-bad_line : goal.returns-in_err-line-clause-bad_line
 returns-in_err-line-clause-bad_line c = λ n why h.
     let p = err_from_is_err_and c.from_residual-in_err-line.result c.from_residual-in_err-line.ensures.1 in
-    stops_in_commands c.args.config c.args.first c.args.bytes.now n why (c.in_err-line.ensures.bad_line n why (let q = p.1 in let r = p.2 in cc))
+    stops_in_commands c.args.version c.args.config c.args.first c.args.bytes.now n why (c.in_err-line.ensures.bad_line n why (let q = p.1 in let r = p.2 in cc))
 
 pub take_schedule-requires-clause-few : goal.take_schedule-requires-clause-few
 take_schedule-requires-clause-few c =
@@ -18,4 +18,4 @@ pub returns-in_err-take_schedule-clause-bad_line : goal.returns-in_err-take_sche
 returns-in_err-take_schedule-clause-bad_line c = λ n why h.
     let p = err_from_is_err_and c.from_residual-in_err-take_schedule.result c.from_residual-in_err-take_schedule.ensures.1 in
     let taken = c.in_ok-line.ensures.ok in
-    stops_in_turns c.args.config c.args.first c.in_ok-line.line c.args.bytes.now c.in_ok-line.turns.now _ n why taken.0 taken.1 (c.in_err-take_schedule.ensures.bad_line n why (let q = p.1 in let r = p.2 in cc))
+    stops_in_turns c.args.version c.args.config c.args.first c.in_ok-line.line c.args.bytes.now c.in_ok-line.turns.now _ n why taken.0 taken.1 (c.in_err-take_schedule.ensures.bad_line n why (let q = p.1 in let r = p.2 in cc))

@@ -16,7 +16,7 @@ use Rattle.trace_runs.proofs.checks.check.Goals as goal
 pub check-requires : goal.check-requires
 check-requires g c =
     let read = c.in-Ok.ensures.ok in
-    can_be_judged read.2.trace.trace c.in-Ok.pair.trace.config c.in-Ok.pair.trace.scripts c.in-Ok.pair.trace.schedule read.2.trace.reads
+    can_be_judged read.2.trace.trace c.in-Ok.pair.trace.version c.in-Ok.pair.trace.config c.in-Ok.pair.trace.scripts c.in-Ok.pair.trace.schedule read.2.trace.reads
 
 pub returns-in-Ok-check : goal.returns-in-Ok-check
 returns-in-Ok-check g c = λ words asked.
@@ -28,14 +28,14 @@ returns-in-Ok-check g c = λ words asked.
       before = outlet (g.K.Sink.written c.args.sink.now) (g.K.Sink.faults c.args.sink.now) (g.K.Sink.calls c.args.sink.now);
       after = outlet (g.K.Sink.written c.say.new.sink) (g.K.Sink.faults c.say.new.sink) (g.K.Sink.calls c.say.new.sink);
     } in
-    let is : IsVerdict pair.trace.config pair.trace.scripts pair.history.list pair.body verdict = subst (λ (body : List ℕ). IsVerdict pair.trace.config pair.trace.scripts pair.history.list body verdict) c.bytes.ensures c.in-Ok-check.ensures in
+    let is : IsVerdict pair.trace.version pair.trace.config pair.trace.scripts pair.history.list pair.body verdict = subst (λ (body : List ℕ). IsVerdict pair.trace.version pair.trace.config pair.trace.scripts pair.history.list body verdict) c.bytes.ensures c.in-Ok-check.ensures in
     said words input output (line_text (verdict_line verdict)) Ok c.say.result (
       Check,
       asked,
       record {
         bytes = read.0;
         came = read.1;
-        is = record { config = pair.trace.config; scripts = pair.trace.scripts; items = pair.trace.schedule; body = pair.body; entries = pair.history.list; pair = read.2; verdict = verdict; is = is; text = refl };
+        is = record { version = pair.trace.version; config = pair.trace.config; scripts = pair.trace.scripts; items = pair.trace.schedule; body = pair.body; entries = pair.history.list; pair = read.2; verdict = verdict; is = is; text = refl };
       },
     )
     (subst (λ (l : Line). EndsWith (line_text l) Ok c.say.result output.before output.after) c.verdict_line.ensures

@@ -20,13 +20,13 @@ pub dump_of-requires-clause-history : goal.dump_of-requires-clause-history
 dump_of-requires-clause-history c =
     let t = c.args.trace in
     let ran = c.in_ok-replies in
-    noted_dumpable c.requires.0 t.config t.scripts t.schedule c.args.steps ran.replies ran.plain ran.history.list c.requires.1 ran.ensures.finished ran.ensures.history
+    noted_dumpable c.requires.0 t.version t.config t.scripts t.schedule c.args.steps ran.replies ran.plain ran.history.list c.requires.1 ran.ensures.finished ran.ensures.history
 
 pub dump_of-requires-clause-graph : goal.dump_of-requires-clause-graph
 dump_of-requires-clause-graph c =
     let t = c.args.trace in
     let ran = c.in_ok-replies in
-    noted_shown c.requires.0 t.config t.scripts t.schedule c.args.steps ran.replies ran.plain ran.history.list c.requires.1 ran.ensures.finished ran.ensures.history c.in_ok-graph.graph
+    noted_shown c.requires.0 t.version t.config t.scripts t.schedule c.args.steps ran.replies ran.plain ran.history.list c.requires.1 ran.ensures.finished ran.ensures.history c.in_ok-graph.graph
     (c.in_ok-graph.ensures.shows (opening_run t.config (events_of t.config t.scripts t.schedule c.args.steps)) ran.ensures.finished.shows)
 
 pub returns-in-Ok-clause-ok : goal.returns-in-Ok-clause-ok
@@ -34,4 +34,4 @@ returns-in-Ok-clause-ok c = λ bytes reads.
     let t = c.args.trace in
     let ran = c.in_ok-replies in
     let d = c.in-Ok.dump in
-    replayed_to_dump bytes t.config t.scripts t.schedule c.args.steps ran.replies ran.plain ran.history.list reads ran.ensures.finished ran.ensures.history (dumped d.config d.counts d.graph) c.in-Ok.ensures.dump c.in-Ok.ensures.counts
+    replayed_to_dump bytes t.version t.config t.scripts t.schedule c.args.steps ran.replies ran.plain ran.history.list reads ran.ensures.finished ran.ensures.history (dumped d.config d.counts d.graph) c.in-Ok.ensures.dump c.in-Ok.ensures.counts

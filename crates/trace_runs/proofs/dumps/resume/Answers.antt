@@ -6,7 +6,6 @@ use Rattle.trace_writing.specs.Answer.{spelled_answer}
 use Rattle.text_writer.specs.Sending.{outlet}
 use Rattle.graph_placing.specs.ByName.{Fits}
 use Rattle.dump_runs.specs.Resumed.{IsResumed}
-use Rattle.dump_answers.specs.PinsText.{pins_text}
 use Rattle.trace_runs.specs.Answered.{Input, Output}
 use Rattle.trace_runs.specs.CallEnds.{EndsWith}
 use Rattle.trace_runs.specs.declared.mode.Mode.TheVariants.{Resume}
@@ -18,8 +17,8 @@ use Rattle.trace_runs.proofs.dumps.resume.Goals as goal
 pub answer_from-requires : goal.answer_from-requires
 answer_from-requires g c = let read = c.in-Ok.ensures.ok in (read.0, read.2)
 
-pub give_resumed-requires : goal.give_resumed-requires
-give_resumed-requires g c = rw c.in-Ok-Answered.field-0-is at c.in-Ok-Answered.ensures.scripts
+pub give-requires : goal.give-requires
+give-requires g c = rw c.in-Ok-Answered.field-0-is at c.in-Ok-Answered.ensures.scripts
 
 pub returns-in-Ok-Answered : goal.returns-in-Ok-Answered
 returns-in-Ok-Answered g c = λ words asked.
@@ -31,15 +30,15 @@ returns-in-Ok-Answered g c = λ words asked.
     let input : Input = record { before = g.S.Source.left c.args.source.now; after = g.S.Source.left c.dump_taken.new.source; faults_before = g.S.Source.faults c.args.source.now; faults_after = g.S.Source.faults c.dump_taken.new.source } in
     let output : Output = record {
       before = outlet (g.K.Sink.written c.args.sink.now) (g.K.Sink.faults c.args.sink.now) (g.K.Sink.calls c.args.sink.now);
-      after = outlet (g.K.Sink.written c.give_resumed.new.sink) (g.K.Sink.faults c.give_resumed.new.sink) (g.K.Sink.calls c.give_resumed.new.sink);
+      after = outlet (g.K.Sink.written c.give.new.sink) (g.K.Sink.faults c.give.new.sink) (g.K.Sink.calls c.give.new.sink);
     } in
-    let text : List ℕ = spelled_answer answer ++ pins_text c.mutators-threads.result in
-    said words input output text Ok c.give_resumed.result (
+    let text : List ℕ = spelled_answer answer in
+    said words input output text Ok c.give.result (
       Resume c.args.steps,
       asked,
-      record { bytes = read.0; came = read.1; is = answered_from read.0 r.dump.config r.dump.counts r.dump.graph r.trace.scripts r.trace.schedule read.2 c.args.steps c.mutators-threads.result (spelled_answer answer) fits resumed c.mutators-threads.ensures },
+      record { bytes = read.0; came = read.1; is = answered_from read.0 r.dump.config r.dump.counts r.dump.graph r.trace.scripts r.trace.schedule read.2 c.args.steps (spelled_answer answer) fits resumed },
     )
-    (subst (λ s. EndsWith text Ok c.give_resumed.result (outlet (g.K.Sink.written s) (g.K.Sink.faults s) (g.K.Sink.calls s)) output.after) c.in-Ok.ensures.unused c.give_resumed.ensures)
+    (subst (λ s. EndsWith text Ok c.give.result (outlet (g.K.Sink.written s) (g.K.Sink.faults s) (g.K.Sink.calls s)) output.after) c.in-Ok.ensures.unused c.give.ensures)
 
 pub returns-in-Ok-Unfinished : goal.returns-in-Ok-Unfinished
 returns-in-Ok-Unfinished g c = λ words asked.

@@ -15,7 +15,7 @@ returns-clause-ok c = λ bytes reads.
     let scripts = c.args.trace.scripts in
     let items = c.args.trace.schedule in
     let done = c.in_ok-replies.ensures.finished in
-    replayed_noted bytes config scripts items c.args.steps c.in_ok-replies.replies c.in_ok-replies.plain c.in_ok-graph.graph c.in_ok-replies.history.list reads (count_scripts bytes config scripts items reads) done c.in_ok-graph.ensures.threads
+    replayed_noted bytes c.args.trace.version config scripts items c.args.steps c.in_ok-replies.replies c.in_ok-replies.plain c.in_ok-graph.graph c.in_ok-replies.history.list reads (count_scripts bytes c.args.trace.version config scripts items reads) done c.in_ok-graph.ensures.threads
     (c.in_ok-graph.ensures.shows (opening_run config (events_of config scripts items c.args.steps)) done.shows) c.in_ok-replies.ensures.history
 
 pub run_noted-requires : goal.run_noted-requires
@@ -31,7 +31,7 @@ pub returns-clause-whole : goal.returns-clause-whole
 returns-clause-whole c =
     let t = c.args.trace in
     let done = c.in_ok-replies.ensures.finished in
-    whole t.config t.scripts (events_of t.config t.scripts t.schedule c.args.steps) (count_scripts c.requires.0 t.config t.scripts t.schedule c.requires.1) done.idle done.called
+    whole t.config t.scripts (events_of t.config t.scripts t.schedule c.args.steps) (count_scripts c.requires.0 t.version t.config t.scripts t.schedule c.requires.1) done.idle done.called
 
 pub returns-clause-history : goal.returns-clause-history
 returns-clause-history c = c.in_ok-replies.ensures.history

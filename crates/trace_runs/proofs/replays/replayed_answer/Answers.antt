@@ -15,7 +15,7 @@ returns-clause-ok c = λ bytes reads.
     let scripts = c.args.trace.scripts in
     let items = c.args.trace.schedule in
     let done = c.in_ok-replies.ensures.finished in
-    replayed bytes config scripts items c.args.steps c.in_ok-replies.replies c.in_ok-replies.plain c.in_ok-graph.graph reads (count_scripts bytes config scripts items reads) done c.in_ok-graph.ensures.threads
+    replayed bytes c.args.trace.version config scripts items c.args.steps c.in_ok-replies.replies c.in_ok-replies.plain c.in_ok-graph.graph reads (count_scripts bytes c.args.trace.version config scripts items reads) done c.in_ok-graph.ensures.threads
     (c.in_ok-graph.ensures.shows (opening_run config (events_of config scripts items c.args.steps)) done.shows)
 
 pub run-requires : goal.run-requires

@@ -1,5 +1,5 @@
 use Rattle.std.proofs.Common.{sym, ap}
-use Rattle.text_writer.proofs.Stages.{puts_same}
+use Rattle.text_writer.proofs.Stages.{puts_both, puts_same}
 use Rattle.trace_writing.specs.Answer.{reply_word}
 use Rattle.trace_writing.proofs.answer.put_reply_word.Goals as goal
 
@@ -26,3 +26,6 @@ returns-in-Bad g c = puts_same (ap reply_word (sym c.in-Bad.is)) c.put-in-Bad.en
 
 pub returns-in-Full : goal.returns-in-Full
 returns-in-Full g c = puts_same (ap reply_word (sym c.in-Full.is)) c.put-in-Full.ensures.put
+
+pub returns-in-At : goal.returns-in-At
+returns-in-At g c = puts_same (ap reply_word (sym c.in-At.is)) (puts_both c.put-in-At.ensures.put c.put_number-in-At.ensures.put)

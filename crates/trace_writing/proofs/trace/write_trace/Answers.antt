@@ -15,4 +15,4 @@ returns-clause-written g c =
     c.finish.ensures.ended _ _ (taken_by_new c.new-block.ensures (puts_both c.put_header.ensures (puts_both scripts schedule)))
 
 pub returns-clause-reads : goal.returns-clause-reads
-returns-clause-reads g c = reads_again c.args.trace.now.config c.args.trace.now.scripts c.args.trace.now.schedule c.requires
+returns-clause-reads g c = reads_again c.args.trace.now.version c.args.trace.now.config c.args.trace.now.scripts c.args.trace.now.schedule c.requires

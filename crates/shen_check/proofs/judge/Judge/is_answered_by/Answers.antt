@@ -1,5 +1,5 @@
 use Rattle.std.proofs.Common.{◌-◌, length, sym, subst, ap, refl, arith}
-use Rattle.shen_graph.specs.GraphText.{root_of, IsTextOf}
+use Rattle.shen_graph.specs.GraphText.{root_of, pin_of, IsTextOf}
 use Rattle.shen_graph.specs.PlainGraph.{graph_of}
 use Rattle.shen_graph.specs.Work.{replies_of}
 use Rattle.trace_writing.specs.Answer.{answer_text}
@@ -18,6 +18,6 @@ returns c = λ scripts before count judged.
     let work = c.args.self.work in
     let shows = subst (λ n. IsTextOf (graph_of c.args.self.graph) n text) (sym c.requires.threads) c.in_ok-write.ensures.ok in
     map_ok c.is_text.result _ _
-    (λ same compared. answered scripts before c.args.self.graph work text c.args.body.now
-    (answer_text (length text.roots) (λ t. replies_of work (t - 1)) text.rows (root_of text)) same c.args.threads judged count shows refl compared)
+    (λ same compared. answered c.args.version scripts before c.args.self.graph work text c.args.body.now
+    (answer_text c.args.version (length text.roots) (λ t. replies_of work (t - 1)) text.rows (root_of text) (pin_of text)) same c.args.threads judged count shows refl compared)
     c.is_text.ensures

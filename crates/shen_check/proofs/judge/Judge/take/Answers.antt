@@ -1,10 +1,11 @@
-use Rattle.std.proofs.Common.{List, ◌≡◌, ◌-◌, ◌≤◌, ◌∷◌, [], ◌++◌, Option, take, length, sym, ap, subst, arith, ◌∙◌}
+use Rattle.std.proofs.Common.{ℕ, List, ◌≡◌, ◌-◌, ◌≤◌, ◌∷◌, [], ◌++◌, Option, take, length, sym, ap, subst, arith, ◌∙◌}
 use Rattle.std.proofs.lemmas.Option.{same_Some, slice_get_within}
 use Rattle.shen_graph.specs.Noting.{seen}
 use Rattle.shen_graph.specs.History.{Entry, of_thread}
+use Rattle.shen_graph.specs.PlainGraph.{graph_of}
 use Rattle.shen_graph.specs.Work.{Progress, script_in, replies_of, with_reply}
 use Rattle.shen_check.specs.Judged.{MayFollow}
-use Rattle.shen_check.specs.Judging.{HasJudged}
+use Rattle.shen_check.specs.Judging.{HasJudged, HasPinsOf}
 use Rattle.shen_check.proofs.Taking.{one_more, one_longer, next_of_thread, no_next, may_answer, may_follow, next_valid, count_few}
 use Rattle.shen_check.proofs.judge.Judge.take.Goals as goal
 
@@ -37,6 +38,9 @@ may_answer-requires-clause-count c =
     count_few scripts before c.args.self.now.graph c.args.self.now.work 4294967295 thread c.entry-entry.result.command c.requires.judged c.requires.few next.0 high
     (sym (next_of_thread scripts before c.args.self.now.graph c.args.self.now.work c.requires.judged thread next.0 high) ∙ next.2)
 
+pub may_answer-requires-clause-pins : goal.may_answer-requires-clause-pins
+may_answer-requires-clause-pins c = subst (λ (n : ℕ). HasPinsOf n (graph_of c.args.self.now.graph)) c.requires.count c.requires.judged.pins
+
 pub returns-then-not-branch : goal.returns-then-not-branch
 returns-then-not-branch c = λ e there follow.
     let scripts = c.args.trace.now.scripts in
@@ -68,7 +72,8 @@ returns c = λ e there.
     let may = rw c.if-not-branch.false at c.in_ok-may_answer.ensures.answer in
     let is = sym (next_of_thread scripts before graph work c.requires.judged entry.thread next.0 high) ∙ next.2 in
     let told = c.told.ensures ∙ ap (λ (ws : List (Option Progress)). with_reply ws (entry.thread - 1) entry.reply) c.in_ok-may_answer.ensures.work in
-    let more = one_more scripts before graph c.may_answer.new.self.graph work entry c.requires.judged next.0 high c.in_ok-may_answer.ensures.threads may.1 in (
+    let valid = next_valid scripts entry.thread (length (of_thread before entry.thread)) entry.command c.requires.valid next.0 high is in
+    let more = one_more scripts before graph c.may_answer.new.self.graph work entry c.requires.judged next.0 high valid c.in_ok-may_answer.ensures.threads may.1 in (
       subst (MayFollow config scripts before) (sym same) (may_follow config scripts before graph work entry c.requires.judged c.requires.count is may.0),
       subst (λ (es : List Entry). HasJudged scripts es c.may_answer.new.self.graph c.told.new.self) (sym (one_longer c.args.history.now.list c.args.at entry c.entry-entry.ensures))
           (subst (λ (ws : List (Option Progress)). HasJudged scripts (before ++ entry ∷ []) c.may_answer.new.self.graph ws) (sym told) more),

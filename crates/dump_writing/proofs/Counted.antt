@@ -1,0 +1,51 @@
+-- What a graph leads to does not rest on its counts, nor on rows to which it does not lead.
+use Rattle.std.proofs.Common.{ℕ, ◌≡◌, List, [], ◌∷◌, Option, Some, None, refl, sym, subst}
+use Rattle.std.specs.Prelude.{slice_get, unwrap_or}
+use Rattle.shen_graph.specs.declared.name.Name.{Name}
+use Rattle.shen_graph.specs.Graph.{Graph, Object, Reference}
+use Rattle.shen_graph.specs.GraphText.{Row}
+use Rattle.shen_graph.specs.PlainGraph.{graph_of, object_in}
+use Rattle.shen_graph.specs.Reach.{IsReachable, IsReach}
+use Rattle.shen_graph.specs.Reach.IsReachable.{from_root, from_pin, from_field}
+
+abbrev pub counted : List Row → List (List Reference) → List ℕ → Graph
+counted rows roots counts = graph_of (record { rows = rows; roots = [] ∷ roots; counts = counts; pins = [] })
+
+pub reachable_again : (rows : List Row) (roots : List (List Reference)) (counts more : List ℕ) (n : Name) → IsReachable (counted rows roots counts) n → IsReachable (counted rows roots more) n
+unfolding graph_of
+reachable_again rows roots counts more _ (from_root thread root n is) = from_root thread root n is
+reachable_again rows roots counts more _ (from_pin thread slot held is) = absurd cc
+reachable_again rows roots counts more _ (from_field m n field before is) = from_field m n field (reachable_again rows roots counts more m before) is
+
+pub reach_again : (rows : List Row) (roots : List (List Reference)) (counts more : List ℕ) (names : List Name) → IsReach (counted rows roots counts) names → IsReach (counted rows roots more) names
+reach_again rows roots counts more names r = record {
+  in_order = r.in_order;
+  all = λ n led. r.all n (reachable_again rows roots more counts n led);
+  only = λ n there. reachable_again rows roots counts more n (r.only n there);
+}
+
+abbrev nothing : Object
+nothing = record { refs = []; nums = [] }
+
+-- a field of an object that is there in both
+same_field : (few all : Option Object) → ((o : Object) → few ≡ Some o → all ≡ Some o) → (field : ℕ) (r : Reference) → slice_get (unwrap_or few nothing).refs field ≡ Some r → slice_get (unwrap_or all nothing).refs field ≡ Some r
+same_field None all there field r is = absurd cc
+same_field (Some o) all there field r is = subst (λ (p : Option Object). slice_get (unwrap_or p nothing).refs field ≡ Some r) (sym (there o refl)) is
+
+-- fewer rows lead to no more
+pub leads_in_all : (few all : List Row) (roots : List (List Reference)) (counts : List ℕ) → ((n : Name) (o : Object) → object_in few n ≡ Some o → object_in all n ≡ Some o)
+    → (n : Name) → IsReachable (counted few roots counts) n → IsReachable (counted all roots counts) n
+unfolding graph_of
+leads_in_all few all roots counts there _ (from_root thread root n is) = from_root thread root n is
+leads_in_all few all roots counts there _ (from_pin thread slot held is) = absurd cc
+leads_in_all few all roots counts there _ (from_field m n field before is) =
+    from_field m n field (leads_in_all few all roots counts there m before) (same_field (object_in few m) (object_in all m) (there m) field (Some n) is)
+
+-- and no less, where they have the object of each name to which all lead
+pub leads_in_few : (few all : List Row) (roots : List (List Reference)) (counts : List ℕ) → ((n : Name) → IsReachable (counted all roots counts) n → object_in all n ≡ object_in few n)
+    → (n : Name) → IsReachable (counted all roots counts) n → IsReachable (counted few roots counts) n
+unfolding graph_of
+leads_in_few few all roots counts same _ (from_root thread root n is) = from_root thread root n is
+leads_in_few few all roots counts same _ (from_pin thread slot held is) = absurd cc
+leads_in_few few all roots counts same _ (from_field m n field before is) =
+    from_field m n field (leads_in_few few all roots counts same m before) (subst (λ (p : Option Object). slice_get (unwrap_or p nothing).refs field ≡ Some (Some n)) (same m before) is)

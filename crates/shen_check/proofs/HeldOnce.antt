@@ -1,0 +1,100 @@
+-- How many words and how many regions are pinned is one number each: two lists in which nothing is there twice, and which have
+-- the same elements, have one sum.
+use Rattle.std.proofs.Common.{◌≡◌, ℕ, ◌+◌, ◌≤◌, Bool, true, false, List, [], ◌∷◌, ◌++◌, length, sum_by, Some, inl, inr, refl, sym, ap, subst, ◌∙◌, arith}
+use Rattle.std.specs.Prelude.{Contains, ◌==◌}
+use Rattle.std.specs.List.{IsDistinct}
+use Rattle.std.proofs.lemmas.Bool.{false≢true}
+use Rattle.std.proofs.lemmas.Bool.Decides.{Decides-eqb}
+use Rattle.std.proofs.lemmas.List.Elements.{All-contains, All-from_recursion, Contains-append_left, Contains-append_right, Contains-append_cases}
+use Rattle.std.proofs.lemmas.List.Sums.{sum_by-append, sum_by-cons}
+use Rattle.std.proofs.lemmas.Map.Keys.{IsDistinct-head, IsDistinct-tail}
+use Rattle.shen_graph.specs.declared.name.Name.{Name}
+use Rattle.shen_graph.specs.Graph.{Graph, same_name, named}
+use Rattle.shen_graph.specs.Reach.{size}
+use Rattle.shen_graph.specs.Crowd.{ArePinned, Held, ArePinnedRegions, PinnedRegions}
+use Rattle.shen_graph.proofs.PlainLemmas.{same_name-itself}
+use Rattle.shen_graph.proofs.ReachLemmas.{Contains-cons_cases, Contains-nil}
+
+-- ---- a list around one of its elements
+
+record Around {K : Type 0} (ys : List K) (x : K) : Type 0 where
+  front : List K
+  behind : List K
+  is : ys ≡ front ++ x ∷ behind
+
+around : {K : Type 0} (ys : List K) (x : K) → Contains ys x → Around ys x
+around [] x there = absurd (Contains-nil x there)
+around {K} (y ∷ ys) x there = elim (Contains-cons_cases y ys x there) [
+  | inl same ↦ record { front = []; behind = ys; is = ap (λ (z : K). z ∷ ys) same }
+  | inr later ↦ (let w = around ys x later in record { front = y ∷ w.front; behind = w.behind; is = ap (λ (zs : List K). y ∷ zs) w.is })
+]
+
+others : {K : Type 0} (front behind : List K) (x y : K) → Contains (front ++ x ∷ behind) y → (x ≡ y → ⊥) → Contains (front ++ behind) y
+others front behind x y there other = elim (Contains-append_cases front (x ∷ behind) y there) [
+  | inl before ↦ Contains-append_left front behind y before
+  | inr from_it ↦ elim (Contains-cons_cases x behind y from_it) [
+    | inl same ↦ absurd (other same)
+    | inr later ↦ Contains-append_right front behind y later
+  ]
+]
+
+sum_around : {K : Type 0} (f : K → ℕ) (front behind : List K) (x : K) → sum_by f (front ++ x ∷ behind) ≡ f x + sum_by f (front ++ behind)
+sum_around f front behind x =
+    let whole = sum_by-append f front (x ∷ behind) in
+    let one = sum_by-cons f x behind in
+    let both = sum_by-append f front behind in
+    omega (arith, whole, one, both)
+
+-- ---- a sum over some of the elements
+
+apart : {K : Type 0} (eq : K → K → Bool) → ((x : K) → eq x x ≡ true) → (x : K) (xs : List K) → IsDistinct eq (x ∷ xs) → (y : K) → Contains xs y → x ≡ y → ⊥
+apart eq itself x xs distinct y there is =
+    let none = All-contains (λ z. eq x z ≡ false) xs y (All-from_recursion (λ z. eq x z ≡ false) xs (IsDistinct-head eq x xs distinct)) there in
+    false≢true (sym none ∙ ap (eq x) (sym is) ∙ itself x)
+
+pub sum_within : {K : Type 0} (eq : K → K → Bool) → ((x : K) → eq x x ≡ true) → (f : K → ℕ) (xs ys : List K) → IsDistinct eq xs → ((y : K) → Contains xs y → Contains ys y) → sum_by f xs ≤ sum_by f ys
+sum_within eq itself f [] ys distinct inside = omega arith
+sum_within {K} eq itself f (x ∷ xs) ys distinct inside =
+    let w = around ys x (inside x (0, omega arith, refl)) in
+    let rest = sum_within eq itself f xs (w.front ++ w.behind) (IsDistinct-tail eq x xs distinct) (λ y there.
+    others w.front w.behind x y (subst (λ (zs : List K). Contains zs y) w.is (inside y (Contains-append_right (x ∷ []) xs y there))) (apart eq itself x xs distinct y there)) in
+    let whole = ap (sum_by f) w.is ∙ sum_around f w.front w.behind x in
+    let first = sum_by-cons f x xs in
+    omega (arith, rest, whole, first)
+
+pub one_sum : {K : Type 0} (eq : K → K → Bool) → ((x : K) → eq x x ≡ true) → (f : K → ℕ) (xs ys : List K) → IsDistinct eq xs → IsDistinct eq ys
+    → ((y : K) → Contains xs y → Contains ys y) → ((y : K) → Contains ys y → Contains xs y) → sum_by f xs ≡ sum_by f ys
+one_sum eq itself f xs ys distinct_xs distinct_ys to from =
+    let up = sum_within eq itself f xs ys distinct_xs to in
+    let down = sum_within eq itself f ys xs distinct_ys from in
+    omega (arith, up, down)
+
+-- each counts 1
+ones : {K : Type 0} (xs : List K) → sum_by (λ _. 1) xs ≡ length xs
+ones [] = refl
+ones (x ∷ xs) = let others = ones xs in let first = sum_by-cons (λ _. 1) x xs in omega (arith, others, first)
+
+-- ---- the words
+
+names_within : (g : Graph) (xs ys : List Name) → ArePinned g xs → ArePinned g ys → (n : Name) → Contains xs n → Contains ys n
+names_within g xs ys p q n there = let it = p.only n there in subst (Contains ys) it.4 (q.all it.0 it.1 it.2 it.3)
+
+pub held_once : (g : Graph) (a b : ℕ) → Held g a → Held g b → a ≡ b
+held_once g a b x y =
+    x.2
+    ∙ one_sum same_name same_name-itself (λ (n : Name). size (named g (Some n))) x.0 y.0 x.1.differ y.1.differ (names_within g x.0 y.0 x.1 y.1) (names_within g y.0 x.0 y.1 x.1)
+    ∙ sym y.2
+
+-- ---- the regions
+
+regions_within : (region_words : ℕ) (g : Graph) (xs ys : List ℕ) → ArePinnedRegions region_words g xs → ArePinnedRegions region_words g ys → (r : ℕ) → Contains xs r → Contains ys r
+regions_within region_words g xs ys p q r there = let it = p.only r there in subst (Contains ys) it.4 (q.all it.0 it.1 it.2 it.3)
+
+number-itself : (n : ℕ) → (n == n) ≡ true
+number-itself n = (Decides-eqb n n).1 refl
+
+pub regions_once : (region_words : ℕ) (g : Graph) (a b : ℕ) → PinnedRegions region_words g a → PinnedRegions region_words g b → a ≡ b
+regions_once region_words g a b x y =
+    let same : sum_by (λ (_ : ℕ). 1) x.0 ≡ sum_by (λ (_ : ℕ). 1) y.0 =
+    one_sum (λ r s. r == s) number-itself (λ (_ : ℕ). 1) x.0 y.0 x.1.differ y.1.differ (regions_within region_words g x.0 y.0 x.1 y.1) (regions_within region_words g y.0 x.0 y.1 x.1) in
+    x.2 ∙ sym (ones x.0) ∙ same ∙ ones y.0 ∙ sym y.2

@@ -1,0 +1,70 @@
+-- Whether a thread's next command is this one.
+use Rattle.std.proofs.Common.{◌≡◌, ℕ, ◌≤◌, Bool, ◌&&◌, true, false, eqb, Option, Some, None, refl, sym, ap, subst, ◌∙◌}
+use Rattle.std.specs.Prelude.{MatchBool}
+use Rattle.std.specs.Option.{option_eq}
+use Rattle.std.proofs.lemmas.Bool.Decides.{Decides-eqb}
+use Rattle.shen_graph.specs.declared.command.Command.{Command}
+use Rattle.shen_graph.specs.declared.command.Command.TheVariants.{New, Get, Set, Cas, Xchg, Rd, Wr, Copy, Drop, Same, Gc, Pin, Unpin}
+use Rattle.shen_graph.specs.contracts.command.CommandPartialEq.TheImpl.{eq-value}
+
+-- the last number of two commands
+last : (n m : ℕ) (R : Type 0) → (n ≡ m → R) → (R → n ≡ m) → MatchBool (eqb n m) R (R → ⊥)
+last n m R make out = by_test (eqb n m) refl
+  where
+    by_test : (t : Bool) → eqb n m ≡ t → MatchBool t R (R → ⊥)
+    by_test true e = make ((Decides-eqb n m).0 e)
+    by_test false e = λ (r : R). let one = (Decides-eqb n m).1 (out r) in absurd cc
+
+-- a number, and those behind it
+more : (n m : ℕ) (others : Bool) (R : Type 0) → (n ≡ m → MatchBool others R (R → ⊥)) → (R → n ≡ m) → MatchBool (eqb n m && others) R (R → ⊥)
+more n m others R further out = by_test (eqb n m) refl
+  where
+    by_test : (t : Bool) → eqb n m ≡ t → MatchBool (t && others) R (R → ⊥)
+    by_test true e = further ((Decides-eqb n m).0 e)
+    by_test false e = λ (r : R). let one = (Decides-eqb n m).1 (out r) in absurd cc
+
+pub same_command : (a b : Command) → MatchBool (eq-value.it a b) (a ≡ b) (a ≡ b → ⊥)
+same_command (New dst refs nums) (New dst' refs' nums') = more dst dst' (eqb refs refs' && eqb nums nums') _ (λ p. more refs refs' (eqb nums nums') _ (λ q. last nums nums' _ (λ e. cc) (λ same. cc)) (λ same. cc)) (λ same. cc)
+same_command (New dst refs nums) _ = λ e. absurd cc
+same_command (Get dst src field) (Get dst' src' field') = more dst dst' (eqb src src' && eqb field field') _ (λ p. more src src' (eqb field field') _ (λ q. last field field' _ (λ e. cc) (λ same. cc)) (λ same. cc)) (λ same. cc)
+same_command (Get dst src field) _ = λ e. absurd cc
+same_command (Set obj field val) (Set obj' field' val') = more obj obj' (eqb field field' && eqb val val') _ (λ p. more field field' (eqb val val') _ (λ q. last val val' _ (λ e. cc) (λ same. cc)) (λ same. cc)) (λ same. cc)
+same_command (Set obj field val) _ = λ e. absurd cc
+same_command (Cas obj field expect val) (Cas obj' field' expect' val') = more obj obj' (eqb field field' && (eqb expect expect' && eqb val val')) _ (λ p. more field field' (eqb expect expect' && eqb val val') _ (λ q. more expect expect' (eqb val val') _ (λ r. last val val' _ (λ e. cc) (λ same. cc)) (λ same. cc)) (λ same. cc)) (λ same. cc)
+same_command (Cas obj field expect val) _ = λ e. absurd cc
+same_command (Xchg dst obj field val) (Xchg dst' obj' field' val') = more dst dst' (eqb obj obj' && (eqb field field' && eqb val val')) _ (λ p. more obj obj' (eqb field field' && eqb val val') _ (λ q. more field field' (eqb val val') _ (λ r. last val val' _ (λ e. cc) (λ same. cc)) (λ same. cc)) (λ same. cc)) (λ same. cc)
+same_command (Xchg dst obj field val) _ = λ e. absurd cc
+same_command (Rd obj index) (Rd obj' index') = more obj obj' (eqb index index') _ (λ p. last index index' _ (λ e. cc) (λ same. cc)) (λ same. cc)
+same_command (Rd obj index) _ = λ e. absurd cc
+same_command (Wr obj index value) (Wr obj' index' value') = more obj obj' (eqb index index' && eqb value value') _ (λ p. more index index' (eqb value value') _ (λ q. last value value' _ (λ e. cc) (λ same. cc)) (λ same. cc)) (λ same. cc)
+same_command (Wr obj index value) _ = λ e. absurd cc
+same_command (Copy dst src) (Copy dst' src') = more dst dst' (eqb src src') _ (λ p. last src src' _ (λ e. cc) (λ same. cc)) (λ same. cc)
+same_command (Copy dst src) _ = λ e. absurd cc
+same_command (Drop dst) (Drop dst') = last dst dst' _ (λ e. cc) (λ same. cc)
+same_command (Drop dst) _ = λ e. absurd cc
+same_command (Same one two) (Same one' two') = more one one' (eqb two two') _ (λ p. last two two' _ (λ e. cc) (λ same. cc)) (λ same. cc)
+same_command (Same one two) _ = λ e. absurd cc
+same_command Gc Gc = refl
+same_command Gc _ = λ e. absurd cc
+same_command (Pin slot obj) (Pin slot' obj') = more slot slot' (eqb obj obj') _ (λ p. last obj obj' _ (λ e. cc) (λ same. cc)) (λ same. cc)
+same_command (Pin slot obj) _ = λ e. absurd cc
+same_command (Unpin slot) (Unpin slot') = last slot slot' _ (λ e. cc) (λ same. cc)
+same_command (Unpin slot) _ = λ e. absurd cc
+
+-- the next command is there and is this one
+pub same_next : (next : Option Command) (k : Command) → MatchBool (option_eq eq-value.it next (Some k)) (next ≡ Some k) (next ≡ Some k → ⊥)
+same_next None k = λ e. absurd cc
+same_next (Some a) k = by_test (eq-value.it a k) (same_command a k)
+  where
+    by_test : (t : Bool) → MatchBool t (a ≡ k) (a ≡ k → ⊥) → MatchBool t (◌≡◌ {A = Option Command} (Some a) (Some k)) (◌≡◌ {A = Option Command} (Some a) (Some k) → ⊥)
+    by_test true same = ap Some same
+    by_test false other = λ (e : ◌≡◌ {A = Option Command} (Some a) (Some k)). other cc
+
+-- and the thread is there
+pub is_next_of : (result : Bool) (thread threads : ℕ) (next of : Option Command) (k : Command) → 1 ≤ thread → thread ≤ threads → next ≡ of → result ≡ option_eq eq-value.it next (Some k)
+    → MatchBool result ((1 ≤ thread) × (thread ≤ threads) × (of ≡ Some k)) ((1 ≤ thread) → (thread ≤ threads) → of ≡ Some k → ⊥)
+is_next_of result thread threads next of k first last is told = by_test result (subst (λ (t : Bool). MatchBool t (next ≡ Some k) (next ≡ Some k → ⊥)) (sym told) (same_next next k))
+  where
+    by_test : (t : Bool) → MatchBool t (next ≡ Some k) (next ≡ Some k → ⊥) → MatchBool t ((1 ≤ thread) × (thread ≤ threads) × (of ≡ Some k)) ((1 ≤ thread) → (thread ≤ threads) → of ≡ Some k → ⊥)
+    by_test true same = (first, last, sym is ∙ same)
+    by_test false other = λ a b e. other (is ∙ e)
