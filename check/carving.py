@@ -177,7 +177,7 @@ class Heap:
             return (kind, of["region"])
         if kind in ("buffer", "state"):
             return ("cur" if kind == "buffer" else "state", of["machine"])
-        if kind in ("root", "buffer entry"):
+        if kind in ("root", "buffer entry", "pin slot"):
             return (kind, of["thread"] - 1, of["index"])
         if kind in ("request", "answer", "buffer count"):
             return (kind, of["thread"] - 1)

@@ -28,7 +28,7 @@ def unfinished(steps):
 class Case:
     """A trace with its answer, as a table writes it: the title behind `#`, a line with the heap, the threads, the steps and
     the pauses, the commands of each thread with their replies, the schedule behind `!`, and the lines of the graph. `word*n`
-    stands for that word n times. What a table says besides, behind `=` and `end:`, is kept: with the number of the items
+    stands for that word n times. A trace with lines of pin slots is of version 2. What a table says besides, behind `=` and `end:`, is kept: with the number of the items
     behind which it holds, or None at the end."""
 
     def __init__(self, text, items=None, steps=None):
@@ -36,9 +36,10 @@ class Case:
         self.title = title[2:]
         self.heap, self.threads, *counts = head.split(", ")
         self.steps = steps or int(counts[0].split()[0])
-        self.pauses = int(counts[1].split()[0]) if counts else None
+        self.pauses = int(counts[1].split()[0]) if counts[1:] else None
         self.told, self.items = [], items.split() if items else []
-        lines, replies, graph = ["shen 1", self.heap, self.threads], [], ["graph"]
+        version = 2 if any(line.startswith("pins ") for line in rest) else 1
+        lines, replies, graph = [f"shen {version}", self.heap, self.threads], [], ["graph"]
         for line in rest:
             calls = re.match(r"(\d): (.*)", line)
             if calls:

@@ -37,16 +37,24 @@ def race(rand):
     ])
 
 
+def pinning(rand):
+    """A command on one of two pin slots."""
+    return rand.choice([*[f"pin {rand.randint(0, 1)} {rand.choice([0, 1, 1, 2, 3])}"] * 2, f"unpin {rand.randint(0, 1)}"])
+
+
 def trace(seed):
     """A trace of two or three threads and up to two helpers on a small heap, with a schedule whose items all end: every third with
-    large objects, for which there is not always room, and every third with exchanges that meet."""
+    large objects, for which there is not always room, and every third with exchanges that meet. Every second one is of version 2, and
+    pins objects."""
     rand = random.Random(seed)
     threads, helpers, commands = rand.randint(2, 3), rand.randint(0, 2), rand.randint(3, 16)
     shapes = [(16, 16)] if seed % 3 == 0 else [(0, 1), (1, 0), (2, 2), (16, 16)]
-    lines = ["shen 1", f"heap {rand.randint(4, 5)} 64 {rand.randint(0, 3)}", f"threads {threads} {helpers}"]
+    version = 1 + seed % 2
+    lines = [f"shen {version}", f"heap {rand.randint(4, 5)} 64 {rand.randint(0, 3)}", f"threads {threads} {helpers}"]
     for _ in range(commands):
         for thread in range(1, threads + 1):
-            lines.append(f"{thread} {race(rand) if seed % 3 == 1 else command(rand, shapes)}")
+            pins = version == 2 and rand.random() < 0.25
+            lines.append(f"{thread} {pinning(rand) if pins else race(rand) if seed % 3 == 1 else command(rand, shapes)}")
     most = rand.choice([2, 12, 30])
     items = [f"{rand.randint(1, threads + helpers)}:{rand.randint(1, most)}" for _ in range(rand.randint(1, 200))]
     items += [f"{threads + helpers + 1}:{rand.choice([1, 2, 3, 30, 300])}" for _ in range(rand.randint(1, 40))]
@@ -55,16 +63,33 @@ def trace(seed):
 
 
 class Graph:
-    """Objects with references and numbers, and the roots of each thread: what each command is answered, one after the other."""
+    """Objects with references and numbers, and the roots and pin slots of each thread: what each command is answered, one after the other.
+    At which place an object is pinned it is told: each that is of the heap is right, where the slots that hold the object have it, and no
+    slot has another object there."""
 
     def __init__(self):
         self.objects = {"0.1": ([None] * 16, [])}
-        self.roots, self.made = {}, {}
+        self.roots, self.made, self.pins = {}, {}, {}
 
-    def answer(self, thread, words):
-        """What the command is answered, and the reply as a listing spells it."""
+    def answer(self, thread, words, told="", places=None):
+        """What the command is answered, and the reply as a listing spells it. `told` is the reply that it has been given, and `places` the
+        range of the heap's addresses, if that is to be looked at."""
         verb, *numbers = words.split()
-        return getattr(self, "do_" + verb)(thread, self.roots.setdefault(thread, ["0.1"] + [None] * 15), *map(int, numbers))
+        roots = self.roots.setdefault(thread, ["0.1"] + [None] * 15)
+        if verb == "pin":
+            return self.pin(thread, roots, *map(int, numbers), told, places)
+        return getattr(self, "do_" + verb)(thread, roots, *map(int, numbers))
+
+    def pin(self, thread, roots, slot, obj, told, places):
+        """The same of a command that pins an object."""
+        name = roots[obj]
+        if not name or (thread, slot) in self.pins:
+            return "bad"
+        place = int(told[1:]) if told[:1] == "@" and told[1:].isdigit() else -1
+        if place < 0 or (places and place not in places) or any((name == held) != (place == at) for held, at in self.pins.values()):
+            return "another place"
+        self.pins[thread, slot] = name, place
+        return told
 
     def part(self, roots, obj, kind, index):
         """The references or the numbers of a root's object, or None where they have no such index."""
@@ -132,6 +157,9 @@ class Graph:
     def do_gc(self, *_):
         return "ok"
 
+    def do_unpin(self, thread, _, slot):
+        return "ok" if self.pins.pop((thread, slot), None) else "bad"
+
 
 def kind(command, reply):
     """A command and a reply without their numbers."""
@@ -166,7 +194,7 @@ def takes_event(graph, calls, said_of):
     calls[who] = (call, text)
     if text == "full":
         return call.startswith("new")
-    return graph.answer(who[-1], call) == text
+    return graph.answer(who[-1], call, text) == text
 
 
 def wrong(events, kinds):

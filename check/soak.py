@@ -22,7 +22,7 @@ import time
 sys.dont_write_bytecode = True
 from cases import program  # pylint: disable=wrong-import-position
 from listed import objects  # pylint: disable=wrong-import-position
-from settling import Graph, command, race, said, takes_event  # pylint: disable=wrong-import-position
+from settling import Graph, command, pinning, race, said, takes_event  # pylint: disable=wrong-import-position
 
 THREADS = 8
 ROOTS = 16
@@ -80,7 +80,12 @@ def trace(seed):
             scripts[thread] = [it for it in scripts[thread] if not it.startswith("new")]
     else:
         scripts = {it: [race(rand) if meets else command(rand, shapes) for _ in range(commands)] for it in range(1, THREADS + 1)}
-    lines = ["shen 1", f"heap {regions} {words} {reserve}", f"threads {THREADS} {helpers}"]
+    version = 1 + seed % 2
+    if version == 2:
+        pins = rand.choice([0.05, 0.2])
+        for thread, script in scripts.items():
+            scripts[thread] = [it for call in script for it in ([pinning(rand), call] if rand.random() < pins else [call])]
+    lines = [f"shen {version}", f"heap {regions} {words} {reserve}", f"threads {THREADS} {helpers}"]
     lines += [f"{thread} {call}" for thread, script in scripts.items() for call in script]
     most = rand.choice([2, 12, 30])
     items = [f"{rand.randint(1, THREADS + helpers)}:{rand.randint(1, most)}" for _ in range(rand.randint(1, 400))]
@@ -101,8 +106,8 @@ def wanted(words):
 
 
 def reached(graph):
-    """The objects that the roots lead to."""
-    found, todo = set(), [it for roots in graph.roots.values() for it in roots if it]
+    """The objects that roots and pin slots lead to."""
+    found, todo = set(), [it for roots in graph.roots.values() for it in roots if it] + [name for name, _ in graph.pins.values()]
     while todo:
         name = todo.pop()
         if name not in found:
@@ -114,13 +119,15 @@ def reached(graph):
 def is_crowded(graph, heap, thread, scripts, settled):
     """Whether a thread may be answered `full`."""
     regions, words = heap
-    live = sum(size(len(graph.objects[it][0]), len(graph.objects[it][1])) for it in reached(graph))
+    pinned = {name for name, _ in graph.pins.values()}
+    shut = {place // words for _, place in graph.pins.values()}
+    live = sum(size(len(graph.objects[it][0]), len(graph.objects[it][1])) for it in reached(graph) - pinned)
     others = [other for other in scripts if other != thread and settled[other] < len(scripts[other])]
     open_words = sum(wanted(scripts[other][settled[other]]) for other in others)
-    return live + open_words >= regions * (words - wanted(scripts[thread][settled[thread]]) + 1)
+    return live + open_words >= (regions - len(shut)) * (words - wanted(scripts[thread][settled[thread]]) + 1)
 
 
-def history_fails(heap, scripts, listing):
+def history_fails(heap, scripts, listing, version=1):
     """What is wrong with the calls as a listing settles them, and the graph and the replies behind them."""
     graph, calls, settled = Graph(), {}, dict.fromkeys(scripts, 0)
     replies = {it: [] for it in scripts}
@@ -147,6 +154,9 @@ def history_fails(heap, scripts, listing):
         refs, nums = graph.objects[name]
         lines.append(" ".join(["object", name, *(it or "-" for it in refs), "/", *map(str, nums)]))
     lines += [" ".join(["roots", str(thread), *(it or "-" for it in graph.roots[str(thread)])]) for thread in sorted(scripts)]
+    if version == 2:
+        held = {thread: [graph.pins.get((str(thread), slot), ["-"])[0] for slot in range(4)] for thread in scripts}
+        lines += [" ".join(["pins", str(thread), *held[thread]]) for thread in sorted(scripts)]
     return None, "\n".join(lines) + "\n"
 
 
@@ -170,7 +180,7 @@ def fails(seed, counted):
     status, listing = objects(text, "--pauses", "full")
     if status:
         return f"shensteps ends with {status}"
-    why, answer = history_fails(heap, scripts, listing)
+    why, answer = history_fails(heap, scripts, listing, 1 + seed % 2)
     if why:
         return why
     replayed = subprocess.run([program("shenrun"), "replay"], input=text, stdout=subprocess.PIPE, text=True, check=False)

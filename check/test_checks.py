@@ -20,8 +20,8 @@ from settling import Graph, trace  # pylint: disable=wrong-import-position
 from soak import is_crowded, reached  # pylint: disable=wrong-import-position
 
 CHANGES = 12
-REPLIES = ["-", "ok", "yes", "no", "bad", "full", "0", "1", "18446744073709551615", "0.1", "1.1", "1.2", "2.1", "7.4294967295"]
-COMMANDS = ["gc", "drop 1", "copy 2 1", "same 1 2", "new 1 1 1", "new 1 16 16", "get 1 0 0", "set 0 0 1", "rd 1 0", "wr 1 0 5"]
+REPLIES = ["@64", "@128", "@129", "@4096", "-", "ok", "yes", "no", "bad", "full", "0", "1", "18446744073709551615", "0.1", "1.1", "1.2", "2.1", "7.4294967295"]
+COMMANDS = ["pin 0 1", "unpin 0", "gc", "drop 1", "copy 2 1", "same 1 2", "new 1 1 1", "new 1 16 16", "get 1 0 0", "set 0 0 1", "rd 1 0", "wr 1 0 5"]
 
 
 class Claim:
@@ -32,6 +32,7 @@ class Claim:
         lines = text.splitlines()
         regions, words, _ = map(int, lines[1].split()[1:])
         self.heap, threads = (regions, words), int(lines[2].split()[1])
+        self.version, self.places = int(lines[0].split()[1]), range(words, (regions + 1) * words)
         self.scripts = {it: [] for it in range(1, threads + 1)}
         for line in lines[3:]:
             if not line.startswith("!"):
@@ -55,7 +56,7 @@ class Claim:
             if reply == "full":
                 fits = command.startswith("new") and is_crowded(graph, self.heap, thread, self.scripts, settled)
             else:
-                fits = graph.answer(thread, command) == reply
+                fits = graph.answer(thread, command, reply, self.places) == reply
             if not fits:
                 return f"no: entry {at}"
             settled[thread] += 1
@@ -68,6 +69,9 @@ class Claim:
             refs, nums = graph.objects[name]
             lines.append(" ".join(["object", name, *(it or "-" for it in refs), "/", *map(str, nums)]))
         lines += [" ".join(["roots", str(thread), *(it or "-" for it in graph.roots[thread])]) for thread in sorted(told)]
+        if self.version == 2:
+            held = {thread: [graph.pins.get((thread, slot), ["-"])[0] for slot in range(4)] for thread in told}
+            lines += [" ".join(["pins", str(thread), *held[thread]]) for thread in sorted(told)]
         return "yes" if self.body == "".join(f"{it}\n" for it in lines) else "no: text"
 
 
@@ -80,7 +84,7 @@ def changed(claim, rand):
     if kind == "reply":
         entries[at] = thread, command, rand.choice(REPLIES)
     elif kind == "command":
-        entries[at] = thread, rand.choice(COMMANDS), reply
+        entries[at] = thread, rand.choice(COMMANDS[2 * (claim.version == 1) :]), reply
     elif kind == "order":
         others = [it for it in range(len(entries) - 1) if entries[it][0] != entries[it + 1][0]] or [0]
         at = rand.choice(others)

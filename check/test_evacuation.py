@@ -63,7 +63,7 @@ roots 1 0.1 3.1 -*14
 roots 2 0.1 3.1 -*14
 roots 3 0.1 -*15"""
 # The steps of such a trace besides those from HL to XS.
-RACE_STEPS = 2856
+RACE_STEPS = 2904
 
 
 def races():
@@ -118,7 +118,7 @@ roots 1 0.1 4.1 -*14
 roots 2 0.1 4.1 -*14
 roots 3 0.1 4.1 -*14
 roots 4 0.1 -*15"""
-THREE_STEPS = 2989
+THREE_STEPS = 3053
 
 
 def threes():
@@ -158,7 +158,7 @@ roots 1 0.1 2.1 -*14
 roots 2 0.1 -*15"""
 # The steps in front of the object in its unit, and those of such a trace besides these and those from HL to XS.
 IN_FRONT = ("ET", "EF", "ES", "EB")
-BESIDE_STEPS = 2758
+BESIDE_STEPS = 2790
 
 
 def beside():
@@ -214,7 +214,7 @@ roots 1 0.1 4.1 -*14
 roots 2 0.1 4.1 2.1 -*13
 roots 3 0.1 4.1 -*14
 roots 4 0.1 -*15"""
-CROWD_STEPS = 1879
+CROWD_STEPS = 1943
 # While the second is counted, all others wait, also one who has not entered; then all have its copy.
 WAITS = """! 3@{at} 3:3 1:3
 = 1 at XW; 3 at {at}; {waiting}

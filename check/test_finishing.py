@@ -32,13 +32,13 @@ heap 4 64 1, threads {threads} 0, {steps} steps, {pauses} pauses
 # Where the control stands when the others wait; whether it has copied the object by then, to region 3; and the steps of the trace
 # beside those of the threads that wait.
 STANDS = {
-    "MC": (1, "MC", False, 1492),
-    "MG": (1, "MC", False, 1492),
-    "EC": (2, "EC", False, 2148),
-    "ET": (2, "EC", True, 2182),
-    "HX": (2, "EC", True, 2182),
-    "UC": (3, "UC", True, 2847),
-    "UX": (3, "UC", True, 2847),
+    "MC": (1, "MC", False, 1508),
+    "MG": (1, "MC", False, 1508),
+    "EC": (2, "EC", False, 2172),
+    "ET": (2, "EC", True, 2206),
+    "HX": (2, "EC", True, 2206),
+    "UC": (3, "UC", True, 2879),
+    "UX": (3, "UC", True, 2879),
 }
 # The words of the hub, of the object, of the garbage that is left in region 2, and of what each thread wants.
 HUB, OBJECT, GARBAGE, WANTED = 19, 4, 61, 35
@@ -74,8 +74,8 @@ def waitings():
                     threads=number + 1,
                     control=number + 2,
                     pauses=pauses,
-                    # Of each thread a pause loads and stores 28 words and looks at one; its call and its end are 19 steps, or 18.
-                    steps=steps + number * (pauses * 57 + 19) - (number - len(served)),
+                    # Of each thread a pause loads and stores 32 words and looks at one; its call and its end are 19 steps, or 18.
+                    steps=steps + number * (pauses * 65 + 19) - (number - len(served)),
                     calls="\n".join(f"{it}: new 1 16 16 -> {name[it] if it in served else 'full'}" for it in others),
                     waits=" ".join(f"{it}@WP" for it in others),
                     tops=tops,

@@ -24,7 +24,7 @@ INDENT = "    "
 PROGRAMS = [TOP / "crates" / "shensteps" / "out" / "shensteps", TOP / "out" / "shensteps"]
 TRACES = 60
 # Each command with each reply that it can be given, where all references are one and all numbers are.
-KINDS = 22
+KINDS = 26
 
 # Words, what is read, the status and what is written.
 FORM = (

@@ -77,6 +77,10 @@ RUNS = {
     ("`drop`", ""): ([], "drop 1"),
     ("`same`", ""): ([], "same 0 1"),
     ("`gc`", ""): ([], "gc"),
+    ("`pin`", ""): ([], "pin 0 0"),
+    ("`unpin`", ""): (["pin 0 0"], "unpin 0"),
+    ("`bad` of `pin`", "the slot is taken"): (["pin 0 0"], "pin 0 0"),
+    ("`bad` of `unpin`", "the slot is empty"): ([], "unpin 0"),
     ("`bad` of any", "the object's root is null"): ([], "cas 1 0 0 0"),
     ("`bad` of `get`, `rd`, `wr`", "no such field or number"): ([], "rd 0 0"),
     ("`bad` of `set`, `xchg`", "the same"): ([], "set 0 16 0"),
@@ -133,7 +137,8 @@ def holds_the_pause(before, command, heap, steps):
 
 def answer_to(heap, first, second, items):
     lines = [f"1 {it}" for it in first if it != PAUSE] + [f"2 {second}", "! " + " ".join(it for it in items if it != "1:0")]
-    trace = "\n".join(["shen 1", f"heap {heap}", "threads 2 0", *lines, ""])
+    version = 2 if "pin" in " ".join(lines) else 1
+    trace = "\n".join([f"shen {version}", f"heap {heap}", "threads 2 0", *lines, ""])
     return subprocess.run([PROGRAM, "replay", "--steps", "100000"], input=trace.encode(), stdout=subprocess.PIPE).stdout
 
 

@@ -126,7 +126,8 @@ def graph_lines(listing):
     lines = [f"{thread} {reply}" for thread, replies in enumerate(end["replies"], 1) for reply in replies] + ["graph"]
     for it in graph["objects"]:
         lines.append(" ".join(["object", it["object"], *(to or "-" for to in it["fields"]), "/", *map(str, it["numbers"])]))
-    return lines + [" ".join(["roots", str(thread), *(to or "-" for to in roots)]) for thread, roots in enumerate(graph["roots"], 1)]
+    lines += [" ".join(["roots", str(thread), *(to or "-" for to in roots)]) for thread, roots in enumerate(graph["roots"], 1)]
+    return lines + [" ".join(["pins", str(thread), *(to or "-" for to in slots)]) for thread, slots in enumerate(graph.get("pins", []), 1)]
 
 
 def count_fails(of):
@@ -147,7 +148,7 @@ def ends_fail(of):
         if line[0].isdigit():
             scripts[int(line[0])].append(line[2:])
     listing = objects(of, "--pauses", "full")[1]
-    why, answer = history_fails(heap, scripts, listing)
+    why, answer = history_fails(heap, scripts, listing, int(of.split()[1]))
     if why:
         return why
     if "\n".join(graph_lines(listing)) + "\n" != answer:

@@ -2,7 +2,7 @@
 // The heap in the words of the table, and its picture. heap.py and drawing.py do the same without a browser:
 // check/test_pictures.py compares the two, text by text.
 
-const ROOTS = 16, ENTRIES = 8;
+const ROOTS = 16, ENTRIES = 8, PINS = 4;
 const GUTTER = 70, RIGHT = 12, CHIP = 18, CHIP_ROW = 24, BAR = 32, ROW = 60, LOW_BAR = 12, LOW_ROW = 22, OWNERS = 3;
 
 function escaped(text) {
@@ -87,6 +87,7 @@ class Heap {
       region: number, free: run.bit(this.index("free regions"), number) === 1, chosen: run.bit(this.index("collection set"), number) === 1,
       top, start: this.word("mark start", number), limit: this.word("limit", number), objects, others,
       shared: this.word("shared region") === number + 1,
+      pinned: Array.from({ length: layout.threads * PINS }, (_, it) => this.word("pin slot", it)).some((it) => base <= it && it < base + layout.region_words),
       owners: run.machines.map((_, machine) => machine + 1).filter((machine) => this.regionOfBuffer(machine - 1) === number),
     };
   }
@@ -109,6 +110,7 @@ class Heap {
 
   holder(thread) {
     const held = Array.from({ length: ROOTS }, (_, index) => [String(index), this.word("root", thread * ROOTS + index)]);
+    for (let index = 0; index < PINS; index += 1) held.push([`pin ${index}`, this.word("pin slot", thread * PINS + index)]);
     const count = Math.min(this.word("buffer count", thread), ENTRIES);
     for (let index = 0; index < count; index += 1) held.push(["noted", this.word("buffer entry", thread * ENTRIES + index)]);
     const answer = this.word("answer", thread);
@@ -197,7 +199,8 @@ class Drawing {
     this.parts.push(`<g class="region${it.free ? " free" : ""}${it.chosen ? " chosen" : ""}" data-region="${it.region}">`);
     this.text("label", 4, y + 11, `region ${it.region}`);
     this.text("note", low ? x + 4 : 4, y + (low ? 9 : 23), it.free ? "free" : `${it.top} of ${this.layout.region_words}`);
-    const lines = it.shared ? [["owner", "shared"]] : [];
+    const lines = it.pinned ? [["owner", "pinned"]] : [];
+    if (it.shared) lines.push(["owner", "shared"]);
     for (const machine of it.owners) {
       const { kind, name } = this.heap.run.machines[machine - 1];
       lines.push([`owner ${kind}`, name]);

@@ -89,7 +89,7 @@ class Drawing:
         self.parts.append(f'<g class="{kinds}" data-region="{number}">')
         self.text("label", 4, y + 11, f"region {number}")
         self.text("note", x + 4 if low else 4, y + (9 if low else 23), "free" if it["free"] else f"{it['top']} of {self.layout.region_words}")
-        lines = [("owner", "shared")] if it["shared"] else []
+        lines = ([("owner", "pinned")] if it["pinned"] else []) + ([("owner", "shared")] if it["shared"] else [])
         lines += [(f"owner {self.machine_class(machine)}", self.layout.machine(machine)) for machine in it["owners"]]
         for line, (kind, text) in enumerate(lines[:OWNERS]):
             self.text(kind, 4, y + 35 + 11 * line, text)

@@ -19,10 +19,10 @@ WIDE, EVENTS = 760, 38
 # The event that is drawn: that at which the example turns.
 MOMENTS = {
     "first": 69, "noted": 69, "race": 54, "apart": 54, "retry": 54, "one_bit": 33, "two_buffers": 33, "filled": 63, "stack": 116,
-    "stack_gap": 107, "queue_race": 203, "queue_again": 8713, "limits": 109, "eight": 217, "cut": 54, "no_room": 4152, "collects": 11004,
-    "one_pause": 3737, "pause": 778, "inside": 17, "wait": 174, "crowded": 6884, "one_dropped": 6896, "reserve": 307,
-    "exchanged": 679, "two_stores": 747, "let_go": 776, "copy_race": 2752, "no_room_to_copy": 1645, "updated": 3926,
-    "inserts": 100, "recycled": 3839, "finished": 1710, "half_evacuated": 2616, "threads": 7028,
+    "stack_gap": 107, "queue_race": 203, "queue_again": 8713, "limits": 109, "eight": 217, "cut": 54, "no_room": 4172, "collects": 11064,
+    "one_pause": 3761, "pause": 794, "inside": 17, "wait": 174, "crowded": 6920, "one_dropped": 6932, "reserve": 307,
+    "exchanged": 687, "two_stores": 763, "let_go": 784, "copy_race": 2784, "no_room_to_copy": 1677, "updated": 3950,
+    "inserts": 100, "recycled": 3863, "finished": 1742, "half_evacuated": 2632, "threads": 7051, "pinned": 2691, "all_pinned": 4285,
 }
 
 

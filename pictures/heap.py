@@ -1,5 +1,5 @@
 """The heap in the words of a table: regions with their objects, roots, and what leads where."""
-from words import ENTRIES, ROOTS, bits_of, end_of, filled_by, forwardee, name_of, next_of, references_of, size_of
+from words import ENTRIES, PINS, ROOTS, bits_of, end_of, filled_by, forwardee, name_of, next_of, references_of, size_of
 
 PHASES = ["idle", "marking", "evacuating", "updating"]
 
@@ -54,6 +54,7 @@ class Heap:
             "region": number, "free": self.word("free regions") >> number & 1 == 1, "chosen": self.set >> number & 1 == 1, "top": top,
             "start": self.word("mark start", number), "limit": self.word("limit", number), "objects": objects, "others": others,
             "shared": self.word("shared region") == number + 1,
+            "pinned": any(base <= self.word("pin slot", it) < base + layout.region_words for it in range(layout.threads * PINS)),
             "owners": [machine + 1 for machine in range(layout.machines) if self.region_of_buffer(machine) == number],
         }
 
@@ -75,8 +76,9 @@ class Heap:
         }
 
     def holder(self, thread):
-        """What a thread holds, that is not null: its roots, what it has noted, and an answer for it."""
+        """What a thread holds, that is not null: its roots and pin slots, what it has noted, and an answer for it."""
         held = [(str(index), self.word("root", thread * ROOTS + index)) for index in range(ROOTS)]
+        held += [(f"pin {index}", self.word("pin slot", thread * PINS + index)) for index in range(PINS)]
         count = min(self.word("buffer count", thread), ENTRIES)
         held += [("noted", self.word("buffer entry", thread * ENTRIES + index)) for index in range(count)]
         answer = self.word("answer", thread)
@@ -84,7 +86,7 @@ class Heap:
         return [(label, address) for label, address in held if address]
 
     def mark_reached(self):
-        """Marks the objects to which a root leads, or an answer; where a copy leads on, that is meant as well."""
+        """Marks the objects to which a root or a pin slot leads, or an answer; where a copy leads on, that is meant as well."""
         left = [address for held in self.holders for label, address in held if label != "noted"]
         while left:
             it = self.objects.get(left.pop())
@@ -111,6 +113,7 @@ class Heap:
                 "fields": [place(address) for address in it["fields"]], "numbers": it["numbers"],
             }
 
+        pins = [[place(self.word("pin slot", thread * PINS + index)) for index in range(PINS)] for thread in range(layout.threads)]
         return {
             "phase": self.phase, "set": bits_of(self.set), "copiers": self.word("copiers"), "asked": self.word("asked for"),
             "regions": [
@@ -119,4 +122,5 @@ class Heap:
                  "others": [(each["kind"], each["machine"], each["offset"], each["words"]) for each in it["others"]]} for it in self.regions
             ],
             "roots": [[place(self.word("root", thread * ROOTS + index)) for index in range(ROOTS)] for thread in range(layout.threads)],
+            **({"pins": pins} if any(map(any, pins)) else {}),
         }

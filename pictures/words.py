@@ -3,12 +3,13 @@
 MARKS_A_WORD = 64
 ROOTS = 16
 ENTRIES = 8
+PINS = 4
 HEADER_WORDS = 3
 NO_ROOM = 1 << 63
 SINGLE = ["pause", "threads left", "end", "phase", "collection set", "free regions", "shared region", "copiers", "claimed work", "asked for"]
 NAMES = {"pause": "pause word", "end": "end word", "asked for": "what is asked for"}
 PARTS = {"header": 0, "shape": 1, "name": 2}
-REFERENCES = {"root", "buffer entry", "field", "answer"}
+REFERENCES = {"root", "buffer entry", "field", "answer", "pin slot"}
 ASKED = ["nothing", "a cycle", "room", "a cycle, room"]
 
 
@@ -69,7 +70,7 @@ class Layout:
             ("state", self.machines), ("buffer", self.machines), ("room", self.machines),
             ("root", self.threads * ROOTS), ("buffer count", self.threads), ("buffer entry", self.threads * ENTRIES),
             ("request", self.threads), ("answer", self.threads),
-            ("grey", self.mark_words), ("black", self.mark_words),
+            ("grey", self.mark_words), ("black", self.mark_words), ("pin slot", self.threads * PINS),
         ]:
             self.first[kind] = at
             at += count
@@ -106,7 +107,7 @@ class Layout:
             return at
         at = self.first[kind]
         if "thread" in of:
-            each = {"root": ROOTS, "buffer entry": ENTRIES}.get(kind, 1)
+            each = {"root": ROOTS, "buffer entry": ENTRIES, "pin slot": PINS}.get(kind, 1)
             at += (of["thread"] - 1) * each + of.get("index", 0)
         elif "machine" in of:
             at += of["machine"] - 1

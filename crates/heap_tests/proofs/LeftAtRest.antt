@@ -19,7 +19,7 @@ use Rattle.heap_world.specs.Asking.{Asking, nothing, IsAsked}
 use Rattle.heap_world.specs.Change.{Answers}
 use Rattle.heap_world.specs.Represents.{Represents}
 use Rattle.full_words.specs.Full.{full}
-use Rattle.image_graph.specs.Holds.{HoldsSome}
+use Rattle.image_graph.specs.Holds.{HoldsSized}
 use Rattle.cycle_pauses.proofs.Full.ByCopies.{by_copies}
 use Rattle.cycle_pauses.proofs.Full.Pauses.{from_copies, representing_holds}
 use Rattle.step_core.specs.Actor.{Machine, mutating, controlling, fresh_helper, fresh_control, Actor}
@@ -134,7 +134,7 @@ nothing_only : (a : Asking) → Answers nothing a → a ≡ nothing
 nothing_only nothing is = refl
 nothing_only _ is = absurd is
 
-pub left_holds : (c : Config) (memory : Word → ℕ) (made : ℕ) → LeftGraph c memory made → HoldsSome c memory
+pub left_holds : (c : Config) (memory : Word → ℕ) (made : ℕ) → LeftGraph c memory made → HoldsSized c memory
 left_holds c memory made left = representing_holds c memory left.0 (λ t. nothing) left.1
 
 pub left_collected : (c : Config) (memory : Word → ℕ) (made : ℕ) → LeftGraph c memory made → LeftGraph c (full c memory) made
@@ -156,6 +156,7 @@ left_collected c memory made left =
         unmarking = stands.unmarking;
         uncopying = stands.uncopying;
         no_more = stands.no_more;
+        no_more_pins = stands.no_more_pins;
       },
       left.2,
     )
@@ -183,6 +184,7 @@ left_can_begin c memory made one alone left =
         unmarking = r.unmarking;
         uncopying = r.uncopying;
         no_more = r.no_more;
+        no_more_pins = r.no_more_pins;
       };
       outside = record {
         pause = refl;

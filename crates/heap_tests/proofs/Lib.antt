@@ -1,2 +1,4 @@
+mod Counts
 pub mod LeftAtRest
 pub mod SharedHeap
+mod TwoThreads

@@ -15,13 +15,13 @@ use std::test::Fail;
 use update_refs::final_update;
 
 // A word by its name, and what it holds.
-type Row = (WordName, u64);
+pub(crate) type Row = (WordName, u64);
 
 // An object by its address: its shape, its name, and the word behind it.
 type Laid = (u32, u64, u64, u64);
 
 // Where a word stands.
-fn place(rt: &impl Abort, config: Config, name: WordName) -> usize
+pub(crate) fn place(rt: &impl Abort, config: Config, name: WordName) -> usize
     ensures { result < table_words config }
 {
     for at in 0..config.table_words() {
@@ -271,16 +271,16 @@ fn frees_the_set(rt: HostRuntime) -> Result<(), Fail> {
 
 // Each of four regions has an object of 29 words that nothing names, and behind it one of 35, up to its last word. None of those
 // fits behind another: each goes to the base of its region, and leaves a gap behind it. The gaps serve a request for 29 words, and
-// none for 30. A second collection keeps what was made, and nothing moves.
+// none for 30. Its thread takes what was made; a second collection keeps that, and nothing moves.
 const GAPPED: [Laid; 8] = [
     (64, 68877, THREAD + 1, 0),
     (93, 69648, THREAD + 2, 0),
-    (128, 68877, THREAD + 3, 93),
-    (157, 69648, THREAD + 4, 93),
-    (192, 68877, THREAD + 5, 157),
-    (221, 69648, THREAD + 6, 157),
-    (256, 68877, THREAD + 7, 221),
-    (285, 69648, THREAD + 8, 221),
+    (128, 68877, 3 * THREAD + 3, 93),
+    (157, 69648, 3 * THREAD + 4, 93),
+    (192, 68877, 3 * THREAD + 5, 157),
+    (221, 69648, 3 * THREAD + 6, 157),
+    (256, 68877, 3 * THREAD + 7, 221),
+    (285, 69648, 3 * THREAD + 8, 221),
 ];
 
 const GAPPED_AT: [u64; 8] = [64, 93, 128, 157, 192, 221, 256, 285];
@@ -303,7 +303,7 @@ const ASKED: [Row; 9] = [
     (WordName::Grey { word: 0 }, 7),
 ];
 
-const PACKED: [Row; 14] = [
+const PACKED: [Row; 13] = [
     (
         WordName::Root {
             mutator: 1,
@@ -312,11 +312,10 @@ const PACKED: [Row; 14] = [
         256,
     ),
     (WordName::Heap { address: 67 }, 0),
-    (WordName::Heap { address: 258 }, THREAD + 8),
+    (WordName::Heap { address: 258 }, 3 * THREAD + 8),
     (WordName::Heap { address: 259 }, 192),
     (WordName::Heap { address: 290 }, 7),
     (WordName::Answer { mutator: 0 }, 1),
-    (WordName::Answer { mutator: 1 }, 99),
     (WordName::Heap { address: 101 }, 2 * THREAD + 1),
     (WordName::Wait { mutator: 0 }, 0),
     (WordName::Wait { mutator: 1 }, 0),
@@ -326,15 +325,34 @@ const PACKED: [Row; 14] = [
     (WordName::Free, 0),
 ];
 
+const GIVEN: [Row; 1] = [(WordName::Answer { mutator: 1 }, 99)];
+
+const TAKEN: [Row; 2] = [
+    (WordName::Answer { mutator: 1 }, 0),
+    (
+        WordName::Root {
+            mutator: 1,
+            index: 14,
+        },
+        99,
+    ),
+];
+
+const PACKED_AT: [u64; 5] = [64, 99, 128, 192, 256];
+
 #[test]
 fn leaves_gaps_behind_objects_of_35_words(rt: HostRuntime) -> Result<(), Fail> {
-    let mut image = Image::open(rt.alloc(), Config::new(4, 64, 2, 0, 0)?)?;
+    let mut image = Image::open(rt.alloc(), Config::new(4, 64, 3, 0, 0)?)?;
     lay(&rt, &mut image, &GAPPED);
     put(&rt, &mut image, &ASKED);
     assert!(rt; stands(&image, &GAPPED_AT));
     full(&mut image);
     compare(&rt, &image, &PACKED);
+    compare(&rt, &image, &GIVEN);
+    put(&rt, &mut image, &TAKEN);
+    assert!(rt; stands(&image, &PACKED_AT));
     full(&mut image);
     compare(&rt, &image, &PACKED);
+    compare(&rt, &image, &TAKEN);
     Ok(())
 }

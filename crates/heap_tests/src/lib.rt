@@ -14,6 +14,8 @@ mod hints;
 #[cfg(test)]
 mod parts_of_calls;
 #[cfg(test)]
+mod pins;
+#[cfg(test)]
 mod shared_heap;
 #[cfg(test)]
 mod units;

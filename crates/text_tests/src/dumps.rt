@@ -61,20 +61,21 @@ fn is_read(
     Ok(is_whole && is_wanted && sink.bytes() == text(alloc, dump)?.as_slice())
 }
 
-const COMMANDS: [Command; 2] = [
+const COMMANDS: [Command; 3] = [
     Command::New {
         dst: 3,
         refs: 1,
         nums: 2,
     },
     Command::Gc,
+    Command::Unpin { slot: 2 },
 ];
 
 #[test]
 fn a_dump_is_read(rt: HostRuntime) -> Result<(), Fail> {
     let null = [HEAD, NONE, NULLS];
     let one = [HEAD, ONE, HUB, LEAF, ROOTS];
-    let lines = "1 new 3 1 2\n1 gc\n! 1:3\n! 1=2 1@CX\n";
+    let lines = "1 new 3 1 2\n1 gc\n1 unpin 2\n! 1:3\n! 1=2 1@CX\n";
     assert!(rt; is_read(rt.alloc(), &null, "", &[], 0)?);
     assert!(rt; is_read(rt.alloc(), &one, "", &[], 0)?);
     assert!(rt; is_read(rt.alloc(), &one, lines, &COMMANDS, 3)?);

@@ -1,6 +1,6 @@
 //! A test of interleavings that is read, and how its thread goes on.
-use find_grammar::{Claim, Next, Place, Test, Thread, Wanted};
-use find_reading::read_test;
+use find_grammar::{Claim, Next, Place, Statement, Test, Thread, Wanted};
+use find_reading::{TestFault, TestWhy, read_test};
 use shen_base::PlainSource;
 use shen_graph::{Command, Name, Reply};
 use std::alloc::{AllocError, Global};
@@ -36,13 +36,91 @@ chain second 0 7
 number first 3 18446744073709551615
 ";
 
-// The test that this text is.
+// The test that a text is, and what is refused of it.
+fn test_in(alloc: Global, text: &str) -> Result<Result<Test, TestFault>, AllocError> {
+    let mut source = PlainSource::new(text.as_bytes().to_vec(alloc)?);
+    Ok(read_test(alloc, &mut source))
+}
+
 fn push(alloc: Global) -> Result<Test, AllocError> {
-    let mut source = PlainSource::new(PUSH.as_bytes().to_vec(alloc)?);
-    match read_test(alloc, &mut source) {
+    match test_in(alloc, PUSH)? {
         Ok(test) => Ok(test),
         Err(_) => Err(AllocError),
     }
+}
+
+// A thread pins the hub, and what it is answered is a place.
+const PINS: &str = "shen 2
+heap 4 64 1
+threads 1 0
+bounds 2 400 1
+note first
+thread
+pin 3 hub
+keep first
+unpin 3
+assert
+is pinned first
+";
+
+// The same in version 1, up to its first pin, and up to what is claimed.
+const NO_PIN: &str = "shen 1\nheap 4 64 1\nthreads 1 0\nbounds 2 400 1\nthread\npin 3 hub\n";
+
+const NO_PLACE: &str =
+    "shen 1\nheap 4 64 1\nthreads 1 0\nbounds 2 400 1\nthread\nassert\nnever pinned\n";
+
+const STATEMENTS: [Statement; 3] = [
+    Statement::Run(Command::Pin { slot: 3, obj: 0 }),
+    Statement::Keep { note: 0 },
+    Statement::Run(Command::Unpin { slot: 3 }),
+];
+
+#[test]
+fn a_test_of_version_2_can_pin(rt: HostRuntime) -> Result<(), Fail> {
+    let Ok(test) = test_in(rt.alloc(), PINS)? else {
+        assert!(rt; false);
+        return Ok(());
+    };
+    let [program] = test.programs.as_slice() else {
+        assert!(rt; false);
+        return Ok(());
+    };
+    let wanted = Wanted::Pinned;
+    assert!(rt; test.version == 2 && program.list() == STATEMENTS.as_slice());
+    assert!(rt;
+        matches!(
+            test.claims.as_slice(),
+            [
+                Claim::Assert,
+                Claim::Is {
+                    wanted: Wanted::Pinned,
+                    note: 0
+                }
+            ]
+        )
+    );
+    assert!(rt; wanted.fits(Reply::At(64)) && !wanted.fits(Reply::Number(64)));
+    Ok(())
+}
+
+#[test]
+fn a_test_of_version_1_cannot(rt: HostRuntime) -> Result<(), Fail> {
+    let pin = test_in(rt.alloc(), NO_PIN)?.err();
+    let place = test_in(rt.alloc(), NO_PLACE)?.err();
+    assert!(rt;
+        pin == Some(TestFault::BadLine {
+            line: 6,
+            why: TestWhy::Line
+        })
+    );
+    assert!(rt;
+        place
+            == Some(TestFault::BadLine {
+                line: 7,
+                why: TestWhy::Reply
+            })
+    );
+    Ok(())
 }
 
 const PLACES: [Place; 2] = [Place { from: 0, field: 0 }, Place { from: 1, field: 1 }];

@@ -2,10 +2,10 @@
 use Rattle.std.proofs.Common.{ℕ, ◌≡◌, ◌+◌, ◌≤◌, true, false, Option, Some, None, ap, arith}
 use Rattle.std.specs.Prelude.{◌==◌, if◌then◌else◌}
 use Rattle.shen_graph.specs.declared.command.Command.{Command}
-use Rattle.shen_graph.specs.declared.command.Command.TheVariants.{New, Get, Set, Cas, Xchg, Rd, Wr, Copy, Drop, Same, Gc}
+use Rattle.shen_graph.specs.declared.command.Command.TheVariants.{New, Get, Set, Cas, Xchg, Rd, Wr, Copy, Drop, Same, Gc, Pin, Unpin}
 use Rattle.shen_graph.specs.declared.command.Reply.{Reply}
 use Rattle.shen_graph.specs.declared.command.Reply.TheVariants as reply
-use Rattle.shen_graph.specs.Graph.{Graph, Reference, Object, field_at, number_at, same_reference, with_root, with_named, with_field, with_number}
+use Rattle.shen_graph.specs.Graph.{Graph, Reference, Object, field_at, number_at, same_reference, with_root, with_named, with_field, with_number, with_pin}
 use Rattle.shen_graph.specs.Step.{Outcome, outcome, answers, on, shown}
 
 named_le : (g : Graph) (r : Reference) (o : Object) (u : ℕ) → (with_named g r o).count u ≤ g.count u + 1
@@ -31,6 +31,8 @@ outcome_le g t (Copy dst src) u = omega arith
 outcome_le g t (Drop dst) u = omega arith
 outcome_le g t (Same a b) u = omega arith
 outcome_le g t Gc u = omega arith
+outcome_le g t (Pin slot obj) u = omega arith
+outcome_le g t (Unpin slot) u = on_le g u (g.pin t slot) (λ _. answers reply.Ok (with_pin g t slot None)) (λ v. omega arith)
 
 pub answers_le : (g h : Graph) (t : ℕ) (c : Command) (r : Reply) → answers r h ≡ outcome g t c → (u : ℕ) → h.count u ≤ g.count u + 1
 answers_le g h t c r done u = omega (arith, ap (λ (o : Outcome). o.graph.count u) done, outcome_le g t c u)

@@ -100,6 +100,9 @@ pub fn answers(
     let mut replies = Vec::new(alloc);
     for command in commands {
         assert!(rt; command.is_valid());
+        if let Command::Pin { .. } = command {
+            continue;
+        }
         let reply = plain.apply(alloc, thread, command)?;
         replies.push(reply)?;
     }

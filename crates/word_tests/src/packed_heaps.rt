@@ -14,12 +14,38 @@ fn leaves_a_gap_in_each_region(rt: HostRuntime) {
     ];
     let mut places = [0; 24];
     let mut tops = [9; 3];
-    compact_marked(8, &marks, &mut heap, &mut places, &mut tops);
+    compact_marked(8, 0, &marks, &mut heap, &mut places, &mut tops);
     assert!(rt; tops == [5, 5, 5]);
     assert!(rt; renew(8, &places, 18) == 16);
     assert!(rt;
         heap == [
             1, 65793, 11, 16, 100, 11, 18, 100, 1, 65793, 12, 24, 101, 24, 101, 7, 1, 65793, 13, 8,
+            102, 7, 7, 7,
+        ]
+    );
+}
+
+// The same, but the objects of the region in the middle stay where they are, and the others go round it.
+#[test]
+fn goes_round_a_region_that_is_shut(rt: HostRuntime) {
+    let mut heap = [
+        7, 7, 7, 1, 65793, 11, 18, 100, 7, 7, 1, 65793, 12, 24, 101, 7, 1, 65793, 13, 11, 102, 7,
+        7, 7,
+    ];
+    let marks = [
+        false, false, false, true, false, false, false, false, false, false, true, false, false,
+        false, false, false, true, false, false, false, false, false, false, false,
+    ];
+    let mut places = [0; 24];
+    let mut tops = [8; 3];
+    compact_marked(8, 2, &marks, &mut heap, &mut places, &mut tops);
+    assert!(rt; tops == [5, 8, 5]);
+    for (word, renewed) in &[(11, 8), (18, 18), (24, 24)] {
+        assert!(rt; renew(8, &places, *word) == *renewed);
+    }
+    assert!(rt;
+        heap == [
+            1, 65793, 11, 18, 100, 11, 18, 100, 7, 7, 1, 65793, 12, 24, 101, 7, 1, 65793, 13, 8,
             102, 7, 7, 7,
         ]
     );
@@ -38,7 +64,7 @@ fn renews_by_current_copies(rt: HostRuntime) {
     ];
     let mut places = [0; 16];
     let mut tops = [9; 2];
-    compact_marked(8, &marks, &mut heap, &mut places, &mut tops);
+    compact_marked(8, 0, &marks, &mut heap, &mut places, &mut tops);
     assert!(rt; tops == [8, 0]);
     for (word, renewed) in &[(8, 13), (19, 13), (0, 0)] {
         assert!(rt; renew(8, &places, *word) == *renewed);

@@ -1,5 +1,6 @@
 //! The queue's operations by hand, on a plain graph: a take helps a put that is stopped between its two exchanges.
-ghost use Rattle.std.specs.Prelude.{◌≡◌, ◌≤◌};
+ghost use Rattle.std.specs.Prelude.{◌≡◌, ◌≤◌, false};
+ghost use Rattle.shen_graph.specs.Step.{IsPin};
 
 use managed_queue::{Put, QueueReply, Take, User};
 use shen_graph::{Command, Driver, Name, PlainGraph, Reply};
@@ -120,6 +121,15 @@ fn next_of_put(put: &Put) -> Option<Command> {
     }
 }
 
+fn is_pin(command: &Command) -> bool
+    ensures { result ≡ false → IsPin command.now → ⊥ }
+{
+    match command {
+        Command::Pin { .. } => true,
+        _ => false,
+    }
+}
+
 fn thread_of(who: Who) -> u32
     ensures low { 1 ≤ result }
     ensures high { result ≤ 2 }
@@ -138,7 +148,7 @@ fn a_take_helps_a_put_that_is_stopped(rt: HostRuntime) -> Result<(), Fail> {
     for row in &ROWS {
         let (who, expected) = *row;
         let command = players.next(who).expect(&rt, "it is not done");
-        assert!(rt; command.is_valid());
+        assert!(rt; command.is_valid() && !is_pin(&command));
         let reply = plain.apply(alloc, thread_of(who), &command)?;
         assert!(rt; reply == expected);
         players.took(who, &reply);
@@ -148,7 +158,7 @@ fn a_take_helps_a_put_that_is_stopped(rt: HostRuntime) -> Result<(), Fail> {
     assert!(rt; players.takes_five.done() == Some(QueueReply::Got(5)));
     // The put finds that the tail was moved.
     let last = next_of_put(&players.puts).expect(&rt, "it is not done");
-    assert!(rt; last.is_valid());
+    assert!(rt; last.is_valid() && !is_pin(&last));
     let reply = plain.apply(alloc, 1, &last)?;
     assert!(rt; reply == Reply::No);
     players.puts.took(&reply);

@@ -39,7 +39,7 @@ fn ranges(rt: HostRuntime) {
 }
 
 // The words of four regions of 64 words and one mutator, by where they stand: every row of words by hand.
-const SMALLEST: [(usize, WordName); 29] = [
+const SMALLEST: [(usize, WordName); 31] = [
     (0, WordName::Pause),
     (1, WordName::Left),
     (2, WordName::End),
@@ -93,10 +93,24 @@ const SMALLEST: [(usize, WordName); 29] = [
     (60, WordName::Heap { address: 65 }),
     (314, WordName::Heap { address: 319 }),
     (315, WordName::Share),
+    (
+        316,
+        WordName::Pin {
+            mutator: 0,
+            slot: 0,
+        },
+    ),
+    (
+        319,
+        WordName::Pin {
+            mutator: 0,
+            slot: 3,
+        },
+    ),
 ];
 
 // Five regions of 65 words, two mutators and a helper: the words that stand by more than one number.
-const WITH_A_HELPER: [(usize, WordName); 13] = [
+const WITH_A_HELPER: [(usize, WordName); 15] = [
     (11, WordName::Ask),
     (30, WordName::Current { seat: 3 }),
     (
@@ -122,6 +136,20 @@ const WITH_A_HELPER: [(usize, WordName); 13] = [
     (97, WordName::Heap { address: 65 }),
     (421, WordName::Heap { address: 389 }),
     (422, WordName::Share),
+    (
+        425,
+        WordName::Pin {
+            mutator: 0,
+            slot: 2,
+        },
+    ),
+    (
+        428,
+        WordName::Pin {
+            mutator: 1,
+            slot: 1,
+        },
+    ),
 ];
 
 // The words stand in the table of a configuration where the rows say, and it has so many.
@@ -134,8 +162,8 @@ fn stand(rt: &impl Abort, config: Config, rows: &[(usize, WordName)], words: usi
 
 #[test]
 fn places_of_words(rt: HostRuntime) -> Result<(), Fail> {
-    stand(&rt, Config::new(4, 64, 1, 0, 0)?, &SMALLEST, 316);
-    stand(&rt, Config::new(5, 65, 2, 1, 1)?, &WITH_A_HELPER, 423);
+    stand(&rt, Config::new(4, 64, 1, 0, 0)?, &SMALLEST, 320);
+    stand(&rt, Config::new(5, 65, 2, 1, 1)?, &WITH_A_HELPER, 431);
     Ok(())
 }
 

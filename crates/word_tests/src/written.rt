@@ -90,7 +90,7 @@ fn each_line_has_its_text(rt: HostRuntime) -> Result<(), Fail> {
 }
 
 // Traces, and how they are written.
-const TRACES: [(&str, &str); 4] = [
+const TRACES: [(&str, &str); 5] = [
     (
         "shen 1\nheap 4 64 0\nthreads 1 0\n",
         "shen 1\nheap 4 64 0\nthreads 1 0\n",
@@ -104,6 +104,7 @@ const TRACES: [(&str, &str); 4] = [
         "shen 1\nheap 8 64 1\nthreads 2 1\n1 new 15 16 0\n1 drop 15\n2 gc\n2 rd 3 31\n! 1:3 2@CX 4:1 1=2\n",
     ),
     (ALL_COMMANDS, ALL_COMMANDS),
+    (PINS, PINS),
 ];
 
 const ALL_COMMANDS: &str = "shen 1
@@ -120,6 +121,15 @@ threads 1 0
 1 drop 5
 1 same 6 7
 1 gc
+";
+
+const PINS: &str = "shen 2
+heap 8 64 0
+threads 1 0
+1 gc
+1 pin 3 15
+1 unpin 0
+! 1@PB 1@PN
 ";
 
 // Writes the trace that this text is.
@@ -148,8 +158,8 @@ fn a_trace_is_written_thread_by_thread(rt: HostRuntime) -> Result<(), Fail> {
     Ok(())
 }
 
-// The answer of a thread without a command.
-fn answer(alloc: Global) -> Result<Answer, AllocError>
+// The answer of a thread without a command, to a trace of a version.
+fn answer(alloc: Global, version: u32) -> Result<Answer, AllocError>
     ensures script { IfOk result (λ answer. HasScript answer.replies 0) }
     ensures threads { IfOk result (λ answer. length answer.graph.roots ≡ 1) }
 {
@@ -162,18 +172,31 @@ fn answer(alloc: Global) -> Result<Answer, AllocError>
     let Ok(graph) = GraphText::open(alloc, 0, 1) else {
         return Err(AllocError);
     };
-    Ok(Answer { replies, graph })
+    Ok(Answer {
+        version,
+        replies,
+        graph,
+    })
 }
 
-const ANSWER: &str = "graph\nroots 1 - - - - - - - - - - - - - - - -\n";
+// Versions, and what is written.
+const ANSWERS: [(u32, &str); 2] = [
+    (1, "graph\nroots 1 - - - - - - - - - - - - - - - -\n"),
+    (
+        2,
+        "graph\nroots 1 - - - - - - - - - - - - - - - -\npins 1 - - - -\n",
+    ),
+];
 
 #[test]
 fn an_answer_is_written(rt: HostRuntime) -> Result<(), Fail> {
-    let answer = answer(rt.alloc())?;
-    for (piece, failing, front) in &SINKS {
-        let mut sink = sink(rt.alloc(), 1000, *piece, *failing)?;
-        let ending = write_answer(&mut sink, &answer);
-        assert!(rt; has(&sink, &ending, ANSWER, *front));
+    for (version, text) in &ANSWERS {
+        let answer = answer(rt.alloc(), *version)?;
+        for (piece, failing, front) in &SINKS {
+            let mut sink = sink(rt.alloc(), 1000, *piece, *failing)?;
+            let ending = write_answer(&mut sink, &answer);
+            assert!(rt; has(&sink, &ending, text, *front));
+        }
     }
     Ok(())
 }

@@ -1,8 +1,8 @@
-use Rattle.std.proofs.Common.{◌≡◌, refl, sym, ap, ◌∙◌, subst}
+use Rattle.std.proofs.Common.{◌≡◌, sym, ◌∙◌, subst}
 use Rattle.heap_words.specs.declared.config.Config.{Config}
 use Rattle.step_core.specs.Actor.{fresh_control}
 use Rattle.step_core.specs.Opening.{first_free}
-use Rattle.shen_core.specs.State.{config_of, machines_of, machine_at}
+use Rattle.shen_core.specs.State.{machines_of, machine_at}
 use Rattle.heap_tests.proofs.LeftAtRest.{opened_begins, opened_control}
 use Rattle.heap_tests.proofs.calls_step_by_step.a_collected_heap_goes_on.Goals as goal
 

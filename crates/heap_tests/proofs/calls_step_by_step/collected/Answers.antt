@@ -1,8 +1,8 @@
-use Rattle.std.proofs.Common.{◌≡◌, ℕ, sym, ap, ◌∙◌, subst}
+use Rattle.std.proofs.Common.{◌≡◌, ℕ, sym, subst}
 use Rattle.std.proofs.Math.Logic.{∥∥₁_map, ∥∥₁_elim}
 use Rattle.heap_words.specs.declared.config.Config.{Config}
 use Rattle.heap_words.specs.Words.{Word}
-use Rattle.image_graph.specs.Holds.{HoldsSome}
+use Rattle.image_graph.specs.Holds.{HoldsSized}
 use Rattle.image_graph.specs.State as images
 use Rattle.step_core.specs.Machines.{made_of_machine}
 use Rattle.shen_core.specs.State.{config_of, machine_at}
@@ -14,7 +14,7 @@ full-requires c =
     let image = c.in_ok-image.image in
     let made = made_of_machine (machine_at c.args.plain.now 0) in
     let before = subst (λ (k : Config). ∥ LeftGraph k (images.memory_of image) made ∥₁) (sym c.in_ok-image.ensures.config) c.in_ok-image.ensures.stands in
-    let prop : IsProp (HoldsSome (images.config_of image) (images.memory_of image)) = hlevel in
+    let prop : IsProp (HoldsSized (images.config_of image) (images.memory_of image)) = hlevel in
     ∥∥₁_elim before prop (λ (left : LeftGraph (images.config_of image) (images.memory_of image) made). left_holds (images.config_of image) (images.memory_of image) made left)
 
 pub goes_on-requires-clause-stands : goal.goes_on-requires-clause-stands

@@ -1,4 +1,4 @@
-use Rattle.std.proofs.Common.{◌≡◌, ℕ, sym, ap, ◌∙◌, subst}
+use Rattle.std.proofs.Common.{◌≡◌, ℕ, sym, subst}
 use Rattle.heap_words.specs.declared.config.Config.{Config}
 use Rattle.image_graph.specs.State as images
 use Rattle.step_core.specs.Actor.{fresh_control}

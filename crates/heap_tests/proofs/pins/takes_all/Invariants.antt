@@ -1,0 +1,9 @@
+use Rattle.std.proofs.Common.{ℕ, ◌≡◌, ◌≤◌}
+use Rattle.shen_graph.specs.PlainGraph.{graph_of, threads_of}
+use Rattle.heap_tests.proofs.pins.takes_all.Given as goal
+
+abbrev pub invariant-loop-at : goal.invariant-loop-at
+invariant-loop-at l = record {
+  threads : threads_of l.graph ≡ 2;
+  made : (t : ℕ) → (graph_of l.graph).count t ≤ l.at;
+}
