@@ -15,8 +15,9 @@ ghost use Rattle.dump_writing.specs.Dumped.{dumped, graph_in, IsDump};
 ghost use Rattle.dump_runs.specs.Resumed.{IsRunnableAfter, IsResumed, IsLeftBusy, IsCutFrom};
 ghost use Rattle.dump_runs.specs.Resuming.{IfAnswered, HasEndedFrom};
 
-use dump_placing::{Placed, place};
+use crate::placing::place;
 use dump_writing::Dump;
+use graph_placing::Placed;
 use heap_words::{Config, NoMemory, Schedule};
 use image_graph::Image;
 use shen_core::{Plain, Ran};

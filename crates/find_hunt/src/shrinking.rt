@@ -1,9 +1,9 @@
 //! Schedules made short, item by item.
 ghost use Rattle.std.specs.Prelude.{◌<◌, length};
 
-use find_course::{Shape, place_behind, run_items};
 use find_grammar::Test;
 use find_play::Verdict;
+use find_search::{Shape, place_behind, run_items};
 use heap_words::{Item, NoMemory};
 use std::alloc::Global;
 

@@ -1,10 +1,11 @@
 //! All schedules within the bounds of a test.
 
+use crate::course::Course;
+use crate::mixing::mixed;
 use crate::record::Record;
 use crate::tally::{Found, Tally};
 use crate::tree::{Tree, Turn};
 use crate::turns::{Turns, goes_alone, possible_turns};
-use find_course::{Course, mixed};
 use find_grammar::Test;
 use heap_words::NoMemory;
 use std::alloc::Global;

@@ -1,10 +1,11 @@
 //! Schedules by chance.
 
+use crate::course::{Course, SEATS};
 use crate::exhaustive::Plan;
+use crate::mixing::mixed;
 use crate::record::Record;
 use crate::tally::{Found, Tally};
 use crate::turns::{Turns, possible_turns};
-use find_course::{Course, SEATS, mixed};
 use find_grammar::Test;
 use heap_words::NoMemory;
 use std::alloc::Global;

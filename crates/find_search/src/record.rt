@@ -1,7 +1,7 @@
 //! What a search keeps of the runs that it makes.
 
+use crate::course::Course;
 use crate::tally::{Found, Tally};
-use find_course::Course;
 use find_grammar::Test;
 use find_play::Verdict;
 use heap_words::{Item, NoMemory};

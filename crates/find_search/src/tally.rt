@@ -1,6 +1,6 @@
 //! What is counted in a search.
 
-use find_course::Ending;
+use crate::course::Ending;
 use find_play::Verdict;
 use heap_words::{Item, NoMemory};
 use std::alloc::Global;

@@ -1,6 +1,6 @@
 //! Whose turn it may be, and what that costs.
 
-use find_course::{Course, SEATS};
+use crate::course::{Course, SEATS};
 use heap_words::Place;
 
 /// Which machines may make the next step, and how many preemptions each of that would be: 0 or 1.

@@ -2,11 +2,10 @@
 ghost use Rattle.std.specs.Prelude.{◌≡◌, ◌≤◌, true, length, All, IfOk};
 ghost use Rattle.shen_core.specs.Progress.{IsRunnable, IsInSeats, CanRun};
 ghost use Rattle.shen_core.specs.State.{config_of};
-ghost use Rattle.schedule_walk.specs.Agendas.{IsWalkOf};
+ghost use Rattle.shen_core.specs.Agendas.{IsWalkOf};
 
 use heap_words::{Config, Item, Place, Schedule};
-use schedule_walk::Walk;
-use shen_core::{Plain, Stepped};
+use shen_core::{Plain, Stepped, Walk};
 use shen_graph::{Command, Reply, Script, Work};
 use std::alloc::Global;
 use std::test::Fail;

@@ -2,7 +2,7 @@
 ghost use Rattle.std.specs.Prelude.{IfOk};
 ghost use Rattle.shen_core.specs.Progress.{CanRun};
 ghost use Rattle.shen_core.specs.State.{config_of};
-ghost use Rattle.schedule_walk.specs.Agendas.{IsWalkOf};
+ghost use Rattle.shen_core.specs.Agendas.{IsWalkOf};
 
 use crate::scene::{Case, Scene};
 use crate::shared::Shared;

@@ -4,8 +4,8 @@ use crate::columns::{ADDRESSES, COLUMNS, NARROW, column_of};
 use crate::course::Listing;
 use heap_words::{Config, Item};
 use listing::{Row, json_key, json_number, json_text, put_item, put_machine};
-use schedule_walk::Walk;
 use shen_base::Sink;
+use shen_core::Walk;
 
 // Sets the line that names the machines, each above its column.
 fn put_machines(row: &mut Row, config: Config, width: u64) {

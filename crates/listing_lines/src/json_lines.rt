@@ -1,10 +1,10 @@
 //! The line of an event as an object of JSON.
 
 use crate::course::Listing;
+use crate::ends::{json_command, json_reply, json_seat};
 use crate::tally::Tally;
 use heap_words::{Access, Config, Took};
 use listing::{Event, Row, json_access, json_flag, json_number, json_text, json_value};
-use listing_ends::{json_command, json_reply, json_seat};
 use shen_base::Sink;
 use shen_graph::{Command, Entry, Reply};
 

@@ -1,9 +1,11 @@
-//! The listing: a line an event, in columns, under headings for the parts of the schedule; or an object of JSON for each.
+//! The listing, from its head to where each machine stands at its end: a line an event, in columns, under headings for the parts of the
+//! schedule, or an object of JSON for each; the replies so far; and whether the schedule goes on.
 #![tactic(auto)]
 
 mod columns;
 mod course;
 mod ending;
+mod ends;
 mod event_lines;
 mod hands;
 mod headings;
@@ -12,8 +14,14 @@ mod json_lines;
 mod pause_lines;
 mod pen;
 mod said;
+mod scout;
 mod tally;
 mod text_lines;
 mod words_now;
 
 pub use course::Listing;
+pub use ends::{
+    json_command, json_end, json_reply, json_seat, json_stuck, machine_of, put_end, put_stuck,
+    write_head,
+};
+pub use scout::{event_of, is_stalled, item_at_work, limit_of};

@@ -1,9 +1,9 @@
 //! How far a listing is: the events that were made, the entries of the history that they have settled, and the parts that have begun.
 ghost use Rattle.std.specs.Prelude.{◌≡◌, ◌≢◌, ◌+◌, ◌^◌, ◌<◌, None};
 
+use crate::scout::item_at_work;
 use heap_words::Item;
-use listing_ends::item_at_work;
-use schedule_walk::Walk;
+use shen_core::Walk;
 use shen_graph::Entry;
 use std::ops::Range;
 

@@ -16,3 +16,8 @@ mod FromImage
 mod Halted
 mod Inside
 mod PauseRounds
+pub mod Stepping
+pub mod Finding
+pub mod Items
+pub mod Walking
+pub mod WalkEnds

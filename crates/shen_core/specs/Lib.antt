@@ -6,3 +6,6 @@ pub mod WholeRun
 pub mod FromImage
 pub mod Halted
 pub mod Noting
+pub mod Agendas
+pub mod Seen
+pub mod Nexts

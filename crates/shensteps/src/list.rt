@@ -3,8 +3,8 @@ ghost use Rattle.std.specs.Prelude.{◌≡◌, ◌<◌, ◌≤◌, ℕ, List, Al
 ghost use Rattle.shen_core.specs.State.{config_of};
 ghost use Rattle.shen_core.specs.Progress.{CanRun, IsInSeats, AllIdle, AllRest, SomeBusy, Runs};
 ghost use Rattle.shen_core.specs.WholeRun.{RunsSchedule};
-ghost use Rattle.schedule_walk.specs.Agendas.{agenda_in, IsWalkOf};
-ghost use Rattle.schedule_walk.specs.Nexts.{HasNoNext, MakesNext};
+ghost use Rattle.shen_core.specs.Agendas.{agenda_in, IsWalkOf};
+ghost use Rattle.shen_core.specs.Nexts.{HasNoNext, MakesNext};
 ghost use Rattle.trace_grammar.specs.Grammar.{Reads};
 ghost use Rattle.shensteps.specs.Listed.{CountsEvents};
 
@@ -12,12 +12,10 @@ use crate::named::may_be_made;
 use crate::status::Status;
 use heap_words::{Config, Schedule};
 use listing::Row;
-use listing_ends::{limit_of, write_head};
-use listing_lines::Listing;
+use listing_lines::{Listing, limit_of, write_head};
 use listing_words::{Asked, FORM, Needle, Refusal, Stranger, Wanted, asked_by};
-use schedule_walk::{Seen, Walk};
 use shen_base::{Sink, Source};
-use shen_core::{Plain, Ran};
+use shen_core::{Plain, Ran, Seen, Walk};
 use shen_graph::{GraphText, Work};
 use std::alloc::Global;
 use text_writer::write_all;

@@ -1,8 +1,8 @@
 use Rattle.std.proofs.Common.{◌-◌, subst}
 use Rattle.shen_core.specs.State.{config_of}
 use Rattle.shen_core.specs.WholeRun.{EndsRun}
-use Rattle.schedule_walk.specs.Agendas.{agenda_in}
-use Rattle.schedule_walk.proofs.WalkEnds.{ends_by, counts_by}
+use Rattle.shen_core.specs.Agendas.{agenda_in}
+use Rattle.shen_core.proofs.WalkEnds.{ends_by, counts_by}
 use Rattle.shensteps.specs.Listed.{HasEvents}
 use Rattle.shensteps.proofs.list.list.Goals as goal
 

@@ -1,6 +1,6 @@
 use Rattle.std.proofs.Common.{refl, ◌∙◌, arith}
 use Rattle.shen_core.proofs.Going.{runs_none}
-use Rattle.schedule_walk.proofs.Walking.{runs_more, runs_end}
+use Rattle.shen_core.proofs.Walking.{runs_more, runs_end}
 use Rattle.shensteps.proofs.list.list_all.Goals as goal
 
 pub loop-left-init : goal.loop-left-init

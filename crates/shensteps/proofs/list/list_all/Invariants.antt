@@ -1,7 +1,7 @@
 use Rattle.std.proofs.Common.{◌≡◌, ◌≤◌}
 use Rattle.shen_core.specs.State.{config_of}
 use Rattle.shen_core.specs.Progress.{CanRun, Runs}
-use Rattle.schedule_walk.specs.Agendas.{agenda_in, IsWalkOf}
+use Rattle.shen_core.specs.Agendas.{agenda_in, IsWalkOf}
 use Rattle.shensteps.proofs.list.list_all.Given as goal
 
 abbrev pub invariant-loop-left : goal.invariant-loop-left

@@ -1,6 +1,6 @@
 use Rattle.shen_core.specs.State.{config_of}
 use Rattle.shen_core.specs.Progress.{CanRun}
-use Rattle.schedule_walk.specs.Agendas.{IsWalkOf}
+use Rattle.shen_core.specs.Agendas.{IsWalkOf}
 use Rattle.hostile_tests.proofs.scene.Scene.goes_to.Given as goal
 
 abbrev pub invariant-loop : goal.invariant-loop

@@ -1,3 +1,0 @@
-pub mod ScriptLines
-pub mod Runnable
-pub mod Outcomes

@@ -1,0 +1,34 @@
+ghost use Rattle.std.specs.Prelude.{◌≡◌, ◌<◌, ℕ, List, IfOk, length};
+ghost use Rattle.shen_graph.specs.Work.{HasScript};
+ghost use Rattle.trace_writing.specs.Answer.{spelled_answer};
+ghost use Rattle.graph_placing.specs.ByName.{Fits};
+ghost use Rattle.dump_writing.specs.Dumped.{dumped};
+ghost use Rattle.dump_reading.specs.Resumes.{Resumes};
+ghost use Rattle.dump_runs.specs.Resumed.{IsResumed, IsCutFrom};
+ghost use Rattle.dump_runs.specs.Resuming.{IfAnswered};
+
+use crate::goes_on::{Resumed, resume};
+use dump_reading::Resumed as Read;
+use heap_words::NoMemory;
+use std::alloc::Global;
+
+/// Goes on from a dump that was read, by the scripts and the schedule behind it, in so many steps at most. The error is that memory was
+/// refused.
+pub fn answer_from(alloc: Global, read: Read, steps: u64) -> Result<Resumed, NoMemory>
+    requires { (bytes : List ℕ) × Resumes bytes (dumped read.dump.config read.dump.counts read.dump.graph) read.trace.scripts read.trace.schedule }
+    ensures fits { IfOk result (λ resumed. IfAnswered resumed (λ answer. Fits read.dump.config read.dump.graph)) }
+    ensures answered { IfOk result (λ resumed. IfAnswered resumed (λ answer. IsResumed read.dump.config read.dump.counts read.dump.graph read.trace.scripts read.trace.schedule steps (spelled_answer answer))) }
+    ensures unfinished_fits { result ≡ Ok Resumed.Unfinished → Fits read.dump.config read.dump.graph }
+    ensures unfinished { result ≡ Ok Resumed.Unfinished → IsCutFrom read.dump.config read.dump.counts read.dump.graph read.trace.scripts read.trace.schedule steps }
+    ensures too_small { result ≡ Ok Resumed.TooSmall → Fits read.dump.config read.dump.graph → ⊥ }
+    ensures scripts { IfOk result (λ resumed. IfAnswered resumed (λ answer. (mutator : ℕ) → mutator < length answer.graph.roots → HasScript answer.replies mutator)) }
+{
+    let Read { dump, trace } = read;
+    resume(
+        alloc,
+        &dump,
+        trace.scripts.into_vec(),
+        &trace.schedule,
+        steps,
+    )
+}

@@ -1,6 +1,0 @@
-use Rattle.std.proofs.Common.{ℕ, ◌<◌}
-use Rattle.find_course.specs.Courses.{IsResting}
-use Rattle.find_course.proofs.course.Course.do_mutators_rest.Given as goal
-
-abbrev pub invariant-loop-mutator : goal.invariant-loop-mutator
-invariant-loop-mutator l = (k : ℕ) → k < l.mutator → IsResting l.self k

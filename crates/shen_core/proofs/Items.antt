@@ -1,0 +1,37 @@
+-- When an item is done.
+use Rattle.std.proofs.Common.{◌≡◌, ◌<◌, ℕ, true, false, length, ap, ◌∙◌, arith}
+use Rattle.std.specs.Prelude.{nat_le}
+use Rattle.std.proofs.lemmas.List.{length-map}
+use Rattle.heap_words.specs.declared.place.Place.{Place}
+use Rattle.heap_words.specs.declared.schedule.Item.TheVariants.{Until, Replies}
+use Rattle.heap_machines.specs.Shown.{shown}
+use Rattle.heap_machines.specs.Turn.{order_for}
+use Rattle.shen_graph.specs.Work as work
+use Rattle.step_core.specs.Machines.{is_machine_at}
+use Rattle.shen_core.specs.declared.plain.Plain.{Plain}
+use Rattle.shen_core.specs.State.{config_of, seats_of, machine_at, machines_of}
+use Rattle.shen_core.specs.Progress.{Jobs, next_for}
+use Rattle.shen_core.proofs.Turns.{stands_shown}
+use Rattle.shen_core.proofs.Going.{given_told, until_there, until_move, replies_given, replies_move}
+use Rattle.shen_core.specs.Nexts.{IsOver, WalksOn}
+
+-- the machine of a seat
+pub seat_within : (p : Plain) (number : ℕ) → number < seats_of p → number < length (machines_of p)
+seat_within p number below = omega (arith, length-map p.machines.items shown, p.all_machines, below)
+
+module _ (p : Plain) (jobs : Jobs) (number : ℕ) where
+  -- where the machine stands at the place, the item is done
+  pub until_over : (place : Place) → number < seats_of p → is_machine_at place (machine_at p number) (order_for (next_for (config_of p) jobs number) (machine_at p number)) ≡ true → IsOver p jobs (Until number place)
+  until_over place below there scripts s shows tells = until_there (config_of p) scripts s number place (stands_shown p jobs number place (seat_within p number below) scripts s shows tells ∙ there)
+
+  -- before that it is not
+  pub until_goes_on : (place : Place) → number < seats_of p → is_machine_at place (machine_at p number) (order_for (next_for (config_of p) jobs number) (machine_at p number)) ≡ false → WalksOn p jobs (Until number place)
+  until_goes_on place below away scripts s shows tells = until_move (config_of p) scripts s number place (stands_shown p jobs number place (seat_within p number below) scripts s shows tells ∙ away)
+
+  -- where the replies are given, the item is done
+  pub replies_over : (count : ℕ) → number < (config_of p).mutators → nat_le count (length (work.replies_of jobs number)) ≡ true → IsOver p jobs (Replies number count)
+  replies_over count below enough scripts s shows tells = replies_given (config_of p) scripts s number count (ap (nat_le count) (given_told p jobs number scripts s (seat_within p number (omega (arith, below))) below shows tells) ∙ enough)
+
+  -- before that it is not
+  pub replies_go_on : (count : ℕ) → number < (config_of p).mutators → nat_le count (length (work.replies_of jobs number)) ≡ false → WalksOn p jobs (Replies number count)
+  replies_go_on count below few scripts s shows tells = replies_move (config_of p) scripts s number count (ap (nat_le count) (given_told p jobs number scripts s (seat_within p number (omega (arith, below))) below shows tells) ∙ few)
