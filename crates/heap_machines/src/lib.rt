@@ -7,6 +7,8 @@ mod opening;
 mod refusal;
 mod stepped;
 
+// Who makes machines of its own needs it, and names no crate below for it.
+pub use control::Control;
 pub use machine::Machine;
 pub use opening::open_machines;
 pub use stepped::Stepped;

@@ -15,7 +15,7 @@ use Rattle.shen_graph.specs.declared.name.Name.{Name}
 use Rattle.control_rows.specs.declared.spot.ControlSpot.{ControlSpot}
 use Rattle.control_rows.specs.declared.spot.ControlSpot.TheVariants.{LoadWord, StoreWord}
 use Rattle.control_rows.specs.Rows.{Controlling}
-use Rattle.control.specs.Image.{image_from, IsLoadedFrom}
+use Rattle.heap_machines.specs.Image.{image_from, IsLoadedFrom}
 use Rattle.heap_machines.specs.Roles.{CanShowBy, CanShow}
 use Rattle.heap_machines.proofs.RestedGraph as standing
 use Rattle.step_core.specs.Actor.{Machine, Actor}

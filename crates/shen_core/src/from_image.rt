@@ -9,8 +9,7 @@ ghost use Rattle.image_graph.specs.State.{config_of, words_of, memory_of};
 ghost use Rattle.heap_machines.specs.Shown.{shown, order_of, heap_of};
 ghost use Rattle.shen_core.specs.FromImage.{machine_from};
 
-use control::Control;
-use heap_machines::Machine;
+use heap_machines::{Control, Machine};
 use heap_words::{Config, NoMemory};
 use helper::Helper;
 use image_graph::Image;

@@ -4,7 +4,7 @@ use Rattle.std.proofs.lemmas.List.{length-set}
 use Rattle.std.proofs.Math.Logic.{∥∥₁_map}
 use Rattle.heap_words.specs.declared.config.Config.{Config}
 use Rattle.image_graph.specs.Left.{StandsForSome, ShowsTheGraph}
-use Rattle.control.specs.Image.{image_from}
+use Rattle.heap_machines.specs.Image.{image_from}
 use Rattle.heap_machines.specs.Pause.{pause_image}
 use Rattle.step_core.specs.Begins.{graph_after}
 use Rattle.heap_machines.specs.Shown.{shown}
