@@ -125,7 +125,20 @@ typedef struct cvm_state {
     uint64_t state;  /* a cvm_activity */
     uint64_t made;   /* objects that this mutator has made; 0 of others */
     uint64_t left;   /* objects that it may still make; 0 of others */
+    uint64_t phase;  /* of the control: the cvm_phase in which its last pause has left the heap; 0 before the first, and of others */
+    char place[8];   /* of its next step: the two letters or digits of docs/STEP_TABLE.md; "" where it has no step to make */
 } cvm_state;
+
+/*
+ * What runs beside the mutators: nothing, or a part of a cycle. Only a pause changes it. While the control is in a pause, cvm_look tells
+ * the phase before it as long as the place is "PL" or an earlier one, and the phase behind it from "PS" on.
+ */
+typedef enum cvm_phase {
+    CVM_NO_CYCLE = 0,   /* nothing */
+    CVM_MARKING = 1,    /* objects that roots lead to are marked */
+    CVM_EVACUATING = 2, /* objects of the regions that are to be freed are copied out */
+    CVM_UPDATING = 3    /* references to them are updated */
+} cvm_phase;
 
 /* Which kind of machine a seat is. */
 typedef enum cvm_kind { CVM_MUTATOR = 1, CVM_HELPER = 2, CVM_CONTROL = 3 } cvm_kind;
@@ -206,7 +219,7 @@ typedef enum cvm_op {
 /* What the archive is compiled for. */
 CVM_ASSERT(sizeof(cvm_status) == 4);
 CVM_ASSERT(sizeof(size_t) == 8 && sizeof(void *) == 8 && sizeof(bool) == 1);
-CVM_ASSERT(sizeof(cvm_seat) == 16);
+CVM_ASSERT(sizeof(cvm_seat) == 16 && sizeof(cvm_state) == 56);
 
 /* ---- The proved functions. None waits, locks, starts a thread or calls back. ---- */
 
@@ -246,7 +259,11 @@ cvm_status cvm_end(cvm_seat *seat);
  */
 cvm_status cvm_work(cvm_seat *seat, uint32_t steps);
 
-/* Tells of a seat what stands in cvm_state. Makes no step. Answers CVM_DONE or CVM_NOT_OPEN. */
+/*
+ * Tells of a seat what stands in cvm_state. Makes no step. Answers CVM_DONE or CVM_NOT_OPEN; *state is written with CVM_DONE
+ * only. Who gives the control its steps one by one, and looks after each, sees every pause and of which kind it is:
+ * library/users/common/pauses.h counts them.
+ */
 cvm_status cvm_look(cvm_seat *seat, cvm_state *state);
 
 /*

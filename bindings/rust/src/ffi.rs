@@ -33,6 +33,21 @@ pub struct Value {
     pub count: u64,
 }
 
+#[repr(C)]
+#[derive(Clone, Copy, Default)]
+pub struct State {
+    pub number: u64,
+    pub kind: u64,
+    pub state: u64,
+    pub made: u64,
+    pub left: u64,
+    pub phase: u64,
+    pub place: [u8; 8],
+}
+
+/// The kind of the control.
+pub const CONTROL: u64 = 3;
+
 pub const DONE: u32 = 0;
 pub const MORE: u32 = 1;
 pub const AGAIN: u32 = 2;
@@ -44,6 +59,7 @@ extern "C" {
     pub fn cvm_go(seat: *mut Seat, steps: u32, value: *mut Value) -> u32;
     pub fn cvm_end(seat: *mut Seat) -> u32;
     pub fn cvm_work(seat: *mut Seat, steps: u32) -> u32;
+    pub fn cvm_look(seat: *mut Seat, state: *mut State) -> u32;
     pub fn cvm_close(seat: *mut Seat) -> u32;
     pub fn cvm_back_off(rounds: *mut u32);
 }

@@ -1,6 +1,7 @@
 use crate::error::Error;
-use crate::ffi::{self, Seat, Sizes};
+use crate::ffi::{self, Seat, Sizes, State};
 use crate::mutator::Mutator;
+use std::fmt;
 use std::marker::PhantomData;
 use std::sync::atomic::{AtomicBool, Ordering::SeqCst};
 use std::sync::{Arc, Mutex};
@@ -52,6 +53,36 @@ fn open(config: &Config) -> Result<Vec<Owned>, Error> {
     }
 }
 
+/// What runs beside the mutators: nothing, or a part of a cycle. Only a pause changes it.
+#[derive(Clone, Copy, Debug, PartialEq, Eq)]
+pub enum Phase {
+    /// No cycle.
+    Idle,
+    /// Objects that roots lead to are marked.
+    Marking,
+    /// Objects of the regions that are to be freed are copied out.
+    Evacuating,
+    /// References to them are updated.
+    Updating,
+}
+
+/// The place of a step: two letters or digits of the repository's `docs/STEP_TABLE.md`.
+#[derive(Clone, Copy, PartialEq, Eq)]
+pub struct Place([u8; 2]);
+
+impl Place {
+    /// The two.
+    pub fn as_str(&self) -> &str {
+        std::str::from_utf8(&self.0).unwrap_or("")
+    }
+}
+
+impl fmt::Debug for Place {
+    fn fmt(&self, to: &mut fmt::Formatter<'_>) -> fmt::Result {
+        to.write_str(self.as_str())
+    }
+}
+
 /// A helper or the control, for those who give it its steps themselves ([`Seats`]).
 pub struct Worker<'heap> {
     pub(crate) seat: Owned,
@@ -67,6 +98,28 @@ impl Worker<'_> {
             ffi::AGAIN => Some(false),
             _ => None,
         }
+    }
+
+    fn look(&mut self) -> State {
+        let mut state = State::default();
+        // SAFETY: the seat is this value's own, `&mut` keeps other calls away, and the other pointer is to a value of this frame. A seat that is
+        // refused leaves the state as it is.
+        unsafe { ffi::cvm_look(&mut self.seat.0, &mut state) };
+        state
+    }
+
+    /// Of the control: the phase in which its last pause has left the heap. A pause has chosen it from its first step at the place `PS` on.
+    /// Of a helper none.
+    pub fn phase(&mut self) -> Option<Phase> {
+        let state = self.look();
+        let phases = [Phase::Idle, Phase::Marking, Phase::Evacuating, Phase::Updating];
+        phases.get(usize::try_from(state.phase).ok()?).copied().filter(|_| state.kind == ffi::CONTROL)
+    }
+
+    /// The place of its next step, or none where it has ended.
+    pub fn place(&mut self) -> Option<Place> {
+        let [one, two, ..] = self.look().place;
+        (one != 0).then_some(Place([one, two]))
     }
 }
 

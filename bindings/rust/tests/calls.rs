@@ -1,6 +1,6 @@
 //! Each call, each error, and heaps that fill up.
 
-use covremuj::{Any, Command, Config, Error, Heap, Progress, Reply, Root, Seats, Shape};
+use covremuj::{Any, Command, Config, Error, Heap, Phase, Progress, Reply, Root, Seats, Shape};
 
 struct Pair;
 impl Shape for Pair {
@@ -112,5 +112,93 @@ fn pieces() -> Result<(), Error> {
     assert_eq!(me.go(1), Ok(Progress::More));
     assert!(matches!(me.wait(), Ok(Reply::Reference(_))));
     assert_eq!(me.call(Command::Copy { dst: 16, src: 0 }), Err(Error::OutOfRange));
+    Ok(())
+}
+
+/// A heap whose control makes steps only where a test says so. Of the objects that fill a region one is kept.
+fn quiet() -> Result<Seats, Error> {
+    let seats = Seats::open(&Config { regions: 8, region_words: 64, mutators: 1, helpers: 0, reserve: 0 })?;
+    let me = &seats.mutators[0];
+    for i in 0..27 {
+        me.call(Command::New { dst: 1, references: 2, numbers: 2 })?;
+        if i % 9 == 0 {
+            me.call(Command::Set { obj: 0, field: i / 9, val: 1 })?;
+        }
+    }
+    Ok(seats)
+}
+
+/// The phases that the pauses from here on leave, until the control has left a pause behind which no cycle runs.
+fn pauses(seats: &mut Seats) -> Vec<Phase> {
+    let control = &mut seats.workers[0];
+    let mut left = Vec::new();
+    while left.last() != Some(&Phase::Idle) || control.place().expect("the control has not ended").as_str() != "I0" {
+        let before = control.place();
+        control.work(1);
+        if control.place() != before && control.place().is_some_and(|place| place.as_str() == "PS") {
+            left.extend(control.phase());
+        }
+    }
+    left
+}
+
+/// Gives the control steps until it stands outside of a pause, in this phase.
+fn work_until(seats: &mut Seats, phase: Phase) {
+    let control = &mut seats.workers[0];
+    while control.phase() != Some(phase) || control.place().expect("the control has not ended").as_str() != "I0" {
+        control.work(1);
+    }
+}
+
+/// Makes objects until one waits for room.
+fn make_until_it_waits(seats: &Seats) -> Result<(), Error> {
+    let me = &seats.mutators[0];
+    loop {
+        me.begin(Command::New { dst: 1, references: 16, numbers: 16 })?;
+        match me.go(4096)? {
+            Progress::Again => return Ok(()),
+            Progress::Done(Reply::Reference(_)) => {}
+            other => panic!("{other:?}"),
+        }
+    }
+}
+
+#[test]
+fn a_cycle_goes_through_its_phases() -> Result<(), Error> {
+    let mut seats = quiet()?;
+    let control = &mut seats.workers[0];
+    assert_eq!((control.phase(), format!("{:?}", control.place())), (Some(Phase::Idle), "Some(I0)".to_string()));
+    seats.mutators[0].collect()?;
+    assert_eq!(pauses(&mut seats), [Phase::Marking, Phase::Evacuating, Phase::Updating, Phase::Idle]);
+    Ok(())
+}
+
+#[test]
+fn a_cycle_has_nothing_to_evacuate() -> Result<(), Error> {
+    let mut seats = Seats::open(&Config { helpers: 0, ..config(1) })?;
+    seats.mutators[0].collect()?;
+    assert_eq!(pauses(&mut seats), [Phase::Marking, Phase::Idle]);
+    Ok(())
+}
+
+#[test]
+fn a_cycle_is_cut_short() -> Result<(), Error> {
+    for phase in [Phase::Marking, Phase::Evacuating, Phase::Updating] {
+        let mut seats = quiet()?;
+        seats.mutators[0].collect()?;
+        work_until(&mut seats, phase);
+        make_until_it_waits(&seats)?;
+        assert_eq!(pauses(&mut seats), [Phase::Idle]);
+        assert!(matches!(seats.mutators[0].wait(), Ok(Reply::Reference(_))));
+    }
+    Ok(())
+}
+
+#[test]
+fn a_full_collection() -> Result<(), Error> {
+    let mut seats = quiet()?;
+    make_until_it_waits(&seats)?;
+    assert_eq!(pauses(&mut seats), [Phase::Idle]);
+    assert!(matches!(seats.mutators[0].wait(), Ok(Reply::Reference(_))));
     Ok(())
 }

@@ -132,6 +132,14 @@ impl Control {
         self.hints
     }
 
+    /// The phase in which its last pause has left the heap: 0 no cycle, 1 marking, 2 evacuation, 3 updating. Before the first one,
+    /// that of the image that it was made with. A pause has chosen it once its last word is loaded, and stores it after that.
+    pub fn phase(&self) -> u64
+        ensures { result ≡ (seen_control self.now).phase }
+    {
+        self.last.phase
+    }
+
     /// The address that its next access makes grey, if it does so: one of the heap.
     pub fn greys(&self) -> Option<u64>
         ensures row { result ≡ greys_at (seen_control self.now).spot }

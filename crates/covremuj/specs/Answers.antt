@@ -1,5 +1,7 @@
 -- What belongs to a reply, and what is told of a seat.
-use Rattle.std.specs.Prelude.{ℕ, ◌+◌, ◌-◌, Bool, nat_lt, if◌then◌else◌}
+use Rattle.std.specs.Prelude.{ℕ, ◌+◌, ◌-◌, Bool, nat_lt, List, [], ◌∷◌, Option, Some, None, unwrap_or, if◌then◌else◌}
+use Rattle.heap_words.specs.declared.place.Place.{Place}
+use Rattle.heap_words.specs.Place.{code_of}
 use Rattle.shen_graph.specs.declared.command.Reply.{Reply}
 use Rattle.shen_graph.specs.declared.command.Reply.TheVariants as reply
 use Rattle.heap_seats.specs.declared.progress.Progress.{Progress}
@@ -7,7 +9,7 @@ use Rattle.heap_seats.specs.declared.progress.Progress.TheVariants as progress
 use Rattle.heap_seats.specs.declared.progress.State.{State}
 use Rattle.heap_seats.specs.declared.progress.State.TheVariants.{Free, AtWork, Ended}
 use Rattle.heap_seats.specs.declared.seat.Seat.{Seat}
-use Rattle.heap_seats.specs.Seats.{config_of, number_of, objects_made_by, is_mutator, state_in}
+use Rattle.heap_seats.specs.Seats.{config_of, number_of, objects_made_by, is_mutator, place_of_seat, phase_of_seat, state_in}
 use Rattle.covremuj.specs.declared.border.Value.{Value}
 use Rattle.covremuj.specs.declared.border.Told.{Told}
 
@@ -30,6 +32,11 @@ state_number Free = 0
 state_number AtWork = 1
 state_number Ended = 2
 
+-- the two letters or digits of a place, in ASCII, or zeros where there is none
+abbrev pub place_code : Option Place → List ℕ
+place_code None = 0 ∷ 0 ∷ []
+place_code (Some place) = code_of place
+
 abbrev pub told_of : Seat → Told
 told_of s = record {
   number = number_of s + 1;
@@ -37,4 +44,7 @@ told_of s = record {
   state = state_number (state_in s);
   made = objects_made_by s;
   left = if is_mutator s then 4294967295 - objects_made_by s else 0;
+  phase = unwrap_or (phase_of_seat s) 0;
+  place = place_code (place_of_seat s);
+  place_end = 0 ∷ 0 ∷ 0 ∷ 0 ∷ 0 ∷ 0 ∷ [];
 }

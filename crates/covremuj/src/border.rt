@@ -5,7 +5,7 @@ ghost use Rattle.covremuj.specs.StatusNumbers as numbers;
 ghost use Rattle.covremuj.specs.Answers as answers;
 
 use heap_seats::{Progress, Refused, Seat, State};
-use heap_words::BadConfig;
+use heap_words::{BadConfig, Place};
 use shen_graph::{Command, Name, Reply};
 
 /// The sizes of a heap, as C passes them.
@@ -50,6 +50,12 @@ pub struct Told {
     pub made: u64,
     /// How many it may still make.
     pub left: u64,
+    /// Of the control: the phase in which its last pause has left the heap, 0 to 3. Of others 0.
+    pub phase: u64,
+    /// The two letters or digits of the place of its next access, in ASCII; zeros where it has no step to make.
+    pub place: [u8; 2],
+    /// Zeros, by which the place is a text of C.
+    pub place_end: [u8; 6],
 }
 
 pub(crate) const DONE: u32 = 0;
@@ -271,6 +277,19 @@ pub(crate) fn told_of(seat: &Seat) -> Told
         } else {
             0
         },
+        phase: seat.phase().unwrap_or(0),
+        place: place_code(seat.place()),
+        place_end: [0; 6],
+    }
+}
+
+// The two letters or digits of a place, or zeros.
+fn place_code(place: Option<Place>) -> [u8; 2]
+    ensures { result ≡ answers.place_code place }
+{
+    match place {
+        Some(place) => place.code(),
+        None => [0, 0],
     }
 }
 

@@ -6,6 +6,14 @@ use Rattle.step_core.specs.Actor.{Machine}
 use Rattle.step_core.specs.Machines.{control_in}
 pub use Rattle.step_core.specs.Machines.{is_mutating, reply_of_step}
 
+-- the phase that the control's last pause has chosen, if it is the control
+abbrev pub phase_by : Option Controlling → Option ℕ
+phase_by None = None
+phase_by (Some k) = Some k.phase
+
+abbrev pub phase_in : Machine → Option ℕ
+phase_in machine = phase_by (control_in machine)
+
 -- of the control, if it is one
 abbrev pub CanShowBy : List ℕ → Option Controlling → Type 0
 CanShowBy table None = ⊥

@@ -42,7 +42,7 @@ impl Machine {
     ghost use Rattle.step_core.specs.Opening.{opening_machine};
     ghost use Rattle.step_core.specs.Machines.{control_in, takes_of, takes_hint, greys_of, hints_of, plan_of, place_in, machine_after, answer_of, is_machine_at, reply_in, may_begin, made_of_machine, WaitsIn, IsFitFor, is_resting};
     ghost use Rattle.heap_machines.specs.Shown.{shown, order_of, heap_of, has_turn};
-    ghost use Rattle.heap_machines.specs.Roles.{is_mutating, CanShow};
+    ghost use Rattle.heap_machines.specs.Roles.{is_mutating, phase_in, CanShow};
     ghost use Rattle.heap_machines.specs.Settles.{command_in, reply_settled, refused_by};
     ghost use Rattle.heap_machines.specs.Turn.{order_for};
     ghost use Rattle.heap_machines.specs.Awaits.{Awaits};
@@ -268,6 +268,17 @@ impl Machine {
             Machine::Mutator(_) => 0,
             Machine::Helper(helper) => helper.hints(),
             Machine::Control(control) => control.hints(),
+        }
+    }
+
+    /// The phase in which the control's last pause has left the heap, 0 to 3, and before the first one that of the opening; None of other
+    /// machines. A pause has chosen it once its last word is loaded.
+    pub fn phase(&self) -> Option<u64>
+        ensures { result ≡ phase_in (shown self.now) }
+    {
+        match self {
+            Machine::Control(control) => Some(control.phase()),
+            Machine::Mutator(_) | Machine::Helper(_) => None,
         }
     }
 

@@ -1,13 +1,15 @@
 -- What callers know of a seat: one machine of a heap, and its share of the heap.
-use Rattle.std.specs.Prelude.{ℕ, ◌≡◌, Bool, nat_lt, List, unwrap_or, if◌then◌else◌}
+use Rattle.std.specs.Prelude.{ℕ, ◌≡◌, Bool, nat_lt, List, Option, Some, None, unwrap_or, if◌then◌else◌}
 use Rattle.std.specs.Arc.{arc_value}
 use Rattle.heap_words.specs.declared.config.Config.{Config}
+use Rattle.heap_words.specs.declared.place.Place.{Place}
 use Rattle.shen_graph.specs.declared.command.Command.{Command}
 use Rattle.shen_graph.specs.declared.order.Order.{Order}
 use Rattle.shen_graph.specs.History.{Entry}
 use Rattle.shared_table.specs.Views.{machine_of}
 use Rattle.step_core.specs.Actor.{Machine, Actor, command_by}
-use Rattle.step_core.specs.Machines.{may_begin, made_of_machine}
+use Rattle.step_core.specs.Machines.{may_begin, made_of_machine, place_in}
+use Rattle.heap_machines.specs.Roles.{phase_in}
 use Rattle.table_heap.specs.declared.heap.Heap.{Heap}
 use Rattle.table_heap.specs.Core.{nobody}
 use Rattle.table_heap.specs.State.{view_of, machine_at, order_at, steps_at, has_turn}
@@ -54,6 +56,14 @@ objects_made_by s = made_of_machine (machine_of_seat s)
 -- whether it is a mutator
 abbrev pub is_mutator : Seat → Bool
 is_mutator s = nat_lt s.number s.config.mutators
+
+-- the place of its next access, if it has a step to make under its order
+abbrev pub place_of_seat : Seat → Option Place
+place_of_seat s = if has_turn s.bundle s.number then Some (place_in (order_in s) (machine_of_seat s)) else None
+
+-- the phase that the control's last pause has chosen, if it is the control's seat
+abbrev pub phase_of_seat : Seat → Option ℕ
+phase_of_seat s = phase_in (machine_of_seat s)
 
 -- whether it has a step to make, may be given an order, or has ended
 abbrev pub state_by : (turn may : Bool) → State

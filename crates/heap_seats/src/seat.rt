@@ -4,7 +4,7 @@ ghost use Rattle.table_heap.specs.State.{IsBundleOf, HasMachine, heap_of};
 ghost use Rattle.heap_seats.specs.Known.{HaveRun, HasOnly};
 
 use crate::progress::{Progress, Refused, State};
-use heap_words::{Config, NoMemory};
+use heap_words::{Config, NoMemory, Place};
 use shen_graph::Command;
 use std::sync::Arc;
 use table_heap::{Bundle, Heap, Stepped};
@@ -36,7 +36,7 @@ impl Seat {
     ghost use Rattle.shen_graph.specs.declared.order.Order.TheVariants as orders;
     ghost use Rattle.step_core.specs.Machines.{reply_in};
     ghost use Rattle.table_heap.specs.State.{has_turn};
-    ghost use Rattle.heap_seats.specs.Seats.{config_of, number_of, machine_of_seat, objects_made_by, is_mutator, state_in, IsSameSeat};
+    ghost use Rattle.heap_seats.specs.Seats.{config_of, number_of, machine_of_seat, objects_made_by, is_mutator, place_of_seat, phase_of_seat, state_in, IsSameSeat};
     ghost use Rattle.heap_seats.specs.Ordering.{refused_in, refused_command, HasOrder};
     ghost use Rattle.heap_seats.specs.Going.{IsAsItWas, HasStepped, progress_at, HasGoneOn};
 
@@ -103,6 +103,25 @@ impl Seat {
         ensures { result ≡ objects_made_by self.now }
     {
         self.bundle.made(self.number)
+    }
+
+    /// The place of its next access, under the order that it was given; None where it has no step to make.
+    pub fn place(&self) -> Option<Place>
+        ensures { result ≡ place_of_seat self.now }
+    {
+        if self.bundle.is_idle(self.number) {
+            None
+        } else {
+            Some(self.bundle.place(self.number))
+        }
+    }
+
+    /// The phase in which the control's last pause has left the heap, 0 to 3, and before the first one 0; None where it is a mutator's or a
+    /// helper's seat. A pause has chosen it once its last word is loaded.
+    pub fn phase(&self) -> Option<u64>
+        ensures { result ≡ phase_of_seat self.now }
+    {
+        self.bundle.phase(self.number)
     }
 
     /// Whether it may be given an order.

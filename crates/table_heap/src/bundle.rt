@@ -10,7 +10,7 @@ ghost use Rattle.table_heap.specs.Known.{AreOfHeap, AreGreyedBy, AreThievesOf};
 use crate::heap::Heap;
 use crate::machines::{Acting, OfHeaps};
 use heap_machines::{Machine, Stepped};
-use heap_words::{Config, NoMemory};
+use heap_words::{Config, NoMemory, Place};
 use hint_deque::{Hints, Thief};
 use shared_table::{ViewSeat, deal_bundle, deal_machines, join_bundle, join_machines, make_step};
 use shen_graph::{Command, Order, Reply};
@@ -45,9 +45,8 @@ impl Bundle {
     ghost use Rattle.heap_words.specs.Words as words;
     ghost use Rattle.shared_table.specs.Views.{machine_of, merged, dealt_to, machines_left, is_dealt_to};
     ghost use Rattle.shen_graph.specs.Valid.{IsValid};
-    ghost use Rattle.heap_machines.specs.Roles.{is_mutating};
+    ghost use Rattle.heap_machines.specs.Roles.{is_mutating, phase_in};
     ghost use Rattle.step_core.specs.Machines.{takes_of, takes_hint, reply_in, place_in, may_begin, made_of_machine};
-    ghost use Rattle.heap_machines.specs.Roles.{is_mutating};
     ghost use Rattle.table_heap.specs.State.{heap_of, view_of, machines_of, orders_of, steps_of, greyed_of, deques_of, IsBundleOf, HasMachine, machine_at, order_at, has_turn, IsSameBundle, IsUnmoved, IsUnchanged, IsBundleStep};
 
     /// Gives the machines of one bundle, of so many, to a bundle of their own: those whose numbers have the remainder `bundle`.
@@ -127,6 +126,30 @@ impl Bundle {
             unreachable!()
         };
         machine.is_idle()
+    }
+
+    /// The place of the machine's next access. Of a machine that has a step to make under its order.
+    pub fn place(&self, number: usize) -> Place
+        requires here { HasMachine self.now number }
+        requires turn { has_turn self.now number ≡ true }
+        ensures { result ≡ place_in (order_at self.now number) (machine_at self.now number) }
+    {
+        let Some(machine) = &self.machines[number] else {
+            unreachable!()
+        };
+        machine.place()
+    }
+
+    /// The phase in which the control's last pause has left the heap, 0 to 3, and before the first one that of the opening; None of other
+    /// machines. A pause has chosen it once its last word is loaded.
+    pub fn phase(&self, number: usize) -> Option<u64>
+        requires here { HasMachine self.now number }
+        ensures { result ≡ phase_in (machine_at self.now number) }
+    {
+        let Some(machine) = &self.machines[number] else {
+            unreachable!()
+        };
+        machine.phase()
     }
 
     /// Whether the machine takes hints: a helper or the control that is about to claim a unit of marking.

@@ -1,5 +1,4 @@
 #include "crew.h"
-#include "pauses.h"
 
 #include <pthread.h>
 #include <stdalign.h>
@@ -53,6 +52,18 @@ static uint64_t run_members(cvm_seat *seats, size_t count, crew_body *body, void
     return objects;
 }
 
+/* The pauses so far behind which no cycle runs: told before any mutator goes on that one of them has stopped. */
+static atomic_ullong ended;
+
+void crew_await_cycle(cvm_seat *seat) {
+    unsigned long long before = atomic_load(&ended);
+    uint32_t rounds = 0;
+    MUST(cvm_gc(seat) == CVM_OK);
+    while (atomic_load(&ended) == before) {
+        cvm_back_off(&rounds);
+    }
+}
+
 /* The thread of the control, which counts the pauses. */
 typedef struct collector {
     alignas(64) cvm_seat seat;
@@ -65,8 +76,9 @@ static void *collect(void *context) {
     uint32_t rounds = 0;
     cvm_status said = CVM_MORE;
     while (said != CVM_ENDED) {
-        said = pauses_work(&me->pauses, &me->seat, CVM_STEPS);
+        said = pauses_work(&me->pauses, &me->seat, 1);
         MUST(!cvm_is_refusal(said));
+        atomic_store(&ended, pauses_that_end(&me->pauses));
         if (said == CVM_AGAIN) {
             cvm_back_off(&rounds);
         } else {
@@ -82,12 +94,13 @@ crew_counts crew_run(const cvm_config *config, crew_body *body, void *context) {
     size_t count = cvm_seat_count(config), mutators = config->mutators;
     cvm_workers *helpers = NULL;
     atomic_store(&waits, 0);
+    atomic_store(&ended, 0);
     MUST(cvm_open(config, seats, count) == CVM_DONE);
     MUST(cvm_start_workers(seats + mutators, config->helpers, &helpers) == CVM_DONE);
-    collector.pauses = pauses_of(config);
+    collector.pauses = pauses_none();
     cvm_move(&collector.seat, &seats[count - 1]);
     MUST(pthread_create(&collector.thread, NULL, collect, &collector) == 0);
-    crew_counts counts = {run_members(seats, mutators, body, context), 0, 0};
+    crew_counts counts = {.objects = run_members(seats, mutators, body, context)};
     MUST(pthread_join(collector.thread, NULL) == 0);
     cvm_join_workers(helpers);
     cvm_move(&seats[count - 1], &collector.seat);
@@ -95,6 +108,6 @@ crew_counts crew_run(const cvm_config *config, crew_body *body, void *context) {
         MUST(cvm_close(&seats[i]) == CVM_DONE);
     }
     counts.waits = atomic_load(&waits);
-    counts.pauses = collector.pauses.many;
+    counts.pauses = collector.pauses;
     return counts;
 }

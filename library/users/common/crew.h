@@ -3,6 +3,7 @@
 #define CREW_H
 
 #include "covremuj.h"
+#include "pauses.h"
 #include "waits.h"
 
 #include <stdio.h>
@@ -33,8 +34,14 @@ typedef void crew_body(cvm_seat *seat, size_t thread, void *context);
 typedef struct crew_counts {
     uint64_t objects; /* that they made */
     uint64_t waits;   /* calls that had to wait */
-    uint64_t pauses;  /* of the collector */
+    pauses pauses;    /* of the collector, by kind */
 } crew_counts;
+
+/*
+ * Asks for a cycle, and waits until one has ended, or a full collection was made. Of a mutator between two calls. Where all mutators of a
+ * heap do this nobody waits for room, so it is a cycle, which is cut short only where a copy finds no room.
+ */
+void crew_await_cycle(cvm_seat *seat);
 
 /*
  * Opens a heap, runs the body in a thread for each mutator while others work for helpers and control, ends all, and

@@ -1,5 +1,8 @@
-// The C++ wrapper: lists by several threads, a counter by compare-exchange, roots that come and go, and what is thrown.
+// The C++ wrapper: lists by several threads, a counter by compare-exchange, roots that come and go, and what is thrown; and the pauses of a
+// heap whose seats the program has itself, by the functions of C.
 #include <covremuj.hpp>
+
+#include "../common/pauses.h"
 
 #include <cstdio>
 #include <cstdlib>
@@ -113,11 +116,74 @@ void refusals() {
     must(same(*object.exchange(1, null), object) && !object.get(1), "an exchange answers what was there");
 }
 
+// The seats of a heap of one mutator and the control, whose steps are made only here.
+struct quiet {
+    std::array<cvm_seat, 2> seats{};
+    pauses seen = pauses_none();
+
+    // Of nine objects that fill a region one is kept.
+    explicit quiet(std::uint32_t regions_used) {
+        const cvm_config sizes{8, 64, 1, 0, 0};
+        must(cvm_open(&sizes, seats.data(), 2) == CVM_DONE, "a heap is opened");
+        for (std::uint32_t i = 0; i < 9 * regions_used; i++) {
+            must(cvm_new(&seats[0], 1, 2, 2) == CVM_REF, "there is room");
+            must(i % 9 != 0 || cvm_set(&seats[0], 0, i / 9, 1) == CVM_OK, "the hub has the field");
+        }
+    }
+    quiet(const quiet &) = delete;
+    quiet &operator=(const quiet &) = delete;
+
+    ~quiet() {
+        for (cvm_seat &seat : seats) {
+            cvm_close(&seat);
+        }
+    }
+
+    // Gives the control steps until it stands outside of a pause, in this phase.
+    void work_until(cvm_phase phase) {
+        do {
+            must(!cvm_is_refusal(pauses_work(&seen, &seats[1], 1)), "the control makes a step");
+        } while (seen.phase != phase || std::string(seen.place) != "I0");
+    }
+
+    // Makes objects until one waits for room.
+    void make_until_it_waits() {
+        while (cvm_try_new(&seats[0], 1, 16, 16) == CVM_REF) {
+        }
+    }
+};
+
+void pauses_by_kind() {
+    quiet whole(3), cut(3), full(3), marked(0);
+    cvm_gc(&whole.seats[0]);
+    whole.work_until(CVM_UPDATING);
+    whole.work_until(CVM_NO_CYCLE);
+    must(pauses_all(&whole.seen) == 4 && whole.seen.many[PAUSE_WHOLE] == 1, "a cycle goes through its phases");
+    cvm_gc(&cut.seats[0]);
+    cut.work_until(CVM_EVACUATING);
+    cut.make_until_it_waits();
+    cut.work_until(CVM_NO_CYCLE);
+    must(pauses_all(&cut.seen) == 3 && cut.seen.many[PAUSE_CUT] == 1, "a cycle is cut short");
+    full.make_until_it_waits();
+    while (pauses_all(&full.seen) == 0) {
+        full.work_until(CVM_NO_CYCLE);
+    }
+    must(pauses_all(&full.seen) == 1 && full.seen.many[PAUSE_FULL] == 1, "the heap is collected in full");
+    cvm_gc(&marked.seats[0]);
+    marked.work_until(CVM_MARKING);
+    marked.work_until(CVM_NO_CYCLE);
+    must(pauses_all(&marked.seen) == 2 && marked.seen.many[PAUSE_MARKED] == 1, "a cycle has nothing to evacuate");
+    for (const quiet *heap : {&whole, &cut, &full, &marked}) {
+        std::printf("C++: %s\n", pauses_told(&heap->seen).text);
+    }
+}
+
 } // namespace
 
 int main() {
     lists();
     counter();
     refusals();
-    std::puts("C++: lists, a counter, and each refusal");
+    pauses_by_kind();
+    std::puts("C++: lists, a counter, each refusal, and each kind of pause");
 }

@@ -3,7 +3,8 @@
  *
  * Everything else of the Lisp is written against the functions below. Which memory they are of is chosen when the Lisp is
  * compiled: the heap of covremuj.h, or, to measure beside it, C's malloc with nothing ever freed (-DLISP_OVER_MALLOC), or
- * Boehm's collector (-DLISP_OVER_BOEHM). Each file gives the same names. With -DLISP_COUNTING, and malloc, calls are counted.
+ * Boehm's collector (-DLISP_OVER_BOEHM). Each file gives the same names. With -DLISP_COUNTING, and malloc, calls are counted; with
+ * -DLISP_COUNTING_PAUSES, and the heap, pauses are, for which the control is looked at after each of its steps.
  *
  *     memory_heap, memory_seat                          a memory; what one thread works through
  *     memory_new(seat, dst, refs, nums)                 a memory_made
@@ -49,7 +50,11 @@ typedef struct memory_counts {
     uint64_t words;        /* of 8 bytes that they took in the heap */
     uint64_t full_answers; /* allocations that were answered that there is no room, each of which a full collection had found */
     uint64_t commands;     /* calls of the functions above, where they are counted */
-    uint64_t collections;  /* of Boehm's collector; the heap does not tell its own */
+    uint64_t collections;  /* that have ended: of Boehm's collector, and of the heap where its pauses are counted; and of the heap's: */
+    uint64_t whole;        /* cycles all of whose work was done beside the mutators */
+    uint64_t marked;       /* cycles that had nothing to evacuate */
+    uint64_t cut;          /* cycles that a pause has cut short */
+    uint64_t full;         /* full collections, while no cycle ran */
 } memory_counts;
 
 #if defined LISP_OVER_MALLOC || defined LISP_OVER_BOEHM

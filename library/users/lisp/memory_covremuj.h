@@ -6,6 +6,19 @@
 
 #include <stdalign.h>
 
+#ifdef LISP_COUNTING_PAUSES
+#include "../common/pauses.h"
+
+#include <pthread.h>
+
+/* The thread of the control, and the pauses that it has made. */
+typedef struct memory_collector {
+    alignas(64) cvm_seat seat;
+    pauses pauses;
+    pthread_t thread;
+} memory_collector;
+#endif
+
 /* A mutator's seat, on a cache line of its own. */
 typedef struct memory_seat {
     alignas(64) cvm_seat at;
@@ -18,6 +31,9 @@ typedef struct memory_heap {
     memory_seat mutators[CVM_MOST_MUTATORS];
     cvm_seat seats[CVM_MOST_SEATS]; /* those of the helpers and the control, in their places */
     cvm_workers *workers;           /* the threads that collect */
+#ifdef LISP_COUNTING_PAUSES
+    memory_collector collector; /* and that of the control */
+#endif
 } memory_heap;
 
 const char *memory_open(memory_heap *heap, const memory_sizes *sizes);

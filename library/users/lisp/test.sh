@@ -12,7 +12,7 @@ LISP="values stack text symbols reader compiler evaluator primitives printer ses
 
 compile() {
     # shellcheck disable=SC2086
-    $CC -std=c11 -Wall -Wextra -Wpedantic -Werror ${CFLAGS-} -I"$here" -c "$here/$1.c" -o "$build/lisp_$1.o"
+    $CC -std=c11 -Wall -Wextra -Wpedantic -Werror -DLISP_COUNTING_PAUSES ${CFLAGS-} -I"$here" -c "$here/$1.c" -o "$build/lisp_$1.o"
 }
 
 # The Lisp with one more file, as a program of that name.

@@ -3,6 +3,8 @@
  * and heaps without room.
  *
  * usage: test_lisp FOLDER, where the programs are, each with what it has to print
+ *
+ * It is compiled with -DLISP_COUNTING_PAUSES.
  */
 #include "team.h"
 
@@ -91,15 +93,26 @@ static char *read_file(const char *folder, const char *name, const char *end) {
     return text;
 }
 
-/* What is told of a heap. A program that was to use its heap up many times has to. */
+/*
+ * What is told of a heap. A program that was to use its heap up many times has to. It gets all words of the heap back at most once by a collection,
+ * at most twice by one that was cut short, which may be followed by a full one in the same pause, and at most once by one that has not ended.
+ */
 static void count(const trial *of, const memory_counts *told) {
     uint64_t turns = told->words / (of->regions * of->words);
     if (turns < of->turns) {
         give_up("it does not take that many times the words of its heap", of->program, NULL);
     }
+    if (told->collections + told->cut + 2 < turns) {
+        give_up("it takes the words of its heap more often than they are given back", of->program, NULL);
+    }
     turned += turns;
     counted.made += told->made;
     counted.full_answers += told->full_answers;
+    counted.collections += told->collections;
+    counted.whole += told->whole;
+    counted.marked += told->marked;
+    counted.cut += told->cut;
+    counted.full += told->full;
 }
 
 /* Runs a text on a heap; each thread has to print the same. */
@@ -169,11 +182,12 @@ static void try_no_room(void) {
     }
 }
 
-/* The library does not tell its collections. Each time that the words of a heap are taken anew is one at least, and so is an answer that there is no room. */
 static void tell(void) {
     printf("lisp: %d programs on small heaps, %d wrong texts: %llu objects, %llu times the words of their heaps, %llu allocations without room; "
-           "collections are not told\n",
-           (int)TRIALS, (int)WRONGS, (unsigned long long)counted.made, (unsigned long long)turned, (unsigned long long)counted.full_answers);
+           "%llu collections (%llu cycles ended whole, %llu with nothing to evacuate, %llu cut short; %llu full collections)\n",
+           (int)TRIALS, (int)WRONGS, (unsigned long long)counted.made, (unsigned long long)turned, (unsigned long long)counted.full_answers,
+           (unsigned long long)counted.collections, (unsigned long long)counted.whole, (unsigned long long)counted.marked,
+           (unsigned long long)counted.cut, (unsigned long long)counted.full);
 }
 
 int main(int argc, char **argv) {

@@ -8,7 +8,6 @@
  * middle of other calls.
  */
 #include "../common/crew.h"
-#include "../common/pauses.h"
 
 enum { TASKS = 3, HELPERS = 2, SEATS = TASKS + HELPERS + 1, MOST = 4096, LONGEST = 8, STACK = 1, NODE = 2 };
 
@@ -178,6 +177,119 @@ static void try_new(void) {
     MUST(cvm_close(&seats[0]) == CVM_DONE && cvm_close(&seats[1]) == CVM_DONE);
 }
 
+/*
+ * A heap of one mutator and the control, which makes steps only here, so that each pause is known. Of nine objects that fill a region one
+ * is kept.
+ */
+typedef struct quiet {
+    cvm_seat seats[2];
+    pauses pauses;
+} quiet;
+
+static void open_quiet(quiet *heap, uint32_t regions_used) {
+    cvm_config config = {.regions = 8, .region_words = 64, .mutators = 1, .helpers = 0, .reserve = 0};
+    *heap = (quiet){.pauses = pauses_none()};
+    MUST(cvm_open(&config, heap->seats, 2) == CVM_DONE);
+    for (uint32_t i = 0; i < 9 * regions_used; i++) {
+        MUST(cvm_new(&heap->seats[0], 1, 2, 2) == CVM_REF);
+        MUST(i % 9 != 0 || cvm_set(&heap->seats[0], 0, i / 9, 1) == CVM_OK);
+    }
+}
+
+static void close_quiet(quiet *heap) {
+    MUST(cvm_close(&heap->seats[0]) == CVM_DONE && cvm_close(&heap->seats[1]) == CVM_DONE);
+}
+
+/* Gives the control steps until it stands outside of a pause, in this phase. */
+static void work_until(quiet *heap, cvm_phase phase) {
+    do {
+        MUST(!cvm_is_refusal(pauses_work(&heap->pauses, &heap->seats[1], 1)));
+    } while (heap->pauses.phase != phase || strcmp(heap->pauses.place, "I0") != 0);
+}
+
+/* Asks for a cycle. */
+static void ask(quiet *heap) {
+    MUST(cvm_gc(&heap->seats[0]) == CVM_OK);
+}
+
+/* Makes objects, as large as can be, until one waits for room. */
+static void make_until_it_waits(quiet *heap) {
+    cvm_status said = CVM_REF;
+    while (said == CVM_REF) {
+        said = cvm_try_new(&heap->seats[0], 1, 16, 16);
+    }
+    MUST(said == CVM_AGAIN);
+}
+
+/* The pauses have been these, and the call that has waited is answered. */
+static void made(quiet *heap, uint64_t all, pause_kind kind, int has_waited) {
+    cvm_value value;
+    MUST(pauses_all(&heap->pauses) == all && heap->pauses.many[kind] == 1);
+    MUST(!has_waited || cvm_wait(&heap->seats[0], &value) == CVM_REF);
+}
+
+/* A cycle goes through its phases. */
+static void whole(void) {
+    quiet heap;
+    open_quiet(&heap, 3);
+    ask(&heap);
+    for (int phase = 1; phase <= 3; phase++) {
+        work_until(&heap, (cvm_phase)phase);
+        MUST(pauses_all(&heap.pauses) == (uint64_t)phase);
+    }
+    work_until(&heap, CVM_NO_CYCLE);
+    MUST(heap.pauses.many[PAUSE_BEGINS] == 1 && heap.pauses.many[PAUSE_EVACUATION] == 1 && heap.pauses.many[PAUSE_UPDATING] == 1);
+    made(&heap, 4, PAUSE_WHOLE, 0);
+    close_quiet(&heap);
+}
+
+/* A cycle has nothing to evacuate, and ends with its marking. */
+static void marked(void) {
+    quiet heap;
+    open_quiet(&heap, 0);
+    ask(&heap);
+    work_until(&heap, CVM_MARKING);
+    work_until(&heap, CVM_NO_CYCLE);
+    made(&heap, 2, PAUSE_MARKED, 0);
+    close_quiet(&heap);
+}
+
+/* An object finds no room in a phase of a cycle, which a pause cuts short. */
+static void cut(cvm_phase phase) {
+    quiet heap;
+    open_quiet(&heap, 3);
+    ask(&heap);
+    for (int before = 1; before <= (int)phase; before++) {
+        work_until(&heap, (cvm_phase)before);
+    }
+    make_until_it_waits(&heap);
+    work_until(&heap, CVM_NO_CYCLE);
+    made(&heap, (uint64_t)phase + 1, PAUSE_CUT, 1);
+    close_quiet(&heap);
+}
+
+/* An object finds no room while no cycle runs: the heap is collected in full. */
+static void full(void) {
+    quiet heap;
+    open_quiet(&heap, 3);
+    make_until_it_waits(&heap);
+    while (pauses_all(&heap.pauses) == 0) {
+        work_until(&heap, CVM_NO_CYCLE);
+    }
+    made(&heap, 1, PAUSE_FULL, 1);
+    close_quiet(&heap);
+}
+
+/* Each kind of pause. */
+static void kinds(void) {
+    whole();
+    marked();
+    cut(CVM_MARKING);
+    cut(CVM_EVACUATING);
+    cut(CVM_UPDATING);
+    full();
+}
+
 /* Makes so many objects, and waits for others where there is no room; the workers' own seats are empty where threads have them. */
 static void make_many(cvm_seat *seats, uint64_t many, int by_hand) {
     cvm_value value;
@@ -211,7 +323,9 @@ static void stop_and_go_on(void) {
 int main(int count, char **words) {
     uint64_t turns = count > 1 ? strtoull(words[1], NULL, 10) : 400000;
     static task tasks[TASKS];
+    pauses seen = pauses_none();
     try_new();
+    kinds();
     stop_and_go_on();
     for (uint64_t seed = 1; seed <= 3; seed++) {
         cvm_config config = {.regions = 8, .region_words = 64, .mutators = TASKS, .helpers = HELPERS, .reserve = 1};
@@ -221,7 +335,7 @@ int main(int count, char **words) {
         for (size_t i = 0; i < TASKS; i++) {
             tasks[i] = (task){.seat = &seats[i]};
         }
-        pauses pauses = pauses_of(&config);
+        pauses pauses = pauses_none();
         loop(tasks, seats, &pauses, turns, &random);
         end(tasks, seats);
         for (size_t i = 0; i < TASKS; i++) {
@@ -229,8 +343,10 @@ int main(int count, char **words) {
             waits += tasks[i].waits;
             fulls += tasks[i].fulls;
         }
-        printf("loop: seed %llu: %llu calls in pieces, %llu pauses, %llu turns that had to wait, %llu answers that the heap is full\n",
-               (unsigned long long)seed, (unsigned long long)calls, (unsigned long long)pauses.many, (unsigned long long)waits, (unsigned long long)fulls);
+        printf("loop: seed %llu: %llu calls in pieces, %s, %llu turns that had to wait, %llu answers that the heap is full\n",
+               (unsigned long long)seed, (unsigned long long)calls, pauses_told(&pauses).text, (unsigned long long)waits, (unsigned long long)fulls);
+        pauses_add(&seen, pauses.many);
     }
+    MUST(turns < 30000 || pauses_have_each_kind(&seen));
     return 0;
 }

@@ -12,7 +12,7 @@
 #include <stdatomic.h>
 #include <string.h>
 
-enum { OWN = 24, SHARED = 4, TOP = 1, ROOM = 2, HUB = 0, FIELD = 5 };
+enum { OWN = 24, SHARED = 4, TOP = 1, ROOM = 2, HUB = 0, FIELD = 5, EVERY = 64 };
 
 typedef struct round {
     size_t threads;
@@ -90,8 +90,12 @@ static void check_add(const map *map, uint64_t i, round *round) {
     atomic_fetch_add(&round->adds, 1);
 }
 
+/* An operation; now and then a thread waits for a cycle before it, which runs beside the operations of the others. */
 static void operate(const map *map, model *model, uint64_t random, round *round) {
     uint64_t i = (random >> 8) % OWN;
+    if ((random >> 24) % EVERY == 0) {
+        crew_await_cycle(map->seat);
+    }
     switch (random % 8) {
     case 0:
     case 1:
@@ -161,22 +165,30 @@ static void play(cvm_seat *seat, size_t thread, void *context) {
     map_leave(&map);
 }
 
-/* One thread alone puts keys until the heap is full, finds all of them, and takes them out again, three times. */
+/* Finds every other key from the first on, and takes it out. */
+static void take_out(const map *map, uint64_t first, uint64_t many, uint64_t time) {
+    uint64_t value = 0;
+    for (uint64_t key = first; key < many; key += 2) {
+        MUST(map_get(map, key, &value) == MAP_FOUND && value == key + time);
+        MUST(map_remove(map, key, &value) == MAP_FOUND && value == key + time);
+        MUST(map_get(map, key, &value) == MAP_NONE);
+    }
+}
+
+/* One thread alone puts keys until the heap is full, finds all of them, and takes them out again, with a cycle in the middle, three times. */
 static void fill(cvm_seat *seat, size_t thread, void *context) {
     map map = {seat, TOP, ROOM};
     uint64_t value = 0;
     MUST(thread == 0 && map_make(&map) == MAP_NONE);
     for (uint64_t time = 0; time < 3; time++) {
-        uint64_t many = 0, key;
+        uint64_t many = 0;
         while (map_put(&map, many, many + time, &value) == MAP_NONE) {
             many++;
         }
         MUST(many > 0 && map_get(&map, many, &value) == MAP_NONE); /* the one that found no room is not there */
-        for (key = 0; key < many; key++) {
-            MUST(map_get(&map, key, &value) == MAP_FOUND && value == key + time);
-            MUST(map_remove(&map, key, &value) == MAP_FOUND && value == key + time);
-            MUST(map_get(&map, key, &value) == MAP_NONE);
-        }
+        take_out(&map, 0, many, time);
+        crew_await_cycle(seat);
+        take_out(&map, 1, many, time);
         MUST(map_count(&map, &value) == MAP_FOUND && value == 0);
         *(uint64_t *)context += many;
     }
@@ -188,14 +200,16 @@ int main(int count, char **words) {
     cvm_config alone = {.regions = 8, .region_words = 64, .mutators = 1, .helpers = 1, .reserve = 1};
     uint64_t many = 0;
     crew_counts filled = crew_run(&alone, fill, &many);
-    printf("map: one thread put %llu keys, three times until the heap was full; %llu pauses, %llu calls waited\n", (unsigned long long)many,
-           (unsigned long long)filled.pauses, (unsigned long long)filled.waits);
+    MUST(pauses_that_end(&filled.pauses) >= 3 + filled.pauses.many[PAUSE_FULL]); /* the cycles that it has awaited */
+    MUST(pauses_that_end(&filled.pauses) >= 6);                                  /* and one pause for each answer that the heap is full */
+    printf("map: one thread put %llu keys, three times until the heap was full; %s, %llu calls waited\n", (unsigned long long)many,
+           pauses_told(&filled.pauses).text, (unsigned long long)filled.waits);
     for (size_t threads = 1; threads <= CVM_MOST_MUTATORS; threads++) {
         cvm_config config = {.regions = 6 + 4 * threads, .region_words = 64, .mutators = threads, .helpers = threads % 3, .reserve = 2};
         round round = {.threads = threads, .seed = threads, .operations = operations};
         crew_counts did = crew_run(&config, play, &round);
-        printf("map: %zu threads, %u operations each, on %zu words: %llu objects made, %llu pauses, %llu calls waited, %llu found the heap full\n", threads,
-               operations, config.regions * config.region_words, (unsigned long long)did.objects, (unsigned long long)did.pauses,
+        printf("map: %zu threads, %u operations each, on %zu words: %llu objects made, %s, %llu calls waited, %llu found the heap full\n", threads,
+               operations, config.regions * config.region_words, (unsigned long long)did.objects, pauses_told(&did.pauses).text,
                (unsigned long long)did.waits, atomic_load(&round.fulls));
     }
     return 0;

@@ -73,7 +73,7 @@ static void all_refuse(cvm_seat *seat, cvm_status why) {
 
 static void empty_seats(void) {
     cvm_seat none = {0};
-    cvm_state state = {1, 2, 3, 4, 5}, was = state;
+    cvm_state state = {1, 2, 3, 4, 5, 6, "7"}, was = state;
     all_refuse(&none, CVM_NOT_OPEN);
     MUST(cvm_work(&none, 10) == CVM_NOT_OPEN);
     MUST(cvm_look(&none, &state) == CVM_NOT_OPEN);
@@ -99,11 +99,17 @@ static int is_state(cvm_seat *seat, uint64_t number, cvm_kind kind, cvm_activity
            state.left == left;
 }
 
+static int stands(cvm_seat *seat, uint64_t phase, const char *place) {
+    cvm_state state;
+    return cvm_look(seat, &state) == CVM_DONE && state.phase == phase && strcmp(state.place, place) == 0;
+}
+
 static void looks(cvm_seat *seats) {
     MUST(is_state(&seats[0], 1, CVM_MUTATOR, CVM_FREE, 0));
     MUST(is_state(&seats[1], 2, CVM_MUTATOR, CVM_FREE, 0));
     MUST(is_state(&seats[HELPER], 3, CVM_HELPER, CVM_WORKS, 0));
     MUST(is_state(&seats[CONTROL], 4, CVM_CONTROL, CVM_WORKS, 0));
+    MUST(stands(&seats[0], CVM_NO_CYCLE, "") && stands(&seats[HELPER], CVM_NO_CYCLE, "H0") && stands(&seats[CONTROL], CVM_NO_CYCLE, "I0"));
 }
 
 /* ---- Commands out of range: each argument in turn, one above its largest value, and the largest number of all ---- */
@@ -169,9 +175,9 @@ static void busy(cvm_seat *seat) {
     cvm_value value = UNTOUCHED;
     MUST(cvm_go(seat, 10, &value) == CVM_IDLE);
     MUST(cvm_begin(seat, CVM_DROP, 5, 0, 0, 0, 0) == CVM_DONE);
-    MUST(is_state(seat, 1, CVM_MUTATOR, CVM_WORKS, 0));
-    MUST(cvm_go(seat, 0, &value) == CVM_MORE);
-    MUST(cvm_go(seat, 1, &value) == CVM_MORE);
+    MUST(is_state(seat, 1, CVM_MUTATOR, CVM_WORKS, 0) && stands(seat, CVM_NO_CYCLE, "E1"));
+    MUST(cvm_go(seat, 0, &value) == CVM_MORE && stands(seat, CVM_NO_CYCLE, "E1"));
+    MUST(cvm_go(seat, 1, &value) == CVM_MORE && stands(seat, CVM_NO_CYCLE, "E2"));
     MUST(cvm_begin(seat, CVM_GC, 0, 0, 0, 0, 0) == CVM_BUSY);
     MUST(cvm_drop(seat, 1) == CVM_BUSY);
     MUST(cvm_end(seat) == CVM_BUSY);
@@ -252,7 +258,7 @@ static void ends(cvm_seat *seats) {
         ended = (cvm_work(&seats[CONTROL], 100) == CVM_ENDED) + (cvm_work(&seats[HELPER], 100) == CVM_ENDED);
     }
     MUST(cvm_work(&seats[CONTROL], 0) == CVM_ENDED);
-    MUST(is_state(&seats[CONTROL], 4, CVM_CONTROL, CVM_IS_OVER, 0));
+    MUST(is_state(&seats[CONTROL], 4, CVM_CONTROL, CVM_IS_OVER, 0) && stands(&seats[CONTROL], CVM_NO_CYCLE, ""));
     MUST(is_state(&seats[HELPER], 3, CVM_HELPER, CVM_IS_OVER, 0));
 }
 

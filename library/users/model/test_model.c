@@ -25,6 +25,7 @@ typedef struct graph {
     uint32_t roots[MUTATORS][CVM_ROOTS];
     uint32_t pins[MUTATORS][CVM_PINS];
     uint64_t places[MUTATORS][CVM_PINS];
+    pauses pauses; /* of the heap beside it */
 } graph;
 
 /* A command, and what it was answered. */
@@ -38,6 +39,7 @@ typedef struct call {
 
 static void begin_graph(graph *graph) {
     graph->many = HUB;
+    graph->pauses = pauses_none();
     graph->objects[HUB] = (object){.count = 1, .references = CVM_MOST_FIELDS};
     for (size_t i = 0; i < MUTATORS; i++) {
         graph->made[i] = 0;
@@ -184,12 +186,20 @@ static call random_call(uint64_t *random) {
     return call;
 }
 
+/* Helper and control make some steps. */
+static void work(cvm_seat *seats, graph *graph, uint32_t helper, uint32_t control) {
+    MUST(!cvm_is_refusal(cvm_work(&seats[MUTATORS], helper)));
+    MUST(!cvm_is_refusal(pauses_work(&graph->pauses, &seats[MUTATORS + 1], control)));
+}
+
 /* One call of a mutator, on the heap and on the graph. */
 static cvm_status call_both(cvm_seat *seats, size_t thread, graph *graph, call *call) {
     cvm_value answer;
     cvm_status said = cvm_begin(&seats[thread], call->op, call->a, call->b, call->c, call->d, call->value);
     MUST(said == CVM_DONE);
-    said = cvm_wait_working(&seats[thread], seats + MUTATORS, SEATS - MUTATORS, &answer);
+    while ((said = cvm_poll(&seats[thread], &answer)) == CVM_AGAIN) {
+        work(seats, graph, 64, 64);
+    }
     if (said == CVM_FULL && call->op == CVM_NEW) {
         return said;
     }
@@ -215,14 +225,7 @@ static void let_go(cvm_seat *seats, size_t thread, graph *graph) {
     }
 }
 
-/* Helper and control make some steps. */
-static void work(cvm_seat *seats, uint64_t random) {
-    for (size_t i = MUTATORS; i < SEATS; i++) {
-        MUST(!cvm_is_refusal(cvm_work(&seats[i], (uint32_t)(random >> (8 * (i - MUTATORS))) % 64)));
-    }
-}
-
-static uint64_t run(uint64_t seed, uint64_t calls, uint64_t *fulls) {
+static uint64_t run(uint64_t seed, uint64_t calls, uint64_t *fulls, pauses *pauses) {
     static graph graph;
     cvm_config config = {.regions = REGIONS, .region_words = REGION_WORDS, .mutators = MUTATORS, .helpers = 1, .reserve = 1};
     cvm_seat seats[SEATS] = {{0}};
@@ -236,8 +239,10 @@ static uint64_t run(uint64_t seed, uint64_t calls, uint64_t *fulls) {
             ++*fulls;
             let_go(seats, thread, &graph);
         }
-        work(seats, random_next(&random));
+        uint64_t steps = random_next(&random);
+        work(seats, &graph, (uint32_t)steps % 64, (uint32_t)(steps >> 8) % 64);
     }
+    pauses_add(pauses, graph.pauses.many);
     for (size_t i = 0; i < SEATS; i++) {
         made += i < MUTATORS ? graph.made[i] : 0;
         MUST(cvm_close(&seats[i]) == CVM_DONE);
@@ -247,10 +252,12 @@ static uint64_t run(uint64_t seed, uint64_t calls, uint64_t *fulls) {
 
 int main(int count, char **words) {
     uint64_t calls = count > 1 ? strtoull(words[1], NULL, 10) : 100000, made = 0, fulls = 0;
+    pauses pauses = pauses_none();
     for (uint64_t seed = 1; seed <= 3; seed++) {
-        made += run(seed, calls, &fulls);
+        made += run(seed, calls, &fulls, &pauses);
     }
-    printf("model: %llu random calls with the replies of a graph; %llu objects, %llu answers that the heap is full\n", (unsigned long long)(3 * calls),
-           (unsigned long long)made, (unsigned long long)fulls);
+    MUST(calls < 30000 || pauses_have_each_kind(&pauses));
+    printf("model: %llu random calls with the replies of a graph; %llu objects, %s, %llu answers that the heap is full\n",
+           (unsigned long long)(3 * calls), (unsigned long long)made, pauses_told(&pauses).text, (unsigned long long)fulls);
     return 0;
 }

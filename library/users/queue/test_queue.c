@@ -10,7 +10,7 @@
 
 #include <stdatomic.h>
 
-enum { HUB = 0, ANCHOR = 1, ROOM = 2, FIELD = 9, MOST = 1 << 16, WAITING = 8 };
+enum { HUB = 0, ANCHOR = 1, ROOM = 2, FIELD = 9, MOST = 1 << 16, WAITING = 8, EVERY = 64 };
 
 typedef struct round {
     size_t threads;
@@ -77,10 +77,17 @@ static int take(const queue *queue, round *round, uint64_t *last) {
     return 1;
 }
 
-/* Two operations in random order; no thread puts more where many numbers wait. */
+/*
+ * Two operations in random order; no thread puts more where many numbers wait. Now and then a thread waits for a cycle first, which runs beside the
+ * operations of the others.
+ */
 static void operate(const queue *queue, size_t thread, round *round, uint64_t *random, uint64_t *last) {
-    uint64_t waiting = atomic_load(&round->put) - atomic_load(&round->got);
-    if (random_next(random) % 2 == 0 && waiting < WAITING * round->threads) {
+    uint64_t waiting = atomic_load(&round->put) - atomic_load(&round->got), r = random_next(random);
+    if ((r >> 8) % EVERY == 0) {
+        queue_let_go(queue);
+        crew_await_cycle(queue->seat);
+    }
+    if (r % 2 == 0 && waiting < WAITING * round->threads) {
         put(queue, thread, round);
     } else {
         take(queue, round, last);
@@ -111,7 +118,7 @@ static void check_all_came(const round *round) {
     }
 }
 
-/* One thread against an array: until the heap is full, and then until it is empty, several times. */
+/* One thread against an array: until the heap is full, and then until it is empty, with a cycle in the middle, several times. */
 static void play_alone(cvm_seat *seat, size_t thread, void *context) {
     queue queue = {seat, ANCHOR, ROOM};
     uint64_t next = 0, first = 0, number = 0;
@@ -123,7 +130,11 @@ static void play_alone(cvm_seat *seat, size_t thread, void *context) {
         }
         MUST(next > first);
         queue_let_go(&queue);
-        for (; first < next; first++) {
+        for (uint64_t half = (first + next) / 2; first < next; first++) {
+            if (first == half) {
+                queue_let_go(&queue);
+                crew_await_cycle(seat);
+            }
             MUST(queue_take(&queue, &number) == QUEUE_DONE && number == first);
         }
         MUST(queue_take(&queue, &number) == QUEUE_EMPTY);
@@ -138,8 +149,10 @@ int main(int count, char **words) {
     uint64_t put_alone = 0;
     MUST(operations <= MOST);
     crew_counts filled = crew_run(&alone, play_alone, &put_alone);
-    printf("queue: one thread put and got %llu numbers, three times until the heap was full; %llu pauses\n", (unsigned long long)put_alone,
-           (unsigned long long)filled.pauses);
+    MUST(pauses_that_end(&filled.pauses) >= 3 + filled.pauses.many[PAUSE_FULL]); /* the cycles that it has awaited */
+    MUST(pauses_that_end(&filled.pauses) >= 6);                                  /* and one pause for each answer that the heap is full */
+    printf("queue: one thread put and got %llu numbers, three times until the heap was full; %s\n", (unsigned long long)put_alone,
+           pauses_told(&filled.pauses).text);
     for (size_t threads = 1; threads <= CVM_MOST_MUTATORS; threads++) {
         cvm_config config = {.regions = 6 + 3 * threads, .region_words = 64, .mutators = threads, .helpers = threads % 2, .reserve = 2};
         round *round = calloc(1, sizeof *round);
@@ -149,10 +162,9 @@ int main(int count, char **words) {
         crew_counts did = crew_run(&config, play, round);
         MUST(atomic_load(&round->put) == atomic_load(&round->got));
         check_all_came(round);
-        printf("queue: %zu threads put and got %llu numbers, on %zu words: %llu objects made, %llu pauses, %llu calls waited, %llu found the heap full\n", threads,
-               atomic_load(&round->put), config.regions * config.region_words, (unsigned long long)did.objects, (unsigned long long)did.pauses,
-               (unsigned long long)did.waits,
-               atomic_load(&round->fulls));
+        printf("queue: %zu threads put and got %llu numbers, on %zu words: %llu objects made, %s, %llu calls waited, %llu found the heap full\n",
+               threads, atomic_load(&round->put), config.regions * config.region_words, (unsigned long long)did.objects, pauses_told(&did.pauses).text,
+               (unsigned long long)did.waits, atomic_load(&round->fulls));
         free(round);
     }
     return 0;

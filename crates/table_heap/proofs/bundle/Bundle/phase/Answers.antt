@@ -1,0 +1,19 @@
+use Rattle.std.proofs.Common.{sym, ap, ◌∙◌, arith}
+use Rattle.heap_machines.specs.Shown.{shown, no_machine}
+use Rattle.heap_machines.specs.Roles.{phase_in}
+use Rattle.table_heap.proofs.MachineUnder.{within, read_here, never_none, shows_as}
+use Rattle.table_heap.proofs.bundle.Bundle.phase.Goals as goal
+
+pub index-requires : goal.index-requires
+index-requires c = let inside = within shown c.args.self.now.machines.items c.args.number c.requires.here in omega arith
+
+pub unreachable-requires : goal.unreachable-requires
+unreachable-requires c = never_none shown c.args.self.now.machines.items c.args.number c.index.result.now c.requires.here c.index.ensures c.in_default.is
+
+pub returns : goal.returns
+returns c =
+    let b = c.args.self.now in
+    let m = c.in-Some.machine in
+    let inside = within shown b.machines.items c.args.number c.requires.here in
+    let here = read_here shown b.machines.items c.args.number c.index.result.now m inside c.index.ensures c.in-Some.is in
+    c.phase.ensures ∙ sym (ap phase_in (shows_as shown b.machines.items c.args.number m no_machine here))

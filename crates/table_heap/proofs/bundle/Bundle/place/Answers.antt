@@ -1,0 +1,32 @@
+use Rattle.std.proofs.Common.{sym, ap, ◌∙◌, arith}
+use Rattle.shen_graph.specs.declared.order.Order.TheVariants.{Nothing}
+use Rattle.heap_machines.specs.Shown.{shown, order_of, no_machine}
+use Rattle.step_core.specs.Machines.{takes_of, place_in}
+use Rattle.table_heap.specs.State.{order_at}
+use Rattle.table_heap.proofs.MachineUnder.{within, read_here, never_none, shows_as}
+use Rattle.table_heap.proofs.bundle.Bundle.place.Goals as goal
+
+pub index-requires : goal.index-requires
+index-requires c = let inside = within shown c.args.self.now.machines.items c.args.number c.requires.here in omega arith
+
+pub unreachable-requires : goal.unreachable-requires
+unreachable-requires c = never_none shown c.args.self.now.machines.items c.args.number c.index.result.now c.requires.here c.index.ensures c.in_default.is
+
+pub place-requires : goal.place-requires
+place-requires c =
+    let b = c.args.self.now in
+    let m = c.in-Some.machine in
+    let inside = within shown b.machines.items c.args.number c.requires.here in
+    let here = read_here shown b.machines.items c.args.number c.index.result.now m inside c.index.ensures c.in-Some.is in
+    sym (ap (λ x. takes_of x (order_at b c.args.number)) (shows_as shown b.machines.items c.args.number m no_machine here)
+    ∙ ap (takes_of (shown m)) (shows_as order_of b.machines.items c.args.number m Nothing here)) ∙ c.requires.turn
+
+pub returns : goal.returns
+returns c =
+    let b = c.args.self.now in
+    let m = c.in-Some.machine in
+    let inside = within shown b.machines.items c.args.number c.requires.here in
+    let here = read_here shown b.machines.items c.args.number c.index.result.now m inside c.index.ensures c.in-Some.is in
+    c.place.ensures
+    ∙ sym (ap (λ x. place_in (order_at b c.args.number) x) (shows_as shown b.machines.items c.args.number m no_machine here)
+    ∙ ap (λ o. place_in o (shown m)) (shows_as order_of b.machines.items c.args.number m Nothing here))
