@@ -11,6 +11,7 @@ pub mod Running
 pub mod Turning
 mod Calling
 pub mod NamesLeft
+mod NoOrder
 pub mod DriverLemmas
 pub mod AtDriver
 pub mod Counting

@@ -7,7 +7,7 @@ ghost use Rattle.table_heap.specs.Driving.{mutators_below, next_driven, CanDrive
 use crate::bundle::Bundle;
 use crate::gate::Gate;
 use crate::heap::Heap;
-use crate::run::{Round, back_off};
+use crate::run::Round;
 use crossbeam_utils::Backoff;
 use heap_machines::Stepped;
 use shen_graph::{Command, Driver, Reply};
@@ -117,8 +117,8 @@ impl Bundle {
     }
 
     /// Runs the bundle's mutators by drivers, one for each in the order of their numbers, until all machines of the bundle are
-    /// idle. It is as `run`, where each mutator between two calls begins what its driver gives next, ends where that is `None`,
-    /// and hands each reply to its driver.
+    /// idle. It is as `run`, also in how the thread backs off and parks, where each mutator between two calls begins what its driver
+    /// gives next, ends where that is `None`, and hands each reply to its driver.
     pub fn drive<R: Wait, D: Driver, G: Gate>(
         &mut self,
         rt: &R,
@@ -137,11 +137,15 @@ impl Bundle {
         let backoff = Backoff::new();
         let mut moving = 0;
         for _ in rt.forever() {
+            let ends = self.ends_pause();
             let said = self.drive_round(heap, drivers, gate);
             if let Round::Idle = said {
                 return;
             }
-            moving = back_off(&backoff, moving, said);
+            if ends {
+                heap.wake();
+            }
+            moving = self.back_off(rt, heap, &backoff, moving, said);
             self.drive_through_image(heap, drivers, gate);
         }
     }

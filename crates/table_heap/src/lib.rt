@@ -9,6 +9,7 @@ mod gate;
 mod heap;
 mod laws;
 mod machines;
+mod parking;
 mod run;
 mod sharing;
 

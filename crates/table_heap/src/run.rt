@@ -47,23 +47,37 @@ impl Round {
     }
 }
 
-// Backs off after a round that waits, and ends that once several rounds in a row went on. How many they are with this one.
-pub(crate) fn back_off(backoff: &Backoff, moving: u32, round: Round) -> u32 {
-    match round {
-        Round::Idle | Round::Waiting => {
-            backoff.snooze();
-            0
-        }
-        Round::Moving => {
-            if moving >= WORKING {
-                backoff.reset();
+impl Bundle {
+    // Backs off after a round that waits, and ends that once several rounds in a row went on. How many they are with this one. Who
+    // has backed off for long, and waits for nothing but the end of a pause, parks.
+    pub(crate) fn back_off<R: Wait>(
+        &self,
+        rt: &R,
+        heap: &Heap,
+        backoff: &Backoff,
+        moving: u32,
+        round: Round,
+    ) -> u32
+        requires { HasNoOrder self.now }
+    {
+        match round {
+            Round::Idle | Round::Waiting => {
+                if backoff.is_completed() && self.awaits_pause_end() {
+                    heap.park(rt);
+                } else {
+                    backoff.snooze();
+                }
+                0
             }
-            moving.saturating_add(1)
+            Round::Moving => {
+                if moving >= WORKING {
+                    backoff.reset();
+                }
+                moving.saturating_add(1)
+            }
         }
     }
-}
 
-impl Bundle {
     // The next command of the machine's script, if it is a mutator.
     fn next_command(&self, work: &Work, number: usize) -> Option<Command>
         requires here { HasMachine self.now number }
@@ -194,9 +208,11 @@ impl Bundle {
     /// In a round each machine that is not idle makes one step, in the order of their numbers, when it has passed the gate; the
     /// control then goes on from word to word of its image, by steps that pass the gate too. A mutator between two calls begins the next command of its script, and ends where there is none; the control ends when
     /// all mutators of the heap have, and a helper when the control has. After a round in which every step waits for another
-    /// machine the thread backs off, each time for longer, until several rounds in a row went on. What a step makes grey is added to
-    /// the bundle's hints, and a helper or the control that is about to claim a unit of marking takes the latest of these, or one of
-    /// another bundle. Memory is taken for hints alone, and a hint for which there is none is dropped.
+    /// machine the thread backs off, each time for longer, until several rounds in a row went on. Once it has
+    /// backed off eleven times it parks instead, for two milliseconds at most, wherever all its machines that are not idle wait for the end
+    /// of a pause; the thread of the control wakes all who park, behind the round that ends the pause. Neither is an access of the heap's
+    /// table. What a step makes grey is added to the bundle's hints, and a helper or the control that is about to claim a unit of
+    /// marking takes the latest of these, or one of another bundle. Memory is taken for hints alone, and a hint for which there is none is dropped.
     pub fn run<R: Wait, G: Gate>(&mut self, rt: &R, heap: &Heap, work: &mut Work, gate: &G)
         requires heap { IsBundleOf self.old heap.now }
         requires start { CanStart self.old work.old }
@@ -209,11 +225,15 @@ impl Bundle {
         let backoff = Backoff::new();
         let mut moving = 0;
         for _ in rt.forever() {
+            let ends = self.ends_pause();
             let said = self.round(heap, work, gate);
             if let Round::Idle = said {
                 return;
             }
-            moving = back_off(&backoff, moving, said);
+            if ends {
+                heap.wake();
+            }
+            moving = self.back_off(rt, heap, &backoff, moving, said);
             self.go_through_image(heap, work, gate);
         }
     }

@@ -27,3 +27,6 @@ loop-preserved g c =
 
 pub drive_through_image-requires-clause-driving : goal.drive_through_image-requires-clause-driving
 drive_through_image-requires-clause-driving g c κs within = (c.args.drivers.now, c.drive_round-said.ensures.driving c.args.drivers.now c.loop.invariant.driving)
+
+pub back_off-moving-requires : goal.back_off-moving-requires
+back_off-moving-requires g c = (c.drive_round-said.ensures.driving c.args.drivers.now c.loop.invariant.driving).orders
