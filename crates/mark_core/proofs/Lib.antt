@@ -9,3 +9,4 @@ pub mod Freeing
 pub mod MarkingEnded
 pub mod Some
 pub mod Reading
+pub mod NextMarked
