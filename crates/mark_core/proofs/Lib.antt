@@ -10,3 +10,4 @@ pub mod MarkingEnded
 pub mod Some
 pub mod Reading
 pub mod NextMarked
+pub mod FoundMarks
