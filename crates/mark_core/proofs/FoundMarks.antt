@@ -9,14 +9,21 @@ use Rattle.std.proofs.lemmas.Option.{slice_get_within, get_or_from_slice_get}
 use Rattle.std.proofs.lemmas.Nat.Bits.{bit_at_or, bit_at_set_same, bit_at_set_other, bit_at_above, same_from_bits}
 use Rattle.std.proofs.Math.Path.{fun_ext}
 use Rattle.heap_words.specs.declared.config.Config.{Config}
-use Rattle.heap_words.specs.Words.{Word, Grey, Black}
+use Rattle.heap_words.specs.Words.{Word, Grey, Black, write}
 use Rattle.regions.specs.Marks.{mark_word, mark_bit, mark_mask}
 use Rattle.heap_graph.specs.Walk.{has}
 use Rattle.heap_graph.proofs.Marks.{has-push}
 use Rattle.cycle_words.specs.Marking.Marks.{mark_bits}
 use Rattle.cycle_words.proofs.Marking.Bits.{one, bits_at, bits_small}
-use Rattle.mark_core.specs.Steps.{greyed, marked, grey_besides, black_besides}
+use Rattle.mark_core.specs.Steps.{greyed, marked}
 use Rattle.mark_core.proofs.Colours.{bits_agree, bits_none}
+
+-- an address is grey besides, or black
+abbrev pub grey_besides : Config → ℕ → (Word → ℕ) → Word → ℕ
+grey_besides c a memory = write memory (Grey (mark_word c a)) (bit_or (memory (Grey (mark_word c a))) (mark_mask c a))
+
+abbrev pub black_besides : Config → ℕ → (Word → ℕ) → Word → ℕ
+black_besides c a memory = write memory (Black (mark_word c a)) (bit_or (memory (Black (mark_word c a))) (mark_mask c a))
 
 or_assoc : (a b d : ℕ) → bit_or (bit_or a b) d ≡ bit_or a (bit_or b d)
 or_assoc a b d = same_from_bits _ _ (λ i. omega (arith, bit_at_or (bit_or a b) d i, bit_at_or a b i, bit_at_or a (bit_or b d) i, bit_at_or b d i))

@@ -2,8 +2,7 @@
 use Rattle.std.specs.Prelude.{ℕ, ◌*◌, ◌%◌, ◌^◌, ◌==◌, ◌&&◌, if◌then◌else◌, Bool, nat_lt}
 use Rattle.std.specs.Int.RustNames.{bit_or}
 use Rattle.heap_words.specs.declared.config.Config.{Config}
-use Rattle.heap_words.specs.Words.{Word, Free, Top, Tams, Limit, Count, Grey, Black, write}
-use Rattle.regions.specs.Marks.{mark_word, mark_mask}
+use Rattle.heap_words.specs.Words.{Word, Free, Top, Tams, Limit, Count, Grey, Black}
 use Rattle.buffer_words.specs.Edge.{edge}
 use Rattle.cycle_words.specs.Marking.Marks.{bits_of, mark_bits}
 
@@ -18,13 +17,6 @@ abbrev pub marked : Config → (ℕ → Bool) → ℕ → (Word → ℕ) → Wor
 marked c set words memory (Grey n) = if nat_lt n words then bit_or (memory (Grey n)) (mark_bits c set n) else memory (Grey n)
 marked c set words memory (Black n) = if nat_lt n words then bit_or (memory (Black n)) (mark_bits c set n) else memory (Black n)
 marked c set words memory word = memory word
-
--- an address is grey besides, or black
-abbrev pub grey_besides : Config → ℕ → (Word → ℕ) → Word → ℕ
-grey_besides c a memory = write memory (Grey (mark_word c a)) (bit_or (memory (Grey (mark_word c a))) (mark_mask c a))
-
-abbrev pub black_besides : Config → ℕ → (Word → ℕ) → Word → ℕ
-black_besides c a memory = write memory (Black (mark_word c a)) (bit_or (memory (Black (mark_word c a))) (mark_mask c a))
 
 -- the edges of so many regions are noted
 abbrev pub noted : Config → ℕ → (Word → ℕ) → Word → ℕ

@@ -1,10 +1,11 @@
 //! Writes the mark bits of the objects that were found.
 
-ghost use Rattle.std.specs.Prelude.{◌≡◌, ◌+◌, ◌≤◌, []};
-ghost use Rattle.heap_words.specs.Words.{Grey, Black, Heap, IsWord, word_at, bit_words, table_words};
+ghost use Rattle.std.specs.Prelude.{◌≡◌, ◌+◌, ◌≤◌, [], bit_or};
+ghost use Rattle.heap_words.specs.Words.{Grey, Black, Heap, IsWord, word_at, bit_words, table_words, write};
+ghost use Rattle.regions.specs.Marks as bits;
 ghost use Rattle.heap_graph.specs.Walk.{has};
 ghost use Rattle.image_graph.specs.State.{config_of, memory_of, found_of, marks_of, AreFound};
-ghost use Rattle.mark_core.specs.Steps.{greyed, marked, grey_besides, black_besides};
+ghost use Rattle.mark_core.specs.Steps.{greyed, marked};
 
 use image_graph::Image;
 use regions::{mark_mask, mark_word, mark_words};
@@ -16,8 +17,8 @@ fn set_mark(image: &mut Image, row: usize, address: u64)
     ensures config { config_of image.new ≡ config_of image.old }
     ensures found { found_of image.new ≡ found_of image.old }
     ensures marks { marks_of image.new ≡ marks_of image.old }
-    ensures grey { row ≡ word_at (config_of image.old) (Grey 0) → memory_of image.new ≡ grey_besides (config_of image.old) address (memory_of image.old) }
-    ensures black { row ≡ word_at (config_of image.old) (Black 0) → memory_of image.new ≡ black_besides (config_of image.old) address (memory_of image.old) }
+    ensures grey { let c = config_of image.old in let n = bits.mark_word c address in row ≡ word_at c (Grey 0) → memory_of image.new ≡ write (memory_of image.old) (Grey n) (bit_or (memory_of image.old (Grey n)) (bits.mark_mask c address)) }
+    ensures black { let c = config_of image.old in let n = bits.mark_word c address in row ≡ word_at c (Black 0) → memory_of image.new ≡ write (memory_of image.old) (Black n) (bit_or (memory_of image.old (Black n)) (bits.mark_mask c address)) }
 {
     let config = image.config();
     let at = row + mark_word(config, address);

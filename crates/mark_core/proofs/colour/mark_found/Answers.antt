@@ -8,9 +8,9 @@ use Rattle.heap_graph.specs.Walk.{has}
 use Rattle.heap_graph.proofs.Marks as marks
 use Rattle.full_words.proofs.FoundInTurn.{is_none, none_left}
 use Rattle.image_graph.specs.State.{config_of, memory_of, found_of, marks_of}
-use Rattle.mark_core.specs.Steps.{marked, grey_besides, black_besides}
+use Rattle.mark_core.specs.Steps.{marked}
 use Rattle.mark_core.proofs.FoundStays.{still_found, found_inside}
-use Rattle.mark_core.proofs.FoundMarks.{none_marked, marked_more, has_next, has_others}
+use Rattle.mark_core.proofs.FoundMarks.{grey_besides, black_besides, none_marked, marked_more, has_next, has_others}
 use Rattle.mark_core.proofs.colour.mark_found.Goals as goal
 
 pub loop-address-init : goal.loop-address-init
