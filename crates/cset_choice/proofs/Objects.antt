@@ -1,5 +1,5 @@
 -- Objects of a region lie in the heap.
-use Rattle.std.proofs.Common.{◌≡◌, ℕ, ◌+◌, ◌^◌, ◌%◌, ◌<◌, ◌≤◌, ◌==◌, nat_le, true, false, suc, sym, ap, ◌∙◌, subst, ⊎_elim, arith}
+use Rattle.std.proofs.Common.{◌≡◌, ℕ, ◌+◌, ◌^◌, ◌%◌, ◌<◌, ◌≤◌, ◌==◌, nat_le, true, false, zero, suc, sym, ap, ◌∙◌, subst, ⊎_elim, arith}
 use Rattle.std.specs.Int.{bit_at}
 use Rattle.std.proofs.lemmas.Bool.{cond-true, cases_lt, and_left, and_right, and_parts, eqb-true, leb-true, lt-leb, ne_eqb}
 use Rattle.std.proofs.lemmas.Nat.{mod_below}
@@ -24,6 +24,15 @@ sum_more f i words x before is =
     let next : suc i ≡ i + 1 = omega arith in
     let step : sum_below f (i + 1) ≡ sum_below f i + f i = ap (sum_below f) (sym next) ∙ sum_next f i in
     omega (arith, before, is, step)
+
+-- terms that are 0
+pub sum_pass : (f : ℕ → ℕ) (i n : ℕ) → ((k : ℕ) → i ≤ k → k < i + n → f k ≡ 0) → sum_below f i ≡ sum_below f (i + n)
+sum_pass f i zero none = let same : i ≡ i + 0 = omega arith in ap (sum_below f) same
+sum_pass f i (suc n) none =
+    let next : i + suc n ≡ suc (i + n) = omega arith in
+    let step : sum_below f (i + suc n) ≡ sum_below f (i + n) + f (i + n) = ap (sum_below f) next ∙ sum_next f (i + n) in
+    let before = sum_pass f i n (λ k from below. none k from (omega (arith, below))) in
+    omega (arith, before, step, none (i + n) (omega arith) (omega arith))
 
 module _ (c : Config) where
   -- so many words from an address on that end within its region are of the heap

@@ -129,7 +129,7 @@ fn is_taken(config: Config, live: &[u64], candidates: u64, limit: u64, region: u
 /// The collection set: of the candidates, in the order of their live words and then of their numbers, as many from the first
 /// one on as can be copied to the free regions together. Candidates are in use, neither current nor pinned, without a new
 /// object, and have garbage of a quarter of a region. What can be reached in its regions is marked, where the image holds a
-/// graph and marking has ended. No word changes. Takes time linear in the words of the heap, and
+/// graph and marking has ended. No word changes. Takes time linear in the words of marks and in the marked objects, and
 /// quadratic in the number of regions.
 pub fn choose(image: &Image) -> u64
     requires { CanBegin (config_of image.now) (memory_of image.now) }

@@ -9,3 +9,5 @@ pub mod Freeing
 pub mod MarkingEnded
 pub mod Some
 pub mod Reading
+pub mod NextMarked
+pub mod FoundMarks

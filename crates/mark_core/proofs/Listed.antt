@@ -1,5 +1,5 @@
 -- What is noted of rows of words.
-use Rattle.std.proofs.Common.{◌≡◌, ℕ, ◌+◌, ◌<◌, ◌≤◌, cond, nat_le, Bool, true, false, suc, List, [], ◌∷◌, ◌++◌, map, refl, sym, ap, ◌∙◌, arith}
+use Rattle.std.proofs.Common.{◌≡◌, ℕ, ◌+◌, ◌<◌, ◌≤◌, cond, nat_le, Bool, true, false, zero, suc, List, [], ◌∷◌, ◌++◌, map, refl, sym, ap, ◌∙◌, arith}
 use Rattle.std.specs.List.{range_with_len}
 use Rattle.std.proofs.lemmas.Bool.{cond-true, cond-false, le-leb, lt-leb}
 use Rattle.std.proofs.lemmas.List.FromFn.{map-range_with_len_more}
@@ -82,6 +82,16 @@ module _ (m : Word → ℕ) where
   grey_none c k order is =
       let next : suc k ≡ k + 1 = omega arith in
       if_none (is_grey c m (c.region_words + k)) (c.region_words + k) order (greys_below c m k) is ∙ ap (λ n. with_addresses order (greys_below c m n)) next
+
+  -- addresses none of which is grey
+  pub greys_pass : (c : Config) (k n : ℕ) (order : List ℕ) → ((a : ℕ) → c.region_words + k ≤ a → a < c.region_words + (k + n) → is_grey c m a ≡ false)
+      → with_addresses order (greys_below c m k) ≡ with_addresses order (greys_below c m (k + n))
+  greys_pass c k zero order none = let same : k ≡ k + 0 = omega arith in ap (λ j. with_addresses order (greys_below c m j)) same
+  greys_pass c k (suc n) order none =
+      let next : k + n + 1 ≡ k + suc n = omega arith in
+      greys_pass c k n order (λ a from below. none a from (omega (arith, below)))
+      ∙ grey_none c (k + n) order (none (c.region_words + (k + n)) (omega arith) (omega arith))
+      ∙ ap (λ j. with_addresses order (greys_below c m j)) next
 
 -- one word of a row was noted
 pub noted_step : (before now after : List ℕ) (f : ℕ → ℕ) (n word : ℕ) → now ≡ with_addresses before (map f (range_with_len 0 n)) → word ≡ f n → after ≡ with_address now word

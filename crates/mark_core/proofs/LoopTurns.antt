@@ -1,6 +1,5 @@
 -- What one turn more of a loop makes of the words.
 use Rattle.std.proofs.Common.{◌≡◌, ℕ, ◌+◌, ◌==◌, nat_lt, cond, Bool, refl, arith}
-use Rattle.std.specs.Int.RustNames.{bit_or}
 use Rattle.std.proofs.lemmas.Bool.Decides.{nat_tests}
 use Rattle.std.proofs.Math.Path.{fun_ext}
 use Rattle.heap_words.specs.declared.config.Config.{Config}
@@ -9,7 +8,7 @@ use Rattle.heap_words.specs.Words.{Word, Tams, Count, Grey, Black, write}
 use Rattle.buffer_words.specs.Edge.{edge}
 use Rattle.buffer_words.proofs.Edges.{edges_same}
 use Rattle.cycle_words.specs.Marking.Marks.{mark_bits}
-use Rattle.mark_core.specs.Steps.{greyed, marked, noted, emptied}
+use Rattle.mark_core.specs.Steps.{greyed, noted, emptied}
 
 -- one number more below a bound
 one_more : (before value : ℕ → ℕ) (k j : ℕ) → cond (k == j) (value k) (cond (nat_lt j k) (value j) (before j)) ≡ cond (nat_lt j (k + 1)) (value j) (before j)
@@ -17,9 +16,6 @@ one_more before value k j = grind (arith, nat_tests)
 
 none_yet : (x y j : ℕ) → y ≡ cond (nat_lt j 0) x y
 none_yet x y j = grind (arith, nat_tests)
-
-pub not_yet : (x y k : ℕ) → cond (nat_lt k k) x y ≡ y
-not_yet x y k = grind (arith, nat_tests)
 
 -- buffers
 
@@ -60,21 +56,3 @@ module _ (c : Config) (set : ℕ → Bool) where
 
   pub greyed_next : (k : ℕ) (m : Word → ℕ) → write (write (greyed c set k m) (Grey k) (mark_bits c set k)) (Black k) 0 ≡ greyed c set (k + 1) m
   greyed_next k m = fun_ext (λ w. greyed_next_at k m w)
-
-  marked_none_at : (m : Word → ℕ) (w : Word) → m w ≡ marked c set 0 m w
-  marked_none_at m (Grey n) = none_yet (bit_or (m (Grey n)) (mark_bits c set n)) (m (Grey n)) n
-  marked_none_at m (Black n) = none_yet (bit_or (m (Black n)) (mark_bits c set n)) (m (Black n)) n
-  marked_none_at m _ = refl
-
-  pub marked_none : (m : Word → ℕ) → m ≡ marked c set 0 m
-  marked_none m = fun_ext (λ w. marked_none_at m w)
-
-  marked_next_at : (k : ℕ) (m : Word → ℕ) (w : Word)
-      → write (write (marked c set k m) (Grey k) (bit_or (m (Grey k)) (mark_bits c set k))) (Black k) (bit_or (m (Black k)) (mark_bits c set k)) w ≡ marked c set (k + 1) m w
-  marked_next_at k m (Grey n) = one_more (λ x. m (Grey x)) (λ x. bit_or (m (Grey x)) (mark_bits c set x)) k n
-  marked_next_at k m (Black n) = one_more (λ x. m (Black x)) (λ x. bit_or (m (Black x)) (mark_bits c set x)) k n
-  marked_next_at k m _ = refl
-
-  pub marked_next : (k : ℕ) (m : Word → ℕ)
-      → write (write (marked c set k m) (Grey k) (bit_or (m (Grey k)) (mark_bits c set k))) (Black k) (bit_or (m (Black k)) (mark_bits c set k)) ≡ marked c set (k + 1) m
-  marked_next k m = fun_ext (λ w. marked_next_at k m w)

@@ -1,35 +1,44 @@
 //! Writes the mark bits of the objects that were found.
 
-ghost use Rattle.std.specs.Prelude.{◌≡◌, ◌*◌, ◌^◌, ◌<◌, if◌then◌else◌};
-ghost use Rattle.heap_words.specs.Words.{Grey, IsWord, bit_words};
+ghost use Rattle.std.specs.Prelude.{◌≡◌, ◌+◌, ◌≤◌, [], bit_or};
+ghost use Rattle.heap_words.specs.Words.{Grey, Black, Heap, IsWord, word_at, bit_words, table_words, write};
+ghost use Rattle.regions.specs.Marks as bits;
 ghost use Rattle.heap_graph.specs.Walk.{has};
-ghost use Rattle.image_graph.specs.State.{config_of, memory_of, found_of, AreFound};
-ghost use Rattle.cycle_words.specs.Marking.Marks.{mark_bits};
+ghost use Rattle.image_graph.specs.State.{config_of, memory_of, found_of, marks_of, AreFound};
 ghost use Rattle.mark_core.specs.Steps.{greyed, marked};
 
 use image_graph::Image;
-use regions::mark_words;
+use regions::{mark_mask, mark_word, mark_words};
 
-// A bit of a word, where it is to be set, and else no bit.
-fn bit_if(set: bool, bit: u64) -> u64
-    requires { bit < 64 }
-    ensures { result ≡ (if set then 1 else 0) * 2 ^ bit }
+// Sets the bit of an address in a row of words of marks that begins at an index of the table.
+fn set_mark(image: &mut Image, row: usize, address: u64)
+    requires row { row + bit_words (config_of image.old) ≤ table_words (config_of image.old) }
+    requires inside { IsWord (config_of image.old) (Heap address) }
+    ensures config { config_of image.new ≡ config_of image.old }
+    ensures found { found_of image.new ≡ found_of image.old }
+    ensures marks { marks_of image.new ≡ marks_of image.old }
+    ensures grey { let c = config_of image.old in let n = bits.mark_word c address in row ≡ word_at c (Grey 0) → memory_of image.new ≡ write (memory_of image.old) (Grey n) (bit_or (memory_of image.old (Grey n)) (bits.mark_mask c address)) }
+    ensures black { let c = config_of image.old in let n = bits.mark_word c address in row ≡ word_at c (Black 0) → memory_of image.new ≡ write (memory_of image.old) (Black n) (bit_or (memory_of image.old (Black n)) (bits.mark_mask c address)) }
 {
-    if set { 1 << bit } else { 0 }
+    let config = image.config();
+    let at = row + mark_word(config, address);
+    let bits = image.word(at) | mark_mask(config, address);
+    image.set_word(at, bits);
 }
 
-// The mark bits of what was found, in a word of marks.
-fn found_bits(image: &Image, word: usize) -> u64
-    requires found { AreFound image.now }
-    requires word { IsWord (config_of image.now) (Grey word) }
-    ensures { result ≡ mark_bits (config_of image.now) (has (found_of image.now)) word }
+// Takes all marks away.
+fn clear_marks(image: &mut Image)
+    requires { AreFound image.old }
+    ensures config { config_of image.new ≡ config_of image.old }
+    ensures found { found_of image.new ≡ found_of image.old }
+    ensures still { AreFound image.new }
+    ensures words { memory_of image.new ≡ greyed (config_of image.old) (has []) (bit_words (config_of image.old)) (memory_of image.old) }
 {
-    let first = image.config().region_words() as u64 + 64 * word as u64;
-    let mut bits = 0u64;
-    for bit in 0..64 {
-        bits += bit_if(image.is_found(first + bit), bit);
+    let config = image.config();
+    for word in 0..mark_words(config) {
+        image.set_word(config.grey_at(word), 0);
+        image.set_word(config.black_at(word), 0);
     }
-    bits
 }
 
 /// Makes exactly what was found grey, and nothing black.
@@ -38,11 +47,12 @@ pub(crate) fn grey_found(image: &mut Image)
     ensures config { config_of image.new ≡ config_of image.old }
     ensures words { memory_of image.new ≡ greyed (config_of image.old) (has (found_of image.old)) (bit_words (config_of image.old)) (memory_of image.old) }
 {
-    let config = image.config();
-    for word in 0..mark_words(config) {
-        let bits = found_bits(image, word);
-        image.set_word(config.grey_at(word), bits);
-        image.set_word(config.black_at(word), 0);
+    clear_marks(image);
+    let grey = image.config().grey_at(0);
+    let mut turn = 0;
+    while let Some(address) = image.found_at(turn) {
+        set_mark(image, grey, address);
+        turn += 1;
     }
 }
 
@@ -53,11 +63,12 @@ pub(crate) fn mark_found(image: &mut Image)
     ensures words { memory_of image.new ≡ marked (config_of image.old) (has (found_of image.old)) (bit_words (config_of image.old)) (memory_of image.old) }
 {
     let config = image.config();
-    for word in 0..mark_words(config) {
-        let bits = found_bits(image, word);
-        let grey = image.word(config.grey_at(word)) | bits;
-        let black = image.word(config.black_at(word)) | bits;
-        image.set_word(config.grey_at(word), grey);
-        image.set_word(config.black_at(word), black);
+    let grey = config.grey_at(0);
+    let black = config.black_at(0);
+    let mut turn = 0;
+    while let Some(address) = image.found_at(turn) {
+        set_mark(image, grey, address);
+        set_mark(image, black, address);
+        turn += 1;
     }
 }

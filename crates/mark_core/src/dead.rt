@@ -5,7 +5,7 @@ ghost use Rattle.image_graph.specs.State.{config_of, memory_of};
 ghost use Rattle.cycle_words.specs.Marking.Final as final;
 ghost use Rattle.mark_core.specs.Steps.{freed_one, freed_below};
 
-use crate::look::is_black;
+use crate::look::next_black;
 use image_graph::Image;
 use regions::{base, is_in};
 
@@ -15,12 +15,8 @@ fn has_black(image: &Image, region: usize) -> bool
     ensures { result ≡ final.has_black (config_of image.now) (memory_of image.now) region }
 {
     let first = base(image.config(), region);
-    for index in 0..image.config().region_words() {
-        if is_black(image, first + index as u64) {
-            return true;
-        }
-    }
-    false
+    let end = first + image.config().region_words() as u64;
+    next_black(image, first, end) < end
 }
 
 // Whether a region is in use, neither current nor pinned, without a new object and without a mark.

@@ -14,5 +14,5 @@ pub use begin::init_mark;
 pub use close::close_marks;
 pub use dead::free_region;
 pub use end::final_mark;
-pub use look::is_black;
+pub use look::{is_black, next_black};
 pub use scan_part::ScanUnit;

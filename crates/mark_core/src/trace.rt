@@ -10,23 +10,9 @@ ghost use Rattle.cycle_words.specs.Marking.Marks as marks;
 ghost use Rattle.cycle_words.specs.Marking.Close.{IsTraced, greys_below, entries_below, open_fields, traced_in};
 ghost use Rattle.mark_core.specs.Trace.{CanTrace};
 
-use crate::look::{is_black, is_grey};
+use crate::look::{is_black, next_grey};
 use heap_words::refs_of;
 use image_graph::Image;
-
-// Notes an address that is grey, and no other.
-fn find_if_grey(image: &mut Image, address: u64)
-    requires inside { IsWord (config_of image.old) (Heap address) }
-    requires found { AreFound image.old }
-    ensures unchanged { IsUnchanged image.old image.new }
-    ensures found { AreFound image.new }
-    ensures noted { marks.is_grey (config_of image.old) (memory_of image.old) address ≡ true → found_of image.new ≡ with_address (found_of image.old) address }
-    ensures none { marks.is_grey (config_of image.old) (memory_of image.old) address ≡ false → found_of image.new ≡ found_of image.old }
-{
-    if is_grey(image, address) {
-        image.find(address);
-    }
-}
 
 // Notes the grey addresses.
 fn find_greys(image: &mut Image)
@@ -37,8 +23,11 @@ fn find_greys(image: &mut Image)
 {
     let config = image.config();
     let first = config.region_words() as u64;
-    for index in 0..config.heap_size() {
-        find_if_grey(image, first + index as u64);
+    let end = first + config.heap_size() as u64;
+    let mut address = next_grey(image, first, end);
+    while address < end {
+        image.find(address);
+        address = next_grey(image, address + 1, end);
     }
 }
 

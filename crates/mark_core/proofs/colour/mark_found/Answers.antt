@@ -1,69 +1,79 @@
-use Rattle.std.proofs.Common.{◌≡◌, ◌<◌, ℕ, refl, sym, ap, ◌∙◌, arith}
-use Rattle.std.specs.Int.RustNames.{bit_or}
+use Rattle.std.proofs.Common.{◌≡◌, ◌+◌, ℕ, List, take, slice_get, Some, None, refl, sym, ap, ◌∙◌, subst, arith}
+use Rattle.std.proofs.lemmas.List.{take_all}
+use Rattle.std.proofs.lemmas.Option.{slice_get_within}
 use Rattle.heap_words.specs.declared.config.Config.{Config}
-use Rattle.heap_words.specs.Words.{Word, Grey, Black, word_at, write, bit_words}
+use Rattle.heap_words.specs.Words.{Word, Grey, Black, Heap, IsWord, word_at, heap_size, bit_words}
+use Rattle.regions.proofs.MarksApart.{word_inside}
 use Rattle.heap_graph.specs.Walk.{has}
-use Rattle.image_graph.specs.State.{config_of, memory_of, found_of}
-use Rattle.image_graph.proofs.NamedStores.{stored}
-use Rattle.cycle_words.specs.Marking.Marks.{mark_bits}
+use Rattle.heap_graph.proofs.Marks as marks
+use Rattle.full_words.proofs.FoundInTurn.{is_none, none_left}
+use Rattle.image_graph.specs.State.{config_of, memory_of, found_of, marks_of}
 use Rattle.mark_core.specs.Steps.{marked}
-use Rattle.mark_core.proofs.FoundStays.{still_found}
-use Rattle.mark_core.proofs.LoopTurns.{not_yet, marked_none, marked_next}
+use Rattle.mark_core.proofs.FoundStays.{still_found, found_inside}
+use Rattle.mark_core.proofs.FoundMarks.{grey_besides, black_besides, none_marked, marked_more, has_next, has_others}
 use Rattle.mark_core.proofs.colour.mark_found.Goals as goal
 
-pub loop-word-init : goal.loop-word-init
-loop-word-init c = record {
+pub loop-address-init : goal.loop-address-init
+loop-address-init c = record {
   config = refl;
   same = refl;
   found = c.requires;
-  words = marked_none (config_of c.args.image.now) (has (found_of c.args.image.now)) (memory_of c.args.image.now);
+  words = none_marked (config_of c.args.image.now) (bit_words (config_of c.args.image.now)) (memory_of c.args.image.now);
+  few = omega arith;
 }
 
-pub loop-word-preserved : goal.loop-word-preserved
-loop-word-preserved c =
+pub set_mark-requires-clause-inside : goal.set_mark-requires-clause-inside
+set_mark-requires-clause-inside c = found_inside c.loop-address.image c.loop-address.turn c.in-Some.address c.loop-address.invariant.found (sym c.in-Some.ensures)
+
+pub set_mark-requires-in-Some-clause-inside : goal.set_mark-requires-in-Some-clause-inside
+set_mark-requires-in-Some-clause-inside c =
+    subst (λ (k : Config). IsWord k (Heap c.in-Some.address)) (sym c.set_mark.ensures.config)
+    (found_inside c.loop-address.image c.loop-address.turn c.in-Some.address c.loop-address.invariant.found (sym c.in-Some.ensures))
+
+pub loop-address-smaller : goal.loop-address-smaller
+loop-address-smaller c =
+    let now = c.loop-address.image in
+    let within = slice_get_within (found_of now) c.loop-address.turn c.in-Some.address (sym c.in-Some.ensures) in
+    let few = marks.few (config_of now).region_words (marks_of now) (found_of now) c.loop-address.invariant.found in
+    omega (arith, within, few, now.all_marks, ap heap_size c.loop-address.invariant.config)
+
+pub loop-address-preserved : goal.loop-address-preserved
+loop-address-preserved c =
     let old = c.args.image.now in
     let g = config_of old in
     let m : Word → ℕ = memory_of old in
-    let set = has (found_of old) in
-    let n = c.loop-word.word in
-    let now = c.loop-word.image in
-    let one = c.set_word.new.self in
-    let two = c.set_word-in-loop-word.new.self in
-    let is = c.loop-word.invariant in
-    let same : c.config-config.result ≡ g = c.config-config.ensures in
-    let below : n < bit_words g = omega (arith, c.loop-word-test.true, c.mark_words-word-end.ensures.value, ap bit_words same) in
-    let inside : n < bit_words (config_of now) = omega (arith, below, ap bit_words is.config) in
-    let bits : c.found_bits-bits.result ≡ mark_bits g set n =
-    c.found_bits-bits.ensures ∙ ap (λ (k : Config). mark_bits k (has (found_of now)) n) is.config ∙ ap (λ xs. mark_bits g (has xs) n) is.same in
-    let grey : c.word.result ≡ m (Grey n) =
-    c.word.ensures.named (Grey n) inside (ap (λ (k : Config). word_at k (Grey n)) (is.config ∙ sym same) ∙ sym c.grey_at.ensures)
-    ∙ ap (λ k. k (Grey n)) is.words ∙ not_yet (bit_or (m (Grey n)) (mark_bits g set n)) (m (Grey n)) n in
-    let black : c.word-in-loop-word.result ≡ m (Black n) =
-    c.word-in-loop-word.ensures.named (Black n) inside (ap (λ (k : Config). word_at k (Black n)) (is.config ∙ sym same) ∙ sym c.black_at.ensures)
-    ∙ ap (λ k. k (Black n)) is.words ∙ not_yet (bit_or (m (Black n)) (mark_bits g set n)) (m (Black n)) n in
-    let grey_bits : bit_or c.word.result c.found_bits-bits.result ≡ bit_or (m (Grey n)) (mark_bits g set n) = ap (λ x. bit_or x c.found_bits-bits.result) grey ∙ ap (bit_or (m (Grey n))) bits in
-    let black_bits : bit_or c.word-in-loop-word.result c.found_bits-bits.result ≡ bit_or (m (Black n)) (mark_bits g set n) =
-    ap (λ x. bit_or x c.found_bits-bits.result) black ∙ ap (bit_or (m (Black n))) bits in
-    let to_one = stored (config_of now) g (memory_of now) (memory_of one) (Grey n) c.grey_at-in-loop-word.result (bit_or c.word.result c.found_bits-bits.result)
-    is.config below (c.grey_at-in-loop-word.ensures ∙ ap (λ (k : Config). word_at k (Grey n)) same) c.set_word.ensures.named in
-    let to_two = stored (config_of one) g (memory_of one) (memory_of two) (Black n) c.black_at-in-loop-word.result (bit_or c.word-in-loop-word.result c.found_bits-bits.result)
-    (c.set_word.ensures.config ∙ is.config) below (c.black_at-in-loop-word.ensures ∙ ap (λ (k : Config). word_at k (Black n)) same) c.set_word-in-loop-word.ensures.named in
+    let xs : List ℕ = found_of old in
+    let now = c.loop-address.image in
+    let one = c.set_mark.new.image in
+    let two = c.set_mark-in-Some.new.image in
+    let was = c.loop-address.invariant in
+    let a : ℕ = c.in-Some.address in
+    let n : ℕ = c.loop-address.turn in
+    let at : slice_get xs n ≡ Some a = sym (ap (λ ys. slice_get ys n) was.same) ∙ sym c.in-Some.ensures in
+    let heap : IsWord g (Heap a) = subst (λ (k : Config). IsWord k (Heap a)) was.config (found_inside now n a was.found (sym c.in-Some.ensures)) in
+    let as_one : config_of one ≡ g = c.set_mark.ensures.config ∙ was.config in
+    let grey : c.grey_at-grey.result ≡ word_at (config_of now) (Grey 0) = c.grey_at-grey.ensures ∙ ap (λ (k : Config). word_at k (Grey 0)) (c.config-config.ensures ∙ sym was.config) in
+    let black : c.black_at-black.result ≡ word_at (config_of one) (Black 0) = c.black_at-black.ensures ∙ ap (λ (k : Config). word_at k (Black 0)) (c.config-config.ensures ∙ sym as_one) in
+    let to_one : memory_of one ≡ grey_besides g a (marked g (has (take n xs)) (bit_words g) m) =
+    c.set_mark.ensures.grey grey ∙ ap (λ (k : Config). grey_besides k a (memory_of now)) was.config ∙ ap (grey_besides g a) was.words in
+    let to_two : memory_of two ≡ black_besides g a (memory_of one) = c.set_mark-in-Some.ensures.black black ∙ ap (λ (k : Config). black_besides k a (memory_of one)) as_one in
+    let within = slice_get_within (found_of now) n a (sym c.in-Some.ensures) in
+    let few = marks.few (config_of now).region_words (marks_of now) (found_of now) was.found in
     record {
-      config = c.set_word-in-loop-word.ensures.config ∙ c.set_word.ensures.config ∙ is.config;
-      same = c.set_word-in-loop-word.ensures.found ∙ c.set_word.ensures.found ∙ is.same;
-      found = still_found one two c.set_word-in-loop-word.ensures.config c.set_word-in-loop-word.ensures.marks c.set_word-in-loop-word.ensures.found
-          (still_found now one c.set_word.ensures.config c.set_word.ensures.marks c.set_word.ensures.found is.found);
-      words = to_two
-          ∙ ap (λ k. write k (Black n) (bit_or c.word-in-loop-word.result c.found_bits-bits.result))
-          (to_one ∙ ap (λ k. write k (Grey n) (bit_or c.word.result c.found_bits-bits.result)) is.words ∙ ap (write (marked g set n m) (Grey n)) grey_bits)
-          ∙ ap (write (write (marked g set n m) (Grey n) (bit_or (m (Grey n)) (mark_bits g set n))) (Black n)) black_bits
-          ∙ marked_next g set n m;
+      config = c.set_mark-in-Some.ensures.config ∙ as_one;
+      same = c.set_mark-in-Some.ensures.found ∙ c.set_mark.ensures.found ∙ was.same;
+      found = still_found one two c.set_mark-in-Some.ensures.config c.set_mark-in-Some.ensures.marks c.set_mark-in-Some.ensures.found
+          (still_found now one c.set_mark.ensures.config c.set_mark.ensures.marks c.set_mark.ensures.found was.found);
+      words = to_two ∙ ap (black_besides g a) to_one
+          ∙ marked_more g (has (take n xs)) (has (take (n + 1) xs)) a heap.0 (has_next xs n a at) (λ q other. has_others xs n a q at other) m (bit_words g) (word_inside g a heap);
+      few = omega (arith, within, few, now.all_marks, ap heap_size was.config);
     }
 
 pub returns-clause-words : goal.returns-clause-words
 returns-clause-words c =
     let old = c.args.image.now in
     let g = config_of old in
-    let all : c.loop-word.word ≡ bit_words g =
-    omega (arith, c.loop-word-test.false, c.loop-word.auto.word-end, c.mark_words-word-end.ensures.value, ap bit_words c.config-config.ensures) in
-    c.loop-word.invariant.words ∙ ap (λ n. marked g (has (found_of old)) n (memory_of old)) all
+    let n : ℕ = c.loop-address.turn in
+    let was = c.loop-address.invariant in
+    let none : slice_get (found_of old) n ≡ None = sym (ap (λ ys. slice_get ys n) was.same) ∙ sym c.found_at.ensures ∙ is_none c.found_at.result c.in_default.not-Some in
+    was.words ∙ ap (λ ys. marked g (has ys) (bit_words g) (memory_of old)) (take_all n (found_of old) (none_left (found_of old) n none))

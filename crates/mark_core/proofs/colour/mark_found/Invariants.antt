@@ -1,13 +1,18 @@
-use Rattle.std.proofs.Common.{◌≡◌}
+use Rattle.std.proofs.Common.{◌≡◌, ◌≤◌, ◌-◌, take}
+use Rattle.heap_words.specs.Words.{heap_size, bit_words}
 use Rattle.heap_graph.specs.Walk.{has}
 use Rattle.image_graph.specs.State.{config_of, memory_of, found_of, AreFound}
 use Rattle.mark_core.specs.Steps.{marked}
 use Rattle.mark_core.proofs.colour.mark_found.Given as goal
 
-abbrev pub invariant-loop-word : goal.invariant-loop-word
-invariant-loop-word l = record {
+abbrev pub invariant-loop-address : goal.invariant-loop-address
+invariant-loop-address l = record {
   config : config_of l.image ≡ config_of l.fn.image;
   same : found_of l.image ≡ found_of l.fn.image;
   found : AreFound l.image;
-  words : memory_of l.image ≡ marked (config_of l.fn.image) (has (found_of l.fn.image)) l.word (memory_of l.fn.image);
+  words : memory_of l.image ≡ marked (config_of l.fn.image) (has (take l.turn (found_of l.fn.image))) (bit_words (config_of l.fn.image)) (memory_of l.fn.image);
+  few : l.turn ≤ heap_size (config_of l.fn.image);
 }
+
+abbrev pub decreases-loop-address : goal.decreases-loop-address
+decreases-loop-address l = heap_size (config_of l.fn.image) - l.turn

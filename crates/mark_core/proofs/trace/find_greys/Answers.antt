@@ -1,45 +1,63 @@
-use Rattle.std.proofs.Common.{◌≡◌, ◌+◌, ℕ, true, false, ⊎_elim, ap, ◌∙◌, arith}
-use Rattle.std.proofs.lemmas.Bool.{cases_Bool}
+use Rattle.std.proofs.Common.{◌≡◌, ◌+◌, ◌-◌, ◌≤◌, ℕ, refl, sym, ap, ◌∙◌, arith}
 use Rattle.heap_words.specs.declared.config.Config.{Config}
-use Rattle.heap_words.specs.Words.{Word, heap_size}
+use Rattle.heap_words.specs.Words.{Word}
 use Rattle.heap_graph.specs.Walk.{with_address, with_addresses}
 use Rattle.image_graph.specs.State.{config_of, memory_of, found_of}
 use Rattle.cycle_words.specs.Marking.Marks.{is_grey}
 use Rattle.cycle_words.specs.Marking.Close.{greys_below}
 use Rattle.image_graph.proofs.Same.{memory_same, both}
-use Rattle.mark_core.proofs.Listed.{grey_more, grey_none}
+use Rattle.mark_core.proofs.Listed.{grey_more, greys_pass}
 use Rattle.mark_core.proofs.trace.find_greys.Goals as goal
 
-pub loop-index-preserved : goal.loop-index-preserved
-loop-index-preserved c =
+pub loop-address-init : goal.loop-address-init
+loop-address-init c =
     let old = c.args.image.now in
     let g = config_of old in
     let m : Word → ℕ = memory_of old in
-    let k = c.loop-index.index in
-    let now = c.loop-index.image in
-    let after = c.find_if_grey.new.image in
-    let same = c.loop-index.invariant.unchanged in
-    let at : c.region_words-first.result + k ≡ g.region_words + k = omega (arith, c.region_words-first.ensures, ap (λ (d : Config). d.region_words) c.config-config.ensures) in
-    let a = g.region_words + k in
-    let colour : is_grey (config_of now) (memory_of now) (c.region_words-first.result + k) ≡ is_grey g m a =
-    ap (λ (d : Config). is_grey d (memory_of now) (c.region_words-first.result + k)) same.config ∙ ap (λ n. is_grey g n (c.region_words-first.result + k)) (memory_same old now same) ∙ ap (is_grey g m) at in
+    let a : ℕ = c.next_grey-address.result in
+    let is = c.next_grey-address.ensures in
+    let first : c.region_words-first.result ≡ g.region_words = c.region_words-first.ensures ∙ ap (λ (k : Config). k.region_words) c.config-config.ensures in
+    let above : g.region_words ≤ a = omega (arith, is.from, first) in
+    let n : ℕ = a - g.region_words in
+    let plain : 0 + n ≡ n = omega arith in
     record {
-      unchanged = both old now after same c.find_if_grey.ensures.unchanged;
-      found = c.find_if_grey.ensures.found;
-      noted = ⊎_elim
-          (λ (yes : is_grey g m a ≡ true).
-          c.find_if_grey.ensures.noted (colour ∙ yes)
-          ∙ ap (with_address (found_of now)) at
-          ∙ ap (λ xs. with_address xs a) c.loop-index.invariant.noted
-          ∙ grey_more m g k (found_of old) yes)
-          (λ (no : is_grey g m a ≡ false).
-          c.find_if_grey.ensures.none (colour ∙ no) ∙ c.loop-index.invariant.noted ∙ grey_none m g k (found_of old) no)
-          (cases_Bool (is_grey g m a));
+      unchanged = record { config = refl; words = refl };
+      found = c.requires;
+      first = above;
+      last = is.end;
+      grey = is.grey;
+      noted = greys_pass m g 0 n (found_of old) (λ x from below. is.none x (omega (arith, from, first)) (omega (arith, below, above)))
+          ∙ ap (λ j. with_addresses (found_of old) (greys_below g m j)) plain;
     }
 
-pub returns-clause-noted : goal.returns-clause-noted
-returns-clause-noted c =
+pub loop-address-preserved : goal.loop-address-preserved
+loop-address-preserved c =
     let old = c.args.image.now in
-    let all : c.loop-index.index ≡ heap_size (config_of old) =
-    omega (arith, c.loop-index-test.false, c.loop-index.auto.index-end, c.heap_size-index-end.ensures, ap heap_size c.config-config.ensures) in
-    c.loop-index.invariant.noted ∙ ap (λ n. with_addresses (found_of old) (greys_below (config_of old) (memory_of old) n)) all
+    let g = config_of old in
+    let m : Word → ℕ = memory_of old in
+    let now = c.loop-address.image in
+    let after = c.find.new.self in
+    let a : ℕ = c.loop-address.address in
+    let next : ℕ = c.next_grey-address-in-loop-address.result in
+    let was = c.loop-address.invariant in
+    let is = c.next_grey-address-in-loop-address.ensures in
+    let same = both old now after was.unchanged c.find.ensures.unchanged in
+    let colour : (x : ℕ) → is_grey (config_of after) (memory_of after) x ≡ is_grey g m x = λ x.
+    ap (λ (d : Config). is_grey d (memory_of after) x) same.config ∙ ap (λ n. is_grey g n x) (memory_same old after same) in
+    let k : ℕ = a - g.region_words in
+    let at : g.region_words + k ≡ a = omega (arith, was.first) in
+    let n : ℕ = next - (a + 1) in
+    let all : k + 1 + n ≡ next - g.region_words = omega (arith, was.first, is.from) in
+    record {
+      unchanged = same;
+      found = c.find.ensures.found;
+      first = omega (arith, was.first, is.from);
+      last = is.end;
+      grey = λ less. sym (colour next) ∙ is.grey less;
+      noted = c.find.ensures.noted
+          ∙ ap (λ xs. with_address xs a) was.noted
+          ∙ ap (with_address (with_addresses (found_of old) (greys_below g m k))) (sym at)
+          ∙ grey_more m g k (found_of old) (ap (is_grey g m) at ∙ was.grey c.loop-address-test.true)
+          ∙ greys_pass m g (k + 1) n (found_of old) (λ x from below. sym (colour x) ∙ is.none x (omega (arith, from, at)) (omega (arith, below, all, was.first, is.from)))
+          ∙ ap (λ j. with_addresses (found_of old) (greys_below g m j)) all;
+    }

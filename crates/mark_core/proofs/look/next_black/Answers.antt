@@ -1,0 +1,25 @@
+use Rattle.std.proofs.Common.{◌≡◌, ap, ◌∙◌, arith}
+use Rattle.heap_words.specs.declared.config.Config.{Config}
+use Rattle.heap_words.specs.Words.{Black, word_at}
+use Rattle.image_graph.specs.State.{config_of, words_of}
+use Rattle.mark_core.proofs.NextMarked.{some_marks, black_in_row}
+use Rattle.mark_core.proofs.look.next_black.Goals as goal
+
+pub black_at-requires : goal.black_at-requires
+black_at-requires c = some_marks c.config.result
+
+pub returns-clause-none : goal.returns-clause-none
+returns-clause-none c = λ a from below.
+    let g = config_of c.args.image.now in
+    let start : c.black_at.result ≡ word_at g (Black 0) = c.black_at.ensures ∙ ap (λ (k : Config). word_at k (Black 0)) c.config.ensures in
+    black_in_row g (words_of c.args.image.now) c.black_at.result a 0
+    (omega (arith, c.requires.above, from), omega (arith, c.requires.inside, below, c.next_marked.ensures.end))
+    (c.next_marked.ensures.none a from below) start
+
+pub returns-clause-black : goal.returns-clause-black
+returns-clause-black c = λ less.
+    let g = config_of c.args.image.now in
+    let start : c.black_at.result ≡ word_at g (Black 0) = c.black_at.ensures ∙ ap (λ (k : Config). word_at k (Black 0)) c.config.ensures in
+    black_in_row g (words_of c.args.image.now) c.black_at.result c.next_marked.result 1
+    (omega (arith, c.requires.above, c.next_marked.ensures.from), omega (arith, c.requires.inside, less))
+    (c.next_marked.ensures.marked less) start
