@@ -1,13 +1,15 @@
 #!/usr/bin/env python3
-"""Looks whether each line of crates.txt names exactly the crates that the files of its crate name.
+"""Looks whether each line of crates.txt names exactly the crates that the files of its crate name, and how many paths lead down these lines.
 
 usage: crates.py            prints what each line should be, where it is another
-       crates.py --check    the same, and ends with 1 where there is such a line
+       crates.py --check    the same, and ends with 1 where there is such a line, or there are too many paths
        crates.py --write    writes the lines
 
 A file names a crate by a path that begins with it, in code (`heap_words::Config`) or in a definition or a proof
 (`Rattle.heap_words.specs.Words`). The crates of std, and words in comments and strings, do not count. The toolchain walks the lists
-once for each path down, so a name too many in each of several layers costs much before every check.
+once for each path down, and some kits read every file of a library each time that a walk comes to it: with two million paths that took
+more than an hour of a gate, with the number below some minutes. A crate that hands on what it stands on (a `pub use` in its code and in specs/Lib.antt) lets those
+above name it alone, and small crates with one user each can be one.
 """
 import os
 import re
@@ -15,6 +17,8 @@ import sys
 
 TOP = os.path.dirname(os.path.dirname(os.path.abspath(__file__)))
 TABLE = os.path.join(TOP, "crates.txt")
+# So many paths there may be from all crates down.
+MOST_PATHS = 600_000
 # The crates of the kit that a line may name.
 KIT = {"arrayvec", "atomic_table", "crossbeam_deque", "crossbeam_utils"}
 CODE_PATH = re.compile(r"(?<![\w:])(\w+)::")
@@ -60,6 +64,19 @@ def named(crate, known):
     return ((in_code - modules) | in_proofs) & known - {crate}
 
 
+def paths(table):
+    """How many paths lead down from each crate, itself one of them, all together."""
+    direct = {name: below for name, settings, below in table if settings is not None}
+    known = {}
+
+    def count(name):
+        if name not in known:
+            known[name] = 1 + sum(count(it) for it in direct[name] if it in direct)
+        return known[name]
+
+    return sum(map(count, direct))
+
+
 def main(words):
     if words not in ([], ["--check"], ["--write"]):
         sys.exit(__doc__)
@@ -88,6 +105,9 @@ def main(words):
         return 0
     if not wrong:
         print(f"crates.txt names what {len(known)} crates name, and no more")
+        many = paths(table)
+        print(f"{many} paths lead down its lines, of at most {MOST_PATHS}")
+        wrong += many > MOST_PATHS
     return int(wrong > 0 and words == ["--check"])
 
 
