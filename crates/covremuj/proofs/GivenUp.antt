@@ -30,12 +30,12 @@ hollow_has (Some s) is = absurd cc
 pub taken_next : (hs : List Handle) (at : ℕ) (d new : Handle) → at < length hs → new.held ≡ None → any_held (take at (seats_held hs)) ≡ false
     → seats_in (seats_held hs) ≡ seat_in (get_or hs at d).held ++ seats_in (seats_held (slice_set hs at new))
 taken_next [] at d new below empty none = absurd (omega (arith, below))
-taken_next (x ∷ xs) zero d new below empty none = ap (λ (o : Option Seat). seat_in x.held ++ seat_in o ++ seats_in (seats_held xs)) (sym empty)
+taken_next (x ∷ xs) zero d new below empty none = ap (λ (o : Option Seat). seat_in x.held ++ (seat_in o ++ seats_in (seats_held xs))) (sym empty)
 taken_next (x ∷ xs) (suc at) d new below empty none =
     let two = none_held x.held (take at (seats_held xs)) none in
     let hollow : seat_in x.held ≡ [] = hollow_has x.held two.0 in
     ap (λ (ys : List Seat). ys ++ seats_in (seats_held xs)) hollow ∙ taken_next xs at d new (omega (arith, below)) empty two.1
-    ∙ ap (λ (ys : List Seat). seat_in (get_or xs at d).held ++ ys ++ seats_in (seats_held (slice_set xs at new))) (sym hollow)
+    ∙ ap (λ (ys : List Seat). seat_in (get_or xs at d).held ++ (ys ++ seats_in (seats_held (slice_set xs at new)))) (sym hollow)
 
 pub none_left : (os : List (Option Seat)) → any_held os ≡ false → seats_in os ≡ []
 none_left [] none = refl
@@ -106,13 +106,16 @@ over_ended k s numbered role shown =
     by_role (inl below) = inl (grind (arith, nat_tests, below, numbered))
     by_role (inr control) = inr (grind (arith, nat_tests, control, numbered))
 
+from_first : (k : ℕ) → 0 + k ≡ k
+from_first k = omega arith
+
 -- where 0 is answered, seats of one heap make it up
 pub make_up : (os : List (Option Seat)) → AnswersClosing os 0 → AreOfOneHeap (seats_in os) → MakeUpHeap (seats_in os)
 make_up os answer one =
     let shown = done_shows os answer in
     let many : length (seats_in os) ≡ length os = shown_count Numbered (length os) 0 os shown.1 in
     let numbered : (k : ℕ) (s : Seat) → slice_get (seats_in os) k ≡ Some s → ((number_of s == k) ≡ true) × ((seat_count (config_of s).mutators (config_of s).helpers == length os) ≡ true) =
-    λ k s there. parts (number_of s == k) (seat_count (config_of s).mutators (config_of s).helpers == length os) (shown_each Numbered (length os) 0 os shown.1 k s there) in
+    λ k s there. parts (number_of s == k) (seat_count (config_of s).mutators (config_of s).helpers == length os) (subst (λ n. seat_shows Numbered (length os) n s ≡ true) (from_first k) (shown_each Numbered (length os) 0 os shown.1 k s there)) in
     let number : (k : ℕ) (s : Seat) → slice_get (seats_in os) k ≡ Some s → number_of s ≡ k = λ k s there. let is = (numbered k s there).0 in grind (arith, nat_tests, is) in
     record {
       some = let some = shown.0 in omega (arith, some, many);
