@@ -77,6 +77,13 @@ try_users() {
     # shellcheck disable=SC2086
     $CC -std=c11 $STRICT $flags -I"$top/include" -c "$top/library/workers.c" -o "$room/$name/workers.o" || { fail "$name: workers.c"; return; }
     compile "$flags" "$room/$name/misuse" "$users/misuse/test_misuse.c" "$common" && run "$name" "$room/$name/misuse" || failed=1
+    # (where the linker leads the library's calls for memory through the test)
+    wraps=-Wl,--wrap=malloc,--wrap=realloc,--wrap=aligned_alloc
+    if works "$wraps"; then
+        compile "$flags $wraps" "$room/$name/memory" "$users/misuse/test_memory.c" "$common" && run "$name" "$room/$name/memory" || failed=1
+    else
+        say "$name: $CC does not link by --wrap: memory that is refused is not tried"
+    fi
     compile "$flags" "$room/$name/map" "$users/map/map.c" "$users/map/test_map.c" "$common" && run "$name" "$room/$name/map" "$map" || failed=1
     compile "$flags" "$room/$name/queue" "$users/queue/queue.c" "$users/queue/test_queue.c" "$common" && run "$name" "$room/$name/queue" "$queue" || failed=1
     compile "$flags" "$room/$name/loop" "$users/loop/test_loop.c" "$common" && run "$name" "$room/$name/loop" "$loop" || failed=1

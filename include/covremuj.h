@@ -25,10 +25,10 @@
  *
  * WHAT IS PROVED. The functions of the part "The proved functions" below are compiled from proved text. What a seat
  * was answered is its thread's part of a legal history: one order of the calls of all threads, in which each is
- * answered as by a graph of objects that are never moved and never freed (docs/LIBRARY.md says by which contracts, and
- * what none of them says: that it is the same history for all seats). The inline functions, the file
- * library/workers.c, and the wrappers for other languages are not proved. Nothing is claimed about time, progress or
- * fairness.
+ * answered as by a graph of objects that are never moved and never freed. Where cvm_close_all gives up the seats that
+ * one cvm_open gave, it is one history for all of them, in which each call stands once (docs/LIBRARY.md says by which
+ * contracts). The inline functions, the file library/workers.c, and the wrappers for other languages are not proved.
+ * Nothing is claimed about time, progress or fairness.
  *
  * WHAT IS BELIEVED AT THE BORDER. The proved functions check all that they can see: an empty seat, a seat of the
  * wrong kind, a call in progress, numbers out of range. They cannot check this:
@@ -277,7 +277,8 @@ cvm_status cvm_close(cvm_seat *seat);
  * Gives all seats of a heap up that has come to its end, and frees it. `seats` and `count` as for cvm_open; no other
  * call is made on a seat of that heap meanwhile. Answers CVM_NOT_OPEN where a seat is empty; else CVM_NOT_ALL where these
  * are not as many as the heap has, each at the place of its number, or are of two heaps; else CVM_BUSY where a mutator or
- * the control has not ended; and then nothing has changed. Or CVM_DONE.
+ * the control has not ended; and then nothing has changed. Or CVM_DONE, and where these are the seats of one cvm_open, all
+ * calls that they answered stand in one legal history.
  */
 cvm_status cvm_close_all(cvm_seat *seats, size_t count);
 

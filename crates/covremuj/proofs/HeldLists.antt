@@ -31,7 +31,7 @@ open_there [] at d below is = absurd (omega (arith, below))
 open_there (x ∷ xs) zero d below is = some_held x.held (seats_held xs) is
 open_there (x ∷ xs) (suc at) d below is = more_held x.held (seats_held xs) (open_there xs at d (omega (arith, below)) is)
 
-none_held : (o : Option Seat) (others : List (Option Seat)) → any_held (o ∷ others) ≡ false → (is_some o ≡ false) × (any_held others ≡ false)
+pub none_held : (o : Option Seat) (others : List (Option Seat)) → any_held (o ∷ others) ≡ false → (is_some o ≡ false) × (any_held others ≡ false)
 none_held None others is = (refl, is)
 none_held (Some s) others is = absurd cc
 

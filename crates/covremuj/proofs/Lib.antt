@@ -2,3 +2,4 @@ mod HandleWords
 mod Orders
 mod HeldLists
 mod HandlesAsked
+mod GivenUp

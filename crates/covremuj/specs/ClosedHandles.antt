@@ -1,11 +1,21 @@
--- Why a heap whose seats handles hold is not given up.
-use Rattle.std.specs.Prelude.{ℕ, suc, ◌≡◌, ◌==◌, Bool, true, false, ◌&&◌, ◌||◌, ◌⊎◌, List, [], ◌∷◌, length, Option, Some, None, MatchOption, if◌then◌else◌}
+-- Seats of a heap that handles hold, and why it is not given up.
+use Rattle.std.specs.Prelude.{ℕ, suc, ◌≡◌, ◌==◌, Bool, true, false, ◌&&◌, ◌||◌, ◌⊎◌, List, [], ◌∷◌, ◌++◌, length, Option, Some, None, MatchOption, if◌then◌else◌}
 use Rattle.heap_words.specs.Ranges.{seat_count}
 use Rattle.heap_seats.specs.declared.seat.Seat.{Seat}
 use Rattle.heap_seats.specs.Seats.{config_of, number_of, state_in}
 use Rattle.covremuj.specs.declared.asked.Asked.{Asked}
 use Rattle.covremuj.specs.declared.asked.Asked.TheVariants.{Open, Numbered, Over}
 use Rattle.covremuj.specs.Answers.{kind_of, state_number}
+
+-- the seat that a handle holds, if it is open
+abbrev pub seat_in : Option Seat → List Seat
+seat_in None = []
+seat_in (Some s) = s ∷ []
+
+-- the seats that handles hold, in their order
+abbrev pub seats_in : List (Option Seat) → List Seat
+seats_in [] = []
+seats_in (o ∷ others) = seat_in o ++ seats_in others
 
 -- Whether a seat is one of a heap of so many whose number is its place; whether it has ended, or is a helper's.
 abbrev pub seat_shows : Asked → (count place : ℕ) → Seat → Bool

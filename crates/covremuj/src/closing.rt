@@ -1,11 +1,14 @@
-ghost use Rattle.std.specs.Prelude.{◌≡◌, ◌≢◌, false, None, MatchOption, length};
+ghost use Rattle.std.specs.Prelude.{◌≡◌, ◌≢◌, false, None, MatchOption, length, List, ◌++◌};
+ghost use Rattle.std.specs.Option.{option_map};
+ghost use Rattle.heap_seats.specs.declared.seat.Seat.{Seat as Seats};
+ghost use Rattle.heap_seats.specs.Gathered.{AreOfOneHeap, AreGathered, MakeUpHeap, HaveHistory};
 ghost use Rattle.covremuj.specs.OpenedHandles.{seats_held, any_held};
 ghost use Rattle.covremuj.specs.ClosedHandles as closed;
 
 use crate::asked::Asked;
 use crate::border::{BUSY, DONE, NOT_ALL, NOT_OPEN, kind_of, state_number};
 use crate::handle::Handle;
-use heap_seats::{Seat, Share};
+use heap_seats::{Gathering, Seat, Share};
 use std::alloc::Global;
 
 /// Gives a seat up. The handle is empty afterwards.
@@ -21,18 +24,20 @@ pub extern "C" fn cvm_close(alloc: Global, handle: &mut Handle) -> u32
     DONE
 }
 
-/// Gives all seats of a heap up at once, as `cvm_open` gave them, and with them the heap, whose mutators and control have ended.
+/// Gives all seats of a heap up at once, as `cvm_open` gave them, and with them the heap, whose mutators and control have ended. What one
+/// call of `cvm_open` gave is of one heap, and each other call leaves a seat with its heap: then there is one history of all their calls.
 #[unsafe(no_mangle)]
 pub extern "C" fn cvm_close_all(alloc: Global, handles: &mut [Handle]) -> u32
     ensures answer { closed.AnswersClosing (seats_held handles.old) result }
     ensures unchanged { result ≢ 0 → seats_held handles.new ≡ seats_held handles.old }
     ensures empty { result ≡ 0 → any_held (seats_held handles.new) ≡ false }
+    ensures history { result ≡ 0 → AreOfOneHeap (closed.seats_in (seats_held handles.old)) → HaveHistory (closed.seats_in (seats_held handles.old)) }
 {
     let why = refuses(alloc, handles);
     if why != DONE {
         return why;
     }
-    empty_all(alloc, handles);
+    give_up_all(alloc, handles);
     DONE
 }
 
@@ -149,10 +154,23 @@ fn is_of(alloc: Global, handle: &mut Handle, share: &Share) -> bool
 }
 
 // Gives each seat up.
-fn empty_all(alloc: Global, handles: &mut [Handle])
-    ensures { any_held (seats_held handles.new) ≡ false }
+fn give_up_all(alloc: Global, handles: &mut [Handle])
+    ensures empty { any_held (seats_held handles.new) ≡ false }
+    ensures history { MakeUpHeap (closed.seats_in (seats_held handles.old)) → HaveHistory (closed.seats_in (seats_held handles.old)) }
 {
+    let mut gathering = Gathering::empty();
     for at in 0..handles.len() {
-        drop(handles[at].take(alloc));
+        gathering = with_next(gathering, handles[at].take(alloc));
+    }
+    gathering.end();
+}
+
+// One seat more, if there is one.
+fn with_next(gathering: Gathering, seat: Option<Box<Seat>>) -> Gathering
+    ensures { (before : List Seats) → AreGathered before gathering → AreGathered (before ++ closed.seat_in (option_map (λ b. b.value) seat)) result }
+{
+    match seat {
+        Some(seat) => gathering.with(Box::into_inner(seat)),
+        None => gathering,
     }
 }

@@ -6,11 +6,12 @@ use Rattle.std.specs.Option.{is_some}
 use Rattle.std.proofs.lemmas.Bool.Decides.{nat_tests}
 use Rattle.heap_words.specs.declared.config.Config.{Config}
 use Rattle.heap_words.specs.Ranges.{seat_count}
-use Rattle.steps_base.specs.Steps.{IsReached}
+use Rattle.steps_base.specs.Steps.{Stage, Event, IsReached}
+use Rattle.shen_graph.specs.declared.order.Order.{Order}
 use Rattle.shen_graph.specs.declared.order.Order.TheVariants.{Nothing}
 use Rattle.shen_graph.specs.Order.{is_nothing, hinting}
 use Rattle.mutator.specs.Orders.{is_between_calls}
-use Rattle.shared_table.specs.Views.{machine_of, whole, merged, whichever_is_there}
+use Rattle.shared_table.specs.Views.{View, machine_of, whole, merged, whichever_is_there}
 use Rattle.shared_table.proofs.Kept.{kept_here}
 use Rattle.shared_table.proofs.ViewsShow.{machine_of-merged, machine_of-whole}
 use Rattle.heap_machines.specs.Pause.{pause_image}
@@ -18,7 +19,7 @@ use Rattle.heap_machines.proofs.Pauses.{heap_pauses}
 use Rattle.heap_machines.proofs.Turns.{turn_idle}
 use Rattle.heap_machines.proofs.RestedGraph.{entries_at_rest}
 use Rattle.step_core.specs.Actor.{Actor}
-use Rattle.step_core.specs.Begins.{Run}
+use Rattle.step_core.specs.Begins.{Run, reached}
 use Rattle.step_core.specs.Machines.{is_resting, is_for_working, takes_of, may_begin}
 use Rattle.step_core.specs.Settled.{control_number}
 use Rattle.step_core.proofs.Theorem.EveryList.{run_sound}
@@ -38,7 +39,7 @@ use Rattle.table_heap.proofs.Running.{at_number, in_view, in_memory, role_at}
 use Rattle.heap_seats.specs.declared.progress.State.TheVariants.{Ended}
 use Rattle.heap_seats.specs.declared.seat.Seat.{Seat}
 use Rattle.heap_seats.specs.Seats.{actor_in, machine_of_seat, state_in, state_by}
-use Rattle.heap_seats.specs.GivenUp.{AreJoined, AreAllSeats, AreOver, HaveNot, HaveOneHistory}
+use Rattle.heap_seats.specs.GivenUp.{AreMachinesOf, AreJoined, AreAllSeats, AreOver, HaveNot, IsHistoryOf, HaveOneHistory}
 use Rattle.heap_seats.proofs.Known.{has_seen}
 use Rattle.heap_seats.proofs.Opened.{get_last, get_init}
 
@@ -61,12 +62,14 @@ one_of y zero x is = same_some y x is
 one_of y (suc k) x is = absurd cc
 
 -- one seat alone
-pub joined_one : (s : Seat) → AreJoined (arc_value s.heap) (s ∷ []) s.bundle
-joined_one s = record {
-  of = s.fits;
+pub machines_one : (s : Seat) → AreMachinesOf (s ∷ []) (view_of s.bundle)
+machines_one s = record {
   each = λ k t there. let seat = one_of s k t there in subst (λ (x : Seat). machine_of (view_of s.bundle) x.number ≡ Some (actor_in x)) seat (seat_there s);
   only = λ number absent. none_at (machine_of (view_of s.bundle) number) (λ a is. absent 0 s refl (sym (seat_only s number a is)));
 }
+
+pub joined_one : (s : Seat) → AreJoined (arc_value s.heap) (s ∷ []) s.bundle
+joined_one s = record { of = s.fits; machines = machines_one s }
 
 -- what is under a number where two are joined
 first_there : {A : Type 0} (o p : Option A) (a : A) → o ≡ Some a → whichever_is_there o p ≡ Some a
@@ -82,34 +85,34 @@ in_both (y ∷ xs) ys zero x is = inl is
 in_both (y ∷ xs) ys (suc k) x is = in_both xs ys k x is
 
 -- and one more behind it
-module _ (h : Heap) (before : List Seat) (s : Seat) (old new : Bundle) (joined : AreJoined h before old) (absent : HaveNot before s.number) (of : IsBundleOf new h) (view : view_of new ≡ merged (view_of old) (view_of s.bundle)) where
-  under : (k : ℕ) → machine_of (view_of new) k ≡ whichever_is_there (machine_of (view_of old) k) (machine_of (view_of s.bundle) k)
-  under k = ap (λ v. machine_of v k) view ∙ machine_of-merged (view_of old) (view_of s.bundle) k
+module _ (before : List Seat) (s : Seat) (old new : View Actor) (theirs : AreMachinesOf before old) (absent : HaveNot before s.number) (view : new ≡ merged old (view_of s.bundle)) where
+  under : (k : ℕ) → machine_of new k ≡ whichever_is_there (machine_of old k) (machine_of (view_of s.bundle) k)
+  under k = ap (λ v. machine_of v k) view ∙ machine_of-merged old (view_of s.bundle) k
 
-  new_there : machine_of (view_of old) s.number ≡ None
-  new_there = joined.only s.number absent
+  new_there : machine_of old s.number ≡ None
+  new_there = theirs.only s.number absent
 
-  mine : machine_of (view_of new) s.number ≡ Some (actor_in s)
-  mine = under s.number ∙ second_there (machine_of (view_of old) s.number) (machine_of (view_of s.bundle) s.number) (actor_in s) new_there (seat_there s)
+  mine : machine_of new s.number ≡ Some (actor_in s)
+  mine = under s.number ∙ second_there (machine_of old s.number) (machine_of (view_of s.bundle) s.number) (actor_in s) new_there (seat_there s)
 
-  each_there : (k : ℕ) (t : Seat) → (slice_get before k ≡ Some t) ⊎ ((j : ℕ) × (slice_get (s ∷ []) j ≡ Some t)) → machine_of (view_of new) t.number ≡ Some (actor_in t)
-  each_there k t (inl is) = under t.number ∙ first_there (machine_of (view_of old) t.number) (machine_of (view_of s.bundle) t.number) (actor_in t) (joined.each k t is)
-  each_there k t (inr is) = subst (λ (x : Seat). machine_of (view_of new) x.number ≡ Some (actor_in x)) (one_of s is.0 t is.1) mine
+  each_there : (k : ℕ) (t : Seat) → (slice_get before k ≡ Some t) ⊎ ((j : ℕ) × (slice_get (s ∷ []) j ≡ Some t)) → machine_of new t.number ≡ Some (actor_in t)
+  each_there k t (inl is) = under t.number ∙ first_there (machine_of old t.number) (machine_of (view_of s.bundle) t.number) (actor_in t) (theirs.each k t is)
+  each_there k t (inr is) = subst (λ (x : Seat). machine_of new x.number ≡ Some (actor_in x)) (one_of s is.0 t is.1) mine
 
   none_there : (o p : Option Actor) → o ≡ None → p ≡ None → whichever_is_there o p ≡ None
   none_there o p first second = ap (λ x. whichever_is_there x p) first ∙ second
 
-  only_these : (number : ℕ) → HaveNot (before ++ s ∷ []) number → machine_of (view_of new) number ≡ None
+  only_these : (number : ℕ) → HaveNot (before ++ s ∷ []) number → machine_of new number ≡ None
   only_these number none =
-      under number ∙ none_there (machine_of (view_of old) number) (machine_of (view_of s.bundle) number) (joined.only number (λ k t is. none k t (get_init before (s ∷ []) k t is)))
+      under number ∙ none_there (machine_of old number) (machine_of (view_of s.bundle) number) (theirs.only number (λ k t is. none k t (get_init before (s ∷ []) k t is)))
       (none_at (machine_of (view_of s.bundle) number) (λ a is. none (length before) s (get_last before s) (sym (seat_only s number a is))))
 
-  pub joined_more : AreJoined h (before ++ s ∷ []) new
-  joined_more = record {
-    of = of;
-    each = λ k t there. each_there k t (in_both before (s ∷ []) k t there);
-    only = only_these;
-  }
+  pub machines_more : AreMachinesOf (before ++ s ∷ []) new
+  machines_more = record { each = λ k t there. each_there k t (in_both before (s ∷ []) k t there); only = only_these }
+
+pub joined_more : (h : Heap) (before : List Seat) (s : Seat) (old new : Bundle) → AreJoined h before old → HaveNot before s.number → IsBundleOf new h → view_of new ≡ merged (view_of old) (view_of s.bundle)
+    → AreJoined h (before ++ s ∷ []) new
+joined_more h before s old new joined absent of view = record { of = of; machines = machines_more before s (view_of old) (view_of new) joined.machines absent view }
 
 -- ---- all of them
 
@@ -171,39 +174,24 @@ module _ (s : Seat) (over : state_in s ≡ Ended) where
   seat_rests : nat_lt s.number s.config.mutators ≡ true → is_resting (actor_in s).machine ≡ true
   seat_rests is = subst (λ m. is_resting m ≡ true) found.2 (no_turn_rests found.0 (role ∙ is) takes_none)
 
-module _ (c : Config) (h : Heap) (all : List Seat) (b : Bundle) (seats : AreAllSeats c h all) (joined : AreJoined h all b) where
-  each_is : (k : ℕ) (s : Seat) → slice_get all k ≡ Some s → machine_of (view_of b) k ≡ Some (actor_in s)
-  each_is k s there = ap (machine_of (view_of b)) (sym (seats.number k s there)) ∙ joined.each k s there
+module _ (c : Config) (h : Heap) (all : List Seat) (view : View Actor) (seats : AreAllSeats c h all) (theirs : AreMachinesOf all view) where
+  each_is : (k : ℕ) (s : Seat) → slice_get all k ≡ Some s → machine_of view k ≡ Some (actor_in s)
+  each_is k s there = ap (machine_of view) (sym (seats.number k s there)) ∙ theirs.each k s there
+
+  -- the seat of each number
+  seat_under : (k : ℕ) → k < seat_count c.mutators c.helpers → (s : Seat) × (slice_get all k ≡ Some s)
+  seat_under k inside = some_at all k (let count = seats.count in omega (arith, inside, count))
 
   -- the heap has these sizes
   heap_is : (k : ℕ) (s : Seat) → slice_get all k ≡ Some s → h.config ≡ c
   heap_is k s there = ap (λ (g : Heap). g.config) (sym (seats.heap k s there)) ∙ sym s.fits.config ∙ s.same_config ∙ seats.config k s there
 
-  first : (s : Seat) × (slice_get all 0 ≡ Some s)
-  first = some_at all 0 (let count = seats.count in omega (arith, count))
-
-  sizes : b.config ≡ c
-  sizes = joined.of.config ∙ heap_is 0 first.0 first.1
-
-  pub has_all : closed.HasAll b
-  has_all k below =
-      let inside : k < seat_count c.mutators c.helpers = subst (λ (x : Config). k < seat_count x.mutators x.helpers) sizes below in
-      let s = some_at all k (let count = seats.count in omega (arith, inside, count)) in
-      has_seen b k ∙ ap is_some (each_is k s.0 s.1)
-
-  pub control_idle : AreOver c all → closed.IsControlIdle b
-  control_idle over a there =
-      let at = control_number c in
-      let s = some_at all at (let count = seats.count in omega (arith, count)) in
-      let here : machine_of (view_of b) at ≡ Some a = ap (λ (x : Config). machine_of (view_of b) (control_number x)) (sym sizes) ∙ there in
-      let same : actor_in s.0 ≡ a = same_some (actor_in s.0) a (sym (each_is at s.0 s.1) ∙ here) in
-      let number = seats.number at s.0 s.1 in
-      let mutators : s.0.config.mutators ≡ c.mutators = ap (λ (x : Config). x.mutators) (seats.config at s.0 s.1) in
-      let other : nat_lt s.0.number s.0.config.mutators ≡ false = grind (arith, nat_tests, number, mutators) in
-      subst (λ (x : Actor). takes_of x.machine Nothing ≡ false) same (seat_idle s.0 (over at s.0 s.1 (inr refl)) other)
-
   pub config_is : h.config ≡ c
-  config_is = heap_is 0 first.0 first.1
+  config_is = let first = seat_under 0 (omega arith) in heap_is 0 first.0 first.1
+
+  -- each machine is there
+  pub each_here : (k : ℕ) → k < seat_count c.mutators c.helpers → is_some (machine_of view k) ≡ true
+  each_here k inside = let s = seat_under k inside in ap is_some (each_is k s.0 s.1)
 
   -- a mutator's seat has no call in progress
   rests : AreOver c all → (k : ℕ) (s : Seat) → slice_get all k ≡ Some s → k < c.mutators → is_resting (actor_in s).machine ≡ true
@@ -213,32 +201,63 @@ module _ (c : Config) (h : Heap) (all : List Seat) (b : Bundle) (seats : AreAllS
       let is : nat_lt s.number s.config.mutators ≡ true = grind (arith, nat_tests, number, mutators, below) in
       seat_rests s (over k s there (inl below)) is
 
+  -- where these are all machines of a stage
+  module _ (stage : Stage Actor) (is_whole : view ≡ whole stage.machines) where
+    stage_there : (k : ℕ) → slice_get stage.machines k ≡ machine_of view k
+    stage_there k = sym (machine_of-whole stage.machines k) ∙ ap (λ v. machine_of v k) (sym is_whole)
+
+    pub stage_rests : AreOver c all → (k : ℕ) (a : Actor) → k < c.mutators → slice_get stage.machines k ≡ Some a → is_resting a.machine ≡ true
+    stage_rests over k a below there =
+        let s = seat_under k (omega (arith, below)) in
+        let same : actor_in s.0 ≡ a = same_some (actor_in s.0) a (sym (each_is k s.0 s.1) ∙ sym (stage_there k) ∙ there) in
+        subst (λ (x : Actor). is_resting x.machine ≡ true) same (rests over k s.0 s.1 below)
+
+    -- one history, of the events that lead there
+    pub history_there : AreOver c all → IsReached (heap_kind h.config) (heap_opening h.config) stage → (events : List (Event Order)) × (reached pause_image c events ≡ stage) × IsHistoryOf c all events
+    history_there over reached_h =
+        let led : IsReached (heap_kind c) (heap_opening c) stage = subst (λ (x : Config). IsReached (heap_kind x) (heap_opening x) stage) config_is reached_h in
+        let run : Run c = run_of c led.events in
+        let sound = run_sound pause_image heap_pauses c run in (
+          led.events,
+          led.ends,
+          record {
+            legal = sound.legal;
+            crowded = sound.crowded;
+            entries = sound.entries;
+            parts = λ k s there below.
+                let here : slice_get stage.machines k ≡ Some (actor_in s) = stage_there k ∙ each_is k s there in
+                entries_at_rest c run k (actor_in s) (ap (λ st. slice_get st.machines k) led.ends ∙ here) (rests over k s there below);
+          },
+        )
+
+module _ (c : Config) (h : Heap) (all : List Seat) (b : Bundle) (seats : AreAllSeats c h all) (joined : AreJoined h all b) where
+  sizes : b.config ≡ c
+  sizes = joined.of.config ∙ config_is c h all (view_of b) seats joined.machines
+
+  pub has_all : closed.HasAll b
+  has_all k below =
+      let inside : k < seat_count c.mutators c.helpers = subst (λ (x : Config). k < seat_count x.mutators x.helpers) sizes below in
+      has_seen b k ∙ each_here c h all (view_of b) seats joined.machines k inside
+
+  pub control_idle : AreOver c all → closed.IsControlIdle b
+  control_idle over a there =
+      let at = control_number c in
+      let s = some_at all at (let count = seats.count in omega (arith, count)) in
+      let here : machine_of (view_of b) at ≡ Some a = ap (λ (x : Config). machine_of (view_of b) (control_number x)) (sym sizes) ∙ there in
+      let same : actor_in s.0 ≡ a = same_some (actor_in s.0) a (sym (each_is c h all (view_of b) seats joined.machines at s.0 s.1) ∙ here) in
+      let number = seats.number at s.0 s.1 in
+      let mutators : s.0.config.mutators ≡ c.mutators = ap (λ (x : Config). x.mutators) (seats.config at s.0 s.1) in
+      let other : nat_lt s.0.number s.0.config.mutators ≡ false = grind (arith, nat_tests, number, mutators) in
+      subst (λ (x : Actor). takes_of x.machine Nothing ≡ false) same (seat_idle s.0 (over at s.0 s.1 (inr refl)) other)
+
   -- what is left of the machines
   module _ (left : Closed) (view : view_of b ≡ whole (closed.machines_of left)) where
-    left_there : (k : ℕ) → slice_get (closed.machines_of left) k ≡ machine_of (view_of b) k
-    left_there k = sym (machine_of-whole (closed.machines_of left) k) ∙ ap (λ v. machine_of v k) (sym view)
-
     pub all_rest : closed.config_of left ≡ c → AreOver c all → closed.AllRest left
     all_rest is over k a below there =
         let mutators : (closed.config_of left).mutators ≡ c.mutators = ap (λ (x : Config). x.mutators) is in
-        let inside : k < c.mutators = omega (arith, below, mutators) in
-        let s = some_at all k (let count = seats.count in omega (arith, count, inside)) in
-        let same : actor_in s.0 ≡ a = same_some (actor_in s.0) a (sym (each_is k s.0 s.1) ∙ sym (left_there k) ∙ there) in
-        subst (λ (x : Actor). is_resting x.machine ≡ true) same (rests over k s.0 s.1 inside)
+        stage_rests c h all (view_of b) seats joined.machines (closed.stage_of left) view over k a (omega (arith, below, mutators)) there
 
-    -- one history
     pub one_history : AreOver c all → IsReached (heap_kind h.config) (heap_opening h.config) (closed.stage_of left) → HaveOneHistory c all left
     one_history over reached_h =
-        let reached : IsReached (heap_kind c) (heap_opening c) (closed.stage_of left) = subst (λ (x : Config). IsReached (heap_kind x) (heap_opening x) (closed.stage_of left)) config_is reached_h in
-        let run : Run c = run_of c reached.events in
-        let sound = run_sound pause_image heap_pauses c run in
-        record {
-          events = reached.events;
-          ends = reached.ends;
-          legal = sound.legal;
-          crowded = sound.crowded;
-          entries = sound.entries;
-          parts = λ k s there below.
-              let here : slice_get (closed.machines_of left) k ≡ Some (actor_in s) = left_there k ∙ each_is k s there in
-              entries_at_rest c run k (actor_in s) (ap (λ st. slice_get st.machines k) reached.ends ∙ here) (rests over k s there below);
-        }
+        let found = history_there c h all (view_of b) seats joined.machines (closed.stage_of left) view over reached_h in
+        record { events = found.0; ends = found.1; history = found.2 }

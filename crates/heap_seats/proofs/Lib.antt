@@ -5,3 +5,4 @@ pub mod Loops
 pub mod OrderRefusals
 pub mod Opened
 pub mod Joined
+pub mod Together

@@ -8,7 +8,8 @@ use Rattle.shen_graph.specs.Crowd.{AreCrowded}
 use Rattle.shen_graph.specs.History.{EachIsLegal, of_thread}
 use Rattle.steps_base.specs.Steps.{Event}
 use Rattle.heap_machines.specs.Pause.{pause_image}
-use Rattle.shared_table.specs.Views.{machine_of}
+use Rattle.shared_table.specs.Views.{View, machine_of}
+use Rattle.step_core.specs.Actor.{Actor}
 use Rattle.step_core.specs.Begins.{reached, first_graph, past}
 use Rattle.step_core.specs.Begun.{scripts_begun}
 use Rattle.step_core.specs.Settled.{control_number}
@@ -35,11 +36,15 @@ sizes_closing closing = heap_sizes (heap_closing closing)
 abbrev pub HaveNot : List Seat → ℕ → Type 0
 HaveNot seats number = (k : ℕ) (s : Seat) → slice_get seats k ≡ Some s → number_of s ≢ number
 
--- The bundle has the machine of each of these seats of one heap, and no other.
+-- The view has the machine of each of these seats, under its number, and no other.
+pub record AreMachinesOf (seats : List Seat) (view : View Actor) : Type 0 where
+  pub each : (k : ℕ) (s : Seat) → slice_get seats k ≡ Some s → machine_of view (number_of s) ≡ Some (actor_in s)
+  pub only : (number : ℕ) → HaveNot seats number → machine_of view number ≡ None
+
+-- The bundle has the machines of these seats of one heap.
 pub record AreJoined (h : Heap) (seats : List Seat) (b : Bundle) : Type 0 where
   pub of : IsBundleOf b h
-  pub each : (k : ℕ) (s : Seat) → slice_get seats k ≡ Some s → machine_of (view_of b) (number_of s) ≡ Some (actor_in s)
-  pub only : (number : ℕ) → HaveNot seats number → machine_of (view_of b) number ≡ None
+  pub machines : AreMachinesOf seats (view_of b)
 
 -- these are the seats that are given up
 abbrev pub AreGivenUp : List Seat → Closing → Type 0
@@ -63,13 +68,16 @@ pub record MayEndHeap (closing : Closing) : Type 0 where
   pub all : AreAllSeats (sizes_closing closing) (heap_closing closing) seats
   pub over : AreOver (sizes_closing closing) seats
 
--- Some events lead from the opening to just the words and machines that are left. Their history is legal, and each allocation that it refuses
--- was crowded out. Each of its entries is a mutator's, and the part of each mutator is the calls of its seat: each call stands there once, in
--- the order in which the seat was answered, and no other.
-pub record HaveOneHistory (c : Config) (seats : List Seat) (left : Left) : Type 0 where
-  pub events : List (Event Order)
-  pub ends : reached pause_image c events ≡ closed.stage_of left
+-- The history of these events is legal, and each allocation that it refuses was crowded out. Each of its entries is a mutator's, and the part
+-- of each mutator is the calls of its seat: each call stands there once, in the order in which the seat was answered, and no other.
+pub record IsHistoryOf (c : Config) (seats : List Seat) (events : List (Event Order)) : Type 0 where
   pub legal : EachIsLegal c.regions c.region_words (first_graph c) (past pause_image c events)
   pub crowded : AreCrowded c.regions c.region_words (first_graph c) (scripts_begun c (reached pause_image c events)) (past pause_image c events)
   pub entries : All (IsSettled c.mutators) (past pause_image c events)
   pub parts : (k : ℕ) (s : Seat) → slice_get seats k ≡ Some s → k < c.mutators → of_thread (past pause_image c events) (k + 1) ≡ calls_of s
+
+-- Some events lead from the opening to just the words and machines that are left, and their history is that of the seats.
+pub record HaveOneHistory (c : Config) (seats : List Seat) (left : Left) : Type 0 where
+  pub events : List (Event Order)
+  pub ends : reached pause_image c events ≡ closed.stage_of left
+  pub history : IsHistoryOf c seats events

@@ -4,3 +4,4 @@ pub mod Ordering
 pub mod Going
 pub mod FreshSeats
 pub mod GivenUp
+pub mod Gathered

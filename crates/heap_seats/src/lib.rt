@@ -3,12 +3,14 @@
 #![tactic(auto)]
 
 mod closing;
+mod gathering;
 mod opening;
 mod progress;
 mod seat;
 mod share;
 
 pub use closing::Closing;
+pub use gathering::Gathering;
 pub use opening::open_seats;
 pub use progress::{Progress, Refused, State};
 pub use seat::Seat;

@@ -9,3 +9,4 @@ pub mod Driven
 pub mod Driving
 pub mod Hinted
 pub mod Sharing
+pub mod Gathered

@@ -1,0 +1,126 @@
+-- Seats that are taken out of their handles, and what is known of them once all is asked.
+use Rattle.std.proofs.Common.{◌≡◌, ◌<◌, ◌⊎◌, inl, inr, ℕ, zero, suc, ◌+◌, Bool, true, false, ◌&&◌, ◌||◌, List, [], ◌∷◌, ◌++◌, length, take, get_or, Option, Some, None, MatchOption, refl, sym, ap, ◌∙◌, subst, arith}
+use Rattle.std.specs.Prelude.{slice_get, slice_set, nat_lt, ◌==◌, if◌then◌else◌}
+use Rattle.std.specs.Global.{Box}
+use Rattle.std.specs.Option.{option_map, is_some}
+use Rattle.std.proofs.lemmas.Bool.Decides.{nat_tests}
+use Rattle.heap_words.specs.Ranges.{seat_count}
+use Rattle.step_core.specs.Settled.{control_number}
+use Rattle.heap_seats.specs.declared.progress.State.{State}
+use Rattle.heap_seats.specs.declared.progress.State.TheVariants.{Free, AtWork, Ended}
+use Rattle.heap_seats.specs.declared.seat.Seat.{Seat}
+use Rattle.heap_seats.specs.Seats.{config_of, number_of, is_mutator, state_in}
+use Rattle.heap_seats.specs.Gathered.{AreOfOneHeap, MakeUpHeap}
+use Rattle.covremuj.specs.declared.asked.Asked.{Asked}
+use Rattle.covremuj.specs.declared.asked.Asked.TheVariants.{Open, Numbered, Over}
+use Rattle.covremuj.specs.declared.handle.Handle.{Handle}
+use Rattle.covremuj.specs.Answers.{kind_of, state_number}
+use Rattle.covremuj.specs.OpenedHandles.{seats_held, any_held}
+use Rattle.covremuj.specs.ClosedHandles.{seat_in, seats_in, seat_shows, shows, all_show, each_shows, AnswersBy, AnswersClosing}
+use Rattle.covremuj.proofs.HandlesAsked.{parts}
+use Rattle.covremuj.proofs.HeldLists.{none_held}
+
+-- ---- taken out
+
+hollow_has : (o : Option Seat) → is_some o ≡ false → seat_in o ≡ []
+hollow_has None is = refl
+hollow_has (Some s) is = absurd cc
+
+-- where those before it are empty, the first seat is that of this handle
+pub taken_next : (hs : List Handle) (at : ℕ) (d new : Handle) → at < length hs → new.held ≡ None → any_held (take at (seats_held hs)) ≡ false
+    → seats_in (seats_held hs) ≡ seat_in (get_or hs at d).held ++ seats_in (seats_held (slice_set hs at new))
+taken_next [] at d new below empty none = absurd (omega (arith, below))
+taken_next (x ∷ xs) zero d new below empty none = ap (λ (o : Option Seat). seat_in x.held ++ (seat_in o ++ seats_in (seats_held xs))) (sym empty)
+taken_next (x ∷ xs) (suc at) d new below empty none =
+    let two = none_held x.held (take at (seats_held xs)) none in
+    let hollow : seat_in x.held ≡ [] = hollow_has x.held two.0 in
+    ap (λ (ys : List Seat). ys ++ seats_in (seats_held xs)) hollow ∙ taken_next xs at d new (omega (arith, below)) empty two.1
+    ∙ ap (λ (ys : List Seat). seat_in (get_or xs at d).held ++ (ys ++ seats_in (seats_held (slice_set xs at new)))) (sym hollow)
+
+pub none_left : (os : List (Option Seat)) → any_held os ≡ false → seats_in os ≡ []
+none_left [] none = refl
+none_left (None ∷ os) none = none_left os none
+none_left (Some s ∷ os) none = absurd cc
+
+-- what a handle gave is what it held
+pub given_is_held : (o : Option (Box Seat)) (held : Option Seat) → MatchOption o (held ≡ None) (λ (b : Box Seat). held ≡ Some b.value) → option_map (λ (b : Box Seat). b.value) o ≡ held
+given_is_held None held is = sym is
+given_is_held (Some b) held is = sym is
+
+-- ---- asked
+
+same_some : {A : Type 0} (x y : A) → Some x ≡ Some y → x ≡ y
+same_some x y is = cc
+
+-- each seat shows it, at its place
+pub shown_each : (asked : Asked) (count place : ℕ) (os : List (Option Seat)) → all_show asked count place os ≡ true → (k : ℕ) (s : Seat) → slice_get (seats_in os) k ≡ Some s → seat_shows asked count (place + k) s ≡ true
+shown_each asked count place [] all k s there = absurd cc
+shown_each asked count place (None ∷ os) all k s there = absurd cc
+shown_each asked count place (Some t ∷ os) all zero s there =
+    let first : place ≡ place + 0 = omega arith in
+    subst (λ n. seat_shows asked count n s ≡ true) first
+    (subst (λ x. seat_shows asked count place x ≡ true) (same_some t s there) (parts (seat_shows asked count place t) (all_show asked count (suc place) os) all).0)
+shown_each asked count place (Some t ∷ os) all (suc k) s there =
+    let next : suc place + k ≡ place + suc k = omega arith in
+    subst (λ n. seat_shows asked count n s ≡ true) next (shown_each asked count (suc place) os (parts (seat_shows asked count place t) (all_show asked count (suc place) os) all).1 k s there)
+
+-- and there are as many as handles
+pub shown_count : (asked : Asked) (count place : ℕ) (os : List (Option Seat)) → all_show asked count place os ≡ true → length (seats_in os) ≡ length os
+shown_count asked count place [] all = refl
+shown_count asked count place (None ∷ os) all = absurd cc
+shown_count asked count place (Some t ∷ os) all = ap suc (shown_count asked count (suc place) os (parts (seat_shows asked count place t) (all_show asked count (suc place) os) all).1)
+
+-- 0 answers that all was shown
+done_by : (filled numbered over : Bool) → AnswersBy filled numbered over 0 → (numbered ≡ true) × (over ≡ true)
+done_by true true true by = (refl, refl)
+done_by true true false (inl is) = absurd cc
+done_by true true false (inr is) = absurd cc
+done_by true false over by = absurd cc
+done_by false numbered over by = absurd cc
+
+done_shows : (os : List (Option Seat)) → AnswersClosing os 0 → (0 < length os) × (each_shows Numbered os ≡ true) × (each_shows Over os ≡ true)
+done_shows [] answer = absurd cc
+done_shows (o ∷ os) answer = let two = done_by (each_shows Open (o ∷ os)) (each_shows Numbered (o ∷ os)) (each_shows Over (o ∷ os)) answer in (omega arith, two.0, two.1)
+
+ended_is : (state : State) → (state_number state == 2) ≡ true → state ≡ Ended
+ended_is Free is = absurd cc
+ended_is AtWork is = absurd cc
+ended_is Ended is = refl
+
+either_second : (a b : Bool) → a ≡ false → (a || b) ≡ true → b ≡ true
+either_second true b no_first is = absurd cc
+either_second false b no_first is = is
+
+kind_not : (mutator helper : Bool) → (mutator ≡ true) ⊎ (helper ≡ false) → ((if mutator then 1 else (if helper then 2 else 3)) == 2) ≡ false
+kind_not true helper is = refl
+kind_not false false is = refl
+kind_not false true (inl is) = absurd cc
+kind_not false true (inr is) = absurd cc
+
+-- a mutator or the control that shows it is over has ended
+over_ended : (k : ℕ) (s : Seat) → number_of s ≡ k → (k < (config_of s).mutators) ⊎ (k ≡ control_number (config_of s)) → seat_shows Over 0 0 s ≡ true → state_in s ≡ Ended
+over_ended k s numbered role shown =
+    ended_is (state_in s) (either_second (kind_of s == 2) (state_number (state_in s) == 2) (kind_not (is_mutator s) (nat_lt (number_of s) ((config_of s).mutators + (config_of s).helpers)) (by_role role)) shown)
+  where
+    by_role : (k < (config_of s).mutators) ⊎ (k ≡ control_number (config_of s)) → (is_mutator s ≡ true) ⊎ (nat_lt (number_of s) ((config_of s).mutators + (config_of s).helpers) ≡ false)
+    by_role (inl below) = inl (grind (arith, nat_tests, below, numbered))
+    by_role (inr control) = inr (grind (arith, nat_tests, control, numbered))
+
+from_first : (k : ℕ) → 0 + k ≡ k
+from_first k = omega arith
+
+-- where 0 is answered, seats of one heap make it up
+pub make_up : (os : List (Option Seat)) → AnswersClosing os 0 → AreOfOneHeap (seats_in os) → MakeUpHeap (seats_in os)
+make_up os answer one =
+    let shown = done_shows os answer in
+    let many : length (seats_in os) ≡ length os = shown_count Numbered (length os) 0 os shown.1 in
+    let numbered : (k : ℕ) (s : Seat) → slice_get (seats_in os) k ≡ Some s → ((number_of s == k) ≡ true) × ((seat_count (config_of s).mutators (config_of s).helpers == length os) ≡ true) =
+    λ k s there. parts (number_of s == k) (seat_count (config_of s).mutators (config_of s).helpers == length os) (subst (λ n. seat_shows Numbered (length os) n s ≡ true) (from_first k) (shown_each Numbered (length os) 0 os shown.1 k s there)) in
+    let number : (k : ℕ) (s : Seat) → slice_get (seats_in os) k ≡ Some s → number_of s ≡ k = λ k s there. let is = (numbered k s there).0 in grind (arith, nat_tests, is) in
+    record {
+      some = let some = shown.0 in omega (arith, some, many);
+      heap = one;
+      number = number;
+      count = λ k s there. let is = (numbered k s there).1 in let whole : seat_count (config_of s).mutators (config_of s).helpers ≡ length os = grind (arith, nat_tests, is) in whole ∙ sym many;
+      over = λ k s there role. over_ended k s (number k s there) role (shown_each Over (length os) 0 os shown.2 k s there);
+    }

@@ -1,0 +1,16 @@
+use Rattle.std.proofs.Common.{◌≡◌, ℕ, List, Option, subst, arith}
+use Rattle.std.proofs.lemmas.Bool.Decides.{nat_tests}
+use Rattle.heap_seats.specs.declared.seat.Seat.{Seat}
+use Rattle.heap_seats.specs.Gathered.{MakeUpHeap, HaveHistory}
+use Rattle.covremuj.specs.OpenedHandles.{seats_held}
+use Rattle.covremuj.specs.ClosedHandles.{seats_in, AnswersClosing}
+use Rattle.covremuj.proofs.GivenUp.{make_up}
+use Rattle.covremuj.proofs.closing.cvm_close_all.Goals as goal
+
+pub returns-clause-history : goal.returns-clause-history
+returns-clause-history c done one =
+    let held = seats_held c.args.handles.now in
+    let asked = c.if-why-ne-DONE.false in
+    let why : c.refuses-why.result ≡ 0 = grind (arith, nat_tests, asked) in
+    subst (λ (os : List (Option Seat)). MakeUpHeap (seats_in os) → HaveHistory (seats_in os)) c.refuses-why.ensures.held c.give_up_all.ensures.history
+    (make_up held (subst (AnswersClosing held) why c.refuses-why.ensures.answer) one)

@@ -1,6 +1,0 @@
-use Rattle.std.proofs.Common.{◌≡◌, false, take}
-use Rattle.covremuj.specs.OpenedHandles.{seats_held, any_held}
-use Rattle.covremuj.proofs.closing.empty_all.Given as goal
-
-abbrev pub invariant-loop-at : goal.invariant-loop-at
-invariant-loop-at l = any_held (take l.at (seats_held l.handles)) ≡ false

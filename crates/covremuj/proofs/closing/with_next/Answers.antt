@@ -1,0 +1,12 @@
+use Rattle.std.proofs.Common.{List, [], ◌∷◌, ◌++◌, Option, sym, subst}
+use Rattle.std.specs.Global.{Box}
+use Rattle.std.specs.Option.{option_map}
+use Rattle.heap_seats.specs.declared.seat.Seat.{Seat}
+use Rattle.heap_seats.specs.Gathered.{AreGathered}
+use Rattle.covremuj.specs.ClosedHandles.{seat_in}
+use Rattle.covremuj.proofs.closing.with_next.Goals as goal
+
+pub returns-in-Some : goal.returns-in-Some
+returns-in-Some c before given =
+    subst (λ (o : Option (Box Seat)). AreGathered (before ++ seat_in (option_map (λ (b : Box Seat). b.value) o)) c.with.result) (sym c.in-Some.is)
+    (subst (λ (s : Seat). AreGathered (before ++ s ∷ []) c.with.result) c.into_inner.ensures (c.with.ensures before given))

@@ -1,0 +1,16 @@
+use Rattle.std.proofs.Common.{refl, sym, ap, ◌∙◌, subst}
+use Rattle.std.specs.Arc.{arc_value}
+use Rattle.shared_table.specs.Views.{merged}
+use Rattle.table_heap.specs.declared.bundle.Bundle.{Bundle}
+use Rattle.table_heap.specs.State.{view_of as bundle_view, IsBundleOf}
+use Rattle.table_heap.specs.Gathered.{view_of}
+use Rattle.heap_seats.proofs.Together.{together_more}
+use Rattle.heap_seats.proofs.gathering.Begun.with.Goals as goal
+
+pub returns-clause-given : goal.returns-clause-given
+returns-clause-given c before given same absent =
+    let b = c.args.self in
+    let s = c.args.seat in
+    let fits : IsBundleOf s.bundle c.deref.result.now = subst (IsBundleOf s.bundle) (same ∙ sym c.deref.ensures) s.fits in
+    let moved : IsBundleOf c.into_bundle.result c.deref.result.now = subst (λ (x : Bundle). IsBundleOf x c.deref.result.now) (sym c.into_bundle.ensures) fits in
+    together_more before s b _ refl given same absent (c.with-machines.ensures.view moved ∙ ap (λ (x : Bundle). merged (view_of b.machines) (bundle_view x)) c.into_bundle.ensures)

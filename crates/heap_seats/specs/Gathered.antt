@@ -1,0 +1,67 @@
+-- Seats that are given up together, of which nobody knows whether they are of one heap.
+use Rattle.std.specs.Prelude.{ℕ, ◌≡◌, ◌<◌, ◌⊎◌, List, [], length, Option, None, Some, slice_get}
+use Rattle.std.specs.Arc.{arc_value}
+use Rattle.heap_words.specs.declared.config.Config.{Config}
+use Rattle.heap_words.specs.Ranges.{seat_count}
+use Rattle.shen_graph.specs.declared.order.Order.{Order}
+use Rattle.steps_base.specs.Steps.{Event}
+use Rattle.step_core.specs.Settled.{control_number}
+use Rattle.table_heap.specs.declared.heap.Heap.{Heap}
+use Rattle.table_heap.specs.State.{config_of as heap_sizes}
+use Rattle.table_heap.specs.Gathered.{view_of}
+use Rattle.heap_seats.specs.declared.progress.State.TheVariants.{Ended}
+use Rattle.heap_seats.specs.declared.seat.Seat.{Seat}
+use Rattle.heap_seats.specs.declared.gathering.Begun.{Begun}
+use Rattle.heap_seats.specs.declared.gathering.Gathering.{Gathering}
+use Rattle.heap_seats.specs.Seats.{config_of, number_of, heap_shared, state_in}
+use Rattle.heap_seats.specs.GivenUp.{AreMachinesOf, IsHistoryOf}
+
+-- any two of them are of one heap
+abbrev pub AreOfOneHeap : List Seat → Type 0
+AreOfOneHeap seats = (k j : ℕ) (s t : Seat) → slice_get seats k ≡ Some s → slice_get seats j ≡ Some t → heap_shared s ≡ heap_shared t
+
+-- each is at the place of its number
+abbrev pub AreNumbered : List Seat → Type 0
+AreNumbered seats = (k : ℕ) (s : Seat) → slice_get seats k ≡ Some s → number_of s ≡ k
+
+-- They are all seats of one heap, by their numbers, and its mutators and its control have ended.
+pub record MakeUpHeap (seats : List Seat) : Type 0 where
+  pub some : 0 < length seats
+  pub heap : AreOfOneHeap seats
+  pub number : AreNumbered seats
+  pub count : (k : ℕ) (s : Seat) → slice_get seats k ≡ Some s → seat_count (config_of s).mutators (config_of s).helpers ≡ length seats
+  pub over : (k : ℕ) (s : Seat) → slice_get seats k ≡ Some s → (k < (config_of s).mutators) ⊎ (k ≡ control_number (config_of s)) → state_in s ≡ Ended
+
+-- They are of one configuration, and some events from its opening have the history of these seats.
+pub record HaveHistory (seats : List Seat) : Type 0 where
+  pub sizes : Config
+  pub config : (k : ℕ) (s : Seat) → slice_get seats k ≡ Some s → config_of s ≡ sizes
+  pub events : List (Event Order)
+  pub history : IsHistoryOf sizes seats events
+
+-- the heap of the first seat that was gathered, and its sizes
+abbrev pub heap_begun : Begun → Heap
+heap_begun b = arc_value b.heap
+
+abbrev pub sizes_begun : Begun → Config
+sizes_begun b = heap_sizes (heap_begun b)
+
+-- these are the seats of that heap that are gathered
+pub record AreTogether (seats : List Seat) (b : Begun) : Type 0 where
+  pub machines : AreMachinesOf seats (view_of b.machines)
+  pub long : length (view_of b.machines) ≡ seat_count (sizes_begun b).mutators (sizes_begun b).helpers
+
+-- the heap is that of the first, and where it is that of all, by their numbers, they are gathered
+pub record AreBegun (seats : List Seat) (b : Begun) : Type 0 where
+  pub first : Seat
+  pub there : slice_get seats 0 ≡ Some first
+  pub heap : heap_shared first ≡ heap_begun b
+  pub together : AreOfOneHeap seats → AreNumbered seats → AreTogether seats b
+
+-- these are the seats that were gathered
+abbrev pub AreGatheredIn : List Seat → Option Begun → Type 0
+AreGatheredIn seats None = seats ≡ []
+AreGatheredIn seats (Some b) = AreBegun seats b
+
+abbrev pub AreGathered : List Seat → Gathering → Type 0
+AreGathered seats g = AreGatheredIn seats g.begun

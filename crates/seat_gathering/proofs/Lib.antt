@@ -1,0 +1,4 @@
+mod Tables
+mod Crossing
+mod Spared
+mod Reading

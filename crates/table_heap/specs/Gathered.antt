@@ -1,0 +1,30 @@
+-- What callers know of machines that are gathered.
+use Rattle.std.specs.Prelude.{ℕ, ◌≡◌, ◌<◌, true, List, length}
+use Rattle.std.specs.Option.{is_some}
+use Rattle.heap_words.specs.declared.config.Config.{Config}
+use Rattle.heap_words.specs.Ranges.{seat_count}
+use Rattle.steps_base.specs.Steps.{IsReached}
+use Rattle.shared_table.specs.Views.{View, machine_of, machines_of}
+use Rattle.shared_table.specs.Counted.{uncounted_view}
+use Rattle.step_core.specs.Actor.{Actor}
+use Rattle.table_heap.specs.declared.heap.Heap.{Heap}
+use Rattle.table_heap.specs.declared.gathered.Gathered.{Gathered}
+use Rattle.table_heap.specs.Core.{heap_kind, heap_opening}
+
+-- the machines by their numbers, as their events see them
+abbrev pub view_of : Gathered → View Actor
+view_of g = uncounted_view g.seat.me.0
+
+-- they are of this heap
+abbrev pub IsGatheredOf : Gathered → Heap → Type 0
+IsGatheredOf g h = g.seat.table_id ≡ h.table.shared.table_id
+
+-- all machines of a heap of this configuration are there
+pub record HasAllOf (c : Config) (g : Gathered) : Type 0 where
+  pub long : length (view_of g) ≡ seat_count c.mutators c.helpers
+  pub each : (number : ℕ) → number < seat_count c.mutators c.helpers → is_some (machine_of (view_of g) number) ≡ true
+
+-- some events lead from the opening to just these machines, and to some words
+pub record StandInRun (c : Config) (g : Gathered) : Type 0 where
+  pub words : List ℕ
+  pub reached : IsReached (heap_kind c) (heap_opening c) (record { words = words; machines = machines_of (view_of g) })
