@@ -8,7 +8,7 @@ use Rattle.steps_base.specs.Steps.{MachineKind, Stage, go}
 use Rattle.shared_table.specs.Views.{View, machines_of, HasAllMachines}
 use Rattle.shared_table.specs.Rule.{IsDealt, Rule}
 use Rattle.shared_table.proofs.Closing.{length-go, whole_has_all}
-use Rattle.seat_gathering.specs.Gathered.{IsRunOf, HasRead}
+use Rattle.seat_gathering.specs.Gathered.{IsLeftByRun, HasToldRun}
 
 same_words : (words : List ℕ) (at : ℕ) → slice_set words at (slice_index words at) ≡ words
 same_words [] at = refl
@@ -24,7 +24,7 @@ same_views (w ∷ ws) zero v here = λ i. sym (same_some w v here) i ∷ ws
 same_views (w ∷ ws) (suc id) v here = λ i. w ∷ same_views ws id v here i
 
 module _ {R O : Type 0} (kind : MachineKind R O) (start : Stage R) {S : Type 0} where
-  run_of_all : (s : State S (View R)) → Rule kind start s → (id : ℕ) (view : View R) → get_elem? s.views id ≡ some view → HasAllMachines (length start.machines) view → IsRunOf kind start view
+  run_of_all : (s : State S (View R)) → Rule kind start s → (id : ℕ) (view : View R) → get_elem? s.views id ≡ some view → HasAllMachines (length start.machines) view → IsLeftByRun kind start view
   run_of_all s kept id view at all =
       let x : Stage R = go kind start kept.events in
       let long : length x.machines ≡ length start.machines = length-go kind start kept.events in
@@ -32,7 +32,7 @@ module _ {R O : Type 0} (kind : MachineKind R O) (start : Stage R) {S : Type 0} 
       record { words = x.words; reached = record { events = kept.events; ends = λ i. record { words = x.words; machines = sym same i } } }
 
 module _ {R O K S : Type 0} (kinds : K → MachineKind R O) (starts : K → Stage R) (key : K) where
-  pub reads : (named : Option K) → named ≡ Some key → (slots id : ℕ) (me : Me S (View R)) → Allows (Rule (kinds key) (starts key)) slots id me 0 (λ n. n) (λ found. HasRead kinds starts named me)
+  pub reads : (named : Option K) → named ≡ Some key → (slots id : ℕ) (me : Me S (View R)) → Allows (Rule (kinds key) (starts key)) slots id me 0 (λ n. n) (λ found. HasToldRun kinds starts named me)
   reads named is slots id me s kept long at bound = (
     me.0,
     keeps,
@@ -46,6 +46,6 @@ module _ {R O K S : Type 0} (kinds : K → MachineKind R O) (starts : K → Stag
       refl,
       λ named_key is_key all.
           let same : key ≡ named_key = cc (is, is_key) in
-          subst (λ k. HasAllMachines (length (starts k).machines) me.0 → IsRunOf (kinds k) (starts k) me.0) same (run_of_all (kinds key) (starts key) s kept id me.0 at) all,
+          subst (λ k. HasAllMachines (length (starts k).machines) me.0 → IsLeftByRun (kinds k) (starts k) me.0) same (run_of_all (kinds key) (starts key) s kept id me.0 at) all,
     ),
   )

@@ -5,11 +5,11 @@ use Rattle.steps_base.specs.Steps.{MachineKind, Stage, IsReached}
 use Rattle.shared_table.specs.Views.{View, machines_of, HasAllMachines}
 
 -- some events lead from the start to just these machines, and to some words
-pub record IsRunOf {R O : Type 0} (kind : MachineKind R O) (start : Stage R) (view : View R) : Type 0 where
+pub record IsLeftByRun {R O : Type 0} (kind : MachineKind R O) (start : Stage R) (view : View R) : Type 0 where
   pub words : List ℕ
   pub reached : IsReached kind start (record { words = words; machines = machines_of view })
 
 -- a load has told so, of a table with this key, and changed nothing
-abbrev pub HasRead : {R O K S : Type 0} → (K → MachineKind R O) → (K → Stage R) → Option K → Me S (View R) → Me S (View R) → Type 0
-HasRead kinds starts key before after =
-    (after ≡ before) × ((at : _) → key ≡ Some at → HasAllMachines (length (starts at).machines) before.0 → IsRunOf (kinds at) (starts at) before.0)
+abbrev pub HasToldRun : {R O K S : Type 0} → (K → MachineKind R O) → (K → Stage R) → Option K → Me S (View R) → Me S (View R) → Type 0
+HasToldRun kinds starts key before after =
+    (after ≡ before) × ((at : _) → key ≡ Some at → HasAllMachines (length (starts at).machines) before.0 → IsLeftByRun (kinds at) (starts at) before.0)

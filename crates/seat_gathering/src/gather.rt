@@ -1,6 +1,6 @@
 ghost use Rattle.std.specs.Prelude.{◌≡◌, ◌<◌, [], Option, Some, None, length};
 ghost use Rattle.shared_table.specs.Views.{merged, HasAllMachines};
-ghost use Rattle.seat_gathering.specs.Gathered.{IsRunOf};
+ghost use Rattle.seat_gathering.specs.Gathered.{IsLeftByRun};
 
 use crate::exchange::exchange_in_one_table;
 use atomic_table::{Play, Split};
@@ -50,9 +50,9 @@ pub struct Reads<R, O, K, M, G> {
 }
 
 impl<R, O, K, M: Machines<R, O, K>, G: Keyed<K>> Play<(), View<R>> for Reads<R, O, K, M, G> {
-    ghost use Rattle.seat_gathering.specs.Gathered.{HasRead};
+    ghost use Rattle.seat_gathering.specs.Gathered.{HasToldRun};
 
-    ghost then = { λ _ before _. HasRead M.kind M.opening G.key before };
+    ghost then = { λ _ before _. HasToldRun M.kind M.opening G.key before };
 }
 
 /// Loads a word. Who has all machines knows then that they stand as one run left them. Called with `Brand` for `G`, whose member the
@@ -64,7 +64,7 @@ pub fn read_run<R, O, K, M: Machines<R, O, K>, G: Keyed<K>>(
     requires table { (seat.old.table_id ≡ table.now.table_id) × (0 < table.now.table_id.words) }
     requires key { G.key ≡ Some table.now.key }
     ensures same { (seat.new.table_id ≡ seat.old.table_id) × (seat.new.me ≡ seat.old.me) }
-    ensures run { HasAllMachines (length (M.opening table.now.key).machines) seat.old.me.0 → IsRunOf (M.kind table.now.key) (M.opening table.now.key) seat.old.me.0 }
+    ensures run { HasAllMachines (length (M.opening table.now.key).machines) seat.old.me.0 → IsLeftByRun (M.kind table.now.key) (M.opening table.now.key) seat.old.me.0 }
 {
     table.load::<Reads<R, O, K, M, G>>(seat, 0);
 }
