@@ -80,7 +80,8 @@ try_users() {
     # (where the linker leads the library's calls for memory through the test)
     wraps=-Wl,--wrap=malloc,--wrap=realloc,--wrap=aligned_alloc
     if works "$wraps"; then
-        compile "$flags $wraps" "$room/$name/memory" "$users/misuse/test_memory.c" "$common" && run "$name" "$room/$name/memory" || failed=1
+        # (in a shell of its own, which keeps the flags of the others)
+        (compile "$flags $wraps" "$room/$name/memory" "$users/misuse/test_memory.c" "$common") && run "$name" "$room/$name/memory" || failed=1
     else
         say "$name: $CC does not link by --wrap: memory that is refused is not tried"
     fi

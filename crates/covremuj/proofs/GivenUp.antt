@@ -1,5 +1,5 @@
 -- Seats that are taken out of their handles, and what is known of them once all is asked.
-use Rattle.std.proofs.Common.{◌≡◌, ◌<◌, ◌⊎◌, inl, inr, ℕ, zero, suc, ◌+◌, Bool, true, false, ◌&&◌, ◌||◌, List, [], ◌∷◌, ◌++◌, length, take, get_or, Option, Some, None, MatchOption, refl, sym, ap, ◌∙◌, subst, arith}
+use Rattle.std.proofs.Common.{◌≡◌, ◌<◌, ◌⊎◌, inl, inr, ℕ, zero, suc, ◌+◌, Bool, true, false, ◌||◌, List, [], ◌∷◌, ◌++◌, length, take, get_or, Option, Some, None, MatchOption, refl, sym, ap, ◌∙◌, subst, arith}
 use Rattle.std.specs.Prelude.{slice_get, slice_set, nat_lt, ◌==◌, if◌then◌else◌}
 use Rattle.std.specs.Global.{Box}
 use Rattle.std.specs.Option.{option_map, is_some}
@@ -16,7 +16,7 @@ use Rattle.covremuj.specs.declared.asked.Asked.TheVariants.{Open, Numbered, Over
 use Rattle.covremuj.specs.declared.handle.Handle.{Handle}
 use Rattle.covremuj.specs.Answers.{kind_of, state_number}
 use Rattle.covremuj.specs.OpenedHandles.{seats_held, any_held}
-use Rattle.covremuj.specs.ClosedHandles.{seat_in, seats_in, seat_shows, shows, all_show, each_shows, AnswersBy, AnswersClosing}
+use Rattle.covremuj.specs.ClosedHandles.{seat_in, seats_in, seat_shows, all_show, each_shows, AnswersBy, AnswersClosing}
 use Rattle.covremuj.proofs.HandlesAsked.{parts}
 use Rattle.covremuj.proofs.HeldLists.{none_held}
 

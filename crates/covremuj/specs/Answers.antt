@@ -1,5 +1,5 @@
 -- What belongs to a reply, and what is told of a seat.
-use Rattle.std.specs.Prelude.{ℕ, ◌+◌, ◌-◌, Bool, nat_lt, List, [], ◌∷◌, Option, Some, None, unwrap_or, if◌then◌else◌}
+use Rattle.std.specs.Prelude.{ℕ, ◌+◌, ◌-◌, nat_lt, List, [], ◌∷◌, Option, Some, None, unwrap_or, if◌then◌else◌}
 use Rattle.heap_words.specs.declared.place.Place.{Place}
 use Rattle.heap_words.specs.Place.{code_of}
 use Rattle.shen_graph.specs.declared.command.Reply.{Reply}

@@ -1,14 +1,13 @@
 -- Seats that are gathered: one more, and what follows once all of a heap are there.
-use Rattle.std.proofs.Common.{◌≡◌, ◌≢◌, ◌⊎◌, ◌<◌, ℕ, zero, suc, List, [], ◌∷◌, ◌++◌, length, Option, None, Some, refl, sym, ap, ◌∙◌, subst, arith}
+use Rattle.std.proofs.Common.{◌≡◌, ◌⊎◌, ◌<◌, ℕ, zero, suc, List, [], ◌∷◌, ◌++◌, length, Some, refl, sym, ap, ◌∙◌, subst, arith}
 use Rattle.std.specs.Prelude.{slice_get}
 use Rattle.heap_words.specs.declared.config.Config.{Config}
 use Rattle.heap_words.specs.Ranges.{seat_count}
 use Rattle.heap_machines.specs.Shown.{shown}
-use Rattle.shared_table.specs.Views.{View, machines_of, whole, merged}
+use Rattle.shared_table.specs.Views.{machines_of, whole, merged}
 use Rattle.shared_table.proofs.Dealing.{length-merged}
 use Rattle.shared_table.proofs.Kept.{length-kept}
 use Rattle.shared_table.proofs.Numbers.{all_here}
-use Rattle.step_core.specs.Actor.{Actor}
 use Rattle.step_core.specs.Settled.{control_number}
 use Rattle.table_heap.specs.declared.heap.Heap.{Heap}
 use Rattle.table_heap.specs.Core.{machine_in}
@@ -18,7 +17,7 @@ use Rattle.heap_seats.specs.declared.seat.Seat.{Seat}
 use Rattle.heap_seats.specs.declared.gathering.Begun.{Begun}
 use Rattle.heap_seats.specs.Seats.{config_of, number_of, heap_shared}
 use Rattle.heap_seats.specs.GivenUp.{AreAllSeats, AreOver, HaveNot}
-use Rattle.heap_seats.specs.Gathered.{heap_begun, sizes_begun, AreTogether, AreBegun, AreOfOneHeap, AreNumbered, MakeUpHeap, HaveHistory}
+use Rattle.heap_seats.specs.Gathered.{heap_begun, sizes_begun, AreTogether, AreBegun, AreNumbered, MakeUpHeap, HaveHistory}
 use Rattle.heap_seats.proofs.Joined.{each_here, history_there, machines_more}
 use Rattle.heap_seats.proofs.Opened.{get_last, get_init}
 

@@ -1,4 +1,4 @@
-use Rattle.std.proofs.Common.{Some, sym, ap, ◌∙◌, subst}
+use Rattle.std.proofs.Common.{Some, sym, ◌∙◌, subst}
 use Rattle.heap_seats.specs.Seats.{is_mutator}
 use Rattle.covremuj.specs.Border.{BeginsBy}
 use Rattle.covremuj.proofs.Orders.{begins_refused, begins_command}

@@ -1,4 +1,4 @@
-use Rattle.std.proofs.Common.{◌+◌, false, take, refl, sym, ap, ◌∙◌, arith}
+use Rattle.std.proofs.Common.{◌+◌, take, sym, ap, ◌∙◌, arith}
 use Rattle.covremuj.specs.OpenedHandles.{any_held}
 use Rattle.covremuj.proofs.HeldLists.{set_same, open_there, closed_more}
 use Rattle.covremuj.proofs.opening.any_open.Goals as goal

@@ -1,4 +1,4 @@
-use Rattle.std.proofs.Common.{List, [], ◌++◌, sym, ap, ◌∙◌, subst}
+use Rattle.std.proofs.Common.{◌++◌, sym, ap, ◌∙◌, subst}
 use mathlib.Core.List.{reverse}
 use Rattle.std.proofs.lemmas.List.{append-nil}
 use Rattle.heap_seats.specs.FreshSeats.{AreFreshSeats}

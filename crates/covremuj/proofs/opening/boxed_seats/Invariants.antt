@@ -1,4 +1,4 @@
-use Rattle.std.proofs.Common.{◌≡◌, ◌++◌, map, vec_len}
+use Rattle.std.proofs.Common.{◌++◌, map, vec_len}
 use mathlib.Core.List.{reverse}
 use Rattle.heap_seats.specs.FreshSeats.{AreFreshSeats}
 use Rattle.covremuj.proofs.opening.boxed_seats.Given as goal

@@ -7,7 +7,7 @@ use mir.MapTy.{inst_fn}
 use mir.Raw.{raw as bare}
 use mir.Val.{Val, vstruct, of_list}
 use base.Logic.{SProp, ent, id⊢, never, fst∗}
-use base.Fml.{Fml, ftrue, fsep, flft}
+use base.Fml.{ftrue, fsep, flft}
 use contract.BorrowLft.{◌⊑◌}
 use contract.Monad.{Fun, fact}
 use contract.Running.{tables, tables_of}

@@ -1,4 +1,4 @@
-use Rattle.std.proofs.Common.{List, [], ◌∷◌, sym, ap, ◌∙◌, length, subst}
+use Rattle.std.proofs.Common.{[], ◌∷◌, sym, ap, ◌∙◌, length, subst}
 use Rattle.std.specs.Arc.{arc_value}
 use Rattle.shared_table.specs.Views.{View}
 use Rattle.step_core.specs.Actor.{Actor}

@@ -1,5 +1,4 @@
 use Rattle.std.proofs.Common.{refl, sym, ap, ◌∙◌, subst}
-use Rattle.std.specs.Arc.{arc_value}
 use Rattle.shared_table.specs.Views.{merged}
 use Rattle.table_heap.specs.declared.bundle.Bundle.{Bundle}
 use Rattle.table_heap.specs.State.{view_of as bundle_view, IsBundleOf}
