@@ -41,11 +41,6 @@ pub full_share : (c : Config) (m : Word → ℕ) → full_from c m Share ≡ 0
 unfolding packed made_in refused
 full_share c m = full_still c Share (λ w t r. refl) m (λ w. refl)
 
--- and those of the pin slots, which it leaves as they were
-pub full_pin : (c : Config) (m : Word → ℕ) (t i : ℕ) → full_from c m (Pin t i) ≡ m (Pin t i)
-unfolding packed made_in refused
-full_pin c m t i = full_still c (Pin t i) (λ w u r. refl) m (λ w. refl)
-
 -- nobody waits
 pub full_wait : (c : Config) (m : Word → ℕ) (t : ℕ) → full_from c m (Wait t) ≡ 0
 unfolding refused

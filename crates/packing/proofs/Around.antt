@@ -77,10 +77,6 @@ first_to w at a n some below fits =
     (λ (differs : at / w ≢ a / w). omega (arith, up, differs))
     (cases_eq (at / w) (a / w)))
 
--- no words go right behind
-pub around_empty : (w : ℕ) (shut : ℕ → Bool) (at : ℕ) → place_around w shut at 0 ≡ at
-around_empty w shut at = refl
-
 -- some words go right behind, or to the base of the open row
 pub around_cases : (w : ℕ) (shut : ℕ → Bool) (at n : ℕ) → 0 < n → (P : ℕ → Type 0) → (open_row w shut at n ≡ at / w → P at) → (open_row w shut at n ≢ at / w → P (open_row w shut at n * w))
     → P (place_around w shut at n)

@@ -72,10 +72,6 @@ intact w place kept renew before lie down e now slid_to a x from some above =
     let ends = lie.apart b a begins some (omega (arith, below, from)) in
     omega (arith, same, inside, down b begins, ends, above))
 
--- nothing was slid yet
-pub slid_start : (first e : ℕ) (place kept renew before : ℕ → ℕ) → ((a : ℕ) → a < e → kept a ≡ 0) → IsSlidTo e first place kept renew before before
-slid_start first e place kept renew before none = record { moved = λ a i below inside. absurd (omega (arith, none a below, inside)); others = λ x above outside. refl }
-
 -- the same, over fewer addresses
 pub slid_from : (least first e : ℕ) (place kept renew before after : ℕ → ℕ) → least ≤ first → IsSlidTo e least place kept renew before after → IsSlidTo e first place kept renew before after
 slid_from least first e place kept renew before after low slid_to = record {
