@@ -10,6 +10,8 @@ A file names a crate by a path that begins with it, in code (`heap_words::Config
 once for each path down, and some kits read every file of a library each time that a walk comes to it: with two million paths that took
 more than an hour of a gate, with the number below some minutes. A crate that hands on what it stands on (a `pub use` in its code and in specs/Lib.antt) lets those
 above name it alone, and small crates with one user each can be one.
+
+The picture of the layers in docs/ARCHITECTURE.md has each crate once, and each above those that it names, or beside them.
 """
 import os
 import re
@@ -17,6 +19,7 @@ import sys
 
 TOP = os.path.dirname(os.path.dirname(os.path.abspath(__file__)))
 TABLE = os.path.join(TOP, "crates.txt")
+PAGE = os.path.join(TOP, "docs", "ARCHITECTURE.md")
 # So many paths there may be from all crates down.
 MOST_PATHS = 600_000
 # The crates of the kit that a line may name.
@@ -77,6 +80,23 @@ def paths(table):
     return sum(map(count, direct))
 
 
+def drawn(page):
+    """The words of the picture of the layers, which is the indented lines below that heading: those of each line, from the top."""
+    section = page.partition("\n## The layers\n")[2].partition("\n## ")[0]
+    return [re.findall(r"\w+", line) for line in section.splitlines() if line.startswith("    ")]
+
+
+def misdrawn(direct, lines):
+    """What is wrong with a picture of crates, of which each has those that it names: it has each once, and none above one that names it."""
+    out = []
+    at = {name: [line for line, words in enumerate(lines) for it in words if it == name] for name in direct}
+    for name, below in direct.items():
+        if len(at[name]) != 1:
+            out.append(f"has {name} {len(at[name])} times")
+        out += [f"has {it} above {name}, which names it" for it in below if at.get(it) and at[name] and at[it][0] < at[name][0]]
+    return out
+
+
 def main(words):
     if words not in ([], ["--check"], ["--write"]):
         sys.exit(__doc__)
@@ -99,6 +119,9 @@ def main(words):
     for name in sorted(folders ^ known):
         wrong += 1
         print(f"crates.txt and crates/ do not agree on {name}")
+    for it in misdrawn({name: below for name, settings, below in table if settings is not None}, drawn(text_of(PAGE))):
+        wrong += 1
+        print(f"docs/ARCHITECTURE.md: the picture of the layers {it}")
     if words == ["--write"]:
         with open(TABLE, "w", encoding="utf-8") as file:
             file.write("\n".join(out) + "\n")
@@ -111,4 +134,5 @@ def main(words):
     return int(wrong > 0 and words == ["--check"])
 
 
-sys.exit(main(sys.argv[1:]))
+if __name__ == "__main__":
+    sys.exit(main(sys.argv[1:]))
