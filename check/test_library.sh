@@ -5,7 +5,7 @@
 #
 # usage: test_library.sh
 #
-# What is not there is named and passed over: without cc nothing is built. The proved archive is built by `rt lib`, from what `rt ci` has left;
+# What is not there is named and passed over: without cc nothing is built. The proved archive is built over the libraries that `rt ci` has left;
 # COVREMUJ_ARCHIVE names another one. Nothing is written but below a throwaway folder, and what rt writes in out/. The checkers see the C of the users and
 # of the header, and what is allocated and freed; the archive is not compiled for them, so they see none of its accesses (docs/LIBRARY.md).
 set -u
