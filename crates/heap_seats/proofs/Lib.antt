@@ -1,6 +1,7 @@
 pub mod Known
 pub mod Stepped
 pub mod Histories
+pub mod MadeSteps
 pub mod Loops
 pub mod OrderRefusals
 pub mod Opened

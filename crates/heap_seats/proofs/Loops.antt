@@ -1,32 +1,52 @@
 -- A seat that has made some steps, of which none ended its call, and what is known when it stops.
-use Rattle.std.proofs.Common.{◌≡◌, ◌<◌, ◌≤◌, ℕ, ◌+◌, Bool, true, false, List, Option, Some, None, refl, sym, ap, ◌∙◌, subst, arith}
-use Rattle.std.specs.Prelude.{◌++◌, unwrap_or}
-use Rattle.std.proofs.lemmas.List.{append-nil}
+use Rattle.std.proofs.Common.{◌≡◌, ◌<◌, ◌≤◌, ℕ, zero, suc, ◌+◌, Bool, true, false, List, [], ◌∷◌, replicate, Option, Some, None, refl, sym, ap, ◌∙◌, subst, arith}
+use Rattle.std.specs.Prelude.{◌++◌, nat_lt, unwrap_or}
+use Rattle.std.proofs.lemmas.Bool.{false≢true}
+use Rattle.std.proofs.lemmas.List.{append-nil, replicate_more}
 use Rattle.heap_words.specs.declared.config.Config.{Config}
 use Rattle.shen_graph.specs.declared.command.Command.{Command}
 use Rattle.shen_graph.specs.declared.command.Reply.{Reply}
 use Rattle.shen_graph.specs.History.{Entry}
+use Rattle.heap_machines.specs.Roles.{is_mutating}
 use Rattle.heap_machines.specs.declared.stepped.Stepped.{Stepped}
 use Rattle.heap_machines.specs.declared.stepped.Stepped.TheVariants as stepped
-use Rattle.step_core.specs.Actor.{Machine, Actor, entries_of}
+use Rattle.step_core.specs.Actor.{Machine, mutating, Actor, entries_of}
 use Rattle.step_core.specs.Machines.{may_begin, is_resting, reply_in, takes_of}
 use Rattle.table_heap.specs.Core.{nobody}
 use Rattle.table_heap.specs.State.{has_turn}
-use Rattle.table_heap.proofs.Running.{at_number, in_view}
+use Rattle.table_heap.proofs.Running.{at_number, in_view, role_at}
 use Rattle.heap_seats.specs.declared.progress.State.{State}
 use Rattle.heap_seats.specs.declared.progress.State.TheVariants.{Free, AtWork, Ended}
 use Rattle.heap_seats.specs.declared.progress.Progress.{Progress}
 use Rattle.heap_seats.specs.declared.progress.Progress.TheVariants as progress
 use Rattle.heap_seats.specs.declared.seat.Seat.{Seat}
-use Rattle.heap_seats.specs.Seats.{config_of, number_of, actor_in, machine_of_seat, order_in, steps_in, calls_of, doing_in, state_in, state_by, IsSameSeat}
-use Rattle.heap_seats.specs.Going.{ArePartOfHistory, IsAsItWas, HasWaited, HasStepped, given_by, progress_at, reply_told, FitsState, HasGoneOn}
+use Rattle.heap_seats.specs.Seats.{config_of, number_of, actor_in, machine_of_seat, order_in, steps_in, calls_of, doing_in, is_mutator, state_in, state_by, IsSameSeat}
+use Rattle.heap_seats.specs.Going.{ArePartOfHistory, IsAsItWas, HasStepped, given_by, said_last, HasMadeSteps, progress_at, reply_told, FitsState, is_of_worker, HasGoneOn}
 use Rattle.heap_seats.proofs.Histories.{calls_are_part}
+use Rattle.heap_seats.proofs.MadeSteps.{Went, went_more, busy_step}
 
 pub record GoesOn (first now : Seat) (made : ℕ) : Type 0 where
   pub same : IsSameSeat first now
   pub calls : calls_of now ≡ calls_of first
   pub doing : doing_in now ≡ doing_in first
   pub steps : steps_in now ≡ steps_in first + made
+  pub went : Went first now made (replicate made stepped.More)
+  pub unmoved : made ≡ 0 → IsAsItWas first now
+  pub moved : 0 < made → may_begin (machine_of_seat now) ≡ false
+
+was_then : (first now new : Seat) → IsAsItWas first now → IsAsItWas now new → IsAsItWas first new
+was_then first now new one two = record { actor = two.actor ∙ one.actor; machine = two.machine ∙ one.machine; order = two.order ∙ one.order; steps = two.steps ∙ one.steps }
+
+pub goes_first : (s : Seat) → GoesOn s s 0
+goes_first s = record {
+  same = record { config = refl; number = refl; heap = refl };
+  calls = refl;
+  doing = refl;
+  steps = omega arith;
+  went = record { words = []; count = refl; machine = refl; order = refl; each = refl };
+  unmoved = λ none. record { actor = refl; machine = refl; order = refl; steps = refl };
+  moved = λ some. absurd (omega (arith, some));
+}
 
 pub same_on : (first now new : Seat) → IsSameSeat first now → IsSameSeat now new → IsSameSeat first new
 same_on first now new one two = record { config = two.config ∙ one.config; number = two.number ∙ one.number; heap = two.heap ∙ one.heap }
@@ -49,6 +69,69 @@ calls_after first now new made said told on step given =
     ∙ ap (λ (k : Command). calls_of first ++ entries_of (number_of first) k (given_by said (machine_of_seat new))) on.doing
     ∙ ap (λ (o : Option Reply). calls_of first ++ entries_of (number_of first) (doing_in first) o) given
 
+-- one step more, and there is more to do
+pub goes_more : (first now new : Seat) (made : ℕ) (said : Stepped) → GoesOn first now made → IsSameSeat now new → HasStepped now new said → said ≡ stepped.More → GoesOn first new (made + 1)
+goes_more first now new made said on same step is = record {
+  same = same_on first now new on.same same;
+  calls = calls_after first now new made said None on step (ap (λ (x : Stepped). given_by x (machine_of_seat new)) is) ∙ append-nil (calls_of first);
+  doing = step.doing ∙ on.doing;
+  steps = let steps = step.steps in let before = on.steps in omega (arith, steps, before);
+  went = subst (Went first new (made + 1)) (ap (λ (x : Stepped). replicate made stepped.More ++ x ∷ []) is ∙ replicate_more made stepped.More) (went_more first now new made (replicate made stepped.More) said on.same on.went step);
+  unmoved = λ none. absurd (omega (arith, none));
+  moved = λ some.
+      ap may_begin step.machine ∙ busy_step (config_of now) (order_in now) (machine_of_seat now) step.got (sym step.answers ∙ is);
+}
+
+-- the steps that were made where this was told
+made_steps : (first new : Seat) (made before : ℕ) (told : Progress) → steps_in new ≡ steps_in first + made → Went first new made (replicate before stepped.More ++ said_last told) → HasMadeSteps first new told
+made_steps first new made before told steps went = record {
+  words = went.words;
+  before = before;
+  count = let count = went.count in omega (arith, steps, count);
+  machine = went.machine;
+  order = went.order;
+  said = went.each;
+}
+
+-- and where a step told it
+made_last : (first now new : Seat) (made : ℕ) (said : Stepped) (told : Progress) → GoesOn first now made → HasStepped now new said → said ∷ [] ≡ said_last told → HasMadeSteps first new told
+made_last first now new made said told on step last =
+    made_steps first new (made + 1) made told (let steps = step.steps in let before = on.steps in omega (arith, steps, before))
+    (subst (λ (xs : List Stepped). Went first new (made + 1) (replicate made stepped.More ++ xs)) last (went_more first now new made (replicate made stepped.More) said on.same on.went step))
+
+-- ---- helpers and the control
+
+seat_role : (s : Seat) → is_mutating (machine_of_seat s) ≡ is_mutator s
+seat_role s =
+    let a = in_view s.bundle s.number s.here in
+    ap is_mutating (at_number s.bundle s.number a.0 a.1) ∙ role_at s.bundle s.number a.0 a.1 ∙ ap (λ (k : Config). nat_lt s.number k.mutators) s.same_config
+
+-- only a mutator has a reply, or may be given an order
+reply_is_mutators : (machine : Machine) (reply : Reply) → reply_in machine ≡ Some reply → is_mutating machine ≡ true
+reply_is_mutators (mutating m) reply is = refl
+reply_is_mutators _ reply is = absurd cc
+
+begins_is_mutators : (machine : Machine) → may_begin machine ≡ true → is_mutating machine ≡ true
+begins_is_mutators (mutating m) may = refl
+begins_is_mutators _ may = absurd cc
+
+may_of_free : (turn may : Bool) → progress_at (state_by turn may) ≡ progress.Idle → may ≡ true
+may_of_free false true is = refl
+may_of_free false false is = absurd cc
+may_of_free true may is = absurd cc
+
+told_worker : (told : Progress) (machine : Machine) (turn : Bool) → FitsState told machine (state_by turn (may_begin machine)) → is_mutating machine ≡ false → is_of_worker told ≡ true
+told_worker (progress.Replied reply) machine turn fits other = absurd (false≢true (sym other ∙ reply_is_mutators machine reply fits))
+told_worker progress.Idle machine turn fits other = absurd (false≢true (sym other ∙ begins_is_mutators machine (may_of_free turn (may_begin machine) fits)))
+told_worker progress.More machine turn fits other = refl
+told_worker progress.Again machine turn fits other = refl
+told_worker progress.Ended machine turn fits other = refl
+
+seat_worker : (s : Seat) (told : Progress) → FitsState told (machine_of_seat s) (state_in s) → is_mutator s ≡ false → is_of_worker told ≡ true
+seat_worker s told fits other = told_worker told (machine_of_seat s) (has_turn s.bundle s.number) fits (seat_role s ∙ other)
+
+-- ---- where it stops
+
 -- a reply ends it
 pub gone_replied : (first now new : Seat) (made steps : ℕ) (said : Stepped) (reply : Reply) → GoesOn first now made → IsSameSeat now new → HasStepped now new said → said ≡ stepped.Done → reply_in (machine_of_seat new) ≡ Some reply → made < steps
     → HasGoneOn first new steps (progress.Replied reply)
@@ -58,9 +141,10 @@ gone_replied first now new made steps said reply on same step is replied below =
   doing = step.doing ∙ on.doing;
   most = omega (arith, step.steps, on.steps, below);
   all = λ more. absurd cc;
-  some = λ again. absurd cc;
-  waited = λ again. absurd cc;
+  made = made_last first now new made said (progress.Replied reply) on step (ap (λ (x : Stepped). x ∷ []) is);
   told = replied;
+  idle = λ idle. absurd cc;
+  worker = seat_worker new (progress.Replied reply) replied;
   legal = seat_legal new;
 }
 
@@ -72,9 +156,10 @@ gone_again first now new made steps said on same step is below = record {
   doing = step.doing ∙ on.doing;
   most = omega (arith, step.steps, on.steps, below);
   all = λ more. absurd cc;
-  some = λ again. omega (arith, step.steps, on.steps);
-  waited = λ again. subst (λ (k : Config). HasWaited k (machine_of_seat new)) (sym same.config) (step.waited is);
+  made = made_last first now new made said progress.Again on step (ap (λ (x : Stepped). x ∷ []) is);
   told = tt;
+  idle = λ idle. absurd cc;
+  worker = λ other. refl;
   legal = seat_legal new;
 }
 
@@ -88,11 +173,11 @@ none_told Free = refl
 none_told AtWork = refl
 none_told Ended = refl
 
--- and none waits
-never_again : (state : State) → progress_at state ≡ progress.Again → ⊥
-never_again Free again = cc
-never_again AtWork again = cc
-never_again Ended again = cc
+-- and no step told it
+none_last : (state : State) → said_last (progress_at state) ≡ []
+none_last Free = refl
+none_last AtWork = refl
+none_last Ended = refl
 
 -- it stops where it stands
 stops : (first now : Seat) (made steps : ℕ) (said : Progress) → GoesOn first now made → said ≡ progress_at (state_in now) → made ≤ steps → (said ≡ progress.More → made ≡ steps) → HasGoneOn first now steps said
@@ -102,11 +187,25 @@ stops first now made steps said on is most all = record {
   doing = on.doing;
   most = omega (arith, on.steps, most);
   all = λ more. let count : made ≡ steps = all more in omega (arith, on.steps, count);
-  some = λ again. absurd (never_again (state_in now) (sym is ∙ again));
-  waited = λ again. absurd (never_again (state_in now) (sym is ∙ again));
-  told = subst (λ (p : Progress). FitsState p (machine_of_seat now) (state_in now)) (sym is) (fits_state (machine_of_seat now) (state_in now));
+  made =
+      made_steps first now made made said on.steps
+      (subst (Went first now made) (sym (append-nil (replicate made stepped.More)) ∙ ap (λ (xs : List Stepped). replicate made stepped.More ++ xs) (sym (ap said_last is ∙ none_last (state_in now)))) on.went);
+  told = fits;
+  idle = λ idle. on.unmoved (none_made (may_of_free (has_turn now.bundle now.number) (may_begin (machine_of_seat now)) (sym is ∙ idle)));
+  worker = seat_worker now said fits;
   legal = seat_legal now;
 }
+  where
+    fits : FitsState said (machine_of_seat now) (state_in now)
+    fits = subst (λ (p : Progress). FitsState p (machine_of_seat now) (state_in now)) (sym is) (fits_state (machine_of_seat now) (state_in now))
+
+    -- who is free has made none
+    by_count : (n : ℕ) → (0 < n → may_begin (machine_of_seat now) ≡ false) → may_begin (machine_of_seat now) ≡ true → n ≡ 0
+    by_count zero moved may = refl
+    by_count (suc n) moved may = absurd (false≢true (sym (moved (omega arith)) ∙ may))
+
+    none_made : may_begin (machine_of_seat now) ≡ true → made ≡ 0
+    none_made = by_count made on.moved
 
 -- all steps are made
 pub gone_all : (first now : Seat) (made steps : ℕ) (said : Progress) → GoesOn first now made → said ≡ progress_at (state_in now) → made ≤ steps → steps ≤ made → HasGoneOn first now steps said
@@ -127,5 +226,8 @@ gone_idle first now new made steps said on same still idle is below =
       calls = ap (λ (a : Actor). a.calls) still.actor ∙ on.calls;
       doing = ap (λ (a : Actor). Rattle.step_core.specs.Actor.command_by (order_in new) a.command) still.actor ∙ ap (λ o. Rattle.step_core.specs.Actor.command_by o (actor_in now).command) still.order ∙ on.doing;
       steps = still.steps ∙ on.steps;
+      went = record { words = on.went.words; count = on.went.count; machine = still.machine ∙ on.went.machine; order = still.order ∙ on.went.order; each = on.went.each };
+      unmoved = λ none. was_then first now new (on.unmoved none) still;
+      moved = λ some. ap may_begin still.machine ∙ on.moved some;
     })
     is (omega (arith, below)) (λ more. absurd (no_more_at (has_turn new.bundle new.number) (may_begin (machine_of_seat new)) turn (sym is ∙ more)))

@@ -1,9 +1,7 @@
 -- What a step of its bundle is to a seat.
-use Rattle.std.proofs.Common.{◌≡◌, ℕ, zero, suc, ◌+◌, true, [], ◌∷◌, Some, refl, sym, ap, ◌∙◌}
-use Rattle.std.specs.Prelude.{slice_set, slice_get, unwrap_or, ◌++◌, Option, None}
+use Rattle.std.proofs.Common.{◌≡◌, ℕ, zero, suc, ◌+◌, Bool, true, [], ◌∷◌, Some, refl, sym, ap, ◌∙◌}
+use Rattle.std.specs.Prelude.{slice_set, slice_get, unwrap_or, ◌++◌, if◌then◌else◌}
 use Rattle.heap_words.specs.declared.config.Config.{Config}
-use Rattle.heap_words.specs.declared.access.Took.{Took}
-use Rattle.heap_words.specs.declared.access.Took.TheVariants as took
 use Rattle.shen_graph.specs.declared.command.Command.{Command}
 use Rattle.shen_graph.specs.declared.command.Reply.{Reply}
 use Rattle.shen_graph.specs.declared.order.Order.{Order}
@@ -24,7 +22,7 @@ use Rattle.heap_machines.proofs.Pauses.{heap_pauses}
 use Rattle.heap_machines.proofs.Replies.{done_gives, other_gives, given_after, ended_none}
 use Rattle.step_core.specs.Actor.{Machine, mutating, Actor, entries_of, command_by}
 use Rattle.step_core.specs.Begins.{Run, ending}
-use Rattle.step_core.specs.Machines.{takes_of, took_of, answer_of, ended_by}
+use Rattle.step_core.specs.Machines.{takes_of, took_of, answer_of, machine_after, ended_by}
 use Rattle.step_core.proofs.Theorem.EveryList.{run_sound}
 use Rattle.table_heap.specs.declared.bundle.Bundle.{Bundle}
 use Rattle.table_heap.specs.Core.{heap_kind, heap_opening, nobody}
@@ -33,7 +31,7 @@ use Rattle.table_heap.proofs.Core.{kind_takes, kind_took, run_of}
 use Rattle.table_heap.proofs.MachineUnder.{put_there}
 use Rattle.table_heap.proofs.Running.{at_number}
 use Rattle.table_heap.proofs.Said.{done_by}
-use Rattle.heap_seats.specs.Going.{given_by, HasWaited}
+use Rattle.heap_seats.specs.Going.{given_by, said_of_step}
 
 -- a mutator that some events lead to has its number as its seat
 seat_found : (c : Config) (number : ℕ) (a : Actor) (order : Order) (got : ℕ) → Finds (heap_kind c) (heap_opening c) number a order got → (m : Mutating) → a.machine ≡ mutating m → m.seat ≡ number
@@ -69,13 +67,6 @@ set_count : (v : View (Counted Actor)) (number count : ℕ) (a : Actor) → mach
 set_count [] number count a here = absurd cc
 set_count (x ∷ xs) zero count a here = refl
 set_count (x ∷ xs) (suc number) count a here = set_count xs number count a here
-
--- a step that says Again waits
-waits_by : (o : Option Took) → stepped_by o ≡ stepped.Again → o ≡ Some took.Again
-waits_by None is = absurd cc
-waits_by (Some took.More) is = absurd cc
-waits_by (Some took.Again) is = refl
-waits_by (Some took.Done) is = absurd cc
 
 module _ (old new : Bundle) (number : ℕ) (said : Stepped) (step : IsBundleStep old new number said) where
   -- the machine before and after
@@ -114,17 +105,15 @@ module _ (old new : Bundle) (number : ℕ) (said : Stepped) (step : IsBundleStep
   said_is : said ≡ stepped_by (answer_of old.config order was.machine step.got)
   said_is = step.said_is ∙ ap (λ machine. says old.config order machine step.got) machine_was
 
-  pub waited_then : said ≡ stepped.Again → HasWaited old.config (machine_at new number)
-  waited_then is = record {
-    before = was.machine;
-    order = order;
-    got = step.got;
-    waits = waits_by (answer_of old.config order was.machine step.got) (sym said_is ∙ is);
-    comes = machine_then;
-  }
-
   takes : takes_of was.machine order ≡ true
   takes = sym (kind_takes old.config was order) ∙ step.took.finds.takes
+
+  -- the same, of the machine in memory
+  pub machine_goes : machine_at new number ≡ machine_after pause_image old.config order step.got (machine_at old number)
+  machine_goes = machine_then ∙ ap (machine_after pause_image old.config order step.got) (sym machine_was)
+
+  pub answers_then : said ≡ said_of_step old.config order (machine_at old number) step.got
+  answers_then = step.said_is ∙ sym (ap (λ (turn : Bool). if turn then says old.config order (machine_at old number) step.got else stepped.Idle) (ap (λ m. takes_of m order) machine_was ∙ takes))
 
   ended : ended_by was.command was.machine ≡ entries_of number (command_by order was.command) (given_by said then_is.machine)
   ended = by_said said said_is

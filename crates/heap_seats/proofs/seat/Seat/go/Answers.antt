@@ -1,5 +1,13 @@
-use Rattle.heap_seats.proofs.Loops.{gone_replied, gone_again, gone_idle, gone_all}
+use Rattle.heap_seats.proofs.Loops.{goes_first, goes_more, gone_replied, gone_again, gone_idle, gone_all}
 use Rattle.heap_seats.proofs.seat.Seat.go.Goals as goal
+
+pub loop-made-init : goal.loop-made-init
+loop-made-init c = goes_first c.args.self.now
+
+pub loop-made-preserved : goal.loop-made-preserved
+loop-made-preserved c =
+    let l = c.loop-made in
+    goes_more c.args.self.now l.self c.step.new.self l._made c.step.result l.invariant c.step.ensures.same (c.step.ensures.stepped (λ idle. absurd (let is = c.in-More.is in cc))) c.in-More.is
 
 pub returns-in-Again : goal.returns-in-Again
 returns-in-Again c =
@@ -16,9 +24,10 @@ returns-in-Done c =
       doing = gone.doing;
       most = gone.most;
       all = gone.all;
-      some = gone.some;
-      waited = gone.waited;
+      made = record { words = gone.made.words; before = gone.made.before; count = gone.made.count; machine = gone.made.machine; order = gone.made.order; said = gone.made.said };
       told = gone.told;
+      idle = λ idle. absurd cc;
+      worker = gone.worker;
       legal = gone.legal;
     }
 

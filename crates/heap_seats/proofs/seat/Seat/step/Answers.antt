@@ -3,9 +3,11 @@ use Rattle.std.specs.Arc.{arc_value}
 use Rattle.heap_words.specs.declared.config.Config.{Config}
 use Rattle.heap_machines.specs.declared.stepped.Stepped.{Stepped}
 use Rattle.heap_machines.specs.declared.stepped.Stepped.TheVariants as stepped
-use Rattle.table_heap.specs.State.{has_turn, machine_at}
-use Rattle.heap_seats.specs.Going.{HasWaited}
-use Rattle.heap_seats.proofs.Stepped.{calls_go, doing_goes, order_then, steps_then, waited_then}
+use Rattle.table_heap.specs.State.{has_turn, machine_at, order_at}
+use Rattle.heap_machines.specs.Pause.{pause_image}
+use Rattle.step_core.specs.Machines.{machine_after}
+use Rattle.heap_seats.specs.Going.{said_of_step}
+use Rattle.heap_seats.proofs.Stepped.{calls_go, doing_goes, order_then, steps_then, machine_goes, answers_then}
 use Rattle.heap_seats.proofs.Known.{stays_of, stays_here, stays_only, goes_run}
 use Rattle.heap_seats.proofs.seat.Seat.step.Goals as goal
 
@@ -31,10 +33,14 @@ returns-clause-stepped c moved =
     let s = c.args.self.now in
     let b = c.step.new.self in
     let step = c.step.ensures.event (has_one (has_turn s.bundle s.number) c.step.result c.step.ensures.idle.1 moved) in
+    let was = machine_at s.bundle s.number in
+    let order = order_at s.bundle s.number in
     record {
+      got = step.got;
+      machine = subst (λ (k : Config). machine_at b s.number ≡ machine_after pause_image k order step.got was) s.same_config (machine_goes s.bundle b s.number c.step.result step);
+      answers = subst (λ (k : Config). c.step.result ≡ said_of_step k order was step.got) s.same_config (answers_then s.bundle b s.number c.step.result step);
       calls = calls_go s.bundle b s.number c.step.result step;
       doing = doing_goes s.bundle b s.number c.step.result step;
       order = order_then s.bundle b s.number c.step.result step;
       steps = steps_then s.bundle b s.number c.step.result step;
-      waited = λ is. subst (λ (k : Config). HasWaited k (machine_at b s.number)) s.same_config (waited_then s.bundle b s.number c.step.result step is);
     }

@@ -1,0 +1,134 @@
+-- Steps of a seat, and one more.
+use Rattle.std.proofs.Common.{◌≡◌, ℕ, ◌+◌, Bool, true, false, List, [], ◌∷◌, length, Some, refl, sym, ap, ◌∙◌, arith}
+use Rattle.std.specs.Prelude.{◌++◌, if◌then◌else◌}
+use Rattle.std.proofs.lemmas.List.{length-append}
+use Rattle.heap_words.specs.declared.config.Config.{Config}
+use Rattle.heap_words.specs.declared.access.Took.TheVariants.{Done}
+use Rattle.shen_graph.specs.declared.command.Command.{Command}
+use Rattle.shen_graph.specs.declared.order.Order.{Order}
+use Rattle.shen_graph.specs.declared.order.Order.TheVariants.{Nothing, Begin, End, Hint}
+use Rattle.mutator.specs.declared.spot.Spot.{Spot}
+use Rattle.mutator.specs.declared.spot.Spot.TheVariants.{Rest, Ended, Gone}
+use Rattle.mutator.specs.Orders.{is_between_calls, takes_commands, takes_at}
+use Rattle.mutator.specs.Rows.{Mutating, next_at}
+use Rattle.heap_machines.specs.Answer.{stepped_by, says}
+use Rattle.heap_machines.specs.Pause.{pause_image}
+use Rattle.heap_machines.specs.declared.stepped.Stepped.{Stepped}
+use Rattle.heap_machines.specs.declared.stepped.Stepped.TheVariants as stepped
+use Rattle.heap_machines.proofs.Replies.{other_gives, busy_after, begun_after}
+use Rattle.step_core.specs.Actor.{Machine, mutating}
+use Rattle.step_core.specs.Machines.{may_begin, is_resting, takes_of, answer_of, machine_after}
+use Rattle.heap_seats.specs.declared.seat.Seat.{Seat}
+use Rattle.heap_seats.specs.Seats.{config_of, machine_of_seat, order_in, IsSameSeat}
+use Rattle.heap_seats.specs.Going.{HasStepped, said_of_step, machine_through, said_through, order_left}
+
+none_left : (words : List ℕ) → order_left Nothing words ≡ Nothing
+none_left [] = refl
+none_left (got ∷ words) = refl
+
+left_more : (order : Order) (words : List ℕ) (got : ℕ) → order_left order (words ++ got ∷ []) ≡ Nothing
+left_more order [] got = refl
+left_more order (other ∷ words) got = refl
+
+machine_more : (c : Config) (order : Order) (words : List ℕ) (got : ℕ) (machine : Machine)
+    → machine_through c order (words ++ got ∷ []) machine ≡ machine_after pause_image c (order_left order words) got (machine_through c order words machine)
+machine_more c order [] got machine = refl
+machine_more c order (other ∷ words) got machine =
+    let next = machine_after pause_image c order other machine in
+    machine_more c Nothing words got next ∙ ap (λ (o : Order). machine_after pause_image c o got (machine_through c Nothing words next)) (none_left words)
+
+said_more : (c : Config) (order : Order) (words : List ℕ) (got : ℕ) (machine : Machine)
+    → said_through c order (words ++ got ∷ []) machine ≡ said_through c order words machine ++ said_of_step c (order_left order words) (machine_through c order words machine) got ∷ []
+said_more c order [] got machine = refl
+said_more c order (other ∷ words) got machine =
+    let next = machine_after pause_image c order other machine in
+    ap (λ (rest : List Stepped). said_of_step c order machine other ∷ rest)
+    (said_more c Nothing words got next
+    ∙ ap (λ (o : Order). said_through c Nothing words next ++ said_of_step c o (machine_through c Nothing words next) got ∷ []) (none_left words))
+
+-- the steps from one seat to another, and what they said
+pub record Went (first now : Seat) (made : ℕ) (said : List Stepped) : Type 0 where
+  pub words : List ℕ
+  pub count : length words ≡ made
+  pub machine : machine_of_seat now ≡ machine_through (config_of first) (order_in first) words (machine_of_seat first)
+  pub order : order_in now ≡ order_left (order_in first) words
+  pub each : said_through (config_of first) (order_in first) words (machine_of_seat first) ≡ said
+
+pub went_more : (first now new : Seat) (made : ℕ) (before : List Stepped) (said : Stepped) → IsSameSeat first now → Went first now made before → HasStepped now new said → Went first new (made + 1) (before ++ said ∷ [])
+went_more first now new made before said same went step =
+    let c = config_of first in
+    let order = order_in first in
+    let start = machine_of_seat first in
+    record {
+      words = went.words ++ step.got ∷ [];
+      count = let long = length-append went.words (step.got ∷ []) in let count = went.count in omega (arith, long, count);
+      machine =
+          step.machine ∙ ap (λ (k : Config). machine_after pause_image k (order_in now) step.got (machine_of_seat now)) same.config
+          ∙ ap (λ (o : Order). machine_after pause_image c o step.got (machine_of_seat now)) went.order
+          ∙ ap (λ (m : Machine). machine_after pause_image c (order_left order went.words) step.got m) went.machine ∙ sym (machine_more c order went.words step.got start);
+      order = step.order ∙ sym (left_more order went.words step.got);
+      each =
+          said_more c order went.words step.got start
+          ∙ ap (λ (m : Machine). said_through c order went.words start ++ said_of_step c (order_left order went.words) m step.got ∷ []) (sym went.machine)
+          ∙ ap (λ (o : Order). said_through c order went.words start ++ said_of_step c o (machine_of_seat now) step.got ∷ []) (sym went.order)
+          ∙ ap (λ (k : Config). said_through c order went.words start ++ said_of_step k (order_in now) (machine_of_seat now) step.got ∷ []) (sym same.config)
+          ∙ ap (λ (x : Stepped). said_through c order went.words start ++ x ∷ []) (sym step.answers) ∙ ap (λ (xs : List Stepped). xs ++ said ∷ []) went.each;
+    }
+
+-- ---- who has made a step and has more to do may be given no order
+
+taken : (turn : Bool) (said : Stepped) → (if turn then said else stepped.Idle) ≡ stepped.More → (turn ≡ true) × (said ≡ stepped.More)
+taken true said is = (refl, is)
+taken false said is = absurd cc
+
+in_call : (spot : Spot) (made : ℕ) → takes_at spot made Nothing ≡ true → is_between_calls spot ≡ false
+in_call Rest made takes = absurd cc
+in_call (Ended reply) made takes = absurd cc
+in_call Gone made takes = absurd cc
+in_call _ made takes = refl
+
+commanded : (spot : Spot) (made : ℕ) (command : Command) → takes_at spot made (Begin command) ≡ true → takes_commands spot ≡ true
+commanded Rest made command takes = refl
+commanded (Ended reply) made command takes = refl
+commanded _ made command takes = absurd cc
+
+never_hinted : (spot : Spot) (made address : ℕ) → takes_at spot made (Hint address) ≡ true → ⊥
+never_hinted Rest made address takes = cc
+never_hinted (Ended reply) made address takes = cc
+never_hinted Gone made address takes = cc
+never_hinted _ made address takes = cc
+
+gone_then : (c : Config) (m : Mutating) (got : ℕ) (spot : Spot) → takes_at spot m.made End ≡ true → takes_commands (next_at c m End got spot).spot ≡ false
+gone_then c m got Rest takes = refl
+gone_then c m got (Ended reply) takes = refl
+gone_then c m got _ takes = absurd cc
+
+busy_takes_none : (machine : Machine) → is_resting machine ≡ false → may_begin machine ≡ false
+busy_takes_none (mutating m) busy = by_spot m.spot busy
+  where
+    by_spot : (spot : Spot) → is_between_calls spot ≡ false → takes_commands spot ≡ false
+    by_spot Rest busy = absurd cc
+    by_spot (Ended reply) busy = absurd cc
+    by_spot _ busy = refl
+busy_takes_none _ busy = refl
+
+not_done : (c : Config) (order : Order) (machine : Machine) (got : ℕ) → says c order machine got ≡ stepped.More → answer_of c order machine got ≡ Some Done → ⊥
+not_done c order machine got more done = let both : stepped.More ≡ stepped.Done = sym more ∙ ap stepped_by done in cc
+
+goes_on_busy : (c : Config) (order : Order) (got : ℕ) (m : Mutating) → takes_at m.spot m.made order ≡ true → says c order (mutating m) got ≡ stepped.More → may_begin (machine_after pause_image c order got (mutating m)) ≡ false
+goes_on_busy c Nothing got m takes more =
+    busy_takes_none (machine_after pause_image c Nothing got (mutating m))
+    (busy_after pause_image c got (mutating m) (in_call m.spot m.made takes) (other_gives c Nothing (mutating m) got (not_done c Nothing (mutating m) got more)))
+goes_on_busy c (Begin command) got m takes more =
+    busy_takes_none (machine_after pause_image c (Begin command) got (mutating m)) (begun_after pause_image c command got (mutating m) (commanded m.spot m.made command takes))
+goes_on_busy c End got m takes more = gone_then c m got m.spot takes
+goes_on_busy c (Hint address) got m takes more = absurd (never_hinted m.spot m.made address takes)
+
+by_role : (c : Config) (order : Order) (machine : Machine) (got : ℕ) → takes_of machine order ≡ true → says c order machine got ≡ stepped.More → may_begin (machine_after pause_image c order got machine) ≡ false
+by_role c order (mutating m) got takes more = goes_on_busy c order got m takes more
+by_role c order _ got takes more = refl
+
+pub busy_step : (c : Config) (order : Order) (machine : Machine) (got : ℕ) → said_of_step c order machine got ≡ stepped.More → may_begin (machine_after pause_image c order got machine) ≡ false
+busy_step c order machine got is =
+    let both = taken (takes_of machine order) (says c order machine got) is in
+    by_role c order machine got both.0 both.1
