@@ -1,7 +1,7 @@
 -- The choice from a table of what lives in each region.
-use Rattle.std.proofs.Common.{◌≡◌, ◌≢◌, ℕ, ◌+◌, ◌-◌, ◌*◌, ◌/◌, ◌^◌, ◌<◌, ◌≤◌, ◌==◌, ◌&&◌, ◌||◌, nat_lt, nat_le, not, cond, if◌then◌else◌, Bool, true, false, zero, suc, List, length, slice_index, slice_set, replicate, ⊎_elim, refl, sym, ap, ◌∙◌, arith}
+use Rattle.std.proofs.Common.{◌≡◌, ◌≢◌, ℕ, ◌+◌, ◌-◌, ◌*◌, ◌/◌, ◌^◌, ◌<◌, ◌≤◌, ◌==◌, ◌&&◌, ◌||◌, nat_lt, nat_le, not, cond, if◌then◌else◌, Bool, true, false, zero, suc, List, Option, Some, None, is_some, IfSome, unwrap_or, length, slice_index, slice_set, replicate, ⊎_elim, refl, sym, ap, ◌∙◌, arith}
 use Rattle.std.specs.Int.{bit_at}
-use Rattle.std.proofs.lemmas.Bool.{cond_both, cases_eq, eq-eqb}
+use Rattle.std.proofs.lemmas.Bool.{cond_both, cases_eq, cases_Bool, eq-eqb, false≢true}
 use Rattle.std.proofs.Math.ListN.{length-set, length-replicate}
 use Rattle.std.proofs.lemmas.List.{get_or-replicate, get_or-set_same, get_or-set_other}
 use Rattle.std.proofs.lemmas.Nat.Bits.{bit_at_above, bit_at-lt}
@@ -67,11 +67,11 @@ pub adds_few : (live : List ℕ) (set r q bound : ℕ) → slice_index live q �
 adds_few live set r q bound few =
     cond_both ((bit_at set q == 1) && not (comes_before (slice_index live) r q)) (slice_index live q) 0 (λ x. x ≤ bound) (λ _. few) (λ _. omega arith)
 
--- a table with one entry more
+-- a table of the first so many regions
 pub record AreLiveBelow (c : Config) (m : Word → ℕ) (live : List ℕ) (n : ℕ) : Type 0 where
   pub long : length live ≡ 64
   pub small : (r : ℕ) → r < 64 → slice_index live r ≤ most_live
-  pub is : (r : ℕ) → r < n → slice_index live r ≡ live_words c m r
+  pub is : (r : ℕ) → r < n → is_candidate c m r ≡ true → slice_index live r ≡ live_words c m r
 
 pub live_none : (c : Config) (m : Word → ℕ) → AreLiveBelow c m (replicate 64 0) 0
 live_none c m = record {
@@ -80,7 +80,7 @@ live_none c m = record {
   is = λ r below. absurd (omega (arith, below));
 }
 
-pub live_more : (c : Config) (m : Word → ℕ) (live : List ℕ) (n words : ℕ) → n < 64 → words ≡ live_words c m n → words ≤ most_live → AreLiveBelow c m live n
+pub live_more : (c : Config) (m : Word → ℕ) (live : List ℕ) (n words : ℕ) → n < 64 → (is_candidate c m n ≡ true → words ≡ live_words c m n) → words ≤ most_live → AreLiveBelow c m live n
     → AreLiveBelow c m (slice_set live n words) (n + 1)
 live_more c m live n words few is bound before =
     let inside : n < length live = omega (arith, few, before.long) in
@@ -90,11 +90,20 @@ live_more c m live n words few is bound before =
           (λ (here : r ≡ n). (let there : slice_index (slice_set live n words) r ≡ words = ap (slice_index (slice_set live n words)) here ∙ get_or-set_same live n words 0 inside in omega (arith, there, bound)))
           (λ (other : r ≢ n). (let there : slice_index (slice_set live n words) r ≡ slice_index live r = get_or-set_other live n r words 0 other in omega (arith, there, before.small r below)))
           (cases_eq r n);
-      is = λ r below. ⊎_elim
-          (λ (here : r ≡ n). ap (slice_index (slice_set live n words)) here ∙ get_or-set_same live n words 0 inside ∙ is ∙ ap (live_words c m) (sym here))
-          (λ (other : r ≢ n). get_or-set_other live n r words 0 other ∙ before.is r (omega (arith, below, other)))
+      is = λ r below told. ⊎_elim
+          (λ (here : r ≡ n). ap (slice_index (slice_set live n words)) here ∙ get_or-set_same live n words 0 inside ∙ is (ap (is_candidate c m) (sym here) ∙ told) ∙ ap (live_words c m) (sym here))
+          (λ (other : r ≢ n). get_or-set_other live n r words 0 other ∙ before.is r (omega (arith, below, other)) told)
           (cases_eq r n);
     }
+
+-- what was counted of a candidate, as the number that a table has of it
+pub counted_words : (counted : Option ℕ) (words live : ℕ) (test : Bool) → words ≡ unwrap_or counted 0 → is_some counted ≡ test → IfSome counted (λ n. n ≡ live) → test ≡ true → words ≡ live
+counted_words None words live test is some same told = absurd (false≢true (some ∙ told))
+counted_words (Some n) words live test is some same told = is ∙ same
+
+pub counted_few : (counted : Option ℕ) (words bound : ℕ) → words ≡ unwrap_or counted 0 → IfSome counted (λ n. n ≤ bound) → words ≤ bound
+counted_few None words bound is few = omega (arith, is)
+counted_few (Some n) words bound is few = omega (arith, is, few)
 
 -- the digit of a region tells whether the test does
 digit_tells : (b : Bool) → (one b == 1) ≡ b
@@ -121,17 +130,33 @@ module _ (c : Config) (m : Word → ℕ) (live : List ℕ) (are : AreLive c m li
   abbrev candidates : ℕ
   candidates = bits_of candidate 0 c.regions
 
-  pub up_to_is : (r : ℕ) → r < c.regions → up_to live candidates c.regions r ≡ live_up_to c.regions lives candidate r
-  up_to_is r below =
+  -- what one candidate adds up to another is the same by the table and by the words
+  same_added : (r q : ℕ) → r < c.regions → candidate r ≡ true → q < c.regions
+      → (if candidate q && not (comes_before (slice_index live) r q) then slice_index live q else 0) ≡ (if candidate q && not (comes_before lives r q) then lives q else 0)
+  same_added r q below is inside = ⊎_elim
+      (λ (told : candidate q ≡ true).
+      ap (λ b. if candidate q && not b then slice_index live q else 0) (before_same (slice_index live) lives r q (are.is r below is) (are.is q inside told))
+      ∙ ap (λ n. if candidate q && not (comes_before lives r q) then n else 0) (are.is q inside told))
+      (λ (none : candidate q ≡ false).
+      ap (λ b. if b && not (comes_before (slice_index live) r q) then slice_index live q else 0) none
+      ∙ sym (ap (λ b. if b && not (comes_before lives r q) then lives q else 0) none))
+      (cases_Bool (candidate q))
+
+  pub up_to_is : (r : ℕ) → r < c.regions → candidate r ≡ true → up_to live candidates c.regions r ≡ live_up_to c.regions lives candidate r
+  up_to_is r below is =
       sum_same (adds live candidates r)
       (λ q. if candidate q && not (comes_before lives r q) then lives q else 0) c.regions
       (λ q inside.
       ap (λ b. if b && not (comes_before (slice_index live) r q) then slice_index live q else 0) (member_tells candidate c.regions q inside)
-      ∙ ap (λ b. if candidate q && not b then slice_index live q else 0) (before_same (slice_index live) lives r q (are.is r below) (are.is q inside))
-      ∙ ap (λ n. if candidate q && not (comes_before lives r q) then n else 0) (are.is q inside))
+      ∙ same_added r q below is inside)
 
   pub fits_is : (r limit : ℕ) → r < c.regions
       → ((bit_at candidates r == 1) && nat_le (up_to live candidates c.regions r) limit) ≡ is_in_front c.regions limit lives candidate r
   fits_is r limit below =
       ap (λ b. b && nat_le (up_to live candidates c.regions r) limit) (member_tells candidate c.regions r below)
-      ∙ ap (λ n. candidate r && nat_le n limit) (up_to_is r below)
+      ∙ ⊎_elim
+      (λ (told : candidate r ≡ true). ap (λ n. candidate r && nat_le n limit) (up_to_is r below told))
+      (λ (none : candidate r ≡ false).
+      ap (λ b. b && nat_le (up_to live candidates c.regions r) limit) none
+      ∙ sym (ap (λ b. b && nat_le (live_up_to c.regions lives candidate r) limit) none))
+      (cases_Bool (candidate r))

@@ -1,21 +1,21 @@
--- How much lives in each region, as a table.
-use Rattle.std.specs.Prelude.{ℕ, ◌≡◌, ◌<◌, ◌≤◌, ◌==◌, ◌&&◌, not, if◌then◌else◌, List, length, slice_index}
+-- How much lives in each candidate, as a table.
+use Rattle.std.specs.Prelude.{ℕ, ◌≡◌, ◌<◌, ◌≤◌, ◌==◌, ◌&&◌, not, if◌then◌else◌, true, List, length, slice_index}
 use Rattle.std.specs.Int.{bit_at}
 use Rattle.heap_words.specs.declared.config.Config.{Config}
 use Rattle.heap_words.specs.Words.{Word}
 use Rattle.packing.specs.Tops.{sum_below}
-use Rattle.cycle_words.specs.Evacuation.Live.{live_words}
+use Rattle.cycle_words.specs.Evacuation.Live.{live_words, is_candidate}
 use Rattle.cycle_words.specs.Evacuation.Front.{comes_before}
 
 -- no more lives in a region than 513 words at each of 2^25 addresses
 abbrev pub most_live : ℕ
 most_live = 17213423616
 
--- a table of 64 numbers has the live words of each region
+-- a table of 64 numbers has the live words of each candidate; what it has at another region says nothing
 pub record AreLive (c : Config) (memory : Word → ℕ) (live : List ℕ) : Type 0 where
   pub long : length live ≡ 64
   pub small : (r : ℕ) → r < 64 → slice_index live r ≤ most_live
-  pub is : (r : ℕ) → r < c.regions → slice_index live r ≡ live_words c memory r
+  pub is : (r : ℕ) → r < c.regions → is_candidate c memory r ≡ true → slice_index live r ≡ live_words c memory r
 
 -- what a region adds to what lives, by a table, in the regions of a set up to another one, in the order of the choice
 abbrev pub adds : (live : List ℕ) (set : ℕ) → ℕ → ℕ → ℕ

@@ -1,6 +1,6 @@
 //! The choice of the collection set.
 
-ghost use Rattle.std.specs.Prelude.{ℕ, ◌≡◌, ◌+◌, ◌*◌, ◌^◌, ◌<◌, ◌≤◌, ◌==◌, ◌&&◌, nat_le, if◌then◌else◌, length, slice_index};
+ghost use Rattle.std.specs.Prelude.{ℕ, ◌≡◌, ◌+◌, ◌*◌, ◌/◌, ◌^◌, ◌<◌, ◌≤◌, ◌==◌, ◌&&◌, nat_le, if◌then◌else◌, true, false, is_some, IfSome, length, slice_index};
 ghost use Rattle.std.specs.Int.{bit_at};
 ghost use Rattle.heap_words.specs.Words.{Free};
 ghost use Rattle.image_graph.specs.State.{config_of, memory_of};
@@ -18,25 +18,19 @@ use heap_words::Config;
 use image_graph::{Image, with_if};
 use regions::{is_in, size};
 
-// How much lives in each region.
-fn live_of_all(image: &Image) -> [u64; 64]
-    requires { LieApart (config_of image.now).region_words (lives.marked_words (config_of image.now) (memory_of image.now)) }
-    ensures { AreLive (config_of image.now) (memory_of image.now) result }
-{
-    let mut live = [0; 64];
-    for region in 0..image.config().regions() {
-        let words = live_words(image, region);
-        live[region] = words;
-    }
-    live
+// The candidates, and how much lives in each of them: a region that is none has some number in the table.
+#[derive(Drop)]
+struct LiveCandidates {
+    set: u64,
+    live: [u64; 64],
 }
 
-// Whether a region with so many live words is a candidate: it is in use, neither current nor pinned, nothing was allocated in it
-// since marking began, and a quarter of a region in it is garbage.
-fn is_candidate(image: &Image, region: usize, live: u64) -> bool
-    requires region { region < (config_of image.now).regions }
-    requires live { live ≡ lives.live_words (config_of image.now) (memory_of image.now) region }
-    ensures { result ≡ lives.is_candidate (config_of image.now) (memory_of image.now) region }
+// Whether all but how much lives in it makes a region a candidate: it is in use, neither current nor pinned, and nothing was
+// allocated in it since marking began.
+fn may_be_candidate(image: &Image, region: usize) -> bool
+    requires { region < (config_of image.now).regions }
+    ensures yes { result ≡ true → lives.is_candidate (config_of image.now) (memory_of image.now) region ≡ nat_le ((config_of image.now).region_words / 4) (lives.garbage (config_of image.now) (memory_of image.now) region) }
+    ensures no { result ≡ false → lives.is_candidate (config_of image.now) (memory_of image.now) region ≡ false }
 {
     let config = image.config();
     if is_in(image.word(config.free_at()), region) || image.is_current(region) {
@@ -45,23 +39,46 @@ fn is_candidate(image: &Image, region: usize, live: u64) -> bool
     if image.is_pinned(region) {
         return false;
     }
-    let top = image.top(region);
-    if top != image.word(config.tams_at(region)) {
-        return false;
-    }
-    config.region_words() as u64 / 4 <= top.saturating_sub(live)
+    image.top(region) == image.word(config.tams_at(region))
 }
 
-// The set of the candidates.
-fn candidates(image: &Image, live: &[u64]) -> u64
-    requires { AreLive (config_of image.now) (memory_of image.now) live.now }
-    ensures { result ≡ bits_of (lives.is_candidate (config_of image.now) (memory_of image.now)) 0 (config_of image.now).regions }
+// The live words of a region, if it is a candidate, so that a quarter of a region in it is garbage besides. Its marks are looked at
+// only where all else makes it one.
+fn live_of_candidate(image: &Image, region: usize) -> Option<u64>
+    requires region { region < (config_of image.now).regions }
+    requires apart { LieApart (config_of image.now).region_words (lives.marked_words (config_of image.now) (memory_of image.now)) }
+    ensures candidate { is_some result ≡ lives.is_candidate (config_of image.now) (memory_of image.now) region }
+    ensures live { IfSome result (λ words. words ≡ lives.live_words (config_of image.now) (memory_of image.now) region) }
+    ensures bound { IfSome result (λ words. words ≤ most_live) }
+{
+    if !may_be_candidate(image, region) {
+        return None;
+    }
+    let live = live_words(image, region);
+    let garbage = image.top(region).saturating_sub(live);
+    if image.config().region_words() as u64 / 4 <= garbage {
+        Some(live)
+    } else {
+        None
+    }
+}
+
+// The candidates, and how much lives in each of them.
+fn candidates(image: &Image) -> LiveCandidates
+    requires { LieApart (config_of image.now).region_words (lives.marked_words (config_of image.now) (memory_of image.now)) }
+    ensures live { AreLive (config_of image.now) (memory_of image.now) result.live }
+    ensures set { result.set ≡ bits_of (lives.is_candidate (config_of image.now) (memory_of image.now)) 0 (config_of image.now).regions }
 {
     let mut set = 0;
+    let mut live = [0; 64];
     for region in 0..image.config().regions() {
-        set = with_if(set, region, is_candidate(image, region, live[region]));
+        let counted = live_of_candidate(image, region);
+        let member = counted.is_some();
+        let words = counted.unwrap_or(0);
+        live[region] = words;
+        set = with_if(set, region, member);
     }
-    set
+    LiveCandidates { set, live }
 }
 
 // How many words may be copied.
@@ -129,8 +146,8 @@ fn is_taken(config: Config, live: &[u64], candidates: u64, limit: u64, region: u
 /// The collection set: of the candidates, in the order of their live words and then of their numbers, as many from the first
 /// one on as can be copied to the free regions together. Candidates are in use, neither current nor pinned, without a new
 /// object, and have garbage of a quarter of a region. What can be reached in its regions is marked, where the image holds a
-/// graph and marking has ended. No word changes. Takes time linear in the words of marks and in the marked objects, and
-/// quadratic in the number of regions.
+/// graph and marking has ended. No word changes. Takes time linear in the words of marks and in the marked objects of the regions
+/// in use in which nothing was allocated since marking began, and quadratic in the number of regions.
 pub fn choose(image: &Image) -> u64
     requires { CanBegin (config_of image.now) (memory_of image.now) }
     ensures value { result ≡ choices.chosen (config_of image.now) (memory_of image.now) }
@@ -138,15 +155,14 @@ pub fn choose(image: &Image) -> u64
     ensures live { ReachableAreLive (config_of image.now) (memory_of image.now) result }
 {
     let config = image.config();
-    let live = live_of_all(image);
-    let candidates = candidates(image, &live);
+    let counted = candidates(image);
     let limit = copy_limit(image);
     let mut set = 0;
     for region in 0..config.regions() {
         set = with_if(
             set,
             region,
-            is_taken(config, &live, candidates, limit, region),
+            is_taken(config, &counted.live, counted.set, limit, region),
         );
     }
     set

@@ -1,12 +1,15 @@
 -- What taking addresses down keeps, and what it adds.
-use Rattle.std.proofs.Common.{ℕ, ◌≡◌, ◌≢◌, ◌+◌, ◌-◌, ◌<◌, ◌≤◌, ◌⊎◌, ◌||◌, Bool, true, false, List, [], ◌∷◌, ◌++◌, length, get_or, set, nat_eq, ◌==◌, arith, refl, ap, sym, ◌∙◌, inl, inr, length-append}
-use Rattle.std.specs.List.{range_with_len}
-use Rattle.std.proofs.lemmas.List.{get_or-set_same, get_or-set_other, length-set, append_assoc, append-nil}
+use Rattle.std.proofs.Common.{ℕ, ◌≡◌, ◌≢◌, ◌+◌, ◌-◌, ◌<◌, ◌≤◌, ◌⊎◌, ◌||◌, Bool, true, false, List, [], ◌∷◌, ◌++◌, length, get_or, set, nat_eq, ◌==◌, arith, refl, ap, sym, subst, ◌∙◌, inl, inr, length-append}
+use Rattle.std.specs.List.{range_with_len, IsDistinct}
+use Rattle.std.proofs.lemmas.List.{get_or-set_same, get_or-set_other, length-set, append_assoc, append-nil, get_or_append_left, get_or_at, get_or_default}
 use Rattle.std.proofs.lemmas.List.FromFn.{length-range_with_len, get_or-range_with_len}
 use Rattle.std.proofs.lemmas.List.Folds.{list_any-append, list_any_at}
-use Rattle.std.proofs.lemmas.Map.Keys.{IsDistinct-push}
+use Rattle.std.proofs.lemmas.Map.Keys.{IsDistinct-prop, IsDistinct-push, IsDistinct-from_apart, apart_from_distinct}
+use Rattle.std.proofs.lemmas.Map.Views.{Contains-from_any, exact_unsigned_eq}
 use Rattle.std.proofs.lemmas.Map.Made.{length-le_from_is_member}
-use Rattle.std.proofs.lemmas.Bool.{eqb-true, eqb-false, eq-eqb, ne_eqb, or_cases, or_left, or_right, cases_eq, cond_both, or_parts, false≢true}
+use mathlib.Core.Bool.{Bool-set}
+use Rattle.std.proofs.Math.Bridge.{le_prop}
+use Rattle.std.proofs.lemmas.Bool.{eqb-true, eqb-false, eq-eqb, ne_eqb, or_cases, or_left, or_right, cases_eq, cond_both, or_parts, false≢true, false_from_ne_true}
 use Rattle.std.proofs.lemmas.Cmp.{nat_eq_equiv}
 use Rattle.heap_graph.specs.Walk.{has, IsMarked, with_address, with_addresses}
 
@@ -83,6 +86,64 @@ IsMarked-push first marks order a m low high unset = record {
   once = IsDistinct-push nat_eq_equiv order a m.once (not_there first marks order a m low high unset);
   among = λ q h. rw length-set (among_push first (length marks) order a low high m.among q h);
   flags = λ k h. flags_push first marks order a m low high k (rw length-set at h);
+}
+
+-- a list without its last address has no address twice where the whole has none, nor that last one
+distinct_before : (order : List ℕ) (a : ℕ) → IsDistinct nat_eq (order ++ a ∷ []) → IsDistinct nat_eq order
+distinct_before order a once = IsDistinct-from_apart nat_eq order (λ i j d low high.
+    let first : get_or (order ++ a ∷ []) i d ≡ get_or order i d = get_or_append_left order (a ∷ []) d i (omega (arith, low, high)) in
+    let second : get_or (order ++ a ∷ []) j d ≡ get_or order j d = get_or_append_left order (a ∷ []) d j high in
+    ap (λ x. nat_eq x (get_or order j d)) (sym first) ∙ ap (nat_eq (get_or (order ++ a ∷ []) i d)) (sym second)
+    ∙ apart_from_distinct nat_eq (order ++ a ∷ []) i j d once low (omega (arith, high, length-append order (a ∷ []))))
+
+last_apart : (order : List ℕ) (a : ℕ) → IsDistinct nat_eq (order ++ a ∷ []) → has order a ≡ false
+last_apart order a once = false_from_ne_true (has order a) (λ there.
+    let at = Contains-from_any exact_unsigned_eq a order there in
+    let is : get_or order at.0 0 ≡ a = get_or_default order at.0 0 a at.1 ∙ at.2 in
+    let here : get_or (order ++ a ∷ []) at.0 0 ≡ a = get_or_append_left order (a ∷ []) 0 at.0 at.1 ∙ is in
+    let end : get_or (order ++ a ∷ []) (length order) 0 ≡ a = get_or_at order a [] 0 (length order) refl in
+    let apart = apart_from_distinct nat_eq (order ++ a ∷ []) at.0 (length order) 0 once at.1 (omega (arith, length-append order (a ∷ []))) in
+    false≢true (sym apart ∙ eq-eqb _ _ (here ∙ sym end)))
+
+last_is : (order : List ℕ) (a : ℕ) → has (order ++ a ∷ []) a ≡ true
+last_is order a = has-push order a a ∙ or_right (has order a) (nat_eq a a) (eq-eqb a a refl)
+
+flags_pop : (first : ℕ) (marks : List Bool) (order : List ℕ) (a : ℕ) → IsMarked first marks (order ++ a ∷ [])
+    → first ≤ a → a < first + length marks → (k : ℕ) → k < length marks
+    → get_or (set marks (a - first) false) k false ≡ has order (first + k)
+flags_pop first marks order a m low high k h =
+    elim (cases_eq k (a - first)) [
+      | inl e ↦ (let same : first + k ≡ a = omega (arith, e, low) in
+          ap (λ i. get_or (set marks (a - first) false) i false) e ∙ get_or-set_same marks (a - first) false false (omega (arith, low, high))
+          ∙ sym (ap (has order) same ∙ last_apart order a m.once))
+      | inr ne ↦ (let other : first + k ≢ a = λ e. ne (omega (arith, e)) in
+          get_or-set_other marks (a - first) k false false ne ∙ m.flags k h ∙ has-push order a (first + k)
+          ∙ ap (λ b. has order (first + k) || b) (ne_eqb _ _ other) ∙ or_false (has order (first + k)))
+    ]
+
+-- the last address of a list lies where there are flags
+pub last_among : (first : ℕ) (marks : List Bool) (now order : List ℕ) (a : ℕ) → now ≡ order ++ a ∷ [] → IsMarked first marks now
+    → (first ≤ a) × (a < first + length marks)
+last_among first marks now order a is m = m.among a (ap (λ xs. has xs a) is ∙ last_is order a)
+
+-- an address less, whose flag is taken away
+pub IsMarked-pop : (first : ℕ) (marks : List Bool) (now order : List ℕ) (a : ℕ) → now ≡ order ++ a ∷ [] → IsMarked first marks now
+    → IsMarked first (set marks (a - first) false) order
+IsMarked-pop first marks now order a is before =
+    let m : IsMarked first marks (order ++ a ∷ []) = subst (IsMarked first marks) is before in
+    let inside = m.among a (last_is order a) in
+    record {
+      once = distinct_before order a m.once;
+      among = λ q h. rw length-set (m.among q (has-push order a q ∙ or_left (has order q) (nat_eq q a) h));
+      flags = λ k h. flags_pop first marks order a m inside.0 inside.1 k (rw length-set at h);
+    }
+
+-- that flags and list say the same has one proof
+pub IsMarked-prop : (first : ℕ) (marks : List Bool) (order : List ℕ) → IsProp (IsMarked first marks order)
+IsMarked-prop first marks order one other = λ i. record {
+  once = IsDistinct-prop nat_eq order one.once other.once i;
+  among = λ a h. let x = one.among a h in let y = other.among a h in (le_prop x.0 y.0 i, le_prop x.1 y.1 i);
+  flags = λ k h. Bool-set _ _ (one.flags k h) (other.flags k h) i;
 }
 
 -- what was in the list stays in it

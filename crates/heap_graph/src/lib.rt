@@ -13,7 +13,7 @@ ghost use Rattle.heap_world.specs.World.{Ghost, Plot, Points, Shared, name_at};
 ghost use Rattle.heap_world.specs.Roots.{HasNoMore, HasNoMorePins};
 ghost use Rattle.heap_graph.specs.Shows.{WordsStand};
 
-pub use walk::take_down;
+pub use walk::{forget, take_down};
 pub use write::write_graph;
 
 /// A law: where the words of a table stand for a graph, and the words of the roots for the roots of its threads, the words of

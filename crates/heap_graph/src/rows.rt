@@ -84,7 +84,7 @@ fn add_object(first: u64, heap: &[u64], address: u64, text: &mut GraphText)
 }
 
 // Adds the row of the object at each of some addresses.
-fn add_objects(first: u64, heap: &[u64], order: &[u64], text: &mut GraphText)
+fn add_objects(first: u64, heap: &[u64], order: &[u32], text: &mut GraphText)
     requires above { All (λ a. first ≤ a) order.now }
     requires below { All (λ a. a + size_at heap.now (a - first) ≤ first + length heap.now) order.now }
     requires named { All (λ a. All (IsNamed first heap.now) (refs_at heap.now (a - first))) order.now }
@@ -95,13 +95,13 @@ fn add_objects(first: u64, heap: &[u64], order: &[u64], text: &mut GraphText)
     ensures room { text.new.room ≡ text.old.room }
 {
     for address in order {
-        add_object(first, heap, *address, text);
+        add_object(first, heap, *address as u64, text);
     }
 }
 
 /// Adds the row of the object at each of some addresses, and brings all rows into the order of names. `heap` has a word
 /// for each address from `first` on.
-pub(crate) fn write_objects(first: u64, heap: &[u64], order: &[u64], text: &mut GraphText)
+pub(crate) fn write_objects(first: u64, heap: &[u64], order: &[u32], text: &mut GraphText)
     requires above { All (λ a. first ≤ a) order.now }
     requires below { All (λ a. a + size_at heap.now (a - first) ≤ first + length heap.now) order.now }
     requires named { All (λ a. All (IsNamed first heap.now) (refs_at heap.now (a - first))) order.now }

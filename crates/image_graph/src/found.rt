@@ -6,17 +6,17 @@ ghost use Rattle.heap_graph.specs.Walk.{has, with_address};
 ghost use Rattle.image_graph.specs.State.{config_of, found_of, AreFound, IsUnchanged};
 
 use crate::image::Image;
-use heap_graph::take_down;
+use heap_graph::{forget, take_down};
 
 impl Image {
-    /// Forgets which objects were found.
+    /// Forgets which objects were found. Takes time linear in these.
     pub fn forget_found(&mut self)
         ensures unchanged { IsUnchanged self.old self.new }
         ensures found { AreFound self.new }
         ensures none { found_of self.new ≡ [] }
     {
-        self.marks.fill(false);
-        self.addresses.clear();
+        let first = self.config.region_words() as u64;
+        forget(first, &mut self.marks, &mut self.addresses);
     }
 
     /// Notes that the object at an address was found, unless that was noted before. Null, 0, is no object.
@@ -35,7 +35,10 @@ impl Image {
     pub fn found_at(&self, turn: usize) -> Option<u64>
         ensures { result ≡ slice_get (found_of self.now) turn }
     {
-        self.addresses.get(turn).copied()
+        match self.addresses.get(turn) {
+            Some(address) => Some(*address as u64),
+            None => None,
+        }
     }
 
     /// Whether the object at an address was found.

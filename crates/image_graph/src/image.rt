@@ -1,5 +1,6 @@
 ghost use Rattle.std.specs.Prelude.{◌≡◌, ◌≤◌, length, vec_capacity};
 ghost use Rattle.heap_words.specs.Words.{table_words, heap_size};
+ghost use Rattle.heap_graph.specs.Walk.{IsMarked};
 
 use heap_graph::write_graph;
 use heap_words::{Config, NoMemory, end_of, forwarded, forwardee, heap_in, pins_in, roots_in};
@@ -12,14 +13,16 @@ use std::alloc::Global;
 pub struct Image {
     pub(crate) config: Config,
     pub(crate) words: Vec<u64>,
-    // For each word of the heap a word of a second heap and a flag, and room for as many addresses: the mark stack.
+    // For each word of the heap a word of a second heap and a flag, and room for as many addresses, which are numbers of 32 bits: the
+    // mark stack. The flags say which addresses it has, so that it is forgotten in the time of what it has.
     pub(crate) places: Vec<u64>,
     pub(crate) marks: Vec<bool>,
-    pub(crate) addresses: Vec<u64>,
+    pub(crate) addresses: Vec<u32>,
     ghost all_words: { length words.items ≡ table_words config },
     ghost all_places: { length places.items ≡ heap_size config },
     ghost all_marks: { length marks.items ≡ heap_size config },
     ghost enough_addresses: { heap_size config ≤ vec_capacity addresses },
+    ghost all_found: { ∥ IsMarked config.region_words marks.items addresses.items ∥₁ },
 }
 
 impl Image {

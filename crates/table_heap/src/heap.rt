@@ -16,7 +16,7 @@ use std::alloc::Global;
 use step_core::open_words;
 
 /// A heap that threads share, by a `&`. Its machines are in bundles, each of which is one thread's own. For each word of the heap
-/// the shared table and the control's image together have 33.5 bytes, the grey and black bits of the word with them.
+/// the shared table and the control's image together have 29.5 bytes, the grey and black bits of the word with them.
 #[derive(Drop)]
 pub struct Heap {
     pub(crate) config: Config,

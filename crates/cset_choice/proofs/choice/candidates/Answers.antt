@@ -1,19 +1,54 @@
-use Rattle.std.proofs.Common.{arith}
+use Rattle.std.proofs.Common.{◌≡◌, ◌<◌, ℕ, ap, ◌∙◌, arith}
+use Rattle.heap_words.specs.declared.config.Config.{Config}
+use Rattle.heap_words.specs.Words.{Word}
 use Rattle.image_graph.specs.State.{config_of, memory_of}
+use Rattle.cycle_words.specs.Marking.Marks.{bits_of}
 use Rattle.cycle_words.proofs.Marking.Bits.{bits_small}
-use Rattle.cycle_words.specs.Evacuation.Live.{is_candidate}
-use Rattle.cset_choice.proofs.Choosing.{bits_none_yet, bits_next}
+use Rattle.cycle_words.specs.Evacuation.Live.{live_words, is_candidate}
+use Rattle.cset_choice.specs.Tables.{most_live}
+use Rattle.cset_choice.proofs.Choosing.{bits_none_yet, bits_next, live_none, live_more, counted_words, counted_few}
 use Rattle.cset_choice.proofs.choice.candidates.Goals as goal
 
 pub loop-region-init : goal.loop-region-init
-loop-region-init c = bits_none_yet (is_candidate (config_of c.args.image.now) (memory_of c.args.image.now))
+loop-region-init c =
+    let g = config_of c.args.image.now in
+    let m : Word → ℕ = memory_of c.args.image.now in
+    record { live = live_none g m; set = bits_none_yet (is_candidate g m) }
 
 pub with_if-set-requires-clause-below : goal.with_if-set-requires-clause-below
 with_if-set-requires-clause-below c =
     let small = bits_small (is_candidate (config_of c.args.image.now) (memory_of c.args.image.now)) 0 c.loop-region.region in
-    omega (arith, small, c.loop-region.invariant)
+    omega (arith, small, c.loop-region.invariant.set)
 
 pub loop-region-preserved : goal.loop-region-preserved
 loop-region-preserved c =
-    bits_next (is_candidate (config_of c.args.image.now) (memory_of c.args.image.now)) c.loop-region.region c.loop-region.set c.with_if-set.result c.is_candidate.result
-    c.loop-region.invariant c.is_candidate.ensures c.with_if-set.ensures
+    let g = config_of c.args.image.now in
+    let m : Word → ℕ = memory_of c.args.image.now in
+    let r = c.loop-region.region in
+    let most = g.in_range.most_regions in
+    let few : r < 64 = omega (arith, c.loop-region-test.true, c.regions-region-end.ensures, ap (λ (k : Config). k.regions) c.config.ensures, most) in
+    let counted = c.live_of_candidate-counted.result in
+    let told = c.live_of_candidate-counted.ensures in
+    let words : ℕ = c.unwrap_or-words.result in
+    record {
+      live = live_more g m c.loop-region.live r words few
+          (counted_words counted words (live_words g m r) (is_candidate g m r) c.unwrap_or-words.ensures told.candidate told.live)
+          (counted_few counted words most_live c.unwrap_or-words.ensures told.bound) c.loop-region.invariant.live;
+      set = bits_next (is_candidate g m) r c.loop-region.set c.with_if-set.result c.is_some-member.result c.loop-region.invariant.set (c.is_some-member.ensures ∙ told.candidate) c.with_if-set.ensures;
+    }
+
+pub returns-clause-live : goal.returns-clause-live
+returns-clause-live c =
+    let g = config_of c.args.image.now in
+    let all : c.loop-region.region ≡ g.regions =
+    omega (arith, c.loop-region-test.false, c.loop-region.auto.region-end, c.regions-region-end.ensures, ap (λ (k : Config). k.regions) c.config.ensures) in
+    let live = c.loop-region.invariant.live in
+    record { long = live.long; small = live.small; is = λ r below told. live.is r (omega (arith, below, all)) told }
+
+pub returns-clause-set : goal.returns-clause-set
+returns-clause-set c =
+    let g = config_of c.args.image.now in
+    let m : Word → ℕ = memory_of c.args.image.now in
+    let all : c.loop-region.region ≡ g.regions =
+    omega (arith, c.loop-region-test.false, c.loop-region.auto.region-end, c.regions-region-end.ensures, ap (λ (k : Config). k.regions) c.config.ensures) in
+    c.loop-region.invariant.set ∙ ap (bits_of (is_candidate g m) 0) all

@@ -2,7 +2,11 @@ use Rattle.std.proofs.Common.{◌≡◌}
 use Rattle.image_graph.specs.State.{config_of, memory_of}
 use Rattle.cycle_words.specs.Marking.Marks.{bits_of}
 use Rattle.cycle_words.specs.Evacuation.Live.{is_candidate}
+use Rattle.cset_choice.proofs.Choosing.{AreLiveBelow}
 use Rattle.cset_choice.proofs.choice.candidates.Given as goal
 
 abbrev pub invariant-loop-region : goal.invariant-loop-region
-invariant-loop-region l = l.set ≡ bits_of (is_candidate (config_of l.image) (memory_of l.image)) 0 l.region
+invariant-loop-region l = record {
+  live : AreLiveBelow (config_of l.image) (memory_of l.image) l.live l.region;
+  set : l.set ≡ bits_of (is_candidate (config_of l.image) (memory_of l.image)) 0 l.region;
+}

@@ -32,15 +32,15 @@ loop-region-preserved c =
     let g = config_of c.args.image.now in
     let m : Word → ℕ = memory_of c.args.image.now in
     let r = c.loop-region.region in
-    let live = c.live_of_all-live.result in
+    let live = c.candidates-counted.result.live in
     let below : r < g.regions = omega (arith, c.loop-region-test.true, c.regions-region-end.ensures, ap (λ (k : Config). k.regions) c.config-config.ensures) in
     let set : ℕ = bits_of (is_candidate g m) 0 g.regions in
     let told : c.is_taken.result ≡ taken g m r =
     c.is_taken.ensures
-    ∙ ap (λ s. (bit_at s r == 1) && nat_le (up_to live s c.config-config.result.regions r) c.copy_limit-limit.result) c.candidates-candidates.ensures
+    ∙ ap (λ s. (bit_at s r == 1) && nat_le (up_to live s c.config-config.result.regions r) c.copy_limit-limit.result) c.candidates-counted.ensures.set
     ∙ ap (λ (k : Config). (bit_at set r == 1) && nat_le (up_to live set k.regions r) c.copy_limit-limit.result) c.config-config.ensures
     ∙ ap (λ n. (bit_at set r == 1) && nat_le (up_to live set g.regions r) n) c.copy_limit-limit.ensures
-    ∙ fits_is g m live c.live_of_all-live.ensures r (copy_limit g m) below in
+    ∙ fits_is g m live c.candidates-counted.ensures.live r (copy_limit g m) below in
     bits_next (taken g m) r c.loop-region.set c.with_if-set.result c.is_taken.result c.loop-region.invariant told c.with_if-set.ensures
 
 pub returns-clause-choice : goal.returns-clause-choice

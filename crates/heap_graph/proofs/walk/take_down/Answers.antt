@@ -2,6 +2,11 @@ use Rattle.std.proofs.Common.{arith}
 use Rattle.heap_graph.proofs.Marks.{room_left, IsMarked-push}
 use Rattle.heap_graph.proofs.walk.take_down.Goals as goal
 
+pub overflow_cast-taken : goal.overflow_cast-taken
+overflow_cast-taken c =
+    let a = c.requires.among c.if-address-eq0.false in
+    omega (arith, a.1, c.requires.small)
+
 pub push_reserved-requires : goal.push_reserved-requires
 push_reserved-requires c =
     let a = c.requires.among c.if-address-eq0.false in

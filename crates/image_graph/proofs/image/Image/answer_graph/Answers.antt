@@ -1,4 +1,5 @@
 use Rattle.std.proofs.Common.{length, ap, ◌∙◌, arith}
+use Rattle.heap_words.proofs.Bounds.{end_small}
 use Rattle.image_graph.proofs.Read.{heap_length, roots_length, pins_length}
 use Rattle.std.proofs.Common.{subst}
 use Rattle.heap_graph.specs.Shows as texts
@@ -51,3 +52,8 @@ pub write_graph-requires-clause-slots : goal.write_graph-requires-clause-slots
 write_graph-requires-clause-slots c =
     let pins = ap length c.pins_in.ensures ∙ pins_length c.args.self.now.config c.deref-3.result.now (ap length c.deref-3.ensures.value ∙ c.args.self.now.all_words) in
     omega (arith, pins, c.requires.threads)
+
+pub write_graph-requires-clause-small : goal.write_graph-requires-clause-small
+write_graph-requires-clause-small c =
+    let heap = ap length c.heap_in.ensures ∙ heap_length c.args.self.now.config c.deref.result.now (ap length c.deref.ensures.value ∙ c.args.self.now.all_words) in
+    omega (arith, c.region_words.ensures, heap, end_small c.args.self.now.config)

@@ -1,4 +1,5 @@
 use Rattle.std.proofs.Common.{ℕ, Bool, List, length, sym, ap, subst, arith}
+use Rattle.heap_words.proofs.Bounds.{end_small}
 use Rattle.heap_graph.specs.Walk.{IsMarked}
 use Rattle.image_graph.proofs.image.Image.find.Goals as goal
 
@@ -14,3 +15,7 @@ take_down-requires-clause-among c = λ some.
 
 pub take_down-requires-clause-room : goal.take_down-requires-clause-room
 take_down-requires-clause-room c = omega (arith, ap length c.deref_mut.ensures.value, c.args.self.now.all_marks, c.args.self.now.enough_addresses)
+
+pub take_down-requires-clause-small : goal.take_down-requires-clause-small
+take_down-requires-clause-small c =
+    omega (arith, c.region_words-first.ensures, ap length c.deref_mut.ensures.value, c.args.self.now.all_marks, end_small c.args.self.now.config)

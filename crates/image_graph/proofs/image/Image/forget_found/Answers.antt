@@ -1,6 +1,11 @@
-use Rattle.std.proofs.Common.{rules}
-use Rattle.heap_graph.proofs.Walks.{IsMarked-none}
+use Rattle.std.proofs.Common.{ℕ, Bool, List, sym, subst}
+use Rattle.std.proofs.Math.Logic.{∥∥₁_elim}
+use Rattle.heap_graph.specs.Walk.{IsMarked}
+use Rattle.heap_graph.proofs.Marks.{IsMarked-prop}
 use Rattle.image_graph.proofs.image.Image.forget_found.Goals as goal
 
-pub returns-clause-found : goal.returns-clause-found
-returns-clause-found c = IsMarked-none _ _ _ _ (c.fill.ensures.items (λ y h. search rules)) c.clear.ensures.items
+pub forget-requires : goal.forget-requires
+forget-requires c =
+    subst (λ (n : ℕ). IsMarked n c.deref_mut.result.now c.args.self.now.addresses.items) (sym c.region_words-first.ensures)
+    (subst (λ (s : List Bool). IsMarked c.args.self.now.config.region_words s c.args.self.now.addresses.items) (sym c.deref_mut.ensures.value)
+    (∥∥₁_elim c.args.self.now.all_found (IsMarked-prop c.args.self.now.config.region_words c.args.self.now.marks.items c.args.self.now.addresses.items) (λ x. x)))
