@@ -1,4 +1,5 @@
-//! What a full collection does to the graph: laws about the image of a heap, as theorems and no code.
+//! What a full collection makes of the words of an image, by their names: definitions, and that it keeps the graph and answers who
+//! waits, as theorems and no code.
 #![tactic(auto)]
 
 ghost use Rattle.full_words.specs.Image.{StandingHolds, PackedStands};
