@@ -3,5 +3,7 @@
 #![tactic(auto)]
 
 mod renewing;
+#[cfg(test)]
+mod tests;
 
 pub use renewing::{Renewal, renew_heap};
