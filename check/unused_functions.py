@@ -18,10 +18,10 @@ CRATES = os.path.join(TOP, "crates")
 TESTS = {"word_tests", "text_tests", "heap_tests", "hostile_tests"}
 # Calls that users of the libraries are promised, whether or not a program of this repository makes them: the graph by itself, the
 # parts as machines by themselves, a trace written, or taken line by line, the calls of an image one by one, a graph placed in a heap, a
-# heap that goes on from an image or a dump, bundles that are driven, seats that are given up together, dumps, and a test of
+# heap that goes on from an image or a dump, or is renewed, bundles that are driven, seats that are given up together, dumps, and a test of
 # interleavings, its reading, its threads and verdicts; a hint on one thread; and the verifier of images, and the sink in memory, that tests use.
 PROMISED = {"apply", "reach", "is_valid", "is_done", "answer", "write_trace", "serve", "open_from", "place", "resume", "with_room",
-            "stands", "drive", "of", "write_dump", "read_dump", "read_test",
+            "stands", "renew_heap", "drive", "of", "write_dump", "read_dump", "read_test",
             "trace_lines::line", "trace_lines::end", "heap_seats::with", "heap_seats::end", "find_grammar::start",
             "find_grammar::next", "verdict_on", "dump_of", "shen_core::hint"}
 FUNCTION = re.compile(r"^([ ]*)pub (?:const )?(?:unsafe )?fn (\w+)", re.M)

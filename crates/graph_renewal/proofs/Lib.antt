@@ -1,0 +1,11 @@
+pub mod NamesCounted
+pub mod Renamings
+pub mod FewRows
+pub mod CountsKept
+pub mod Mapped
+pub mod TextsAnew
+pub mod Written
+pub mod TextShown
+pub mod SameGraphs
+pub mod Renewables
+pub mod ShownRenewable

@@ -1,0 +1,40 @@
+-- The names of objects that are named anew: each keeps its thread, and the objects of a thread are counted from 1, in the order of the
+-- names that they had.
+use Rattle.std.specs.Prelude.{ℕ, ◌+◌, ◌==◌, ◌&&◌, Bool, nat_lt, List, [], ◌∷◌, map, Some, None, if◌then◌else◌}
+use Rattle.shen_graph.specs.declared.name.Name.{Name}
+use Rattle.shen_graph.specs.Graph.{Reference}
+use Rattle.shen_graph.specs.GraphText.{Text, Row, names_of}
+
+-- whether a name is of the same thread as another and comes before it
+abbrev pub is_earlier : Name → Name → Bool
+is_earlier n m = (m.thread == n.thread) && nat_lt m.count n.count
+
+-- how many of some names are of the same thread and come before
+abbrev pub earlier_names : List Name → Name → ℕ
+earlier_names [] n = 0
+earlier_names (m ∷ ms) n = (if is_earlier n m then 1 else 0) + earlier_names ms n
+
+-- how many of some names are of a thread
+abbrev pub names_by : List Name → ℕ → ℕ
+names_by [] thread = 0
+names_by (m ∷ ms) thread = (if m.thread == thread then 1 else 0) + names_by ms thread
+
+-- the new name of one of some names
+abbrev pub name_anew : List Name → Name → Name
+name_anew names n = record { thread = n.thread; count = earlier_names names n + 1 }
+
+-- a reference, a row and a text with other names
+
+abbrev pub renamed : (Name → Name) → Reference → Reference
+renamed f None = None
+renamed f (Some n) = Some (f n)
+
+abbrev pub row_renamed : (Name → Name) → Row → Row
+row_renamed f r = record { name = f r.name; refs = map (renamed f) r.refs; nums = r.nums }
+
+abbrev pub text_renamed : (Name → Name) → Text → Text
+text_renamed f t = record t { rows = map (row_renamed f) t.rows; roots = map (map (renamed f)) t.roots; pins = map (map (renamed f)) t.pins }
+
+-- the text whose objects are named anew
+abbrev pub text_anew : Text → Text
+text_anew t = text_renamed (name_anew (names_of t)) t

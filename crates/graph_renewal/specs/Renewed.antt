@@ -1,0 +1,16 @@
+-- What comes of a renewal.
+use Rattle.std.specs.Prelude.{ℕ, ◌≡◌, ◌≤◌, ◌<◌, List, length, None}
+use Rattle.shen_graph.specs.GraphText.{Text, pin_of}
+use Rattle.image_graph.specs.declared.image.Image.{Image}
+use Rattle.graph_renewal.specs.declared.renewing.Renewed.{Renewed}
+use Rattle.graph_renewal.specs.declared.renewing.Renewed.TheVariants.{Heap, Pinned, TooSmall}
+
+-- a fact of the heap's image and of the counts, where there is one
+abbrev pub IfRenewed : Renewed → (Image → List ℕ → Type 0) → Type 0
+IfRenewed (Heap image counts) P = P image counts.items
+IfRenewed Pinned P = Unit {0}
+IfRenewed TooSmall P = Unit {0}
+
+-- no pin slot holds an object
+abbrev pub PinsNothing : Text → Type 0
+PinsNothing t = (thread slot : ℕ) → 1 ≤ thread → thread ≤ length t.roots → slot < 4 → pin_of t thread slot ≡ None
