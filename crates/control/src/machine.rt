@@ -242,6 +242,44 @@ impl Control {
         }
     }
 
+    /// The access of its next step, which goes from a word of the image to the next one: what `plan` gives, with nothing looked up.
+    pub fn plan_inside_image(&self) -> Access
+        requires { is_inside_image (config_in self.now) (seen_control self.now).spot ≡ true }
+        ensures none { hint_of self.now ≡ None }
+        ensures row { result ≡ control_access (config_in self.now) (seen_control self.now) }
+        ensures inside { table_index result < table_words (config_in self.now) }
+    {
+        let start = self.image.config().image_start();
+        match self.spot {
+            ControlSpot::LoadWord { index } => Access::Load { at: start + index },
+            ControlSpot::StoreWord { index } => Access::Store {
+                at: start + index,
+                value: self.image.word(start + index),
+            },
+            _ => unreachable!(),
+        }
+    }
+
+    /// Goes on from a word of the image to the next one, with the word that its access has found: what `took` does, with nothing looked up.
+    pub fn took_inside_image(&mut self, got: u64)
+        requires { is_inside_image (config_in self.old) (seen_control self.old).spot ≡ true }
+        ensures config { config_in self.new ≡ config_in self.old }
+        ensures none { hint_of self.old ≡ None }
+        ensures hint { hint_of self.new ≡ None }
+        ensures row { seen_control self.new ≡ control_next collect_image (config_in self.old) (seen_control self.old) got }
+    {
+        match self.spot {
+            ControlSpot::LoadWord { index } => {
+                put_word(&mut self.image, index, got);
+                self.spot = ControlSpot::LoadWord { index: index + 1 };
+            }
+            ControlSpot::StoreWord { index } => {
+                self.spot = ControlSpot::StoreWord { index: index + 1 };
+            }
+            _ => unreachable!(),
+        }
+    }
+
     /// Goes on with the word that its access has found. A pause goes on to the next phase of the cycle, or makes room.
     pub fn took(&mut self, got: u64) -> Took
         requires busy { is_gone (seen_control self.old).spot ≡ false }

@@ -1,5 +1,5 @@
 -- The control that goes from a word of the image to the next one.
-use Rattle.std.proofs.Common.{◌≡◌, ◌≢◌, ◌+◌, ℕ, true, List, Option, Some, refl, arith}
+use Rattle.std.proofs.Common.{◌≡◌, ◌≢◌, ◌+◌, ℕ, true, List, Option, Some, None, refl, arith}
 use Rattle.std.proofs.lemmas.Bool.{false≢true}
 use Rattle.heap_words.specs.declared.config.Config.{Config}
 use Rattle.heap_words.specs.declared.access.Took.TheVariants.{More}
@@ -11,23 +11,24 @@ use Rattle.control_rows.specs.declared.spot.ControlSpot.{ControlSpot}
 use Rattle.control_rows.specs.declared.spot.ControlSpot.TheVariants.{LoadWord, StoreWord}
 use Rattle.control.specs.Image as controls
 use Rattle.step_core.specs.Actor.{Machine, controlling, mutating, helping}
-use Rattle.step_core.specs.Machines.{order_for, takes_of, plan_of, answer_of}
+use Rattle.step_core.specs.Machines.{order_for, takes_of, plan_of, greys_of, answer_of}
 use Rattle.heap_machines.specs.Inside.{is_inside_image}
 
--- it has a turn, under no order, says that there is more to do, and makes its access beside the pause word
+-- it has a turn, under no order, says that there is more to do, makes its access beside the pause word, and no address grey
 pub record GoesInside (c : Config) (machine : Machine) : Type 0 where
   pub takes : takes_of machine Nothing ≡ true
   pub goes_on : (next : Option Command) → order_for next machine ≡ Some Nothing
   pub says : (got : ℕ) → answer_of c Nothing machine got ≡ Some More
   pub beside : word_at c Pause ≢ table_index (plan_of c Nothing machine)
+  pub greys : greys_of machine ≡ None
 
 -- a word of the image is not the pause word
 apart : (c : Config) (index : ℕ) → 0 ≢ image_start c + index
 apart c index is = omega arith
 
 control_goes : (c : Config) (seen phase cset hints : ℕ) (image : List ℕ) (spot : ControlSpot) → controls.is_inside_image c spot ≡ true → GoesInside c (controlling (record { spot = spot; seen = seen; phase = phase; cset = cset; hints = hints; image = image }))
-control_goes c seen phase cset hints image (LoadWord index) inside = record { takes = refl; goes_on = λ next. refl; says = λ got. refl; beside = apart c index }
-control_goes c seen phase cset hints image (StoreWord index) inside = record { takes = refl; goes_on = λ next. refl; says = λ got. refl; beside = apart c index }
+control_goes c seen phase cset hints image (LoadWord index) inside = record { takes = refl; goes_on = λ next. refl; says = λ got. refl; beside = apart c index; greys = refl }
+control_goes c seen phase cset hints image (StoreWord index) inside = record { takes = refl; goes_on = λ next. refl; says = λ got. refl; beside = apart c index; greys = refl }
 control_goes c seen phase cset hints image _ inside = absurd (false≢true inside)
 
 pub goes_inside : (c : Config) (machine : Machine) → is_inside_image c machine ≡ true → GoesInside c machine

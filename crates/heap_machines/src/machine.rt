@@ -123,6 +123,32 @@ impl Machine {
         }
     }
 
+    /// The access of its next step, which goes from a word of the image to the next one. Of the control.
+    pub fn plan_inside_image(&self) -> Access
+        requires { is_inside_image (heap_of self.now) (shown self.now) ≡ true }
+        ensures none { order_of self.now ≡ Order.Nothing }
+        ensures row { result ≡ plan_of (heap_of self.now) (order_of self.now) (shown self.now) }
+        ensures inside { table_index result < table_words (heap_of self.now) }
+    {
+        match self {
+            Machine::Control(control) => control.plan_inside_image(),
+            Machine::Mutator(_) | Machine::Helper(_) => unreachable!(),
+        }
+    }
+
+    /// Goes on from a word of the image to the next one, with the word that its access has found. Of the control.
+    pub fn took_inside_image(&mut self, got: u64)
+        requires { is_inside_image (heap_of self.old) (shown self.old) ≡ true }
+        ensures shown { shown self.new ≡ machine_after pause_image (heap_of self.old) (order_of self.old) got (shown self.old) }
+        ensures order { order_of self.new ≡ Order.Nothing }
+        ensures heap { heap_of self.new ≡ heap_of self.old }
+    {
+        match self {
+            Machine::Control(control) => control.took_inside_image(got),
+            Machine::Mutator(_) | Machine::Helper(_) => unreachable!(),
+        }
+    }
+
     /// The order that it was given.
     pub fn order(&self) -> Order
         ensures { result ≡ order_of self.now }

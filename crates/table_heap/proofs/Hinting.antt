@@ -63,7 +63,7 @@ pub record HasHinted (old new : Bundle) (next : Option Command) (number : ℕ) :
   pub has : has_turn new number ≡ true
 
 -- a machine of a bundle has an order there
-order_there : (b : Bundle) (number : ℕ) → HasMachine b number → is_some (machine_of (orders_of b) number) ≡ true
+pub order_there : (b : Bundle) (number : ℕ) → HasMachine b number → is_some (machine_of (orders_of b) number) ≡ true
 order_there b number here = by_items b.machines.items number here
   where
     by_items : (items : View memory.Machine) (k : ℕ) → is_some (machine_of (kept_in_view shown items) k) ≡ true → is_some (machine_of (kept_in_view order_of items) k) ≡ true

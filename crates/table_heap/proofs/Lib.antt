@@ -22,5 +22,6 @@ pub mod Ended
 pub mod StepCounts
 pub mod Greyed
 pub mod Hinting
+pub mod Inside
 pub mod HintTotals
 pub mod Thieves

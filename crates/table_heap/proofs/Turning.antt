@@ -66,6 +66,21 @@ turn_of c next (mutating m) order role (inr hinted) = absurd (let takes = hinted
 turn_of c next (helping h) order role (inr hinted) = absurd (cc (role))
 turn_of c next (controlling k) order role (inr hinted) = absurd (cc (role))
 
+-- where another command would lead to the same order, the turn is one by that command
+order_as : (c : Config) (next other : Option Command) (machine : Machine) (order : Order) → order_for next machine ≡ order_for other machine → IsOrderFor c next machine order → IsOrderFor c other machine order
+order_as c next other machine order same (inl turn) = inl (sym same ∙ turn)
+order_as c next other machine order same (inr hinted) = inr hinted
+
+pub turn_as : (old new : Bundle) (next other : Option Command) (number : ℕ) (said : Stepped) → order_for next (machine_at old number) ≡ order_for other (machine_at old number)
+    → IsTurn old new next number said → IsTurn old new other number said
+turn_as old new next other number said same made = record {
+  ordered = made.ordered;
+  unmoved = made.unmoved;
+  turn = order_as old.config next other (machine_at old number) (order_at made.ordered number) same made.turn;
+  orders = made.orders;
+  step = made.step;
+}
+
 module _ (old new : Bundle) (next : Option Command) (number : ℕ) (said : Stepped) (made : IsTurn old new next number said) where
   -- the bundle, where the machine has its order
   abbrev pub mid : Bundle

@@ -46,6 +46,7 @@ impl Bundle {
     ghost use Rattle.shared_table.specs.Views.{machine_of, merged, dealt_to, machines_left, is_dealt_to};
     ghost use Rattle.shen_graph.specs.Valid.{IsValid};
     ghost use Rattle.heap_machines.specs.Roles.{is_mutating, phase_in};
+    ghost use Rattle.heap_machines.specs.Inside.{is_inside_image};
     ghost use Rattle.step_core.specs.Machines.{takes_of, takes_hint, reply_in, place_in, may_begin, made_of_machine};
     ghost use Rattle.table_heap.specs.State.{heap_of, view_of, machines_of, orders_of, steps_of, greyed_of, deques_of, IsBundleOf, HasMachine, machine_at, order_at, has_turn, IsSameBundle, IsUnmoved, IsUnchanged, IsBundleStep};
 
@@ -251,6 +252,29 @@ impl Bundle {
         let said = machine.took(got);
         self.greyed[number] = greyed;
         Stepped::of(said)
+    }
+
+    // The step of the control that goes from a word of the image to the next one, by the shortest way: one access of the heap's table,
+    // and exactly one event. Nothing of the machine is looked up but where it stands.
+    pub(crate) fn step_inside_image(&mut self, heap: &Heap, number: usize)
+        requires heap { IsBundleOf self.old heap.now }
+        requires here { HasMachine self.old number }
+        requires inside { is_inside_image (heap_of self.old) (machine_at self.old number) ≡ true }
+        ensures event { IsBundleStep self.old self.new number Stepped.More }
+        ensures same { IsSameBundle self.old self.new }
+    {
+        let Some(machine) = self.machines[number].as_mut() else {
+            unreachable!()
+        };
+        let got = make_step::<Acting, Order, Config, OfHeaps, Brand>(
+            &heap.table.shared,
+            &mut self.seat,
+            number,
+            &Order::Nothing,
+            machine.plan_inside_image(),
+        );
+        machine.took_inside_image(got);
+        self.greyed[number] = None;
     }
 
     /// The reply of the last call that the mutator has ended, until the next one is ordered.

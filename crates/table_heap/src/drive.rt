@@ -100,19 +100,18 @@ impl Bundle {
     }
 
     // The turns of the control from word to word of its image, one after the other, as in `run`.
-    fn drive_through_image<D: Driver, G: Gate>(&mut self, heap: &Heap, drivers: &mut [D], gate: &G)
+    fn drive_through_image<D: Driver, G: Gate>(&mut self, heap: &Heap, gate: &G)
         requires heap { IsBundleOf self.old heap.now }
-        requires driving { (firsts : List D) × AreDriving D.next_of D.replied D.to_come self.old firsts drivers.old }
-        ensures driving { (firsts : List D) → AreDriving D.next_of D.replied D.to_come self.old firsts drivers.old → AreDriving D.next_of D.replied D.to_come self.new firsts drivers.new }
+        requires orders { HasNoOrder self.old }
+        ensures driving { (firsts drivers : List D) → AreDriving D.next_of D.replied D.to_come self.old firsts drivers → AreDriving D.next_of D.replied D.to_come self.new firsts drivers }
         ensures same { IsSameBundle self.old self.new }
     {
         let control = self.config.seats() - 1;
-        let place = drivers.len();
         for _ in 0..self.config.table_words() {
             if !self.is_inside_image(control) {
                 return;
             }
-            self.drive_turn(heap, drivers, gate, control, place);
+            self.go_on_inside_image(heap, gate, control);
         }
     }
 
@@ -146,7 +145,7 @@ impl Bundle {
                 heap.wake();
             }
             moving = self.back_off(rt, heap, &backoff, moving, said);
-            self.drive_through_image(heap, drivers, gate);
+            self.drive_through_image::<D, G>(heap, gate);
         }
     }
 }

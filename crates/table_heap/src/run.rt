@@ -1,11 +1,13 @@
-ghost use Rattle.std.specs.Prelude.{◌≡◌, ◌≢◌, ◌↔◌, ◌<◌, true, false, Some, None, IfSome, if◌then◌else◌, slice_set};
+ghost use Rattle.std.specs.Prelude.{◌≡◌, ◌≢◌, ◌↔◌, ◌<◌, true, false, Option, Some, None, IfSome, if◌then◌else◌, slice_set};
 ghost use Rattle.heap_words.specs.Ranges.{seat_count};
 ghost use Rattle.heap_machines.specs.Turn.{order_for};
+ghost use Rattle.heap_machines.specs.Inside.{is_inside_image};
+ghost use Rattle.shen_graph.specs.declared.command.Command.{Command as Commands};
 ghost use Rattle.shen_graph.specs.Valid.{IsValid};
 ghost use Rattle.step_core.specs.Machines.{reply_in, may_begin, made_of_machine};
 ghost use Rattle.table_heap.specs.State.{heap_of, view_of, orders_of, IsBundleOf, HasMachine, machine_at, order_at, has_turn, IsSameBundle, IsUnmoved, IsUnchanged};
 ghost use Rattle.table_heap.specs.Turning.{IsTurn};
-ghost use Rattle.table_heap.specs.Running.{HasNoOrder, CanStart, AreAtWork, next_for, IsIdleForGood, AreIdleForGood, HaveDone, AreSameJobs};
+ghost use Rattle.table_heap.specs.Running.{Jobs, HasNoOrder, CanStart, AreAtWork, next_for, IsIdleForGood, AreIdleForGood, HaveDone, AreSameJobs};
 
 use crate::bundle::Bundle;
 use crate::gate::Gate;
@@ -91,6 +93,20 @@ impl Bundle {
         }
     }
 
+    // The command that the machine begins on its turn, if it begins one. In a call none is looked for.
+    fn next_to_begin(&self, work: &Work, number: usize) -> Option<Command>
+        requires here { HasMachine self.now number }
+        requires work { AreAtWork self.now work.now }
+        ensures turn { order_for result (machine_at self.now number) ≡ order_for (next_for (heap_of self.now) work.now number) (machine_at self.now number) }
+        ensures begins { may_begin (machine_at self.now number) ≡ true → result ≡ next_for (heap_of self.now) work.now number }
+    {
+        if self.may_begin(number) {
+            self.next_command(work, number)
+        } else {
+            None
+        }
+    }
+
     // Gives the machine its order for its turn, if it has one: a mutator between two calls begins the command that follows, and
     // ends where there is none.
     fn order_next(&mut self, next: Option<Command>, number: usize) -> bool
@@ -149,7 +165,7 @@ impl Bundle {
         ensures unchanged { result ≡ Stepped.Idle → IsUnchanged self.old self.new }
         ensures idle { result ≡ Stepped.Idle → IsIdleForGood (machine_at self.old number) }
     {
-        let next = self.next_command(work, number);
+        let next = self.next_to_begin(work, number);
         let stepped = self.go_on(heap, next, gate, number);
         if let Stepped::Done = stepped {
             work.told(number, self.reply(number));
@@ -178,7 +194,8 @@ impl Bundle {
     // Whether the machine is the bundle's, and the control in a pause that goes from a word of the image to the next one.
     pub(crate) fn is_inside_image(&self, number: usize) -> bool
         requires { number < seat_count (heap_of self.now).mutators (heap_of self.now).helpers }
-        ensures { result ≡ true → HasMachine self.now number }
+        ensures here { result ≡ true → HasMachine self.now number }
+        ensures inside { result ≡ true → is_inside_image (heap_of self.now) (machine_at self.now number) ≡ true }
     {
         let Some(machine) = &self.machines[number] else {
             return false;
@@ -186,21 +203,34 @@ impl Bundle {
         machine.is_inside_image()
     }
 
+    // One turn of the control that goes from a word of the image to the next one, whatever command would follow.
+    pub(crate) fn go_on_inside_image<G: Gate>(&mut self, heap: &Heap, gate: &G, number: usize)
+        requires heap { IsBundleOf self.old heap.now }
+        requires here { HasMachine self.old number }
+        requires orders { HasNoOrder self.old }
+        requires inside { is_inside_image (heap_of self.old) (machine_at self.old number) ≡ true }
+        ensures same { IsSameBundle self.old self.new }
+        ensures turn { (next : Option Commands) → IsTurn self.old self.new next number Stepped.More }
+    {
+        gate.pass(number);
+        self.step_inside_image(heap, number);
+        gate.leave(number);
+    }
+
     // The turns of the control from word to word of its image, one after the other, if the bundle has it: for each word it loads or
     // stores, no more than there are words in a table. Nobody else of the heap can go on before the pause has ended.
-    fn go_through_image<G: Gate>(&mut self, heap: &Heap, work: &mut Work, gate: &G)
+    fn go_through_image<G: Gate>(&mut self, heap: &Heap, gate: &G)
         requires heap { IsBundleOf self.old heap.now }
-        requires work { AreAtWork self.old work.old }
-        ensures work { AreAtWork self.new work.new }
+        requires orders { HasNoOrder self.old }
         ensures same { IsSameBundle self.old self.new }
-        ensures jobs { AreSameJobs (view_of self.old) work.old work.new }
+        ensures work { (jobs : Jobs) → AreAtWork self.old jobs → AreAtWork self.new jobs }
     {
         let control = self.config.seats() - 1;
         for _ in 0..self.config.table_words() {
             if !self.is_inside_image(control) {
                 return;
             }
-            self.turn(heap, work, gate, control);
+            self.go_on_inside_image(heap, gate, control);
         }
     }
 
@@ -234,7 +264,7 @@ impl Bundle {
                 heap.wake();
             }
             moving = self.back_off(rt, heap, &backoff, moving, said);
-            self.go_through_image(heap, work, gate);
+            self.go_through_image(heap, gate);
         }
     }
 }

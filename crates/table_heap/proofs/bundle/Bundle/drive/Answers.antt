@@ -21,12 +21,12 @@ loop-preserved g c =
     let mid = c.drive_round-said.new in
     let driving = c.drive_round-said.ensures.driving c.args.drivers.now c.loop.invariant.driving in
     record {
-      driving = c.drive_through_image.ensures.driving c.args.drivers.now driving;
+      driving = c.drive_through_image.ensures.driving c.args.drivers.now mid.drivers driving;
       same = same_bundle_more c.args.self.now mid.self c.drive_through_image.new.self (same_bundle_more c.args.self.now c.loop.self mid.self c.loop.invariant.same c.drive_round-said.ensures.same) c.drive_through_image.ensures.same;
     }
 
-pub drive_through_image-requires-clause-driving : goal.drive_through_image-requires-clause-driving
-drive_through_image-requires-clause-driving g c κs within = (c.args.drivers.now, c.drive_round-said.ensures.driving c.args.drivers.now c.loop.invariant.driving)
+pub drive_through_image-requires-clause-orders : goal.drive_through_image-requires-clause-orders
+drive_through_image-requires-clause-orders g c κs within = (c.drive_round-said.ensures.driving c.args.drivers.now c.loop.invariant.driving).orders
 
 pub back_off-moving-requires : goal.back_off-moving-requires
 back_off-moving-requires g c = (c.drive_round-said.ensures.driving c.args.drivers.now c.loop.invariant.driving).orders

@@ -1,10 +1,10 @@
-use Rattle.table_heap.specs.Running.{AreAtWork, AreSameJobs}
-use Rattle.table_heap.specs.State.{view_of, IsSameBundle}
+use Rattle.table_heap.specs.Running.{Jobs, HasNoOrder, AreAtWork}
+use Rattle.table_heap.specs.State.{IsSameBundle}
 use Rattle.table_heap.proofs.bundle.Bundle.go_through_image.Given as goal
 
 abbrev pub invariant-loop : goal.invariant-loop
 invariant-loop g l = record {
-  work : AreAtWork l.self l.work;
   same : IsSameBundle l.initial.self l.self;
-  jobs : AreSameJobs (view_of l.initial.self) l.initial.work l.work;
+  orders : HasNoOrder l.self;
+  work : (jobs : Jobs) → AreAtWork l.initial.self jobs → AreAtWork l.self jobs;
 }

@@ -31,10 +31,13 @@ loop-preserved g c =
     let same = same_bundle_more c.args.self.now l.self mid.self l.invariant.same c.round-said.ensures.same in
     let jobs = same_jobs_more c.args.self.now l.self c.args.work.now l.work mid.work l.invariant.same l.invariant.jobs c.round-said.ensures.jobs in
     record {
-      work = c.go_through_image.ensures.work;
+      work = c.go_through_image.ensures.work mid.work c.round-said.ensures.work;
       same = same_bundle_more c.args.self.now mid.self c.go_through_image.new.self same c.go_through_image.ensures.same;
-      jobs = same_jobs_more c.args.self.now mid.self c.args.work.now mid.work c.go_through_image.new.work same jobs c.go_through_image.ensures.jobs;
+      jobs = jobs;
     }
+
+pub go_through_image-requires-clause-orders : goal.go_through_image-requires-clause-orders
+go_through_image-requires-clause-orders g c = λ _ _. c.round-said.ensures.work.orders
 
 pub round-said-requires-clause-work : goal.round-said-requires-clause-work
 round-said-requires-clause-work g c = λ _ _. c.loop.invariant.work
