@@ -230,6 +230,7 @@ impl Plain {
     }
 
     // Notes what the machine's next step settles, as long as there is memory for it.
+    #[inline(always)]
     pub(crate) fn note_next(&mut self, number: usize)
         requires number { number < seats_of self.old }
         requires turn { has_turn self.old number ≡ true }
@@ -245,6 +246,7 @@ impl Plain {
     }
 
     // The same, in a function of its own, which most runs never enter.
+    #[inline(never)]
     fn note_settled(&mut self, number: usize)
         requires number { number < seats_of self.old }
         requires turn { has_turn self.old number ≡ true }
@@ -298,6 +300,20 @@ impl Plain {
         }
     }
 
+    // The command that the machine begins on its turn, if it begins one. In a call none is looked for.
+    fn next_to_begin(&self, work: &Work, number: usize) -> Option<Command>
+        requires number { number < seats_of self.now }
+        requires run { CanRun self.now work.now }
+        ensures turn { order_for result (machine_at self.now number) ≡ order_for (next_for (config_of self.now) work.now number) (machine_at self.now number) }
+        ensures begins { may_begin (machine_at self.now number) ≡ true → result ≡ next_for (config_of self.now) work.now number }
+    {
+        if self.machines[number].may_begin() {
+            self.next_command(work, number)
+        } else {
+            None
+        }
+    }
+
     /// Whether the next access of the machine, on its turn, stands at the place.
     pub fn is_at_place(&self, work: &Work, number: usize, place: Place) -> bool
         requires number { number < seats_of self.now }
@@ -322,7 +338,7 @@ impl Plain {
         ensures config { config_of self.new ≡ config_of self.old }
         ensures notes { notes_of self.new ≡ notes_of self.old }
     {
-        let next = self.next_command(work, number);
+        let next = self.next_to_begin(work, number);
         self.machines[number].order_next(next)
     }
 

@@ -28,7 +28,7 @@ order_next-requires-clause-next c = λ may.
     let m = c.index_mut.result.now in
     let here = from_read p.machines.items c.args.number m (omega (arith, p.all_machines, c.requires.number)) c.index_mut.ensures.value in
     let at = machine_here p.machines.items c.args.number m here in
-    subst (λ next. IfSome next (λ command. IsValid command × (made_of_machine (shown m) < 4294967295))) (sym c.next_command-next.ensures)
+    subst (λ next. IfSome next (λ command. IsValid command × (made_of_machine (shown m) < 4294967295))) (sym (c.next_to_begin-next.ensures.begins (ap may_begin at ∙ may)))
     (subst (λ machine. IfSome (next_for (config_of p) c.args.work.now c.args.number) (λ command. IsValid command × (made_of_machine machine < 4294967295))) at
     (next_fits p c.args.work.now c.args.number c.requires.run (omega (arith, length-map p.machines.items shown, p.all_machines, c.requires.number))
     (ap is_mutating at ∙ role_shown p.config p.words.items _ c.args.number (shown m) p.reached (shown_here p.machines.items c.args.number m here)) (ap may_begin at ∙ may)))
@@ -52,8 +52,8 @@ returns-clause-next c =
     let m = c.index_mut.result.now in
     let n = c.order_next.new.self in
     let here = from_read p.machines.items c.args.number m (omega (arith, p.all_machines, c.requires.number)) c.index_mut.ensures.value in
-    ap (order_for (next_for (config_of p) c.args.work.now c.args.number)) (machine_here p.machines.items c.args.number m here)
-    ∙ ap (λ next. order_for next (shown m)) (sym c.next_command-next.ensures)
+    sym c.next_to_begin-next.ensures.turn
+    ∙ ap (order_for c.next_to_begin-next.result) (machine_here p.machines.items c.args.number m here)
     ∙ c.order_next.ensures.turn
     ∙ ap (λ order. if c.order_next.result then Some order else None) (sym (order_now p.machines.items c.args.number m n here))
 
@@ -65,8 +65,8 @@ returns-clause-turn c =
     let here = from_read p.machines.items c.args.number m (omega (arith, p.all_machines, c.requires.number)) c.index_mut.ensures.value in
     is_turn p c.args.work.now c.args.number c.order_next.result _ (omega (arith, length-map p.machines.items shown, p.all_machines, c.requires.number))
     (ap is_mutating (machine_here p.machines.items c.args.number m here) ∙ role_shown p.config p.words.items _ c.args.number (shown m) p.reached (shown_here p.machines.items c.args.number m here))
-    (ap (order_for (next_for (config_of p) c.args.work.now c.args.number)) (machine_here p.machines.items c.args.number m here)
-    ∙ ap (λ next. order_for next (shown m)) (sym c.next_command-next.ensures)
+    (sym c.next_to_begin-next.ensures.turn
+    ∙ ap (order_for c.next_to_begin-next.result) (machine_here p.machines.items c.args.number m here)
     ∙ c.order_next.ensures.turn
     ∙ ap (λ order. if c.order_next.result then Some order else None) (sym (order_now p.machines.items c.args.number m n here)))
 
