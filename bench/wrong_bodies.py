@@ -46,6 +46,8 @@ TOGETHER = 12
 # So many lemmas are named of those at which a law is refused.
 NAMED = 3
 REFUSED = re.compile(r"must-fail (\w+)/\S+\.edit: refused, as it must be(?! \(only )")
+# The last line of a run, which one that was cut off does not have.
+ENDED = re.compile(r"^\d+ passed, \d+ failed", re.M)
 UNPROVED = re.compile(r"^fn (\S+): (?!proved\b)", re.M)
 ERROR = re.compile(r"^(?:\./)?(\S+?\.(?:antt|rt)):\d+:\d+: error(?:\[\S+\])?: (.*)$", re.M)
 # What follows from an error that stands elsewhere, and what says that a text does not read.
@@ -109,7 +111,7 @@ def note(folder, head, noted):
 
 
 def refusals(names):
-    """Tries the edits of these crates, and returns how many of each were refused."""
+    """Tries the edits of these crates, and returns how many of each were refused, or None where the run did not come to its end."""
     told = subprocess.run(["rt", "help"], stdout=subprocess.PIPE, stderr=subprocess.STDOUT, text=True).stdout
     takes_names = "rt ci [" in told or "rt ci NAME" in told
     with tempfile.TemporaryDirectory() as room:
@@ -120,7 +122,7 @@ def refusals(names):
         said = subprocess.run(words, cwd=room, stdout=subprocess.PIPE, stderr=subprocess.STDOUT, text=True).stdout
     print(said, end="", flush=True)
     found = REFUSED.findall(said)
-    return {name: found.count(name) for name in names}
+    return {name: found.count(name) for name in names} if ENDED.search(said) else None
 
 
 def body_sums(stands_on):
@@ -132,9 +134,14 @@ def body_sums(stands_on):
 
 def try_bodies(names, sums):
     noted = {name: row for name, row in tried(EDITS).items() if name in sums}
-    lacking = []
+    lacking, cut_off = [], []
     for at in range(0, len(names), TOGETHER):
-        for name, count in refusals(names[at : at + TOGETHER]).items():
+        together = names[at : at + TOGETHER]
+        counts = refusals(together)
+        if counts is None:
+            cut_off += together
+            continue
+        for name, count in counts.items():
             if count == len(os.listdir(os.path.join(EDITS, name))):
                 noted[name] = (sums[name], "")
             else:
@@ -143,7 +150,9 @@ def try_bodies(names, sums):
         note(EDITS, "the crates of whose text and definitions every edit here was refused.", noted)
     if names:
         print(f"of {len(names)} crates every edit was refused in all but: {' '.join(lacking) or 'none'}")
-    return bool(lacking)
+    if cut_off:
+        print(f"not tried, as the run of rt was cut off; what the record says of them stays: {' '.join(cut_off)}")
+    return bool(lacking or cut_off)
 
 
 # Wrong protocols.
