@@ -1,6 +1,5 @@
-use Rattle.std.proofs.Common.{◌≡◌, ℕ, ◌+◌, ◌<◌, Bool, true, false, Option, List, [], None, get_or, refl, sym, ap, ◌∙◌, subst, arith}
+use Rattle.std.proofs.Common.{◌≡◌, ℕ, ◌+◌, ◌<◌, Bool, true, false, [], None, get_or, refl, sym, ap, ◌∙◌, subst, arith}
 use Rattle.std.specs.Prelude.{nat_lt, if◌then◌else◌, Result, Ok, Err, IfOk}
-use Rattle.std.proofs.lemmas.Bool.{le-ltb}
 use Rattle.std.proofs.lemmas.List.FromFn.{get_or-map-range_with_len}
 use Rattle.heap_words.specs.declared.config.Config.{Config}
 use Rattle.heap_words.specs.Ranges.{seat_count}
@@ -9,7 +8,7 @@ use Rattle.mutator.specs.Rows.{fresh_mutator}
 use Rattle.heap_machines.specs.Pause.{pause_image}
 use Rattle.heap_machines.specs.Shown.{no_machine}
 use Rattle.heap_machines.proofs.Openings.{first_machines, first_rests}
-use Rattle.step_core.specs.Actor.{Machine, mutating, fresh_helper, fresh_control}
+use Rattle.step_core.specs.Actor.{mutating, fresh_helper, fresh_control}
 use Rattle.step_core.specs.Begins.{first_graph}
 use Rattle.step_core.specs.History.{history}
 use Rattle.step_core.specs.Machines.{kind, is_resting, image_read}
