@@ -169,6 +169,7 @@ impl Control {
     }
 
     /// The access of its next step.
+    #[inline(never)]
     pub fn plan(&self) -> Access
         requires { is_gone (seen_control self.now).spot ≡ false }
         ensures row { result ≡ control_access (config_in self.now) (control_hinted (config_in self.now) (hint_of self.now) (seen_control self.now)) }
@@ -281,6 +282,7 @@ impl Control {
     }
 
     /// Goes on with the word that its access has found. A pause goes on to the next phase of the cycle, or makes room.
+    #[inline(never)]
     pub fn took(&mut self, got: u64) -> Took
         requires busy { is_gone (seen_control self.old).spot ≡ false }
         requires fit { IsFit (config_in self.old) (control_hinted (config_in self.old) (hint_of self.old) (seen_control self.old)) got }

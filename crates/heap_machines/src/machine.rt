@@ -182,6 +182,7 @@ impl Machine {
     }
 
     /// The access of its next step, of a word of the table.
+    #[inline(always)]
     pub fn plan(&self) -> Access
         requires { has_turn self.now ≡ true }
         ensures row { result ≡ plan_of (heap_of self.now) (order_of self.now) (shown self.now) }
@@ -196,6 +197,7 @@ impl Machine {
 
     /// Goes on with the word that its access has found. A pause of the control goes on to the next phase of the
     /// cycle, or makes room.
+    #[inline(always)]
     pub fn took(&mut self, got: u64) -> Took
         requires busy { has_turn self.old ≡ true }
         requires fit { IsFitFor (heap_of self.old) (order_of self.old) got (shown self.old) }
@@ -320,6 +322,7 @@ impl Machine {
 
     /// Gives it its order for its turn, if it has one. A mutator between two calls begins the command, and ends where there
     /// is none.
+    #[inline(always)]
     pub fn order_next(&mut self, next: Option<Command>) -> bool
         requires none { order_of self.old ≡ Order.Nothing }
         requires next { may_begin (shown self.old) ≡ true → IfSome next (λ command. IsValid command × (made_of_machine (shown self.old) < 4294967295)) }

@@ -114,6 +114,7 @@ impl Helper {
     }
 
     /// The access of its next step.
+    #[inline(never)]
     pub fn plan(&self) -> Access
         requires { is_gone (seen_helper self.now).spot ≡ false }
         ensures row { result ≡ placed (config_of self.now) (help_touch (config_of self.now) (help_hinted (config_of self.now) (hint_of self.now) (seen_helper self.now))) }
@@ -124,6 +125,7 @@ impl Helper {
 
     /// Goes on with the word that its access has found. In a unit of work a word is fit if the unit can go on from it; anywhere else
     /// each word is.
+    #[inline(never)]
     pub fn took(&mut self, got: u64) -> Took
         requires busy { is_gone (seen_helper self.old).spot ≡ false }
         requires fit { IsFit (config_of self.old) (help_hinted (config_of self.old) (hint_of self.old) (seen_helper self.old)) got }

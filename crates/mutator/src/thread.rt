@@ -184,6 +184,7 @@ impl Mutator {
     }
 
     /// The access of its next step.
+    #[inline(never)]
     pub fn plan(&self) -> Access
         requires { is_idle self.now ≡ false }
         ensures row { result ≡ placed (config_of self.now) (touch_of (config_of self.now) (seen self.now) (order_of self.now)) }
@@ -245,6 +246,7 @@ impl Mutator {
     }
 
     /// Goes on with the word that its access has found.
+    #[inline(never)]
     pub fn took(&mut self, got: u64) -> Took
         requires busy { is_idle self.old ≡ false }
         requires fit { IsFit (config_of self.old) (seen self.old) (order_of self.old) got }

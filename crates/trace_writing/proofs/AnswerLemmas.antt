@@ -126,12 +126,6 @@ has_pins version threads pin two = rw (not_below version two) refl
     not_below : (n : ℕ) → 2 ≤ n → ltb n 2 ≡ false
     not_below n le = grind (arith, nat_tests)
 
-pub has_no_pins : (version threads : ℕ) (pin : ℕ → ℕ → Reference) → version < 2 → [] ≡ pins_text version threads pin
-has_no_pins version threads pin one = rw (below version one) refl
-  where
-    below : (n : ℕ) → n < 2 → ltb n 2 ≡ true
-    below n lt = grind (arith, nat_tests)
-
 -- Equal answers.
 
 -- texts of numbers that are equal at each number in a range

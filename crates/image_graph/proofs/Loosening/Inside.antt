@@ -7,7 +7,7 @@ use Rattle.heap_words.specs.Words.{Word}
 use Rattle.buffer_words.specs.Buffers.{AreInside}
 use Rattle.image_graph.specs.Holds.{HoldsSome}
 use Rattle.buffer_pauses.proofs.Inside.{buffers_inside}
-use Rattle.image_graph.specs.Buffers.{settled_block, SettlingHolds, LettingGoHolds}
+use Rattle.image_graph.specs.Buffers.{settled_block, SettlingHolds}
 
 inside_prop : (c : Config) (m : Word → ℕ) → IsProp (AreInside c m)
 inside_prop c m = hlevel (le_prop)
@@ -18,6 +18,3 @@ inside_some c m holds = ∥∥₁_elim holds (inside_prop c m) (λ h. buffers_in
 -- whatever graph they held, they hold it once buffers were settled, or let go
 pub settled_some : (c : Config) (before after : Word → ℕ) → SettlingHolds c before after → HoldsSome c before → HoldsSome c after
 settled_some c before after settles holds = ∥∥₁_map holds (λ h. (h.0, (settled_block c before h.1.0, h.1.1, h.1.2, (settles h.1.0 h.1.1 h.1.2 h.0 h.1.3).holds)))
-
-pub let_go_some : (c : Config) (before after : Word → ℕ) → LettingGoHolds c before after → HoldsSome c before → HoldsSome c after
-let_go_some c before after lets holds = ∥∥₁_map holds (λ h. (let is = lets h.1.0 h.1.1 h.1.2 h.0 h.1.3 in (h.0, (is.pieces, h.1.1, h.1.2, is.holds))))
