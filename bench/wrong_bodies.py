@@ -24,7 +24,7 @@ to three minutes.
 
 bench/edits/tried.txt and bench/protocols/tried.txt say what came of it, with a checksum of what decides it: the text of the crates, what
 they and those below define in specs/, and the edits. So what changed is tried again before the change can land. Contracts that a crate
-below has in its own text are not in the sums. These are records that whoever runs this leaves, and prove nothing: the gate tries
+below has in its own text are not in the sums, nor is what is inlined. These are records that whoever runs this leaves, and prove nothing: the gate tries
 nothing of it. An edit that is refused only because a proof names what it takes away, or only by a limit of the prover, tells nothing
 and does not count as refused. The status is 1 where something was not refused, or not tried.
 """
@@ -50,6 +50,8 @@ REFUSED = re.compile(r"must-fail (\w+)/\S+\.edit: refused, as it must be(?! \(on
 ENDED = re.compile(r"^\d+ passed, \d+ failed", re.M)
 UNPROVED = re.compile(r"^fn (\S+): (?!proved\b)", re.M)
 ERROR = re.compile(r"^(?:\./)?(\S+?\.(?:antt|rt)):\d+:\d+: error(?:\[\S+\])?: (.*)$", re.M)
+# What the code generator is told, which decides nothing of a proof: no sum counts it.
+INLINED = re.compile(rb"^ *#\[inline(?:\(\w+\))?\]\n", re.M)
 # What follows from an error that stands elsewhere, and what says that a text does not read.
 FOLLOWS = re.compile(r"\d+ declarations? that depends? on ")
 UNREAD = re.compile(r"is not in scope|has no field|has no `|is no name|operand is missing|expected the end|cannot continue|was not admitted")
@@ -82,7 +84,8 @@ def sum_of(files):
     whole = hashlib.sha256()
     for path in sorted(set(files)):
         with open(path, "rb") as file:
-            whole.update(os.path.relpath(path, TOP).encode() + b"\0" + hashlib.sha256(file.read()).digest())
+            text = INLINED.sub(b"", file.read())
+            whole.update(os.path.relpath(path, TOP).encode() + b"\0" + hashlib.sha256(text).digest())
     return whole.hexdigest()[:16]
 
 
