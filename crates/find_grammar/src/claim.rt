@@ -3,7 +3,7 @@ use crate::wanted::Wanted;
 /// A line of what a test claims of a run. Each `Assert` begins an assertion, and all assertions are to hold. An assertion
 /// is alternatives with an `Or` between; it holds if all facts of one of them hold. Notes are numbered from 0, places
 /// from 0, which is the hub. A note is empty until a line notes a reply under it.
-#[derive(Clone, Copy, Debug, PartialEq, Eq)]
+#[derive(Clone, Copy, PartialEq, Eq)]
 pub enum Claim {
     /// An assertion begins.
     Assert,

@@ -7,7 +7,7 @@ use std::alloc::Global;
 use std::marker::Model;
 
 /// A name of a test. Contracts see it as its bytes.
-#[derive(Debug, Drop)]
+#[derive(Drop)]
 struct Word {
     bytes: Vec<u8>,
 }
@@ -21,7 +21,7 @@ impl Model for Word {
 }
 
 /// Names, counted from 0. Contracts see them as a list of lists of bytes.
-#[derive(Debug, Drop)]
+#[derive(Drop)]
 pub struct Names {
     words: Vec<Word>,
 }

@@ -2,7 +2,7 @@ use crate::wanted::Wanted;
 use shen_graph::Command;
 
 /// A statement of a thread's program. "The last reply" is that of the thread's last command.
-#[derive(Clone, Copy, Debug, PartialEq, Eq)]
+#[derive(Clone, Copy, PartialEq, Eq)]
 pub enum Statement {
     /// A command of the heap.
     Run(Command),

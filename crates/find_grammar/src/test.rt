@@ -9,7 +9,7 @@ use std::alloc::Global;
 use std::marker::Model;
 
 /// Within which bounds the schedules of a test are searched.
-#[derive(Clone, Copy, Debug, PartialEq, Eq)]
+#[derive(Clone, Copy)]
 pub struct Bounds {
     /// The most preemptions of a schedule, 0 to 1000.
     pub preemptions: u64,
@@ -20,7 +20,7 @@ pub struct Bounds {
 }
 
 /// A place in the graph: the reference in this field of the object at another place. Place 0 is the hub.
-#[derive(Clone, Copy, Debug, PartialEq, Eq)]
+#[derive(Clone, Copy, PartialEq, Eq)]
 pub struct Place {
     /// The number of the other place, smaller than that of this one.
     pub from: usize,
@@ -29,7 +29,7 @@ pub struct Place {
 }
 
 /// The statements of one thread, in their order. Contracts see it as a list of statements.
-#[derive(Debug, Drop)]
+#[derive(Drop)]
 pub struct Program {
     statements: Vec<Statement>,
 }

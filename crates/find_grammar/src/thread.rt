@@ -7,7 +7,7 @@ use crate::wanted::Wanted;
 use shen_graph::{Command, Reply};
 
 /// What a thread of a test does next.
-#[derive(Clone, Copy, Debug, PartialEq, Eq)]
+#[derive(Clone, Copy, PartialEq, Eq)]
 pub enum Next {
     /// It gives this command.
     Command(Command),
@@ -20,7 +20,7 @@ pub enum Next {
 }
 
 /// What is left behind: a loop, or a part of an `If`.
-#[derive(Clone, Copy, Debug)]
+#[derive(Clone, Copy)]
 pub enum Part {
     /// A loop, up to its `Again`.
     Loop,
@@ -29,7 +29,7 @@ pub enum Part {
 }
 
 /// What one statement makes a thread do. Statements are numbered from 0.
-#[derive(Clone, Copy, Debug)]
+#[derive(Clone, Copy)]
 pub enum Move {
     /// It goes on with a later statement.
     Goes(usize),
@@ -40,7 +40,7 @@ pub enum Move {
 }
 
 /// Where a thread of a test stands in its program.
-#[derive(Clone, Copy, Debug, PartialEq, Eq)]
+#[derive(Clone, Copy)]
 pub struct Thread {
     /// The number of the statement that comes next, counted from 0.
     pub at: usize,

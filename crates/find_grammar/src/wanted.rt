@@ -5,7 +5,7 @@ ghost use Rattle.find_grammar.specs.Wanted.{fits};
 use shen_graph::Reply;
 
 /// What a reply is asked to be.
-#[derive(Clone, Copy, Debug, PartialEq, Eq)]
+#[derive(Clone, Copy, PartialEq, Eq)]
 pub enum Wanted {
     /// `yes`.
     Yes,
