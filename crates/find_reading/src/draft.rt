@@ -7,7 +7,7 @@ use crate::kind::LineKind;
 use find_grammar::{Bounds, Claim, Names, Place, Program};
 
 /// A block that has begun.
-#[derive(Clone, Copy, Debug)]
+#[derive(Clone, Copy)]
 pub(crate) enum Block {
     /// A loop, of which this statement is the first, counted from 0 in the program.
     Loop(usize),

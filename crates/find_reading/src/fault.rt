@@ -4,7 +4,7 @@ ghost use Rattle.find_reading.specs.TestFaults.{why_text};
 use trace_grammar::Why;
 
 /// Why a line of a test is refused.
-#[derive(Clone, Copy, Debug, PartialEq, Eq)]
+#[derive(Clone, Copy, PartialEq, Eq)]
 pub enum TestWhy {
     /// The cause is one of those of a trace: any in the head; in other lines that a line has no end, or that a word is no
     /// number, or none in its range.
@@ -41,7 +41,7 @@ impl TestWhy {
 }
 
 /// Why no test was read.
-#[derive(Clone, Copy, Debug, PartialEq, Eq)]
+#[derive(Clone, Copy, PartialEq, Eq)]
 pub enum TestFault {
     /// This line of the bytes, counted from 1, is the first that is outside the grammar, and why.
     BadLine { line: u64, why: TestWhy },

@@ -4,7 +4,7 @@ ghost use Rattle.find_reading.specs.Added.{small_said, large_said, index_said, w
 use find_grammar::Wanted;
 
 /// What a word of a line is to be.
-#[derive(Clone, Copy, Debug)]
+#[derive(Clone, Copy)]
 pub enum Slot {
     /// No word is left.
     Nothing,
@@ -25,7 +25,7 @@ pub enum Slot {
 }
 
 /// What a word says.
-#[derive(Clone, Copy, Debug)]
+#[derive(Clone, Copy)]
 pub enum Value {
     /// Nothing, or a new name.
     Nothing,
