@@ -7,8 +7,7 @@ use shen_graph::Command;
 fn put_words(row: &mut Row, word: &[u8], numbers: &[u32]) {
     row.put(word);
     for number in numbers {
-        row.put(b" ");
-        row.put_number(*number as u64);
+        row.put_with(b" ", *number as u64);
     }
 }
 
@@ -30,8 +29,7 @@ fn put_store(row: &mut Row, command: Command) {
         } => put_words(row, b"xchg", &[dst, obj, field, val]),
         Command::Wr { obj, index, value } => {
             put_words(row, b"wr", &[obj, index]);
-            row.put(b" ");
-            row.put_number(value);
+            row.put_with(b" ", value);
         }
         _ => row.put(b"gc"),
     }

@@ -1,7 +1,7 @@
 use heap_words::{Access, Place, Took};
 
 /// An event: the step of one machine, as memory saw it.
-#[derive(Clone, Copy, Debug)]
+#[derive(Clone, Copy)]
 pub struct Event {
     /// Its number, from 1.
     pub number: u64,

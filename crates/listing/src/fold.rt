@@ -183,8 +183,7 @@ impl Folds {
     fn put_times(&self, row: &mut Row, times: u64, says: usize) {
         row.put_behind(says);
         if self.period > 1 {
-            row.put(b"these ");
-            row.put_number(self.period as u64);
+            row.put_with(b"these ", self.period as u64);
             row.put(b" lines ");
         }
         row.put_number(times);

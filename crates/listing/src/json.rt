@@ -1,5 +1,6 @@
 //! Words, values and accesses as JSON. What is put is ASCII, without quotes and backslashes in texts.
 
+use crate::called::{Owner, kind_of, owner_of};
 use crate::pauses::Told;
 use crate::row::Row;
 use crate::table::Table;
@@ -229,88 +230,33 @@ fn json_kind(row: &mut Row, kind: &[u8]) {
     json_text(row, b"kind", kind);
 }
 
-// Puts members for a word of a mutator, which counts as thread 1 where it is 0.
-fn json_of_thread(row: &mut Row, kind: &[u8], mutator: usize) {
-    json_kind(row, kind);
-    json_number(row, b"thread", (mutator as u64).saturating_add(1));
-}
-
-// Puts members for a word with a number.
-fn json_numbered(row: &mut Row, kind: &[u8], key: &[u8], number: usize) {
-    json_kind(row, kind);
-    json_number(row, key, number as u64);
-}
-
-// Puts members for a word of a seat, by the machine's number from 1.
-fn json_of_seat(row: &mut Row, kind: &[u8], seat: usize) {
-    json_kind(row, kind);
-    json_number(row, b"machine", (seat as u64).saturating_add(1));
-}
-
-// Puts members for a word of the mutators or of the marks, or for one of the heap that lies in no object.
-fn json_further(row: &mut Row, table: &Table, name: WordName) {
-    match name {
-        WordName::Root { mutator, index } => {
-            json_of_thread(row, b"root", mutator);
-            json_number(row, b"index", index as u64);
-        }
-        WordName::Count { mutator } => json_of_thread(row, b"buffer count", mutator),
-        WordName::Buffer { mutator, entry } => {
-            json_of_thread(row, b"buffer entry", mutator);
-            json_number(row, b"index", entry as u64);
-        }
-        WordName::Pin { mutator, slot } => {
-            json_of_thread(row, b"pin slot", mutator);
-            json_number(row, b"index", slot as u64);
-        }
-        WordName::Wait { mutator } => json_of_thread(row, b"request", mutator),
-        WordName::Answer { mutator } => json_of_thread(row, b"answer", mutator),
-        WordName::Grey { word } => json_numbered(row, b"grey", b"index", word),
-        WordName::Black { word } => json_numbered(row, b"black", b"index", word),
-        WordName::Heap { address } => {
-            json_kind(row, b"word");
-            json_place_of(row, table, address);
-        }
-        _ => {}
-    }
+// Puts a member for a mutator or seat, which is counted from 1.
+fn json_counted(row: &mut Row, key: &[u8], number: usize) {
+    json_number(row, key, (number as u64).saturating_add(1));
 }
 
 // Puts members for the name of a word.
 fn json_word(row: &mut Row, table: &Table, name: WordName) {
-    match name {
-        WordName::Pause => json_kind(row, b"pause"),
-        WordName::Left => json_kind(row, b"threads left"),
-        WordName::End => json_kind(row, b"end"),
-        WordName::State { seat } => json_of_seat(row, b"state", seat),
-        WordName::Phase => json_kind(row, b"phase"),
-        WordName::Cset => json_kind(row, b"collection set"),
-        WordName::Free => json_kind(row, b"free regions"),
-        WordName::Evac => json_kind(row, b"copiers"),
-        WordName::Claim => json_kind(row, b"claimed work"),
-        WordName::Ask => json_kind(row, b"asked for"),
-        WordName::Top { region } => json_numbered(row, b"top", b"region", region),
-        WordName::Tams { region } => json_numbered(row, b"mark start", b"region", region),
-        WordName::Limit { region } => json_numbered(row, b"limit", b"region", region),
-        WordName::Current { seat } => json_of_seat(row, b"buffer", seat),
-        WordName::Share => json_kind(row, b"shared region"),
-        _ => json_further(row, table, name),
+    json_kind(row, kind_of(name));
+    match owner_of(name) {
+        Owner::Heap => {}
+        Owner::Region(region) => json_number(row, b"region", region as u64),
+        Owner::Seat(seat) => json_counted(row, b"machine", seat),
+        Owner::Thread(mutator) => json_counted(row, b"thread", mutator),
+        Owner::Several(mutator, index) => {
+            json_counted(row, b"thread", mutator);
+            json_number(row, b"index", index as u64);
+        }
+        Owner::Marks(word) => json_number(row, b"index", word as u64),
+        Owner::Address(address) => json_place_of(row, table, address),
     }
 }
 
 // Puts the kind of a word of an object.
 fn json_part(row: &mut Row, part: Part) {
-    match part {
-        Part::Header => json_kind(row, b"header"),
-        Part::Shape => json_kind(row, b"shape"),
-        Part::Name => json_kind(row, b"name"),
-        Part::Field(index) => {
-            json_kind(row, b"field");
-            json_number(row, b"index", index);
-        }
-        Part::Number(index) => {
-            json_kind(row, b"number");
-            json_number(row, b"index", index);
-        }
+    json_kind(row, part.text());
+    if let Some(index) = part.index() {
+        json_number(row, b"index", index);
     }
 }
 
@@ -321,37 +267,47 @@ fn json_inside(row: &mut Row, table: &Table, object: u64, address: u64) -> Readi
     reading_of_part(part)
 }
 
+// Puts members for room of an object or of its copy, with which of the two it is, and says how its word at an address is to be read.
+fn json_in_room(row: &mut Row, table: &Table, what: &[u8], room: u64, address: u64) -> Reading {
+    let kind = json_inside(row, table, room, address);
+    json_flag(row, what, true);
+    json_place_of(row, table, room);
+    kind
+}
+
+// Puts members for a word of the heap by its address, and says how it is to be read.
+fn json_heap_word(row: &mut Row, table: &Table, address: u64, within: Within) -> Reading {
+    match within {
+        Within::Object(object) => {
+            let kind = json_inside(row, table, object, address);
+            json_object_at(row, table, object);
+            kind
+        }
+        Within::Room(room) => json_in_room(row, table, b"new", room, address),
+        Within::Copy(room) => json_in_room(row, table, b"copy", room, address),
+        Within::Filler(filler) if address == filler => {
+            json_kind(row, b"header");
+            json_flag(row, b"filler", true);
+            json_place_of(row, table, address);
+            Reading::Header
+        }
+        _ => {
+            json_kind(row, b"word");
+            json_place_of(row, table, address);
+            Reading::Number
+        }
+    }
+}
+
 // Puts members for the word at an index of the table, and says how it is to be read.
 fn json_at(row: &mut Row, table: &Table, at: usize, within: Within) -> Reading {
     let config = table.config();
     if at >= config.table_words() {
         return Reading::Number;
     }
-    match (config.name_of(at), within) {
-        (WordName::Heap { address }, Within::Object(object)) => {
-            let kind = json_inside(row, table, object, address);
-            json_object_at(row, table, object);
-            kind
-        }
-        (WordName::Heap { address }, Within::Room(room)) => {
-            let kind = json_inside(row, table, room, address);
-            json_flag(row, b"new", true);
-            json_place_of(row, table, room);
-            kind
-        }
-        (WordName::Heap { address }, Within::Copy(room)) => {
-            let kind = json_inside(row, table, room, address);
-            json_flag(row, b"copy", true);
-            json_place_of(row, table, room);
-            kind
-        }
-        (WordName::Heap { address }, Within::Filler(filler)) if address == filler => {
-            json_kind(row, b"header");
-            json_flag(row, b"filler", true);
-            json_place_of(row, table, address);
-            Reading::Header
-        }
-        (name, _) => {
+    match config.name_of(at) {
+        WordName::Heap { address } => json_heap_word(row, table, address, within),
+        name => {
             json_word(row, table, name);
             reading_of(config, name)
         }
@@ -384,6 +340,19 @@ pub fn json_access(row: &mut Row, table: &Table, access: Access, within: Within)
     kind
 }
 
+// Puts the members for what a pause did that is counted.
+fn json_counts(row: &mut Row, told: &Told) {
+    for (key, count) in [
+        (b"copied".as_slice(), told.moved),
+        (b"answered".as_slice(), told.answered),
+        (b"refused".as_slice(), told.refused),
+        (b"changed".as_slice(), told.changed),
+        (b"words".as_slice(), told.words),
+    ] {
+        json_number(row, key, count);
+    }
+}
+
 /// Puts the members for a pause.
 pub fn json_pause(row: &mut Row, config: Config, told: &Told) {
     json_number(row, b"pause", told.number);
@@ -395,9 +364,5 @@ pub fn json_pause(row: &mut Row, config: Config, told: &Told) {
     json_number(row, b"phase_after", told.after);
     json_regions(row, config, b"set", told.set);
     json_regions(row, config, b"freed", told.freed);
-    json_number(row, b"copied", told.moved);
-    json_number(row, b"answered", told.answered);
-    json_number(row, b"refused", told.refused);
-    json_number(row, b"changed", told.changed);
-    json_number(row, b"words", told.words);
+    json_counts(row, told);
 }

@@ -2,6 +2,7 @@
 //! one line, runs of like events, and all of that as text and as JSON. It is handed the events and steps no machine.
 #![tactic(auto)]
 
+mod called;
 mod commands;
 mod copies;
 mod event;

@@ -14,7 +14,7 @@ pub const NUMBER: usize = 6;
 
 /// The line of an event: its text behind the event's number, its shape, which is the text with 0 for each number and one space
 /// for several, and its numbers.
-#[derive(Clone, Copy, Debug)]
+#[derive(Clone, Copy)]
 pub struct Line {
     event: Event,
     text: [u8; 200],

@@ -14,7 +14,7 @@ use std::alloc::Global;
 const NO_ROOM: u64 = 9223372036854775808;
 
 /// Why a pause was made.
-#[derive(Clone, Copy, Debug, PartialEq, Eq)]
+#[derive(Clone, Copy)]
 pub enum Cause {
     /// A cycle was asked for.
     Asked,
@@ -39,7 +39,7 @@ impl Cause {
 }
 
 /// What is told of a pause.
-#[derive(Clone, Copy, Debug)]
+#[derive(Clone, Copy)]
 pub struct Told {
     /// Its number, from 1.
     pub number: u64,
@@ -280,23 +280,20 @@ fn put_cause(row: &mut Row, told: &Told) {
     if told.no_room && told.before == 2 {
         row.put(b", a copier found no room");
     }
-    if told.waits && told.cause != Cause::Waits {
+    if told.waits && !matches!(told.cause, Cause::Waits) {
         row.put(b", an allocation waits");
     }
 }
 
 /// Puts a pause in words.
 pub fn put_pause(row: &mut Row, config: Config, told: &Told) {
-    row.put(b"pause ");
-    row.put_number(told.number);
+    row.put_with(b"pause ", told.number);
     row.put(b": ");
     put_cause(row, told);
     row.put(b"; ");
     row.put(told.deed());
-    row.put(b"; phase ");
-    row.put_number(told.before);
-    row.put(b" to ");
-    row.put_number(told.after);
+    row.put_with(b"; phase ", told.before);
+    row.put_with(b" to ", told.after);
     if told.set > 0 && told.after == 2 {
         row.put(b"; set ");
         put_regions(row, config, told.set);
@@ -308,8 +305,7 @@ pub fn put_pause(row: &mut Row, config: Config, told: &Told) {
     put_some(row, told.moved, b"object", b" copied");
     put_some(row, told.answered, b"request", b" answered");
     put_some(row, told.refused, b"request", b" refused");
-    row.put(b"; ");
-    row.put_number(told.changed);
+    row.put_with(b"; ", told.changed);
     row.put(b" of ");
     row.put_count(told.words, b"word");
     row.put(b" changed");

@@ -38,7 +38,12 @@ impl Piece {
 
     /// Whether it is an object.
     pub fn is_object(&self) -> bool {
-        self.kind == Kind::Object
+        matches!(self.kind, Kind::Object)
+    }
+
+    /// Whether it only fills.
+    pub fn is_filler(&self) -> bool {
+        matches!(self.kind, Kind::Filler)
     }
 }
 

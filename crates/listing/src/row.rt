@@ -111,6 +111,12 @@ impl Row {
         self.put(&digits[from.min(DIGITS)..]);
     }
 
+    /// Puts text, and a number in decimal right behind it.
+    pub fn put_with(&mut self, text: &[u8], number: u64) {
+        self.put(text);
+        self.put_number(number);
+    }
+
     /// Puts a number so that it ends before this column.
     pub fn put_number_to(&mut self, number: u64, column: usize) {
         let mut digits = [b'0'; 20];

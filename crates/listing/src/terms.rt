@@ -1,7 +1,8 @@
 //! Words of the heap, values and commands as the listing spells them.
 
+use crate::called::{Owner, owner_of, text_of};
 use crate::copies::is_moving;
-use crate::pieces::{Kind, piece_with};
+use crate::pieces::piece_with;
 use crate::row::Row;
 use crate::table::Table;
 use crate::view::{Part, Reading, base, name_at, part_of, reading_of, reading_of_part, region_of};
@@ -14,11 +15,9 @@ use shen_graph::{Name, Reply};
 /// Puts the machine of a number, counted from 0.
 pub fn put_machine(row: &mut Row, config: Config, number: usize) {
     if number < config.mutators() {
-        row.put(b"thread ");
-        row.put_number(number as u64 + 1);
+        row.put_with(b"thread ", number as u64 + 1);
     } else if number < config.mutators() + config.helpers() {
-        row.put(b"helper ");
-        row.put_number((number - config.mutators()) as u64 + 1);
+        row.put_with(b"helper ", (number - config.mutators()) as u64 + 1);
     } else {
         row.put(b"control");
     }
@@ -27,8 +26,7 @@ pub fn put_machine(row: &mut Row, config: Config, number: usize) {
 /// Puts the name of an object.
 pub fn put_name(row: &mut Row, name: Name) {
     row.put_number(name.thread as u64);
-    row.put(b".");
-    row.put_number(name.count as u64);
+    row.put_with(b".", name.count as u64);
 }
 
 /// Puts where an address lies: its region, and the words of the region before it.
@@ -42,8 +40,7 @@ fn put_place_in(row: &mut Row, table: &Table, address: u64, region: Option<usize
     match region {
         Some(region) => {
             row.put_number(region as u64);
-            row.put(b"+");
-            row.put_number(address.saturating_sub(base(table, region)));
+            row.put_with(b"+", address.saturating_sub(base(table, region)));
         }
         None => row.put_number(address),
     }
@@ -153,8 +150,7 @@ fn put_ask(row: &mut Row, word: u64) {
 // Puts a shape: references and numbers.
 fn put_shape(row: &mut Row, shape: u64) {
     row.put_number(refs_of(shape));
-    row.put(b"/");
-    row.put_number(nums_of(shape));
+    row.put_with(b"/", nums_of(shape));
 }
 
 // Puts a request.
@@ -162,8 +158,7 @@ fn put_request(row: &mut Row, request: u64) {
     if request == 0 {
         row.put(b"none");
     } else {
-        row.put(b"object ");
-        row.put_number(request_count(request) as u64);
+        row.put_with(b"object ", request_count(request) as u64);
         row.put(b" of ");
         put_shape(row, request_shape(request));
     }
@@ -207,83 +202,35 @@ pub fn put_value(row: &mut Row, table: &Table, kind: Reading, word: u64) {
     }
 }
 
-// Puts a word of a thread.
-fn put_of_thread(row: &mut Row, what: &[u8], mutator: usize) {
-    row.put(what);
-    row.put(b" of thread ");
-    row.put_number((mutator as u64).saturating_add(1));
-}
-
-// Puts a word with a number.
-fn put_numbered(row: &mut Row, what: &[u8], number: usize) {
-    row.put(what);
-    row.put(b" ");
-    row.put_number(number as u64);
-}
-
-// Puts a word of a seat.
-fn put_of_seat(row: &mut Row, config: Config, what: &[u8], seat: usize) {
-    row.put(what);
-    row.put(b" of ");
-    put_machine(row, config, seat);
+// Puts whose a word is.
+fn put_of_thread(row: &mut Row, mutator: usize) {
+    row.put_with(b" of thread ", (mutator as u64).saturating_add(1));
 }
 
 // Puts the name of a word outside the heap.
 fn put_word(row: &mut Row, config: Config, name: WordName) {
-    match name {
-        WordName::Pause => row.put(b"pause word"),
-        WordName::Left => row.put(b"threads left"),
-        WordName::End => row.put(b"end word"),
-        WordName::State { seat } => put_of_seat(row, config, b"state", seat),
-        WordName::Phase => row.put(b"phase"),
-        WordName::Cset => row.put(b"collection set"),
-        WordName::Free => row.put(b"free regions"),
-        WordName::Evac => row.put(b"copiers"),
-        WordName::Claim => row.put(b"claimed work"),
-        WordName::Ask => row.put(b"what is asked for"),
-        WordName::Top { region } => put_numbered(row, b"top of region", region),
-        WordName::Tams { region } => put_numbered(row, b"mark start of region", region),
-        WordName::Limit { region } => put_numbered(row, b"limit of region", region),
-        WordName::Current { seat } => put_of_seat(row, config, b"buffer", seat),
-        WordName::Share => row.put(b"shared region"),
-        WordName::Root { mutator, index } => {
-            put_numbered(row, b"root", index);
-            put_of_thread(row, b"", mutator);
+    row.put(text_of(name));
+    match owner_of(name) {
+        Owner::Heap => {}
+        Owner::Region(number) | Owner::Marks(number) => row.put_with(b" ", number as u64),
+        Owner::Seat(seat) => {
+            row.put(b" of ");
+            put_machine(row, config, seat);
         }
-        WordName::Count { mutator } => put_of_thread(row, b"buffer count", mutator),
-        WordName::Buffer { mutator, entry } => {
-            put_numbered(row, b"buffer entry", entry);
-            put_of_thread(row, b"", mutator);
+        Owner::Thread(mutator) => put_of_thread(row, mutator),
+        Owner::Several(mutator, index) => {
+            row.put_with(b" ", index as u64);
+            put_of_thread(row, mutator);
         }
-        WordName::Wait { mutator } => put_of_thread(row, b"request", mutator),
-        WordName::Answer { mutator } => put_of_thread(row, b"answer", mutator),
-        WordName::Grey { word } => put_numbered(row, b"grey word", word),
-        WordName::Black { word } => put_numbered(row, b"black word", word),
-        WordName::Heap { address } => {
-            row.put(b"word ");
-            row.put_number(address);
-        }
-        WordName::Pin { mutator, slot } => {
-            put_numbered(row, b"pin slot", slot);
-            put_of_thread(row, b"", mutator);
-        }
+        Owner::Address(address) => row.put_with(b" ", address),
     }
 }
 
 // Puts a part of an object.
 fn put_part(row: &mut Row, part: Part) {
-    match part {
-        Part::Header => row.put(b"header"),
-        Part::Shape => row.put(b"shape"),
-        Part::Name => row.put(b"name"),
-        Part::Field(index) => {
-            row.put(b"field ");
-            row.put_number(index);
-        }
-        Part::Number(index) => {
-            row.put(b"number ");
-            row.put_number(index);
-        }
+    row.put(part.text());
+    if let Some(index) = part.index() {
+        row.put_with(b" ", index);
     }
 }
 
@@ -302,6 +249,46 @@ pub enum Within {
     Elsewhere,
 }
 
+// Puts the word at an address of what lies at `at`, up to that, and says how it is to be read.
+fn put_inside(row: &mut Row, table: &Table, at: u64, address: u64) -> Reading {
+    let part = part_of(table, at, address);
+    put_part(row, part);
+    row.put(b" of ");
+    reading_of_part(part)
+}
+
+// Puts a word of the heap by its address, and says how it is to be read.
+fn put_heap_word(row: &mut Row, table: &Table, address: u64, within: Within) -> Reading {
+    match within {
+        Within::Object(object) => {
+            let kind = put_inside(row, table, object, address);
+            put_object(row, table, object);
+            kind
+        }
+        Within::Room(room) => {
+            let kind = put_inside(row, table, room, address);
+            row.put(b"the new object");
+            kind
+        }
+        Within::Copy(room) => {
+            let kind = put_inside(row, table, room, address);
+            row.put(b"the copy ");
+            put_place(row, table, room);
+            kind
+        }
+        Within::Filler(filler) if address == filler => {
+            row.put(b"header of words ");
+            put_place(row, table, address);
+            Reading::Header
+        }
+        _ => {
+            row.put(b"word ");
+            put_place(row, table, address);
+            Reading::Number
+        }
+    }
+}
+
 // Puts the word at an index of the table, and says how it is to be read.
 fn put_word_at(row: &mut Row, table: &Table, at: usize, within: Within) -> Reading {
     let config = table.config();
@@ -309,38 +296,9 @@ fn put_word_at(row: &mut Row, table: &Table, at: usize, within: Within) -> Readi
         row.put(b"?");
         return Reading::Number;
     }
-    match (config.name_of(at), within) {
-        (WordName::Heap { address }, Within::Object(object)) => {
-            let part = part_of(table, object, address);
-            put_part(row, part);
-            row.put(b" of ");
-            put_object(row, table, object);
-            reading_of_part(part)
-        }
-        (WordName::Heap { address }, Within::Room(room)) => {
-            let part = part_of(table, room, address);
-            put_part(row, part);
-            row.put(b" of the new object");
-            reading_of_part(part)
-        }
-        (WordName::Heap { address }, Within::Copy(room)) => {
-            let part = part_of(table, room, address);
-            put_part(row, part);
-            row.put(b" of the copy ");
-            put_place(row, table, room);
-            reading_of_part(part)
-        }
-        (WordName::Heap { address }, Within::Filler(filler)) if address == filler => {
-            row.put(b"header of words ");
-            put_place(row, table, address);
-            Reading::Header
-        }
-        (WordName::Heap { address }, _) => {
-            row.put(b"word ");
-            put_place(row, table, address);
-            Reading::Number
-        }
-        (name, _) => {
+    match config.name_of(at) {
+        WordName::Heap { address } => put_heap_word(row, table, address, within),
+        name => {
             put_word(row, config, name);
             reading_of(config, name)
         }
@@ -363,7 +321,7 @@ pub fn look_within(table: &Table, at: usize) -> Within {
     match address_at(table.config(), at) {
         Some(address) => match piece_with(table, address) {
             Some(piece) if piece.is_object() => Within::Object(piece.at),
-            Some(piece) if piece.kind == Kind::Filler => Within::Filler(piece.at),
+            Some(piece) if piece.is_filler() => Within::Filler(piece.at),
             _ => Within::Elsewhere,
         },
         None => Within::Elsewhere,
@@ -415,8 +373,7 @@ pub fn put_reply(row: &mut Row, reply: Reply) {
         Reply::Bad => row.put(b"bad"),
         Reply::Full => row.put(b"full"),
         Reply::At(address) => {
-            row.put(b"@");
-            row.put_number(address);
+            row.put_with(b"@", address);
         }
     }
 }
@@ -426,8 +383,7 @@ pub fn put_item(row: &mut Row, item: Item) {
     match item {
         Item::Steps { number, count } => {
             row.put_number((number as u64).saturating_add(1));
-            row.put(b":");
-            row.put_number(count);
+            row.put_with(b":", count);
         }
         Item::Until { number, place } => {
             row.put_number((number as u64).saturating_add(1));
@@ -436,8 +392,7 @@ pub fn put_item(row: &mut Row, item: Item) {
         }
         Item::Replies { number, count } => {
             row.put_number((number as u64).saturating_add(1));
-            row.put(b"=");
-            row.put_number(count);
+            row.put_with(b"=", count);
         }
     }
 }

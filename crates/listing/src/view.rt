@@ -69,6 +69,27 @@ pub enum Part {
     Number(u64),
 }
 
+impl Part {
+    /// What it is called.
+    pub fn text(self) -> &'static [u8] {
+        match self {
+            Part::Header => b"header",
+            Part::Shape => b"shape",
+            Part::Name => b"name",
+            Part::Field(_) => b"field",
+            Part::Number(_) => b"number",
+        }
+    }
+
+    /// Which reference or number it is.
+    pub fn index(self) -> Option<u64> {
+        match self {
+            Part::Field(index) | Part::Number(index) => Some(index),
+            _ => None,
+        }
+    }
+}
+
 // The part of an object that begins so many words behind its name, of which the first are references.
 fn behind_words(refs: u64, index: u64) -> Part {
     if index < refs {
