@@ -25,7 +25,7 @@ RUNS = 3
 
 
 def stop(why):
-    print(f"measure_library.py: {why}", file=sys.stderr)
+    print(f"{os.path.basename(sys.argv[0])}: {why}", file=sys.stderr)
     sys.exit(2)
 
 
@@ -98,7 +98,7 @@ def lists(bench):
         print(f"lists: {threads} threads, lists of {length} numbers; nodes made, read and let go")
         rates = {}
         for regions, words in ((64, 1024), (32, 1024)):
-            total, seconds, busy, mutators, longest = median_of(3, heap, length, times, threads, regions, words, 0)
+            total, seconds, busy, mutators, longest, *_ = median_of(3, heap, length, times, threads, regions, words, 0, 0)
             check_sum(total, length, times, threads)
             many = length * times * threads
             rates[regions] = tell(f"covremuj, {regions} regions of {words} words", many, seconds, busy, None)

@@ -11,24 +11,11 @@
 #define _POSIX_C_SOURCE 200809L
 #include "common.h"
 
-enum { MOST_WAITS = 1 << 16 };
-
-static uint64_t keep, millis, waits;
-static double wait_times[MOST_WAITS];
+static uint64_t keep, millis;
 
 static cvm_status timed(runner *me, cvm_op op, uint32_t a, uint32_t b, uint32_t c) {
     cvm_value value;
-    must(cvm_begin(&me->seat, op, a, b, c, 0, 0) == CVM_DONE, "a call begins");
-    cvm_status said = cvm_poll(&me->seat, &value);
-    if (said == CVM_AGAIN) {
-        double start = now();
-        said = cvm_wait(&me->seat, &value);
-        double took = now() - start;
-        me->longest = took > me->longest ? took : me->longest;
-        wait_times[waits++ % MOST_WAITS] = took;
-    }
-    me->count++;
-    return said;
+    return timed_call(me, op, a, b, c, 0, &value);
 }
 
 static void fill(runner *me) {
@@ -52,13 +39,18 @@ static void body(runner *me) {
     }
 }
 
-static int by_size(const void *a, const void *b) {
-    double x = *(const double *)a, y = *(const double *)b;
+static double length_of(const stop *stop) {
+    return stop->end - stop->start;
+}
+
+static int by_length(const void *a, const void *b) {
+    double x = length_of(a), y = length_of(b);
     return (x > y) - (x < y);
 }
 
 int main(int count, char **words) {
     static bench bench;
+    static stop stops[MOST_STOPS];
     if (count != 6) {
         return 2;
     }
@@ -66,12 +58,13 @@ int main(int count, char **words) {
     keep = regions * region_words * number_word(words, 3) / 100 / 8;
     millis = number_word(words, 5);
     open_bench(&bench, regions, region_words, 1, number_word(words, 4));
+    bench.runners[0].stops = stops;
     run_bench(&bench, body);
-    size_t many = waits < MOST_WAITS ? waits : MOST_WAITS;
-    qsort(wait_times, many, sizeof wait_times[0], by_size);
     const runner *one = &bench.runners[0];
-    double median = many == 0 ? 0 : wait_times[many / 2];
-    printf("%.0f %.6f %llu %llu %.3f %.3f\n", bench.bytes, bench.opening, (unsigned long long)one->count, (unsigned long long)waits,
+    size_t many = one->waits < MOST_STOPS ? one->waits : MOST_STOPS;
+    qsort(stops, many, sizeof stops[0], by_length);
+    double median = many == 0 ? 0 : length_of(&stops[many / 2]);
+    printf("%.0f %.6f %llu %llu %.3f %.3f\n", bench.bytes, bench.opening, (unsigned long long)one->count, (unsigned long long)one->waits,
            one->longest * 1e3, median * 1e3);
     return 0;
 }
