@@ -23,7 +23,7 @@ from measure_library import Bench, check_sum, median_of, tell, told
 
 REGIONS = 64
 # MiB of a heap, the words of each of its regions, and in how many runs its pauses are measured.
-SIZES = [(1, 2048, 15), (4, 8192, 11), (16, 32768, 7), (32, 65536, 7), (256, 524288, 3)]
+SIZES = [(1, 2048, 9), (4, 8192, 7), (16, 32768, 5), (32, 65536, 5), (256, 524288, 3)]
 WIDE = 65536
 # Lists of so many numbers, helpers, and behind how many objects a thread asks for a collection.
 EIGHT = [(1000, 0, 0), (1000, 0, 100), (1000, 3, 100), (20000, 0, 0), (20000, 3, 100)]
@@ -78,13 +78,13 @@ def pauses(bench):
 
 def live(bench):
     program = bench.over_heap("standstill")
-    print("live: 32 MiB, of which four fifths are filled; `ahead` where each object of the list names a later one, `behind` where an earlier one. Medians of 5")
+    print("live: 32 MiB, of which four fifths are filled; `ahead` where each object of the list names a later one, `behind` where an earlier one. Medians of 3")
     print("runs, ms of processor time: the pause that ends marking, its change; marking beside the mutators before it, and its steps for each live object; a full")
     print("collection, its change; and each change in ns for a live word")
     print(f"{'live words':>10} {'order':8}{'ends marking':>14}{'change':>10}{'ns':>7}{'beside':>10}{'steps':>8}{'in full':>10}{'change':>10}{'ns':>7}")
-    for lives in (1, 5, 20, 40, 60):
+    for lives in (1, 20, 60):
         for order in ("ahead", "behind"):
-            words, rows = runs_of(5, program, REGIONS, WIDE, lives, order)
+            words, rows = runs_of(3, program, REGIONS, WIDE, lives, order)
             ends, full = rows[ENDS_MARKING], rows[FULL]
             steps = middle(ends, STEPS) / (words / 8)
             cells = [f"{middle(ends, BUSY) * 1e3:14.2f}{middle(ends, CHANGE) * 1e3:10.2f}{middle(ends, CHANGE) / words * 1e9:7.1f}"]
@@ -99,7 +99,7 @@ def eight(bench):
     print("they waited, of their own processor time, and of that of all threads, the collector's among it; and times those of the row where nobody collects")
     for length, helpers, every in EIGHT:
         # Where nobody collects, less than half of the heap is made, so no cycle begins by itself.
-        times = 240000 // (8 * length) * (6 if every else 1)
+        times = 240000 // (8 * length) * (4 if every else 1)
         total, seconds, all_busy, busy, longest, calls, waits, waited = median_of(1, program, length, times, 8, REGIONS, WIDE, helpers, every)
         check_sum(total, length, times, 8)
         rates = [calls / it / 1e6 for it in (seconds, seconds - waited, busy, all_busy)]
@@ -113,15 +113,15 @@ def lists(bench):
     heap, boehm = bench.over_heap("list_heap"), bench.boehm("list_plain")
     os.environ["GC_INITIAL_HEAP_SIZE"] = os.environ["GC_MAXIMUM_HEAP_SIZE"] = str(REGIONS * WIDE * 8)
     for length in (1000, 20000):
-        for threads in (1, 4, 8):
-            times = max(1, 2000000 // (threads * length))
+        for threads in (1, 8):
+            times = 1000000 // (threads * length)
             print(f"lists on 32 MiB: {threads} threads, lists of {length} numbers; nodes made, read and let go")
             total, seconds, busy, mutators, longest, _, _, waited = median_of(2, heap, length, times, threads, REGIONS, WIDE, 0, 0)
             check_sum(total, length, times, threads)
             ours = tell("covremuj", length * times * threads, seconds, busy, None)
             print(f"    of {busy:.3f} s of processor time {mutators:.3f} in the threads that make lists; a thread waited {waited:.3f} s, at most {longest:.0f} ms")
             if boehm:
-                times *= 10
+                times *= 20
                 total, seconds, busy = median_of(2, boehm, length, times, threads)
                 check_sum(total, length, times, threads)
                 tell("Boehm's collector", length * times * threads, seconds, busy, ours)
