@@ -89,6 +89,7 @@ try_users() {
     compile "$flags" "$room/$name/queue" "$users/queue/queue.c" "$users/queue/test_queue.c" "$common" && run "$name" "$room/$name/queue" "$queue" || failed=1
     compile "$flags" "$room/$name/loop" "$users/loop/test_loop.c" "$common" && run "$name" "$room/$name/loop" "$loop" || failed=1
     compile "$flags" "$room/$name/model" "$users/model/test_model.c" "$common" && run "$name" "$room/$name/model" "$loop" || failed=1
+    compile "$flags" "$room/$name/renewal" "$users/renewal/test_renewal.c" "$common" && run "$name" "$room/$name/renewal" || failed=1
     case $name in
         address*) if "$room/$name/misuse" leak >/dev/null 2>&1; then fail "$name: a heap that is not closed is not told"; fi ;;
     esac

@@ -26,8 +26,8 @@
  * WHAT IS PROVED. The functions of the part "The proved functions" below are compiled from proved text. What a seat
  * was answered is its thread's part of a legal history: one order of the calls of all threads, in which each is
  * answered as by a graph of objects that are never moved and never freed. Where cvm_close_all gives up the seats that
- * one cvm_open gave, it is one history for all of them, in which each call stands once (docs/LIBRARY.md says by which
- * contracts). The inline functions, the file library/workers.c, and the wrappers for other languages are not proved.
+ * one cvm_open gave, it is one history for all of them, in which each call stands once; and cvm_renew goes on with the
+ * graph after that history (docs/LIBRARY.md says by which contracts). The inline functions, the file library/workers.c, and the wrappers for other languages are not proved.
  * Nothing is claimed about time, progress or fairness.
  *
  * WHAT IS BELIEVED AT THE BORDER. The proved functions check all that they can see: an empty seat, a seat of the
@@ -38,15 +38,15 @@
  *      them may find it empty (CVM_NOT_OPEN), or both free the same memory; from there on anything may happen.
  *   2. A cvm_seat holds what cvm_open, cvm_move or an initializer of {0} wrote there. Any other bytes are taken
  *      for an address. A copy is used by nobody: two copies of a seat lead to the same as two calls at once, and a
- *      copy of a seat that was closed is an address that was freed.
+ *      copy of a seat that was closed is an address that was freed. Seats that cvm_renew is given are of one heap.
  *   3. Pointers are not null, point to what their types say, and what they point to is used by nobody else during
  *      the call.
  *   4. No call is made from a handler of signals, in the child of a fork where there were threads, or by the
  *      program's own malloc. A handler that breaks in between two accesses of its thread's own call does what rule 1
  *      forbids.
  *   5. malloc, realloc and free are those of one allocator, which aligns a block to each power of two up to 16 that
- *      divides its size. The memory of the heap and of the seats comes from there, once, in cvm_open; a call of a
- *      seat takes no memory.
+ *      divides its size. The memory of the heap and of the seats comes from there, in cvm_open, and that of another
+ *      heap in cvm_renew; a call of a seat takes no memory.
  *
  * These are no matters of safety, but a program stands still where they are broken:
  *
@@ -60,12 +60,12 @@
  *      cvm_stop_workers may leave them in the middle.
  *
  * THREADS. All functions may be called from any thread, also at the same time for different seats, of one heap or of
- * many. cvm_open and cvm_close_all use all seats that they are given. No function locks, and none waits but those
- * that say so.
+ * many. cvm_open, cvm_close_all and cvm_renew use all seats that they are given. No function locks, and none waits
+ * but those that say so.
  *
  * LIMITS. 4 to 64 regions, 1 to 8 mutators, 0 to 3 helpers, one control; 16 roots and 4 pin slots for each mutator; 16
- * references and 16 numbers for an object; 4,294,967,295 objects made by a mutator in its life. The number of seats is
- * fixed by cvm_open.
+ * references and 16 numbers for an object; 4,294,967,295 objects made by a mutator in its life, or until cvm_renew. The
+ * number of seats is fixed by cvm_open.
  */
 #ifndef COVREMUJ_H
 #define COVREMUJ_H
@@ -115,7 +115,7 @@ typedef struct cvm_config {
 typedef struct cvm_value {
     uint64_t number; /* with CVM_NUMBER: the number; with CVM_AT: the address */
     uint64_t thread; /* with CVM_REF: the name of the object is thread.count: the mutator that made it, from 1; the hub is 0.1 */
-    uint64_t count;  /* with CVM_REF: and which of that mutator's objects it is, from 1; no two objects have one name */
+    uint64_t count;  /* with CVM_REF: and which of that mutator's objects it is, from 1; no two objects have one name. cvm_renew changes names */
 } cvm_value;
 
 /* What cvm_look tells of a seat. */
@@ -173,15 +173,21 @@ typedef enum cvm_status {
     CVM_FULL = 15,   /* no region has room, not after a full collection either; nothing has changed */
     CVM_AT = 16,     /* pinned: the address, in words, at which the object stays until the slot is emptied */
 
+    /* What came of cvm_renew, if not CVM_DONE. */
+    CVM_PINNED = 24,      /* a pin slot holds an object, which may not move: all names are as they were */
+    CVM_TOO_SMALL = 25,   /* the objects do not fit, one behind the other in the order of their names and each within one region: all names are as they were */
+    CVM_NOT_RENEWED = 26, /* memory was refused for the new names: all are as they were */
+    CVM_LOST = 27,        /* memory was refused for the old ones too: nothing is left of the heap, and its seats are empty */
+
     /* Refusals of a seat. */
     CVM_NOT_OPEN = 32,     /* the seat is empty: never opened, moved away, or closed */
     CVM_WRONG_SEAT = 33,   /* a mutator is wanted and this is a helper or the control, or the other way round */
-    CVM_BUSY = 34,         /* something is ordered, or a call is in progress; cvm_close_all: a mutator or the control has not ended */
+    CVM_BUSY = 34,         /* something is ordered, or a call is in progress; cvm_close_all: a mutator or the control has not ended; cvm_renew: a seat has not */
     CVM_SPENT = 35,        /* this mutator has made 4294967295 objects: it can only end */
     CVM_NO_COMMAND = 36,   /* no command has this number */
     CVM_OUT_OF_RANGE = 37, /* a root is not 0 to 15, a size not 0 to 16, a field or index not 0 to 31, or a pin slot not 0 to 3 */
 
-    /* Refusals of an opening and of a closing. */
+    /* Refusals of an opening, of a closing and of a renewal. */
     CVM_BAD_REGIONS = 48,      /* the regions are not 4 to 64 */
     CVM_BAD_REGION_WORDS = 49, /* the words of a region are out of range */
     CVM_BAD_MUTATORS = 50,     /* the mutators are not 1 to 8 */
@@ -281,6 +287,30 @@ cvm_status cvm_close(cvm_seat *seat);
  * calls that they answered stand in one legal history.
  */
 cvm_status cvm_close_all(cvm_seat *seats, size_t count);
+
+/*
+ * Renews a heap that has come to its end: its graph goes on in another heap of the same sizes, whose seats take the place
+ * of the old ones, before their first step. So a program goes on that would run out of names. `seats` and `count` as for
+ * cvm_open; all are of one heap (rule 2), and each has ended, the helpers too, as cvm_join_workers leaves them. No other
+ * call is made on a seat of that heap meanwhile.
+ *
+ * Answers CVM_NOT_OPEN where a seat is empty; else CVM_NOT_ALL where these are not as many as the heap has, each at the
+ * place of its number, or are of two heaps; else CVM_BUSY where one has not ended; else CVM_NO_MEMORY; and then nothing has
+ * changed. Or the old heap is over, and the answer is
+ *
+ *   CVM_DONE         the objects that roots lead to have new names, counted from 1 for each mutator, in the order of the old
+ *                    ones; of each mutator cvm_look tells as many made as have names of it. References, numbers and roots
+ *                    are as they were. Pin slots are empty, and were so before.
+ *   CVM_PINNED, CVM_TOO_SMALL, CVM_NOT_RENEWED
+ *                    the heap goes on with the names, the counts and the pins that it had, and its mutators may make calls
+ *                    again, such as to empty pin slots, or to let objects go. They have as few names left as before.
+ *   CVM_LOST         memory was refused for that too: all seats are empty.
+ *
+ * What is taken of memory, 48 bytes for each word of the heap, is taken before the old heap is over, but for a heap like
+ * that which was given back, and for the room in which its words are computed, 25 bytes a word, without which the answer is
+ * CVM_NOT_RENEWED. The time grows with the words of the heap.
+ */
+cvm_status cvm_renew(cvm_seat *seats, size_t count);
 
 /* ---- Waiting and workers, of library/workers.c, which is not proved. ---- */
 
@@ -556,6 +586,10 @@ static inline const char *cvm_status_name(cvm_status status) {
     case CVM_BAD: return "BAD";
     case CVM_FULL: return "FULL";
     case CVM_AT: return "AT";
+    case CVM_PINNED: return "PINNED";
+    case CVM_TOO_SMALL: return "TOO_SMALL";
+    case CVM_NOT_RENEWED: return "NOT_RENEWED";
+    case CVM_LOST: return "LOST";
     case CVM_NOT_OPEN: return "NOT_OPEN";
     case CVM_WRONG_SEAT: return "WRONG_SEAT";
     case CVM_BUSY: return "BUSY";

@@ -12,8 +12,8 @@
  *     }
  *
  * A heap has a thread for each helper and the control from its construction on, and its destructor waits until all of
- * its mutators have ended: each mutator is to be destroyed before its heap, and each root before its mutator. A
- * mutator and its roots are used by one thread at a time, as covremuj.h says of seats. A call throws cvm::refused
+ * its mutators have ended: each mutator is to be destroyed before its heap, or given back to it, and each root before
+ * that. A mutator and its roots are used by one thread at a time, as covremuj.h says of seats. A call throws cvm::refused
  * where the library refuses it, cvm::full where the heap has no room, and cvm::bad where the root is null or its
  * object has no such field or number; then nothing has changed.
  */
@@ -65,7 +65,7 @@ struct no_root : std::runtime_error {
 /* Sizes of a heap, as in covremuj.h, in its order. */
 using config = cvm_config;
 
-/* The name of an object: no two objects of a heap have one. The hub's is 0.1. */
+/* The name of an object: no two objects of a heap have one, until it is renewed. The hub's is 0.1. */
 struct name {
     std::uint64_t thread;
     std::uint64_t count;
@@ -267,27 +267,65 @@ public:
     heap(const heap &) = delete;
     heap &operator=(const heap &) = delete;
 
-    /* Ends the mutators that nobody took, and waits until the others have ended. */
+    /* Ends the mutators that nobody has, and waits until the others have ended. */
     ~heap() {
-        for (; taken_ < sizes_.mutators; taken_++) {
-            cvm_finish(&seats_[taken_]);
-        }
-        cvm_join_workers(workers_);
+        finish();
         close();
     }
 
     /*
-     * The next mutator, of as many as the sizes say. CVM_NOT_OPEN is thrown where all are taken. By one thread at a
-     * time.
+     * A mutator that nobody has, of as many as the sizes say. CVM_NOT_OPEN is thrown where all are taken. By one thread
+     * at a time.
      */
     cvm::mutator mutator() {
-        if (taken_ == sizes_.mutators) {
-            throw refused(CVM_NOT_OPEN);
+        for (std::size_t i = 0; i < sizes_.mutators; i++) {
+            if (cvm_is_open(&seats_[i])) {
+                return cvm::mutator(&seats_[i]);
+            }
         }
-        return cvm::mutator(&seats_[taken_++]);
+        throw refused(CVM_NOT_OPEN);
+    }
+
+    /* Takes a mutator of this heap back, between two calls and without a root, but for the hub's. By one thread at a time. */
+    void give_back(cvm::mutator &&from) {
+        cvm_state state{};
+        check(cvm_look(from.seat(), &state));
+        cvm_move(&seats_[state.number - 1], from.seat());
+    }
+
+    /*
+     * Renews the heap, all of whose mutators were given back: what the hub leads to goes on with new names, and each
+     * mutator has as many objects to make as are not left of it. True where it did; false where it goes on with the names
+     * that it had: an object is pinned, the objects do not fit, or memory was refused, as covremuj.h says of cvm_renew.
+     * CVM_NOT_OPEN is thrown where a mutator is missing, and then nothing has changed; CVM_LOST where nothing is left of the heap, or CVM_NO_MEMORY or
+     * CVM_NO_THREAD where it is at its end, and can only be destroyed.
+     */
+    bool renew() {
+        for (std::size_t i = 0; i < sizes_.mutators; i++) {
+            if (!cvm_is_open(&seats_[i])) {
+                throw refused(CVM_NOT_OPEN);
+            }
+        }
+        finish();
+        cvm_status said = cvm_renew(seats_.data(), cvm_seat_count(&sizes_));
+        if (said == CVM_LOST || cvm_is_refusal(said)) {
+            throw refused(said);
+        }
+        check(cvm_start_workers(seats_.data() + sizes_.mutators, sizes_.helpers + 1, &workers_));
+        return said == CVM_DONE;
     }
 
 private:
+    /* Ends the mutators that are here, and waits until all have ended. */
+    void finish() {
+        for (std::size_t i = 0; i < sizes_.mutators; i++) {
+            cvm_finish(&seats_[i]);
+        }
+        if (workers_ != nullptr) {
+            cvm_join_workers(std::exchange(workers_, nullptr));
+        }
+    }
+
     static void check(cvm_status said) {
         if (said != CVM_DONE) {
             throw refused(said);
@@ -303,7 +341,6 @@ private:
     cvm_config sizes_;
     std::array<cvm_seat, CVM_MOST_SEATS> seats_{};
     cvm_workers *workers_ = nullptr;
-    std::size_t taken_ = 0;
 };
 
 } /* namespace cvm */

@@ -1,6 +1,6 @@
 use std::fmt;
 
-/// Why nothing was done. The heap is as it was.
+/// Why nothing was done. The heap is as it was, but for [`Error::Lost`].
 #[derive(Clone, Copy, Debug, PartialEq, Eq)]
 #[non_exhaustive]
 pub enum Error {
@@ -32,6 +32,10 @@ pub enum Error {
     BadReserve,
     /// Memory was refused.
     NoMemory,
+    /// The seats are not all those of one heap.
+    NotAll,
+    /// Memory was refused when a heap was renewed: nothing is left of it.
+    Lost,
     /// The system made no thread.
     NoThread,
     /// Another status of the library, which this crate does not expect.
@@ -44,6 +48,7 @@ impl Error {
             4 => Error::Ended,
             14 => Error::Bad,
             15 => Error::Full,
+            27 => Error::Lost,
             34 => Error::Busy,
             35 => Error::Spent,
             37 => Error::OutOfRange,
@@ -53,6 +58,7 @@ impl Error {
             51 => Error::BadHelpers,
             52 => Error::BadReserve,
             55 => Error::NoMemory,
+            56 => Error::NotAll,
             other => Error::Other(other),
         }
     }
@@ -75,6 +81,8 @@ impl fmt::Display for Error {
             Error::BadHelpers => "the helpers are not 0 to 3",
             Error::BadReserve => "the reserve is not less than the regions",
             Error::NoMemory => "memory was refused",
+            Error::NotAll => "the seats are not all those of one heap",
+            Error::Lost => "memory was refused for a heap that was renewed: nothing is left of it",
             Error::NoThread => "the system made no thread",
             Error::Other(status) => return write!(to, "status {status} of covremuj.h"),
         };

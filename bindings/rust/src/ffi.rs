@@ -48,10 +48,17 @@ pub struct State {
 /// The kind of the control.
 pub const CONTROL: u64 = 3;
 
+/// A seat with steps to make.
+pub const WORKS: u64 = 1;
+
 pub const DONE: u32 = 0;
 pub const MORE: u32 = 1;
 pub const AGAIN: u32 = 2;
 pub const ENDED: u32 = 4;
+pub const NOT_OPEN: u32 = 32;
+pub const PINNED: u32 = 24;
+pub const TOO_SMALL: u32 = 25;
+pub const NOT_RENEWED: u32 = 26;
 
 extern "C" {
     pub fn cvm_open(config: *const Sizes, seats: *mut Seat, count: usize) -> u32;
@@ -61,5 +68,6 @@ extern "C" {
     pub fn cvm_work(seat: *mut Seat, steps: u32) -> u32;
     pub fn cvm_look(seat: *mut Seat, state: *mut State) -> u32;
     pub fn cvm_close(seat: *mut Seat) -> u32;
+    pub fn cvm_renew(seats: *mut Seat, count: usize) -> u32;
     pub fn cvm_back_off(rounds: *mut u32);
 }

@@ -1,9 +1,10 @@
 use crate::error::Error;
-use crate::ffi::{self, Seat, Sizes, State};
+use crate::ffi::{self, Seat, Sizes, State, Value};
 use crate::mutator::Mutator;
 use std::fmt;
 use std::marker::PhantomData;
-use std::sync::atomic::{AtomicBool, Ordering::SeqCst};
+use std::mem;
+use std::sync::atomic::{AtomicBool, AtomicU64, Ordering::SeqCst};
 use std::sync::{Arc, Mutex};
 use std::thread::JoinHandle;
 
@@ -22,8 +23,17 @@ pub struct Config {
     pub reserve: usize,
 }
 
+// Which heap a seat is of, as no two have one number, and how many seats that heap has.
+#[derive(Clone, Copy, PartialEq, Eq)]
+struct Home {
+    heap: u64,
+    seats: usize,
+}
+
 // A seat that this thread may use, wherever it came from: the library orders nothing by threads.
-pub(crate) struct Owned(pub(crate) Seat);
+pub(crate) struct Owned(pub(crate) Seat, Home);
+
+static HEAPS: AtomicU64 = AtomicU64::new(0);
 
 // SAFETY: a seat may go from one thread to another where something orders that, and what moves a value of Rust does.
 unsafe impl Send for Owned {}
@@ -48,7 +58,10 @@ fn open(config: &Config) -> Result<Vec<Owned>, Error> {
     let mut seats: Vec<Seat> = (0..count).map(|_| Seat::none()).collect();
     // SAFETY: both pointers are to values of this frame, the second to as many as `count` says, each of them empty.
     match unsafe { ffi::cvm_open(&sizes, seats.as_mut_ptr(), count) } {
-        ffi::DONE => Ok(seats.into_iter().map(Owned).collect()),
+        ffi::DONE => {
+            let home = Home { heap: HEAPS.fetch_add(1, SeqCst), seats: count };
+            Ok(seats.into_iter().map(|seat| Owned(seat, home)).collect())
+        }
         status => Err(Error::of(status)),
     }
 }
@@ -100,25 +113,17 @@ impl Worker<'_> {
         }
     }
 
-    fn look(&mut self) -> State {
-        let mut state = State::default();
-        // SAFETY: the seat is this value's own, `&mut` keeps other calls away, and the other pointer is to a value of this frame. A seat that is
-        // refused leaves the state as it is.
-        unsafe { ffi::cvm_look(&mut self.seat.0, &mut state) };
-        state
-    }
-
     /// Of the control: the phase in which its last pause has left the heap. A pause has chosen it from its first step at the place `PS` on.
     /// Of a helper none.
     pub fn phase(&mut self) -> Option<Phase> {
-        let state = self.look();
+        let state = look(&mut self.seat);
         let phases = [Phase::Idle, Phase::Marking, Phase::Evacuating, Phase::Updating];
         phases.get(usize::try_from(state.phase).ok()?).copied().filter(|_| state.kind == ffi::CONTROL)
     }
 
     /// The place of its next step, or none where it has ended.
     pub fn place(&mut self) -> Option<Place> {
-        let [one, two, ..] = self.look().place;
+        let [one, two, ..] = look(&mut self.seat).place;
         (one != 0).then_some(Place([one, two]))
     }
 }
@@ -167,6 +172,82 @@ impl Seats {
             workers: workers.into_iter().map(|seat| Worker { seat, heap: PhantomData }).collect(),
         })
     }
+}
+
+/// What came of a renewal. The heap goes on in each case.
+#[derive(Clone, Copy, Debug, PartialEq, Eq)]
+pub enum Renewal {
+    /// Its objects have new names, counted from 1 for each mutator.
+    Renewed,
+    /// A pin slot holds an object, which may not move: all names are as they were.
+    Pinned,
+    /// The objects do not fit, one behind the other in the order of their names and each within one region: all names are as they were.
+    TooSmall,
+    /// Memory was refused for the new names: all are as they were.
+    NotRenewed,
+}
+
+impl Seats {
+    /// Ends all seats, and goes on with the graph of the heap in another one of the same sizes, whose seats take their places: with new names for
+    /// its objects, or with those that they have. A mutator goes on with its roots. No call is in progress: [`Error::Busy`]; and these are all
+    /// seats of one heap, in their order: [`Error::NotAll`]. With [`Error::NoMemory`] the seats have ended, and may be renewed another time; with
+    /// [`Error::Lost`] nothing is left of the heap.
+    pub fn renew(&mut self) -> Result<Renewal, Error> {
+        if self.mutators.iter_mut().any(|mutator| look(mutator.owned()).state == ffi::WORKS) {
+            return Err(Error::Busy);
+        }
+        let places = self.places();
+        let home = places.first().ok_or(Error::NotAll)?.1;
+        if places.len() != home.seats || places.iter().any(|place| place.1 != home) {
+            return Err(Error::NotAll);
+        }
+        self.end();
+        let mut places = self.places();
+        let mut seats: Vec<Seat> = places.iter_mut().map(|place| mem::replace(&mut place.0, Seat::none())).collect();
+        // SAFETY: the pointer is to values of this frame, to as many as the length says, and they are of one heap. `&mut` keeps other calls away.
+        let status = unsafe { ffi::cvm_renew(seats.as_mut_ptr(), seats.len()) };
+        places.iter_mut().zip(seats).for_each(|(place, seat)| place.0 = seat);
+        match status {
+            ffi::DONE => Ok(Renewal::Renewed),
+            ffi::PINNED => Ok(Renewal::Pinned),
+            ffi::TOO_SMALL => Ok(Renewal::TooSmall),
+            ffi::NOT_RENEWED => Ok(Renewal::NotRenewed),
+            other => Err(Error::of(other)),
+        }
+    }
+
+    fn places(&mut self) -> Vec<&mut Owned> {
+        let workers = self.workers.iter_mut().map(|worker| &mut worker.seat);
+        self.mutators.iter_mut().map(|mutator| mutator.owned()).chain(workers).collect()
+    }
+
+    // Ends the mutators, which are between two calls, and gives all seats steps in turn until each has ended.
+    fn end(&mut self) {
+        let mut value = Value::default();
+        for mutator in &mut self.mutators {
+            // SAFETY: the seat is this value's own, and `&mut` keeps other calls away.
+            unsafe { ffi::cvm_end(&mut mutator.owned().0) };
+        }
+        let mut has_ended = false;
+        while !has_ended {
+            has_ended = true;
+            for mutator in &mut self.mutators {
+                // SAFETY: as above, and the other pointer is to a value of this frame.
+                has_ended &= matches!(unsafe { ffi::cvm_go(&mut mutator.owned().0, 64, &mut value) }, ffi::ENDED | ffi::NOT_OPEN);
+            }
+            for worker in &mut self.workers {
+                has_ended &= worker.work(64).is_none();
+            }
+        }
+    }
+}
+
+fn look(seat: &mut Owned) -> State {
+    let mut state = State::default();
+    // SAFETY: the seat is this value's own, `&mut` keeps other calls away, and the other pointer is to a value of this frame. A seat that is
+    // refused leaves the state as it is.
+    unsafe { ffi::cvm_look(&mut seat.0, &mut state) };
+    state
 }
 
 fn serve(mut worker: Worker<'static>, stops: Arc<AtomicBool>) {

@@ -68,7 +68,7 @@ mod mutator;
 mod root;
 
 pub use error::Error;
-pub use heap::{Config, Heap, Phase, Place, Seats, Worker};
+pub use heap::{Config, Heap, Phase, Place, Renewal, Seats, Worker};
 pub use mutator::{Command, Mutator, Name, Progress, Reply};
 pub use root::{Any, Root, Shape};
 

@@ -5,7 +5,7 @@ use crate::root::{Any, Root, Shape};
 use std::cell::{Cell, UnsafeCell};
 use std::marker::PhantomData;
 
-/// The name of an object: no two objects of a heap have one. The hub's is 0.1.
+/// The name of an object: no two objects of a heap have one, until it is renewed. The hub's is 0.1.
 #[derive(Clone, Copy, Debug, PartialEq, Eq, Hash, PartialOrd, Ord)]
 pub struct Name {
     /// The mutator that made the object, from 1.
@@ -125,6 +125,10 @@ fn progress(status: u32, value: &Value) -> Result<Progress, Error> {
 impl<'heap> Mutator<'heap> {
     pub(crate) fn new(seat: Owned, waits_at_end: bool) -> Mutator<'heap> {
         Mutator { seat: UnsafeCell::new(seat), used: Cell::new(1), waits_at_end, heap: PhantomData }
+    }
+
+    pub(crate) fn owned(&mut self) -> &mut Owned {
+        self.seat.get_mut()
     }
 
     /// Orders a command, between two calls, and makes no step of it.

@@ -1,6 +1,6 @@
 //! Each call, each error, and heaps that fill up.
 
-use covremuj::{Any, Command, Config, Error, Heap, Phase, Progress, Reply, Root, Seats, Shape};
+use covremuj::{Any, Command, Config, Error, Heap, Phase, Progress, Renewal, Reply, Root, Seats, Shape};
 
 struct Pair;
 impl Shape for Pair {
@@ -200,5 +200,57 @@ fn a_full_collection() -> Result<(), Error> {
     make_until_it_waits(&seats)?;
     assert_eq!(pauses(&mut seats), [Phase::Idle]);
     assert!(matches!(seats.mutators[0].wait(), Ok(Reply::Reference(_))));
+    Ok(())
+}
+
+// A call of the first mutator, for which the workers make steps.
+fn answer(seats: &mut Seats, command: Command) -> Result<Reply, Error> {
+    seats.mutators[0].begin(command)?;
+    loop {
+        match seats.mutators[0].go(100)? {
+            Progress::More => {}
+            Progress::Again => seats.workers.iter_mut().for_each(|worker| {
+                worker.work(100);
+            }),
+            Progress::Done(reply) => return Ok(reply),
+        }
+    }
+}
+
+fn name_of(reply: Reply) -> (u64, u64) {
+    match reply {
+        Reply::Reference(name) => (name.thread, name.count),
+        other => panic!("{other:?}"),
+    }
+}
+
+#[test]
+fn heaps_are_renewed() -> Result<(), Error> {
+    let mut seats = Seats::open(&config(2))?;
+    for round in 0..10 {
+        for _ in 0..30 {
+            answer(&mut seats, Command::New { dst: 1, references: 2, numbers: 2 })?;
+        }
+        answer(&mut seats, Command::Wr { obj: 1, index: 0, value: round })?;
+        answer(&mut seats, Command::Set { obj: 0, field: 3, val: 1 })?;
+        if round == 4 {
+            answer(&mut seats, Command::Pin { slot: 1, obj: 1 })?;
+            assert_eq!(seats.renew()?, Renewal::Pinned);
+            answer(&mut seats, Command::Unpin { slot: 1 })?;
+        }
+        assert_eq!(seats.renew()?, Renewal::Renewed);
+        assert_eq!(name_of(answer(&mut seats, Command::Get { dst: 2, src: 0, field: 3 })?), (1, 1));
+        assert_eq!(answer(&mut seats, Command::Rd { obj: 1, index: 0 })?, Reply::Number(round));
+    }
+    seats.mutators[1].begin(Command::Gc)?;
+    assert_eq!(seats.renew(), Err(Error::Busy));
+    Ok(())
+}
+
+#[test]
+fn seats_of_two_heaps_are_not_renewed() -> Result<(), Error> {
+    let (mut one, mut other) = (Seats::open(&config(1))?, Seats::open(&config(1))?);
+    std::mem::swap(&mut one.mutators, &mut other.mutators);
+    assert_eq!(one.renew(), Err(Error::NotAll));
     Ok(())
 }

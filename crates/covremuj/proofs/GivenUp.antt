@@ -11,12 +11,15 @@ use Rattle.heap_seats.specs.declared.progress.State.TheVariants.{Free, AtWork, E
 use Rattle.heap_seats.specs.declared.seat.Seat.{Seat}
 use Rattle.heap_seats.specs.Seats.{config_of, number_of, is_mutator, state_in}
 use Rattle.heap_seats.specs.Gathered.{AreOfOneHeap, MakeUpHeap}
+use Rattle.heap_seats.specs.Renewed.{AllEnded}
 use Rattle.covremuj.specs.declared.asked.Asked.{Asked}
 use Rattle.covremuj.specs.declared.asked.Asked.TheVariants.{Open, Numbered, Over}
+use Rattle.covremuj.specs.declared.asked.Asked.TheVariants as asks
 use Rattle.covremuj.specs.declared.handle.Handle.{Handle}
 use Rattle.covremuj.specs.Answers.{kind_of, state_number}
 use Rattle.covremuj.specs.OpenedHandles.{seats_held, any_held}
-use Rattle.covremuj.specs.ClosedHandles.{seat_in, seats_in, seat_shows, all_show, each_shows, AnswersBy, AnswersClosing}
+use Rattle.covremuj.specs.ClosedHandles.{seat_in, seats_in, seat_shows, all_show, each_shows, AnswersBy, AnswersAsked, AnswersClosing}
+use Rattle.heap_seats.proofs.Joined.{some_at}
 use Rattle.covremuj.proofs.HandlesAsked.{parts}
 use Rattle.covremuj.proofs.HeldLists.{none_held}
 
@@ -78,9 +81,9 @@ done_by true true false (inr is) = absurd cc
 done_by true false over by = absurd cc
 done_by false numbered over by = absurd cc
 
-done_shows : (os : List (Option Seat)) → AnswersClosing os 0 → (0 < length os) × (each_shows Numbered os ≡ true) × (each_shows Over os ≡ true)
-done_shows [] answer = absurd cc
-done_shows (o ∷ os) answer = let two = done_by (each_shows Open (o ∷ os)) (each_shows Numbered (o ∷ os)) (each_shows Over (o ∷ os)) answer in (omega arith, two.0, two.1)
+done_shows : (asked : Asked) (os : List (Option Seat)) → AnswersAsked asked os 0 → (0 < length os) × (each_shows Numbered os ≡ true) × (each_shows asked os ≡ true)
+done_shows asked [] answer = absurd cc
+done_shows asked (o ∷ os) answer = let two = done_by (each_shows Open (o ∷ os)) (each_shows Numbered (o ∷ os)) (each_shows asked (o ∷ os)) answer in (omega arith, two.0, two.1)
 
 ended_is : (state : State) → (state_number state == 2) ≡ true → state ≡ Ended
 ended_is Free is = absurd cc
@@ -109,18 +112,58 @@ over_ended k s numbered role shown =
 from_first : (k : ℕ) → 0 + k ≡ k
 from_first k = omega arith
 
+-- seats that are there, each at the place of its number
+module _ (os : List (Option Seat)) (numbered_all : each_shows Numbered os ≡ true) where
+  pub many : length (seats_in os) ≡ length os
+  many = shown_count Numbered (length os) 0 os numbered_all
+
+  numbered : (k : ℕ) (s : Seat) → slice_get (seats_in os) k ≡ Some s → ((number_of s == k) ≡ true) × ((seat_count (config_of s).mutators (config_of s).helpers == length os) ≡ true)
+  numbered k s there =
+      parts (number_of s == k) (seat_count (config_of s).mutators (config_of s).helpers == length os)
+      (subst (λ n. seat_shows Numbered (length os) n s ≡ true) (from_first k) (shown_each Numbered (length os) 0 os numbered_all k s there))
+
+  number : (k : ℕ) (s : Seat) → slice_get (seats_in os) k ≡ Some s → number_of s ≡ k
+  number k s there = let is = (numbered k s there).0 in grind (arith, nat_tests, is)
+
+  counted : (k : ℕ) (s : Seat) → slice_get (seats_in os) k ≡ Some s → seat_count (config_of s).mutators (config_of s).helpers ≡ length (seats_in os)
+  counted k s there = let is = (numbered k s there).1 in let whole : seat_count (config_of s).mutators (config_of s).helpers ≡ length os = grind (arith, nat_tests, is) in whole ∙ sym many
+
 -- where 0 is answered, seats of one heap make it up
 pub make_up : (os : List (Option Seat)) → AnswersClosing os 0 → AreOfOneHeap (seats_in os) → MakeUpHeap (seats_in os)
 make_up os answer one =
-    let shown = done_shows os answer in
-    let many : length (seats_in os) ≡ length os = shown_count Numbered (length os) 0 os shown.1 in
-    let numbered : (k : ℕ) (s : Seat) → slice_get (seats_in os) k ≡ Some s → ((number_of s == k) ≡ true) × ((seat_count (config_of s).mutators (config_of s).helpers == length os) ≡ true) =
-    λ k s there. parts (number_of s == k) (seat_count (config_of s).mutators (config_of s).helpers == length os) (subst (λ n. seat_shows Numbered (length os) n s ≡ true) (from_first k) (shown_each Numbered (length os) 0 os shown.1 k s there)) in
-    let number : (k : ℕ) (s : Seat) → slice_get (seats_in os) k ≡ Some s → number_of s ≡ k = λ k s there. let is = (numbered k s there).0 in grind (arith, nat_tests, is) in
+    let shown = done_shows Over os answer in
+    let some = shown.0 in
+    let long = many os shown.1 in
     record {
-      some = let some = shown.0 in omega (arith, some, many);
+      some = omega (arith, some, long);
       heap = one;
-      number = number;
-      count = λ k s there. let is = (numbered k s there).1 in let whole : seat_count (config_of s).mutators (config_of s).helpers ≡ length os = grind (arith, nat_tests, is) in whole ∙ sym many;
-      over = λ k s there role. over_ended k s (number k s there) role (shown_each Over (length os) 0 os shown.2 k s there);
+      number = number os shown.1;
+      count = counted os shown.1;
+      over = λ k s there role. over_ended k s (number os shown.1 k s there) role (shown_each Over (length os) 0 os shown.2 k s there);
     }
+
+-- and where each was asked whether it has ended, each has
+pub all_ended : (os : List (Option Seat)) → AnswersAsked asks.Ended os 0 → AllEnded (seats_in os)
+all_ended os answer k s there = ended_is (state_in s) (shown_each asks.Ended (length os) 0 os (done_shows asks.Ended os answer).2 k s there)
+
+pub make_up_ended : (os : List (Option Seat)) → AnswersAsked asks.Ended os 0 → AreOfOneHeap (seats_in os) → MakeUpHeap (seats_in os)
+make_up_ended os answer one =
+    let shown = done_shows asks.Ended os answer in
+    let some = shown.0 in
+    let long = many os shown.1 in
+    record {
+      some = omega (arith, some, long);
+      heap = one;
+      number = number os shown.1;
+      count = counted os shown.1;
+      over = λ k s there role. all_ended os answer k s there;
+    }
+
+-- the first of them says how many there are
+pub first_counts : (os : List (Option Seat)) → AnswersAsked asks.Ended os 0 → (s : Seat) × (slice_get (seats_in os) 0 ≡ Some s) × (seat_count (config_of s).mutators (config_of s).helpers ≡ length os)
+first_counts os answer =
+    let shown = done_shows asks.Ended os answer in
+    let some = shown.0 in
+    let long = many os shown.1 in
+    let s = some_at (seats_in os) 0 (omega (arith, some, long)) in
+    (s.0, s.1, counted os shown.1 0 s.0 s.1 ∙ long)

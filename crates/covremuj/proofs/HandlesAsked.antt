@@ -2,10 +2,10 @@
 use Rattle.std.proofs.Common.{◌≡◌, ◌<◌, ℕ, zero, suc, ◌+◌, Bool, true, false, ◌&&◌, List, [], ◌∷◌, length, take, get_or, refl, sym, ap, ◌∙◌, subst, arith}
 use Rattle.std.specs.Prelude.{◌==◌}
 use Rattle.covremuj.specs.declared.asked.Asked.{Asked}
-use Rattle.covremuj.specs.declared.asked.Asked.TheVariants.{Open, Numbered, Over}
+use Rattle.covremuj.specs.declared.asked.Asked.TheVariants.{Open, Numbered}
 use Rattle.covremuj.specs.declared.handle.Handle.{Handle}
 use Rattle.covremuj.specs.OpenedHandles.{seats_held}
-use Rattle.covremuj.specs.ClosedHandles.{shows, all_show, each_shows, AnswersBy, AnswersClosing}
+use Rattle.covremuj.specs.ClosedHandles.{shows, all_show, each_shows, AnswersBy, AnswersAsked}
 
 -- ---- tests of two parts
 
@@ -61,6 +61,6 @@ pub some_there : (n : ℕ) (none : Bool) → none ≡ (n == 0) → none ≡ fals
 some_there zero none is not_so = absurd (let wrong : true ≡ false = sym is ∙ not_so in cc)
 some_there (suc n) none is not_so = omega arith
 
-pub some_answered : (hs : List Handle) (answer : ℕ) → 0 < length hs → AnswersBy (each_shows Open (seats_held hs)) (each_shows Numbered (seats_held hs)) (each_shows Over (seats_held hs)) answer → AnswersClosing (seats_held hs) answer
-some_answered [] answer some by = absurd (omega (arith, some))
-some_answered (x ∷ xs) answer some by = by
+pub some_answered : (asked : Asked) (hs : List Handle) (answer : ℕ) → 0 < length hs → AnswersBy (each_shows Open (seats_held hs)) (each_shows Numbered (seats_held hs)) (each_shows asked (seats_held hs)) answer → AnswersAsked asked (seats_held hs) answer
+some_answered asked [] answer some by = absurd (omega (arith, some))
+some_answered asked (x ∷ xs) answer some by = by

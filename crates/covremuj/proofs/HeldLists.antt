@@ -5,9 +5,7 @@ use Rattle.std.specs.Prelude.{slice_set}
 use Rattle.std.specs.Global.{Box}
 use Rattle.std.specs.Option.{is_some}
 use Rattle.std.proofs.lemmas.List.{append_assoc, map-append, reverse-append}
-use Rattle.heap_words.specs.declared.config.Config.{Config}
 use Rattle.heap_seats.specs.declared.seat.Seat.{Seat}
-use Rattle.heap_seats.specs.FreshSeats.{AreFreshSeats}
 use Rattle.covremuj.specs.declared.handle.Handle.{Handle}
 use Rattle.covremuj.specs.OpenedHandles.{seats_held, any_held}
 
@@ -75,12 +73,10 @@ filled_more hs at new before after b all below split holds so_far =
     ∙ so_far
 
 -- one seat more is in its box
-pub boxed_more : (c : Config) (before after : List Seat) (s : Seat) (boxes : List (Box Seat)) (b : Box Seat) → before ≡ after ++ s ∷ [] → b.value ≡ s → AreFreshSeats c (before ++ reverse (seats_of boxes)) → AreFreshSeats c (after ++ reverse (seats_of (boxes ++ b ∷ [])))
-boxed_more c before after s boxes b split is fresh =
-    subst (AreFreshSeats c)
-    (ap (λ (xs : List Seat). xs ++ reverse (seats_of boxes)) split ∙ append_assoc after (s ∷ []) (reverse (seats_of boxes))
-    ∙ ap (λ (x : Seat). after ++ x ∷ reverse (seats_of boxes)) (sym is) ∙ ap (λ (xs : List Seat). after ++ xs) (sym (last_first boxes b)))
-    fresh
+pub boxed_more : (before after : List Seat) (s : Seat) (boxes : List (Box Seat)) (b : Box Seat) (all : List Seat) → before ≡ after ++ s ∷ [] → b.value ≡ s → before ++ reverse (seats_of boxes) ≡ all → after ++ reverse (seats_of (boxes ++ b ∷ [])) ≡ all
+boxed_more before after s boxes b all split is so_far =
+    ap (λ (xs : List Seat). after ++ xs) (last_first boxes b) ∙ ap (λ (x : Seat). after ++ x ∷ reverse (seats_of boxes)) is
+    ∙ sym (ap (λ (xs : List Seat). xs ++ reverse (seats_of boxes)) split ∙ append_assoc after (s ∷ []) (reverse (seats_of boxes))) ∙ so_far
 
 -- one handle more is emptied
 none_behind : (os : List (Option Seat)) → any_held os ≡ false → any_held (os ++ None ∷ []) ≡ false

@@ -3,3 +3,4 @@ mod Orders
 mod HeldLists
 mod HandlesAsked
 mod GivenUp
+mod Renewals

@@ -4,7 +4,7 @@ use Rattle.heap_words.specs.Ranges.{seat_count}
 use Rattle.heap_seats.specs.declared.seat.Seat.{Seat}
 use Rattle.heap_seats.specs.Seats.{config_of, number_of, state_in}
 use Rattle.covremuj.specs.declared.asked.Asked.{Asked}
-use Rattle.covremuj.specs.declared.asked.Asked.TheVariants.{Open, Numbered, Over}
+use Rattle.covremuj.specs.declared.asked.Asked.TheVariants.{Open, Numbered, Over, Ended}
 use Rattle.covremuj.specs.Answers.{kind_of, state_number}
 
 -- the seat that a handle holds, if it is open
@@ -17,11 +17,12 @@ abbrev pub seats_in : List (Option Seat) → List Seat
 seats_in [] = []
 seats_in (o ∷ others) = seat_in o ++ seats_in others
 
--- Whether a seat is one of a heap of so many whose number is its place; whether it has ended, or is a helper's.
+-- Whether a seat is one of a heap of so many whose number is its place; whether it has ended, or is a helper's; whether it has ended.
 abbrev pub seat_shows : Asked → (count place : ℕ) → Seat → Bool
 seat_shows Open count place s = true
 seat_shows Numbered count place s = (number_of s == place) && (seat_count (config_of s).mutators (config_of s).helpers == count)
 seat_shows Over count place s = (kind_of s == 2) || (state_number (state_in s) == 2)
+seat_shows Ended count place s = state_number (state_in s) == 2
 
 abbrev pub shows : Asked → (count place : ℕ) → Option Seat → Bool
 shows asked count place None = false
@@ -43,6 +44,10 @@ cause_by filled numbered = if filled then (if numbered then None else Some 56) e
 abbrev pub AnswersBy : (filled numbered over : Bool) → ℕ → Type 0
 AnswersBy filled numbered over answer = MatchOption (cause_by filled numbered) ((answer ≡ 56) ⊎ (answer ≡ (if over then 0 else 34))) (λ why. answer ≡ why)
 
+-- so it is where this is asked last
+abbrev pub AnswersAsked : Asked → List (Option Seat) → ℕ → Type 0
+AnswersAsked asked [] answer = answer ≡ 56
+AnswersAsked asked (o ∷ others) answer = AnswersBy (each_shows Open (o ∷ others)) (each_shows Numbered (o ∷ others)) (each_shows asked (o ∷ others)) answer
+
 abbrev pub AnswersClosing : List (Option Seat) → ℕ → Type 0
-AnswersClosing [] answer = answer ≡ 56
-AnswersClosing (o ∷ others) answer = AnswersBy (each_shows Open (o ∷ others)) (each_shows Numbered (o ∷ others)) (each_shows Over (o ∷ others)) answer
+AnswersClosing held answer = AnswersAsked Over held answer

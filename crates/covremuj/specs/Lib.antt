@@ -4,3 +4,4 @@ pub mod Answers
 pub mod Border
 pub mod OpenedHandles
 pub mod ClosedHandles
+pub mod RenewedHandles

@@ -3,6 +3,7 @@ use Rattle.std.specs.Prelude.{ℕ, ◌≡◌, ◌==◌, Bool, true, false, List,
 use Rattle.heap_words.specs.declared.config.Config.{Config}
 use Rattle.heap_words.specs.declared.config.BadConfig.{BadConfig}
 use Rattle.heap_words.specs.Faults.{wide_fault_of}
+use Rattle.table_heap.specs.Core.{heap_opening}
 use Rattle.heap_seats.specs.declared.seat.Seat.{Seat}
 use Rattle.heap_seats.specs.FreshSeats.{AreFreshSeats}
 use Rattle.covremuj.specs.declared.border.Configuration.{Configuration}
@@ -19,10 +20,10 @@ any_held [] = false
 any_held (None ∷ others) = any_held others
 any_held (Some seat ∷ others) = true
 
--- they hold the seats of one heap before its first event, in the order of their numbers
+-- they hold the seats of one heap that was opened, before its first event, in the order of their numbers
 pub record HoldFreshSeats (c : Config) (held : List (Option Seat)) : Type 0 where
   pub seats : List Seat
-  pub fresh : AreFreshSeats c seats
+  pub fresh : AreFreshSeats c (heap_opening c) seats
   pub each : held ≡ map Some seats
 
 -- the configuration has these sizes

@@ -10,6 +10,8 @@ use Rattle.heap_seats.specs.declared.progress.Progress.{Progress}
 use Rattle.heap_seats.specs.declared.progress.Progress.TheVariants as progress
 use Rattle.heap_seats.specs.declared.progress.Refused.{Refused}
 use Rattle.heap_seats.specs.declared.progress.Refused.TheVariants as refused
+use Rattle.heap_seats.specs.declared.renewing.Renewal.{Renewal}
+use Rattle.heap_seats.specs.declared.renewing.Renewal.TheVariants as renewal
 
 abbrev pub number_of_reply : Reply → ℕ
 number_of_reply (reply.Ref name) = 8
@@ -46,6 +48,12 @@ number_of_fault RegionWords = 49
 number_of_fault Mutators = 50
 number_of_fault Helpers = 51
 number_of_fault Reserve = 52
+
+abbrev pub number_of_renewal : Renewal → ℕ
+number_of_renewal renewal.Renewed = 0
+number_of_renewal renewal.Pinned = 24
+number_of_renewal renewal.TooSmall = 25
+number_of_renewal renewal.NoMemory = 26
 
 -- the command of a number, with its arguments
 abbrev pub command_numbered : (op a b c d value : ℕ) → Option Command

@@ -7,4 +7,6 @@ pub enum Asked {
     Numbered,
     /// Whether its seat has ended, or is a helper's.
     Over,
+    /// Whether its seat has ended.
+    Ended,
 }

@@ -4,7 +4,7 @@ ghost use Rattle.std.specs.Result.{result_err};
 ghost use Rattle.covremuj.specs.StatusNumbers as numbers;
 ghost use Rattle.covremuj.specs.Answers as answers;
 
-use heap_seats::{Progress, Refused, Seat, State};
+use heap_seats::{Progress, Refused, Renewal, Seat, State};
 use heap_words::{BadConfig, Place};
 use shen_graph::{Command, Name, Reply};
 
@@ -85,6 +85,14 @@ pub(crate) const BAD: u32 = 14;
 pub(crate) const FULL: u32 = 15;
 
 pub(crate) const AT: u32 = 16;
+
+pub(crate) const PINNED: u32 = 24;
+
+pub(crate) const TOO_SMALL: u32 = 25;
+
+pub(crate) const NOT_RENEWED: u32 = 26;
+
+pub(crate) const LOST: u32 = 27;
 
 pub(crate) const NOT_OPEN: u32 = 32;
 
@@ -178,6 +186,18 @@ pub(crate) fn of_reply(reply: Reply) -> u32
         Reply::Bad => BAD,
         Reply::Full => FULL,
         Reply::At(_) => AT,
+    }
+}
+
+// The number of what came of a renewal.
+pub(crate) fn of_renewal(renewal: Renewal) -> u32
+    ensures { result ≡ numbers.number_of_renewal renewal }
+{
+    match renewal {
+        Renewal::Renewed => DONE,
+        Renewal::Pinned => PINNED,
+        Renewal::TooSmall => TOO_SMALL,
+        Renewal::NoMemory => NOT_RENEWED,
     }
 }
 

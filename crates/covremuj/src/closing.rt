@@ -33,7 +33,7 @@ pub extern "C" fn cvm_close_all(alloc: Global, handles: &mut [Handle]) -> u32
     ensures empty { result ≡ 0 → any_held (seats_held handles.new) ≡ false }
     ensures history { result ≡ 0 → AreOfOneHeap (closed.seats_in (seats_held handles.old)) → HaveHistory (closed.seats_in (seats_held handles.old)) }
 {
-    let why = refuses(alloc, handles);
+    let why = refuses(alloc, handles, Asked::Over);
     if why != DONE {
         return why;
     }
@@ -41,17 +41,17 @@ pub extern "C" fn cvm_close_all(alloc: Global, handles: &mut [Handle]) -> u32
     DONE
 }
 
-// Why not all seats of a heap are there, or it is not over.
-fn refuses(alloc: Global, handles: &mut [Handle]) -> u32
+// Why not all seats of a heap are there, or one does not show what is asked last.
+pub(crate) fn refuses(alloc: Global, handles: &mut [Handle], last: Asked) -> u32
     ensures held { seats_held handles.new ≡ seats_held handles.old }
-    ensures answer { closed.AnswersClosing (seats_held handles.old) result }
+    ensures answer { closed.AnswersAsked last (seats_held handles.old) result }
 {
     if handles.is_empty() {
         return NOT_ALL;
     }
     let filled = all_show(alloc, handles, Asked::Open);
     let numbered = all_show(alloc, handles, Asked::Numbered);
-    let over = all_show(alloc, handles, Asked::Over);
+    let over = all_show(alloc, handles, last);
     let shared = are_shared(alloc, handles);
     answer_by(filled, numbered, shared, over)
 }
@@ -104,6 +104,7 @@ fn seat_shows(seat: &Seat, asked: Asked, seats: usize, at: usize) -> bool
         Asked::Open => true,
         Asked::Numbered => seat.number() == at && seat.config().seats() == seats,
         Asked::Over => kind_of(seat) == 2 || state_number(seat.state()) == 2,
+        Asked::Ended => state_number(seat.state()) == 2,
     }
 }
 

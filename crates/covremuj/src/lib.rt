@@ -9,6 +9,7 @@ mod handle;
 mod mutators;
 mod opening;
 mod parts;
+mod renewing;
 mod workers;
 
 pub use border::{Configuration, Told, Value};

@@ -1,6 +1,5 @@
 ghost use Rattle.std.specs.Prelude.{◌≡◌, ◌≢◌, ◌+◌, None, Some, MatchOption, IfOk, length, map};
 ghost use Rattle.heap_words.specs.Ranges.{seat_count};
-ghost use Rattle.heap_seats.specs.FreshSeats.{AreFreshSeats};
 ghost use Rattle.covremuj.specs.OpenedHandles.{seats_held, any_held, HoldFreshSeats, HasSizes, fault_in, handles_refused, opening_refused};
 ghost use Rattle.heap_words.specs.declared.config.Config.{Config as Configs};
 ghost use mathlib.Core.List.{reverse};
@@ -42,7 +41,10 @@ fn open_into(alloc: Global, config: Config, handles: &mut [Handle]) -> u32
     if any_open(alloc, handles) {
         return ALREADY_OPEN;
     }
-    let Ok(seats) = boxed_seats(alloc, config) else {
+    let Ok(seats) = open_seats(alloc, config) else {
+        return NO_MEMORY;
+    };
+    let Ok(seats) = boxed(alloc, seats) else {
         return NO_MEMORY;
     };
     fill_all(handles, seats);
@@ -62,11 +64,10 @@ fn any_open(alloc: Global, handles: &mut [Handle]) -> bool
     false
 }
 
-// The seats of a new heap, each in a box, the last one first.
-fn boxed_seats(alloc: Global, config: Config) -> Result<Vec<Box<Seat>>, NoMemory>
-    ensures { IfOk result (λ boxes. AreFreshSeats config (reverse (map (λ b. b.value) boxes.items))) }
+// Seats, each in a box, the last one first.
+pub(crate) fn boxed(alloc: Global, mut seats: Vec<Seat>) -> Result<Vec<Box<Seat>>, NoMemory>
+    ensures { IfOk result (λ boxes. reverse (map (λ b. b.value) boxes.items) ≡ seats.items) }
 {
-    let mut seats = open_seats(alloc, config)?;
     let Ok(mut boxes) = Vec::with_capacity(alloc, seats.len()) else {
         return Err(NoMemory);
     };
@@ -82,7 +83,7 @@ fn boxed_seats(alloc: Global, config: Config) -> Result<Vec<Box<Seat>>, NoMemory
 }
 
 // Puts each seat into its handle: the last one of the list into the first.
-fn fill_all(handles: &mut [Handle], mut seats: Vec<Box<Seat>>)
+pub(crate) fn fill_all(handles: &mut [Handle], mut seats: Vec<Box<Seat>>)
     requires { length handles.old ≡ length seats.items }
     ensures { seats_held handles.new ≡ map Some (reverse (map (λ b. b.value) seats.items)) }
 {

@@ -29,7 +29,7 @@ use Rattle.shen_core.specs.declared.run.Ran.TheVariants.{Finished, Unfinished}
 use Rattle.shen_core.specs.State.{config_of, orders_of, machines_of, Shows}
 use Rattle.shen_core.specs.Progress.{Jobs, CanRun, Tells}
 use Rattle.shen_core.specs.Calls.{AllCall}
-use Rattle.shen_core.specs.FromImage.{control_from, machine_from, actor_from, stage_from}
+use Rattle.heap_machines.specs.FromImage.{control_from, machine_from, actor_from, stage_from}
 use Rattle.shen_core.specs.WholeRun.{HasRun, RunsSchedule}
 use Rattle.dump_writing.specs.Dumped.{most_made}
 use Rattle.dump_runs.specs.Resumed.{IsRunnableAfter, IsLeftBusy}

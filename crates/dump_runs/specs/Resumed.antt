@@ -19,7 +19,7 @@ use Rattle.step_core.specs.Actor.{Actor}
 use Rattle.step_core.specs.Machines.{kind}
 use Rattle.step_core.specs.History.{history}
 use Rattle.step_core.specs.Schedule.{Scripts, schedule_events}
-use Rattle.shen_core.specs.FromImage.{stage_from}
+use Rattle.heap_machines.specs.FromImage.{stage_from}
 use Rattle.shen_core.specs.Progress.{AreIdle}
 use Rattle.trace_writing.specs.Answer.{answer_text}
 use Rattle.graph_placing.specs.PlacedHeap.{IsPlaced}

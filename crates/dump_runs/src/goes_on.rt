@@ -6,7 +6,7 @@ ghost use Rattle.heap_machines.specs.Pause.{pause_image};
 ghost use Rattle.step_core.specs.Begins.{Run, Begins, ending, graph_after};
 ghost use Rattle.image_graph.specs.State as images;
 ghost use Rattle.shen_core.specs.State as memory;
-ghost use Rattle.shen_core.specs.FromImage.{CanBeginFrom, stage_from};
+ghost use Rattle.heap_machines.specs.FromImage.{CanBeginFrom, stage_from};
 ghost use Rattle.shen_core.specs.Progress.{AllRest, IsInSeats};
 ghost use Rattle.trace_writing.specs.Answer.{spelled_answer};
 ghost use Rattle.graph_placing.specs.ByName.{Fits};

@@ -2,7 +2,7 @@
 //! that goes on from the dump begins there.
 ghost use Rattle.std.specs.Prelude.{◌≡◌, ◌↔◌, IfOk};
 ghost use Rattle.image_graph.specs.State.{config_of, memory_of};
-ghost use Rattle.shen_core.specs.FromImage.{CanBeginFrom};
+ghost use Rattle.heap_machines.specs.FromImage.{CanBeginFrom};
 ghost use Rattle.graph_placing.specs.ByName.{Fits};
 ghost use Rattle.graph_placing.specs.PlacedHeap.{IsPlaced};
 ghost use Rattle.graph_placing.specs.Outcome.{IfHeap};

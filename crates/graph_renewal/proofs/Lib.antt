@@ -7,5 +7,6 @@ pub mod TextsAnew
 pub mod Written
 pub mod TextShown
 pub mod SameGraphs
+pub mod PinsShown
 pub mod Renewables
 pub mod ShownRenewable

@@ -10,3 +10,4 @@ pub mod Fit
 mod Awaiting
 pub mod Inside
 pub mod Hinting
+pub mod FromImages

@@ -1,18 +1,16 @@
 -- What comes of renewing a heap.
-use Rattle.std.specs.Prelude.{ℕ, ◌≡◌, ◌≤◌, ◌<◌, None}
+use Rattle.std.specs.Prelude.{◌≡◌}
 use Rattle.heap_words.specs.declared.config.Config.{Config}
 use Rattle.steps_base.specs.Steps.{Stage}
 use Rattle.shen_graph.specs.declared.name.Name.{Name}
 use Rattle.shen_graph.specs.Graph.{Graph}
-use Rattle.shen_graph.specs.GraphText.{Text}
-use Rattle.heap_graph.specs.Shows.{ShowsGraph}
 use Rattle.heap_machines.specs.Pause.{pause_image}
 use Rattle.step_core.specs.Actor.{Actor}
 use Rattle.step_core.specs.Begins.{Run, Begins, ending, graph_after}
 use Rattle.shen_core.specs.declared.plain.Plain.{Plain}
 use Rattle.shen_core.specs.State.{config_of, Shows}
-use Rattle.graph_placing.specs.ByName.{Fits}
 use Rattle.graph_renewal.specs.Renewable.{IsRenewable}
+use Rattle.graph_renewal.specs.Renewed.{HoldsNothing}
 use Rattle.graph_renewal.specs.SameGraph.{IsSameAnew}
 use Rattle.heap_renewal.specs.declared.renewing.Renewal.{Renewal}
 use Rattle.heap_renewal.specs.declared.renewing.Renewal.TheVariants.{Renewed, Pinned, TooSmall}
@@ -28,14 +26,6 @@ pub record StandsRenewable (p : Plain) : Type 0 where
   pub run : Run (config_of p)
   pub leads : Shows p (ending pause_image (config_of p) run)
   pub renewable : IsRenewable (config_of p).mutators (graph_after pause_image (config_of p) run)
-
--- no pin slot of these threads holds an object
-abbrev pub HoldsNothing : (threads : ℕ) → Graph → Type 0
-HoldsNothing threads g = (thread slot : ℕ) → 1 ≤ thread → thread ≤ threads → slot < 4 → g.pin thread slot ≡ None
-
--- the objects of a graph need more regions than the heap has, one behind the other in the order of their names
-abbrev pub DoesNotFit : Config → Graph → Type 0
-DoesNotFit c g = (t : Text) × ShowsGraph t c.mutators g × (Fits c t → ⊥)
 
 -- The new heap stands where runs may begin that go on from a graph; this is the same graph as the one before, up to names that are counted
 -- anew, and it can be named anew once more. Nothing was pinned.

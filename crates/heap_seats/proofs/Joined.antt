@@ -12,14 +12,15 @@ use Rattle.shen_graph.specs.declared.order.Order.TheVariants.{Nothing}
 use Rattle.shen_graph.specs.Order.{is_nothing, hinting}
 use Rattle.mutator.specs.Orders.{is_between_calls}
 use Rattle.shared_table.specs.Views.{View, machine_of, whole, merged, whichever_is_there}
-use Rattle.shared_table.proofs.Kept.{kept_here}
+use Rattle.std.proofs.lemmas.List.{length-map}
+use Rattle.shared_table.proofs.Kept.{kept_here, length-kept}
 use Rattle.shared_table.proofs.ViewsShow.{machine_of-merged, machine_of-whole}
 use Rattle.heap_machines.specs.Pause.{pause_image}
 use Rattle.heap_machines.proofs.Pauses.{heap_pauses}
 use Rattle.heap_machines.proofs.Turns.{turn_idle}
 use Rattle.heap_machines.proofs.RestedGraph.{entries_at_rest}
 use Rattle.step_core.specs.Actor.{Actor}
-use Rattle.step_core.specs.Begins.{Run, reached}
+use Rattle.step_core.specs.Begins.{Run}
 use Rattle.step_core.specs.Machines.{is_resting, is_for_working, takes_of, may_begin}
 use Rattle.step_core.specs.Settled.{control_number}
 use Rattle.step_core.proofs.Theorem.EveryList.{run_sound}
@@ -27,19 +28,22 @@ use Rattle.table_heap.specs.declared.heap.Heap.{Heap}
 use Rattle.table_heap.specs.declared.bundle.Bundle.{Bundle}
 use Rattle.table_heap.specs.declared.closed.Closed.{Closed}
 use Rattle.table_heap.specs.Closed as closed
-use Rattle.table_heap.specs.Core.{heap_kind, heap_opening, nobody}
-use Rattle.table_heap.specs.State.{view_of, IsBundleOf, has_turn, order_at}
+use Rattle.table_heap.specs.Core.{heap_kind, start_of_key, nobody, machine_in}
+use Rattle.table_heap.specs.State.{start_of_heap, start_in, view_of, IsBundleOf, has_turn, order_at}
 use Rattle.heap_machines.specs.Shown.{shown, order_of}
 use Rattle.heap_machines.specs.Roles.{is_mutating}
 use Rattle.heap_machines.specs.declared.machine.Machine as memory
 use Rattle.heap_machines.specs.declared.machine.Machine.TheVariants as memories
-use Rattle.table_heap.proofs.Core.{run_of}
+use Rattle.heap_reopening.proofs.ComeToRest.{HasComeToRest}
+use Rattle.table_heap.proofs.Core.{run_from}
 use Rattle.table_heap.proofs.MachineUnder.{shows_as}
 use Rattle.table_heap.proofs.Running.{at_number, in_view, in_memory, role_at}
 use Rattle.heap_seats.specs.declared.progress.State.TheVariants.{Ended}
 use Rattle.heap_seats.specs.declared.seat.Seat.{Seat}
 use Rattle.heap_seats.specs.Seats.{actor_in, machine_of_seat, state_in, state_by}
-use Rattle.heap_seats.specs.GivenUp.{AreMachinesOf, AreJoined, AreAllSeats, AreOver, HaveNot, IsHistoryOf, HaveOneHistory}
+use Rattle.heap_seats.specs.GivenUp.{AreMachinesOf, AreJoined, AreAllSeats, AreOver, HaveNot, IsHistoryOf, HaveOneHistory, AreMachinesLeft}
+use Rattle.heap_seats.specs.Histories.{BeginsRenewable, led, OfEachBegun}
+use Rattle.heap_seats.proofs.Histories.{run_is_legal}
 use Rattle.heap_seats.proofs.Known.{has_seen}
 use Rattle.heap_seats.proofs.Opened.{get_last, get_init}
 
@@ -54,7 +58,7 @@ none_at : {A : Type 0} (o : Option A) → ((a : A) → o ≡ Some a → ⊥) →
 none_at None never = refl
 none_at (Some a) never = absurd (never a refl)
 
-same_some : {A : Type 0} (x y : A) → Some x ≡ Some y → x ≡ y
+pub same_some : {A : Type 0} (x y : A) → Some x ≡ Some y → x ≡ y
 same_some x y is = cc
 
 one_of : {A : Type 0} (y : A) (k : ℕ) (x : A) → slice_get (y ∷ []) k ≡ Some x → y ≡ x
@@ -116,7 +120,7 @@ joined_more h before s old new joined absent of view = record { of = of; machine
 
 -- ---- all of them
 
-some_at : {A : Type 0} (xs : List A) (k : ℕ) → k < length xs → (x : A) × (slice_get xs k ≡ Some x)
+pub some_at : {A : Type 0} (xs : List A) (k : ℕ) → k < length xs → (x : A) × (slice_get xs k ≡ Some x)
 some_at [] k below = absurd (omega (arith, below))
 some_at (x ∷ xs) zero below = (x, refl)
 some_at (x ∷ xs) (suc k) below = some_at xs k (omega (arith, below))
@@ -174,6 +178,14 @@ module _ (s : Seat) (over : state_in s ≡ Ended) where
   seat_rests : nat_lt s.number s.config.mutators ≡ true → is_resting (actor_in s).machine ≡ true
   seat_rests is = subst (λ m. is_resting m ≡ true) found.2 (no_turn_rests found.0 (role ∙ is) takes_none)
 
+  -- so its machine has come to rest
+  pub seat_has_rested : HasComeToRest (actor_in s).machine
+  seat_has_rested = by_role (nat_lt s.number s.config.mutators) refl
+    where
+      by_role : (b : Bool) → nat_lt s.number s.config.mutators ≡ b → HasComeToRest (actor_in s).machine
+      by_role true is = inl (seat_rests is)
+      by_role false is = inr (sym (ap is_mutating found.2) ∙ role ∙ is, seat_idle is)
+
 module _ (c : Config) (h : Heap) (all : List Seat) (view : View Actor) (seats : AreAllSeats c h all) (theirs : AreMachinesOf all view) where
   each_is : (k : ℕ) (s : Seat) → slice_get all k ≡ Some s → machine_of view k ≡ Some (actor_in s)
   each_is k s there = ap (machine_of view) (sym (seats.number k s there)) ∙ theirs.each k s there
@@ -188,6 +200,14 @@ module _ (c : Config) (h : Heap) (all : List Seat) (view : View Actor) (seats : 
 
   pub config_is : h.config ≡ c
   config_is = let first = seat_under 0 (omega arith) in heap_is 0 first.0 first.1
+
+  -- it began with a graph that can be renewed
+  pub heap_begins : ∥ BeginsRenewable c (start_of_heap h) ∥₁
+  heap_begins =
+      let first = seat_under 0 (omega arith) in
+      let s = first.0 in
+      let start : start_in s.bundle ≡ start_of_heap h = ap start_of_key s.fits.key ∙ ap (λ (g : Heap). start_of_heap g) (seats.heap 0 s first.1) in
+      subst (λ (x : Stage Actor). ∥ BeginsRenewable c x ∥₁) start (subst (λ (x : Config). ∥ BeginsRenewable x (start_in s.bundle) ∥₁) (seats.config 0 s first.1) s.renewable)
 
   -- each machine is there
   pub each_here : (k : ℕ) → k < seat_count c.mutators c.helpers → is_some (machine_of view k) ≡ true
@@ -212,21 +232,26 @@ module _ (c : Config) (h : Heap) (all : List Seat) (view : View Actor) (seats : 
         let same : actor_in s.0 ≡ a = same_some (actor_in s.0) a (sym (each_is k s.0 s.1) ∙ sym (stage_there k) ∙ there) in
         subst (λ (x : Actor). is_resting x.machine ≡ true) same (rests over k s.0 s.1 below)
 
+    -- the machine of each seat is there
+    pub seat_at : (k : ℕ) (s : Seat) → slice_get all k ≡ Some s → slice_get stage.machines k ≡ Some (actor_in s)
+    seat_at k s there = stage_there k ∙ each_is k s there
+
     -- one history, of the events that lead there
-    pub history_there : AreOver c all → IsReached (heap_kind h.config) (heap_opening h.config) stage → (events : List (Event Order)) × (reached pause_image c events ≡ stage) × IsHistoryOf c all events
+    pub history_there : AreOver c all → IsReached (heap_kind h.config) (start_of_heap h) stage → (events : List (Event Order)) × (led c (start_of_heap h) events ≡ stage) × OfEachBegun c (start_of_heap h) (IsHistoryOf c (start_of_heap h) all events)
     history_there over reached_h =
-        let led : IsReached (heap_kind c) (heap_opening c) stage = subst (λ (x : Config). IsReached (heap_kind x) (heap_opening x) stage) config_is reached_h in
-        let run : Run c = run_of c led.events in
-        let sound = run_sound pause_image heap_pauses c run in (
-          led.events,
-          led.ends,
+        let led_there : IsReached (heap_kind c) (start_of_heap h) stage = subst (λ (x : Config). IsReached (heap_kind x) (start_of_heap h) stage) config_is reached_h in (
+          led_there.events,
+          led_there.ends,
           record {
-            legal = sound.legal;
-            crowded = sound.crowded;
-            entries = sound.entries;
-            parts = λ k s there below.
-                let here : slice_get stage.machines k ≡ Some (actor_in s) = stage_there k ∙ each_is k s there in
-                entries_at_rest c run k (actor_in s) (ap (λ st. slice_get st.machines k) led.ends ∙ here) (rests over k s there below);
+            some = heap_begins;
+            each = λ first begins.
+                let run : Run c = run_from c (start_of_heap h) first begins led_there.events in
+                record {
+                  legal = run_is_legal c (start_of_heap h) first begins led_there.events;
+                  entries = (run_sound pause_image heap_pauses c run).entries;
+                  parts = λ k s there below.
+                      entries_at_rest c run k (actor_in s) (ap (λ st. slice_get st.machines k) led_there.ends ∙ seat_at k s there) (rests over k s there below);
+                };
           },
         )
 
@@ -257,7 +282,15 @@ module _ (c : Config) (h : Heap) (all : List Seat) (b : Bundle) (seats : AreAllS
         let mutators : (closed.config_of left).mutators ≡ c.mutators = ap (λ (x : Config). x.mutators) is in
         stage_rests c h all (view_of b) seats joined.machines (closed.stage_of left) view over k a (omega (arith, below, mutators)) there
 
-    pub one_history : AreOver c all → IsReached (heap_kind h.config) (heap_opening h.config) (closed.stage_of left) → HaveOneHistory c all left
+    pub one_history : AreOver c all → IsReached (heap_kind h.config) (start_of_heap h) (closed.stage_of left) → HaveOneHistory c (start_of_heap h) all left
     one_history over reached_h =
         let found = history_there c h all (view_of b) seats joined.machines (closed.stage_of left) view over reached_h in
         record { events = found.0; ends = found.1; history = found.2 }
+
+    pub machines_left : AreMachinesLeft all left
+    machines_left =
+        let seats_there = seats.count in
+        let counted : length (view_of b) ≡ seat_count c.mutators c.helpers =
+        sym (length-kept machine_in (view_of b)) ∙ ap length b.kept ∙ length-kept shown b.machines.items ∙ b.seats ∙ ap (λ (x : Config). seat_count x.mutators x.helpers) sizes in
+        let whole_count : length (view_of b) ≡ length (closed.machines_of left) = ap length view ∙ length-map (closed.machines_of left) (λ (a : Actor). Some a) in
+        record { count = sym whole_count ∙ counted ∙ sym seats_there; each = seat_at c h all (view_of b) seats joined.machines (closed.stage_of left) view }

@@ -5,21 +5,25 @@ use Rattle.std.specs.Option.{is_some}
 use Rattle.shen_graph.specs.declared.order.Order.{Order}
 use Rattle.shen_graph.specs.declared.order.Order.TheVariants.{Nothing}
 use Rattle.heap_machines.specs.Shown.{shown, order_of, no_machine}
+use Rattle.step_core.specs.Actor.{Actor}
 use Rattle.step_core.specs.Machines.{takes_of}
+use Rattle.steps_base.specs.Steps.{Stage}
 use Rattle.heap_words.specs.declared.config.Config.{Config}
 use Rattle.shared_table.specs.Views.{View, machine_of, kept_in_view}
 use Rattle.shared_table.specs.Counted.{uncounted_seat}
+use Rattle.shared_table.specs.Rule.{AreReached}
 use Rattle.shared_table.proofs.Kept.{kept_some}
 use Rattle.shared_table.proofs.Reached.{reached_step}
 use Rattle.heap_machines.specs.declared.stepped.Stepped.{Stepped}
 use Rattle.table_heap.specs.declared.heap.Heap.{Heap}
 use Rattle.table_heap.specs.declared.bundle.Bundle.{Bundle}
-use Rattle.table_heap.specs.Core.{heap_kind, heap_opening, machine_in}
-use Rattle.table_heap.specs.State.{heap_of, view_of, machines_of, orders_of, machine_at, order_at, has_turn, IsBundleOf, HasMachine, IsSameBundle, IsUnmoved, IsUnchanged, IsBundleStep}
+use Rattle.table_heap.specs.Core.{heap_kind, start_of_key, machine_in}
+use Rattle.table_heap.specs.State.{heap_of, start_in, view_of, machines_of, orders_of, machine_at, order_at, has_turn, IsBundleOf, HasMachine, IsSameBundle, IsUnmoved, IsUnchanged, IsBundleStep}
+use Rattle.heap_seats.specs.Histories.{BeginsRenewable}
 use Rattle.heap_seats.specs.Known.{HaveRun, HasOnly}
 
 pub stays_of : (h : Heap) (old new : Bundle) → IsSameBundle old new → IsBundleOf old h → IsBundleOf new h
-stays_of h old new same of = record { table = same.table ∙ of.table; config = same.config ∙ of.config }
+stays_of h old new same of = record { table = same.table ∙ of.table; config = same.config ∙ of.config; key = ap (λ k. k.value) same.key ∙ of.key }
 
 -- memory has the machines of the view
 pub has_seen : (b : Bundle) (number : ℕ) → is_some (machine_of (machines_of b) number) ≡ is_some (machine_of (view_of b) number)
@@ -31,22 +35,32 @@ stays_here old new number same here = has_seen new number ∙ same.numbers.here 
 pub stays_only : (old new : Bundle) (number : ℕ) → IsSameBundle old new → HasOnly old number → HasOnly new number
 stays_only old new number same only k here = only k (has_seen old k ∙ sym (same.numbers.here k) ∙ sym (has_seen new k) ∙ here)
 
-pub unmoved_run : (c : Config) (old new : Bundle) → IsUnmoved old new → HaveRun c old → HaveRun c new
-unmoved_run c old new unmoved run number a there = run number a (ap (λ v. machine_of v number) (sym unmoved.view) ∙ there)
+-- it is of a heap that began where the other's did
+pub same_start : (old new : Bundle) → IsSameBundle old new → start_in new ≡ start_in old
+same_start old new same = ap (λ k. start_of_key k.value) same.key
 
-stepped_run : (c : Config) (old new : Bundle) (number : ℕ) (said : Stepped) → heap_of old ≡ c → IsBundleStep old new number said → HaveRun c old → HaveRun c new
-stepped_run c old new number said is step run =
-    let kept : HaveRun old.config old = subst (λ k. HaveRun k old) (sym is) run in
-    subst (λ k. HaveRun k new) is
-    (reached_step (heap_kind old.config) (heap_opening old.config) number (order_at old number) (uncounted_seat old.seat.me) (uncounted_seat new.seat.me) step.got step.took kept)
+pub stays_renewable : (c : Config) (old new : Bundle) → IsSameBundle old new → ∥ BeginsRenewable c (start_in old) ∥₁ → ∥ BeginsRenewable c (start_in new) ∥₁
+stays_renewable c old new same some = subst (λ (s : Stage Actor). ∥ BeginsRenewable c s ∥₁) (sym (same_start old new same)) some
+
+moved_run : (old new : Bundle) → IsSameBundle old new → AreReached (heap_kind (heap_of old)) (start_in old) (view_of new) → HaveRun new
+moved_run old new same run =
+    subst (λ (s : Stage Actor). AreReached (heap_kind (heap_of new)) s (view_of new)) (sym (same_start old new same))
+    (subst (λ (c : Config). AreReached (heap_kind c) (start_in old) (view_of new)) (sym same.config) run)
+
+pub unmoved_run : (old new : Bundle) → IsUnmoved old new → HaveRun old → HaveRun new
+unmoved_run old new unmoved run = moved_run old new unmoved.same (λ number a there. run number a (ap (λ v. machine_of v number) (sym unmoved.view) ∙ there))
+
+stepped_run : (old new : Bundle) (number : ℕ) (said : Stepped) → IsSameBundle old new → IsBundleStep old new number said → HaveRun old → HaveRun new
+stepped_run old new number said same step run =
+    moved_run old new same (reached_step (heap_kind (heap_of old)) (start_in old) number (order_at old number) (uncounted_seat old.seat.me) (uncounted_seat new.seat.me) step.got step.took run)
 
 -- so they do after what `Bundle::step` promises
-pub goes_run : (c : Config) (old new : Bundle) (number : ℕ) (said : Stepped) → heap_of old ≡ c → (has_turn old number ≡ false → IsUnchanged old new) → (has_turn old number ≡ true → IsBundleStep old new number said) → HaveRun c old → HaveRun c new
-goes_run c old new number said is none one run = by_turn (has_turn old number) none one
+pub goes_run : (old new : Bundle) (number : ℕ) (said : Stepped) → IsSameBundle old new → (has_turn old number ≡ false → IsUnchanged old new) → (has_turn old number ≡ true → IsBundleStep old new number said) → HaveRun old → HaveRun new
+goes_run old new number said same none one run = by_turn (has_turn old number) none one
   where
-    by_turn : (turn : Bool) → (turn ≡ false → IsUnchanged old new) → (turn ≡ true → IsBundleStep old new number said) → HaveRun c new
-    by_turn false none one = unmoved_run c old new (none refl).unmoved run
-    by_turn true none one = stepped_run c old new number said is (one refl) run
+    by_turn : (turn : Bool) → (turn ≡ false → IsUnchanged old new) → (turn ≡ true → IsBundleStep old new number said) → HaveRun new
+    by_turn false none one = unmoved_run old new (none refl).unmoved run
+    by_turn true none one = stepped_run old new number said same (one refl) run
 
 -- what is put where there is a machine
 set_here : {T S U : Type 0} (f : T → S) (g : T → U) (items : View T) (number : ℕ) (x : U) → is_some (machine_of (kept_in_view f items) number) ≡ true → machine_of (slice_set (kept_in_view g items) number (Some x)) number ≡ Some x

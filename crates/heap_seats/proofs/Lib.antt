@@ -7,3 +7,7 @@ pub mod OrderRefusals
 pub mod Opened
 pub mod Joined
 pub mod Together
+mod Merely
+pub mod LeftGraphs
+pub mod Followed
+pub mod LeftMachines

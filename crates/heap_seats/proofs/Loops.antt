@@ -12,15 +12,16 @@ use Rattle.heap_machines.specs.declared.stepped.Stepped.{Stepped}
 use Rattle.heap_machines.specs.declared.stepped.Stepped.TheVariants as stepped
 use Rattle.step_core.specs.Actor.{Machine, mutating, Actor, entries_of}
 use Rattle.step_core.specs.Machines.{may_begin, is_resting, reply_in, takes_of}
-use Rattle.table_heap.specs.Core.{nobody}
-use Rattle.table_heap.specs.State.{has_turn}
+use Rattle.steps_base.specs.Steps.{Stage, HasReached}
+use Rattle.table_heap.specs.Core.{heap_kind, start_of_key, nobody}
+use Rattle.table_heap.specs.State.{start_in, has_turn}
 use Rattle.table_heap.proofs.Running.{at_number, in_view, role_at}
 use Rattle.heap_seats.specs.declared.progress.State.{State}
 use Rattle.heap_seats.specs.declared.progress.State.TheVariants.{Free, AtWork, Ended}
 use Rattle.heap_seats.specs.declared.progress.Progress.{Progress}
 use Rattle.heap_seats.specs.declared.progress.Progress.TheVariants as progress
 use Rattle.heap_seats.specs.declared.seat.Seat.{Seat}
-use Rattle.heap_seats.specs.Seats.{config_of, number_of, actor_in, machine_of_seat, order_in, steps_in, calls_of, doing_in, is_mutator, state_in, state_by, IsSameSeat}
+use Rattle.heap_seats.specs.Seats.{config_of, number_of, start_of_seat, actor_in, machine_of_seat, order_in, steps_in, calls_of, doing_in, is_mutator, state_in, state_by, IsSameSeat}
 use Rattle.heap_seats.specs.Going.{ArePartOfHistory, IsAsItWas, HasStepped, given_by, said_last, HasMadeSteps, progress_at, reply_told, FitsState, is_of_worker, HasGoneOn}
 use Rattle.heap_seats.proofs.Histories.{calls_are_part}
 use Rattle.heap_seats.proofs.MadeSteps.{Went, went_more, busy_step}
@@ -51,14 +52,21 @@ goes_first s = record {
 pub same_on : (first now new : Seat) → IsSameSeat first now → IsSameSeat now new → IsSameSeat first new
 same_on first now new one two = record { config = two.config ∙ one.config; number = two.number ∙ one.number; heap = two.heap ∙ one.heap }
 
+-- where its heap began
+pub start_is : (s : Seat) → start_in s.bundle ≡ start_of_seat s
+start_is s = ap start_of_key s.fits.key
+
 -- whenever no call is in progress, its calls are its part of a legal history
-pub seat_legal : (s : Seat) → is_resting (machine_of_seat s) ≡ true → ∥ ArePartOfHistory (config_of s) (number_of s + 1) (calls_of s) ∥₁
+pub seat_legal : (s : Seat) → is_resting (machine_of_seat s) ≡ true → ∥ ArePartOfHistory (config_of s) (start_of_seat s) (number_of s + 1) (calls_of s) ∥₁
 seat_legal s rest =
     let a = in_view s.bundle s.number s.here in
     let machine : machine_of_seat s ≡ a.0.machine = at_number s.bundle s.number a.0 a.1 in
     let actor : actor_in s ≡ a.0 = ap (λ o. unwrap_or o nobody) a.1 in
-    subst (λ (x : Actor). ∥ ArePartOfHistory s.config (s.number + 1) x.calls ∥₁) (sym actor)
-    (calls_are_part s.config s.number a.0 (s.reached s.number a.0 a.1) (ap is_resting (sym machine) ∙ rest))
+    let start = start_in s.bundle in
+    let reached : ∥ HasReached (heap_kind s.config) start s.number a.0 ∥₁ = subst (λ (c : Config). ∥ HasReached (heap_kind c) start s.number a.0 ∥₁) s.same_config (s.reached s.number a.0 a.1) in
+    subst (λ (x : Stage Actor). ∥ ArePartOfHistory s.config x (s.number + 1) (calls_of s) ∥₁) (start_is s)
+    (subst (λ (x : Actor). ∥ ArePartOfHistory s.config start (s.number + 1) x.calls ∥₁) (sym actor)
+    (calls_are_part s.config start s.renewable s.number a.0 reached (ap is_resting (sym machine) ∙ rest)))
 
 -- the calls after a step
 calls_after : (first now new : Seat) (made : ℕ) (said : Stepped) (told : Option Reply) → GoesOn first now made → HasStepped now new said → given_by said (machine_of_seat new) ≡ told

@@ -1,67 +1,37 @@
 -- Seats of a heap before its first event.
-use Rattle.std.proofs.Common.{◌≡◌, ◌<◌, ℕ, zero, suc, ◌+◌, ◌-◌, Bool, true, false, List, [], ◌∷◌, ◌++◌, length, map, Option, Some, None, refl, sym, ap, ◌∙◌, subst, arith}
+use Rattle.std.proofs.Common.{◌≡◌, ◌<◌, ℕ, zero, suc, ◌+◌, ◌-◌, Bool, true, false, List, [], ◌∷◌, ◌++◌, length, Option, Some, None, refl, sym, ap, ◌∙◌, subst, arith}
 use Rattle.std.specs.Prelude.{slice_get, unwrap_or, ◌%◌, if◌then◌else◌}
-use Rattle.std.specs.List.{range_with_len}
 use mathlib.Core.List.{reverse}
 use Rattle.std.specs.Option.{is_some}
 use Rattle.std.proofs.lemmas.Bool.Decides.{nat_tests}
-use Rattle.std.proofs.Math.Nat.{mod-eq_of_lt}
-use Rattle.std.proofs.lemmas.List.{get_or-reverse, length-reverse, length-map}
-use Rattle.std.proofs.lemmas.List.FromFn.{get_or-map-range_with_len, length-map-range_with_len}
+use Rattle.std.proofs.Math.Logic.{∥∥₁_elim, ∥∥₁_map}
+use Rattle.std.proofs.Math.Nat.{mod-eq_of_lt, ℕ_set}
+use Rattle.std.proofs.lemmas.List.{get_or-reverse, length-reverse}
 use Rattle.std.proofs.lemmas.Option.{slice_get_within, slice_get-get_or, get_or_from_slice_get}
 use Rattle.heap_words.specs.declared.config.Config.{Config}
 use Rattle.heap_words.specs.Ranges.{seat_count}
+use Rattle.steps_base.specs.Steps.{Stage, HasReached}
 use Rattle.shared_table.specs.Views.{View, machine_of, whole, dealt_to, is_dealt_to}
 use Rattle.shared_table.proofs.Reached.{reached_opens, reached_picked}
 use Rattle.shared_table.proofs.ViewsShow.{machine_of-whole, machine_of-picked}
-use Rattle.heap_machines.proofs.Openings.{first_count}
 use Rattle.step_core.specs.Actor.{Actor}
-use Rattle.step_core.specs.Opening.{opening, opening_actor, opening_machine}
 use Rattle.shen_graph.specs.declared.order.Order.TheVariants.{Nothing}
 use Rattle.table_heap.specs.declared.heap.Heap.{Heap}
 use Rattle.table_heap.specs.declared.bundle.Bundle.{Bundle}
-use Rattle.table_heap.specs.Core.{heap_kind, heap_opening, nobody}
-use Rattle.table_heap.specs.State.{view_of, machine_at, order_at, steps_at, orders_of, steps_of, HasMachine, IsFresh}
+use Rattle.table_heap.specs.Core.{heap_kind, start_of_key, nobody}
+use Rattle.table_heap.specs.State.{heap_of, start_of_heap, start_in, view_of, machine_at, order_at, steps_at, orders_of, steps_of, HasMachine, IsFresh}
 use Rattle.table_heap.proofs.Running.{at_number}
 use Rattle.heap_seats.specs.declared.seat.Seat.{Seat}
-use Rattle.heap_seats.specs.FreshSeats.{IsFreshSeat}
+use Rattle.heap_seats.specs.FreshSeats.{first_machine, IsFreshSeat}
+use Rattle.heap_seats.specs.Histories.{BeginsRenewable}
 use Rattle.heap_seats.specs.Known.{HaveRun, HasOnly}
 use Rattle.heap_seats.proofs.Known.{has_seen}
 
 abbrev pub seats_in : Config → ℕ
 seats_in c = seat_count c.mutators c.helpers
 
-abbrev pub dealt_in : Config → ℕ → View Actor
-dealt_in c number = dealt_to (seats_in c) number (whole (heap_opening c).machines)
-
--- the machine of a number at the opening
-opening_there : (c : Config) (number : ℕ) → number < seats_in c → slice_get (heap_opening c).machines number ≡ Some (opening_actor c number)
-unfolding opening
-opening_there c number inside =
-    let machines = map (opening_actor c) (range_with_len 0 (seats_in c)) in
-    let long : length machines ≡ seats_in c = length-map-range_with_len (opening_actor c) 0 (seats_in c) in
-    slice_get-get_or machines number nobody (omega (arith, inside, long)) ∙ ap (λ (a : Actor). Some a) (get_or-map-range_with_len (opening_actor c) 0 (seats_in c) number number nobody inside (omega arith))
-
--- is dealt to the bundle of that number
-dealt_there : (c : Config) (number : ℕ) → number < seats_in c → machine_of (dealt_in c number) number ≡ Some (opening_actor c number)
-dealt_there c number inside =
-    let same : number % seats_in c ≡ number = mod-eq_of_lt inside in
-    let is : is_dealt_to (seats_in c) number number ≡ true = grind (arith, nat_tests, same) in
-    machine_of-picked (is_dealt_to (seats_in c) number) (whole (heap_opening c).machines) number
-    ∙ ap (λ (b : Bool). if b then machine_of (whole (heap_opening c).machines) number else None) is
-    ∙ machine_of-whole (heap_opening c).machines number ∙ opening_there c number inside
-
--- and no other one
-dealt_only : (c : Config) (number k : ℕ) (a : Actor) → machine_of (dealt_in c number) k ≡ Some a → k ≡ number
-dealt_only c number k a there = by_test (is_dealt_to (seats_in c) number k) refl (sym (machine_of-picked (is_dealt_to (seats_in c) number) (whole (heap_opening c).machines) k) ∙ there)
-  where
-    by_test : (b : Bool) → is_dealt_to (seats_in c) number k ≡ b → (if b then machine_of (whole (heap_opening c).machines) k else None) ≡ Some a → k ≡ number
-    by_test true is here =
-        let within = slice_get_within (heap_opening c).machines k a (sym (machine_of-whole (heap_opening c).machines k) ∙ here) in
-        let inside : k < seats_in c = omega (arith, within, first_count c) in
-        let same : k % seats_in c ≡ k = mod-eq_of_lt inside in
-        grind (arith, nat_tests, same, is)
-    by_test false is here = absurd cc
+abbrev pub dealt_in : Config → Stage Actor → ℕ → View Actor
+dealt_in c start number = dealt_to (seats_in c) number (whole start.machines)
 
 some_of : {A : Type 0} (o : Option A) → is_some o ≡ true → (a : A) × (o ≡ Some a)
 some_of None is = absurd cc
@@ -71,34 +41,80 @@ default_or : {A : Type 0} (o : Option A) (d : A) → ((x : A) → o ≡ Some x �
 default_or None d each = refl
 default_or (Some x) d each = each x refl
 
-module _ (c : Config) (h : Heap) (b : Bundle) (number : ℕ) (inside : number < seats_in c) (fresh : IsFresh h b (dealt_in c number)) where
-  there : machine_of (view_of b) number ≡ Some (opening_actor c number)
-  there = ap (λ v. machine_of v number) fresh.machines ∙ dealt_there c number inside
+-- a list that is empty for any cause is empty
+empty_merely : {A : Type 0} (xs : List A) → ∥ xs ≡ [] ∥₁ → xs ≡ []
+empty_merely [] is = refl
+empty_merely (x ∷ xs) is = absurd (∥∥₁_elim is (hlevel) (λ e. cc))
 
-  pub fresh_here : HasMachine b number
-  fresh_here = has_seen b number ∙ ap is_some there
+-- of a heap that begins so, with a graph that can be renewed
+module _ (c : Config) (start : Stage Actor) (begins : ∥ BeginsRenewable c start ∥₁) where
+  start_long : length start.machines ≡ seats_in c
+  start_long = ∥∥₁_elim begins (hlevel ℕ_set) (λ some. some.begins.seats)
 
-  pub fresh_run : HaveRun c b
-  fresh_run k a here =
-      reached_picked (heap_kind c) (heap_opening c) (is_dealt_to (seats_in c) number) (whole (heap_opening c).machines) (reached_opens (heap_kind c) (heap_opening c)) k a
-      (ap (λ v. machine_of v k) (sym fresh.machines) ∙ here)
+  -- the actor of a number
+  start_there : (number : ℕ) → number < seats_in c → slice_get start.machines number ≡ Some (unwrap_or (slice_get start.machines number) nobody)
+  start_there number inside =
+      let long = start_long in
+      let there = slice_get-get_or start.machines number nobody (omega (arith, inside, long)) in
+      there ∙ ap (λ (o : Option Actor). Some (unwrap_or o nobody)) (sym there)
 
-  pub fresh_machine : machine_at b number ≡ opening_machine c number
-  fresh_machine = at_number b number (opening_actor c number) there
+  start_calls : (number : ℕ) → number < seats_in c → (unwrap_or (slice_get start.machines number) nobody).calls ≡ []
+  start_calls number inside = empty_merely (unwrap_or (slice_get start.machines number) nobody).calls (∥∥₁_map begins (λ some. (some.begins.machines number (unwrap_or (slice_get start.machines number) nobody) (start_there number inside)).calls))
 
-  pub fresh_order : order_at b number ≡ Nothing
-  fresh_order = default_or (machine_of (orders_of b) number) Nothing (λ order is. fresh.orders number order is)
+  -- is dealt to the bundle of that number
+  dealt_there : (number : ℕ) → number < seats_in c → machine_of (dealt_in c start number) number ≡ Some (unwrap_or (slice_get start.machines number) nobody)
+  dealt_there number inside =
+      let same : number % seats_in c ≡ number = mod-eq_of_lt inside in
+      let is : is_dealt_to (seats_in c) number number ≡ true = grind (arith, nat_tests, same) in
+      machine_of-picked (is_dealt_to (seats_in c) number) (whole start.machines) number
+      ∙ ap (λ (b : Bool). if b then machine_of (whole start.machines) number else None) is
+      ∙ machine_of-whole start.machines number ∙ start_there number inside
 
-  pub fresh_steps : steps_at b number ≡ 0
-  fresh_steps = default_or (machine_of (steps_of b) number) 0 (λ made is. fresh.steps number made is)
+  -- and no other one
+  dealt_only : (number k : ℕ) (a : Actor) → machine_of (dealt_in c start number) k ≡ Some a → k ≡ number
+  dealt_only number k a there = by_test (is_dealt_to (seats_in c) number k) refl (sym (machine_of-picked (is_dealt_to (seats_in c) number) (whole start.machines) k) ∙ there)
+    where
+      by_test : (b : Bool) → is_dealt_to (seats_in c) number k ≡ b → (if b then machine_of (whole start.machines) k else None) ≡ Some a → k ≡ number
+      by_test true is here =
+          let within = slice_get_within start.machines k a (sym (machine_of-whole start.machines k) ∙ here) in
+          let long = start_long in
+          let inside : k < seats_in c = omega (arith, within, long) in
+          let same : k % seats_in c ≡ k = mod-eq_of_lt inside in
+          grind (arith, nat_tests, same, is)
+      by_test false is here = absurd cc
 
-  pub fresh_calls : (unwrap_or (machine_of (view_of b) number) nobody).calls ≡ []
-  fresh_calls = ap (λ o. (unwrap_or o nobody).calls) there
+  module _ (h : Heap) (b : Bundle) (number : ℕ) (fresh : IsFresh h b (dealt_in c start number)) where
+    pub fresh_only : HasOnly b number
+    fresh_only k here =
+        let a = some_of (machine_of (view_of b) k) (sym (has_seen b k) ∙ here) in
+        dealt_only number k a.0 (ap (λ v. machine_of v k) (sym fresh.machines) ∙ a.1)
 
-pub fresh_only : (c : Config) (h : Heap) (b : Bundle) (number : ℕ) → IsFresh h b (dealt_in c number) → HasOnly b number
-fresh_only c h b number fresh k here =
-    let a = some_of (machine_of (view_of b) k) (sym (has_seen b k) ∙ here) in
-    dealt_only c number k a.0 (ap (λ v. machine_of v k) (sym fresh.machines) ∙ a.1)
+    module _ (inside : number < seats_in c) where
+      there : machine_of (view_of b) number ≡ Some (unwrap_or (slice_get start.machines number) nobody)
+      there = ap (λ v. machine_of v number) fresh.machines ∙ dealt_there number inside
+
+      pub fresh_here : HasMachine b number
+      fresh_here = has_seen b number ∙ ap is_some there
+
+      pub fresh_machine : machine_at b number ≡ first_machine start number
+      fresh_machine = at_number b number (unwrap_or (slice_get start.machines number) nobody) there
+
+      pub fresh_order : order_at b number ≡ Nothing
+      fresh_order = default_or (machine_of (orders_of b) number) Nothing (λ order is. fresh.orders number order is)
+
+      pub fresh_steps : steps_at b number ≡ 0
+      fresh_steps = default_or (machine_of (steps_of b) number) 0 (λ made is. fresh.steps number made is)
+
+      pub fresh_calls : (unwrap_or (machine_of (view_of b) number) nobody).calls ≡ []
+      fresh_calls = ap (λ o. (unwrap_or o nobody).calls) there ∙ start_calls number inside
+
+-- its machines stand as in a run of no event
+pub fresh_run : (c : Config) (h : Heap) (b : Bundle) (number : ℕ) → IsFresh h b (dealt_in c (start_of_heap h) number) → HaveRun b
+fresh_run c h b number fresh k a here =
+    let kind = heap_kind (heap_of b) in
+    let start : start_in b ≡ start_of_heap h = ap start_of_key fresh.of.key in
+    subst (λ (s : Stage Actor). ∥ HasReached kind s k a ∥₁) (sym start)
+    (reached_picked kind (start_of_heap h) (is_dealt_to (seats_in c) number) (whole (start_of_heap h).machines) (reached_opens kind (start_of_heap h)) k a (ap (λ v. machine_of v k) (sym fresh.machines) ∙ here))
 
 -- ---- lists
 
@@ -120,23 +136,23 @@ get_init (y ∷ xs) ys (suc k) x there = get_init xs ys k x there
 -- the bundles that are left, the last one for the next seat, and the seats so far
 pub record Opens (c : Config) (h : Heap) (bundles : List Bundle) (seats : List Seat) (number : ℕ) : Type 0 where
   pub count : length bundles + number ≡ seats_in c
-  pub left : (k : ℕ) (b : Bundle) → slice_get bundles k ≡ Some b → IsFresh h b (dealt_in c (seats_in c - 1 - k))
+  pub left : (k : ℕ) (b : Bundle) → slice_get bundles k ≡ Some b → IsFresh h b (dealt_in c (start_of_heap h) (seats_in c - 1 - k))
   pub long : length seats ≡ number
   pub each : (k : ℕ) (s : Seat) → slice_get seats k ≡ Some s → IsFreshSeat c h k s
 
-pub opens_first : (c : Config) (h : Heap) (bundles : List Bundle) → length bundles ≡ seats_in c → ((k : ℕ) (b : Bundle) → slice_get bundles k ≡ Some b → IsFresh h b (dealt_in c k)) → Opens c h (reverse bundles) [] 0
+pub opens_first : (c : Config) (h : Heap) (bundles : List Bundle) → length bundles ≡ seats_in c → ((k : ℕ) (b : Bundle) → slice_get bundles k ≡ Some b → IsFresh h b (dealt_in c (start_of_heap h) k)) → Opens c h (reverse bundles) [] 0
 opens_first c h bundles count each = record {
   count = omega (arith, count, length-reverse bundles);
-  left = λ k b there. subst (λ n. IsFresh h b (dealt_in c (n - 1 - k))) count (each (length bundles - 1 - k) b (get_reversed bundles k b there));
+  left = λ k b there. subst (λ n. IsFresh h b (dealt_in c (start_of_heap h) (n - 1 - k))) count (each (length bundles - 1 - k) b (get_reversed bundles k b there));
   long = refl;
   each = λ k s there. absurd cc;
 }
 
-pub last_fresh : (c : Config) (h : Heap) (before after : List Bundle) (b : Bundle) (seats : List Seat) (number : ℕ) → Opens c h before seats number → before ≡ after ++ b ∷ [] → IsFresh h b (dealt_in c number)
+pub last_fresh : (c : Config) (h : Heap) (before after : List Bundle) (b : Bundle) (seats : List Seat) (number : ℕ) → Opens c h before seats number → before ≡ after ++ b ∷ [] → IsFresh h b (dealt_in c (start_of_heap h) number)
 last_fresh c h before after b seats number opens is =
     let long : length before ≡ length after + 1 = ap length is ∙ Rattle.std.proofs.lemmas.List.length-append after (b ∷ []) in
     let which : seats_in c - 1 - length after ≡ number = omega (arith, long, opens.count) in
-    subst (λ n. IsFresh h b (dealt_in c n)) which (opens.left (length after) b (ap (λ xs. slice_get xs (length after)) is ∙ get_last after b))
+    subst (λ n. IsFresh h b (dealt_in c (start_of_heap h) n)) which (opens.left (length after) b (ap (λ xs. slice_get xs (length after)) is ∙ get_last after b))
 
 pub opens_next : (c : Config) (h : Heap) (before after : List Bundle) (b : Bundle) (seats : List Seat) (s : Seat) (number : ℕ) → Opens c h before seats number → before ≡ after ++ b ∷ [] → IsFreshSeat c h number s → Opens c h after (seats ++ s ∷ []) (number + 1)
 opens_next c h before after b seats s number opens is fresh =

@@ -1,5 +1,6 @@
 -- What a step of its bundle is to a seat.
-use Rattle.std.proofs.Common.{◌≡◌, ℕ, zero, suc, ◌+◌, Bool, true, [], ◌∷◌, Some, refl, sym, ap, ◌∙◌}
+use Rattle.std.proofs.Common.{◌≡◌, ℕ, zero, suc, ◌+◌, Bool, true, [], ◌∷◌, Some, refl, sym, ap, ◌∙◌, subst}
+use Rattle.std.proofs.Math.Nat.{ℕ_set}
 use Rattle.std.specs.Prelude.{slice_set, slice_get, unwrap_or, ◌++◌, if◌then◌else◌}
 use Rattle.heap_words.specs.declared.config.Config.{Config}
 use Rattle.shen_graph.specs.declared.command.Command.{Command}
@@ -25,20 +26,21 @@ use Rattle.step_core.specs.Begins.{Run, ending}
 use Rattle.step_core.specs.Machines.{takes_of, took_of, answer_of, machine_after, ended_by}
 use Rattle.step_core.proofs.Theorem.EveryList.{run_sound}
 use Rattle.table_heap.specs.declared.bundle.Bundle.{Bundle}
-use Rattle.table_heap.specs.Core.{heap_kind, heap_opening, nobody}
-use Rattle.table_heap.specs.State.{view_of, orders_of, machine_at, order_at, steps_at, IsBundleStep}
-use Rattle.table_heap.proofs.Core.{kind_takes, kind_took, run_of}
+use Rattle.table_heap.specs.declared.key.HeapKey.{HeapKey}
+use Rattle.table_heap.specs.Core.{heap_kind, start_of_key, nobody}
+use Rattle.table_heap.specs.State.{start_in, view_of, orders_of, machine_at, order_at, steps_at, IsBundleStep}
+use Rattle.table_heap.proofs.Core.{kind_takes, kind_took, begun, run_from}
 use Rattle.table_heap.proofs.MachineUnder.{put_there}
 use Rattle.table_heap.proofs.Running.{at_number}
 use Rattle.table_heap.proofs.Said.{done_by}
 use Rattle.heap_seats.specs.Going.{given_by, said_of_step}
 
 -- a mutator that some events lead to has its number as its seat
-seat_found : (c : Config) (number : ℕ) (a : Actor) (order : Order) (got : ℕ) → Finds (heap_kind c) (heap_opening c) number a order got → (m : Mutating) → a.machine ≡ mutating m → m.seat ≡ number
-seat_found c number a order got finds m is =
-    let run : Run c = run_of c finds.reached.events in
-    let here : slice_get (ending pause_image c run).machines number ≡ Some a = ap (λ s. slice_get s.machines number) finds.reached.ends ∙ finds.here in
-    ((run_sound pause_image heap_pauses c run).of_heap.numbers number a m (record { here = here; is = is })).0
+seat_found : (k : HeapKey) (number : ℕ) (a : Actor) (order : Order) (got : ℕ) → Finds (heap_kind k.config) (start_of_key k) number a order got → (m : Mutating) → a.machine ≡ mutating m → m.seat ≡ number
+seat_found k number a order got finds m is = begun k (m.seat ≡ number) (hlevel ℕ_set) (λ g begins.
+    let run : Run k.config = run_from k.config (start_of_key k) g begins finds.reached.events in
+    let here : slice_get (ending pause_image k.config run).machines number ≡ Some a = ap (λ s. slice_get s.machines number) finds.reached.ends ∙ finds.here in
+    ((run_sound pause_image heap_pauses k.config run).of_heap.numbers number a m (record { here = here; is = is })).0)
 
 -- who gives a reply goes on under no order
 leaves_free : (spot : Spot) (made : ℕ) (order : Order) (command : Command) (r : Reply) → given_at spot ≡ Some r → takes_at spot made order ≡ true → command_by order command ≡ command
@@ -115,6 +117,9 @@ module _ (old new : Bundle) (number : ℕ) (said : Stepped) (step : IsBundleStep
   pub answers_then : said ≡ said_of_step old.config order (machine_at old number) step.got
   answers_then = step.said_is ∙ sym (ap (λ (turn : Bool). if turn then says old.config order (machine_at old number) step.got else stepped.Idle) (ap (λ m. takes_of m order) machine_was ∙ takes))
 
+  finds : Finds (heap_kind old.key.value.config) (start_in old) number was order step.got
+  finds = subst (λ (c : Config). Finds (heap_kind c) (start_in old) number was order step.got) (sym old.same_sizes) step.took.finds
+
   ended : ended_by was.command was.machine ≡ entries_of number (command_by order was.command) (given_by said then_is.machine)
   ended = by_said said said_is
     where
@@ -125,7 +130,7 @@ module _ (old new : Bundle) (number : ℕ) (said : Stepped) (step : IsBundleStep
       by_said stepped.Done is =
           let gives = done_gives old.config order was.machine step.got (done_by (answer_of old.config order was.machine step.got) (sym is)) in
           let given = given_after pause_image old.config order step.got was.machine gives.0 gives.1 in
-          ended_with was.machine was.command number order gives.0 gives.1 takes (seat_found old.config number was order step.got step.took.finds)
+          ended_with was.machine was.command number order gives.0 gives.1 takes (seat_found old.key.value number was order step.got finds)
           ∙ ap (entries_of number (command_by order was.command)) (sym given.replied)
       by_said stepped.More is = none stepped.More (λ e. absurd cc) is
       by_said stepped.Again is = none stepped.Again (λ e. absurd cc) is

@@ -11,7 +11,7 @@ use Rattle.shared_table.proofs.Numbers.{all_here}
 use Rattle.step_core.specs.Settled.{control_number}
 use Rattle.table_heap.specs.declared.heap.Heap.{Heap}
 use Rattle.table_heap.specs.Core.{machine_in}
-use Rattle.table_heap.specs.State.{view_of as bundle_view}
+use Rattle.table_heap.specs.State.{view_of as bundle_view, start_of_heap}
 use Rattle.table_heap.specs.Gathered.{view_of, HasAllOf, StandInRun}
 use Rattle.heap_seats.specs.declared.seat.Seat.{Seat}
 use Rattle.heap_seats.specs.declared.gathering.Begun.{Begun}
@@ -82,28 +82,35 @@ module _ (b : Begun) (seats : List Seat) (given : AreTogether seats b) (all : Ar
   pub all_gathered : HasAllOf (sizes_begun b) b.machines
   all_gathered = record { long = given.long; each = each_here (sizes_begun b) (heap_begun b) seats (view_of b.machines) all given.machines }
 
-  pub one_history : AreOver (sizes_begun b) seats → StandInRun (sizes_begun b) b.machines → HaveHistory seats
+  pub one_history : AreOver (sizes_begun b) seats → StandInRun (heap_begun b) b.machines → HaveHistory seats
   one_history over run =
       let view = view_of b.machines in
       let is_whole : view ≡ whole (machines_of view) = all_here view (λ k below. all_gathered.each k (let long = given.long in omega (arith, below, long))) in
       let found = history_there (sizes_begun b) (heap_begun b) seats view all given.machines (record { words = run.words; machines = machines_of view }) is_whole over run.reached in
-      record { sizes = sizes_begun b; config = all.config; events = found.0; history = found.2 }
+      record {
+        sizes = sizes_begun b;
+        start = start_of_heap (heap_begun b);
+        config = all.config;
+        begun = λ k s there. ap (λ (h : Heap). start_of_heap h) (all.heap k s there);
+        events = found.0;
+        history = found.2;
+      }
 
 -- seats that make up a heap are all seats of it
-module _ (b : Begun) (seats : List Seat) (begun : AreBegun seats b) (up : MakeUpHeap seats) where
-  heaps : (k : ℕ) (s : Seat) → slice_get seats k ≡ Some s → heap_shared s ≡ heap_begun b
-  heaps k s there = up.heap k 0 s begun.first there begun.there ∙ begun.heap
+module _ (h : Heap) (seats : List Seat) (first : Seat) (there : slice_get seats 0 ≡ Some first) (of : heap_shared first ≡ h) (up : MakeUpHeap seats) where
+  heaps : (k : ℕ) (s : Seat) → slice_get seats k ≡ Some s → heap_shared s ≡ h
+  heaps k s here = up.heap k 0 s first here there ∙ of
 
-  sizes : (k : ℕ) (s : Seat) → slice_get seats k ≡ Some s → config_of s ≡ sizes_begun b
-  sizes k s there = config_of_heap s ∙ ap (λ (h : Heap). h.config) (heaps k s there)
+  sizes : (k : ℕ) (s : Seat) → slice_get seats k ≡ Some s → config_of s ≡ h.config
+  sizes k s here = config_of_heap s ∙ ap (λ (g : Heap). g.config) (heaps k s here)
 
-  pub all_seats : AreAllSeats (sizes_begun b) (heap_begun b) seats
+  pub all_seats : AreAllSeats h.config h seats
   all_seats = record {
-    count = sym (up.count 0 begun.first begun.there) ∙ ap (λ (c : Config). seat_count c.mutators c.helpers) (sizes 0 begun.first begun.there);
+    count = sym (up.count 0 first there) ∙ ap (λ (c : Config). seat_count c.mutators c.helpers) (sizes 0 first there);
     config = sizes;
     heap = heaps;
     number = up.number;
   }
 
-  pub all_over : AreOver (sizes_begun b) seats
-  all_over k s there role = up.over k s there (subst (λ (c : Config). (k < c.mutators) ⊎ (k ≡ control_number c)) (sym (sizes k s there)) role)
+  pub all_over : AreOver h.config seats
+  all_over k s here role = up.over k s here (subst (λ (c : Config). (k < c.mutators) ⊎ (k ≡ control_number c)) (sym (sizes k s here)) role)

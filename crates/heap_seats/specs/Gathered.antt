@@ -4,7 +4,8 @@ use Rattle.std.specs.Arc.{arc_value}
 use Rattle.heap_words.specs.declared.config.Config.{Config}
 use Rattle.heap_words.specs.Ranges.{seat_count}
 use Rattle.shen_graph.specs.declared.order.Order.{Order}
-use Rattle.steps_base.specs.Steps.{Event}
+use Rattle.steps_base.specs.Steps.{Stage, Event}
+use Rattle.step_core.specs.Actor.{Actor}
 use Rattle.step_core.specs.Settled.{control_number}
 use Rattle.table_heap.specs.declared.heap.Heap.{Heap}
 use Rattle.table_heap.specs.State.{config_of as heap_sizes}
@@ -13,7 +14,8 @@ use Rattle.heap_seats.specs.declared.progress.State.TheVariants.{Ended}
 use Rattle.heap_seats.specs.declared.seat.Seat.{Seat}
 use Rattle.heap_seats.specs.declared.gathering.Begun.{Begun}
 use Rattle.heap_seats.specs.declared.gathering.Gathering.{Gathering}
-use Rattle.heap_seats.specs.Seats.{config_of, number_of, heap_shared, state_in}
+use Rattle.heap_seats.specs.Histories.{OfEachBegun}
+use Rattle.heap_seats.specs.Seats.{config_of, number_of, heap_shared, start_of_seat, state_in}
 use Rattle.heap_seats.specs.GivenUp.{AreMachinesOf, IsHistoryOf}
 
 -- any two of them are of one heap
@@ -32,12 +34,15 @@ pub record MakeUpHeap (seats : List Seat) : Type 0 where
   pub count : (k : ℕ) (s : Seat) → slice_get seats k ≡ Some s → seat_count (config_of s).mutators (config_of s).helpers ≡ length seats
   pub over : (k : ℕ) (s : Seat) → slice_get seats k ≡ Some s → (k < (config_of s).mutators) ⊎ (k ≡ control_number (config_of s)) → state_in s ≡ Ended
 
--- They are of one configuration, and some events from its opening have the history of these seats.
+-- They are of one configuration and of one start, and some events from there have the history of these seats, from each graph with which their heap may
+-- have begun.
 pub record HaveHistory (seats : List Seat) : Type 0 where
   pub sizes : Config
+  pub start : Stage Actor
   pub config : (k : ℕ) (s : Seat) → slice_get seats k ≡ Some s → config_of s ≡ sizes
+  pub begun : (k : ℕ) (s : Seat) → slice_get seats k ≡ Some s → start_of_seat s ≡ start
   pub events : List (Event Order)
-  pub history : IsHistoryOf sizes seats events
+  pub history : OfEachBegun sizes start (IsHistoryOf sizes start seats events)
 
 -- the heap of the first seat that was gathered, and its sizes
 abbrev pub heap_begun : Begun → Heap

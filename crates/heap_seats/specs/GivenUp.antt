@@ -4,33 +4,34 @@ use Rattle.std.specs.Arc.{arc_value}
 use Rattle.heap_words.specs.declared.config.Config.{Config}
 use Rattle.heap_words.specs.Ranges.{seat_count}
 use Rattle.shen_graph.specs.declared.order.Order.{Order}
-use Rattle.shen_graph.specs.Crowd.{AreCrowded}
-use Rattle.shen_graph.specs.History.{EachIsLegal, of_thread}
-use Rattle.steps_base.specs.Steps.{Event}
-use Rattle.heap_machines.specs.Pause.{pause_image}
+use Rattle.shen_graph.specs.Graph.{Graph}
+use Rattle.shen_graph.specs.History.{of_thread}
+use Rattle.steps_base.specs.Steps.{Stage, Event}
 use Rattle.shared_table.specs.Views.{View, machine_of}
 use Rattle.step_core.specs.Actor.{Actor}
-use Rattle.step_core.specs.Begins.{reached, first_graph, past}
-use Rattle.step_core.specs.Begun.{scripts_begun}
 use Rattle.step_core.specs.Settled.{control_number}
 use Rattle.step_core.specs.Threads.{IsSettled}
 use Rattle.table_heap.specs.declared.closed.Closed.{Closed as Left}
 use Rattle.table_heap.specs.declared.heap.Heap.{Heap}
 use Rattle.table_heap.specs.declared.bundle.Bundle.{Bundle}
 use Rattle.table_heap.specs.Closed as closed
-use Rattle.table_heap.specs.State.{config_of as heap_sizes, view_of, IsBundleOf}
+use Rattle.table_heap.specs.State.{config_of as heap_sizes, start_of_heap, view_of, IsBundleOf}
 use Rattle.heap_seats.specs.declared.progress.State.TheVariants.{Ended}
 use Rattle.heap_seats.specs.declared.seat.Seat.{Seat}
 use Rattle.heap_seats.specs.declared.closing.Closing.{Closing}
+use Rattle.heap_seats.specs.Histories.{led, past_of, IsLegalFrom, OfEachBegun}
 use Rattle.heap_seats.specs.Seats.{config_of, number_of, heap_shared, actor_in, calls_of, state_in}
 
 -- the heap of seats that are given up together
 abbrev pub heap_closing : Closing → Heap
 heap_closing closing = arc_value closing.heap
 
--- and its sizes
+-- its sizes, and where it began
 abbrev pub sizes_closing : Closing → Config
 sizes_closing closing = heap_sizes (heap_closing closing)
+
+abbrev pub start_closing : Closing → Stage Actor
+start_closing closing = start_of_heap (heap_closing closing)
 
 -- none of them has this number
 abbrev pub HaveNot : List Seat → ℕ → Type 0
@@ -68,16 +69,21 @@ pub record MayEndHeap (closing : Closing) : Type 0 where
   pub all : AreAllSeats (sizes_closing closing) (heap_closing closing) seats
   pub over : AreOver (sizes_closing closing) seats
 
--- The history of these events is legal, and each allocation that it refuses was crowded out. Each of its entries is a mutator's, and the part
--- of each mutator is the calls of its seat: each call stands there once, in the order in which the seat was answered, and no other.
-pub record IsHistoryOf (c : Config) (seats : List Seat) (events : List (Event Order)) : Type 0 where
-  pub legal : EachIsLegal c.regions c.region_words (first_graph c) (past pause_image c events)
-  pub crowded : AreCrowded c.regions c.region_words (first_graph c) (scripts_begun c (reached pause_image c events)) (past pause_image c events)
-  pub entries : All (IsSettled c.mutators) (past pause_image c events)
-  pub parts : (k : ℕ) (s : Seat) → slice_get seats k ≡ Some s → k < c.mutators → of_thread (past pause_image c events) (k + 1) ≡ calls_of s
+-- From this graph the history of these events is legal, and each allocation that it refuses was crowded out. Each of its entries is a mutator's, and
+-- the part of each mutator is the calls of its seat: each call stands there once, in the order in which the seat was answered, and no other.
+pub record IsHistoryOf (c : Config) (start : Stage Actor) (seats : List Seat) (events : List (Event Order)) (first : Graph) : Type 0 where
+  pub legal : IsLegalFrom c start events first
+  pub entries : All (IsSettled c.mutators) (past_of c start events)
+  pub parts : (k : ℕ) (s : Seat) → slice_get seats k ≡ Some s → k < c.mutators → of_thread (past_of c start events) (k + 1) ≡ calls_of s
 
--- Some events lead from the opening to just the words and machines that are left, and their history is that of the seats.
-pub record HaveOneHistory (c : Config) (seats : List Seat) (left : Left) : Type 0 where
+-- Some events lead from where the heap began to just the words and machines that are left, and their history is that of the seats, from each graph
+-- with which the heap may have begun.
+pub record HaveOneHistory (c : Config) (start : Stage Actor) (seats : List Seat) (left : Left) : Type 0 where
   pub events : List (Event Order)
-  pub ends : reached pause_image c events ≡ closed.stage_of left
-  pub history : IsHistoryOf c seats events
+  pub ends : led c start events ≡ closed.stage_of left
+  pub history : OfEachBegun c start (IsHistoryOf c start seats events)
+
+-- the machines that are left are those of these seats
+pub record AreMachinesLeft (seats : List Seat) (left : Left) : Type 0 where
+  pub count : length (closed.machines_of left) ≡ length seats
+  pub each : (k : ℕ) (s : Seat) → slice_get seats k ≡ Some s → slice_get (closed.machines_of left) k ≡ Some (actor_in s)

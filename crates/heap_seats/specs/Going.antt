@@ -4,31 +4,33 @@ use Rattle.heap_words.specs.declared.config.Config.{Config}
 use Rattle.shen_graph.specs.declared.command.Reply.{Reply}
 use Rattle.shen_graph.specs.declared.order.Order.{Order}
 use Rattle.shen_graph.specs.declared.order.Order.TheVariants.{Nothing}
-use Rattle.shen_graph.specs.History.{Entry, EachIsLegal, of_thread}
-use Rattle.shen_graph.specs.Crowd.{AreCrowded}
-use Rattle.steps_base.specs.Steps.{Event}
+use Rattle.shen_graph.specs.Graph.{Graph}
+use Rattle.shen_graph.specs.History.{Entry, of_thread}
+use Rattle.steps_base.specs.Steps.{Stage, Event}
 use Rattle.heap_machines.specs.Answer.{says}
 use Rattle.heap_machines.specs.Pause.{pause_image}
 use Rattle.heap_machines.specs.declared.stepped.Stepped.{Stepped}
 use Rattle.heap_machines.specs.declared.stepped.Stepped.TheVariants as stepped
-use Rattle.step_core.specs.Actor.{Machine, entries_of}
-use Rattle.step_core.specs.Begins.{first_graph, reached, past}
-use Rattle.step_core.specs.Begun.{scripts_begun}
+use Rattle.step_core.specs.Actor.{Machine, Actor, entries_of}
 use Rattle.step_core.specs.Machines.{is_resting, reply_in, takes_of, machine_after}
 use Rattle.heap_seats.specs.declared.progress.State.{State}
 use Rattle.heap_seats.specs.declared.progress.State.TheVariants.{Free, AtWork, Ended}
 use Rattle.heap_seats.specs.declared.progress.Progress.{Progress}
 use Rattle.heap_seats.specs.declared.progress.Progress.TheVariants as progress
 use Rattle.heap_seats.specs.declared.seat.Seat.{Seat}
-use Rattle.heap_seats.specs.Seats.{config_of, number_of, actor_in, machine_of_seat, order_in, steps_in, calls_of, doing_in, is_mutator, state_in, IsSameSeat}
+use Rattle.heap_seats.specs.Histories.{past_of, IsLegalFrom, OfEachBegun}
+use Rattle.heap_seats.specs.Seats.{config_of, number_of, start_of_seat, actor_in, machine_of_seat, order_in, steps_in, calls_of, doing_in, is_mutator, state_in, IsSameSeat}
 
--- Calls of a thread are its part of the history of some events from the opening. That history is legal, and each allocation that it
--- refuses was crowded out.
-pub record ArePartOfHistory (c : Config) (thread : ℕ) (calls : List Entry) : Type 0 where
+-- Calls of a thread are its part of the history of these events, which is legal from a graph.
+pub record IsPartOf (c : Config) (start : Stage Actor) (events : List (Event Order)) (thread : ℕ) (calls : List Entry) (first : Graph) : Type 0 where
+  pub legal : IsLegalFrom c start events first
+  pub part : of_thread (past_of c start events) thread ≡ calls
+
+-- They are its part of the history of some events from where its heap began. That history is legal, and each allocation that it
+-- refuses was crowded out, from each graph with which the heap may have begun.
+pub record ArePartOfHistory (c : Config) (start : Stage Actor) (thread : ℕ) (calls : List Entry) : Type 0 where
   pub events : List (Event Order)
-  pub legal : EachIsLegal c.regions c.region_words (first_graph c) (past pause_image c events)
-  pub crowded : AreCrowded c.regions c.region_words (first_graph c) (scripts_begun c (reached pause_image c events)) (past pause_image c events)
-  pub part : of_thread (past pause_image c events) thread ≡ calls
+  pub history : OfEachBegun c start (IsPartOf c start events thread calls)
 
 -- nothing has changed
 pub record IsAsItWas (old new : Seat) : Type 0 where
@@ -126,4 +128,4 @@ pub record HasGoneOn (old new : Seat) (steps : ℕ) (said : Progress) : Type 0 w
   pub told : FitsState said (machine_of_seat new) (state_in new)
   pub idle : said ≡ progress.Idle → IsAsItWas old new
   pub worker : is_mutator new ≡ false → is_of_worker said ≡ true
-  pub legal : is_resting (machine_of_seat new) ≡ true → ∥ ArePartOfHistory (config_of new) (number_of new + 1) (calls_of new) ∥₁
+  pub legal : is_resting (machine_of_seat new) ≡ true → ∥ ArePartOfHistory (config_of new) (start_of_seat new) (number_of new + 1) (calls_of new) ∥₁

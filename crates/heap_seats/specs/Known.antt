@@ -1,14 +1,12 @@
--- What every owner of machines knows of them: each stands as it does in some run of the heap from its opening.
+-- What every owner of machines knows of them: each stands as it does in some run of the heap from where it began.
 use Rattle.std.specs.Prelude.{ℕ, ◌≡◌}
-use Rattle.heap_words.specs.declared.config.Config.{Config}
 use Rattle.shared_table.specs.Rule.{AreReached}
 use Rattle.table_heap.specs.declared.bundle.Bundle.{Bundle}
-use Rattle.table_heap.specs.Core.{heap_kind, heap_opening}
-use Rattle.table_heap.specs.State.{view_of}
-use Rattle.table_heap.specs.State.{view_of, HasMachine}
+use Rattle.table_heap.specs.Core.{heap_kind}
+use Rattle.table_heap.specs.State.{heap_of, start_in, view_of, HasMachine}
 
-abbrev pub HaveRun : Config → Bundle → Type 0
-HaveRun c b = AreReached (heap_kind c) (heap_opening c) (view_of b)
+abbrev pub HaveRun : Bundle → Type 0
+HaveRun b = AreReached (heap_kind (heap_of b)) (start_in b) (view_of b)
 
 -- it has no machine but the one of this number
 abbrev pub HasOnly : Bundle → ℕ → Type 0

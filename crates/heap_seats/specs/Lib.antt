@@ -1,7 +1,10 @@
 pub mod Seats
 pub mod Known
+pub mod Histories
 pub mod Ordering
 pub mod Going
 pub mod FreshSeats
 pub mod GivenUp
 pub mod Gathered
+pub mod Renewed
+pub mod Renewing

@@ -6,13 +6,14 @@ use Rattle.heap_words.specs.declared.place.Place.{Place}
 use Rattle.shen_graph.specs.declared.command.Command.{Command}
 use Rattle.shen_graph.specs.declared.order.Order.{Order}
 use Rattle.shen_graph.specs.History.{Entry}
+use Rattle.steps_base.specs.Steps.{Stage}
 use Rattle.shared_table.specs.Views.{machine_of}
 use Rattle.step_core.specs.Actor.{Machine, Actor, command_by}
 use Rattle.step_core.specs.Machines.{may_begin, made_of_machine, place_in}
 use Rattle.heap_machines.specs.Roles.{phase_in}
 use Rattle.table_heap.specs.declared.heap.Heap.{Heap}
 use Rattle.table_heap.specs.Core.{nobody}
-use Rattle.table_heap.specs.State.{view_of, machine_at, order_at, steps_at, has_turn}
+use Rattle.table_heap.specs.State.{start_of_heap, view_of, machine_at, order_at, steps_at, has_turn}
 use Rattle.heap_seats.specs.declared.progress.State.{State}
 use Rattle.heap_seats.specs.declared.progress.State.TheVariants.{Free, AtWork, Ended}
 use Rattle.heap_seats.specs.declared.seat.Seat.{Seat}
@@ -26,6 +27,10 @@ number_of s = s.number
 
 abbrev pub heap_shared : Seat → Heap
 heap_shared s = arc_value s.heap
+
+-- where that heap began
+abbrev pub start_of_seat : Seat → Stage Actor
+start_of_seat s = start_of_heap (heap_shared s)
 
 -- its machine, as events see it, with the calls that it has ended
 abbrev pub actor_in : Seat → Actor

@@ -19,7 +19,7 @@ impl Closing {
     ghost use Rattle.table_heap.specs.Closed as ends;
     ghost use Rattle.heap_seats.specs.declared.seat.Seat.{Seat as Seats};
     ghost use Rattle.heap_seats.specs.Seats.{number_of, heap_shared};
-    ghost use Rattle.heap_seats.specs.GivenUp.{heap_closing, sizes_closing, AreGivenUp, HaveNot, AreAllSeats, AreOver, MayEndHeap, HaveOneHistory};
+    ghost use Rattle.heap_seats.specs.GivenUp.{heap_closing, sizes_closing, start_closing, AreGivenUp, HaveNot, AreAllSeats, AreOver, MayEndHeap, HaveOneHistory, AreMachinesLeft};
 
     /// The first seat of a heap that is given up.
     pub fn of(seat: Seat) -> Closing
@@ -54,7 +54,8 @@ impl Closing {
     pub fn end(self) -> Option<Closed>
         requires whole { MayEndHeap self }
         ensures config { IfSome result (λ left. ends.config_of left ≡ sizes_closing self) }
-        ensures history { (seats : List Seats) → AreGivenUp seats self → AreAllSeats (sizes_closing self) (heap_closing self) seats → AreOver (sizes_closing self) seats → IfSome result (λ left. HaveOneHistory (sizes_closing self) seats left) }
+        ensures history { (seats : List Seats) → AreGivenUp seats self → AreAllSeats (sizes_closing self) (heap_closing self) seats → AreOver (sizes_closing self) seats → IfSome result (λ left. HaveOneHistory (sizes_closing self) (start_closing self) seats left) }
+        ensures machines { (seats : List Seats) → AreGivenUp seats self → AreAllSeats (sizes_closing self) (heap_closing self) seats → IfSome result (λ left. AreMachinesLeft seats left) }
         ensures rest { IfSome result (λ left. ends.AllRest left) }
     {
         let Closing { heap, together } = self;

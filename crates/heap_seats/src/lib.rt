@@ -6,12 +6,16 @@ mod closing;
 mod gathering;
 mod opening;
 mod progress;
+mod renewing;
+mod room;
 mod seat;
 mod share;
 
 pub use closing::Closing;
 pub use gathering::Gathering;
-pub use opening::open_seats;
+pub use opening::{open_seats, open_seats_from};
 pub use progress::{Progress, Refused, State};
+pub use renewing::{Following, Renewal};
+pub use room::RenewalRoom;
 pub use seat::Seat;
 pub use share::Share;

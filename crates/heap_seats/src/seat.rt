@@ -1,6 +1,7 @@
 ghost use Rattle.std.specs.Prelude.{◌≡◌};
 ghost use Rattle.std.specs.Arc.{arc_value};
-ghost use Rattle.table_heap.specs.State.{IsBundleOf, HasMachine, heap_of};
+ghost use Rattle.table_heap.specs.State.{IsBundleOf, HasMachine, heap_of, start_in};
+ghost use Rattle.heap_seats.specs.Histories.{BeginsRenewable};
 ghost use Rattle.heap_seats.specs.Known.{HaveRun, HasOnly};
 
 use crate::progress::{Progress, Refused, State};
@@ -21,15 +22,15 @@ pub struct Seat {
     ghost here: { HasMachine bundle number },
     ghost only: { HasOnly bundle number },
     ghost same_config: { heap_of bundle ≡ config },
-    ghost reached: { HaveRun config bundle },
+    ghost reached: { HaveRun bundle },
+    ghost renewable: { ∥ BeginsRenewable config (start_in bundle) ∥₁ },
 }
 
 impl Seat {
     ghost use Rattle.std.specs.Prelude.{◌<◌, ◌≢◌, ◌↔◌, true, false, None, if◌then◌else◌, OnErr, OnOk, IfOk};
     ghost use Rattle.heap_words.specs.Ranges.{seat_count};
     ghost use Rattle.shared_table.specs.Views.{whole, dealt_to};
-    ghost use Rattle.table_heap.specs.Core.{heap_opening};
-    ghost use Rattle.table_heap.specs.State.{IsFresh, config_of as heap_config};
+    ghost use Rattle.table_heap.specs.State.{IsFresh, config_of as heap_config, start_of_heap};
     ghost use Rattle.heap_seats.specs.FreshSeats.{IsFreshSeat};
     ghost use Rattle.std.specs.Result.{result_err};
     ghost use Rattle.shen_graph.specs.Valid.{is_valid};
@@ -48,8 +49,9 @@ impl Seat {
         number: usize,
     ) -> Result<Seat, NoMemory>
         requires config { heap_config (arc_value heap.now) ≡ config }
-        requires fresh { IsFresh (arc_value heap.now) bundle (dealt_to (seat_count config.mutators config.helpers) number (whole (heap_opening config).machines)) }
+        requires fresh { IsFresh (arc_value heap.now) bundle (dealt_to (seat_count config.mutators config.helpers) number (whole (start_of_heap (arc_value heap.now)).machines)) }
         requires inside { number < seat_count config.mutators config.helpers }
+        requires begins { ∥ BeginsRenewable config (start_of_heap (arc_value heap.now)) ∥₁ }
         ensures { IfOk result (λ seat. IsFreshSeat config (arc_value heap.now) number seat) }
     {
         let Ok(heap) = Arc::try_clone(heap) else {

@@ -37,7 +37,7 @@ use Rattle.heap_machines.specs.Shown.{no_machine}
 use Rattle.heap_machines.proofs.Pauses.{heap_pauses}
 use Rattle.heap_machines.proofs.Openings.{first_actor, first_rests, first_free_to_begin, first_made}
 use Rattle.shen_core.specs.Runs.{WordsShow}
-use Rattle.shen_core.specs.FromImage.{CanBeginFrom}
+use Rattle.heap_machines.specs.FromImage.{CanBeginFrom}
 
 -- who rests is not in the heap
 resting_outside : (m : Machine) → is_resting m ≡ true → is_within (standing_of m) ≡ false

@@ -25,10 +25,7 @@ use Rattle.heap_machines.proofs.Openings.{first_actor, first_free_to_begin, firs
 use Rattle.step_core.specs.Machines.{may_begin, made_of_machine}
 use Rattle.step_core.specs.Opening.{opening_machine, opening_actor}
 
--- it is still a bundle of the heap, and has its machines
-pub same_of : (old new : Bundle) (h : Heap) → IsSameBundle old new → IsBundleOf old h → IsBundleOf new h
-same_of old new h same of = record { table = same.table ∙ of.table; config = same.config ∙ of.config }
-
+-- it has its machines still
 has_in_view : (b : Bundle) (number : ℕ) → is_some (machine_of (machines_of b) number) ≡ is_some (machine_of (view_of b) number)
 has_in_view b number = ap (λ v. is_some (machine_of v number)) (sym b.kept) ∙ kept_some machine_in (view_of b) number
 

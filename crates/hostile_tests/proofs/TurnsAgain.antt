@@ -28,11 +28,11 @@ use Rattle.heap_machines.proofs.Turns.{begins_at_rest, rest_takes, rest_is_mutat
 use Rattle.table_heap.specs.declared.bundle.Bundle.{Bundle}
 use Rattle.table_heap.specs.declared.heap.Heap.{Heap}
 use Rattle.table_heap.specs.Core.{machine_in}
-use Rattle.table_heap.specs.State.{view_of, machines_of, orders_of, HasMachine, machine_at, order_at, has_turn, IsBundleOf, IsSameBundle, IsUnmoved, IsUnchanged, IsBundleStep}
+use Rattle.table_heap.specs.State.{view_of, machines_of, orders_of, HasMachine, machine_at, order_at, has_turn, IsSameBundle, IsUnmoved, IsUnchanged, IsBundleStep}
 use Rattle.table_heap.specs.Turning.{IsTurn}
 use Rattle.table_heap.specs.Running.{Jobs, HasNoOrder, AreAtWork, next_for}
 use Rattle.table_heap.proofs.MachineUnder.{shows_here}
-use Rattle.table_heap.proofs.Running.{in_memory, at_number, in_view, role_at, same_bundle, has_script, command_fits, work_unchanged}
+use Rattle.table_heap.proofs.Running.{in_memory, at_number, in_view, role_at, same_bundle, still_of, has_script, command_fits, work_unchanged}
 use Rattle.table_heap.proofs.Turning.{was, then_is, view_is, here, turned_on, turned_noted, can_tell}
 use Rattle.heap_words.specs.declared.config.Config.{Config}
 use Rattle.hostile_tests.specs.Ordered.{IsOrdered, MayAt, IsPlaying}
@@ -151,10 +151,7 @@ turn_or_not : (b : Bool) → (b ≡ true) ⊎ (b ≡ false)
 turn_or_not true = inl refl
 turn_or_not false = inr refl
 
--- the bundle is still one of the heap, and has its machines
-pub of_same : (old new : Bundle) (h : Heap) → IsSameBundle old new → IsBundleOf old h → IsBundleOf new h
-of_same old new h same of = record { table = same.table ∙ of.table; config = same.config ∙ of.config }
-
+-- the bundle has its machines still
 has_in_view : (b : Bundle) (number : ℕ) → is_some (machine_of (machines_of b) number) ≡ is_some (machine_of (view_of b) number)
 has_in_view b number = ap (λ v. is_some (machine_of v number)) (sym b.kept) ∙ kept_some machine_in (view_of b) number
 
@@ -216,7 +213,7 @@ may_kept mutators number between old new past may others k below flag =
 pub plays_on : (h : Heap) (old new : Bundle) (before after : Jobs) (c : Config) (between flags : List Bool) → IsPlaying h old before c between → IsSameBundle old new → AreAtWork new after → MayAt c.mutators flags new → length flags ≡ 8
     → IsPlaying h new after c flags
 plays_on h old new before after c between flags playing same works rests long = record {
-  of = of_same old new h same playing.of;
+  of = still_of old new h same playing.of;
   works = works;
   same = same.config ∙ playing.same;
   here = λ k within. has_same old new k same (playing.here k within);

@@ -3,7 +3,6 @@ pub mod State
 pub mod Progress
 pub mod Calls
 pub mod WholeRun
-pub mod FromImage
 pub mod Halted
 pub mod Noting
 pub mod Agendas

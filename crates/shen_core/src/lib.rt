@@ -2,7 +2,6 @@
 //! then it is told whose turn it is, and what that machine's step was, as memory saw it. The events of a walk are those that a run makes.
 #![tactic(auto)]
 
-mod from_image;
 mod plain;
 mod run;
 mod seen;

@@ -4,8 +4,7 @@ ghost use Rattle.heap_words.specs.Ranges.{seat_count};
 ghost use Rattle.heap_machines.specs.Shown.{shown, order_of, heap_of};
 ghost use Rattle.shen_core.specs.Runs.{IsShownBySome};
 
-use crate::from_image::{machines_from, words_from};
-use heap_machines::{Machine, Stepped, open_machines};
+use heap_machines::{Machine, Stepped, machines_from, open_machines, words_from};
 use heap_words::{Access, Config, NoMemory, Place};
 use image_graph::Image;
 use shen_graph::{Command, Entry, GraphText, History, Reply, Work};
@@ -40,7 +39,7 @@ impl Plain {
     ghost use Rattle.shen_graph.specs.Graph.{Graph};
     ghost use Rattle.image_graph.specs.State as images;
     ghost use Rattle.step_core.specs.Begins.{Begins, Run, ending, graph_after};
-    ghost use Rattle.shen_core.specs.FromImage.{CanBeginFrom, stage_from};
+    ghost use Rattle.heap_machines.specs.FromImage.{CanBeginFrom, stage_from};
     ghost use Rattle.heap_graph.specs.Shows as texts;
     ghost use Rattle.shen_core.specs.State.{config_of, words_of, machines_of, orders_of, notes_of, order_at, seats_of, Shows, machine_at, has_turn, word_found_by, next_machine, IsStep, IsUnchanged, IsHalted};
     ghost use Rattle.heap_machines.specs.Answer.{says};

@@ -1,23 +1,33 @@
 -- What the machines of a heap do as a kind. Nothing else here opens a definition of the core.
-use Rattle.std.proofs.Common.{◌≡◌, ℕ, true, false, ◌&&◌, List, Option, None, Some, refl}
-use Rattle.std.specs.Prelude.{if◌then◌else◌}
+use Rattle.std.proofs.Common.{◌≡◌, ℕ, true, false, ◌&&◌, List, length, Option, None, Some, refl, sym, arith}
+use Rattle.std.proofs.Math.Bool.{Bool-set}
+use Rattle.std.proofs.Math.Logic.{∥∥₁_elim}
+use Rattle.std.proofs.Math.Nat.{ℕ_set}
+use Rattle.std.proofs.lemmas.Bool.{lt-ltb, le-ltb}
+use Rattle.std.specs.Prelude.{if◌then◌else◌, slice_get, nat_lt}
 use Rattle.heap_words.specs.declared.config.Config.{Config}
 use Rattle.shen_graph.specs.declared.order.Order.{Order}
 use Rattle.shen_graph.specs.declared.order.Order.TheVariants.{Nothing}
-use Rattle.steps_base.specs.Steps.{Event, Finds}
+use Rattle.heap_words.specs.Ranges.{seat_count}
+use Rattle.heap_words.specs.Words.{table_words}
+use Rattle.shen_graph.specs.Graph.{Graph}
+use Rattle.steps_base.specs.Steps.{Stage, Event, Finds}
 use Rattle.control_rows.specs.declared.spot.ControlSpot.{ControlSpot}
 use Rattle.control_rows.specs.declared.spot.ControlSpot.TheVariants.{StoreWord}
 use Rattle.control_rows.specs.Rows.{is_gone}
-use Rattle.step_core.specs.Actor.{Machine, controlling, Actor}
+use Rattle.step_core.specs.Actor.{Machine, mutating, helping, controlling, Actor}
 use Rattle.heap_machines.specs.Pause.{pause_image}
 use Rattle.heap_machines.proofs.Pauses.{heap_pauses}
-use Rattle.step_core.specs.Begins.{Run, first_graph}
-use Rattle.step_core.specs.Machines.{takes_of, plan_of, took_of, kind, IsFitFor}
+use Rattle.step_core.specs.Begins.{Run, Begins, first_graph}
+use Rattle.step_core.specs.Machines.{HasNumber, takes_of, plan_of, took_of, kind, IsFitFor}
+use Rattle.step_core.proofs.Machines.Roles.{fit_is_prop}
+use Rattle.heap_machines.specs.Roles.{is_mutating}
 use Rattle.step_core.specs.Opening.{opening_words, opening}
 use Rattle.step_core.specs.Settled.{stored_image, image_read, image_of}
 use Rattle.step_core.proofs.Theorem.FirstFacts.{opening_begins}
 use Rattle.step_core.proofs.Theorem.EveryList.{found_fit}
-use Rattle.table_heap.specs.Core.{heap_kind, heap_opening}
+use Rattle.table_heap.specs.declared.key.HeapKey.{HeapKey}
+use Rattle.table_heap.specs.Core.{heap_kind, heap_opening, start_of_key}
 
 pub kind_takes : (c : Config) (a : Actor) (order : Order) → (heap_kind c).takes a order ≡ takes_of a.machine order
 unfolding kind
@@ -31,9 +41,33 @@ pub kind_took : (c : Config) (a : Actor) (order : Order) (got : ℕ) → (heap_k
 unfolding kind
 kind_took c a order got = refl
 
+-- what is so of each stage that a key's heap may begin with is so of where it began, where that is a proposition
+pub begun : (k : HeapKey) (P : Type 0) → IsProp P → ((g : Graph) → Begins k.config (start_of_key k) g → P) → P
+begun k P prop each = ∥∥₁_elim k.begins prop (λ some. each some.0 some.1)
+
 -- a word that a machine finds after some events is fit
-pub found_fits : (c : Config) (number : ℕ) (a : Actor) (order : Order) (got : ℕ) → Finds (heap_kind c) (heap_opening c) number a order got → IsFitFor c order got a.machine
-found_fits c number a order got finds = found_fit pause_image heap_pauses c (opening c) (first_graph c) (opening_begins c) number a order got finds
+pub found_fits : (k : HeapKey) (number : ℕ) (a : Actor) (order : Order) (got : ℕ) → Finds (heap_kind k.config) (start_of_key k) number a order got → IsFitFor k.config order got a.machine
+found_fits k number a order got finds =
+    begun k (IsFitFor k.config order got a.machine) (fit_is_prop k.config order got a.machine)
+    (λ g begins. found_fit pause_image heap_pauses k.config (start_of_key k) g begins number a order got finds)
+
+-- how many words and machines there are
+pub start_words : (k : HeapKey) → length (start_of_key k).words ≡ table_words k.config
+start_words k = begun k (length (start_of_key k).words ≡ table_words k.config) (hlevel ℕ_set) (λ g begins. begins.words)
+
+pub start_count : (k : HeapKey) → length (start_of_key k).machines ≡ seat_count k.config.mutators k.config.helpers
+start_count k = begun k (length (start_of_key k).machines ≡ seat_count k.config.mutators k.config.helpers) (hlevel ℕ_set) (λ g begins. begins.seats)
+
+-- the first of them are the mutators
+role_of_number : (c : Config) (number : ℕ) (machine : Machine) → HasNumber c number machine → is_mutating machine ≡ nat_lt number c.mutators
+role_of_number c number (mutating m) has = sym (lt-ltb number c.mutators has.1)
+role_of_number c number (helping h) has = sym (le-ltb number c.mutators has.1)
+role_of_number c number (controlling k) has = sym (le-ltb number c.mutators (omega (arith, has)))
+
+pub start_role : (k : HeapKey) (number : ℕ) (a : Actor) → slice_get (start_of_key k).machines number ≡ Some a → is_mutating a.machine ≡ nat_lt number k.config.mutators
+start_role k number a here =
+    begun k (is_mutating a.machine ≡ nat_lt number k.config.mutators) (hlevel Bool-set)
+    (λ g begins. role_of_number k.config number a.machine (begins.machines number a here).number_is)
 
 -- the words of the opening
 pub first_words : (c : Config) → (heap_opening c).words ≡ opening_words c
@@ -43,6 +77,10 @@ first_words c = refl
 -- events from the opening are a run
 abbrev pub run_of : (c : Config) → List (Event Order) → Run c
 run_of c events = record { start = opening c; graph = first_graph c; begins = opening_begins c; events = events }
+
+-- and so are those from any stage that begins a graph
+abbrev pub run_from : (c : Config) (start : Stage Actor) (g : Graph) → Begins c start g → List (Event Order) → Run c
+run_from c start g begins events = record { start = start; graph = g; begins = begins; events = events }
 
 -- a control that has made its last access stores no image
 gone_is_calm : (spot : ControlSpot) (image : List ℕ) → (true && (if is_gone spot then false else true)) ≡ false → stored_image spot image ≡ None

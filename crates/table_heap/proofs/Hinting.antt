@@ -17,7 +17,7 @@ use Rattle.step_core.specs.Actor.{Machine, mutating, helping, controlling}
 use Rattle.step_core.specs.Machines.{takes_hint, takes_of}
 use Rattle.table_heap.specs.Core.{machine_in}
 use Rattle.table_heap.specs.declared.bundle.Bundle.{Bundle}
-use Rattle.table_heap.specs.State.{heap_of, view_of, orders_of, machine_at, order_at, has_turn, HasMachine, IsSameBundle, IsUnmoved, IsBundleStep}
+use Rattle.table_heap.specs.State.{heap_of, start_in, view_of, orders_of, machine_at, order_at, has_turn, HasMachine, IsSameBundle, IsUnmoved, IsBundleStep}
 use Rattle.table_heap.specs.Turning.{IsOrderFor, IsHinted, OnlyHintsDiffer}
 use Rattle.table_heap.proofs.Running.{same_bundle_more}
 use Rattle.heap_words.specs.Words.{Heap, IsWord}
@@ -26,7 +26,7 @@ use Rattle.heap_machines.specs.Shown.{shown, order_of}
 use Rattle.shared_table.specs.Rule.{Took}
 use Rattle.shared_table.specs.Views.{SameNumbers}
 use Rattle.shared_table.specs.Counted.{uncounted_view, steps_in_view}
-use Rattle.table_heap.specs.Core.{heap_kind, heap_opening}
+use Rattle.table_heap.specs.Core.{heap_kind}
 use Rattle.std.proofs.lemmas.Bool.{and_parts}
 
 -- what stands under a number after it was put there
@@ -117,6 +117,7 @@ pub same_after : (old new : Bundle) → OnlyHintsDiffer old new → IsSameBundle
 same_after old new only = record {
   table = ap (λ s. s.table_id) only.seat;
   config = only.config;
+  key = only.key;
   numbers = subst (λ s. SameNumbers (view_of old) (uncounted_view s.me.0)) (sym only.seat) (same_none (view_of old));
 }
 
@@ -124,7 +125,7 @@ same_after old new only = record {
 pub stepped_after : (old mid new : Bundle) (number : ℕ) (said : Stepped) → OnlyHintsDiffer mid new → IsBundleStep old mid number said → IsBundleStep old new number said
 stepped_after old mid new number said only step = record {
   got = step.got;
-  took = subst (λ s. Took (heap_kind old.config) (heap_opening old.config) number (order_at old number) (uncounted_seat old.seat.me) step.got (uncounted_seat s.me)) (sym only.seat) step.took;
+  took = subst (λ s. Took (heap_kind old.config) (start_in old) number (order_at old number) (uncounted_seat old.seat.me) step.got (uncounted_seat s.me)) (sym only.seat) step.took;
   steps = ap (λ s. steps_in_view s.me.0) only.seat ∙ step.steps;
   said_is = step.said_is;
   greyed = ap (λ v. v.items) only.greyed ∙ step.greyed;

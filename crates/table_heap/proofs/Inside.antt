@@ -1,5 +1,5 @@
 -- The turn of the control that goes from a word of the image to the next one.
-use Rattle.std.proofs.Common.{◌≡◌, ℕ, zero, suc, true, inl, List, [], ◌∷◌, Option, Some, None, refl, sym, ap, ◌∙◌}
+use Rattle.std.proofs.Common.{◌≡◌, ℕ, zero, suc, true, inl, [], ◌∷◌, Option, Some, None, refl, sym, ap, ◌∙◌}
 use Rattle.std.specs.Prelude.{slice_set, unwrap_or}
 use Rattle.std.specs.Option.{is_some}
 use Rattle.shared_table.specs.Views.{View, machine_of}

@@ -1,6 +1,5 @@
 -- That a machine of the bundle has no order where none is pending.
 use Rattle.std.proofs.Common.{◌≡◌, ◌<◌, ℕ, length, get_or, Option, Some}
-use Rattle.shared_table.specs.Views.{View}
 use Rattle.shen_graph.specs.declared.order.Order.TheVariants.{Nothing}
 use Rattle.heap_machines.specs.declared.machine.Machine.{Machine}
 use Rattle.heap_machines.specs.Shown.{order_of}

@@ -1,11 +1,11 @@
 -- A heap before its first event, and its machines as they are dealt to bundles.
-use Rattle.std.proofs.Common.{◌≡◌, ℕ, zero, suc, ◌+◌, ◌-◌, Bool, true, false, not, List, [], ◌∷◌, ◌++◌, length, get_or, map, All, Option, Some, None, refl, sym, ap, ◌∙◌, subst, arith}
+use Rattle.std.proofs.Common.{◌≡◌, ℕ, zero, suc, ◌+◌, ◌-◌, Bool, true, false, not, List, [], ◌∷◌, ◌++◌, length, map, All, Option, Some, None, refl, sym, ap, ◌∙◌, subst, arith}
 use Rattle.std.specs.Prelude.{slice_get, if◌then◌else◌}
 use Rattle.std.specs.Option.{option_map}
 use Rattle.std.specs.List.{range_with_len}
+use Rattle.std.proofs.Math.Logic.{∥∥₁_map}
 use Rattle.std.proofs.lemmas.Bool.Decides.{nat_tests}
 use Rattle.std.proofs.lemmas.List.{length-map}
-use Rattle.std.proofs.lemmas.List.FromFn.{get_or-map-range_with_len, length-map-range_with_len}
 use Rattle.std.proofs.lemmas.Option.{slice_get-map, slice_get_within, get_or_from_slice_get}
 use Rattle.heap_words.specs.declared.config.Config.{Config}
 use Rattle.heap_words.specs.Ranges.{seat_count}
@@ -16,37 +16,83 @@ use Rattle.shared_table.proofs.Dealing.{picked_twice, picked_all}
 use Rattle.shared_table.proofs.Kept.{kept-whole}
 use Rattle.shared_table.proofs.ViewsShow.{machine_of-whole, machine_of-picked}
 use Rattle.heap_machines.specs.declared.machine.Machine.{Machine}
-use Rattle.heap_machines.specs.Shown.{shown, order_of, heap_of, no_machine}
-use Rattle.heap_machines.proofs.Openings.{first_machines, first_role}
+use Rattle.heap_machines.specs.Shown.{shown, order_of, heap_of}
 use Rattle.shen_graph.specs.declared.order.Order.{Order}
 use Rattle.shen_graph.specs.declared.order.Order.TheVariants.{Nothing}
 use Rattle.heap_machines.specs.Roles.{is_mutating}
-use Rattle.step_core.specs.Opening.{opening_machine}
-use Rattle.table_heap.specs.Core.{heap_opening, machine_in}
-use Rattle.table_heap.specs.Known.{AreOfHeap}
+use Rattle.heap_machines.specs.FromImage.{CanBeginFrom, machine_from, stage_from}
+use Rattle.heap_machines.proofs.FromImages.{begins_from, stage_machines, stage_words}
+use Rattle.image_graph.specs.State as images
+use Rattle.image_graph.specs.declared.image.Image.{Image}
+use Rattle.shen_graph.specs.Graph.{Graph}
+use Rattle.steps_base.specs.Steps.{Stage, IsReached}
+use Rattle.step_core.specs.Actor.{Actor}
+use Rattle.step_core.specs.Begins.{Begins}
+use Rattle.table_heap.specs.declared.key.HeapKey.{HeapKey}
+use Rattle.table_heap.specs.declared.left.Left.{Left}
+use Rattle.table_heap.specs.Start.{start_from}
+use Rattle.table_heap.specs.Core.{heap_kind, heap_opening, start_of_key, machine_in}
+use Rattle.table_heap.specs.State.{config_of, start_of_heap}
+use Rattle.table_heap.specs.declared.heap.Heap.{Heap}
+use Rattle.table_heap.specs.Known.{AreOfHeap, AreMachinesOfStage}
+use Rattle.table_heap.proofs.Core.{start_count, start_role}
 
-module _ (c : Config) (machines : List Machine) (first : map shown machines ≡ map (opening_machine c) (range_with_len 0 (seat_count c.mutators c.helpers))) where
-  pub opened_count : length (whole machines) ≡ seat_count c.mutators c.helpers
-  opened_count = length-whole machines ∙ sym (length-map machines shown) ∙ ap length first ∙ length-map-range_with_len (opening_machine c) 0 (seat_count c.mutators c.helpers)
+module _ (k : HeapKey) (machines : List Machine) (are : AreMachinesOfStage k.config machines (start_of_key k)) where
+  pub opened_count : length (whole machines) ≡ seat_count k.config.mutators k.config.helpers
+  opened_count = length-whole machines ∙ sym (length-map machines shown) ∙ ap length are.machines ∙ length-map (start_of_key k).machines machine_in ∙ start_count k
 
-  -- memory has the machines of the opening
-  pub opened_kept : kept_in_view machine_in (whole (heap_opening c).machines) ≡ kept_in_view shown (whole machines)
-  opened_kept = kept-whole machine_in (heap_opening c).machines ∙ ap whole (first_machines c ∙ sym first) ∙ sym (kept-whole shown machines)
+  -- memory has the machines with which the heap begins
+  pub opened_kept : kept_in_view machine_in (whole (start_of_key k).machines) ≡ kept_in_view shown (whole machines)
+  opened_kept = kept-whole machine_in (start_of_key k).machines ∙ ap whole (sym are.machines) ∙ sym (kept-whole shown machines)
+
+  actor_there : (o : Option Actor) (m : Machine) → option_map machine_in o ≡ Some (shown m) → (a : Actor) × (o ≡ Some a) × (machine_in a ≡ shown m)
+  actor_there None m is = absurd (cc)
+  actor_there (Some a) m is = let same : machine_in a ≡ shown m = cc in (a, refl, same)
 
   -- which are of the heap
-  pub opened_of_heap : All (λ m. heap_of m ≡ c) machines → AreOfHeap c (whole machines)
-  opened_of_heap one_heap number m there =
+  pub opened_of_heap : AreOfHeap k.config (whole machines)
+  opened_of_heap number m there =
       let here : slice_get machines number ≡ Some m = sym (machine_of-whole machines number) ∙ there in
       let within = slice_get_within machines number m here in
-      let count : length machines ≡ seat_count c.mutators c.helpers = sym (length-whole machines) ∙ opened_count in
-      let shows : shown m ≡ opening_machine c number =
-      sym (get_or_from_slice_get (map shown machines) number (shown m) no_machine (slice_get-map shown machines number ∙ ap (option_map shown) here))
-      ∙ ap (λ xs. get_or xs number no_machine) first
-      ∙ get_or-map-range_with_len (opening_machine c) 0 (seat_count c.mutators c.helpers) number number no_machine (omega (arith, within, count)) (omega arith) in
+      let shows : slice_get (map machine_in (start_of_key k).machines) number ≡ Some (shown m) =
+      ap (λ xs. slice_get xs number) (sym are.machines) ∙ slice_get-map shown machines number ∙ ap (option_map shown) here in
+      let a = actor_there (slice_get (start_of_key k).machines number) m (sym (slice_get-map machine_in (start_of_key k).machines number) ∙ shows) in
       record {
-        heap = sym (ap heap_of (get_or_from_slice_get machines number m m here)) ∙ one_heap number m within;
-        role = ap is_mutating shows ∙ first_role c number;
+        heap = sym (ap heap_of (get_or_from_slice_get machines number m m here)) ∙ are.heap number m within;
+        role = ap is_mutating (sym a.2) ∙ start_role k number a.0 a.1;
       }
+
+-- What was left of a heap: the words of an image, and how many objects each thread has made.
+module _ (c : Config) (left : Left) (image : Image) (counts : List ℕ) (sizes : c ≡ images.config_of image) (words : left.words.value.items ≡ images.words_of image) (made : left.counts.value.items ≡ counts) where
+  -- where a heap of that begins
+  pub left_start : start_from c (Some left) ≡ stage_from (images.config_of image) (images.words_of image) counts
+  left_start =
+      ap (λ (k : Config). stage_from k left.words.value.items left.counts.value.items) sizes ∙ ap (λ (xs : List ℕ). stage_from (images.config_of image) xs left.counts.value.items) words
+      ∙ ap (stage_from (images.config_of image) (images.words_of image)) made
+
+  -- runs may begin there
+  pub left_begins : ∥ ((g : Graph) × CanBeginFrom (images.config_of image) (images.memory_of image) counts g) ∥₁ → ∥ ((g : Graph) × Begins c (start_from c (Some left)) g) ∥₁
+  left_begins some = ∥∥₁_map some (λ can. (
+    can.0,
+    subst (λ (k : Config). Begins k (start_from c (Some left)) can.0) (sym sizes)
+        (subst (λ (s : Stage Actor). Begins (images.config_of image) s can.0) (sym left_start) (begins_from (images.config_of image) (images.words_of image) counts image.all_words can.0 can.1)),
+  ))
+
+  pub left_words : (start_from c (Some left)).words ≡ images.words_of image
+  left_words = ap (λ (s : Stage Actor). s.words) left_start ∙ stage_words (images.config_of image) (images.words_of image) counts
+
+  -- its machines
+  pub left_machines : (machines : List Machine) → map shown machines ≡ map (machine_from (images.config_of image) counts (images.memory_of image)) (range_with_len 0 (seat_count (images.config_of image).mutators (images.config_of image).helpers))
+      → All (λ m. heap_of m ≡ images.config_of image) machines → All (λ m. order_of m ≡ Nothing) machines → AreMachinesOfStage c machines (start_from c (Some left))
+  left_machines machines are heap none = record {
+    machines = are ∙ sym (stage_machines (images.config_of image) (images.words_of image) counts) ∙ ap (λ (s : Stage Actor). map machine_in s.machines) (sym left_start);
+    heap = subst (λ (k : Config). All (λ m. heap_of m ≡ k) machines) (sym sizes) heap;
+    orders = none;
+  }
+
+-- what was reached from where a heap began was reached from the opening, where it was opened so
+pub reached_from_opening : (h : Heap) (c : Config) (s : Stage Actor) → config_of h ≡ c → start_of_heap h ≡ heap_opening c → IsReached (heap_kind (config_of h)) (start_of_heap h) s → IsReached (heap_kind (config_of h)) (heap_opening (config_of h)) s
+reached_from_opening h c s sizes opened reached = subst (λ (first : Stage Actor). IsReached (heap_kind (config_of h)) first s) (opened ∙ ap heap_opening (sym sizes)) reached
 
 -- no order is pending
 pub opened_orders : (machines : List Machine) → All (λ m. order_of m ≡ Nothing) machines → (number : ℕ) (order : Order) → machine_of (kept_in_view order_of (whole machines)) number ≡ Some order → order ≡ Nothing
@@ -62,13 +108,13 @@ opened_orders machines none number order there = by_machine (slice_get machines 
         let both : order ≡ order_of m = cc in
         both ∙ ap order_of (sym (get_or_from_slice_get machines number m m is)) ∙ none number m (slice_get_within machines number m is)
 
--- some of them
 -- no machine has made a step
 pub opened_steps : {R : Type 0} (machines : List R) (number made : ℕ) → machine_of (steps_in_view (whole (map at_start machines))) number ≡ Some made → made ≡ 0
 opened_steps [] number made there = absurd cc
 opened_steps (r ∷ rs) zero made there = cc
 opened_steps (r ∷ rs) (suc number) made there = opened_steps rs number made there
 
+-- some of them
 pub picked_some : {R : Type 0} (test : ℕ → Bool) (v : View R) (k : ℕ) (r : R) → machine_of (machines_picked test v) k ≡ Some r → machine_of v k ≡ Some r
 picked_some {R} test v k r there = by_test (test k) (sym (machine_of-picked test v k) ∙ there)
   where

@@ -13,8 +13,9 @@ use Rattle.step_core.specs.Machines.{may_begin, made_of_machine}
 use Rattle.heap_machines.specs.Roles.{is_mutating}
 use Rattle.heap_machines.proofs.Turns.{rest_is_mutating, begins_at_rest}
 use Rattle.table_heap.specs.declared.bundle.Bundle.{Bundle}
+use Rattle.table_heap.specs.declared.heap.Heap.{Heap}
 use Rattle.table_heap.specs.Core.{machine_in}
-use Rattle.table_heap.specs.State.{view_of, machines_of, HasMachine, machine_at, IsSameBundle, IsUnchanged}
+use Rattle.table_heap.specs.State.{view_of, machines_of, IsBundleOf, HasMachine, machine_at, IsSameBundle, IsUnchanged}
 use Rattle.table_heap.specs.Running.{Jobs, HasNoMutator, AreAtWork, next_for, AreSameJobs}
 use Rattle.table_heap.proofs.MachineUnder.{shows_here}
 use Rattle.table_heap.proofs.Jobs.{has_here, next_here}
@@ -88,14 +89,19 @@ same_jobs_more old mid jobs between later same first second = record {
 
 -- the same bundle
 pub same_bundle : (b : Bundle) → IsSameBundle b b
-same_bundle b = record { table = refl; config = refl; numbers = same_none (view_of b) }
+same_bundle b = record { table = refl; config = refl; key = refl; numbers = same_none (view_of b) }
 
 pub same_bundle_more : (old mid new : Bundle) → IsSameBundle old mid → IsSameBundle mid new → IsSameBundle old new
 same_bundle_more old mid new first second = record {
   table = second.table ∙ first.table;
   config = second.config ∙ first.config;
+  key = second.key ∙ first.key;
   numbers = same_more (view_of old) (view_of mid) (view_of new) first.numbers second.numbers;
 }
+
+-- so it is one of its heap still
+pub still_of : (old new : Bundle) (h : Heap) → IsSameBundle old new → IsBundleOf old h → IsBundleOf new h
+still_of old new h same of = record { table = same.table ∙ of.table; config = same.config ∙ of.config; key = ap (λ k. k.value) same.key ∙ of.key }
 
 -- the work of a bundle that is as it was
 pub work_unchanged : (old new : Bundle) (jobs : Jobs) → IsUnchanged old new → AreAtWork old jobs → AreAtWork new jobs

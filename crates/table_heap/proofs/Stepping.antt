@@ -6,6 +6,7 @@ use Rattle.atomic_table.specs.Table.{Me}
 use Rattle.heap_words.specs.declared.access.Access.{Access}
 use Rattle.heap_words.specs.declared.config.Config.{Config}
 use Rattle.shen_graph.specs.declared.order.Order.{Order}
+use Rattle.steps_base.specs.Steps.{Finds}
 use Rattle.shared_table.specs.Rule.{Took}
 use Rattle.shared_table.specs.Counted.{Counted, steps_in_view, uncounted_seat}
 use Rattle.shared_table.specs.Views.{View, machine_of, kept_in_view, machines_picked, merged, whichever_is_there, SameNumbers}
@@ -20,12 +21,13 @@ use Rattle.step_core.specs.Actor.{Actor}
 use Rattle.heap_machines.specs.Roles.{is_mutating}
 use Rattle.heap_machines.specs.Pause.{pause_image}
 use Rattle.step_core.specs.Machines.{takes_of, plan_of, machine_after, IsFitFor}
-use Rattle.table_heap.specs.Core.{heap_kind, heap_opening, table_kind, table_opening, machine_in}
+use Rattle.table_heap.specs.declared.key.HeapKey.{HeapKey}
+use Rattle.table_heap.specs.Core.{heap_kind, start_of_key, table_kind, table_start, machine_in}
 use Rattle.table_heap.specs.Known.{IsMachineOfHeap, AreOfHeap}
 use Rattle.table_heap.proofs.Core.{kind_takes, kind_plan, kind_took, found_fits}
 use Rattle.table_heap.proofs.MachineUnder.{shows_here}
 
-module _ {S : Type 0} (c : Config) (items : View Machine) (before : Me S (View Actor)) (kept : kept_in_view machine_in before.0 ≡ kept_in_view shown items) (number : ℕ) (m : Machine) (here : machine_of items number ≡ Some m) where
+module _ {S : Type 0} (c : Config) (key : HeapKey) (sizes : key.config ≡ c) (items : View Machine) (before : Me S (View Actor)) (kept : kept_in_view machine_in before.0 ≡ kept_in_view shown items) (number : ℕ) (m : Machine) (here : machine_of items number ≡ Some m) where
   -- memory has the machine of the view
   seen_here : machine_of (kept_in_view machine_in before.0) number ≡ Some (shown m)
   seen_here = ap (λ v. machine_of v number) kept ∙ shows_here shown items number m here
@@ -34,19 +36,21 @@ module _ {S : Type 0} (c : Config) (items : View Machine) (before : Me S (View A
   pub can : (access : Access) → heap_of m ≡ c → has_turn m ≡ true → access ≡ plan_of (heap_of m) (order_of m) (shown m)
       → (a : Actor) × (machine_of before.0 number ≡ Some a) × ((heap_kind c).takes a (order_of m) ≡ true) × ((heap_kind c).plan a (order_of m) ≡ access)
   can access heap takes row =
-      kept_can (heap_kind c) (heap_opening c) machine_in before.0 number (order_of m) (shown m) access seen_here
+      kept_can (heap_kind c) (start_of_key key) machine_in before.0 number (order_of m) (shown m) access seen_here
       (λ a is. (
         kind_takes c a (order_of m) ∙ ap (λ x. takes_of x (order_of m)) is ∙ takes,
         kind_plan c a (order_of m) ∙ ap (plan_of c (order_of m)) is ∙ ap (λ k. plan_of k (order_of m) (shown m)) (sym heap) ∙ sym row,
       ))
 
-  module _ (got : ℕ) (after : Me S (View Actor)) (took : Took (heap_kind c) (heap_opening c) number (order_of m) before got after) where
+  module _ (got : ℕ) (after : Me S (View Actor)) (took : Took (heap_kind c) (start_of_key key) number (order_of m) before got after) where
     -- the word that it found is fit
     pub fits : heap_of m ≡ c → IsFitFor (heap_of m) (order_of m) got (shown m)
     fits heap =
-        let found = kept_finds (heap_kind c) (heap_opening c) machine_in number (order_of m) before after got (shown m) took seen_here in
+        let found = kept_finds (heap_kind c) (start_of_key key) machine_in number (order_of m) before after got (shown m) took seen_here in
         subst (λ k. IsFitFor k (order_of m) got (shown m)) (sym heap)
-        (subst (λ x. IsFitFor c (order_of m) got x) found.1 (found_fits c number found.0 (order_of m) got found.2))
+        (subst (λ x. IsFitFor c (order_of m) got x) found.1
+        (subst (λ (k : Config). IsFitFor k (order_of m) got found.0.machine) sizes
+        (found_fits key number found.0 (order_of m) got (subst (λ (k : Config). Finds (heap_kind k) (start_of_key key) number found.0 (order_of m) got) (sym sizes) found.2))))
 
     -- the bundle has the same numbers
     pub numbers_stay : SameNumbers before.0 after.0
@@ -56,7 +60,7 @@ module _ {S : Type 0} (c : Config) (items : View Machine) (before : Me S (View A
       -- memory keeps what the view has
       pub kept_after : kept_in_view machine_in after.0 ≡ kept_in_view shown (slice_set items number (Some n))
       kept_after =
-          kept_step (heap_kind c) (heap_opening c) machine_in number (order_of m) before after got (shown m) (shown n) took seen_here
+          kept_step (heap_kind c) (start_of_key key) machine_in number (order_of m) before after got (shown m) (shown n) took seen_here
           (λ a is. ap machine_in (kind_took c a (order_of m) got) ∙ ap (machine_after pause_image c (order_of m) got) is ∙ ap (λ k. machine_after pause_image k (order_of m) got (shown m)) (sym heap) ∙ sym shown_is)
           ∙ ap (λ v. slice_set v number (Some (shown n))) kept
           ∙ sym (kept-set shown items number (Some n))
@@ -66,23 +70,24 @@ module _ {S : Type 0} (c : Config) (items : View Machine) (before : Me S (View A
       role_after = ap is_mutating shown_is ∙ role_stays pause_image (heap_of m) (order_of m) got (shown m)
 
 -- the same step, with other names for key and order
-pub took_as : {S : Type 0} (k c : Config) (number : ℕ) (o p : Order) (before : Me S (View (Counted Actor))) (got : ℕ) (after : Me S (View (Counted Actor))) → k ≡ c → o ≡ p
-    → Took (table_kind k) (table_opening k) number o before got after → Took (table_kind c) (table_opening c) number p before got after
-took_as k c number o p before got after same order took =
-    subst (λ (x : Config). Took (table_kind x) (table_opening x) number p before got after) same
-    (subst (λ (x : Order). Took (table_kind k) (table_opening k) number x before got after) order took)
+pub took_as : {S : Type 0} (j k : HeapKey) (number : ℕ) (o p : Order) (before : Me S (View (Counted Actor))) (got : ℕ) (after : Me S (View (Counted Actor))) → j ≡ k → o ≡ p
+    → Took (table_kind j) (table_start j) number o before got after → Took (table_kind k) (table_start k) number p before got after
+took_as j k number o p before got after same order took =
+    subst (λ (x : HeapKey). Took (table_kind x) (table_start x) number p before got after) same
+    (subst (λ (x : Order). Took (table_kind j) (table_start j) number x before got after) order took)
 
 -- and without the numbers of steps
-pub took_in : {S : Type 0} (k c : Config) (number : ℕ) (o p : Order) (before : Me S (View (Counted Actor))) (got : ℕ) (after : Me S (View (Counted Actor))) → k ≡ c → o ≡ p
-    → Took (table_kind k) (table_opening k) number o before got after → Took (heap_kind c) (heap_opening c) number p (uncounted_seat before) got (uncounted_seat after)
-took_in k c number o p before got after same order took =
-    took_uncounted (heap_kind c) (heap_opening c) number p before after got (took_as k c number o p before got after same order took)
+pub took_in : {S : Type 0} (j k : HeapKey) (c : Config) (number : ℕ) (o p : Order) (before : Me S (View (Counted Actor))) (got : ℕ) (after : Me S (View (Counted Actor))) → j ≡ k → k.config ≡ c → o ≡ p
+    → Took (table_kind j) (table_start j) number o before got after → Took (heap_kind c) (start_of_key k) number p (uncounted_seat before) got (uncounted_seat after)
+took_in j k c number o p before got after same sizes order took =
+    subst (λ (d : Config). Took (heap_kind d) (start_of_key k) number p (uncounted_seat before) got (uncounted_seat after)) sizes
+    (took_uncounted (heap_kind k.config) (start_of_key k) number p before after got (took_as j k number o p before got after same order took))
 
 -- it is counted once
-pub step_counted : {S : Type 0} (c : Config) (number : ℕ) (order : Order) (before after : Me S (View (Counted Actor))) (got : ℕ) → Took (table_kind c) (table_opening c) number order before got after
+pub step_counted : {S : Type 0} (k : HeapKey) (number : ℕ) (order : Order) (before after : Me S (View (Counted Actor))) (got : ℕ) → Took (table_kind k) (table_start k) number order before got after
     → steps_in_view after.0 ≡ slice_set (steps_in_view before.0) number (Some (unwrap_or (machine_of (steps_in_view before.0) number) 0 + 1))
-step_counted c number order before after got took =
-    let counts = took_counts (heap_kind c) (heap_opening c) number order before after got took in
+step_counted k number order before after got took =
+    let counts = took_counts (heap_kind k.config) (start_of_key k) number order before after got took in
     counts.2 ∙ ap (λ o. slice_set (steps_in_view before.0) number (Some (unwrap_or o 0 + 1))) (sym counts.1)
 
 pub can_as : (k c : Config) (view : View Actor) (number : ℕ) (o p : Order) (access : Access) → k ≡ c → o ≡ p

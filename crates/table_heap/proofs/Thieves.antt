@@ -14,10 +14,13 @@ use Rattle.table_heap.specs.declared.heap.Heap.{Heap}
 use Rattle.table_heap.specs.State.{IsFresh}
 use Rattle.table_heap.specs.Sharing.{HaveConfig, SharesMore, AllShareMore, StealsFrom, StealFrom}
 use Rattle.table_heap.specs.Turning.{OnlyHintsDiffer}
+use Rattle.table_heap.proofs.Hinting.{same_after}
+use Rattle.table_heap.proofs.Running.{still_of}
 
 only_more : (a b d : Bundle) → OnlyHintsDiffer a b → OnlyHintsDiffer b d → OnlyHintsDiffer a d
 only_more a b d first second = record {
   config = second.config ∙ first.config;
+  key = second.key ∙ first.key;
   seat = second.seat ∙ first.seat;
   machines = second.machines ∙ first.machines;
   greyed = second.greyed ∙ first.greyed;
@@ -42,7 +45,7 @@ steals_still a b own next one other from = record {
 -- a bundle before the first event is so still
 pub fresh_still : (h : Heap) (a b : Bundle) (view : View Actor) → OnlyHintsDiffer a b → IsFresh h a view → IsFresh h b view
 fresh_still h a b view only fresh = record {
-  of = record { table = ap (λ s. s.table_id) only.seat ∙ fresh.of.table; config = only.config ∙ fresh.of.config };
+  of = still_of a b h (same_after a b only) fresh.of;
   machines = ap (λ s. uncounted_view s.me.0) only.seat ∙ fresh.machines;
   orders = λ number order there. fresh.orders number order (ap (λ ms. machine_of (kept_in_view order_of ms.items) number) (sym only.machines) ∙ there);
   steps = λ number made there. fresh.steps number made (ap (λ s. machine_of (steps_in_view s.me.0) number) (sym only.seat) ∙ there);
@@ -67,7 +70,7 @@ read_place (y ∷ ys) zero b below is = ap (λ (z : Bundle). Some z) (sym is)
 read_place (y ∷ ys) (suc place) b below is = read_place ys place b (omega (arith, below)) is
 
 pub none_changed : (bundles : List Bundle) → AllShareMore bundles bundles
-none_changed bundles = record { count = refl; each = λ k b there. (b, there, record { only = record { config = refl; seat = refl; machines = refl; greyed = refl }; deque = refl; thieves = λ place thief is. is }) }
+none_changed bundles = record { count = refl; each = λ k b there. (b, there, record { only = record { config = refl; key = refl; seat = refl; machines = refl; greyed = refl }; deque = refl; thieves = λ place thief is. is }) }
 
 -- the hints of one bundle more differ
 pub one_changed : (old now : List Bundle) (place : ℕ) (a b : Bundle) → AllShareMore old now → slice_get now place ≡ Some a → SharesMore a b → AllShareMore old (slice_set now place b)

@@ -11,21 +11,27 @@ use Rattle.step_core.specs.Actor.{Machine, Actor}
 use Rattle.heap_machines.specs.Shown.{no_machine}
 use Rattle.step_core.specs.Machines.{kind}
 use Rattle.step_core.specs.Opening.{opening}
+use Rattle.table_heap.specs.declared.key.HeapKey.{HeapKey}
+use Rattle.table_heap.specs.Start.{start_from}
 
 abbrev pub heap_kind : Config → MachineKind Actor Order
 heap_kind c = kind pause_image c
 
--- the words and machines with which a heap begins
+-- the words and machines with which a heap is opened
 abbrev pub heap_opening : Config → Stage Actor
 heap_opening c = opening c
 
+-- those with which the heap of a key begins
+abbrev pub start_of_key : HeapKey → Stage Actor
+start_of_key k = start_from k.config k.left
+
 -- the machines of its table: the same, and they count their steps
-abbrev pub table_kind : Config → MachineKind (Counted Actor) Order
-table_kind c = counting (heap_kind c)
+abbrev pub table_kind : HeapKey → MachineKind (Counted Actor) Order
+table_kind k = counting (heap_kind k.config)
 
 -- what its table begins with: none has made a step
-abbrev pub table_opening : Config → Stage (Counted Actor)
-table_opening c = counted_from (heap_opening c)
+abbrev pub table_start : HeapKey → Stage (Counted Actor)
+table_start k = counted_from (start_of_key k)
 
 -- what memory keeps of a machine
 abbrev pub machine_in : Actor → Machine

@@ -9,7 +9,8 @@ use Rattle.shared_table.specs.Counted.{uncounted_view}
 use Rattle.step_core.specs.Actor.{Actor}
 use Rattle.table_heap.specs.declared.heap.Heap.{Heap}
 use Rattle.table_heap.specs.declared.gathered.Gathered.{Gathered}
-use Rattle.table_heap.specs.Core.{heap_kind, heap_opening}
+use Rattle.table_heap.specs.Core.{heap_kind}
+use Rattle.table_heap.specs.State.{config_of, start_of_heap}
 
 -- the machines by their numbers, as their events see them
 abbrev pub view_of : Gathered → View Actor
@@ -24,7 +25,7 @@ pub record HasAllOf (c : Config) (g : Gathered) : Type 0 where
   pub long : length (view_of g) ≡ seat_count c.mutators c.helpers
   pub each : (number : ℕ) → number < seat_count c.mutators c.helpers → is_some (machine_of (view_of g) number) ≡ true
 
--- some events lead from the opening to just these machines, and to some words
-pub record StandInRun (c : Config) (g : Gathered) : Type 0 where
+-- some events lead from where the heap began to just these machines, and to some words
+pub record StandInRun (h : Heap) (g : Gathered) : Type 0 where
   pub words : List ℕ
-  pub reached : IsReached (heap_kind c) (heap_opening c) (record { words = words; machines = machines_of (view_of g) })
+  pub reached : IsReached (heap_kind (config_of h)) (start_of_heap h) (record { words = words; machines = machines_of (view_of g) })

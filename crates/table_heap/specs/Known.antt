@@ -1,11 +1,15 @@
 -- What memory knows of the machines of a bundle, each under its number.
-use Rattle.std.specs.Prelude.{ℕ, ◌≡◌, nat_lt, List, Some, true, length, All}
+use Rattle.std.specs.Prelude.{ℕ, ◌≡◌, nat_lt, List, map, Some, true, length, All}
 use Rattle.std.specs.Option.{is_some}
 use Rattle.heap_words.specs.declared.config.Config.{Config}
 use Rattle.heap_words.specs.Words.{Heap, IsWord}
 use Rattle.shared_table.specs.Views.{View, machine_of}
 use Rattle.heap_machines.specs.declared.machine.Machine.{Machine}
-use Rattle.heap_machines.specs.Shown.{shown, heap_of}
+use Rattle.steps_base.specs.Steps.{Stage}
+use Rattle.shen_graph.specs.declared.order.Order.TheVariants.{Nothing}
+use Rattle.heap_machines.specs.Shown.{shown, order_of, heap_of}
+use Rattle.step_core.specs.Actor.{Actor}
+use Rattle.table_heap.specs.Core.{machine_in}
 use Rattle.heap_machines.specs.Roles.{is_mutating}
 use Rattle.hint_deque.specs.Seen.{config_in}
 use Rattle.hint_deque.specs.declared.hints.Thief.{Thief}
@@ -28,6 +32,12 @@ pub record AreGreyedBy (c : Config) (machines : View Machine) (greyed : View ℕ
 -- those who steal hints of the heap
 abbrev pub AreThievesOf : Config → List Thief → Type 0
 AreThievesOf c thieves = All (λ thief. config_in thief ≡ c) thieves
+
+-- memory has the machines of a stage, which are of the heap, and none has an order
+pub record AreMachinesOfStage (c : Config) (kept : List Machine) (s : Stage Actor) : Type 0 where
+  pub machines : map shown kept ≡ map machine_in s.machines
+  pub heap : All (λ m. heap_of m ≡ c) kept
+  pub orders : All (λ m. order_of m ≡ Nothing) kept
 
 -- the control of the heap is under its number
 pub record HasTheControl (c : Config) (machines : View Machine) : Type 0 where

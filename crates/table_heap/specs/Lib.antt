@@ -1,4 +1,5 @@
 pub mod Closed
+pub mod Start
 pub mod Core
 pub mod Known
 pub mod State

@@ -5,6 +5,7 @@ use Rattle.heap_words.specs.declared.config.Config.{Config}
 use Rattle.shared_table.specs.Views.{View, machine_of, kept_in_view, SameNumbers}
 use Rattle.shared_table.specs.Counted.{uncounted_view, steps_in_view, uncounted_seat}
 use Rattle.shared_table.specs.Rule.{Took}
+use Rattle.steps_base.specs.Steps.{Stage}
 use Rattle.shen_graph.specs.declared.order.Order.{Order}
 use Rattle.shen_graph.specs.declared.order.Order.TheVariants.{Nothing}
 use Rattle.heap_machines.specs.Answer.{says}
@@ -16,7 +17,7 @@ use Rattle.hint_deque.specs.declared.hints.Hints.{Hints}
 use Rattle.hint_deque.specs.declared.hints.Thief.{Thief}
 use Rattle.table_heap.specs.declared.heap.Heap.{Heap}
 use Rattle.table_heap.specs.declared.bundle.Bundle.{Bundle}
-use Rattle.table_heap.specs.Core.{heap_kind, heap_opening}
+use Rattle.table_heap.specs.Core.{heap_kind, start_of_key}
 
 -- the configuration of a heap, and of a bundle
 abbrev pub config_of : Heap → Config
@@ -24,6 +25,13 @@ config_of h = h.config
 
 abbrev pub heap_of : Bundle → Config
 heap_of b = b.config
+
+-- the words and machines with which a heap began, and the heap of a bundle
+abbrev pub start_of_heap : Heap → Stage Actor
+start_of_heap h = start_of_key h.key
+
+abbrev pub start_in : Bundle → Stage Actor
+start_in b = start_of_key b.key.value
 
 -- the bundle's machines by their numbers, as their events see them
 abbrev pub view_of : Bundle → View Actor
@@ -53,6 +61,7 @@ deques_of b = (b.hints, b.thieves.items)
 pub record IsBundleOf (b : Bundle) (h : Heap) : Type 0 where
   pub table : b.seat.table_id ≡ h.table.shared.table_id
   pub config : b.config ≡ h.config
+  pub key : b.key.value ≡ h.key
 
 -- the bundle has the machine of this number
 abbrev pub HasMachine : Bundle → ℕ → Type 0
@@ -77,6 +86,7 @@ has_turn b number = takes_of (machine_at b number) (order_at b number)
 pub record IsSameBundle (old new : Bundle) : Type 0 where
   pub table : new.seat.table_id ≡ old.seat.table_id
   pub config : new.config ≡ old.config
+  pub key : new.key ≡ old.key
   pub numbers : SameNumbers (view_of old) (view_of new)
 
 -- its machines are as they were, and have made no step
@@ -95,7 +105,7 @@ pub record IsUnchanged (old new : Bundle) : Type 0 where
 -- made one step more. No other machine of the bundle has changed or made a step.
 pub record IsBundleStep (old new : Bundle) (number : ℕ) (said : Stepped) : Type 0 where
   pub got : ℕ
-  pub took : Took (heap_kind old.config) (heap_opening old.config) number (order_at old number) (uncounted_seat old.seat.me) got (uncounted_seat new.seat.me)
+  pub took : Took (heap_kind old.config) (start_in old) number (order_at old number) (uncounted_seat old.seat.me) got (uncounted_seat new.seat.me)
   pub steps : steps_of new ≡ slice_set (steps_of old) number (Some (steps_at old number + 1))
   pub said_is : said ≡ says old.config (order_at old number) (machine_at old number) got
   pub greyed : greyed_of new ≡ slice_set (greyed_of old) number (greys_of (machine_at old number))

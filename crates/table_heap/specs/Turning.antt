@@ -29,6 +29,7 @@ pub record IsTurn (old new : Bundle) (next : Option Command) (number : ℕ) (sai
 -- Nothing but the hints of the bundle's own and of others has changed.
 pub record OnlyHintsDiffer (old new : Bundle) : Type 0 where
   pub config : new.config ≡ old.config
+  pub key : new.key ≡ old.key
   pub seat : new.seat ≡ old.seat
   pub machines : new.machines ≡ old.machines
   pub greyed : new.greyed ≡ old.greyed

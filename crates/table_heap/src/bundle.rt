@@ -8,6 +8,7 @@ ghost use Rattle.hint_deque.specs.Seen.{config_of};
 ghost use Rattle.table_heap.specs.Known.{AreOfHeap, AreGreyedBy, AreThievesOf};
 
 use crate::heap::Heap;
+use crate::key::HeapKey;
 use crate::machines::{Acting, OfHeaps};
 use heap_machines::{Machine, Stepped};
 use heap_words::{Config, NoMemory, Place};
@@ -16,12 +17,15 @@ use shared_table::{ViewSeat, deal_bundle, deal_machines, join_bundle, join_machi
 use shen_graph::{Command, Order, Reply};
 use std::alloc::Global;
 use std::marker::Brand;
+use std::snapshot::Snapshot;
 
 /// Machines of a heap that one thread steps, each under its number. There is a place for each number, also for those of other
 /// bundles.
 #[derive(Drop)]
 pub struct Bundle {
     pub(crate) config: Config,
+    // By what its heap is known.
+    pub(crate) key: Snapshot<HeapKey>,
     pub(crate) seat: ViewSeat<Acting>,
     pub(crate) machines: Vec<Option<Machine>>,
     // The address that each machine made grey with its last step, under its number, where it did so.
@@ -29,6 +33,7 @@ pub struct Bundle {
     // The hints of this bundle's own, and who steals from the other bundles.
     pub(crate) hints: Hints,
     pub(crate) thieves: Vec<Thief>,
+    ghost same_sizes: { key.value.config ≡ config },
     ghost seats: { length machines.items ≡ seat_count config.mutators config.helpers },
     ghost kept: { kept_in_view machine_in (uncounted_view seat.me.0) ≡ kept_in_view shown machines.items },
     ghost slots: { seat.me.1 ≡ [] },
@@ -72,7 +77,7 @@ impl Bundle {
         let Ok(machines) = deal_machines(alloc, &mut self.machines, bundles, bundle) else {
             return Err(NoMemory);
         };
-        let seat = deal_bundle::<Acting, Order, Config, OfHeaps, Brand>(
+        let seat = deal_bundle::<Acting, Order, HeapKey, OfHeaps, Brand>(
             &heap.table.shared,
             &mut self.seat,
             bundles,
@@ -80,6 +85,7 @@ impl Bundle {
         );
         Ok(Bundle {
             config: self.config,
+            key: Snapshot::of(&heap.key),
             seat,
             machines,
             greyed,
@@ -241,7 +247,7 @@ impl Bundle {
         if machine.is_idle() {
             return Stepped::Idle;
         }
-        let got = make_step::<Acting, Order, Config, OfHeaps, Brand>(
+        let got = make_step::<Acting, Order, HeapKey, OfHeaps, Brand>(
             &heap.table.shared,
             &mut self.seat,
             number,
@@ -266,7 +272,7 @@ impl Bundle {
         let Some(machine) = self.machines[number].as_mut() else {
             unreachable!()
         };
-        let got = make_step::<Acting, Order, Config, OfHeaps, Brand>(
+        let got = make_step::<Acting, Order, HeapKey, OfHeaps, Brand>(
             &heap.table.shared,
             &mut self.seat,
             number,
@@ -302,6 +308,7 @@ impl Bundle {
     {
         let Bundle {
             config: _,
+            key: _,
             seat,
             machines,
             greyed,
@@ -310,7 +317,7 @@ impl Bundle {
         } = other;
         join_machines(&mut self.machines, machines);
         join_machines(&mut self.greyed, greyed);
-        join_bundle::<Acting, Order, Config, OfHeaps>(&heap.table.shared, &mut self.seat, seat);
+        join_bundle::<Acting, Order, HeapKey, OfHeaps>(&heap.table.shared, &mut self.seat, seat);
         self
     }
 }

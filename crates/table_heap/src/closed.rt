@@ -9,11 +9,12 @@ ghost use Rattle.step_core.specs.Actor.{Actor};
 ghost use Rattle.table_heap.specs.Hinted.{place_hints, hints_in};
 ghost use Rattle.shared_table.specs.Counted.{uncounted_view};
 ghost use Rattle.step_core.specs.Settled.{image_of, control_number};
-ghost use Rattle.table_heap.specs.Core.{heap_kind, heap_opening, machine_in};
+ghost use Rattle.table_heap.specs.Core.{heap_kind, start_of_key, machine_in};
 ghost use Rattle.table_heap.specs.Known.{HasTheControl};
 
 use crate::bundle::Bundle;
 use crate::heap::Heap;
+use crate::key::HeapKey;
 use crate::machines::{Acting, OfHeaps};
 use atomic_table::Closed as Rows;
 use heap_machines::Machine;
@@ -29,12 +30,15 @@ use std::snapshot::Snapshot;
 pub struct Closed {
     // The words, and where `graph` works: the image that was the control's.
     image: Image,
+    // By what the heap was known.
+    key: HeapKey,
     // Which machines led to the words.
     seat: Snapshot<ViewSeat<Acting>>,
     // How many hints the machines took.
     hinted: u64,
+    ghost same_sizes: { key.config ≡ images.config_of image },
     ghost counted: { hinted ≡ hints_in (machines_of (uncounted_view seat.value.me.0)) },
-    ghost reached: { ∥ IsReached (heap_kind (images.config_of image)) (heap_opening (images.config_of image)) (record { words = images.words_of image; machines = machines_of (uncounted_view seat.value.me.0) }) ∥₁ },
+    ghost reached: { ∥ IsReached (heap_kind (images.config_of image)) (start_of_key key) (record { words = images.words_of image; machines = machines_of (uncounted_view seat.value.me.0) }) ∥₁ },
     ghost calm: { image_of (slice_get (machines_of (uncounted_view seat.value.me.0)) (control_number (images.config_of image))) ≡ None },
 }
 
@@ -97,12 +101,13 @@ impl Heap {
         ensures config { config_of result ≡ state.config_of self }
         ensures machines { state.view_of bundle ≡ whole (actors_of result) }
 
-        // Some events lead from the opening to just these words and machines.
-        ensures reached { IsReached (heap_kind (state.config_of self)) (heap_opening (state.config_of self)) (stage_of result) }
+        // Some events lead from where the heap began to just these words and machines.
+        ensures reached { IsReached (heap_kind (state.config_of self)) (state.start_of_heap self) (stage_of result) }
     {
-        let Heap { config, table } = self;
+        let Heap { config, key, table } = self;
         let Bundle {
             config: _,
+            key: _,
             seat,
             machines,
             greyed: _,
@@ -111,12 +116,13 @@ impl Heap {
         } = bundle;
         let hinted = hints_taken(&machines);
         let last = Snapshot::of(&seat);
-        let rows = close_table::<Acting, Order, Config, OfHeaps>(table, seat);
+        let rows = close_table::<Acting, Order, HeapKey, OfHeaps>(table, seat);
         let mut image = control_image(config, machines);
         read_words(&rows, &mut image);
         rows.free();
         Closed {
             image,
+            key,
             seat: last,
             hinted,
         }
@@ -161,5 +167,18 @@ impl Closed {
         ensures same_threads { length text.new.roots ≡ length text.old.roots }
     {
         self.image.answer_graph(text);
+    }
+    /// Its words, as an image that serves for another heap.
+    pub fn into_image(self) -> Image
+        ensures config { images.config_of result ≡ config_of self }
+        ensures words { images.words_of result ≡ words_of self }
+    {
+        let Closed {
+            image,
+            key: _,
+            seat: _,
+            hinted: _,
+        } = self;
+        image
     }
 }

@@ -2,8 +2,8 @@ ghost use Rattle.std.specs.Prelude.{◌≡◌, [], ◌<◌};
 
 use crate::bundle::Bundle;
 use crate::heap::Heap;
+use crate::key::HeapKey;
 use crate::machines::{Acting, OfHeaps};
-use heap_words::Config;
 use seat_gathering::{gather_seat, read_run};
 use shared_table::ViewSeat;
 use shen_graph::Order;
@@ -30,6 +30,7 @@ impl Gathered {
     {
         let Bundle {
             config: _,
+            key: _,
             seat,
             machines: _,
             greyed: _,
@@ -47,7 +48,7 @@ impl Gathered {
     {
         let other = Gathered::of(bundle);
         let Gathered { seat: other } = other;
-        gather_seat::<Acting, Order, Config, OfHeaps>(&heap.table.shared, &mut self.seat, other);
+        gather_seat::<Acting, Order, HeapKey, OfHeaps>(&heap.table.shared, &mut self.seat, other);
         self
     }
 
@@ -56,8 +57,8 @@ impl Gathered {
         requires { IsGatheredOf self.old heap.now }
         ensures heap { IsGatheredOf self.new heap.now }
         ensures view { view_of self.new ≡ view_of self.old }
-        ensures run { HasAllOf (config_of heap.now) self.old → StandInRun (config_of heap.now) self.old }
+        ensures run { HasAllOf (config_of heap.now) self.old → StandInRun heap.now self.old }
     {
-        read_run::<Acting, Order, Config, OfHeaps, Brand>(&heap.table.shared, &mut self.seat);
+        read_run::<Acting, Order, HeapKey, OfHeaps, Brand>(&heap.table.shared, &mut self.seat);
     }
 }

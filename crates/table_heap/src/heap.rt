@@ -1,18 +1,25 @@
-ghost use Rattle.std.specs.Prelude.{◌≡◌, [], replicate, IfOk, None};
+ghost use Rattle.std.specs.Prelude.{◌≡◌, [], length, replicate, map, All, IfOk, None};
+ghost use Rattle.std.specs.List.{range_with_len};
 ghost use Rattle.shared_table.specs.Views.{whole};
 ghost use Rattle.heap_words.specs.Words.{table_words};
-ghost use Rattle.table_heap.specs.Core.{table_opening};
+ghost use Rattle.heap_machines.specs.Shown.{shown, order_of, heap_of};
+ghost use Rattle.shen_graph.specs.declared.order.Order.TheVariants.{Nothing};
+ghost use Rattle.table_heap.specs.Core.{table_start, start_of_key};
 ghost use Rattle.heap_words.specs.Ranges.{seat_count};
 
 use crate::bundle::Bundle;
+use crate::key::HeapKey;
+use crate::left::Left;
 use crate::machines::{Acting, OfHeaps};
 use crate::sharing::share_hints;
-use heap_machines::{Machine, open_machines};
+use heap_machines::{Machine, machines_from, open_machines, words_from};
 use heap_words::{Config, NoMemory};
 use hint_deque::Hints;
+use image_graph::Image;
 use shared_table::{StepsTable, ViewSeat, open_table};
 use shen_graph::Order;
 use std::alloc::Global;
+use std::snapshot::Snapshot;
 use step_core::open_words;
 
 /// A heap that threads share, by a `&`. Its machines are in bundles, each of which is one thread's own. For each word of the heap
@@ -20,25 +27,35 @@ use step_core::open_words;
 #[derive(Drop)]
 pub struct Heap {
     pub(crate) config: Config,
-    pub(crate) table: StepsTable<Acting, Order, Config, OfHeaps>,
-    ghost key: { table.shared.key ≡ config },
+    pub(crate) key: HeapKey,
+    pub(crate) table: StepsTable<Acting, Order, HeapKey, OfHeaps>,
+    ghost same_sizes: { key.config ≡ config },
+    ghost table_key: { table.shared.key ≡ key },
     ghost all_words: { table.shared.table_id.words ≡ table_words config },
     ghost no_slots: { table.shared.table_id.slots ≡ 0 },
 }
 
-// The table of this configuration before the first event, and the seat that has all its machines. The words that the table begins
+// The table of this key before the first event, and the seat that has all its machines. The words that the table begins
 // with are let go.
 fn opened_table(
     alloc: Global,
-    config: Config,
-) -> Result<(StepsTable<Acting, Order, Config, OfHeaps>, ViewSeat<Acting>), NoMemory>
-    ensures key { IfOk result (λ t. t.0.shared.key ≡ config) }
-    ensures words { IfOk result (λ t. t.0.shared.table_id.words ≡ table_words config) }
+    key: &HeapKey,
+    words: Vec<u64>,
+) -> Result<
+    (
+        StepsTable<Acting, Order, HeapKey, OfHeaps>,
+        ViewSeat<Acting>,
+    ),
+    NoMemory,
+>
+    requires words { words.items ≡ (start_of_key key.now).words }
+    requires count { length words.items ≡ table_words key.now.config }
+    ensures key { IfOk result (λ t. t.0.shared.key ≡ key.now) }
+    ensures words { IfOk result (λ t. t.0.shared.table_id.words ≡ table_words key.now.config) }
     ensures slots { IfOk result (λ t. t.0.shared.table_id.slots ≡ 0) }
-    ensures seat { IfOk result (λ t. (t.1.table_id ≡ t.0.shared.table_id) × (t.1.me ≡ (whole (table_opening config).machines, []))) }
+    ensures seat { IfOk result (λ t. (t.1.table_id ≡ t.0.shared.table_id) × (t.1.me ≡ (whole (table_start key.now).machines, []))) }
 {
-    let words = open_words(alloc, config)?;
-    match open_table(alloc, &words, &config) {
+    match open_table(alloc, &words, key) {
         Ok(opened) => Ok(opened),
         Err(_) => Err(NoMemory),
     }
@@ -71,48 +88,65 @@ fn none_greyed(alloc: Global, config: Config) -> Result<Vec<Option<u64>>, NoMemo
 }
 
 impl Heap {
-    ghost use Rattle.std.specs.Prelude.{ℕ, ◌≤◌, length, Some, slice_get};
+    ghost use Rattle.std.specs.Prelude.{ℕ, ◌≤◌, Some, slice_get};
+    ghost use Rattle.shen_graph.specs.Graph.{Graph};
+    ghost use Rattle.image_graph.specs.State as images;
+    ghost use Rattle.heap_machines.specs.FromImage.{CanBeginFrom, stage_from};
+    ghost use Rattle.step_core.specs.Begins.{Begins};
     ghost use Rattle.table_heap.specs.Sharing.{StealFromEachOther};
+    ghost use Rattle.table_heap.specs.Known.{AreMachinesOfStage};
     ghost use Rattle.table_heap.specs.declared.bundle.Bundle.{Bundle as Bundles};
     ghost use Rattle.shared_table.specs.Views.{dealt_to};
     ghost use Rattle.table_heap.specs.Core.{heap_opening};
-    ghost use Rattle.table_heap.specs.State.{config_of, view_of, IsBundleOf, IsFresh};
+    ghost use Rattle.table_heap.specs.State.{config_of, start_of_heap, view_of, IsBundleOf, IsFresh};
 
-    // The heap of this configuration before the first event, with all its machines in one bundle.
-    fn open_whole(alloc: Global, config: Config) -> Result<(Heap, Bundle), NoMemory>
-        ensures config { IfOk result (λ t. config_of t.0 ≡ config) }
-        ensures bundle { IfOk result (λ t. IsFresh t.0 t.1 (whole (heap_opening config).machines)) }
+    // The heap of this key before the first event, with all its machines in one bundle.
+    fn open_whole(
+        alloc: Global,
+        key: HeapKey,
+        words: Vec<u64>,
+        machines: Vec<Machine>,
+    ) -> Result<(Heap, Bundle), NoMemory>
+        requires words { words.items ≡ (start_of_key key).words }
+        requires count { length words.items ≡ table_words key.config }
+        requires machines { AreMachinesOfStage key.config machines.items (start_of_key key) }
+        ensures config { IfOk result (λ t. config_of t.0 ≡ key.config) }
+        ensures key { IfOk result (λ t. start_of_heap t.0 ≡ start_of_key key) }
+        ensures bundle { IfOk result (λ t. IsFresh t.0 t.1 (whole (start_of_heap t.0).machines)) }
     {
-        let (table, seat) = opened_table(alloc, config)?;
-        let machines = placed(alloc, open_machines(alloc, config)?)?;
+        let config = key.config;
+        let (table, seat) = opened_table(alloc, &key, words)?;
+        let machines = placed(alloc, machines)?;
         let greyed = none_greyed(alloc, config)?;
         let hints = Hints::open(alloc, config)?;
-        let heap = Heap { config, table };
         let bundle = Bundle {
             config,
+            key: Snapshot::of(&key),
             seat,
             machines,
             greyed,
             hints,
             thieves: Vec::new(alloc),
         };
+        let heap = Heap { config, key, table };
         Ok((heap, bundle))
     }
 
-    /// The heap of this configuration before the first event, and its machines in so many bundles: machine i, counted from 0,
-    /// is in that of the number i modulo `workers`. Each bundle has hints of its own, and steals those of each other one. The error is that memory was refused.
-    pub fn open(
+    // The machines of a heap in so many bundles.
+    fn dealt(
         alloc: Global,
-        config: Config,
+        heap: Heap,
+        mut all: Bundle,
         workers: usize,
     ) -> Result<(Heap, Vec<Bundle>), NoMemory>
-        requires { 1 ≤ workers }
-        ensures config { IfOk result (λ t. config_of t.0 ≡ config) }
+        requires workers { 1 ≤ workers }
+        requires fresh { IsFresh heap all (whole (start_of_heap heap).machines) }
+        ensures config { IfOk result (λ t. config_of t.0 ≡ config_of heap) }
+        ensures start { IfOk result (λ t. start_of_heap t.0 ≡ start_of_heap heap) }
         ensures count { IfOk result (λ t. length t.1.items ≡ workers) }
         ensures stealing { IfOk result (λ t. StealFromEachOther t.1.items) }
-        ensures bundles { IfOk result (λ t. (k : ℕ) (b : Bundles) → slice_get t.1.items k ≡ Some b → IsFresh t.0 b (dealt_to workers k (whole (heap_opening config).machines))) }
+        ensures bundles { IfOk result (λ t. (k : ℕ) (b : Bundles) → slice_get t.1.items k ≡ Some b → IsFresh t.0 b (dealt_to workers k (whole (start_of_heap heap).machines))) }
     {
-        let (heap, mut all) = Heap::open_whole(alloc, config)?;
         let Ok(mut bundles) = Vec::with_capacity(alloc, workers) else {
             return Err(NoMemory);
         };
@@ -126,5 +160,60 @@ impl Heap {
             share_hints(&mut bundles, bundle)?;
         }
         Ok((heap, bundles))
+    }
+
+    /// The heap of this configuration before the first event, and its machines in so many bundles: machine i, counted from 0,
+    /// is in that of the number i modulo `workers`. Each bundle has hints of its own, and steals those of each other one. The error is that memory was refused.
+    pub fn open(
+        alloc: Global,
+        config: Config,
+        workers: usize,
+    ) -> Result<(Heap, Vec<Bundle>), NoMemory>
+        requires { 1 ≤ workers }
+        ensures config { IfOk result (λ t. config_of t.0 ≡ config) }
+        ensures opening { IfOk result (λ t. start_of_heap t.0 ≡ heap_opening config) }
+        ensures count { IfOk result (λ t. length t.1.items ≡ workers) }
+        ensures stealing { IfOk result (λ t. StealFromEachOther t.1.items) }
+        ensures bundles { IfOk result (λ t. (k : ℕ) (b : Bundles) → slice_get t.1.items k ≡ Some b → IsFresh t.0 b (dealt_to workers k (whole (heap_opening config).machines))) }
+    {
+        let words = open_words(alloc, config)?;
+        let machines = open_machines(alloc, config)?;
+        let key = HeapKey { config, left: None };
+        let (heap, all) = Heap::open_whole(alloc, key, words, machines)?;
+        Heap::dealt(alloc, heap, all, workers)
+    }
+
+    /// The heap of an image's words, before the first event, and its machines in so many bundles, as `open` deals them. Each thread has made
+    /// so many objects before as `counts` says, in the order of the mutators. The words stand for a graph with these counts, nobody waits, no
+    /// pause is wanted, no machine is inside, and no mutator has ended; runs from here are runs from that graph. The error is that memory was refused.
+    pub fn open_from(
+        alloc: Global,
+        image: Image,
+        counts: Vec<u32>,
+        workers: usize,
+    ) -> Result<(Heap, Vec<Bundle>), NoMemory>
+        requires workers { 1 ≤ workers }
+        requires counts { length counts.items ≡ (images.config_of image).mutators }
+        requires begins { ∥ ((g : Graph) × CanBeginFrom (images.config_of image) (images.memory_of image) counts.items g) ∥₁ }
+        ensures config { IfOk result (λ t. config_of t.0 ≡ images.config_of image) }
+        ensures start { IfOk result (λ t. start_of_heap t.0 ≡ stage_from (images.config_of image) (images.words_of image) counts.items) }
+        ensures begins { (g : Graph) → CanBeginFrom (images.config_of image) (images.memory_of image) counts.items g → Begins (images.config_of image) (stage_from (images.config_of image) (images.words_of image) counts.items) g }
+        ensures count { IfOk result (λ t. length t.1.items ≡ workers) }
+        ensures stealing { IfOk result (λ t. StealFromEachOther t.1.items) }
+        ensures bundles { IfOk result (λ t. (k : ℕ) (b : Bundles) → slice_get t.1.items k ≡ Some b → IsFresh t.0 b (dealt_to workers k (whole (stage_from (images.config_of image) (images.words_of image) counts.items).machines))) }
+    {
+        let config = image.config();
+        let words = words_from(alloc, &image)?;
+        let left = Left {
+            words: Snapshot::of(&words),
+            counts: Snapshot::of(&counts),
+        };
+        let key = HeapKey {
+            config,
+            left: Some(left),
+        };
+        let machines = machines_from(alloc, image, &counts)?;
+        let (heap, all) = Heap::open_whole(alloc, key, words, machines)?;
+        Heap::dealt(alloc, heap, all, workers)
     }
 }

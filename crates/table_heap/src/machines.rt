@@ -1,6 +1,6 @@
-ghost use Rattle.table_heap.specs.Core.{table_kind, table_opening};
+ghost use Rattle.table_heap.specs.Core.{table_kind, table_start};
 
-use heap_words::Config;
+use crate::key::HeapKey;
 use shared_table::Machines;
 use shen_graph::Order;
 use std::marker::Model;
@@ -19,11 +19,11 @@ impl Model for Acting {
     ghost view = { λ _. at_start nobody };
 }
 
-/// The machines of heaps as kinds of machine. A table of them begins by its configuration.
+/// The machines of heaps as kinds of machine. A table of them begins by its key.
 pub struct OfHeaps;
 
-impl Machines<Acting, Order, Config> for OfHeaps {
+impl Machines<Acting, Order, HeapKey> for OfHeaps {
     ghost kind = { table_kind };
 
-    ghost opening = { table_opening };
+    ghost opening = { table_start };
 }

@@ -17,3 +17,4 @@ pub mod Righted
 pub mod Dumping
 pub mod FromRead
 pub mod Enough
+mod Crossing

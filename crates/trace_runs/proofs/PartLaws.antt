@@ -31,6 +31,7 @@ use Rattle.table_heap.specs.Core.{machine_in}
 use Rattle.table_heap.specs.State.{config_of, heap_of, view_of, orders_of, IsBundleOf}
 use Rattle.table_heap.specs.Running.{Jobs, HasNoOrder, EachMutator, CanStart, CanStartOn, HasDone}
 use Rattle.table_heap.specs.Driving.{has_mutator, mutators_below, CanDrive}
+use Rattle.table_heap.proofs.Running.{still_of}
 use Rattle.trace_runs.specs.declared.load.Load.{Load}
 use Rattle.trace_runs.specs.declared.load.Load.TheVariants.{Scripted, Driven}
 use Rattle.trace_runs.specs.declared.parts.Part.{Part}
@@ -391,7 +392,7 @@ ended_done h assigned w a b p q low ready ended = record {
   where
     part : IsPart h w a b q
     part = record {
-      of = record { table = ended.same.table ∙ ready.has.of.table; config = ended.same.config ∙ ready.has.of.config };
+      of = still_of p.bundle q.bundle h ended.same ready.has.of;
       machines = λ n. ended.same.numbers.here n ∙ ready.has.machines n;
     }
 

@@ -116,6 +116,41 @@ void refusals() {
     must(same(*object.exchange(1, null), object) && !object.get(1), "an exchange answers what was there");
 }
 
+// A counter in the hub is renewed again and again, and names are counted from 1 each time; a pinned object is left where it is.
+void renewal() {
+    cvm::heap heap({8, 64, 2, 1, 1});
+    for (std::uint64_t i = 0; i < 10; i++) {
+        {
+            cvm::mutator first = heap.mutator(), second = heap.mutator();
+            must(throws<cvm::refused>([&] { heap.renew(); }), "the mutators are taken");
+            for (int j = 0; j < 30; j++) {
+                second.make(2, 2);
+            }
+            {
+                auto made = first.make_named(0, 1);
+                must(made.second == cvm::name{1, i == 0 ? 1u : 2u}, "the name behind that which is left");
+                made.first.write(0, i);
+                first.hub().set(0, made.first);
+                if (i == 5) {
+                    made.first.pin(0);
+                }
+            }
+            heap.give_back(std::move(second));
+            heap.give_back(std::move(first));
+        }
+        must(heap.renew() == (i != 5), "the heap is renewed where nothing is pinned");
+        cvm::mutator first = heap.mutator();
+        must(first.hub().get(0)->read(0) == i, "the number of the counter");
+        if (i == 5) {
+            first.unpin(0);
+            heap.give_back(std::move(first));
+            must(heap.renew(), "the heap is renewed once nothing is pinned");
+        } else {
+            heap.give_back(std::move(first));
+        }
+    }
+}
+
 // The seats of a heap of one mutator and the control, whose steps are made only here.
 struct quiet {
     std::array<cvm_seat, 2> seats{};
@@ -184,6 +219,7 @@ int main() {
     lists();
     counter();
     refusals();
+    renewal();
     pauses_by_kind();
-    std::puts("C++: lists, a counter, each refusal, and each kind of pause");
+    std::puts("C++: lists, a counter, each refusal, renewals, and each kind of pause");
 }

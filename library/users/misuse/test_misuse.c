@@ -80,6 +80,7 @@ static void empty_seats(void) {
     MUST(memcmp(&state, &was, sizeof state) == 0);
     MUST(cvm_close(&none) == CVM_NOT_OPEN);
     MUST(cvm_close_all(&none, 1) == CVM_NOT_OPEN);
+    MUST(cvm_renew(&none, 1) == CVM_NOT_OPEN);
     MUST(cvm_new(&none, 1, 0, 0) == CVM_NOT_OPEN);
     MUST(cvm_finish(&none) == CVM_NOT_OPEN);
     MUST(!cvm_is_open(&none));
@@ -254,6 +255,7 @@ static void ends(cvm_seat *seats) {
         MUST(cvm_work(&seats[i], 1) == CVM_WRONG_SEAT);
     }
     MUST(cvm_close_all(seats, SEATS) == CVM_BUSY);
+    MUST(cvm_renew(seats, SEATS) == CVM_BUSY);
     for (int ended = 0; ended < 2;) {
         ended = (cvm_work(&seats[CONTROL], 100) == CVM_ENDED) + (cvm_work(&seats[HELPER], 100) == CVM_ENDED);
     }
@@ -276,8 +278,11 @@ static void close_wrong(cvm_seat *seats, cvm_seat *others) {
     swap(&seats[0], &seats[1]);
     MUST(cvm_close_all(seats, SEATS) == CVM_NOT_ALL);
     swap(&seats[0], &seats[1]);
+    MUST(cvm_renew(seats, 0) == CVM_NOT_ALL);
+    MUST(cvm_renew(seats, SEATS - 1) == CVM_NOT_ALL);
     swap(&seats[0], &others[0]); /* of another heap */
     MUST(cvm_close_all(seats, SEATS) == CVM_NOT_ALL);
+    MUST(cvm_renew(seats, SEATS) == CVM_NOT_ALL); /* as the shares tell, since no other call is made */
     swap(&seats[0], &others[0]);
     for (size_t i = 0; i < SEATS; i++) {
         MUST(cvm_is_open(&seats[i]));

@@ -1,6 +1,6 @@
 use Rattle.std.proofs.Common.{length, ap, ◌∙◌, subst}
 use Rattle.covremuj.specs.OpenedHandles.{seats_held}
-use Rattle.covremuj.specs.declared.asked.Asked.TheVariants.{Numbered, Over}
+use Rattle.covremuj.specs.declared.asked.Asked.TheVariants.{Numbered}
 use Rattle.covremuj.specs.ClosedHandles.{each_shows, AnswersBy}
 use Rattle.covremuj.proofs.HandlesAsked.{some_there, some_answered}
 use Rattle.covremuj.proofs.closing.refuses.Goals as goal
@@ -12,8 +12,8 @@ returns-clause-answer c =
     let second = c.all_show-numbered.ensures.held ∙ first in
     let filled = c.all_show-filled.ensures.shown in
     let numbered = c.all_show-numbered.ensures.shown ∙ ap (each_shows Numbered) first in
-    let over = c.all_show-over.ensures.shown ∙ ap (each_shows Over) second in
-    some_answered hs c.answer_by.result (some_there (length hs) c.is_empty.result c.is_empty.ensures c.if-is_empty.false)
-    (subst (λ b. AnswersBy b (each_shows Numbered (seats_held hs)) (each_shows Over (seats_held hs)) c.answer_by.result) filled
-    (subst (λ b. AnswersBy c.all_show-filled.result b (each_shows Over (seats_held hs)) c.answer_by.result) numbered
+    let over = c.all_show-over.ensures.shown ∙ ap (each_shows c.args.last) second in
+    some_answered c.args.last hs c.answer_by.result (some_there (length hs) c.is_empty.result c.is_empty.ensures c.if-is_empty.false)
+    (subst (λ b. AnswersBy b (each_shows Numbered (seats_held hs)) (each_shows c.args.last (seats_held hs)) c.answer_by.result) filled
+    (subst (λ b. AnswersBy c.all_show-filled.result b (each_shows c.args.last (seats_held hs)) c.answer_by.result) numbered
     (subst (λ b. AnswersBy c.all_show-filled.result c.all_show-numbered.result b c.answer_by.result) over c.answer_by.ensures)))

@@ -1,7 +1,5 @@
-use Rattle.std.proofs.Common.{◌≡◌, List, All, length, sym, ap, subst, ◌∙◌}
-use Rattle.heap_words.specs.declared.config.Config.{Config}
+use Rattle.std.proofs.Common.{List, All, length, sym, ap, subst, ◌∙◌}
 use Rattle.shen_graph.specs.declared.command.Command.{Command}
-use Rattle.shen_core.specs.Progress.{IsInSeats}
 use Rattle.dump_writing.specs.Dumped.{dumped}
 use Rattle.dump_runs.specs.Resumed.{IsRunnableAfter}
 use Rattle.dump_runs.proofs.Runnable.{count_read, runnable_read, items_read}

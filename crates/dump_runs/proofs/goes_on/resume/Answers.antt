@@ -10,7 +10,7 @@ use Rattle.heap_machines.specs.Pause.{pause_image}
 use Rattle.step_core.specs.Actor.{Actor}
 use Rattle.step_core.specs.Begins.{Begins}
 use Rattle.step_core.specs.Schedule.{schedule_events}
-use Rattle.shen_core.specs.FromImage.{stage_from}
+use Rattle.heap_machines.specs.FromImage.{stage_from}
 use Rattle.graph_placing.specs.PlacedHeap.{IsPlaced}
 use Rattle.dump_writing.specs.Dumped.{dumped, graph_in}
 use Rattle.dump_runs.specs.Resuming.{HasEndedFrom}

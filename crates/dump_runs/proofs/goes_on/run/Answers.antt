@@ -6,7 +6,7 @@ use Rattle.image_graph.specs.State as images
 use Rattle.step_core.specs.Begins.{Begins}
 use Rattle.shen_core.specs.declared.plain.Plain.{Plain}
 use Rattle.shen_core.specs.State.{Shows}
-use Rattle.shen_core.specs.FromImage.{CanBeginFrom, stage_from}
+use Rattle.heap_machines.specs.FromImage.{CanBeginFrom, stage_from}
 use Rattle.shen_core.specs.Progress.{CanRun, IsInSeats}
 use Rattle.dump_writing.specs.Dumped.{dumped, graph_in}
 use Rattle.dump_runs.proofs.StageFrom.{can_run_from, ended, cut}

@@ -4,7 +4,7 @@ use Rattle.shen_graph.specs.Graph.{Graph}
 use Rattle.std.proofs.Common.{ℕ, List}
 use Rattle.image_graph.specs.declared.image.Image.{Image}
 use Rattle.image_graph.specs.State.{memory_of}
-use Rattle.shen_core.specs.FromImage.{CanBeginFrom}
+use Rattle.heap_machines.specs.FromImage.{CanBeginFrom}
 use Rattle.dump_writing.specs.Dumped.{dumped, graph_in}
 use Rattle.graph_placing.specs.PlacedHeap.{IsPlaced}
 use Rattle.graph_placing.specs.TextGraph.{IsGraphOf}

@@ -8,7 +8,7 @@ use Rattle.heap_world.specs.Represents.{Represents}
 use Rattle.image_graph.specs.State as images
 use Rattle.heap_machines.specs.Pause.{pause_image}
 use Rattle.step_core.specs.Begins.{Begins, graph_after}
-use Rattle.shen_core.specs.FromImage.{CanBeginFrom, stage_from}
+use Rattle.heap_machines.specs.FromImage.{CanBeginFrom, stage_from}
 use Rattle.shen_core.specs.State.{config_of, Shows}
 use Rattle.graph_placing.specs.ByName.{Fits}
 use Rattle.graph_placing.specs.PlaceableText.{IsPlaceable}
@@ -17,8 +17,10 @@ use Rattle.graph_placing.specs.TextGraph.{text_graph}
 use Rattle.graph_renewal.specs.declared.renewing.Renewed.{Renewed}
 use Rattle.graph_renewal.specs.NamesAnew.{text_anew}
 use Rattle.graph_renewal.specs.Renaming.{AreOfThreads, AreCountsOf}
+use Rattle.graph_renewal.proofs.PinsShown.{nothing_pinned, nothing_held, not_pinned}
 use Rattle.graph_renewal.proofs.ShownRenewable.{placeable, of_threads}
-use Rattle.heap_renewal.proofs.Anew.{can_begin, nothing_pinned, nothing_held, not_pinned, begins_anew}
+use Rattle.heap_reopening.proofs.Placed.{placed_can_begin}
+use Rattle.heap_renewal.proofs.Anew.{begins_anew}
 use Rattle.heap_renewal.proofs.renewing.renew_heap.Goals as goal
 
 pub renew-requires-clause-whole : goal.renew-requires-clause-whole
@@ -49,7 +51,7 @@ open_from-requires-clause-begins c =
     let sizes : images.config_of image ≡ c.config-config.result = rw c.in-Heap.is at c.in_ok-image.ensures.config in
     let placed : IsPlaced c.config-config.result (text_anew t) (images.memory_of image) = rw c.in-Heap.is at c.in_ok-image.ensures.placed in
     let stands : Represents c.config-config.result (images.memory_of image) (text_graph (text_anew t) counts) (λ m. nothing) = rw c.in-Heap.is at c.in_ok-image.ensures.stands in
-    let can = can_begin c.config-config.result t counts (images.memory_of image) placed stands in
+    let can = placed_can_begin c.config-config.result t counts (images.memory_of image) placed stands in
     ∣ (
       text_graph (text_anew t) counts,
       subst (λ (xs : List ℕ). CanBeginFrom (images.config_of image) (images.memory_of image) xs (text_graph (text_anew t) counts)) (sym c.deref.ensures.value)
@@ -69,7 +71,7 @@ returns-in-Heap-clause-renewed c = λ now leads.
     let sizes : images.config_of image ≡ c.config-config.result = rw c.in-Heap.is at c.in_ok-image.ensures.config in
     let placed : IsPlaced c.config-config.result (text_anew t) (images.memory_of image) = rw c.in-Heap.is at c.in_ok-image.ensures.placed in
     let stands : Represents c.config-config.result (images.memory_of image) (text_graph (text_anew t) counts) (λ m. nothing) = rw c.in-Heap.is at c.in_ok-image.ensures.stands in
-    let can = can_begin c.config-config.result t counts (images.memory_of image) placed stands in
+    let can = placed_can_begin c.config-config.result t counts (images.memory_of image) placed stands in
     let whole = placeable d t (graph_after pause_image d run) c.requires.renewable.renewable shows in
     let threads = of_threads d t (graph_after pause_image d run) c.requires.renewable.renewable shows in
     let are : AreCountsOf (names_of t) c.config-config.result.mutators counts = rw c.in-Heap.is at c.in_ok-image.ensures.counts in

@@ -1,46 +1,35 @@
-use Rattle.std.proofs.Common.{◌+◌, sym, ◌∙◌, subst, arith}
-use mathlib.Core.List.{reverse}
-use Rattle.std.specs.Arc.{arc_value}
+use Rattle.std.proofs.Common.{sym, ◌∙◌, subst, arith}
+use Rattle.std.specs.Prelude.{IfOk}
+use Rattle.steps_base.specs.Steps.{Stage}
+use Rattle.shared_table.specs.Views.{whole, dealt_to}
+use Rattle.step_core.specs.Actor.{Actor}
+use Rattle.step_core.specs.Begins.{first_graph}
+use Rattle.step_core.proofs.Theorem.FirstFacts.{opening_begins}
+use Rattle.graph_renewal.proofs.Renewables.{opening_renewable}
 use Rattle.table_heap.specs.State.{IsFresh}
-use Rattle.heap_seats.proofs.Opened.{dealt_in, Opens, opens_first, last_fresh, opens_next}
+use Rattle.heap_seats.specs.FreshSeats.{AreFreshSeats}
+use Rattle.heap_seats.specs.Histories.{BeginsRenewable}
+use Rattle.heap_seats.proofs.Opened.{dealt_in}
 use Rattle.heap_seats.proofs.opening.open_seats.Goals as goal
 
 pub open-requires : goal.open-requires
 open-requires c = omega (arith, c.seats.ensures)
 
-pub loop-number-init : goal.loop-number-init
-loop-number-init c =
-    let config = c.args.config in
-    let h = arc_value c.in-Ok.heap in
+pub seated-requires-clause-count : goal.seated-requires-clause-count
+seated-requires-clause-count c = c.in_ok-heap.ensures.count ∙ c.seats.ensures
+
+pub seated-requires-clause-bundles : goal.seated-requires-clause-bundles
+seated-requires-clause-bundles c k b there =
     let opened = c.in_ok-heap.ensures in
-    subst (λ bundles. Opens config h bundles c.in-Ok-with_capacity.seats.items 0) (sym c.reverse.ensures.items)
-    (subst (λ seats. Opens config h (reverse c.in_ok-heap.bundles.items) seats 0) (sym c.in-Ok-with_capacity.ensures.items)
-    (opens_first config h c.in_ok-heap.bundles.items (opened.count ∙ c.seats.ensures)
-    (λ k b there.
-    subst (λ g. IsFresh g b (dealt_in config k)) (sym c.in-Ok.ensures.ok)
-    (subst (λ workers. IsFresh c.in_ok-heap.heap b (Rattle.shared_table.specs.Views.dealt_to workers k (Rattle.shared_table.specs.Views.whole (Rattle.table_heap.specs.Core.heap_opening config).machines))) c.seats.ensures (opened.bundles k b there)))))
+    let heap = c.in_ok-heap.heap in
+    subst (λ (s : Stage Actor). IsFresh heap b (dealt_in c.args.config s k)) (sym opened.opening)
+    (subst (λ workers. IsFresh heap b (dealt_to workers k (whole (Rattle.table_heap.specs.Core.heap_opening c.args.config).machines))) c.seats.ensures (opened.bundles k b there))
 
-pub unreachable-requires : goal.unreachable-requires
-unreachable-requires c =
-    let l = c.loop-number in
-    omega (arith, l.invariant.count, c.loop-number-test.true, c.in_default-pop.ensures.cases.0, l.bundles.ok.0, c.seats-number-end.ensures)
-
-pub open-requires-in-loop-number-clause-fresh : goal.open-requires-in-loop-number-clause-fresh
-open-requires-in-loop-number-clause-fresh c =
-    last_fresh c.args.config (arc_value c.in-Ok.heap) c.loop-number.bundles.items c.pop.new.self.items c.in-Some.bundle c.loop-number.seats.items c.loop-number.number c.loop-number.invariant c.in-Some.ensures.items
-
-pub loop-number-preserved : goal.loop-number-preserved
-loop-number-preserved c =
-    let l = c.loop-number in
-    let h = arc_value c.in-Ok.heap in
-    subst (λ seats. Opens c.args.config h c.pop.new.self.items seats (l.number + 1)) (sym c.in-Ok-push.ensures.items)
-    (opens_next c.args.config h l.bundles.items c.pop.new.self.items c.in-Some.bundle l.seats.items c.in_ok-seat.seat l.number l.invariant c.in-Some.ensures.items c.in_ok-seat.ensures)
+pub seated-requires-clause-begins : goal.seated-requires-clause-begins
+seated-requires-clause-begins c =
+    let config = c.args.config in
+    subst (λ (s : Stage Actor). ∥ BeginsRenewable config s ∥₁) (sym c.in_ok-heap.ensures.opening)
+    ∣ record { graph = first_graph config; begins = opening_begins config; renewable = opening_renewable config.mutators } ∣₁
 
 pub returns : goal.returns
-returns c =
-    let l = c.loop-number in
-    record {
-      heap = arc_value c.in-Ok.heap;
-      count = l.invariant.long ∙ omega (arith, c.loop-number-test.false, l.auto.number-end, c.seats-number-end.ensures);
-      each = l.invariant.each;
-    }
+returns c = subst (λ (s : Stage Actor). IfOk c.seated.result (λ seats. AreFreshSeats c.args.config s seats.items)) c.in_ok-heap.ensures.opening c.seated.ensures

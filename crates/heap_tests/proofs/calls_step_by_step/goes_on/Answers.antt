@@ -14,7 +14,7 @@ use Rattle.image_graph.specs.State as images
 use Rattle.image_graph.proofs.NamedStores.{stored}
 use Rattle.step_core.specs.Actor as actors
 use Rattle.step_core.specs.Machines.{may_begin, made_of_machine}
-use Rattle.shen_core.specs.FromImage.{CanBeginFrom, control_from, machine_from, actor_from, stage_from}
+use Rattle.heap_machines.specs.FromImage.{CanBeginFrom, control_from, machine_from, actor_from, stage_from}
 use Rattle.shen_core.specs.State.{machines_of}
 use Rattle.heap_tests.proofs.LeftAtRest.{LeftGraph, opened, left_can_begin}
 use Rattle.heap_tests.proofs.calls_step_by_step.goes_on.Goals as goal

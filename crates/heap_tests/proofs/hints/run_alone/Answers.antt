@@ -1,6 +1,7 @@
 use Rattle.std.proofs.Common.{◌≤◌, length, arith}
 use Rattle.table_heap.proofs.Ended.{idle_takes}
-use Rattle.heap_tests.proofs.SharedHeap.{same_of, fresh_has_all, fresh_can_run}
+use Rattle.table_heap.proofs.Running.{still_of}
+use Rattle.heap_tests.proofs.SharedHeap.{fresh_has_all, fresh_can_run}
 use Rattle.heap_tests.proofs.hints.run_alone.Goals as goal
 
 pub run-requires-clause-heap : goal.run-requires-clause-heap
@@ -12,7 +13,7 @@ run-requires-clause-start g c κs within =
     fresh_can_run c.args.config c.in_ok-heap.heap c.in_ok-heap.bundle c.args.scripts.now c.in_ok-work.work c.in_ok-heap.ensures.fresh c.requires.count few c.requires.runnable c.in_ok-work.ensures
 
 pub close-requires-clause-heap : goal.close-requires-clause-heap
-close-requires-clause-heap g c = same_of c.in_ok-heap.bundle c.run.new.self c.in_ok-heap.heap c.run.ensures.same c.in_ok-heap.ensures.fresh.of
+close-requires-clause-heap g c = still_of c.in_ok-heap.bundle c.run.new.self c.in_ok-heap.heap c.run.ensures.same c.in_ok-heap.ensures.fresh.of
 
 pub close-requires-clause-all : goal.close-requires-clause-all
 close-requires-clause-all g c = fresh_has_all c.args.config c.in_ok-heap.heap c.in_ok-heap.bundle c.run.new.self c.in_ok-heap.ensures.fresh c.in_ok-heap.ensures.config c.run.ensures.same

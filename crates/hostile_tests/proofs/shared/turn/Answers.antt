@@ -1,12 +1,12 @@
 use Rattle.std.proofs.Common.{sym, subst}
 use Rattle.table_heap.specs.State.{machine_at}
 use Rattle.table_heap.specs.Running.{AreAtWork}
-use Rattle.table_heap.proofs.Running.{same_bundle_more}
-use Rattle.hostile_tests.proofs.TurnsAgain.{of_same, has_same, works_on, others_on, can_note, works_noted, replied_may}
+use Rattle.table_heap.proofs.Running.{same_bundle_more, still_of}
+use Rattle.hostile_tests.proofs.TurnsAgain.{has_same, works_on, others_on, can_note, works_noted, replied_may}
 use Rattle.hostile_tests.proofs.shared.turn.Goals as goal
 
 pub step-said-requires-clause-heap : goal.step-said-requires-clause-heap
-step-said-requires-clause-heap c = of_same c.args.bundle.now c.order.new.bundle c.args.heap.now c.order.ensures.unmoved.same c.requires.heap
+step-said-requires-clause-heap c = still_of c.args.bundle.now c.order.new.bundle c.args.heap.now c.order.ensures.unmoved.same c.requires.heap
 
 pub step-said-requires-clause-here : goal.step-said-requires-clause-here
 step-said-requires-clause-here c = has_same c.args.bundle.now c.order.new.bundle c.args.number c.order.ensures.unmoved.same c.requires.here

@@ -2,7 +2,9 @@ use Rattle.std.proofs.Common.{◌<◌, List, length, sym, subst, ap, ◌∙◌, 
 use Rattle.std.specs.Prelude.{slice_get}
 use Rattle.arrayvec.specs.ArrayVec.{ArrayVec}
 use Rattle.managed_queue.specs.Users.{Use}
+use Rattle.table_heap.specs.Closed.{stage_of}
 use Rattle.table_heap.specs.State.{config_of, view_of}
+use Rattle.table_heap.proofs.Opened.{reached_from_opening}
 use Rattle.trace_runs.specs.declared.parts.Part.{Part}
 use Rattle.trace_runs.specs.DealtParts.{Assigned, AreReady, LoadIsDone, IsDone}
 use Rattle.trace_runs.specs.DealtParts.Assigned.{users}
@@ -105,7 +107,7 @@ taken_by-requires g c =
     let crew : ArrayVec Use = c.in-Driven.crew in
     let sizes : IsQueueHeap (config_of h) = can.heap in
     let view = c.close-closed.ensures.machines in
-    let leads = c.close-closed.ensures.reached in
+    let leads = reached_from_opening h c.queue_heap-config.result (stage_of c.close-closed.result) c.in_ok-heap.ensures.config c.in_ok-heap.ensures.opening c.close-closed.ensures.reached in
     let two = taker_there h n (length parts) all crew some done c.in-Driven.is sizes c.close-closed.result view leads 2 (omega arith) in
     let slice = c.as_slice.ensures.value in
     let three = taker_there h n (length parts) all crew some done c.in-Driven.is sizes c.close-closed.result view leads 3 (omega arith) in (
@@ -132,7 +134,7 @@ returns g c =
     let crew : ArrayVec Use = c.in-Driven.crew in
     let sizes : IsQueueHeap (config_of h) = can.heap in
     let view = c.close-closed.ensures.machines in
-    let leads = c.close-closed.ensures.reached in
+    let leads = reached_from_opening h c.queue_heap-config.result (stage_of c.close-closed.result) c.in_ok-heap.ensures.config c.in_ok-heap.ensures.opening c.close-closed.ensures.reached in
     let two = taker_there h n (length parts) all crew some done c.in-Driven.is sizes c.close-closed.result view leads 2 (omega arith) in
     let slice = c.as_slice.ensures.value in
     let three = taker_there h n (length parts) all crew some done c.in-Driven.is sizes c.close-closed.result view leads 3 (omega arith) in

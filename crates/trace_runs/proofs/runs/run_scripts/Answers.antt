@@ -1,6 +1,8 @@
 use Rattle.std.proofs.Common.{rules, ◌<◌, ◌≤◌, length, sym, subst, arith}
 use Rattle.heap_words.specs.declared.config.Config.{Config}
+use Rattle.table_heap.specs.Closed.{stage_of}
 use Rattle.table_heap.specs.State.{config_of, view_of}
+use Rattle.table_heap.proofs.Opened.{reached_from_opening}
 use Rattle.table_heap.specs.Running.{Jobs}
 use Rattle.trace_runs.specs.declared.parts.Part.{Part}
 use Rattle.trace_runs.specs.DealtParts.{Assigned, AreReady, LoadIsDone, IsDone}
@@ -97,4 +99,5 @@ returns g c =
     let did : LoadIsDone (config_of h) (by_scripts scripts) (length parts) 0 (length parts) (view_of all.bundle) (Scripted work) =
     subst (λ l. LoadIsDone (config_of h) (by_scripts scripts) (length parts) 0 (length parts) (view_of all.bundle) l) c.in-Scripted.is done.load in
     subst (λ (k : Config). HasCome k scripts work c.close-closed.result) c.in_ok-heap.ensures.config
-    (come h (by_scripts scripts) (length parts) all some done c.close-closed.result c.close-closed.ensures.machines scripts work did c.close-closed.ensures.config c.close-closed.ensures.reached)
+    (come h (by_scripts scripts) (length parts) all some done c.close-closed.result c.close-closed.ensures.machines scripts work did c.close-closed.ensures.config
+    (reached_from_opening h c.args.config (stage_of c.close-closed.result) c.in_ok-heap.ensures.config c.in_ok-heap.ensures.opening c.close-closed.ensures.reached))

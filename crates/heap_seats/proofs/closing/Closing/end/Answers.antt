@@ -2,10 +2,10 @@ use Rattle.std.proofs.Common.{sym, ap, ◌∙◌, subst}
 use Rattle.steps_base.specs.Steps.{IsReached}
 use Rattle.table_heap.specs.declared.heap.Heap.{Heap}
 use Rattle.table_heap.specs.Closed.{stage_of}
-use Rattle.table_heap.specs.Core.{heap_kind, heap_opening}
-use Rattle.table_heap.specs.State.{IsBundleOf}
+use Rattle.table_heap.specs.Core.{heap_kind}
+use Rattle.table_heap.specs.State.{start_of_heap, IsBundleOf}
 use Rattle.heap_seats.specs.GivenUp.{heap_closing, sizes_closing}
-use Rattle.heap_seats.proofs.Joined.{has_all, control_idle, all_rest, one_history}
+use Rattle.heap_seats.proofs.Joined.{has_all, control_idle, all_rest, one_history, machines_left}
 use Rattle.heap_seats.proofs.closing.Closing.end.Goals as goal
 
 pub close-requires-clause-heap : goal.close-requires-clause-heap
@@ -24,10 +24,15 @@ pub returns-in-Some-clause-history : goal.returns-in-Some-clause-history
 returns-in-Some-clause-history c seats given all over =
     let k = c.args.self in
     one_history (sizes_closing k) (heap_closing k) seats k.together all given c.close.result c.close.ensures.machines over
-    (subst (λ (h : Heap). IsReached (heap_kind h.config) (heap_opening h.config) (stage_of c.close.result)) c.in-Some.ensures c.close.ensures.reached)
+    (subst (λ (h : Heap). IsReached (heap_kind h.config) (start_of_heap h) (stage_of c.close.result)) c.in-Some.ensures c.close.ensures.reached)
 
 pub returns-in-Some-clause-rest : goal.returns-in-Some-clause-rest
 returns-in-Some-clause-rest c =
     let k = c.args.self in
     let w = c.requires.whole in
     all_rest (sizes_closing k) (heap_closing k) w.seats k.together w.all w.given c.close.result c.close.ensures.machines (c.close.ensures.config ∙ ap (λ (h : Heap). h.config) c.in-Some.ensures) w.over
+
+pub returns-in-Some-clause-machines : goal.returns-in-Some-clause-machines
+returns-in-Some-clause-machines c seats given all =
+    let closing = c.args.self in
+    machines_left (sizes_closing closing) (heap_closing closing) seats closing.together all given c.close.result c.close.ensures.machines

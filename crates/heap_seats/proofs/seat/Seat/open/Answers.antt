@@ -1,29 +1,40 @@
-use Rattle.std.proofs.Common.{refl, sym, ◌∙◌, subst}
+use Rattle.std.proofs.Common.{refl, sym, ap, ◌∙◌, subst}
 use Rattle.std.specs.Arc.{arc_value}
-use Rattle.table_heap.specs.State.{IsBundleOf}
+use Rattle.steps_base.specs.Steps.{Stage}
+use Rattle.step_core.specs.Actor.{Actor}
+use Rattle.table_heap.specs.Core.{start_of_key}
+use Rattle.table_heap.specs.State.{start_of_heap, IsBundleOf}
+use Rattle.heap_seats.specs.Histories.{BeginsRenewable}
 use Rattle.heap_seats.proofs.Opened.{fresh_here, fresh_only, fresh_run, fresh_machine, fresh_order, fresh_steps, fresh_calls}
 use Rattle.heap_seats.proofs.seat.Seat.open.Goals as goal
 
 pub invariant_of-result : goal.invariant_of-result
 invariant_of-result c =
     let h = arc_value c.args.heap.now in
+    let config = c.args.config in
+    let begins = c.requires.begins in
+    let fresh = c.requires.fresh in
     record {
-      fits = subst (IsBundleOf c.args.bundle) (sym c.in-Ok.ensures) c.requires.fresh.of;
-      here = fresh_here c.args.config h c.args.bundle c.args.number c.requires.inside c.requires.fresh;
-      only = fresh_only c.args.config h c.args.bundle c.args.number c.requires.fresh;
-      same_config = c.requires.fresh.of.config ∙ c.requires.config;
-      reached = fresh_run c.args.config h c.args.bundle c.args.number c.requires.inside c.requires.fresh;
+      fits = subst (IsBundleOf c.args.bundle) (sym c.in-Ok.ensures) fresh.of;
+      here = fresh_here config (start_of_heap h) begins h c.args.bundle c.args.number fresh c.requires.inside;
+      only = fresh_only config (start_of_heap h) begins h c.args.bundle c.args.number fresh;
+      same_config = fresh.of.config ∙ c.requires.config;
+      reached = fresh_run config h c.args.bundle c.args.number fresh;
+      renewable = subst (λ (s : Stage Actor). ∥ BeginsRenewable config s ∥₁) (sym (ap start_of_key fresh.of.key)) begins;
     }
 
 pub returns : goal.returns
 returns c =
     let h = arc_value c.args.heap.now in
+    let config = c.args.config in
+    let begins = c.requires.begins in
+    let fresh = c.requires.fresh in
     record {
       config = refl;
       heap = c.in-Ok.ensures;
       number = refl;
-      machine = fresh_machine c.args.config h c.args.bundle c.args.number c.requires.inside c.requires.fresh;
-      order = fresh_order c.args.config h c.args.bundle c.args.number c.requires.inside c.requires.fresh;
-      steps = fresh_steps c.args.config h c.args.bundle c.args.number c.requires.inside c.requires.fresh;
-      calls = fresh_calls c.args.config h c.args.bundle c.args.number c.requires.inside c.requires.fresh;
+      machine = fresh_machine config (start_of_heap h) begins h c.args.bundle c.args.number fresh c.requires.inside;
+      order = fresh_order config (start_of_heap h) begins h c.args.bundle c.args.number fresh c.requires.inside;
+      steps = fresh_steps config (start_of_heap h) begins h c.args.bundle c.args.number fresh c.requires.inside;
+      calls = fresh_calls config (start_of_heap h) begins h c.args.bundle c.args.number fresh c.requires.inside;
     }

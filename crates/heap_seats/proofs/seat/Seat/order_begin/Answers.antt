@@ -8,7 +8,7 @@ use Rattle.table_heap.specs.Core.{nobody}
 use Rattle.table_heap.specs.State.{machine_at, has_turn}
 use Rattle.heap_seats.specs.declared.progress.State.TheVariants.{Free}
 use Rattle.heap_seats.specs.Seats.{state_by}
-use Rattle.heap_seats.proofs.Known.{stays_of, stays_here, stays_only, unmoved_run, given_order, takes_turn}
+use Rattle.heap_seats.proofs.Known.{stays_of, stays_here, stays_only, stays_renewable, unmoved_run, given_order, takes_turn}
 use Rattle.heap_seats.proofs.seat.Seat.order_begin.Goals as goal
 
 free_may_begin : (turn may : Bool) → state_by turn may ≡ Free → may ≡ true
@@ -29,7 +29,8 @@ invariant_of-self c =
       here = stays_here s.bundle b s.number made.same s.here;
       only = stays_only s.bundle b s.number made.same s.only;
       same_config = made.same.config ∙ s.same_config;
-      reached = unmoved_run s.config s.bundle b made s.reached;
+      reached = unmoved_run s.bundle b made s.reached;
+      renewable = stays_renewable s.config s.bundle b made.same s.renewable;
     }
 
 pub returns : goal.returns

@@ -8,7 +8,7 @@ use Rattle.heap_machines.specs.Pause.{pause_image}
 use Rattle.step_core.specs.Machines.{machine_after}
 use Rattle.heap_seats.specs.Going.{said_of_step}
 use Rattle.heap_seats.proofs.Stepped.{calls_go, doing_goes, order_then, steps_then, machine_goes, answers_then}
-use Rattle.heap_seats.proofs.Known.{stays_of, stays_here, stays_only, goes_run}
+use Rattle.heap_seats.proofs.Known.{stays_of, stays_here, stays_only, stays_renewable, goes_run}
 use Rattle.heap_seats.proofs.seat.Seat.step.Goals as goal
 
 has_one : (turn : Bool) (said : Stepped) → (turn ≡ false → said ≡ stepped.Idle) → said ≢ stepped.Idle → turn ≡ true
@@ -25,7 +25,8 @@ invariant_of-self c =
       here = stays_here s.bundle b s.number made.same s.here;
       only = stays_only s.bundle b s.number made.same s.only;
       same_config = made.same.config ∙ s.same_config;
-      reached = goes_run s.config s.bundle b s.number c.step.result s.same_config made.unchanged made.event s.reached;
+      reached = goes_run s.bundle b s.number c.step.result made.same made.unchanged made.event s.reached;
+      renewable = stays_renewable s.config s.bundle b made.same s.renewable;
     }
 
 pub returns-clause-stepped : goal.returns-clause-stepped

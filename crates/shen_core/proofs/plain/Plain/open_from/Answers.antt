@@ -3,9 +3,10 @@ use Rattle.std.proofs.lemmas.List.Elements.{All-map}
 use Rattle.heap_words.specs.Ranges.{seat_count}
 use Rattle.shen_graph.specs.declared.order.Order.TheVariants.{Nothing}
 use Rattle.heap_machines.specs.Shown.{shown, order_of}
-use Rattle.shen_core.specs.FromImage.{stage_from}
+use Rattle.heap_machines.specs.FromImage.{stage_from}
 use Rattle.shen_core.specs.Runs.{IsShownBySome}
-use Rattle.shen_core.proofs.FromImage.{machines_count, begins_from, shows_from, shown_from, opened_shows, opened_orders}
+use Rattle.heap_machines.proofs.FromImages.{machines_count, begins_from}
+use Rattle.shen_core.proofs.FromImage.{shows_from, shown_from, opened_shows, opened_orders}
 use Rattle.shen_core.proofs.plain.Plain.open_from.Goals as goal
 
 pub returns-in_err-words-clause-begins : goal.returns-in_err-words-clause-begins

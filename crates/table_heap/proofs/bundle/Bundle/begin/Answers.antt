@@ -47,6 +47,7 @@ invariant_of-self c =
     let here = read_here shown b.machines.items c.args.number c.index_mut.result.now m inside c.index_mut.ensures.value (sym c.as_mut.ensures.value ∙ ap option_copied_mut c.in-Some.is) in
     let n = c.begin.new.self in
     record {
+      same_sizes = b.same_sizes;
       seats = length-set b.machines.items _ _ ∙ b.seats;
       kept = b.kept ∙ sym (put_same shown b.machines.items c.args.number m n here c.begin.ensures.shown);
       slots = b.slots;
@@ -72,4 +73,4 @@ pub begin-requires-clause-valid : goal.begin-requires-clause-valid
 begin-requires-clause-valid c = c.requires.valid
 
 pub returns-clause-unmoved : goal.returns-clause-unmoved
-returns-clause-unmoved c = record { same = record { table = refl; config = refl; numbers = same_none (view_of c.args.self.now) }; view = refl; steps = refl; greyed = refl }
+returns-clause-unmoved c = record { same = record { table = refl; config = refl; key = refl; numbers = same_none (view_of c.args.self.now) }; view = refl; steps = refl; greyed = refl }

@@ -16,6 +16,7 @@ pub invariant_of-self : goal.invariant_of-self
 invariant_of-self c =
     let b = c.args.self.now in
     record {
+      same_sizes = b.same_sizes;
       seats = b.seats;
       kept = b.kept;
       slots = b.slots;
@@ -31,6 +32,7 @@ invariant_of-self-in_default-deal_machines c =
     let b = c.args.self.now in
     let same = ap (λ v. v.items) c.in_default-deal_machines.ensures.refused in
     record {
+      same_sizes = b.same_sizes;
       seats = ap length same ∙ b.seats;
       kept = b.kept ∙ ap (kept_in_view shown) (sym same);
       slots = b.slots;
@@ -45,6 +47,7 @@ invariant_of-self-2 c =
     let b = c.args.self.now in
     let left = c.in-Ok-deal_machines.ensures.left in
     record {
+      same_sizes = b.same_sizes;
       seats = ap length left ∙ length-picked (λ number. not (is_dealt_to c.args.bundles c.args.bundle number)) b.machines.items ∙ b.seats;
       kept = ap (λ me. kept_in_view machine_in (uncounted_view me.0)) c.deal_bundle-seat.ensures.kept.1
           ∙ ap (kept_in_view machine_in) (kept-picked uncounted_machine (λ number. not (is_dealt_to c.args.bundles c.args.bundle number)) b.seat.me.0)
@@ -87,7 +90,7 @@ invariant_of-result-clause-greys c =
 
 pub returns-clause-dealt : goal.returns-clause-dealt
 returns-clause-dealt c = (
-  record { table = c.deal_bundle-seat.ensures.dealt.0 ∙ c.requires.heap.table; config = c.requires.heap.config },
+  record { table = c.deal_bundle-seat.ensures.dealt.0 ∙ c.requires.heap.table; config = c.requires.heap.config; key = c.of.ensures },
   ap (λ me. uncounted_view me.0) c.deal_bundle-seat.ensures.dealt.1 ∙ kept-picked uncounted_machine (is_dealt_to c.args.bundles c.args.bundle) c.args.self.now.seat.me.0,
   ap (kept_in_view order_of) c.in-Ok-deal_machines.ensures.dealt ∙ kept-picked order_of (is_dealt_to c.args.bundles c.args.bundle) c.args.self.now.machines.items,
   ap (λ me. steps_in_view me.0) c.deal_bundle-seat.ensures.dealt.1 ∙ kept-picked steps_made (is_dealt_to c.args.bundles c.args.bundle) c.args.self.now.seat.me.0,

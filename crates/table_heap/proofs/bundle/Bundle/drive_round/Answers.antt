@@ -2,6 +2,7 @@ use Rattle.std.proofs.Common.{◌+◌, refl, sym, ap, ◌∙◌, subst, arith}
 use Rattle.std.specs.Prelude.{nat_lt, if◌then◌else◌}
 use Rattle.table_heap.specs.Driving.{has_mutator}
 use Rattle.table_heap.proofs.Counting.{count_low}
+use Rattle.table_heap.proofs.Running.{still_of}
 use Rattle.table_heap.proofs.Rounds.{IsDrivenRound, round_first, all_idle, place_now, driven_turn, driven_none}
 use Rattle.table_heap.proofs.bundle.Bundle.drive_round.Goals.{then-has, else-has}
 use Rattle.table_heap.proofs.bundle.Bundle.drive_round.Goals as goal
@@ -11,7 +12,7 @@ loop-number-init g c = record { driving = λ firsts begun. begun; round = round_
 
 pub drive_turn-requires-clause-heap : goal.drive_turn-requires-clause-heap
 drive_turn-requires-clause-heap g c κs within =
-    record { table = c.loop-number.invariant.round.same.table ∙ c.requires.heap.table; config = c.loop-number.invariant.round.same.config ∙ c.requires.heap.config }
+    still_of c.args.self.now c.loop-number.self c.args.heap.now c.loop-number.invariant.round.same c.requires.heap
 
 pub drive_turn-requires-clause-place : goal.drive_turn-requires-clause-place
 drive_turn-requires-clause-place g c κs within =

@@ -39,6 +39,7 @@ invariant_of-self c =
     let here = read_here shown b.machines.items c.args.number c.index_mut.result.now m inside c.index_mut.ensures.value (sym c.as_mut.ensures.value ∙ ap option_copied_mut c.in-Some.is) in
     let n = c.finish.new.self in
     record {
+      same_sizes = b.same_sizes;
       seats = length-set b.machines.items _ _ ∙ b.seats;
       kept = b.kept ∙ sym (put_same shown b.machines.items c.args.number m n here c.finish.ensures.shown);
       slots = b.slots;
@@ -61,4 +62,4 @@ returns-clause-takes c =
     ap (λ x. takes_of x (End)) (shows_as shown b.machines.items c.args.number m no_machine here) ∙ c.finish.ensures.takes
 
 pub returns-clause-unmoved : goal.returns-clause-unmoved
-returns-clause-unmoved c = record { same = record { table = refl; config = refl; numbers = same_none (view_of c.args.self.now) }; view = refl; steps = refl; greyed = refl }
+returns-clause-unmoved c = record { same = record { table = refl; config = refl; key = refl; numbers = same_none (view_of c.args.self.now) }; view = refl; steps = refl; greyed = refl }

@@ -2,7 +2,7 @@ use Rattle.std.proofs.Common.{Some, None, sym, ap, ◌∙◌}
 use Rattle.std.specs.Prelude.{if◌then◌else◌}
 use Rattle.std.proofs.lemmas.Bool.{false≢true}
 use Rattle.table_heap.specs.State.{order_at}
-use Rattle.table_heap.proofs.Running.{same_bundle_more}
+use Rattle.table_heap.proofs.Running.{same_bundle_more, still_of}
 use Rattle.table_heap.proofs.Hinting.{after_hint, same_after, stepped_after, here_still}
 use Rattle.table_heap.proofs.bundle.Bundle.go_on.Goals as goal
 
@@ -17,10 +17,9 @@ returns-then-not-order_next-clause-idle g c = λ _.
     c.order_next.ensures.turn ∙ ap (λ has. if has then Some (order_at c.order_next.new.self c.args.number) else None) c.if-not-order_next.true
 
 pub step-said-requires-clause-heap : goal.step-said-requires-clause-heap
-step-said-requires-clause-heap g c = record {
-  table = c.take_hint.ensures.unmoved.same.table ∙ c.order_next.ensures.unmoved.same.table ∙ c.requires.heap.table;
-  config = c.take_hint.ensures.unmoved.same.config ∙ c.order_next.ensures.unmoved.same.config ∙ c.requires.heap.config;
-}
+step-said-requires-clause-heap g c =
+    still_of c.args.self.now c.take_hint.new.self c.args.heap.now
+    (same_bundle_more c.args.self.now c.order_next.new.self c.take_hint.new.self c.order_next.ensures.unmoved.same c.take_hint.ensures.unmoved.same) c.requires.heap
 
 pub returns-clause-same : goal.returns-clause-same
 returns-clause-same g c =

@@ -1,7 +1,7 @@
-use Rattle.std.proofs.Common.{None, refl, ◌∙◌, ◌-◌}
+use Rattle.std.proofs.Common.{None, refl, ◌-◌}
 use Rattle.table_heap.specs.Running.{next_for}
 use Rattle.table_heap.specs.State.{heap_of}
-use Rattle.table_heap.proofs.Running.{same_bundle, same_bundle_more}
+use Rattle.table_heap.proofs.Running.{same_bundle, same_bundle_more, still_of}
 use Rattle.table_heap.proofs.Turning.{no_order, turned_on}
 use Rattle.table_heap.proofs.bundle.Bundle.go_through_image.Goals as goal
 
@@ -10,7 +10,7 @@ loop-init g c = record { same = same_bundle c.args.self.now; orders = c.requires
 
 pub go_on_inside_image-requires-clause-heap : goal.go_on_inside_image-requires-clause-heap
 go_on_inside_image-requires-clause-heap g c = λ _ _.
-    record { table = c.loop.invariant.same.table ∙ c.requires.heap.table; config = c.loop.invariant.same.config ∙ c.requires.heap.config }
+    still_of c.args.self.now c.loop.self c.args.heap.now c.loop.invariant.same c.requires.heap
 
 pub loop-preserved : goal.loop-preserved
 loop-preserved g c =

@@ -48,6 +48,7 @@ invariant_of-self c =
     let here = read_here shown b.machines.items c.args.number c.index_mut.result.now m inside c.index_mut.ensures.value (sym c.as_mut.ensures.value ∙ ap option_copied_mut c.in-Some.is) in
     let n = c.give_hint.new.self in
     record {
+      same_sizes = b.same_sizes;
       seats = length-set b.machines.items _ _ ∙ b.seats;
       kept = b.kept ∙ sym (put_same shown b.machines.items c.args.number m n here c.give_hint.ensures.shown);
       slots = b.slots;
@@ -70,4 +71,4 @@ returns-clause-takes c =
     ap (λ x. takes_of x (Hint c.args.address)) (shows_as shown b.machines.items c.args.number m no_machine here) ∙ c.give_hint.ensures.takes
 
 pub returns-clause-unmoved : goal.returns-clause-unmoved
-returns-clause-unmoved c = record { same = record { table = refl; config = refl; numbers = same_none (view_of c.args.self.now) }; view = refl; steps = refl; greyed = refl }
+returns-clause-unmoved c = record { same = record { table = refl; config = refl; key = refl; numbers = same_none (view_of c.args.self.now) }; view = refl; steps = refl; greyed = refl }

@@ -28,6 +28,7 @@ invariant_of-self c =
     let long : length a.machines.items ≡ length b.machines.items =
     a.seats ∙ ap (λ k. seat_count k.mutators k.helpers) (c.requires.this.config ∙ sym c.requires.other.config) ∙ sym b.seats in
     record {
+      same_sizes = a.same_sizes;
       seats = ap length c.join_machines.ensures ∙ length-merged a.machines.items b.machines.items long ∙ a.seats;
       kept = ap (λ me. kept_in_view machine_in (uncounted_view me.0)) c.join_bundle.ensures.1 ∙ ap (kept_in_view machine_in) (kept-merged uncounted_machine a.seat.me.0 b.seat.me.0)
           ∙ kept-merged machine_in (view_of a) (view_of b) ∙ ap (λ v. merged v (kept_in_view machine_in (view_of b))) a.kept ∙ ap (merged (kept_in_view shown a.machines.items)) b.kept

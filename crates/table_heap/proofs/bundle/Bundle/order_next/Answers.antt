@@ -50,6 +50,7 @@ invariant_of-self c =
     let here = read_here shown b.machines.items c.args.number c.index_mut.result.now m inside c.index_mut.ensures.value (sym c.as_mut.ensures.value ∙ ap option_copied_mut c.in-Some.is) in
     let n = c.order_next.new.self in
     record {
+      same_sizes = b.same_sizes;
       seats = length-set b.machines.items _ _ ∙ b.seats;
       kept = b.kept ∙ sym (put_same shown b.machines.items c.args.number m n here c.order_next.ensures.shown);
       slots = b.slots;
@@ -102,9 +103,9 @@ returns-clause-unchanged c = λ none.
     let n = c.order_next.new.self in
     let was = c.requires.orders c.args.number (order_of m) (shows_here order_of b.machines.items c.args.number m here) in
     record {
-      unmoved = record { same = record { table = refl; config = refl; numbers = same_none (view_of b) }; view = refl; steps = refl; greyed = refl };
+      unmoved = record { same = record { table = refl; config = refl; key = refl; numbers = same_none (view_of b) }; view = refl; steps = refl; greyed = refl };
       orders = put_same order_of b.machines.items c.args.number m n here (c.order_next.ensures.idle none ∙ sym was);
     }
 
 pub returns-clause-unmoved : goal.returns-clause-unmoved
-returns-clause-unmoved c = record { same = record { table = refl; config = refl; numbers = same_none (view_of c.args.self.now) }; view = refl; steps = refl; greyed = refl }
+returns-clause-unmoved c = record { same = record { table = refl; config = refl; key = refl; numbers = same_none (view_of c.args.self.now) }; view = refl; steps = refl; greyed = refl }

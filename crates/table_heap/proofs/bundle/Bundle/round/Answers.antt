@@ -1,5 +1,5 @@
 use Rattle.std.proofs.Common.{◌+◌, sym, ◌∙◌, subst, arith}
-use Rattle.table_heap.proofs.Running.{same_jobs}
+use Rattle.table_heap.proofs.Running.{same_jobs, still_of}
 use Rattle.table_heap.proofs.Rounds.{IsInRound, round_first, in_round_turn, in_round_none, all_idle}
 use Rattle.table_heap.proofs.bundle.Bundle.round.Goals.{then-has, else-has}
 use Rattle.table_heap.proofs.bundle.Bundle.round.Goals as goal
@@ -9,7 +9,7 @@ loop-number-init g c = record { work = c.requires.work; jobs_are = same_jobs _ c
 
 pub turn-requires-clause-heap : goal.turn-requires-clause-heap
 turn-requires-clause-heap g c = λ _ _.
-    record { table = c.loop-number.invariant.round.same.table ∙ c.requires.heap.table; config = c.loop-number.invariant.round.same.config ∙ c.requires.heap.config }
+    still_of c.args.self.now c.loop-number.self c.args.heap.now c.loop-number.invariant.round.same c.requires.heap
 
 pub turn-requires-clause-here : goal.turn-requires-clause-here
 turn-requires-clause-here g c = λ _ _. sym c.has.ensures.machine ∙ c.if-has.true

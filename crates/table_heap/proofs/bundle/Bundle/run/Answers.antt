@@ -1,5 +1,4 @@
-use Rattle.std.proofs.Common.{◌∙◌}
-use Rattle.table_heap.proofs.Running.{same_bundle, same_bundle_more, same_jobs, same_jobs_more}
+use Rattle.table_heap.proofs.Running.{same_bundle, same_bundle_more, same_jobs, same_jobs_more, still_of}
 use Rattle.table_heap.proofs.Rounds.{at_start, have_done}
 use Rattle.table_heap.proofs.bundle.Bundle.run.Goals as goal
 
@@ -7,7 +6,7 @@ pub loop-init : goal.loop-init
 loop-init g c = record { work = at_start c.args.self.now c.args.work.now c.requires.start; same = same_bundle c.args.self.now; jobs = same_jobs _ c.args.work.now }
 
 pub round-said-requires-clause-heap : goal.round-said-requires-clause-heap
-round-said-requires-clause-heap g c = λ _ _. record { table = c.loop.invariant.same.table ∙ c.requires.heap.table; config = c.loop.invariant.same.config ∙ c.requires.heap.config }
+round-said-requires-clause-heap g c = λ _ _. still_of c.args.self.now c.loop.self c.args.heap.now c.loop.invariant.same c.requires.heap
 
 pub returns-in-Idle-clause-same : goal.returns-in-Idle-clause-same
 returns-in-Idle-clause-same g c = same_bundle_more c.args.self.now c.loop.self c.round-said.new.self c.loop.invariant.same c.round-said.ensures.same

@@ -15,7 +15,10 @@ use Rattle.heap_machines.specs.Answer.{stepped_of, stepped_by, says}
 use Rattle.heap_machines.specs.Shown.{shown, order_of, heap_of, no_machine}
 use Rattle.heap_machines.specs.Roles.{is_mutating}
 use Rattle.step_core.specs.Machines.{takes_of, place_in, reply_in}
-use Rattle.table_heap.specs.Core.{heap_kind, heap_opening}
+use Rattle.heap_words.specs.declared.config.Config.{Config}
+use Rattle.shared_table.specs.Rule.{Took}
+use Rattle.table_heap.specs.declared.key.HeapKey.{HeapKey}
+use Rattle.table_heap.specs.Core.{heap_kind, start_of_key}
 use Rattle.table_heap.specs.State as State
 use Rattle.table_heap.specs.State.{order_at}
 use Rattle.table_heap.proofs.MachineUnder.{within, read_here, never_none, shows_as, put_same, put_there}
@@ -50,6 +53,7 @@ invariant_of-self c =
     let inside = within shown b.machines.items c.args.number c.requires.here in
     let here = read_here shown b.machines.items c.args.number c.index_mut.result.now m inside c.index_mut.ensures.value (sym c.as_mut.ensures.value ∙ ap option_copied_mut c.in-Some.is) in
     record {
+      same_sizes = b.same_sizes;
       seats = length-set b.machines.items _ _ ∙ b.seats;
       kept = b.kept ∙ sym (put_same shown b.machines.items c.args.number m m here refl);
       slots = b.slots;
@@ -88,12 +92,12 @@ returns-then-is_idle-clause-unchanged c = λ none.
     let inside = within shown b.machines.items c.args.number c.requires.here in
     let here = read_here shown b.machines.items c.args.number c.index_mut.result.now m inside c.index_mut.ensures.value (sym c.as_mut.ensures.value ∙ ap option_copied_mut c.in-Some.is) in
     record {
-      unmoved = record { same = record { table = refl; config = refl; numbers = same_none (State.view_of b) }; view = refl; steps = refl; greyed = refl };
+      unmoved = record { same = record { table = refl; config = refl; key = refl; numbers = same_none (State.view_of b) }; view = refl; steps = refl; greyed = refl };
       orders = put_same order_of b.machines.items c.args.number m m here refl;
     }
 
 pub returns-then-is_idle-clause-same : goal.returns-then-is_idle-clause-same
-returns-then-is_idle-clause-same c = record { table = refl; config = refl; numbers = same_none (State.view_of c.args.self.now) }
+returns-then-is_idle-clause-same c = record { table = refl; config = refl; key = refl; numbers = same_none (State.view_of c.args.self.now) }
 
 pub returns-then-is_idle-clause-done : goal.returns-then-is_idle-clause-done
 returns-then-is_idle-clause-done c =
@@ -116,7 +120,6 @@ make_step-got-requires-clause-inside c =
     let inside = within shown b.machines.items c.args.number c.requires.here in
     let here = read_here shown b.machines.items c.args.number c.index_mut.result.now m inside c.index_mut.ensures.value (sym c.as_mut.ensures.value ∙ ap option_copied_mut c.in-Some.is) in
     let heap = (b.of_heap c.args.number m here).heap in
-    let key = c.args.heap.now.key ∙ sym c.requires.heap.config in
     let words : c.args.heap.now.table.shared.table_id.words ≡ table_words (heap_of m) = c.args.heap.now.all_words ∙ ap table_words (sym c.requires.heap.config ∙ sym heap) in
     subst (λ n. table_index c.plan.result < n) (sym words) c.plan.ensures.inside
 
@@ -127,11 +130,12 @@ make_step-got-requires-clause-machine c =
     let inside = within shown b.machines.items c.args.number c.requires.here in
     let here = read_here shown b.machines.items c.args.number c.index_mut.result.now m inside c.index_mut.ensures.value (sym c.as_mut.ensures.value ∙ ap option_copied_mut c.in-Some.is) in
     let heap = (b.of_heap c.args.number m here).heap in
-    let key = c.args.heap.now.key ∙ sym c.requires.heap.config in
+    let key : c.args.heap.now.table.shared.key ≡ b.key.value = c.args.heap.now.table_key ∙ sym c.requires.heap.key in
+    let sizes : c.args.heap.now.table.shared.key.config ≡ b.config = ap (λ (k : HeapKey). k.config) key ∙ b.same_sizes in
     let turn = c.is_idle.ensures ∙ ap not c.if-is_idle.false in
-    can_counted (heap_kind c.args.heap.now.table.shared.key) b.seat.me.0 c.args.number c.order.result c.plan.result
-    (can_as c.args.heap.now.table.shared.key b.config (State.view_of b) c.args.number c.order.result (order_of m) c.plan.result key c.order.ensures
-    (can b.config b.machines.items (uncounted_seat b.seat.me) b.kept c.args.number m here c.plan.result heap turn c.plan.ensures.row))
+    can_counted (heap_kind c.args.heap.now.table.shared.key.config) b.seat.me.0 c.args.number c.order.result c.plan.result
+    (can_as c.args.heap.now.table.shared.key.config b.config (State.view_of b) c.args.number c.order.result (order_of m) c.plan.result sizes c.order.ensures
+    (can b.config b.key.value b.same_sizes b.machines.items (uncounted_seat b.seat.me) b.kept c.args.number m here c.plan.result heap turn c.plan.ensures.row))
 
 pub took-said-requires-clause-fit : goal.took-said-requires-clause-fit
 took-said-requires-clause-fit c =
@@ -140,9 +144,9 @@ took-said-requires-clause-fit c =
     let inside = within shown b.machines.items c.args.number c.requires.here in
     let here = read_here shown b.machines.items c.args.number c.index_mut.result.now m inside c.index_mut.ensures.value (sym c.as_mut.ensures.value ∙ ap option_copied_mut c.in-Some.is) in
     let heap = (b.of_heap c.args.number m here).heap in
-    let key = c.args.heap.now.key ∙ sym c.requires.heap.config in
-    let took = took_in c.args.heap.now.table.shared.key b.config c.args.number c.order.result (order_of m) b.seat.me c.make_step-got.result c.make_step-got.new.seat.me key c.order.ensures c.make_step-got.ensures.took in
-    fits b.config b.machines.items (uncounted_seat b.seat.me) b.kept c.args.number m here c.make_step-got.result (uncounted_seat c.make_step-got.new.seat.me) took heap
+    let key : c.args.heap.now.table.shared.key ≡ b.key.value = c.args.heap.now.table_key ∙ sym c.requires.heap.key in
+    let took = took_in c.args.heap.now.table.shared.key b.key.value b.config c.args.number c.order.result (order_of m) b.seat.me c.make_step-got.result c.make_step-got.new.seat.me key b.same_sizes c.order.ensures c.make_step-got.ensures.took in
+    fits b.config b.key.value b.same_sizes b.machines.items (uncounted_seat b.seat.me) b.kept c.args.number m here c.make_step-got.result (uncounted_seat c.make_step-got.new.seat.me) took heap
 
 pub invariant_of-self-2 : goal.invariant_of-self-2
 invariant_of-self-2 c =
@@ -151,15 +155,16 @@ invariant_of-self-2 c =
     let inside = within shown b.machines.items c.args.number c.requires.here in
     let here = read_here shown b.machines.items c.args.number c.index_mut.result.now m inside c.index_mut.ensures.value (sym c.as_mut.ensures.value ∙ ap option_copied_mut c.in-Some.is) in
     let heap = (b.of_heap c.args.number m here).heap in
-    let key = c.args.heap.now.key ∙ sym c.requires.heap.config in
-    let took = took_in c.args.heap.now.table.shared.key b.config c.args.number c.order.result (order_of m) b.seat.me c.make_step-got.result c.make_step-got.new.seat.me key c.order.ensures c.make_step-got.ensures.took in
+    let key : c.args.heap.now.table.shared.key ≡ b.key.value = c.args.heap.now.table_key ∙ sym c.requires.heap.key in
+    let took = took_in c.args.heap.now.table.shared.key b.key.value b.config c.args.number c.order.result (order_of m) b.seat.me c.make_step-got.result c.make_step-got.new.seat.me key b.same_sizes c.order.ensures c.make_step-got.ensures.took in
     let n = c.took-said.new.self in
     record {
+      same_sizes = b.same_sizes;
       seats = length-set b.machines.items _ _ ∙ b.seats;
-      kept = kept_after b.config b.machines.items (uncounted_seat b.seat.me) b.kept c.args.number m here c.make_step-got.result (uncounted_seat c.make_step-got.new.seat.me) took n c.took-said.ensures.shown heap;
+      kept = kept_after b.config b.key.value b.same_sizes b.machines.items (uncounted_seat b.seat.me) b.kept c.args.number m here c.make_step-got.result (uncounted_seat c.make_step-got.new.seat.me) took n c.took-said.ensures.shown heap;
       slots = took.slots ∙ b.slots;
       of_heap = heap_put b.config b.machines.items c.args.number m n here c.took-said.ensures.heap
-          (role_after b.config b.machines.items (uncounted_seat b.seat.me) b.kept c.args.number m here c.make_step-got.result (uncounted_seat c.make_step-got.new.seat.me) took n c.took-said.ensures.shown heap) b.of_heap;
+          (role_after b.config b.key.value b.same_sizes b.machines.items (uncounted_seat b.seat.me) b.kept c.args.number m here c.make_step-got.result (uncounted_seat c.make_step-got.new.seat.me) took n c.took-said.ensures.shown heap) b.of_heap;
       greys = (greys_step b.config b.machines.items b.greyed.items c.args.number m n c.greys-greyed.result here
           (subst (λ k. IfSome c.greys-greyed.result (λ address. IsWord k (Heap address))) heap c.greys-greyed.ensures.heap) b.greys);
       hints_of_heap = b.hints_of_heap;
@@ -173,15 +178,16 @@ returns-clause-event c = λ _.
     let inside = within shown b.machines.items c.args.number c.requires.here in
     let here = read_here shown b.machines.items c.args.number c.index_mut.result.now m inside c.index_mut.ensures.value (sym c.as_mut.ensures.value ∙ ap option_copied_mut c.in-Some.is) in
     let heap = (b.of_heap c.args.number m here).heap in
-    let key = c.args.heap.now.key ∙ sym c.requires.heap.config in
+    let key : c.args.heap.now.table.shared.key ≡ b.key.value = c.args.heap.now.table_key ∙ sym c.requires.heap.key in
     let at = shows_as shown b.machines.items c.args.number m no_machine here in
     let given = shows_as order_of b.machines.items c.args.number m Nothing here in
     let n = c.took-said.new.self in
-    let took = took_as c.args.heap.now.table.shared.key b.config c.args.number c.order.result (order_at b c.args.number) b.seat.me c.make_step-got.result c.make_step-got.new.seat.me key (c.order.ensures ∙ sym given) c.make_step-got.ensures.took in
+    let took = took_as c.args.heap.now.table.shared.key b.key.value c.args.number c.order.result (order_at b c.args.number) b.seat.me c.make_step-got.result c.make_step-got.new.seat.me key (c.order.ensures ∙ sym given) c.make_step-got.ensures.took in
     record {
       got = c.make_step-got.result;
-      took = took_uncounted (heap_kind b.config) (heap_opening b.config) c.args.number (order_at b c.args.number) b.seat.me c.make_step-got.new.seat.me c.make_step-got.result took;
-      steps = step_counted b.config c.args.number (order_at b c.args.number) b.seat.me c.make_step-got.new.seat.me c.make_step-got.result took;
+      took = subst (λ (d : Config). Took (heap_kind d) (start_of_key b.key.value) c.args.number (order_at b c.args.number) (uncounted_seat b.seat.me) c.make_step-got.result (uncounted_seat c.make_step-got.new.seat.me)) b.same_sizes
+          (took_uncounted (heap_kind b.key.value.config) (start_of_key b.key.value) c.args.number (order_at b c.args.number) b.seat.me c.make_step-got.new.seat.me c.make_step-got.result took);
+      steps = step_counted b.key.value c.args.number (order_at b c.args.number) b.seat.me c.make_step-got.new.seat.me c.make_step-got.result took;
       said_is = c.of.ensures ∙ ap stepped_by (sym c.took-said.ensures.answer) ∙ ap (λ k. says k (order_of m) (shown m) c.make_step-got.result) heap
           ∙ ap (λ order. says b.config order (shown m) c.make_step-got.result) (sym given) ∙ ap (λ x. says b.config (order_at b c.args.number) x c.make_step-got.result) (sym at);
       greyed = ap (λ x. slice_set b.greyed.items c.args.number x) (c.greys-greyed.ensures.row ∙ ap greys_of (sym at));
@@ -195,9 +201,9 @@ returns-clause-same c =
     let inside = within shown b.machines.items c.args.number c.requires.here in
     let here = read_here shown b.machines.items c.args.number c.index_mut.result.now m inside c.index_mut.ensures.value (sym c.as_mut.ensures.value ∙ ap option_copied_mut c.in-Some.is) in
     let heap = (b.of_heap c.args.number m here).heap in
-    let key = c.args.heap.now.key ∙ sym c.requires.heap.config in
-    let took = took_in c.args.heap.now.table.shared.key b.config c.args.number c.order.result (order_of m) b.seat.me c.make_step-got.result c.make_step-got.new.seat.me key c.order.ensures c.make_step-got.ensures.took in
-    record { table = c.make_step-got.ensures.table.0; config = refl; numbers = numbers_stay b.config b.machines.items (uncounted_seat b.seat.me) b.kept c.args.number m here c.make_step-got.result (uncounted_seat c.make_step-got.new.seat.me) took }
+    let key : c.args.heap.now.table.shared.key ≡ b.key.value = c.args.heap.now.table_key ∙ sym c.requires.heap.key in
+    let took = took_in c.args.heap.now.table.shared.key b.key.value b.config c.args.number c.order.result (order_of m) b.seat.me c.make_step-got.result c.make_step-got.new.seat.me key b.same_sizes c.order.ensures c.make_step-got.ensures.took in
+    record { table = c.make_step-got.ensures.table.0; config = refl; key = refl; numbers = numbers_stay b.config b.key.value b.same_sizes b.machines.items (uncounted_seat b.seat.me) b.kept c.args.number m here c.make_step-got.result (uncounted_seat c.make_step-got.new.seat.me) took }
 
 pub returns-clause-idle : goal.returns-clause-idle
 returns-clause-idle c =

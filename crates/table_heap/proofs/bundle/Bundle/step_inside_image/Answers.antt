@@ -1,11 +1,13 @@
-use Rattle.std.proofs.Common.{◌≡◌, ◌<◌, ℕ, true, not, Some, None, refl, sym, ap, ◌∙◌, subst, arith}
+use Rattle.std.proofs.Common.{◌≡◌, ◌<◌, ℕ, true, Some, None, refl, sym, ap, ◌∙◌, subst, arith}
 use Rattle.std.specs.Prelude.{slice_set}
 use Rattle.std.specs.Option.{option_copied_mut}
 use Rattle.std.proofs.lemmas.List.{length-set}
+use Rattle.heap_words.specs.declared.config.Config.{Config}
 use Rattle.heap_words.specs.Access.{table_index}
 use Rattle.heap_words.specs.Words.{table_words}
 use Rattle.shen_graph.specs.declared.order.Order.TheVariants.{Nothing}
 use Rattle.shared_table.specs.Counted.{uncounted_seat}
+use Rattle.shared_table.specs.Rule.{Took}
 use Rattle.shared_table.specs.Views.{machine_of, kept_in_view}
 use Rattle.shared_table.proofs.Counted.{can_counted, took_uncounted}
 use Rattle.shared_table.proofs.Kept.{kept-set}
@@ -14,8 +16,9 @@ use Rattle.heap_machines.specs.Inside.{is_inside_image}
 use Rattle.heap_machines.specs.Shown.{shown, order_of, heap_of, no_machine}
 use Rattle.heap_machines.specs.declared.machine.Machine.{Machine}
 use Rattle.heap_machines.proofs.Inside.{goes_inside}
-use Rattle.step_core.specs.Machines.{takes_of, answer_of}
-use Rattle.table_heap.specs.Core.{heap_kind, heap_opening}
+use Rattle.step_core.specs.Machines.{takes_of}
+use Rattle.table_heap.specs.declared.key.HeapKey.{HeapKey}
+use Rattle.table_heap.specs.Core.{heap_kind, start_of_key}
 use Rattle.table_heap.specs.State as State
 use Rattle.table_heap.specs.State.{order_at}
 use Rattle.table_heap.specs.declared.bundle.Bundle.{Bundle}
@@ -76,12 +79,12 @@ make_step-got-requires-clause-machine c =
     let inside = within shown b.machines.items c.args.number c.requires.here in
     let here = read_here shown b.machines.items c.args.number c.index_mut.result.now m inside c.index_mut.ensures.value (sym c.as_mut.ensures.value ∙ ap option_copied_mut c.in-Some.is) in
     let heap = (b.of_heap c.args.number m here).heap in
-    let key = c.args.heap.now.key ∙ sym c.requires.heap.config in
+    let key : c.args.heap.now.table.shared.key ≡ b.key.value = c.args.heap.now.table_key ∙ sym c.requires.heap.key in
     let goes = inside_here b c.args.number m here c.requires.inside in
     let turn = ap (takes_of (shown m)) c.plan_inside_image.ensures.none ∙ (goes_inside (heap_of m) (shown m) goes).takes in
-    can_counted (heap_kind c.args.heap.now.table.shared.key) b.seat.me.0 c.args.number Nothing c.plan_inside_image.result
-    (can_as c.args.heap.now.table.shared.key b.config (State.view_of b) c.args.number Nothing (order_of m) c.plan_inside_image.result key (sym c.plan_inside_image.ensures.none)
-    (can b.config b.machines.items (uncounted_seat b.seat.me) b.kept c.args.number m here c.plan_inside_image.result heap turn c.plan_inside_image.ensures.row))
+    can_counted (heap_kind c.args.heap.now.table.shared.key.config) b.seat.me.0 c.args.number Nothing c.plan_inside_image.result
+    (can_as c.args.heap.now.table.shared.key.config b.config (State.view_of b) c.args.number Nothing (order_of m) c.plan_inside_image.result (ap (λ (k : HeapKey). k.config) key ∙ b.same_sizes) (sym c.plan_inside_image.ensures.none)
+    (can b.config b.key.value b.same_sizes b.machines.items (uncounted_seat b.seat.me) b.kept c.args.number m here c.plan_inside_image.result heap turn c.plan_inside_image.ensures.row))
 
 pub invariant_of-self : goal.invariant_of-self
 invariant_of-self c =
@@ -90,15 +93,16 @@ invariant_of-self c =
     let inside = within shown b.machines.items c.args.number c.requires.here in
     let here = read_here shown b.machines.items c.args.number c.index_mut.result.now m inside c.index_mut.ensures.value (sym c.as_mut.ensures.value ∙ ap option_copied_mut c.in-Some.is) in
     let heap = (b.of_heap c.args.number m here).heap in
-    let key = c.args.heap.now.key ∙ sym c.requires.heap.config in
-    let took = took_in c.args.heap.now.table.shared.key b.config c.args.number Nothing (order_of m) b.seat.me c.make_step-got.result c.make_step-got.new.seat.me key (sym c.plan_inside_image.ensures.none) c.make_step-got.ensures.took in
+    let key : c.args.heap.now.table.shared.key ≡ b.key.value = c.args.heap.now.table_key ∙ sym c.requires.heap.key in
+    let took = took_in c.args.heap.now.table.shared.key b.key.value b.config c.args.number Nothing (order_of m) b.seat.me c.make_step-got.result c.make_step-got.new.seat.me key b.same_sizes (sym c.plan_inside_image.ensures.none) c.make_step-got.ensures.took in
     let n = c.took_inside_image.new.self in
     record {
+      same_sizes = b.same_sizes;
       seats = length-set b.machines.items _ _ ∙ b.seats;
-      kept = kept_after b.config b.machines.items (uncounted_seat b.seat.me) b.kept c.args.number m here c.make_step-got.result (uncounted_seat c.make_step-got.new.seat.me) took n c.took_inside_image.ensures.shown heap;
+      kept = kept_after b.config b.key.value b.same_sizes b.machines.items (uncounted_seat b.seat.me) b.kept c.args.number m here c.make_step-got.result (uncounted_seat c.make_step-got.new.seat.me) took n c.took_inside_image.ensures.shown heap;
       slots = took.slots ∙ b.slots;
       of_heap = heap_put b.config b.machines.items c.args.number m n here c.took_inside_image.ensures.heap
-          (role_after b.config b.machines.items (uncounted_seat b.seat.me) b.kept c.args.number m here c.make_step-got.result (uncounted_seat c.make_step-got.new.seat.me) took n c.took_inside_image.ensures.shown heap) b.of_heap;
+          (role_after b.config b.key.value b.same_sizes b.machines.items (uncounted_seat b.seat.me) b.kept c.args.number m here c.make_step-got.result (uncounted_seat c.make_step-got.new.seat.me) took n c.took_inside_image.ensures.shown heap) b.of_heap;
       greys = greys_step b.config b.machines.items b.greyed.items c.args.number m n None here tt b.greys;
       hints_of_heap = b.hints_of_heap;
       thieves_of_heap = b.thieves_of_heap;
@@ -111,17 +115,18 @@ returns-clause-event c =
     let inside = within shown b.machines.items c.args.number c.requires.here in
     let here = read_here shown b.machines.items c.args.number c.index_mut.result.now m inside c.index_mut.ensures.value (sym c.as_mut.ensures.value ∙ ap option_copied_mut c.in-Some.is) in
     let heap = (b.of_heap c.args.number m here).heap in
-    let key = c.args.heap.now.key ∙ sym c.requires.heap.config in
+    let key : c.args.heap.now.table.shared.key ≡ b.key.value = c.args.heap.now.table_key ∙ sym c.requires.heap.key in
     let goes = inside_here b c.args.number m here c.requires.inside in
     let at = shows_as shown b.machines.items c.args.number m no_machine here in
     let given = shows_as order_of b.machines.items c.args.number m Nothing here in
     let none = given ∙ c.plan_inside_image.ensures.none in
     let n = c.took_inside_image.new.self in
-    let took = took_as c.args.heap.now.table.shared.key b.config c.args.number Nothing (order_at b c.args.number) b.seat.me c.make_step-got.result c.make_step-got.new.seat.me key (sym none) c.make_step-got.ensures.took in
+    let took = took_as c.args.heap.now.table.shared.key b.key.value c.args.number Nothing (order_at b c.args.number) b.seat.me c.make_step-got.result c.make_step-got.new.seat.me key (sym none) c.make_step-got.ensures.took in
     record {
       got = c.make_step-got.result;
-      took = took_uncounted (heap_kind b.config) (heap_opening b.config) c.args.number (order_at b c.args.number) b.seat.me c.make_step-got.new.seat.me c.make_step-got.result took;
-      steps = step_counted b.config c.args.number (order_at b c.args.number) b.seat.me c.make_step-got.new.seat.me c.make_step-got.result took;
+      took = subst (λ (d : Config). Took (heap_kind d) (start_of_key b.key.value) c.args.number (order_at b c.args.number) (uncounted_seat b.seat.me) c.make_step-got.result (uncounted_seat c.make_step-got.new.seat.me)) b.same_sizes
+          (took_uncounted (heap_kind b.key.value.config) (start_of_key b.key.value) c.args.number (order_at b c.args.number) b.seat.me c.make_step-got.new.seat.me c.make_step-got.result took);
+      steps = step_counted b.key.value c.args.number (order_at b c.args.number) b.seat.me c.make_step-got.new.seat.me c.make_step-got.result took;
       said_is = sym (ap (λ x. says b.config (order_at b c.args.number) x c.make_step-got.result) at ∙ ap (λ order. says b.config order (shown m) c.make_step-got.result) none
           ∙ ap (λ k. says k Nothing (shown m) c.make_step-got.result) (sym heap) ∙ ap stepped_by ((goes_inside (heap_of m) (shown m) goes).says c.make_step-got.result));
       greyed = ap (λ x. slice_set b.greyed.items c.args.number x) (sym (goes_inside b.config (State.machine_at b c.args.number) c.requires.inside).greys);
@@ -135,6 +140,6 @@ returns-clause-same c =
     let inside = within shown b.machines.items c.args.number c.requires.here in
     let here = read_here shown b.machines.items c.args.number c.index_mut.result.now m inside c.index_mut.ensures.value (sym c.as_mut.ensures.value ∙ ap option_copied_mut c.in-Some.is) in
     let heap = (b.of_heap c.args.number m here).heap in
-    let key = c.args.heap.now.key ∙ sym c.requires.heap.config in
-    let took = took_in c.args.heap.now.table.shared.key b.config c.args.number Nothing (order_of m) b.seat.me c.make_step-got.result c.make_step-got.new.seat.me key (sym c.plan_inside_image.ensures.none) c.make_step-got.ensures.took in
-    record { table = c.make_step-got.ensures.table.0; config = refl; numbers = numbers_stay b.config b.machines.items (uncounted_seat b.seat.me) b.kept c.args.number m here c.make_step-got.result (uncounted_seat c.make_step-got.new.seat.me) took }
+    let key : c.args.heap.now.table.shared.key ≡ b.key.value = c.args.heap.now.table_key ∙ sym c.requires.heap.key in
+    let took = took_in c.args.heap.now.table.shared.key b.key.value b.config c.args.number Nothing (order_of m) b.seat.me c.make_step-got.result c.make_step-got.new.seat.me key b.same_sizes (sym c.plan_inside_image.ensures.none) c.make_step-got.ensures.took in
+    record { table = c.make_step-got.ensures.table.0; config = refl; key = refl; numbers = numbers_stay b.config b.key.value b.same_sizes b.machines.items (uncounted_seat b.seat.me) b.kept c.args.number m here c.make_step-got.result (uncounted_seat c.make_step-got.new.seat.me) took }

@@ -6,7 +6,7 @@ use Rattle.table_heap.proofs.Graphs.{names, words_stand, some_stand}
 use Rattle.table_heap.proofs.closed.Closed.graph.Goals as goal
 
 pub answer_graph-requires-clause-stand : goal.answer_graph-requires-clause-stand
-answer_graph-requires-clause-stand c = let h = c.args.self.now in some_stand (config_of h.image) (stage_of h) c.requires.rest h.calm h.reached
+answer_graph-requires-clause-stand c = let h = c.args.self.now in some_stand (config_of h.image) (stage_of h) c.requires.rest h.calm h.key h.same_sizes h.reached
 
 pub returns-clause-shows : goal.returns-clause-shows
 returns-clause-shows c run ends =

@@ -1,0 +1,30 @@
+use Rattle.std.proofs.Common.{ap, ◌∙◌, arith}
+use Rattle.heap_seats.specs.GivenUp.{sizes_closing, start_closing}
+use Rattle.heap_seats.proofs.Followed.{if_some}
+use Rattle.heap_seats.proofs.Joined.{some_at}
+use Rattle.table_heap.specs.declared.heap.Heap.{Heap}
+use Rattle.table_heap.specs.State.{start_of_heap}
+use Rattle.covremuj.specs.OpenedHandles.{seats_held}
+use Rattle.covremuj.specs.ClosedHandles.{seats_in}
+use Rattle.covremuj.proofs.renewing.renewed.Goals as goal
+
+pub renew-requires-clause-room : goal.renew-requires-clause-room
+renew-requires-clause-room c =
+    let all = c.in_ok-closing.ensures.given.all in
+    let count = all.count in
+    let s = some_at (seats_in (seats_held c.args.handles.now)) 0 (omega (arith, count)) in
+    c.requires.room s.0 s.1 ∙ all.config 0 s.0 s.1
+
+pub returns-clause-goes_on : goal.returns-clause-goes_on
+returns-clause-goes_on c =
+    let to_be = c.in_ok-closing.ensures.given in
+    let closing = c.in_ok-closing.closing in
+    if_some c.renew.result _ _
+    (λ following followed. record {
+      sizes = sizes_closing closing;
+      start = start_closing closing;
+      config = to_be.all.config;
+      begun = λ k s there. ap (λ (h : Heap). start_of_heap h) (to_be.all.heap k s there);
+      followed = followed;
+    })
+    (c.renew.ensures (seats_in (seats_held c.args.handles.now)) to_be)

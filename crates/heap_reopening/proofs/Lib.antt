@@ -1,0 +1,4 @@
+pub mod Placed
+pub mod Rested
+mod Stored
+pub mod ComeToRest

@@ -1,0 +1,22 @@
+-- A heap can begin from words in which objects were placed under new names.
+use Rattle.std.proofs.Common.{◌≡◌, ℕ, ◌+◌, suc, List, refl, ap, ◌∙◌, arith}
+use Rattle.heap_words.specs.declared.config.Config.{Config}
+use Rattle.heap_words.specs.Words.{Word, Pause, State}
+use Rattle.shen_graph.specs.GraphText.{Text}
+use Rattle.heap_world.specs.Asking.{nothing}
+use Rattle.heap_world.specs.Represents.{Represents}
+use Rattle.heap_machines.specs.FromImage.{CanBeginFrom}
+use Rattle.graph_placing.specs.PlacedHeap.{IsPlaced}
+use Rattle.graph_placing.specs.TextGraph.{text_graph}
+use Rattle.graph_renewal.specs.NamesAnew.{text_anew}
+use Rattle.graph_renewal.proofs.SameGraphs.{text_count}
+
+pub placed_can_begin : (c : Config) (t : Text) (counts : List ℕ) (memory : Word → ℕ) → IsPlaced c (text_anew t) memory → Represents c memory (text_graph (text_anew t) counts) (λ m. nothing)
+    → CanBeginFrom c memory counts (text_graph (text_anew t) counts)
+placed_can_begin c t counts memory placed stands = record {
+  stands = stands;
+  outside = record { pause = placed.others Pause refl; states = λ seat below. placed.others (State seat) refl; left = placed.left };
+  counts_are = λ m below.
+      let next : m + 1 ≡ suc m = omega arith in
+      ap (text_graph (text_anew t) counts).count next ∙ text_count (text_anew t) counts m;
+}

@@ -1,0 +1,45 @@
+use Rattle.std.proofs.Common.{sym, ◌∙◌, subst, arith}
+use Rattle.std.proofs.Math.Logic.{∥∥₁_map}
+use Rattle.std.specs.Prelude.{IfOk}
+use Rattle.heap_words.specs.declared.config.Config.{Config}
+use Rattle.steps_base.specs.Steps.{Stage}
+use Rattle.image_graph.specs.State as images
+use Rattle.heap_machines.specs.FromImage.{stage_from}
+use Rattle.shared_table.specs.Views.{whole, dealt_to}
+use Rattle.step_core.specs.Actor.{Actor}
+use Rattle.table_heap.specs.State.{start_of_heap, IsFresh}
+use Rattle.heap_seats.specs.FreshSeats.{AreFreshSeats}
+use Rattle.heap_seats.specs.Histories.{BeginsRenewable}
+use Rattle.heap_seats.proofs.Opened.{dealt_in}
+use Rattle.heap_seats.proofs.opening.open_seats_from.Goals as goal
+
+pub open_from-requires-clause-workers : goal.open_from-requires-clause-workers
+open_from-requires-clause-workers c = omega (arith, c.seats.ensures)
+
+pub open_from-requires-clause-begins : goal.open_from-requires-clause-begins
+open_from-requires-clause-begins c = ∥∥₁_map c.requires.begins (λ some. (some.0, some.1))
+
+pub seated-requires-clause-count : goal.seated-requires-clause-count
+seated-requires-clause-count c = c.in_ok-heap.ensures.count ∙ c.seats.ensures
+
+pub seated-requires-clause-bundles : goal.seated-requires-clause-bundles
+seated-requires-clause-bundles c k b there =
+    let opened = c.in_ok-heap.ensures in
+    let heap = c.in_ok-heap.heap in
+    let i = c.args.image in
+    subst (λ (s : Stage Actor). IsFresh heap b (dealt_in c.config-config.result s k)) (sym opened.start)
+    (subst (λ workers. IsFresh heap b (dealt_to workers k (whole (stage_from (images.config_of i) (images.words_of i) c.args.counts.items).machines))) c.seats.ensures (opened.bundles k b there))
+
+pub seated-requires-clause-begins : goal.seated-requires-clause-begins
+seated-requires-clause-begins c =
+    let opened = c.in_ok-heap.ensures in
+    let i = c.args.image in
+    subst (λ (d : Config). ∥ BeginsRenewable d (start_of_heap c.in_ok-heap.heap) ∥₁) (sym c.config-config.ensures)
+    (subst (λ (s : Stage Actor). ∥ BeginsRenewable (images.config_of i) s ∥₁) (sym opened.start)
+    (∥∥₁_map c.requires.begins (λ some. record { graph = some.0; begins = opened.begins some.0 some.1; renewable = some.2 })))
+
+pub returns : goal.returns
+returns c =
+    let opened = c.in_ok-heap.ensures in
+    subst (λ (s : Stage Actor). IfOk c.seated.result (λ seats. AreFreshSeats (images.config_of c.args.image) s seats.items)) opened.start
+    (subst (λ (d : Config). IfOk c.seated.result (λ seats. AreFreshSeats d (start_of_heap c.in_ok-heap.heap) seats.items)) c.config-config.ensures c.seated.ensures)

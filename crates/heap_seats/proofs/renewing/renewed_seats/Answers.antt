@@ -1,0 +1,46 @@
+use Rattle.std.proofs.Common.{◌≡◌}
+use Rattle.std.specs.Prelude.{Ok}
+use Rattle.shen_graph.specs.GraphText.{names_of}
+use Rattle.heap_world.specs.Asking.{nothing}
+use Rattle.heap_world.specs.Represents.{Represents}
+use Rattle.image_graph.specs.State as images
+use Rattle.graph_placing.specs.PlacedHeap.{IsPlaced}
+use Rattle.graph_placing.specs.TextGraph.{text_graph}
+use Rattle.graph_renewal.specs.declared.renewing.Renewed.TheVariants as renewals
+use Rattle.graph_renewal.specs.NamesAnew.{text_anew}
+use Rattle.graph_renewal.specs.Renaming.{AreCountsOf}
+use Rattle.graph_renewal.proofs.PinsShown.{nothing_held, not_pinned}
+use Rattle.heap_seats.proofs.Followed.{renewed_can, seats_renewed}
+use Rattle.heap_seats.proofs.renewing.renewed_seats.Goals as goal
+
+pub open_seats_from-requires-clause-begins : goal.open_seats_from-requires-clause-begins
+open_seats_from-requires-clause-begins c =
+    let d = c.args.config in
+    let t = c.args.text.now in
+    let image = c.in-Ok-Heap.image in
+    let counts = c.in-Ok-Heap.counts.items in
+    let sizes : images.config_of image ≡ d = rw c.in-Ok-Heap.field-0-is at c.in-Ok-Heap.ensures.config in
+    let placed : IsPlaced d (text_anew t) (images.memory_of image) = rw c.in-Ok-Heap.field-0-is at c.in-Ok-Heap.ensures.placed in
+    let stands : Represents d (images.memory_of image) (text_graph (text_anew t) counts) (λ m. nothing) = rw c.in-Ok-Heap.field-0-is at c.in-Ok-Heap.ensures.stands in
+    renewed_can d image sizes counts t c.requires.whole c.requires.names placed stands
+
+pub returns-in-Ok-clause-renewed : goal.returns-in-Ok-clause-renewed
+returns-in-Ok-clause-renewed c =
+    let d = c.args.config in
+    let t = c.args.text.now in
+    let image = c.in-Ok-Heap.image in
+    let counts = c.in-Ok-Heap.counts.items in
+    let sizes : images.config_of image ≡ d = rw c.in-Ok-Heap.field-0-is at c.in-Ok-Heap.ensures.config in
+    let placed : IsPlaced d (text_anew t) (images.memory_of image) = rw c.in-Ok-Heap.field-0-is at c.in-Ok-Heap.ensures.placed in
+    let stands : Represents d (images.memory_of image) (text_graph (text_anew t) counts) (λ m. nothing) = rw c.in-Ok-Heap.field-0-is at c.in-Ok-Heap.ensures.stands in
+    let are : AreCountsOf (names_of t) d.mutators counts = rw c.in-Ok-Heap.field-0-is at c.in-Ok-Heap.ensures.counts in
+    seats_renewed d image sizes counts t c.requires.whole c.requires.names placed stands are
+    (not_pinned t (λ pinned. let is = c.renew.ensures.pinned.1 pinned in let heap = c.in-Ok-Heap.is in let which = c.in-Ok-Heap.field-0-is in absurd (cc)))
+    c.in-Ok.seats.items c.in-Ok.ensures
+
+pub returns-in-Ok-Pinned-clause-kept : goal.returns-in-Ok-Pinned-clause-kept
+returns-in-Ok-Pinned-clause-kept c g shows none =
+    let is = c.in-Ok-Pinned.is in
+    let which = c.in-Ok-Pinned.field-0-is in
+    let told : c.renew.result ≡ Ok renewals.Pinned = cc in
+    c.renew.ensures.pinned.0 told (nothing_held c.args.text.now c.args.config.mutators g shows c.requires.whole.threads none)

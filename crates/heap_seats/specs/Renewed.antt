@@ -1,0 +1,76 @@
+-- What comes of a heap that was to be renewed: the seats of another one, which goes on with its graph.
+use Rattle.std.specs.Prelude.{ℕ, ◌≡◌, ⊤, List, Some, slice_get}
+use Rattle.heap_words.specs.declared.config.Config.{Config}
+use Rattle.shen_graph.specs.declared.name.Name.{Name}
+use Rattle.shen_graph.specs.declared.order.Order.{Order}
+use Rattle.shen_graph.specs.Graph.{Graph}
+use Rattle.steps_base.specs.Steps.{Stage, Event}
+use Rattle.step_core.specs.Actor.{Actor}
+use Rattle.heap_machines.specs.Pause.{pause_image}
+use Rattle.step_core.specs.Begins.{Run, Begins, ending, graph_after}
+use Rattle.graph_renewal.specs.SameGraph.{IsSameAnew}
+use Rattle.graph_renewal.specs.Renewed.{HoldsNothing, DoesNotFit}
+use Rattle.heap_seats.specs.declared.progress.State.TheVariants.{Ended}
+use Rattle.heap_seats.specs.declared.renewing.Renewal.{Renewal}
+use Rattle.heap_seats.specs.declared.renewing.Renewal.TheVariants.{Renewed, Pinned, TooSmall, NoMemory}
+use Rattle.heap_seats.specs.declared.closing.Closing.{Closing}
+use Rattle.heap_seats.specs.declared.seat.Seat.{Seat}
+use Rattle.heap_seats.specs.FreshSeats.{AreFreshSeats}
+use Rattle.heap_seats.specs.GivenUp.{heap_closing, sizes_closing, AreGivenUp, AreAllSeats, IsHistoryOf}
+use Rattle.heap_seats.specs.Histories.{led, OfEachBegun}
+use Rattle.heap_seats.specs.Seats.{state_in}
+
+-- The graph of a renewed heap: the same up to new names, counted from 1 for each thread. Nothing was pinned.
+pub record IsRenewedGraph (threads : ℕ) (before now : Graph) : Type 0 where
+  pub unpinned : HoldsNothing threads before
+  pub names : Name → Name
+  pub same : IsSameAnew names threads before now
+
+-- why a graph keeps its names: an object is pinned, the objects do not fit, or memory was refused
+abbrev pub KeepsNames : Renewal → Config → Graph → Type 0
+KeepsNames Renewed c before = ⊥
+KeepsNames Pinned c before = HoldsNothing c.mutators before → ⊥
+KeepsNames TooSmall c before = DoesNotFit c before
+KeepsNames NoMemory c before = ⊤
+
+-- what the graph has become, by what came of the renewal
+abbrev pub Becomes : Renewal → Config → Graph → Graph → Type 0
+Becomes Renewed c before now = IsRenewedGraph c.mutators before now
+Becomes why c before now = (now ≡ before) × KeepsNames why c before
+
+-- a start begins what has become of a graph
+pub record BeginsAfter (c : Config) (start : Stage Actor) (said : Renewal) (before : Graph) : Type 0 where
+  pub graph : Graph
+  pub begins : Begins c start graph
+  pub becomes : Becomes said c before graph
+
+-- Seats before the first event of a heap of these sizes, which begins with what has become of each graph of which this is so.
+pub record BeginSeats (c : Config) (Of : Graph → Type 0) (said : Renewal) (seats : List Seat) : Type 0 where
+  pub start : Stage Actor
+  pub fresh : AreFreshSeats c start seats
+  pub graphs : (before : Graph) → Of before → BeginsAfter c start said before
+
+-- some run leads to a stage, and the graph after it is this one
+pub record IsGraphLeft (c : Config) (left : Stage Actor) (g : Graph) : Type 0 where
+  pub run : Run c
+  pub ends : ending pause_image c run ≡ left
+  pub graph : graph_after pause_image c run ≡ g
+
+-- Some events from where a heap began have the history of its seats, and these seats go on with the graph of the stage to which they lead.
+pub record AreFollowed (c : Config) (old : Stage Actor) (seats : List Seat) (said : Renewal) (following : List Seat) : Type 0 where
+  pub events : List (Event Order)
+  pub history : OfEachBegun c old (IsHistoryOf c old seats events)
+  pub goes_on : BeginSeats c (IsGraphLeft c (led c old events)) said following
+
+-- each machine has ended
+abbrev pub AllEnded : List Seat → Type 0
+AllEnded seats = (k : ℕ) (s : Seat) → slice_get seats k ≡ Some s → state_in s ≡ Ended
+
+-- these seats are given up, which are all of a heap, by their numbers, and each has ended
+pub record AreToBeRenewed (seats : List Seat) (closing : Closing) : Type 0 where
+  pub given : AreGivenUp seats closing
+  pub all : AreAllSeats (sizes_closing closing) (heap_closing closing) seats
+  pub over : AllEnded seats
+
+abbrev pub MayRenewHeap : Closing → Type 0
+MayRenewHeap closing = (seats : List Seat) × AreToBeRenewed seats closing

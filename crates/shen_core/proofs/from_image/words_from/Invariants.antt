@@ -1,6 +1,0 @@
-use Rattle.std.proofs.Common.{◌≡◌, take}
-use Rattle.image_graph.specs.State.{words_of}
-use Rattle.shen_core.proofs.from_image.words_from.Given as goal
-
-abbrev pub invariant-loop-at : goal.invariant-loop-at
-invariant-loop-at l = l.words.items ≡ take l.at (words_of l.image)

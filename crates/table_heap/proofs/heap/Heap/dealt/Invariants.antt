@@ -1,0 +1,27 @@
+use Rattle.std.proofs.Common.{◌≡◌, ℕ, ◌<◌, length, Some}
+use Rattle.std.specs.Prelude.{slice_get}
+use Rattle.shared_table.specs.Views.{machine_of, whole, machines_left, is_dealt_below, dealt_to}
+use Rattle.shen_graph.specs.declared.order.Order.{Order}
+use Rattle.shen_graph.specs.declared.order.Order.TheVariants.{Nothing}
+use Rattle.table_heap.specs.declared.bundle.Bundle.{Bundle}
+use Rattle.table_heap.specs.State.{start_of_heap, view_of, orders_of, steps_of, greyed_of, IsBundleOf, IsFresh}
+use Rattle.table_heap.specs.Sharing.{AllShareMore, StealFrom}
+use Rattle.table_heap.proofs.heap.Heap.dealt.Given as goal
+
+abbrev pub invariant-loop-bundle : goal.invariant-loop-bundle
+invariant-loop-bundle l = record {
+  of : IsBundleOf l.all l.heap;
+  view : view_of l.all ≡ machines_left (is_dealt_below l.workers l.bundle) (whole (start_of_heap l.heap).machines);
+  orders : (number : ℕ) (order : Order) → machine_of (orders_of l.all) number ≡ Some order → order ≡ Nothing;
+  steps : (number made : ℕ) → machine_of (steps_of l.all) number ≡ Some made → made ≡ 0;
+  greyed : (number address : ℕ) → machine_of (greyed_of l.all) number ≡ Some address → ⊥;
+  count : length l.bundles.items ≡ l.bundle;
+  each : (k : ℕ) (b : Bundle) → slice_get l.bundles.items k ≡ Some b → IsFresh l.heap b (dealt_to l.workers k (whole (start_of_heap l.heap).machines));
+}
+
+-- when the bundles share their hints they are as they were, and the hints of the first ones are shared
+abbrev pub invariant-loop-bundle-2 : goal.invariant-loop-bundle-2
+invariant-loop-bundle-2 l = record {
+  more : AllShareMore l.initial.bundles.items l.bundles.items;
+  steal : (number : ℕ) → number < l.bundle → StealFrom (length l.bundles.items) l.bundles.items number;
+}
