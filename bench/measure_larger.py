@@ -73,7 +73,7 @@ def pauses(bench):
                 cells = [middle(those, SEEN), middle(those, CLOCK), middle(those, BUSY), min(row[BUSY] for row in those)]
                 cells += [middle(those, part) for part in (LOADS, CHANGE, STORES, BESIDE)]
                 each = middle(those, BUSY) / (REGIONS * words)
-                print(f"{size:4} {KINDS[kind]:34}{len(those):5}" + "".join(f"{cell * 1e3:10.2f}" for cell in cells) + f"{each * 1e9:7.1f}", flush=True)
+                print(f"{size:4} {KINDS[kind]:34}{len(those):5}" + "".join(f"{cell * 1e3:10.3f}" for cell in cells) + f"{each * 1e9:7.1f}", flush=True)
 
 
 def live(bench):

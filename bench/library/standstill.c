@@ -15,8 +15,9 @@
  * thread waited, or 0 where it saw nothing of it, and how long the pause was. Then of the processor time of the
  * control's thread: all of it, up to the change, which is all that loads words, the change, which is the step that
  * loads the last word and makes the new image, and all behind it, which stores words; and what the control did beside
- * the mutators since the pause before, as time and as steps. Steps are asked for a thousand at a time, so the
- * borders are not exact: so many of one part may count as those of the next.
+ * the mutators since the pause before, as time and as steps. Steps are asked for 64 at a time, and a thousand once a
+ * pause has had 512, so the borders are not exact: so many of one part may count as those of the next. A pause of
+ * fewer steps than twice 64 could be overlooked: with 64 regions the shortest has 400.
  */
 #define _POSIX_C_SOURCE 200809L
 #include "../../library/users/common/pauses.h"
@@ -24,8 +25,11 @@
 
 #include <sched.h>
 
-/* Steps that the control is asked for at once; per cent of the heap that are filled; and the words of an object. */
-enum { STEPS = 1024, USED = 80, OBJECT = 8, REFS = 2, NUMS = 3 };
+/*
+ * Steps that the control is asked for at once, in a pause that has had so many and before that; per cent of the heap that are filled; and the words of
+ * an object.
+ */
+enum { STEPS = 1024, LONG = 512, FEW_STEPS = 64, USED = 80, OBJECT = 8, REFS = 2, NUMS = 3 };
 
 /* A pause as the thread sees it that makes the control's steps. */
 typedef struct pause_times {
@@ -43,19 +47,19 @@ static pause_times last[PAUSE_KINDS];
 static atomic_int watches, is_over;
 static atomic_ullong calls; /* of the thread that watches */
 
-/* Makes steps of the control. The answer is their processor time; they are added to *made, but for the last ones before one that waited. */
-static double work(double *made) {
+/* Makes so many steps of the control. The answer is their processor time; they are added to *made, but for the last ones before one that waited. */
+static double work(uint32_t steps, double *made) {
     static uint32_t rounds;
     cvm_seat *seat = &heap.seats[heap.config.mutators];
     double before = thread_time();
-    cvm_status said = cvm_work(seat, STEPS);
+    cvm_status said = cvm_work(seat, steps);
     double took = thread_time() - before;
     must(!cvm_is_refusal(said) && cvm_look(seat, &control) == CVM_DONE, "the control works");
     if (said == CVM_AGAIN) {
         CVM_BACK_OFF(&rounds);
     } else {
         rounds = 0;
-        *made += STEPS;
+        *made += steps;
     }
     return took;
 }
@@ -88,12 +92,12 @@ static void go_through_pause(void) {
     let_watch();
     do {
         it.stop.start = now();
-        it.beside += work(&it.steps_beside);
+        it.beside += work(FEW_STEPS, &it.steps_beside);
     } while (!is_in_pause());
     double *part = &it.loads;
     while (is_in_pause()) {
         int was_loading = is_at("PL");
-        double took = work(&steps);
+        double took = work(steps < LONG ? FEW_STEPS : STEPS, &steps);
         if (was_loading && !is_at("PL")) {
             it.change = took;
             part = &it.stores;

@@ -1,16 +1,16 @@
 -- Images of which only the words of the image matter.
-use Rattle.std.proofs.Common.{◌≡◌, ℕ, ◌+◌, ◌<◌, List, [], ◌∷◌, ◌++◌, length, get_or, take, drop, set, replicate, sym, ap, ◌∙◌, subst, arith, length-drop, length-set}
+use Rattle.std.proofs.Common.{◌≡◌, ℕ, ◌+◌, ◌<◌, List, ◌++◌, length, get_or, drop, replicate, sym, ap, ◌∙◌, subst, arith, length-drop}
 use Rattle.std.proofs.lemmas.Grind.{same_number_lists}
-use Rattle.std.proofs.lemmas.List.{take_more_set, get_or-replicate, get_or-drop, length-replicate}
+use Rattle.std.proofs.lemmas.List.{get_or-replicate, get_or-drop, length-replicate}
 use Rattle.std.proofs.Math.ListN.{get_or-append}
-use Rattle.std.proofs.Math.Seq.{take-length, drop-append_seam}
+use Rattle.std.proofs.Math.Seq.{drop-append_seam}
 use Rattle.heap_words.specs.declared.config.Config.{Config}
-use Rattle.heap_words.specs.Words.{image_start, table_words, view}
+use Rattle.heap_words.specs.Words.{Word, image_start, table_words, view}
 use Rattle.heap_world.specs.Change.{image_view, image_words}
 use Rattle.image_graph.specs.declared.image.Image.{Image}
 use Rattle.image_graph.specs.State.{config_of, words_of, memory_of}
-use Rattle.cycle_pauses.specs.Collect.{collected, collect_image, CanPauseSome}
-use Rattle.cycle_pauses.proofs.Images.{table_is_collected}
+use Rattle.cycle_pauses.specs.Collect.{collected, collect_image}
+use Rattle.cycle_pauses.proofs.Images.{collected_table}
 use Rattle.control.specs.Clear.{IsClear}
 use Rattle.control.specs.Image.{image_in, image_from}
 use Rattle.control.proofs.Clearing.{view-clear}
@@ -31,16 +31,15 @@ pub get_or-zeros : (n : ℕ) (xs : List ℕ) (at : ℕ) → at < n → get_or (r
 get_or-zeros n xs at below =
     get_or-append (replicate n 0) xs 0 at (omega (arith, below, length-replicate {A = ℕ} n 0)) ∙ get_or-replicate n at 0 0 below
 
-module _ (old new : Image) (clear : IsClear old) (can : CanPauseSome (config_of old) (image_view (config_of old) (image_in old))) (config : config_of new ≡ config_of old)
-    (words : memory_of new ≡ collected (config_of old) (memory_of old)) where
+-- What a pause makes of the words it makes of the image, and the words before that stay 0.
+module _ (old new : Image) (clear : IsClear old) (config : config_of new ≡ config_of old) (words : memory_of new ≡ collected (config_of old) (memory_of old)) where
   abbrev c : Config
   c = config_of old
 
   -- all words after a pause
   words-collected : words_of new ≡ replicate (image_start c) 0 ++ collect_image c (image_in old)
-  words-collected =
-      table_is_collected c (image_in old) (words_of new) (length-image_in old) (new.all_words ∙ ap table_words config) can
-      (ap (λ d. view d (words_of new)) (sym config) ∙ words ∙ ap (collected c) (memory-image_in old clear))
+  words-collected = collected_table c (image_in old) (words_of new) (new.all_words ∙ ap table_words config)
+      (λ w is. ap (λ (m : Word → ℕ). m w) (ap (λ d. view d (words_of new)) (sym config) ∙ words ∙ ap (collected c) (memory-image_in old clear)))
 
   -- the image is the collected one
   pub image-collected : image_in new ≡ collect_image c (image_in old)
@@ -51,34 +50,6 @@ module _ (old new : Image) (clear : IsClear old) (can : CanPauseSome (config_of 
   pub clear-collected : IsClear new
   clear-collected at below =
       ap (λ some. get_or some at 0) words-collected ∙ get_or-zeros (image_start c) (collect_image c (image_in old)) at (subst (λ d. at < image_start d) config below)
-
--- the last word of a list is put
-pub set-last : (xs : List ℕ) (i y : ℕ) → i + 1 ≡ length xs → set xs i y ≡ take i xs ++ y ∷ []
-set-last xs i y last =
-    let all : i + 1 ≡ length (set xs i y) = last ∙ sym (length-set xs i y) in
-    sym (take-length (set xs i y)) ∙ ap (λ n. take n (set xs i y)) (sym all) ∙ take_more_set xs i y (omega arith)
-
-module _ (old mid new : Image) (index word : ℕ) (last : index + 1 ≡ image_words (config_of old)) (config : config_of mid ≡ config_of old)
-    (put : image_in mid ≡ set (image_in old) index word) where
-  -- the words loaded so far and the last one
-  pub loaded-last : image_in mid ≡ take index (image_in old) ++ word ∷ []
-  loaded-last = put ∙ set-last (image_in old) index word (last ∙ sym (length-image_in old))
-
-  -- they can be collected
-  pub can-last : CanPauseSome (config_of old) (image_view (config_of old) (take index (image_in old) ++ word ∷ []))
-      → CanPauseSome (config_of mid) (image_view (config_of mid) (image_in mid))
-  can-last can =
-      let Can : Config → List ℕ → Type 0 = λ c image. CanPauseSome c (image_view c image) in
-      subst (λ c. Can c (image_in mid)) (sym config) (subst (Can (config_of old)) (sym loaded-last) can)
-
-  module _ (config_then : config_of new ≡ config_of mid) (collected : image_in new ≡ collect_image (config_of mid) (image_in mid)) where
-    -- the words of the new image
-    pub image-last : image_in new ≡ collect_image (config_of old) (take index (image_in old) ++ word ∷ [])
-    image-last = collected ∙ ap (λ c. collect_image c (image_in mid)) config ∙ ap (collect_image (config_of old)) loaded-last
-
-    -- and by their names
-    pub memory-last : IsClear new → memory_of new ≡ image_view (config_of old) (collect_image (config_of old) (take index (image_in old) ++ word ∷ []))
-    memory-last clear = memory-image_in new clear ∙ ap (λ c. image_view c (image_in new)) (config_then ∙ config) ∙ ap (image_view (config_of old)) image-last
 
 -- an image into which all words of a table were put
 pub image-loaded : (c : Config) (i : Image) (table : List ℕ) → config_of i ≡ c → length table ≡ table_words c

@@ -2,3 +2,10 @@ pub mod Clearing
 pub mod Cleared
 pub mod Images
 pub mod Collecting
+pub mod PartShown
+pub mod Loaded
+pub mod Starting
+pub mod ByPart
+pub mod Storing
+pub mod Going
+pub mod Fitting

@@ -1,18 +1,47 @@
 -- Which words the control can go on from.
-use Rattle.std.specs.Prelude.{ℕ, ◌≡◌, ◌+◌, List, [], ◌∷◌, ◌++◌}
+use Rattle.std.specs.Prelude.{ℕ, ◌≡◌, ◌≢◌, Bool, true, false, List}
 use Rattle.heap_words.specs.declared.config.Config.{Config}
-use Rattle.heap_world.specs.Change.{image_view, image_words}
+use Rattle.heap_words.specs.Words.{Word, Phase}
+use Rattle.heap_world.specs.Change.{image_view}
+use Rattle.buffer_words.specs.Buffers.{AreInside}
+use Rattle.mark_core.specs.Trace.{HasRootsInside}
+use Rattle.control_rows.specs.declared.extent.Extent.{Extent}
+use Rattle.control_rows.specs.declared.extent.Extent.TheVariants.{Whole, OffHeap, Ahead}
+use Rattle.control_rows.specs.Extent.{extent_after}
 use Rattle.control_rows.specs.declared.spot.ControlSpot.{ControlSpot}
 use Rattle.control_rows.specs.declared.spot.ControlSpot.TheVariants.{LoadWord}
-use Rattle.control_rows.specs.Rows.{Controlling}
+use Rattle.control_rows.specs.Rows.{Controlling, loads_more, loaded_all}
 use Rattle.control_rows.specs.Ready.{UnitGoesOn}
-use Rattle.cycle_pauses.specs.Collect.{CanPauseSome}
+use Rattle.cycle_pauses.specs.Collect.{is_room_needed, CanPauseSome}
 
--- In a unit those from which the unit can; the last word of the image, where the image that was loaded holds a graph, and in phase
--- 1 does so while objects are marked; and else each word.
-abbrev pub fits_with : Config → ControlSpot → List ℕ → ℕ → Type 0
-fits_with c (LoadWord index) image got = index + 1 ≡ image_words c → CanPauseSome c (image_view c (image ++ got ∷ []))
-fits_with c spot image got = UnitGoesOn c spot got
+-- The words off the heap are those of a heap in which marking can begin: no room is needed and no cycle runs; roots, answers and
+-- pin slots hold addresses of the heap, and buffers lie in its regions.
+pub record CanBeginOff (c : Config) (memory : Word → ℕ) : Type 0 where
+  pub calm : is_room_needed memory ≡ false
+  pub idle : memory Phase ≡ 0
+  pub roots : HasRootsInside c memory
+  pub buffers : AreInside c memory
+
+-- The words before those of the mutators are those of a heap in which updating can begin or end: no room is needed, and objects are
+-- not marked; buffers lie in its regions.
+pub record CanUpdateAhead (c : Config) (memory : Word → ℕ) : Type 0 where
+  pub calm : is_room_needed memory ≡ false
+  pub runs : memory Phase ≢ 0
+  pub unmarked : memory Phase ≢ 1
+  pub buffers : AreInside c memory
+
+-- what a pause needs of the words that it has loaded, by its extent
+abbrev pub CanCollectPart : Config → Extent → (Word → ℕ) → Type 0
+CanCollectPart c Whole memory = CanPauseSome c memory
+CanCollectPart c OffHeap memory = CanBeginOff c memory
+CanCollectPart c Ahead memory = CanUpdateAhead c memory
+
+-- In a unit those from which the unit can; the last word of the image that is loaded, where a pause can collect what was loaded; and
+-- else each word.
+abbrev pub fits_with : Config → ControlSpot → (phase : ℕ) → List ℕ → ℕ → Type 0
+fits_with c (LoadWord index extent) phase image got =
+    loads_more c phase index extent got ≡ false → CanCollectPart c (extent_after phase index extent got) (image_view c (loaded_all c image got))
+fits_with c spot phase image got = UnitGoesOn c spot got
 
 abbrev pub IsFit : Config → Controlling → ℕ → Type 0
-IsFit c k got = fits_with c k.spot k.image got
+IsFit c k got = fits_with c k.spot k.phase k.image got

@@ -1,10 +1,15 @@
 -- The words of the image that a control keeps.
-use Rattle.std.specs.Prelude.{ℕ, ◌≡◌, ◌+◌, Bool, true, false, nat_lt, List, [], take, drop}
+use Rattle.std.specs.Prelude.{ℕ, ◌≡◌, ◌+◌, ◌||◌, if◌then◌else◌, Bool, true, false, nat_lt, List, [], take, drop, map, length, slice_index}
+use Rattle.std.specs.List.{range_with_len}
 use Rattle.heap_words.specs.declared.config.Config.{Config}
 use Rattle.heap_words.specs.Words.{image_start}
+use Rattle.heap_graph.specs.Walk.{has}
 use Rattle.heap_world.specs.Change.{image_words}
 use Rattle.image_graph.specs.declared.image.Image.{Image}
 use Rattle.image_graph.specs.State.{config_of, words_of}
+use Rattle.control_rows.specs.declared.extent.Extent.{Extent}
+use Rattle.control_rows.specs.declared.extent.Extent.TheVariants.{Whole, OffHeap, Ahead}
+use Rattle.control_rows.specs.Extent.{is_of_extent}
 use Rattle.control_rows.specs.declared.spot.ControlSpot.{ControlSpot}
 use Rattle.control_rows.specs.declared.spot.ControlSpot.TheVariants.{LoadWord, StoreWord}
 
@@ -12,21 +17,49 @@ use Rattle.control_rows.specs.declared.spot.ControlSpot.TheVariants.{LoadWord, S
 abbrev pub image_in : Image → List ℕ
 image_in i = drop (image_start (config_of i)) (words_of i)
 
--- those of them that have been loaded, or that are stored; outside pauses none
-abbrev pub words_seen : ControlSpot → List ℕ → List ℕ
-words_seen (LoadWord index) image = take index image
-words_seen (StoreWord index) image = image
-words_seen _ image = []
+-- the words of a list whose indices pass a test, and 0 for each other one
+abbrev pub shown_by : (ℕ → Bool) → List ℕ → List ℕ
+shown_by test image = map (λ k. if test k then slice_index image k else 0) (range_with_len 0 (length image))
+
+-- of an image the words of an extent. What it has at other indices does not matter
+abbrev pub part_in : Config → Extent → List ℕ → List ℕ
+part_in c Whole image = image
+part_in c extent image = shown_by (is_of_extent c extent) image
+
+-- a word of the new image is seen: it is of the extent, or the free words of a buffer began there
+abbrev pub is_seen : Config → Extent → (starts : List ℕ) → ℕ → Bool
+is_seen c extent starts k = is_of_extent c extent k || has starts k
+
+-- the words of the new image
+abbrev pub image_shown : Config → Extent → (starts image : List ℕ) → List ℕ
+image_shown c Whole starts image = image
+image_shown c extent starts image = shown_by (is_seen c extent starts) image
+
+-- those of the image that have been loaded, or that are stored; outside pauses none
+abbrev pub words_seen : Config → ControlSpot → (starts image : List ℕ) → List ℕ
+words_seen c (LoadWord index extent) starts image = take index (part_in c extent image)
+words_seen c (StoreWord index extent) starts image = image_shown c extent starts image
+words_seen c _ starts image = []
+
+-- whether the word that is loaded is of the extent, or the one that is stored is seen
+abbrev pub sees_own : Config → ControlSpot → (starts : List ℕ) → Bool
+sees_own c (LoadWord index extent) starts = is_of_extent c extent index
+sees_own c (StoreWord index extent) starts = is_seen c extent starts index
+sees_own c _ starts = true
+
+-- it is
+abbrev pub SeesOwn : Config → ControlSpot → (starts : List ℕ) → Type 0
+SeesOwn c spot starts = sees_own c spot starts ≡ true
 
 -- whether it stores words of a new image
 abbrev pub is_storing : ControlSpot → Bool
-is_storing (StoreWord index) = true
+is_storing (StoreWord index extent) = true
 is_storing _ = false
 
--- whether its next step goes from a word of the image to the next one
+-- whether its next step goes from a word of the image to the next one, in a pause of all of the image
 abbrev pub is_inside_image : Config → ControlSpot → Bool
-is_inside_image c (LoadWord index) = nat_lt (index + 1) (image_words c)
-is_inside_image c (StoreWord index) = nat_lt (index + 1) (image_words c)
+is_inside_image c (LoadWord index Whole) = nat_lt (index + 1) (image_words c)
+is_inside_image c (StoreWord index Whole) = nat_lt (index + 1) (image_words c)
 is_inside_image c _ = false
 
 -- the words of the image in a table
@@ -34,7 +67,7 @@ abbrev pub image_from : Config → List ℕ → List ℕ
 image_from c words = drop (image_start c) words
 
 -- no other words than those of this table were loaded, and none are stored
-abbrev pub IsLoadedFrom : List ℕ → ControlSpot → List ℕ → Type 0
-IsLoadedFrom table (LoadWord index) image = image ≡ take index table
-IsLoadedFrom table (StoreWord index) image = ⊥
-IsLoadedFrom table _ image = Unit {0}
+abbrev pub IsLoadedFrom : Config → List ℕ → ControlSpot → List ℕ → Type 0
+IsLoadedFrom c table (LoadWord index extent) image = image ≡ take index (part_in c extent table)
+IsLoadedFrom c table (StoreWord index extent) image = ⊥
+IsLoadedFrom c table _ image = Unit {0}

@@ -12,7 +12,7 @@ config_in k = config_of k.image
 
 -- what it is
 abbrev pub seen_control : Control → Controlling
-seen_control k = record { spot = k.spot; seen = k.last.seen; phase = k.last.phase; cset = k.last.cset; image = words_seen k.spot (image_in k.image); hints = k.hints }
+seen_control k = record { spot = k.spot; seen = k.last.seen; phase = k.last.phase; cset = k.last.cset; image = words_seen (config_of k.image) k.spot k.starts (image_in k.image); hints = k.hints }
 
 -- the hint that it was given, if it was given one
 abbrev pub hint_of : Control → Option ℕ

@@ -1,12 +1,14 @@
 //! What a pause makes of an image.
 
-ghost use Rattle.std.specs.Prelude.{◌≡◌, ◌==◌, true};
+ghost use Rattle.std.specs.Prelude.{◌≡◌, ◌≢◌, ◌==◌, true, false};
 ghost use Rattle.std.specs.Int.{bit_at};
 ghost use Rattle.heap_words.specs.Words.{Phase, Ask, Evac};
 ghost use Rattle.heap_words.specs.Counter as counter;
+ghost use Rattle.buffer_words.specs.Buffers.{AreInside};
 ghost use Rattle.image_graph.specs.State.{config_of, memory_of};
 ghost use Rattle.cycle_words.specs.Marking.Final.{final_marked};
 ghost use Rattle.mark_core.specs.Result.{MarksSome};
+ghost use Rattle.mark_core.specs.Trace.{HasRootsInside};
 ghost use Rattle.cycle_words.specs.Evacuation.Begun.{CanBegin};
 ghost use Rattle.cycle_pauses.specs.Evacuation.Collect.{evac_next};
 ghost use Rattle.cycle_pauses.specs.Ended.{ended, CanEnd};
@@ -17,7 +19,7 @@ use cset_choice::{begin_evac, choose};
 use degenerated::{Finished, finish};
 use full_cycle::full;
 use image_graph::Image;
-use mark_core::{final_mark, init_mark};
+use mark_core::{final_mark, init_mark, init_mark_by_part};
 use update_refs::{final_update, init_update};
 
 // The phases: none between two cycles, and then those of a cycle. After evacuation references are updated.
@@ -61,6 +63,23 @@ fn go_on(image: &mut Image)
     match phase(image) {
         IDLE => init_mark(image),
         MARK => end_mark(image),
+        EVAC => init_update(image),
+        _ => final_update(image),
+    }
+}
+
+// Goes on to the next phase of the cycle where no room is needed and objects are not marked, over an image of which a part is that
+// of a heap: in phase 0 the words off the heap, and else those before the words of the mutators.
+pub(crate) fn collect_by_part(image: &mut Image)
+    requires calm { room.is_room_needed (memory_of image.old) ≡ false }
+    requires unmarked { memory_of image.old Phase ≢ 1 }
+    requires roots { memory_of image.old Phase ≡ 0 → HasRootsInside (config_of image.old) (memory_of image.old) }
+    requires buffers { AreInside (config_of image.old) (memory_of image.old) }
+    ensures config { config_of image.new ≡ config_of image.old }
+    ensures words { memory_of image.new ≡ collected (config_of image.old) (memory_of image.old) }
+{
+    match phase(image) {
+        IDLE => init_mark_by_part(image),
         EVAC => init_update(image),
         _ => final_update(image),
     }

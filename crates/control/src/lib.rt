@@ -5,5 +5,6 @@
 mod collect;
 mod machine;
 mod pause;
+mod starts;
 
 pub use machine::Control;

@@ -3,9 +3,12 @@ ghost use Rattle.heap_world.specs.Change.{image_words};
 ghost use Rattle.image_graph.specs.State.{config_of};
 ghost use Rattle.control_rows.specs.Ready.{is_ready, IsHintFor};
 ghost use Rattle.control.specs.Clear.{IsClear};
+ghost use Rattle.control.specs.Image.{SeesOwn};
+ghost use Rattle.control.specs.Starts.{AreHeapIndices};
 
 use crate::pause::{clear, load, put_word, take_found};
-use control_rows::{ControlSpot, LastPause, image_words};
+use crate::starts::{next_stored, no_starts};
+use control_rows::{ControlSpot, Extent, LastPause, image_words};
 use heap_words::{Access, Config, Place, Took};
 use image_graph::Image;
 use shen_graph::GraphText;
@@ -19,6 +22,8 @@ pub struct Control {
     last: LastPause,
     // In a pause the words loaded so far, and once all are, the words to be stored. What it is else does not matter.
     image: Image,
+    // While it stores words of a new image of which a part was loaded: where the free words of buffers began.
+    starts: [usize; 12],
     // The last word of the image, counted from 0 in the order of places.
     last_word: usize,
     // The address of the heap that it was given as a hint, for its next step.
@@ -26,6 +31,8 @@ pub struct Control {
     // How many hints it has taken.
     hints: u64,
     ghost ready: { is_ready (config_of image) spot ≡ true },
+    ghost own: { SeesOwn (config_of image) spot starts },
+    ghost heap: { AreHeapIndices (config_of image) starts },
     ghost clear: { IsClear image },
     ghost given: { IsHintFor (config_of image) spot hint },
     ghost last_is: { last_word + 1 ≡ image_words (config_of image) },
@@ -40,7 +47,7 @@ impl Control {
     ghost use Rattle.image_graph.specs.State.{memory_of};
     ghost use Rattle.image_graph.specs.Holds.{HoldsSome};
     ghost use Rattle.image_graph.specs.Left.{StandsForSome, ShowsTheGraph};
-    ghost use Rattle.control_rows.specs.Rows.{is_gone, control_place, control_access, control_next, control_says, takes_hint, hinted_by, control_hinted, greys_at};
+    ghost use Rattle.control_rows.specs.Rows.{is_gone, control_place, control_access, control_next, control_says, takes_hint, hinted_by, control_hinted, greys_at, stored_next};
     ghost use Rattle.control_rows.specs.Waits.{WaitsAt};
     ghost use Rattle.cycle_pauses.specs.Collect.{collect_image};
     ghost use Rattle.control.specs.Fit.{IsFit};
@@ -66,6 +73,7 @@ impl Control {
             spot: ControlSpot::LookLeft,
             last,
             image,
+            starts: no_starts(config),
             last_word: image_words(config) - 1,
             hint: None,
             hints: 0,
@@ -87,14 +95,19 @@ impl Control {
         matches!(self.spot, ControlSpot::StoreWord { .. })
     }
 
-    /// Whether its next step goes from a word of the image to the next one: nearly all steps of a pause do.
+    /// Whether its next step goes from a word of the image to the next one, in a pause of all of the image: nearly all of its steps do.
     pub fn is_inside_image(&self) -> bool
         ensures { result ≡ is_inside_image (config_in self.now) (seen_control self.now).spot }
     {
         match self.spot {
-            ControlSpot::LoadWord { index } | ControlSpot::StoreWord { index } => {
-                index < self.last_word
+            ControlSpot::LoadWord {
+                index,
+                extent: Extent::Whole,
             }
+            | ControlSpot::StoreWord {
+                index,
+                extent: Extent::Whole,
+            } => index < self.last_word,
             _ => false,
         }
     }
@@ -153,6 +166,7 @@ impl Control {
         ensures row { result ≡ hinted_by (config_in self.now) (hint_of self.now) (seen_control self.now).spot }
         ensures ready { is_ready (config_in self.now) result ≡ true }
         ensures gone { is_gone result ≡ is_gone (seen_control self.now).spot }
+        ensures own { SeesOwn (config_in self.now) result self.now.starts }
     {
         match self.hint {
             Some(address) => self.spot.hinted(self.image.config(), address),
@@ -177,10 +191,10 @@ impl Control {
     {
         let config = self.image.config();
         match self.goes_on_at() {
-            ControlSpot::LoadWord { index } => Access::Load {
+            ControlSpot::LoadWord { index, .. } => Access::Load {
                 at: config.image_start() + index,
             },
-            ControlSpot::StoreWord { index } => {
+            ControlSpot::StoreWord { index, .. } => {
                 let at = config.image_start() + index;
                 Access::Store {
                     at,
@@ -191,7 +205,8 @@ impl Control {
         }
     }
 
-    // Whether it goes from a word of the image to the next one; it has done so then. This is nearly all that a pause does.
+    // Whether it goes from a word of the image to the next one, in a pause of all of the image; it has done so then. This is nearly
+    // all that such a pause does.
     fn goes_on_in_image(&mut self, got: u64) -> bool
         requires busy { is_gone (seen_control self.old).spot ≡ false }
         requires fit { IsFit (config_in self.old) (seen_control self.old) got }
@@ -204,13 +219,25 @@ impl Control {
         ensures calm { result ≡ true → WaitsAt (config_in self.old) (seen_control self.old) got → ⊥ }
     {
         match self.spot {
-            ControlSpot::LoadWord { index } if index < self.last_word => {
+            ControlSpot::LoadWord {
+                index,
+                extent: Extent::Whole,
+            } if index < self.last_word => {
                 put_word(&mut self.image, index, got);
-                self.spot = ControlSpot::LoadWord { index: index + 1 };
+                self.spot = ControlSpot::LoadWord {
+                    index: index + 1,
+                    extent: Extent::Whole,
+                };
                 true
             }
-            ControlSpot::StoreWord { index } if index < self.last_word => {
-                self.spot = ControlSpot::StoreWord { index: index + 1 };
+            ControlSpot::StoreWord {
+                index,
+                extent: Extent::Whole,
+            } if index < self.last_word => {
+                self.spot = ControlSpot::StoreWord {
+                    index: index + 1,
+                    extent: Extent::Whole,
+                };
                 true
             }
             _ => false,
@@ -229,15 +256,27 @@ impl Control {
         ensures row { seen_control self.new ≡ control_next collect_image (config_in self.old) (seen_control self.old) (slice_index words.old.items (table_index (control_access (config_in self.old) (seen_control self.old)))) }
     {
         match self.spot {
-            ControlSpot::LoadWord { index } => {
+            ControlSpot::LoadWord {
+                index,
+                extent: Extent::Whole,
+            } => {
                 let at = self.image.config().image_start() + index;
                 put_word(&mut self.image, index, words[at]);
-                self.spot = ControlSpot::LoadWord { index: index + 1 };
+                self.spot = ControlSpot::LoadWord {
+                    index: index + 1,
+                    extent: Extent::Whole,
+                };
             }
-            ControlSpot::StoreWord { index } => {
+            ControlSpot::StoreWord {
+                index,
+                extent: Extent::Whole,
+            } => {
                 let at = self.image.config().image_start() + index;
                 words[at] = self.image.word(at);
-                self.spot = ControlSpot::StoreWord { index: index + 1 };
+                self.spot = ControlSpot::StoreWord {
+                    index: index + 1,
+                    extent: Extent::Whole,
+                };
             }
             _ => unreachable!(),
         }
@@ -252,8 +291,14 @@ impl Control {
     {
         let start = self.image.config().image_start();
         match self.spot {
-            ControlSpot::LoadWord { index } => Access::Load { at: start + index },
-            ControlSpot::StoreWord { index } => Access::Store {
+            ControlSpot::LoadWord {
+                index,
+                extent: Extent::Whole,
+            } => Access::Load { at: start + index },
+            ControlSpot::StoreWord {
+                index,
+                extent: Extent::Whole,
+            } => Access::Store {
                 at: start + index,
                 value: self.image.word(start + index),
             },
@@ -270,12 +315,24 @@ impl Control {
         ensures row { seen_control self.new ≡ control_next collect_image (config_in self.old) (seen_control self.old) got }
     {
         match self.spot {
-            ControlSpot::LoadWord { index } => {
+            ControlSpot::LoadWord {
+                index,
+                extent: Extent::Whole,
+            } => {
                 put_word(&mut self.image, index, got);
-                self.spot = ControlSpot::LoadWord { index: index + 1 };
+                self.spot = ControlSpot::LoadWord {
+                    index: index + 1,
+                    extent: Extent::Whole,
+                };
             }
-            ControlSpot::StoreWord { index } => {
-                self.spot = ControlSpot::StoreWord { index: index + 1 };
+            ControlSpot::StoreWord {
+                index,
+                extent: Extent::Whole,
+            } => {
+                self.spot = ControlSpot::StoreWord {
+                    index: index + 1,
+                    extent: Extent::Whole,
+                };
             }
             _ => unreachable!(),
         }
@@ -309,6 +366,18 @@ impl Control {
         }
     }
 
+    // The index of the word of the new image that it stores next, where it stores one.
+    fn stored_next(&self) -> usize
+        ensures { result ≡ stored_next (config_in self.now) (seen_control self.now).spot (seen_control self.now).image }
+    {
+        match self.spot {
+            ControlSpot::StoreWord { index, extent } => {
+                next_stored(&self.image, &self.starts, index, extent)
+            }
+            _ => 0,
+        }
+    }
+
     // Goes on with the word, where it has no hint.
     fn took_word(&mut self, got: u64) -> Took
         requires none { hint_of self.old ≡ None }
@@ -325,8 +394,9 @@ impl Control {
         }
         let before = self.spot;
         let last = self.last;
-        self.last = take_found(&mut self.image, before, last, got);
-        let (spot, said) = before.after(self.image.config(), last, got);
+        let next = self.stored_next();
+        self.last = take_found(&mut self.image, &mut self.starts, before, last, got);
+        let (spot, said) = before.after(self.image.config(), last, next, got);
         self.spot = spot;
         said
     }
@@ -336,7 +406,7 @@ impl Control {
     /// are words of this table. As events see it, it stays as it is.
     pub fn answer_graph(&mut self, words: &[u64], text: &mut GraphText)
         requires words { length words.now ≡ table_words (config_in self.old) }
-        requires loaded { IsLoadedFrom (image_from (config_in self.old) words.now) (seen_control self.old).spot (seen_control self.old).image }
+        requires loaded { IsLoadedFrom (config_in self.old) (image_from (config_in self.old) words.now) (seen_control self.old).spot (seen_control self.old).image }
         requires room { heap_size (config_in self.old) ≤ text.old.room }
         requires threads { length text.old.roots ≡ (config_in self.old).mutators }
         requires stand { StandsForSome (config_in self.old) words.now }
@@ -358,6 +428,7 @@ impl Control {
         let Control {
             spot: _,
             last: _,
+            starts: _,
             last_word: _,
             hint: _,
             hints: _,

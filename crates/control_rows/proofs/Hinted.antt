@@ -16,8 +16,8 @@ module _ (c : Config) where
   by_unit P hint same unit_case LookAsked = same LookAsked
   by_unit P hint same unit_case LookFree = same LookFree
   by_unit P hint same unit_case (Stopping at) = same (Stopping at)
-  by_unit P hint same unit_case (LoadWord index) = same (LoadWord index)
-  by_unit P hint same unit_case (StoreWord index) = same (StoreWord index)
+  by_unit P hint same unit_case (LoadWord index extent) = same (LoadWord index extent)
+  by_unit P hint same unit_case (StoreWord index extent) = same (StoreWord index extent)
   by_unit P hint same unit_case Go = same Go
   by_unit P hint same unit_case Gone = same Gone
 

@@ -1,3 +1,4 @@
 pub mod Ready
 pub mod Waits
 pub mod Hinted
+pub mod Extents

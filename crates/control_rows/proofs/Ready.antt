@@ -21,9 +21,11 @@ use Rattle.unit_part.specs.Ready as unit
 use Rattle.unit_part.proofs.Inside as inside
 use Rattle.unit_part.proofs.Left.{by_phase}
 use Rattle.heap_world.specs.Change.{image_words}
+use Rattle.control_rows.specs.declared.extent.Extent.{Extent}
+use Rattle.control_rows.specs.Extent.{next_loaded, extent_after}
 use Rattle.control_rows.specs.declared.spot.ControlSpot.{ControlSpot}
 use Rattle.control_rows.specs.declared.spot.ControlSpot.TheVariants.{LookLeft, StoreEnd, LookAsked, LookFree, Working, Stopping, LoadWord, StoreWord, Go, Gone}
-use Rattle.control_rows.specs.Rows.{control_seat, control_touch, after_unit, stopping, begins_pause, unasked, wants_pause}
+use Rattle.control_rows.specs.Rows.{control_seat, control_touch, after_unit, stopping, after_load, begins_pause, unasked, wants_pause}
 use Rattle.control_rows.specs.Ready.{is_ready, UnitGoesOn, AccessesAreInside, StaysReady}
 
 -- of two spots
@@ -35,10 +37,15 @@ of_two c false x y one other = other refl
 some_words : (c : Config) → 0 < image_words c
 some_words c = omega arith
 
+-- where the words of the image are loaded one after the other
+loads_ready : (c : Config) (extent : Extent) (index : ℕ) → is_ready c (after_load c extent index) ≡ true
+loads_ready c extent index =
+    of_two c (nat_lt (next_loaded c extent index) (image_words c)) (LoadWord (next_loaded c extent index) extent) (StoreWord 0 extent) (λ more. more) (λ all. lt-ltb _ _ (some_words c))
+
 -- where the seats are checked one after the other
-checks_on : (c : Config) (b : Bool) (x y : StopSpot) → (b ≡ true → is_ready c (stopping x) ≡ true) → (b ≡ false → is_ready c (stopping y) ≡ true) → is_ready c (stopping (if b then x else y)) ≡ true
-checks_on c true x y one other = one refl
-checks_on c false x y one other = other refl
+checks_on : (c : Config) (phase : ℕ) (b : Bool) (x y : StopSpot) → (b ≡ true → is_ready c (stopping c phase x) ≡ true) → (b ≡ false → is_ready c (stopping c phase y) ≡ true) → is_ready c (stopping c phase (if b then x else y)) ≡ true
+checks_on c phase true x y one other = one refl
+checks_on c phase false x y one other = other refl
 
 -- where it goes on with its unit
 works_on : (c : Config) (at : UnitSpot) → unit.is_ready c (control_seat c) at ≡ true → is_ready c (after_unit at) ≡ true
@@ -58,22 +65,22 @@ pub goes_at : (c : Config) (spot at : ControlSpot) (got : ℕ) → spot ≡ at �
 goes_at c spot at got is goes = subst (λ s. UnitGoesOn c s got) is goes
 
 pub stays_ready : StaysReady
-stays_ready c phase cset seen LookLeft got ready goes = of_two c (got == 0) StoreEnd LookAsked (λ e. refl) (λ e. refl)
-stays_ready c phase cset seen StoreEnd got ready goes = refl
-stays_ready c phase cset seen LookAsked got ready goes = of_two c (begins_pause phase got) (Stopping stop.Raise) (unasked phase cset) (λ e. refl)
+stays_ready c phase cset seen next LookLeft got ready goes = of_two c (got == 0) StoreEnd LookAsked (λ e. refl) (λ e. refl)
+stays_ready c phase cset seen next StoreEnd got ready goes = refl
+stays_ready c phase cset seen next LookAsked got ready goes = of_two c (begins_pause phase got) (Stopping stop.Raise) (unasked phase cset) (λ e. refl)
     (λ e. of_two c (phase == 0) LookFree (Working (units.begins phase cset)) (λ e. refl) (λ e. begins_ready c phase cset))
-stays_ready c phase cset seen LookFree got ready goes = of_two c (wants_pause c seen got) (Stopping stop.Raise) LookLeft (λ e. refl) (λ e. refl)
-stays_ready c phase cset seen (Working at) got ready goes = works_on c (units.next_at c at got) (inside.stays_ready c (control_seat c) at got (and_parts _ _ ready).0 goes)
-stays_ready c phase cset seen (Stopping stop.Raise) got ready goes = (let some = c.in_range.least_mutators in grind (arith, nat_tests))
-stays_ready c phase cset seen (Stopping (stop.Check seat)) got ready goes =
-    checks_on c (got == 0) (after_seat c seat) (stop.Check seat)
-    (λ e. checks_on c (nat_lt (seat + 1) (c.mutators + c.helpers)) (stop.Check (seat + 1)) stop.Stopped (λ more. grind (arith, nat_tests)) (λ all. lt-ltb _ _ (some_words c)))
+stays_ready c phase cset seen next LookFree got ready goes = of_two c (wants_pause c seen got) (Stopping stop.Raise) LookLeft (λ e. refl) (λ e. refl)
+stays_ready c phase cset seen next (Working at) got ready goes = works_on c (units.next_at c at got) (inside.stays_ready c (control_seat c) at got (and_parts _ _ ready).0 goes)
+stays_ready c phase cset seen next (Stopping stop.Raise) got ready goes = (let some = c.in_range.least_mutators in grind (arith, nat_tests))
+stays_ready c phase cset seen next (Stopping (stop.Check seat)) got ready goes =
+    checks_on c phase (got == 0) (after_seat c seat) (stop.Check seat)
+    (λ e. checks_on c phase (nat_lt (seat + 1) (c.mutators + c.helpers)) (stop.Check (seat + 1)) stop.Stopped (λ more. grind (arith, nat_tests)) (λ all. lt-ltb _ _ (some_words c)))
     (λ e. ready)
-stays_ready c phase cset seen (Stopping stop.Stopped) got ready goes = lt-ltb _ _ (some_words c)
-stays_ready c phase cset seen (LoadWord index) got ready goes = of_two c (nat_lt (index + 1) (image_words c)) (LoadWord (index + 1)) (StoreWord 0) (λ more. more) (λ all. lt-ltb _ _ (some_words c))
-stays_ready c phase cset seen (StoreWord index) got ready goes = of_two c (nat_lt (index + 1) (image_words c)) (StoreWord (index + 1)) Go (λ more. more) (λ all. refl)
-stays_ready c phase cset seen Go got ready goes = refl
-stays_ready c phase cset seen Gone got ready goes = refl
+stays_ready c phase cset seen next (Stopping stop.Stopped) got ready goes = lt-ltb _ _ (some_words c)
+stays_ready c phase cset seen next (LoadWord index extent) got ready goes = loads_ready c (extent_after phase index extent got) index
+stays_ready c phase cset seen next (StoreWord index extent) got ready goes = of_two c (nat_lt next (image_words c)) (StoreWord next extent) Go (λ more. more) (λ all. refl)
+stays_ready c phase cset seen next Go got ready goes = refl
+stays_ready c phase cset seen next Gone got ready goes = refl
 
 -- an access of a word of the table is inside it
 placed_inside : (c : Config) (t : Touch) → IsWord c t.word → table_index (placed c t) < table_words c
@@ -87,7 +94,7 @@ accesses_inside c LookAsked value ready = placed_inside c (control_touch c LookA
 accesses_inside c LookFree value ready = placed_inside c (control_touch c LookFree) tt
 accesses_inside c (Working at) value ready = inside.accesses_inside c (control_seat c) at (omega arith) (and_parts _ _ ready).0
 accesses_inside c (Stopping at) value ready = placed_inside c (stop_touch at) (is_word_true c (stop_touch at).word (and_parts _ _ (and_parts _ _ ready).0).0)
-accesses_inside c (LoadWord index) value ready = (let below = ltb-true _ _ ready in omega (arith, below))
-accesses_inside c (StoreWord index) value ready = (let below = ltb-true _ _ ready in omega (arith, below))
+accesses_inside c (LoadWord index extent) value ready = (let below = ltb-true _ _ ready in omega (arith, below))
+accesses_inside c (StoreWord index extent) value ready = (let below = ltb-true _ _ ready in omega (arith, below))
 accesses_inside c Go value ready = placed_inside c (control_touch c Go) tt
 accesses_inside c Gone value ready = placed_inside c (control_touch c Gone) tt

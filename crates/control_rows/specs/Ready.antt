@@ -18,8 +18,8 @@ use Rattle.control_rows.specs.Rows.{control_seat, access_with, next_spot, takes_
 abbrev pub is_ready : Config → ControlSpot → Bool
 is_ready c (Working at) = unit.is_ready c (control_seat c) at && (if units.is_ended at then false else true)
 is_ready c (Stopping at) = touch_fits c (stop_touch at) && (if is_stopped at then false else true)
-is_ready c (LoadWord index) = nat_lt index (image_words c)
-is_ready c (StoreWord index) = nat_lt index (image_words c)
+is_ready c (LoadWord index extent) = nat_lt index (image_words c)
+is_ready c (StoreWord index extent) = nat_lt index (image_words c)
 is_ready c _ = true
 
 -- a hint may stand: it is the hint of an address of the heap, and the control takes hints; or there is none
@@ -37,4 +37,4 @@ UnitGoesOn c _ got = Unit {0}
 
 -- and they are in range at the next spot, whatever word is found; in a unit, where the unit can go on from it
 abbrev pub StaysReady : Type 0
-StaysReady = (c : Config) (phase cset seen : ℕ) (spot : ControlSpot) (got : ℕ) → is_ready c spot ≡ true → UnitGoesOn c spot got → is_ready c (next_spot c phase cset seen spot got) ≡ true
+StaysReady = (c : Config) (phase cset seen next : ℕ) (spot : ControlSpot) (got : ℕ) → is_ready c spot ≡ true → UnitGoesOn c spot got → is_ready c (next_spot c phase cset seen next spot got) ≡ true

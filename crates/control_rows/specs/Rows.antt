@@ -22,6 +22,8 @@ use Rattle.unit_part.specs.declared.spot.UnitSpot.TheVariants.{Ended}
 use Rattle.unit_part.specs.Rows as units
 use Rattle.unit_part.specs.Hints.{one_more}
 use Rattle.heap_world.specs.Change.{Change, image_view, image_words}
+use Rattle.control_rows.specs.declared.extent.Extent.{Extent}
+use Rattle.control_rows.specs.Extent.{next_loaded, first_extent, extent_after, padded, next_stored}
 use Rattle.control_rows.specs.declared.spot.ControlSpot.{ControlSpot}
 use Rattle.control_rows.specs.declared.spot.ControlSpot.TheVariants.{LookLeft, StoreEnd, LookAsked, LookFree, Working, Stopping, LoadWord, StoreWord, Go, Gone}
 
@@ -33,7 +35,8 @@ pub record Controlling : Type 0 where
   -- the phase and the collection set at the end of its last pause
   pub phase : ℕ
   pub cset : ℕ
-  -- the words of the image that it has loaded so far, and those of the new image while it stores them; outside pauses none
+  -- the words of the image that it has loaded so far, and 0 for those that it leaves out; those of the new image while it stores them; outside
+  -- pauses none
   pub image : List ℕ
   -- how many hints it has taken, up to 2^64 - 1
   pub hints : ℕ
@@ -76,8 +79,8 @@ control_place LookAsked = place.I1
 control_place LookFree = place.I2
 control_place (Working at) = units.place_at at
 control_place (Stopping at) = stop_place at
-control_place (LoadWord index) = place.PL
-control_place (StoreWord index) = place.PS
+control_place (LoadWord index extent) = place.PL
+control_place (StoreWord index extent) = place.PS
 control_place Go = place.P3
 control_place Gone = place.IE
 
@@ -94,13 +97,13 @@ control_touch c _ = touch Left loads
 
 -- the next access, by the word of the new image that is stored. The words of the image are accessed by their places
 abbrev pub access_with : Config → ControlSpot → ℕ → Access
-access_with c (LoadWord index) value = Load (image_start c + index)
-access_with c (StoreWord index) value = Store (image_start c + index) value
+access_with c (LoadWord index extent) value = Load (image_start c + index)
+access_with c (StoreWord index extent) value = Store (image_start c + index) value
 access_with c spot value = placed c (control_touch c spot)
 
 -- the word of the new image that a spot stores
 abbrev pub word_stored : ControlSpot → List ℕ → ℕ
-word_stored (StoreWord index) image = slice_index image index
+word_stored (StoreWord index extent) image = slice_index image index
 word_stored _ image = 0
 
 -- the next access
@@ -108,9 +111,9 @@ abbrev pub control_access : Config → Controlling → Access
 control_access c k = access_with c k.spot (word_stored k.spot k.image)
 
 -- where it stands that stops the other machines: once they are stopped it loads the image
-abbrev pub stopping : StopSpot → ControlSpot
-stopping stop.Stopped = LoadWord 0
-stopping at = Stopping at
+abbrev pub stopping : Config → ℕ → StopSpot → ControlSpot
+stopping c phase stop.Stopped = LoadWord 0 (first_extent c phase)
+stopping c phase at = Stopping at
 
 -- where it stands that works on a unit: once that is done it looks again what is to do, and once none was left it makes a pause
 abbrev pub after_unit : UnitSpot → ControlSpot
@@ -130,52 +133,78 @@ unasked phase cset = if phase == 0 then LookFree else Working (units.begins phas
 abbrev pub wants_pause : Config → ℕ → ℕ → Bool
 wants_pause c seen free = nat_lt (2 * members_below free 64) c.regions && (if free == seen then false else true)
 
--- where it stands next, by the phase, the collection set, the free word that it has seen and the word that was found
-abbrev pub next_spot : Config → (phase cset seen : ℕ) → ControlSpot → ℕ → ControlSpot
-next_spot c phase cset seen LookLeft got = if got == 0 then StoreEnd else LookAsked
-next_spot c phase cset seen StoreEnd got = Gone
-next_spot c phase cset seen LookAsked got = if begins_pause phase got then Stopping stop.Raise else unasked phase cset
-next_spot c phase cset seen LookFree got = if wants_pause c seen got then Stopping stop.Raise else LookLeft
-next_spot c phase cset seen (Working at) got = after_unit (units.next_at c at got)
-next_spot c phase cset seen (Stopping at) got = stopping (stop_next c at got)
-next_spot c phase cset seen (LoadWord index) got = if nat_lt (index + 1) (image_words c) then LoadWord (index + 1) else StoreWord 0
-next_spot c phase cset seen (StoreWord index) got = if nat_lt (index + 1) (image_words c) then StoreWord (index + 1) else Go
-next_spot c phase cset seen Go got = LookLeft
-next_spot c phase cset seen Gone got = Gone
+-- where it stands once a word of the image was loaded, and once one of the new image was stored, by the index of the next one
+abbrev pub after_load : Config → Extent → ℕ → ControlSpot
+after_load c extent index = if nat_lt (next_loaded c extent index) (image_words c) then LoadWord (next_loaded c extent index) extent else StoreWord 0 extent
+
+abbrev pub after_store : Config → Extent → ℕ → ControlSpot
+after_store c extent next = if nat_lt next (image_words c) then StoreWord next extent else Go
+
+-- where it stands next, by the phase, the collection set, the free word that it has seen, the index of the word of the new image that is
+-- stored next, and the word that was found
+abbrev pub next_spot : Config → (phase cset seen next : ℕ) → ControlSpot → ℕ → ControlSpot
+next_spot c phase cset seen next LookLeft got = if got == 0 then StoreEnd else LookAsked
+next_spot c phase cset seen next StoreEnd got = Gone
+next_spot c phase cset seen next LookAsked got = if begins_pause phase got then Stopping stop.Raise else unasked phase cset
+next_spot c phase cset seen next LookFree got = if wants_pause c seen got then Stopping stop.Raise else LookLeft
+next_spot c phase cset seen next (Working at) got = after_unit (units.next_at c at got)
+next_spot c phase cset seen next (Stopping at) got = stopping c phase (stop_next c at got)
+next_spot c phase cset seen next (LoadWord index extent) got = after_load c (extent_after phase index extent got) index
+next_spot c phase cset seen next (StoreWord index extent) got = after_store c extent next
+next_spot c phase cset seen next Go got = LookLeft
+next_spot c phase cset seen next Gone got = Gone
+
+-- the index of the word of the new image that is stored behind that of a spot
+abbrev pub stored_next : Config → ControlSpot → List ℕ → ℕ
+stored_next c (StoreWord index extent) image = next_stored c extent image index
+stored_next c _ image = 0
+
+-- the words of the image once this one was loaded: with 0 for those that are left out before the next one
+abbrev pub loaded_on : (next : ℕ) → List ℕ → ℕ → List ℕ
+loaded_on next image got = padded next (image ++ got ∷ [])
+
+-- and once the last one was, of all of the image
+abbrev pub loaded_all : Config → List ℕ → ℕ → List ℕ
+loaded_all c image got = padded (image_words c) (image ++ got ∷ [])
+
+-- whether there is a word that is loaded behind that of an index
+abbrev pub loads_more : Config → (phase index : ℕ) → Extent → (got : ℕ) → Bool
+loads_more c phase index extent got = nat_lt (next_loaded c (extent_after phase index extent got) index) (image_words c)
 
 -- the image then: with the last word that is loaded it is changed
-abbrev pub next_image : Change → Config → ControlSpot → List ℕ → ℕ → List ℕ
-next_image change c (LoadWord index) image got = if nat_lt (index + 1) (image_words c) then image ++ got ∷ [] else change c (image ++ got ∷ [])
-next_image change c (StoreWord index) image got = if nat_lt (index + 1) (image_words c) then image else []
-next_image change c _ image got = []
+abbrev pub next_image : Change → Config → ControlSpot → List ℕ → (phase got : ℕ) → List ℕ
+next_image change c (LoadWord index extent) image phase got =
+    if loads_more c phase index extent got then loaded_on (next_loaded c (extent_after phase index extent got) index) image got else change c (loaded_all c image got)
+next_image change c (StoreWord index extent) image phase got = if nat_lt (next_stored c extent image index) (image_words c) then image else []
+next_image change c _ image phase got = []
 
 -- the free word that it has seen after a pause: that of the new image, if the pause has ended with phase 0
 abbrev pub seen_after : ℕ → (Word → ℕ) → ℕ
 seen_after seen memory = if memory Phase == 0 then memory Free else seen
 
 -- the free word that it has seen then
-abbrev pub next_seen : Change → Config → ControlSpot → List ℕ → ℕ → ℕ → ℕ
-next_seen change c (LoadWord index) image seen got = if nat_lt (index + 1) (image_words c) then seen else seen_after seen (image_view c (change c (image ++ got ∷ [])))
-next_seen change c _ image seen got = seen
+abbrev pub next_seen : Change → Config → ControlSpot → List ℕ → (seen phase got : ℕ) → ℕ
+next_seen change c (LoadWord index extent) image seen phase got = if loads_more c phase index extent got then seen else seen_after seen (image_view c (change c (loaded_all c image got)))
+next_seen change c _ image seen phase got = seen
 
 -- the phase then: that of the new image, once there is one
-abbrev pub next_phase : Change → Config → ControlSpot → List ℕ → ℕ → ℕ → ℕ
-next_phase change c (LoadWord index) image phase got = if nat_lt (index + 1) (image_words c) then phase else image_view c (change c (image ++ got ∷ [])) Phase
+abbrev pub next_phase : Change → Config → ControlSpot → List ℕ → (phase got : ℕ) → ℕ
+next_phase change c (LoadWord index extent) image phase got = if loads_more c phase index extent got then phase else image_view c (change c (loaded_all c image got)) Phase
 next_phase change c _ image phase got = phase
 
 -- the collection set then: that of the new image, once there is one
-abbrev pub next_set : Change → Config → ControlSpot → List ℕ → ℕ → ℕ → ℕ
-next_set change c (LoadWord index) image cset got = if nat_lt (index + 1) (image_words c) then cset else image_view c (change c (image ++ got ∷ [])) Cset
-next_set change c _ image cset got = cset
+abbrev pub next_set : Change → Config → ControlSpot → List ℕ → (cset phase got : ℕ) → ℕ
+next_set change c (LoadWord index extent) image cset phase got = if loads_more c phase index extent got then cset else image_view c (change c (loaded_all c image got)) Cset
+next_set change c _ image cset phase got = cset
 
 -- what it is then
 abbrev pub control_next : Change → Config → Controlling → ℕ → Controlling
 control_next change c k got = record {
-  spot = next_spot c k.phase k.cset k.seen k.spot got;
-  seen = next_seen change c k.spot k.image k.seen got;
+  spot = next_spot c k.phase k.cset k.seen (stored_next c k.spot k.image) k.spot got;
+  seen = next_seen change c k.spot k.image k.seen k.phase got;
   phase = next_phase change c k.spot k.image k.phase got;
-  cset = next_set change c k.spot k.image k.cset got;
-  image = next_image change c k.spot k.image got;
+  cset = next_set change c k.spot k.image k.cset k.phase got;
+  image = next_image change c k.spot k.image k.phase got;
   hints = k.hints;
 }
 

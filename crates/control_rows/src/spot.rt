@@ -7,6 +7,7 @@ ghost use Rattle.control_rows.specs.Rows as rows;
 ghost use Rattle.control_rows.specs.Ready.{is_ready, UnitGoesOn};
 ghost use Rattle.control_rows.specs.Waits.{waits_at};
 
+use crate::extent::{Extent, first_extent, image_words};
 use handshake::{StopSpot, go_access};
 use heap_words::{Access, Config, Place, Took, Unit};
 use regions::size;
@@ -58,11 +59,15 @@ pub enum ControlSpot {
     LoadWord {
         /// The word, counted from 0 in the order of places.
         index: usize,
+        /// How much of the image it loads, as far as it knows.
+        extent: Extent,
     },
     /// It stores a word of the new image.
     StoreWord {
         /// The word, counted from 0 in the order of places.
         index: usize,
+        /// How much of the image it has loaded.
+        extent: Extent,
     },
     /// It stores that the pause has ended.
     Go,
@@ -156,11 +161,11 @@ impl ControlSpot {
             },
             ControlSpot::Working { at } => at.access(config, seat_of(config)),
             ControlSpot::Stopping { at } => at.access(config),
-            ControlSpot::LoadWord { index } => Access::Load {
+            ControlSpot::LoadWord { index, .. } => Access::Load {
                 at: config.image_start() + index,
             },
             // keeps settled, IsAim, IsSeen and IsThread.short
-            ControlSpot::StoreWord { index } => Access::Store {
+            ControlSpot::StoreWord { index, .. } => Access::Store {
                 at: config.image_start() + index,
                 value: word,
             },
@@ -169,24 +174,30 @@ impl ControlSpot {
         }
     }
 
-    /// Where it stands after it, by what stood at the end of its last pause and the word that the access has found, and what the
-    /// step says.
-    pub fn after(self, config: Config, last: LastPause, got: u64) -> (ControlSpot, Took)
+    /// Where it stands after it, by what stood at the end of its last pause, the index of the word of the new image that it stores
+    /// next, where it stores one, and the word that the access has found, and what the step says.
+    pub fn after(
+        self,
+        config: Config,
+        last: LastPause,
+        next: usize,
+        got: u64,
+    ) -> (ControlSpot, Took)
         requires ready { is_ready config self ≡ true }
         requires fit { UnitGoesOn config self got }
-        ensures row { result.0 ≡ rows.next_spot config last.phase last.cset last.seen self got }
+        ensures row { result.0 ≡ rows.next_spot config last.phase last.cset last.seen next self got }
         ensures ready { is_ready config result.0 ≡ true }
         ensures says { result.1 ≡ rows.says_at config last.seen self got }
         ensures again { (result.1 ≡ Took.Again) ↔ waits_at config last.seen self got }
     {
-        self.next(config, last, got)
+        self.next(config, last, next, got)
     }
 
     // The same by its rows alone. That its numbers stay in range follows from them.
-    fn next(self, config: Config, last: LastPause, got: u64) -> (ControlSpot, Took)
+    fn next(self, config: Config, last: LastPause, next: usize, got: u64) -> (ControlSpot, Took)
         requires ready { is_ready config self ≡ true }
         requires fit { UnitGoesOn config self got }
-        ensures row { result.0 ≡ rows.next_spot config last.phase last.cset last.seen self got }
+        ensures row { result.0 ≡ rows.next_spot config last.phase last.cset last.seen next self got }
         ensures says { result.1 ≡ rows.says_at config last.seen self got }
         ensures again { (result.1 ≡ Took.Again) ↔ waits_at config last.seen self got }
     {
@@ -202,11 +213,17 @@ impl ControlSpot {
                 (after_unit(next), working_says(said))
             }
             ControlSpot::Stopping { at } => (
-                stopping(at.after(config, got)),
+                stopping(config, last.phase, at.after(config, got)),
                 stopping_says(at, got),
             ),
-            ControlSpot::LoadWord { index } => (after_load(config, index), Took::More),
-            ControlSpot::StoreWord { index } => (after_store(config, index), Took::More),
+            ControlSpot::LoadWord { index, extent } => (
+                after_load(config, extent.after(last.phase, index, got), index),
+                Took::More,
+            ),
+            ControlSpot::StoreWord { extent, .. } => (
+                after_store(config, extent, next),
+                Took::More,
+            ),
             ControlSpot::Go => (ControlSpot::LookLeft, Took::More),
             ControlSpot::StoreEnd | ControlSpot::Gone => (ControlSpot::Gone, Took::More),
         }
@@ -292,11 +309,14 @@ fn is_wanted(config: Config, seen: u64, free: u64) -> bool
 }
 
 // Once all seats are out the image is loaded.
-fn stopping(at: StopSpot) -> ControlSpot
-    ensures { result ≡ rows.stopping at }
+fn stopping(config: Config, phase: u64, at: StopSpot) -> ControlSpot
+    ensures { result ≡ rows.stopping config phase at }
 {
     if at.is_stopped() {
-        ControlSpot::LoadWord { index: 0 }
+        ControlSpot::LoadWord {
+            index: 0,
+            extent: first_extent(config, phase),
+        }
     } else {
         ControlSpot::Stopping { at }
     }
@@ -312,35 +332,31 @@ fn stopping_says(at: StopSpot, got: u64) -> Took
     }
 }
 
-/// How many words the image has.
-pub fn image_words(config: Config) -> usize
-    ensures { result ≡ image_words config }
-{
-    config.table_words() - config.image_start()
-}
-
 // What follows once a word of the image is loaded.
-fn after_load(config: Config, index: usize) -> ControlSpot
+fn after_load(config: Config, extent: Extent, index: usize) -> ControlSpot
     requires { index < image_words config }
-    ensures row { result ≡ rows.next_spot config 0 0 0 (ControlSpot.LoadWord index) 0 }
-    ensures ready { is_ready config result ≡ true }
+    ensures { result ≡ rows.after_load config extent index }
 {
-    if index + 1 < image_words(config) {
-        ControlSpot::LoadWord { index: index + 1 }
+    let next = extent.next(config, index);
+    if next < image_words(config) {
+        ControlSpot::LoadWord {
+            index: next,
+            extent,
+        }
     } else {
-        ControlSpot::StoreWord { index: 0 }
+        ControlSpot::StoreWord { index: 0, extent }
     }
 }
 
-// What follows once a word of the new image is stored.
-fn after_store(config: Config, index: usize) -> ControlSpot
-    requires { index < image_words config }
-    ensures row { result ≡ rows.next_spot config 0 0 0 (ControlSpot.StoreWord index) 0 }
-    ensures ready { is_ready config result ≡ true }
+// What follows once a word of the new image is stored, by the index of the next one.
+fn after_store(config: Config, extent: Extent, next: usize) -> ControlSpot
+    ensures { result ≡ rows.after_store config extent next }
 {
-    if index + 1 < image_words(config) {
-        ControlSpot::StoreWord { index: index + 1 }
-    } else {
-        ControlSpot::Go
+    if next >= image_words(config) {
+        return ControlSpot::Go;
+    }
+    ControlSpot::StoreWord {
+        index: next,
+        extent,
     }
 }

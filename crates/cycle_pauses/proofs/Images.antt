@@ -79,7 +79,7 @@ pub collected_by_name : (c : Config) (image : List ℕ) (word : Word) → IsWord
 collected_by_name c image = word_by_name c image (collected c (image_view c image)) (collected_before c (image_view c image))
 
 -- and a table that reads so is the image, behind zeros
-collected_table : (c : Config) (image table : List ℕ) → length table ≡ table_words c
+pub collected_table : (c : Config) (image table : List ℕ) → length table ≡ table_words c
     → ((word : Word) → IsWord c word → view c table word ≡ collected c (image_view c image) word) → table ≡ replicate (image_start c) 0 ++ collect_image c image
 collected_table c image = table_by_name c image (collected c (image_view c image)) (collected_before c (image_view c image))
 

@@ -2,6 +2,7 @@ pub mod Finished
 pub mod EndedPaused
 pub mod Images
 pub mod Pauses
+pub mod Brief
 pub mod Full
 pub mod Marking
 pub mod Evacuation

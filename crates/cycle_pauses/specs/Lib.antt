@@ -1,5 +1,6 @@
 pub mod Ended
 pub mod Collect
+pub mod Brief
 pub mod Laws
 pub mod Full
 pub mod Marking

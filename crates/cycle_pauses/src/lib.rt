@@ -9,6 +9,9 @@ pub mod full_laws;
 pub mod marking_laws;
 pub mod updating_laws;
 
+ghost use Rattle.control_rows.specs.ByParts.{PausesByParts};
+ghost use Rattle.cycle_pauses.specs.Brief.{CollectsByPart};
+ghost use Rattle.cycle_pauses.specs.Collect.{collect_image};
 ghost use Rattle.cycle_pauses.specs.Laws.{EndedIsPaused, SetIsFreedFirst, RepresentingCanCollect, EndedCanBegin, RunningCanEnd, ImageIsCollected, TableIsCollected, CollectIsPause};
 
 /// A law: a cycle that is ended in its pause is what a pause owes. It keeps the graph, and answers each mutator that asks.
@@ -51,4 +54,17 @@ pub fn table_is_collected()
 /// and refuses an object only where live objects and objects made for others crowd the heap.
 pub fn collect_is_pause()
     ensures { CollectIsPause }
+{}
+
+/// A law: where no room is needed, a pause that begins marking is made of the words off the heap, and one that begins or ends the
+/// updating of references of those before the words of the mutators. Of all other words it writes at most the headers of free
+/// words that only fill from then on.
+pub fn collects_by_part()
+    ensures { CollectsByPart }
+{}
+
+/// A law: so a pause may load and store a part of the image: what it makes of the part that it has loaded is what it makes of
+/// all of the image.
+pub fn pauses_by_parts()
+    ensures { PausesByParts collect_image }
 {}

@@ -156,7 +156,7 @@ no_order p jobs number can = by_place (cases_lt number (length (orders_of p)))
     by_place (inr past) = get_or_past (orders_of p) number Nothing past
 
 gone : (spot : ControlSpot) (image : List ℕ) → (if is_gone spot then false else true) ≡ false → stored_image spot image ≡ None
-gone (StoreWord index) image h = absurd cc
+gone (StoreWord index extent) image h = absurd cc
 gone _ image h = refl
 
 over : (m : Machine) → takes_of m Nothing ≡ false → image_read m ≡ None

@@ -27,6 +27,8 @@ goes_with_hint true true goes = absurd (cc (goes))
 goes_with_hint false true goes = absurd (cc (goes))
 
 -- who takes a hint has loaded no image
-pub whole_with_hint : (c : Config) (hint : Option ℕ) (k : Controlling) (got : ℕ) → IsWholeImage c k.spot k.image got → IsWholeImage c (control_hinted c hint k).spot (control_hinted c hint k).image got
+pub whole_with_hint : (c : Config) (hint : Option ℕ) (k : Controlling) (got : ℕ) → IsWholeImage c k.phase k.spot k.image got
+    → IsWholeImage c (control_hinted c hint k).phase (control_hinted c hint k).spot (control_hinted c hint k).image got
 whole_with_hint c None k got whole = whole
-whole_with_hint c (Some address) k got whole = by_unit c (λ spot next. IsWholeImage c spot k.image got → IsWholeImage c next k.image got) (Some address) (λ spot same. same) (λ at same. tt) k.spot whole
+whole_with_hint c (Some address) k got whole =
+    by_unit c (λ spot next. IsWholeImage c k.phase spot k.image got → IsWholeImage c k.phase next k.image got) (Some address) (λ spot same. same) (λ at same. tt) k.spot whole

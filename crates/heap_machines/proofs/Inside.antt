@@ -7,6 +7,7 @@ use Rattle.heap_words.specs.Access.{table_index}
 use Rattle.heap_words.specs.Words.{Pause, word_at, image_start}
 use Rattle.shen_graph.specs.declared.command.Command.{Command}
 use Rattle.shen_graph.specs.declared.order.Order.TheVariants.{Nothing}
+use Rattle.control_rows.specs.declared.extent.Extent.TheVariants.{Whole}
 use Rattle.control_rows.specs.declared.spot.ControlSpot.{ControlSpot}
 use Rattle.control_rows.specs.declared.spot.ControlSpot.TheVariants.{LoadWord, StoreWord}
 use Rattle.control.specs.Image as controls
@@ -27,8 +28,8 @@ apart : (c : Config) (index : ℕ) → 0 ≢ image_start c + index
 apart c index is = omega arith
 
 control_goes : (c : Config) (seen phase cset hints : ℕ) (image : List ℕ) (spot : ControlSpot) → controls.is_inside_image c spot ≡ true → GoesInside c (controlling (record { spot = spot; seen = seen; phase = phase; cset = cset; hints = hints; image = image }))
-control_goes c seen phase cset hints image (LoadWord index) inside = record { takes = refl; goes_on = λ next. refl; says = λ got. refl; beside = apart c index; greys = refl }
-control_goes c seen phase cset hints image (StoreWord index) inside = record { takes = refl; goes_on = λ next. refl; says = λ got. refl; beside = apart c index; greys = refl }
+control_goes c seen phase cset hints image (LoadWord index Whole) inside = record { takes = refl; goes_on = λ next. refl; says = λ got. refl; beside = apart c index; greys = refl }
+control_goes c seen phase cset hints image (StoreWord index Whole) inside = record { takes = refl; goes_on = λ next. refl; says = λ got. refl; beside = apart c index; greys = refl }
 control_goes c seen phase cset hints image _ inside = absurd (false≢true inside)
 
 pub goes_inside : (c : Config) (machine : Machine) → is_inside_image c machine ≡ true → GoesInside c machine

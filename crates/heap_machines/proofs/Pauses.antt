@@ -1,7 +1,7 @@
--- What pauses of the heap do is what a pause owes.
-use Rattle.heap_world.specs.Change.{IsPause}
-use Rattle.cycle_pauses.proofs.Pauses.{collect_is_pause}
+-- What pauses of the heap do is what a pause owes, and goes by parts.
+use Rattle.control_rows.specs.ByParts.{PausesByParts}
+use Rattle.control.proofs.Fitting.{collect_pauses_by_parts}
 use Rattle.heap_machines.specs.Pause.{pause_image}
 
-pub heap_pauses : IsPause pause_image
-heap_pauses = collect_is_pause
+pub heap_pauses : PausesByParts pause_image
+heap_pauses = collect_pauses_by_parts

@@ -4,7 +4,7 @@ use Rattle.std.proofs.Common.{None, ◌≡◌, ℕ, ◌+◌, ◌<◌, true, List
 use Rattle.std.proofs.lemmas.Bool.{ltb-true}
 use Rattle.std.proofs.lemmas.Grind.{same_number_lists}
 use Rattle.std.proofs.lemmas.List.{append-nil, get_or-take, get_or-drop}
-use Rattle.std.specs.Prelude.{slice_get, ◌++◌}
+use Rattle.std.specs.Prelude.{slice_get, ◌++◌, if◌then◌else◌}
 use Rattle.heap_words.specs.declared.config.Config.{Config}
 use Rattle.heap_words.specs.Words.{Word, Root, view, heap_in, roots_in, pins_in, image_start}
 use Rattle.shen_graph.specs.declared.name.Name.{Name}
@@ -21,7 +21,9 @@ use Rattle.heap_world.specs.Change.{image_words}
 use Rattle.control_rows.specs.declared.spot.ControlSpot.{ControlSpot}
 use Rattle.control_rows.specs.declared.spot.ControlSpot.TheVariants.{LoadWord, StoreWord}
 use Rattle.control_rows.specs.Ready.{is_ready}
-use Rattle.control.specs.Image.{image_from, IsLoadedFrom}
+use Rattle.control_rows.specs.Extent.{is_of_extent}
+use Rattle.control.specs.Image.{image_from, part_in, IsLoadedFrom}
+use Rattle.control.proofs.PartShown.{part_long, part_reads}
 use Rattle.heap_machines.specs.Roles.{CanShow}
 use Rattle.heap_graph.specs.Shows.{WordsStand}
 use Rattle.heap_graph.proofs.Tables.{table_stands}
@@ -98,21 +100,22 @@ module _ (c : Config) (run : Run c) (rest : (t : ℕ) (a : Actor) → t < c.muta
   image = image_from c (ending pause_image c run).words
 
   -- what the control has loaded are words of the image
-  loaded_by : (spot : ControlSpot) (some : List ℕ) → stored_image spot some ≡ None → is_ready c spot ≡ true → IsAim c (ending pause_image c run).words spot some → IsLoadedFrom image spot some
-  loaded_by (LoadWord index) some stored ready aims =
+  loaded_by : (spot : ControlSpot) (some : List ℕ) → stored_image spot some ≡ None → is_ready c spot ≡ true → IsAim c (ending pause_image c run).words spot some → IsLoadedFrom c image spot some
+  loaded_by (LoadWord index extent) some stored ready aims =
       let less : index < image_words c = ltb-true index (image_words c) ready in
-      let long : length image ≡ image_words c = omega (arith, length-drop (image_start c) (ending pause_image c run).words, sound.of_heap.words) in
-      let taken : length (take index image) ≡ index = omega (arith, length-take index image, long, less) in
-      same_number_lists some (take index image) (aims.0 ∙ sym taken) (λ i below.
+      let long : length (part_in c extent image) ≡ image_words c = part_long c extent image ∙ omega (arith, length-drop (image_start c) (ending pause_image c run).words, sound.of_heap.words) in
+      let taken : length (take index (part_in c extent image)) ≡ index = omega (arith, length-take index (part_in c extent image), long, less) in
+      same_number_lists some (take index (part_in c extent image)) (aims.0 ∙ sym taken) (λ i below.
       let inside : i < index = omega (arith, below, aims.0) in
-      aims.1 i inside ∙ sym (get_or-take index image i 0 inside ∙ get_or-drop (image_start c) (ending pause_image c run).words i 0))
-  loaded_by (StoreWord index) some stored ready aims = absurd cc
+      aims.1 i inside ∙ ap (λ n. if is_of_extent c extent i then n else 0) (sym (get_or-drop (image_start c) (ending pause_image c run).words i 0))
+      ∙ sym (get_or-take index (part_in c extent image) i 0 inside ∙ part_reads c extent image i))
+  loaded_by (StoreWord index extent) some stored ready aims = absurd cc
   loaded_by _ some stored ready aims = tt
 
   -- the control can work on them
-  pub can_show : (a : Actor) → slice_get (ending pause_image c run).machines (control_number c) ≡ Some a → CanShow image a.machine
+  pub can_show : (a : Actor) → slice_get (ending pause_image c run).machines (control_number c) ≡ Some a → CanShow c image a.machine
   can_show a here =
       let role = control_of c (control_number c) a.machine (sound.of_heap.roles (control_number c) a here) refl in
       let k = role.0 in
       let aims = run_aims pause_image heap_pauses c run.start run.graph run.begins run.events (control_number c) a k here role.1 in
-      subst (λ machine. CanShow image machine) (sym role.1) (loaded_by k.spot k.image (ap image_read (sym role.1) ∙ ap image_of (sym here) ∙ calm) aims.0 aims.1)
+      subst (λ machine. CanShow c image machine) (sym role.1) (loaded_by k.spot k.image (ap image_read (sym role.1) ∙ ap image_of (sym here) ∙ calm) aims.0 aims.1)

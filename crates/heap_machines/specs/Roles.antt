@@ -1,5 +1,6 @@
 -- What else is told of a machine.
 use Rattle.std.specs.Prelude.{ℕ, List, Option, Some, None}
+use Rattle.heap_words.specs.declared.config.Config.{Config}
 use Rattle.control.specs.Image.{IsLoadedFrom}
 use Rattle.control_rows.specs.Rows.{Controlling}
 use Rattle.step_core.specs.Actor.{Machine}
@@ -15,10 +16,10 @@ abbrev pub phase_in : Machine → Option ℕ
 phase_in machine = phase_by (control_in machine)
 
 -- of the control, if it is one
-abbrev pub CanShowBy : List ℕ → Option Controlling → Type 0
-CanShowBy table None = ⊥
-CanShowBy table (Some k) = IsLoadedFrom table k.spot k.image
+abbrev pub CanShowBy : Config → List ℕ → Option Controlling → Type 0
+CanShowBy c table None = ⊥
+CanShowBy c table (Some k) = IsLoadedFrom c table k.spot k.image
 
 -- It is the control, and can work on all words of the image of a table: it has loaded no other words, and stores none.
-abbrev pub CanShow : List ℕ → Machine → Type 0
-CanShow table machine = CanShowBy table (control_in machine)
+abbrev pub CanShow : Config → List ℕ → Machine → Type 0
+CanShow c table machine = CanShowBy c table (control_in machine)

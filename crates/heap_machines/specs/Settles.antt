@@ -34,7 +34,7 @@ refused_access c words _ = None
 
 -- by the next access of the control, which stores the words of a new image
 abbrev pub refused_at : Config → List ℕ → ControlSpot → List ℕ → Option ℕ
-refused_at c words (StoreWord index) image = refused_word (name_of c (image_start c + index)) (slice_index words (image_start c + index)) (slice_index image index)
+refused_at c words (StoreWord index extent) image = refused_word (name_of c (image_start c + index)) (slice_index words (image_start c + index)) (slice_index image index)
 refused_at c words _ image = None
 
 -- and by that of a machine

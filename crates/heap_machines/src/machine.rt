@@ -403,7 +403,7 @@ impl Machine {
     /// Writes the graph that the words of the heap's table stand for. Of the control, while it is not storing a new image; what
     /// it has loaded in a pause so far are words of this table. As events see it, it stays as it is. No memory is taken.
     pub fn answer_graph(&mut self, words: &[u64], text: &mut GraphText)
-        requires control { CanShow (image_from (heap_of self.old) words.now) (shown self.old) }
+        requires control { CanShow (heap_of self.old) (image_from (heap_of self.old) words.now) (shown self.old) }
         requires words { length words.now ≡ table_words (heap_of self.old) }
         requires room { heap_size (heap_of self.old) ≤ text.old.room }
         requires threads { length text.old.roots ≡ (heap_of self.old).mutators }

@@ -22,7 +22,7 @@ use Rattle.heap_seats.specs.Histories.{past_of, IsLegalFrom, OfEachBegun}
 use Rattle.heap_seats.specs.Seats.{config_of, number_of, start_of_seat, actor_in, machine_of_seat, order_in, steps_in, calls_of, doing_in, is_mutator, state_in, IsSameSeat}
 
 -- Calls of a thread are its part of the history of these events, which is legal from a graph.
-pub record IsPartOf (c : Config) (start : Stage Actor) (events : List (Event Order)) (thread : ℕ) (calls : List Entry) (first : Graph) : Type 0 where
+pub record IsThreadsPart (c : Config) (start : Stage Actor) (events : List (Event Order)) (thread : ℕ) (calls : List Entry) (first : Graph) : Type 0 where
   pub legal : IsLegalFrom c start events first
   pub part : of_thread (past_of c start events) thread ≡ calls
 
@@ -30,7 +30,7 @@ pub record IsPartOf (c : Config) (start : Stage Actor) (events : List (Event Ord
 -- refuses was crowded out, from each graph with which the heap may have begun.
 pub record ArePartOfHistory (c : Config) (start : Stage Actor) (thread : ℕ) (calls : List Entry) : Type 0 where
   pub events : List (Event Order)
-  pub history : OfEachBegun c start (IsPartOf c start events thread calls)
+  pub history : OfEachBegun c start (IsThreadsPart c start events thread calls)
 
 -- nothing has changed
 pub record IsAsItWas (old new : Seat) : Type 0 where

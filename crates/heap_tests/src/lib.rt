@@ -2,6 +2,8 @@
 #![tactic(auto)]
 
 #[cfg(test)]
+mod brief_pauses;
+#[cfg(test)]
 mod calls_step_by_step;
 #[cfg(test)]
 mod collections;

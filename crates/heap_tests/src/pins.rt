@@ -21,30 +21,31 @@ const REGIONS: usize = 4;
 const REGION_WORDS: usize = 64;
 
 // The threads, counted from 0, and the control.
-const FIRST: usize = 0;
+pub(crate) const FIRST: usize = 0;
 
-const SECOND: usize = 1;
+pub(crate) const SECOND: usize = 1;
 
 const CONTROL: usize = 2;
 
 // More steps than a run has.
 const LONG: u64 = 100_000;
 
-/// What two threads are to do in a heap, and the order of the steps at first.
-struct Run {
-    first: &'static [Command],
-    second: &'static [Command],
-    items: &'static [Item],
+/// What two threads are to do in a heap of four regions, and the order of the steps at first.
+pub(crate) struct Run {
+    pub(crate) region_words: usize,
+    pub(crate) first: &'static [Command],
+    pub(crate) second: &'static [Command],
+    pub(crate) items: &'static [Item],
 }
 
 // Objects of 4, 35 and 26 words.
-const MAKE_SMALL: Command = Command::New {
+pub(crate) const MAKE_SMALL: Command = Command::New {
     dst: 1,
     refs: 0,
     nums: 1,
 };
 
-const MAKE_LARGE: Command = Command::New {
+pub(crate) const MAKE_LARGE: Command = Command::New {
     dst: 2,
     refs: 16,
     nums: 16,
@@ -57,7 +58,7 @@ const MAKE_MIDDLE: Command = Command::New {
 };
 
 // Field 0 of the hub names the small object.
-const KEEP: Command = Command::Set {
+pub(crate) const KEEP: Command = Command::Set {
     obj: 0,
     field: 0,
     val: 1,
@@ -74,12 +75,12 @@ const CONTROL_CLAIMS: Item = Item::Until {
     place: Place::EC,
 };
 
-const CONTROL_PAUSES: Item = Item::Until {
+pub(crate) const CONTROL_PAUSES: Item = Item::Until {
     number: CONTROL,
     place: Place::P3,
 };
 
-const CONTROL_RESTS: Item = Item::Until {
+pub(crate) const CONTROL_RESTS: Item = Item::Until {
     number: CONTROL,
     place: Place::I0,
 };
@@ -92,6 +93,7 @@ const BOTH_OF_SECOND: Item = Item::Replies {
 // An object at 128, which field 0 of the hub names, has garbage behind it; the other thread takes what is free. While objects are
 // evacuated there is no room to copy it, so it is used where it is, in the collection set, and pinned there.
 const OUT_OF_ROOM: Run = Run {
+    region_words: REGION_WORDS,
     first: &[
         MAKE_SMALL,
         KEEP,
@@ -135,6 +137,7 @@ const OUT_OF_ROOM: Run = Run {
 // Two objects, at 128 and 132, of which the second names the first. The other thread copies the first to 256, into the last free
 // region; for the second there is no room, and it is pinned where it is.
 const BESIDE: Run = Run {
+    region_words: REGION_WORDS,
     first: &[
         MAKE_SMALL,
         KEEP,
@@ -208,7 +211,7 @@ fn is_in_seats(config: Config, item: Item) -> bool
 }
 
 // Those of these items that the heap has machines for.
-fn schedule(alloc: Global, config: Config, items: &[Item]) -> Result<Schedule, Fail>
+pub(crate) fn schedule(alloc: Global, config: Config, items: &[Item]) -> Result<Schedule, Fail>
     ensures { IfOk result (λ schedule. All (IsInSeats config) schedule) }
 {
     let mut schedule = Schedule::open(alloc)?;
@@ -220,20 +223,20 @@ fn schedule(alloc: Global, config: Config, items: &[Item]) -> Result<Schedule, F
     Ok(schedule)
 }
 
-// A heap of two threads, their work, and what was settled.
+/// A heap of two threads, their work, and what was settled.
 #[derive(Drop)]
-struct Played {
-    plain: Plain,
-    work: Work,
+pub(crate) struct Played {
+    pub(crate) plain: Plain,
+    pub(crate) work: Work,
     history: History,
 }
 
-// Before the first event, with memory for all that is to be settled.
-fn opened(alloc: Global, run: &Run) -> Result<Played, Fail>
+/// Before the first event, with memory for all that is to be settled.
+pub(crate) fn opened(alloc: Global, run: &Run) -> Result<Played, Fail>
     ensures run { IfOk result (λ played. CanRun played.plain played.work) }
     ensures spare { IfOk result (λ played. commands_in (config_of played.plain) played.work ≤ played.history.spare) }
 {
-    let config = Config::new(REGIONS, REGION_WORDS, 2, 0, 0)?;
+    let config = Config::wide(REGIONS, run.region_words, 2, 0, 0)?;
     let first = script(alloc, run.first)?;
     let second = script(alloc, run.second)?;
     let mut history = History::open(alloc)?;
@@ -275,8 +278,8 @@ impl Played {
         true
     }
 
-    // The words that have names hold this.
-    fn compare(&self, rt: &impl Abort, words: &[Row]) {
+    /// The words that have names hold this.
+    pub(crate) fn compare(&self, rt: &impl Abort, words: &[Row]) {
         let config = self.plain.config();
         for (name, value) in words {
             let found = self.plain.word(place(rt, config, *name));

@@ -36,10 +36,13 @@ const LOAD: Command = Command::Get {
 const IDLE: Command = Command::Drop { dst: 5 };
 
 // For so many commands a mutator lives on while the cycle goes on.
-const LONG: u32 = 100_000;
+const LONG: u32 = 1_000;
 
-// A pause loads each word of the heap, and stores it.
-const PAUSE: u64 = 2 * 64 * 65_536;
+// The pause that begins marking loads and stores each word of marks, of which there are two for 64 words of the heap.
+const MARKS: u64 = 2 * 2 * 65_536;
+
+// And no word of the heap.
+const HEAP: u64 = 64 * 65_536;
 
 // A script of those of these commands that are in range, and then, up to so many in all, of some that only take time.
 fn script(alloc: Global, commands: &[Command], long: u32) -> Result<Script, Fail>
@@ -84,7 +87,7 @@ fn first_of(thread: u32) -> Reply {
     Reply::Ref(Name { thread, count: 1 })
 }
 
-// One of the two gets its object into the field, both find it there, and a cycle begins, by a pause that goes through the whole heap.
+// One of the two gets its object into the field, both find it there, and a cycle begins, by a pause that goes through the marks of the whole heap.
 #[test]
 fn a_wide_heap_runs(rt: HostRuntime) -> Result<(), Fail> {
     let (heap, mut bundle, mut work) = opened(rt.alloc())?;
@@ -99,6 +102,7 @@ fn a_wide_heap_runs(rt: HostRuntime) -> Result<(), Fail> {
     assert!(rt; replies.len() == LONG as usize);
     assert!(rt; replies.starts_with(&first));
     assert!(rt; work.replies(1).list() == second.as_slice());
-    assert!(rt; gate.steps.load(Ordering::SeqCst) > PAUSE);
+    let steps = gate.steps.load(Ordering::SeqCst);
+    assert!(rt; steps > MARKS && steps < HEAP);
     Ok(())
 }

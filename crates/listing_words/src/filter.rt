@@ -17,7 +17,7 @@ const HELPERS: u64 = 3;
 const MOST_NUMBER: u64 = 999_999_999;
 
 /// A text that is looked for in lines.
-#[derive(Clone, Copy, Debug)]
+#[derive(Clone, Copy)]
 pub struct Needle {
     bytes: [u8; 64],
     used: usize,
@@ -46,7 +46,7 @@ impl Needle {
 }
 
 /// Which events are listed: those of some machines, at some places, of an object or a word, or of calls alone.
-#[derive(Clone, Copy, Debug)]
+#[derive(Clone, Copy)]
 pub struct Filter {
     // The machines by their numbers, counted from 0, and by their names; all where none is named.
     machines: [bool; 12],
@@ -70,7 +70,7 @@ pub struct Filter {
 }
 
 /// A machine that the heap does not have, by its number from 1: in a schedule, among the threads, or among the helpers.
-#[derive(Clone, Copy, Debug)]
+#[derive(Clone, Copy)]
 pub enum Stranger {
     /// A machine.
     Machine(u64),

@@ -8,7 +8,7 @@ const USUAL_STEPS: u64 = 100_000_000;
 const MOST_STEPS: u64 = 4_000_000_000;
 
 /// How pauses are listed.
-#[derive(Clone, Copy, Debug, PartialEq, Eq)]
+#[derive(Clone, Copy, PartialEq, Eq)]
 pub enum PauseForm {
     /// Each as one line.
     Line,
@@ -19,7 +19,7 @@ pub enum PauseForm {
 }
 
 /// What the words of the command line ask for.
-#[derive(Clone, Copy, Debug)]
+#[derive(Clone, Copy)]
 pub struct Wanted {
     /// The events that are made at most.
     pub steps: u64,

@@ -1,5 +1,5 @@
 -- The beginning of marking makes the words that it says.
-use Rattle.std.proofs.Common.{◌≡◌, ◌≢◌, ℕ, ◌+◌, ◌*◌, ◌<◌, ◌≤◌, nat_lt, cond, Bool, true, false, Option, List, [], ⊎_elim, refl, sym, ◌∙◌, arith}
+use Rattle.std.proofs.Common.{◌≡◌, ◌≢◌, ℕ, ◌+◌, ◌*◌, ◌<◌, ◌≤◌, nat_lt, cond, Bool, true, false, Option, List, [], ⊎_elim, refl, sym, ◌∙◌, subst, arith}
 use Rattle.std.proofs.lemmas.Bool.{cases_lt, false≢true, false_from_ne_true}
 use Rattle.std.proofs.lemmas.Bool.Decides.{nat_tests}
 use Rattle.std.proofs.Math.Path.{fun_ext}
@@ -9,7 +9,9 @@ use Rattle.heap_words.specs.declared.config.Config.{Config}
 use Rattle.heap_words.specs.Words.{Word, Phase, Claim, Ask, Top, Tams, Root, Count, Answer, Pin, Grey, Black, bit_words, view, write}
 use Rattle.heap_words.specs.Ranges.{seat_count}
 use Rattle.heap_words.proofs.Stores.{view_none}
+use Rattle.buffer_words.specs.Settled.{buffers_settled}
 use Rattle.buffer_words.specs.Edge.{edge}
+use Rattle.buffer_words.proofs.Elsewhere.{settled_same}
 use Rattle.buffer_words.proofs.Edges.{edges_same, edge_zero}
 use Rattle.shen_graph.specs.Graph.{Graph}
 use Rattle.heap_graph.specs.Walk.{has, with_addresses}
@@ -17,9 +19,10 @@ use Rattle.heap_graph.proofs.Marks as found
 use Rattle.heap_world.specs.World.{Plot, thing}
 use Rattle.heap_world.proofs.Pointing.{piece_inside}
 use Rattle.full_words.specs.Held.{IsAmong}
-use Rattle.full_words.specs.Full.{held_words}
+use Rattle.full_words.specs.Full.{roots_below, answers_below, root_words, held_words}
+use Rattle.full_words.specs.Pinned.{pins_below}
 use Rattle.full_words.specs.Promised.{Promises}
-use Rattle.full_words.proofs.Roots.{root_among, answer_among, pin_among}
+use Rattle.full_words.proofs.Roots.{has_either, root_in, answer_in, pin_in, root_among, answer_among, pin_among}
 use Rattle.image_graph.specs.Holds.{HoldsBy, HoldsSome}
 use Rattle.cycle_words.specs.Marking.Marks.{mark_bits}
 use Rattle.cycle_words.specs.Marking.Init.{marking_begun}
@@ -67,15 +70,25 @@ roots_prop c m = hlevel (le_prop)
 pub held_inside_some : (c : Config) (m : Word → ℕ) → HoldsSome c m → HasRootsInside c m
 held_inside_some c m holds = ∥∥₁_elim holds (roots_prop c m) (λ h. held_inside c m h.1.0 h.1.1 h.1.2 h.0 h.1.3)
 
--- all that they hold is of the heap
-abbrev AllInside : Config → (Word → ℕ) → Type 0
-AllInside c m = (word : ℕ) → IsAmong (held_words c m) word → IsNullOrInside c word
+-- so all that they hold is of the heap
+pub all_inside : (c : Config) (m : Word → ℕ) → HasRootsInside c m → (word : ℕ) → IsAmong (held_words c m) word → IsNullOrInside c word
+all_inside c m inside word among = ⊎_elim
+    (λ (named : has (root_words c m) word ≡ true). ⊎_elim
+    (λ (root : has (roots_below m c.mutators) word ≡ true). let at = root_in m c.mutators word root in subst (IsNullOrInside c) at.4 (inside.roots at.0 at.1 at.2 at.3))
+    (λ (answer : has (answers_below m c.mutators) word ≡ true). let at = answer_in m c.mutators word answer in subst (IsNullOrInside c) at.3 (inside.answers at.0 at.1 at.2))
+    (has_either (roots_below m c.mutators) (answers_below m c.mutators) word named))
+    (λ (pin : has (pins_below m c.mutators) word ≡ true). let at = pin_in m c.mutators word pin in subst (IsNullOrInside c) at.4 (inside.pins at.0 at.1 at.2 at.3))
+    (has_either (root_words c m) (pins_below m c.mutators) word among)
 
-inside_prop : (c : Config) (m : Word → ℕ) → IsProp (AllInside c m)
-inside_prop c m = hlevel (le_prop)
-
-pub all_inside : (c : Config) (m : Word → ℕ) → HoldsSome c m → (word : ℕ) → IsAmong (held_words c m) word → IsNullOrInside c word
-all_inside c m holds = ∥∥₁_elim holds (inside_prop c m) (λ h. word_inside c m h.1.0 h.1.1 h.1.2 h.0 h.1.3)
+-- settling leaves what they hold
+pub settled_inside : (c : Config) (m : Word → ℕ) → HasRootsInside c m → HasRootsInside c (buffers_settled c m)
+settled_inside c m inside = record {
+  roots = λ t i below few. subst (IsNullOrInside c) (sym (settled_same (Root t i) (λ other. other) c m (seat_count c.mutators c.helpers))) (inside.roots t i below few);
+  pins = λ t i below few. subst (IsNullOrInside c) (sym (settled_same (Pin t i) (λ other. other) c m (seat_count c.mutators c.helpers))) (inside.pins t i below few);
+  answers = λ t below some.
+      let same : buffers_settled c m (Answer t) ≡ m (Answer t) = settled_same (Answer t) (λ other. other) c m (seat_count c.mutators c.helpers) in
+      subst (IsNullOrInside c) (sym same) (inside.answers t below (omega (arith, same, some)));
+}
 
 -- a list of addresses that are no null has what it was made from
 pub listed : (words : List ℕ) (a : ℕ) → a ≢ 0 → has (with_addresses [] words) a ≡ has words a

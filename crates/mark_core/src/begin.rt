@@ -6,6 +6,7 @@ ghost use Rattle.heap_words.specs.Words.{Cset, Root, Answer, Pin};
 ghost use Rattle.heap_graph.specs.Walk.{with_address, with_addresses};
 ghost use Rattle.full_words.specs.Full.{roots_below, answers_below, held_words};
 ghost use Rattle.full_words.specs.Pinned.{pins_below};
+ghost use Rattle.buffer_words.specs.Buffers.{AreInside};
 ghost use Rattle.image_graph.specs.State.{config_of, memory_of, found_of, AreFound, IsUnchanged};
 ghost use Rattle.image_graph.specs.Holds.{HoldsSome};
 ghost use Rattle.cycle_words.specs.Marking.Init.{marking_begun, init_marked};
@@ -136,7 +137,7 @@ fn note_edges(image: &mut Image)
 
 // Begins marking, where buffers are settled.
 fn begin(image: &mut Image)
-    requires { HoldsSome (config_of image.old) (memory_of image.old) }
+    requires { HasRootsInside (config_of image.old) (memory_of image.old) }
     ensures config { config_of image.new ≡ config_of image.old }
     ensures words { memory_of image.new ≡ marking_begun (config_of image.old) (memory_of image.old) }
 {
@@ -150,6 +151,20 @@ fn begin(image: &mut Image)
     image.set_word(config.phase_at(), 1);
 }
 
+/// Begins marking as `init_mark` does, over an image of which the words off the heap are those of a heap; what stands for the
+/// words of the heap is not read, and written only where the first free word of a buffer that is given up says that they fill.
+/// Roots, answers and pin slots hold addresses of the heap, and buffers lie in its regions. Takes no memory, and time linear in
+/// the mark words, regions and mutators together.
+pub fn init_mark_by_part(image: &mut Image)
+    requires roots { HasRootsInside (config_of image.old) (memory_of image.old) }
+    requires buffers { AreInside (config_of image.old) (memory_of image.old) }
+    ensures config { config_of image.new ≡ config_of image.old }
+    ensures words { memory_of image.new ≡ init_marked (config_of image.old) (memory_of image.old) }
+{
+    image.settle();
+    begin(image);
+}
+
 /// Begins marking: buffers are settled, no mark is left of an earlier one, the objects that roots, answers and pin slots
 /// hold are grey, the edges of the regions are noted, and no unit is claimed and nothing asked for. The image holds a graph, and
 /// no region is in the collection set. The image holds the same graph afterwards. Takes no memory, and time linear in the words of the heap.
@@ -161,6 +176,5 @@ pub fn init_mark(image: &mut Image)
     ensures begins { BeginsToMark (config_of image.old) (memory_of image.old) (memory_of image.new) }
     ensures marks { MarksSome (config_of image.old) (memory_of image.new) }
 {
-    image.settle();
-    begin(image);
+    init_mark_by_part(image);
 }

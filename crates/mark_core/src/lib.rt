@@ -10,7 +10,7 @@ mod end;
 mod look;
 mod trace;
 
-pub use begin::init_mark;
+pub use begin::{init_mark, init_mark_by_part};
 pub use close::close_marks;
 pub use dead::free_region;
 pub use end::final_mark;

@@ -15,7 +15,7 @@ use Rattle.shen_graph.specs.declared.name.Name.{Name}
 use Rattle.control_rows.specs.declared.spot.ControlSpot.{ControlSpot}
 use Rattle.control_rows.specs.declared.spot.ControlSpot.TheVariants.{LoadWord, StoreWord}
 use Rattle.control_rows.specs.Rows.{Controlling}
-use Rattle.heap_machines.specs.Image.{image_from, IsLoadedFrom}
+use Rattle.heap_machines.specs.Image.{image_from, part_in, IsLoadedFrom}
 use Rattle.heap_machines.specs.Roles.{CanShowBy, CanShow}
 use Rattle.heap_machines.proofs.RestedGraph as standing
 use Rattle.step_core.specs.Actor.{Machine, Actor}
@@ -27,17 +27,17 @@ use Rattle.shen_core.specs.Runs.{WordsShow, IsShownBySome}
 use Rattle.shen_core.proofs.Events.{shown_actor}
 
 -- that the control can work on words is one fact
-loaded_is_prop : (table : List ℕ) (spot : ControlSpot) (image : List ℕ) → IsProp (IsLoadedFrom table spot image)
-loaded_is_prop table (LoadWord index) image = is_set ℕ_set image (take index table)
-loaded_is_prop table (StoreWord index) image = hlevel
-loaded_is_prop table _ image = hlevel
+loaded_is_prop : (c : Config) (table : List ℕ) (spot : ControlSpot) (image : List ℕ) → IsProp (IsLoadedFrom c table spot image)
+loaded_is_prop c table (LoadWord index extent) image = is_set ℕ_set image (take index (part_in c extent table))
+loaded_is_prop c table (StoreWord index extent) image = hlevel
+loaded_is_prop c table _ image = hlevel
 
-can_show_is_prop : (table : List ℕ) (machine : Machine) → IsProp (CanShow table machine)
-can_show_is_prop table machine = by_control (control_in machine)
+can_show_is_prop : (c : Config) (table : List ℕ) (machine : Machine) → IsProp (CanShow c table machine)
+can_show_is_prop c table machine = by_control (control_in machine)
   where
-    by_control : (o : Option Controlling) → IsProp (CanShowBy table o)
+    by_control : (o : Option Controlling) → IsProp (CanShowBy c table o)
     by_control None = hlevel
-    by_control (Some k) = loaded_is_prop table k.spot k.image
+    by_control (Some k) = loaded_is_prop c table k.spot k.image
 
 module _ (c : Config) (words : List ℕ) (machines : List Machine) (rest : (number : ℕ) → number < c.mutators → is_resting (slice_index_or machines number no_machine) ≡ true)
     (calm : image_read (slice_index_or machines (control_number c) no_machine) ≡ None) (run : Run c) (shows : WordsShow words machines (ending pause_image c run)) where
@@ -61,10 +61,10 @@ module _ (c : Config) (words : List ℕ) (machines : List Machine) (rest : (numb
       by_actor (Some a) here = ap image_read (machine_of (control_number c) a here) ∙ calm
 
   -- the control can work on the words of the image
-  pub can_show : (machine : Machine) → slice_get machines (control_number c) ≡ Some machine → CanShow (image_from c words) machine
+  pub can_show : (machine : Machine) → slice_get machines (control_number c) ≡ Some machine → CanShow c (image_from c words) machine
   can_show machine here =
       let found = shown_actor words machines (ending pause_image c run) (control_number c) machine shows here in
-      subst (λ ws. CanShow (image_from c ws) machine) shows.words_are (subst (CanShow (image_from c (ending pause_image c run).words)) found.2 (standing.can_show c run at_rest is_calm found.0 found.1))
+      subst (λ ws. CanShow c (image_from c ws) machine) shows.words_are (subst (CanShow c (image_from c (ending pause_image c run).words)) found.2 (standing.can_show c run at_rest is_calm found.0 found.1))
 
   -- they stand for the graph after the run
   abbrev pub names : ℕ → Option Name
@@ -76,8 +76,8 @@ module _ (c : Config) (words : List ℕ) (machines : List Machine) (rest : (numb
 -- so it is of those that led to the words
 module _ (c : Config) (words : List ℕ) (machines : List Machine) (rest : (number : ℕ) → number < c.mutators → is_resting (slice_index_or machines number no_machine) ≡ true)
     (calm : image_read (slice_index_or machines (control_number c) no_machine) ≡ None) (some : ∥ IsShownBySome c words machines ∥₁) where
-  pub some_can_show : (machine : Machine) → slice_get machines (control_number c) ≡ Some machine → CanShow (image_from c words) machine
-  some_can_show machine here = ∥∥₁_elim some (can_show_is_prop (image_from c words) machine) (λ s. can_show c words machines rest calm s.run s.shows machine here)
+  pub some_can_show : (machine : Machine) → slice_get machines (control_number c) ≡ Some machine → CanShow c (image_from c words) machine
+  some_can_show machine here = ∥∥₁_elim some (can_show_is_prop c (image_from c words) machine) (λ s. can_show c words machines rest calm s.run s.shows machine here)
 
   pub some_stand : StandsForSome c words
   some_stand = ∥∥₁_map some (λ s. (names c words machines rest calm s.run s.shows, (graph_after pause_image c s.run, stand c words machines rest calm s.run s.shows)))

@@ -30,6 +30,7 @@ use Rattle.mutator.specs.Rows.{Mutating, next_at, next_of}
 use Rattle.mutator.specs.Told.{told_at, told_of}
 use Rattle.helper.specs.Rows.{Helping}
 use Rattle.control_rows.specs.declared.spot.ControlSpot.{ControlSpot}
+use Rattle.control_rows.specs.Extent.{Counting}
 use Rattle.control_rows.specs.declared.spot.ControlSpot.TheVariants.{StoreWord}
 use Rattle.control_rows.specs.Rows.{Controlling}
 use Rattle.heap_machines.specs.Pause.{pause_image}
@@ -226,11 +227,11 @@ module _ (c : Config) (run : Run c) where
   commands_kept number a m here is busy = go_keeps c run.start run.events (begins_keeps c run) number a here m is busy
 
   -- while an image counts the control stores it
-  storing_pauses : (a : Actor) (image : List ℕ) → slice_get s.machines (control_number c) ≡ Some a → image_read a.machine ≡ Some image → IsInPause c s
+  storing_pauses : (a : Actor) (image : Counting) → slice_get s.machines (control_number c) ≡ Some a → image_read a.machine ≡ Some image → IsInPause c s
   storing_pauses a image here holds = by_machine a.machine refl holds
     where
       by_spot : (k : Controlling) → a.machine ≡ controlling k → (spot : ControlSpot) → k.spot ≡ spot → stored_image spot k.image ≡ Some image → IsInPause c s
-      by_spot k is (StoreWord index) at holds = record { actor = a; control = k; here = here; is = is; pausing = ap (λ x. is_pausing (control_standing x)) at }
+      by_spot k is (StoreWord index extent) at holds = record { actor = a; control = k; here = here; is = is; pausing = ap (λ x. is_pausing (control_standing x)) at }
       by_spot k is _ at holds = absurd cc
 
       by_machine : (machine : Machine) → a.machine ≡ machine → image_read machine ≡ Some image → IsInPause c s
@@ -242,7 +243,7 @@ module _ (c : Config) (run : Run c) where
   told_counts : (number : ℕ) (a : Actor) (m : Mutating) → IsMutator s number a m → told_of (settled c s) m ≡ told_of (view c s.words) m
   told_counts number a m here = by_actor (slice_get s.machines (control_number c)) refl
     where
-      by_image : (k : Actor) → slice_get s.machines (control_number c) ≡ Some k → (o : Option (List ℕ)) → image_read k.machine ≡ o → told_of (settled_by c s.words o) m ≡ told_of (view c s.words) m
+      by_image : (k : Actor) → slice_get s.machines (control_number c) ≡ Some k → (o : Option Counting) → image_read k.machine ≡ o → told_of (settled_by c s.words o) m ≡ told_of (view c s.words) m
       by_image k there None holds = refl
       by_image k there (Some image) holds =
           let empty = run_pauses pause_image heap_pauses c run.start run.graph run.begins run.events (storing_pauses k image there holds) in
@@ -295,7 +296,7 @@ module _ (c : Config) (run : Run c) where
   told_no_refusal number order a k here is takes none = told_controlling number order a k here is takes ∙ by_spot k.spot none
     where
       by_spot : (spot : ControlSpot) → refused_at c s.words spot k.image ≡ None → told_storing c s spot k.image ≡ []
-      by_spot (StoreWord index) none = told_none s.machines (name_of c (image_start c + index)) (slice_index s.words (image_start c + index)) (slice_index k.image index) none
+      by_spot (StoreWord index extent) none = told_none s.machines (name_of c (image_start c + index)) (slice_index s.words (image_start c + index)) (slice_index k.image index) none
       by_spot _ none = refl
 
   -- where it refuses a mutator, the entry is that of the mutator's call
@@ -304,7 +305,7 @@ module _ (c : Config) (run : Run c) where
   refusal_told number order a k t here is takes some = told_controlling number order a k here is takes ∙ by_spot k.spot some
     where
       by_spot : (spot : ControlSpot) → refused_at c s.words spot k.image ≡ Some t → told_storing c s spot k.image ≡ entries_of t (command_at (slice_get s.machines t)) (Some reply.Full)
-      by_spot (StoreWord index) some = (told_some s.machines (name_of c (image_start c + index)) (slice_index s.words (image_start c + index)) (slice_index k.image index) t some).told_is
+      by_spot (StoreWord index extent) some = (told_some s.machines (name_of c (image_start c + index)) (slice_index s.words (image_start c + index)) (slice_index k.image index) t some).told_is
       by_spot _ some = absurd cc
 
   -- the run with an event more
@@ -370,7 +371,7 @@ module _ (c : Config) (run : Run c) where
       }
     where
       by_spot : (spot : ControlSpot) → (takes_of (controlling (record k { spot = spot })) Nothing ≡ true → table_index (plan_of c Nothing (controlling (record k { spot = spot }))) < table_words c) → refused_at c s.words spot k.image ≡ Some t → t < c.mutators
-      by_spot (StoreWord index) inside some =
+      by_spot (StoreWord index extent) inside some =
           let named = (told_some s.machines (name_of c (image_start c + index)) (slice_index s.words (image_start c + index)) (slice_index k.image index) t some).word_is in
           subst (λ w. IsWord c w) named (are_named.is_word c (image_start c + index) (inside refl))
       by_spot _ inside some = absurd cc

@@ -5,6 +5,7 @@ pub mod Held
 pub mod Paused
 pub mod Pauses
 pub mod Loaded
+pub mod ByParts
 pub mod Storing
 pub mod Due
 pub mod Asked

@@ -1,18 +1,24 @@
 -- Which words the control can go on from as it reads an image.
-use Rattle.std.specs.Prelude.{ℕ, ◌≡◌, ◌+◌, List, [], ◌∷◌, ◌++◌}
+use Rattle.std.specs.Prelude.{ℕ, ◌≡◌, false, List, length, slice_index}
 use Rattle.heap_words.specs.declared.config.Config.{Config}
 use Rattle.shen_graph.specs.Graph.{Graph}
 use Rattle.heap_world.specs.Asking.{Asking}
 use Rattle.heap_world.specs.Represents.{Represents}
 use Rattle.heap_world.specs.Change.{image_view, image_words}
+use Rattle.control_rows.specs.declared.extent.Extent.{Extent}
+use Rattle.control_rows.specs.Extent.{extent_by, extent_after}
+use Rattle.control_rows.specs.ByParts.{IsImagePart}
 use Rattle.control_rows.specs.declared.spot.ControlSpot.{ControlSpot}
 use Rattle.control_rows.specs.declared.spot.ControlSpot.TheVariants.{LoadWord}
+use Rattle.control_rows.specs.Rows.{loads_more, loaded_all}
 
--- an image stands for some graph, with the requests of some threads
-abbrev pub IsImageOfSome : Config → List ℕ → Type 0
-IsImageOfSome c image = ∥ ((g : Graph) × (asking : ℕ → Asking) × Represents c (image_view c image) g asking) ∥₁
+-- a part of an image was loaded, of the extent of its own words, and the image stands for some graph, with the requests of some threads
+abbrev pub IsPartOfSome : Config → Extent → List ℕ → Type 0
+IsPartOfSome c extent part =
+    ∥ ((whole : List ℕ) × (g : Graph) × (asking : ℕ → Asking) × (length whole ≡ image_words c) × IsImagePart c extent whole part × (extent ≡ extent_by c (slice_index part 0) part)
+    × Represents c (image_view c whole) g asking) ∥₁
 
--- the last word of an image was loaded, and the image stands for some graph
-abbrev pub IsWholeImage : Config → ControlSpot → List ℕ → ℕ → Type 0
-IsWholeImage c (LoadWord index) image got = index + 1 ≡ image_words c → IsImageOfSome c (image ++ got ∷ [])
-IsWholeImage c _ image got = Unit {0}
+-- the last word of an image was loaded: what was loaded is a part of one that stands for some graph
+abbrev pub IsWholeImage : Config → ℕ → ControlSpot → List ℕ → ℕ → Type 0
+IsWholeImage c phase (LoadWord index extent) image got = loads_more c phase index extent got ≡ false → IsPartOfSome c (extent_after phase index extent got) (loaded_all c image got)
+IsWholeImage c phase _ image got = Unit {0}

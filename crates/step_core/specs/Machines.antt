@@ -44,6 +44,7 @@ use Rattle.control_rows.specs.declared.spot.ControlSpot.TheVariants.{LookLeft, S
 use Rattle.control_rows.specs.Rows.{Controlling, control_place, control_access, control_next, control_says, is_gone, control_hinted}
 use Rattle.control_rows.specs.Rows as controls
 use Rattle.control_rows.specs.Waits as control
+use Rattle.control_rows.specs.Extent.{Counting}
 use Rattle.control_rows.specs.Ready.{UnitGoesOn}
 use Rattle.step_core.specs.Actor.{Machine, mutating, helping, controlling, Actor, entries_of, command_by}
 use Rattle.step_core.specs.Fit.{IsWholeImage}
@@ -133,7 +134,7 @@ told_word machines (Answer t) before after = entries_of t (command_at (slice_get
 told_word machines _ before after = []
 
 abbrev pub told_storing : Config → Stage Actor → ControlSpot → List ℕ → List Entry
-told_storing c s (StoreWord index) image = told_word s.machines (name_of c (image_start c + index)) (slice_index s.words (image_start c + index)) (slice_index image index)
+told_storing c s (StoreWord index extent) image = told_word s.machines (name_of c (image_start c + index)) (slice_index s.words (image_start c + index)) (slice_index image index)
 told_storing c s _ image = []
 
 -- what its step settles, by the words that count: entries of any threads
@@ -143,12 +144,12 @@ told_with c memory s a order (helping h) = []
 told_with c memory s a order (controlling k) = told_storing c s k.spot k.image
 
 -- the image that counts, if one does: while the control writes it back
-abbrev pub stored_image : ControlSpot → List ℕ → Option (List ℕ)
-stored_image (StoreWord index) image = Some image
+abbrev pub stored_image : ControlSpot → List ℕ → Option Counting
+stored_image (StoreWord index extent) image = Some (record { extent = extent; image = image })
 stored_image _ image = None
 
 -- and of a machine
-abbrev pub image_read : Machine → Option (List ℕ)
+abbrev pub image_read : Machine → Option Counting
 image_read (controlling k) = stored_image k.spot k.image
 image_read _ = None
 
@@ -218,7 +219,7 @@ standing_of (controlling k) = control_standing k.spot
 abbrev pub IsFitFor : Config → Order → ℕ → Machine → Type 0
 IsFitFor c order got (mutating m) = IsFit c m order got
 IsFitFor c order got (helping h) = ready.IsFit c (helping_by c order h) got
-IsFitFor c order got (controlling k) = IsWholeImage c k.spot k.image got × UnitGoesOn c (controlling_by c order k).spot got
+IsFitFor c order got (controlling k) = IsWholeImage c k.phase k.spot k.image got × UnitGoesOn c (controlling_by c order k).spot got
 
 -- where its step under an order that finds this word says that it waits
 abbrev pub WaitsIn : Config → Order → Machine → ℕ → Type 0

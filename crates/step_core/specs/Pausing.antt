@@ -1,5 +1,5 @@
 -- What a pause may count on, whatever the machines were doing when it was wanted.
-use Rattle.std.specs.Prelude.{ℕ, ◌≡◌, ◌⊎◌, ◌+◌, ◌<◌, true, false, List, length, Some, slice_get, slice_index}
+use Rattle.std.specs.Prelude.{ℕ, ◌≡◌, ◌⊎◌, ◌+◌, ◌<◌, true, false, List, length, Some, slice_get, slice_index, if◌then◌else◌}
 use Rattle.heap_words.specs.declared.config.Config.{Config}
 use Rattle.heap_words.specs.Words.{is_image, image_start}
 use Rattle.steps_base.specs.Steps.{Stage}
@@ -11,6 +11,8 @@ use Rattle.mutator.specs.Orders.{takes_at}
 use Rattle.mutator.specs.Rows.{Mutating, touch_of}
 use Rattle.control_rows.specs.declared.spot.ControlSpot.{ControlSpot}
 use Rattle.control_rows.specs.declared.spot.ControlSpot.TheVariants.{LoadWord, StoreWord}
+use Rattle.control_rows.specs.declared.extent.Extent.{Extent}
+use Rattle.control_rows.specs.Extent.{is_of_extent, extent_by, counts, Counting}
 use Rattle.control_rows.specs.Rows.{Controlling}
 use Rattle.heap_world.specs.Change.{image_words}
 use Rattle.helper.specs.Rows.{Helping, help_touch}
@@ -42,12 +44,21 @@ pub record IsEmpty (c : Config) (s : Stage Actor) : Type 0 where
   pub only_polls : (number : ℕ) (a : Actor) (m : Mutating) (order : Order) → IsMutator s number a m → takes_at m.spot m.made order ≡ true
       → (is_image (touch_of c m order).word ≡ false) ⊎ (m.spot ≡ Waiting wait.Poll)
 
--- the first words of an image are those of the table
-abbrev pub AreRead : Config → List ℕ → List ℕ → ℕ → Type 0
-AreRead c words image n = (i : ℕ) → i < n → slice_index image i ≡ slice_index words (image_start c + i)
+-- of the first words of an image those that count are those of the table
+abbrev pub AreRead : Config → List ℕ → Counting → ℕ → Type 0
+AreRead c words n bound = (i : ℕ) → i < bound → counts c n.extent n.image i ≡ true → slice_index n.image i ≡ slice_index words (image_start c + i)
 
--- what the control knows in a pause: which words of the image it has read or written
+-- the first words of an image are those of the table, where they are of an extent, and else 0
+abbrev pub AreLoaded : Config → List ℕ → Extent → List ℕ → ℕ → Type 0
+AreLoaded c words extent image bound = (i : ℕ) → i < bound → slice_index image i ≡ (if is_of_extent c extent i then slice_index words (image_start c + i) else 0)
+
+-- what the control knows in a pause: which words of the image it has read or written, and that the next one is of the extent, or counts
 abbrev pub IsAim : Config → List ℕ → ControlSpot → List ℕ → Type 0
-IsAim c words (LoadWord index) image = (length image ≡ index) × AreRead c words image index
-IsAim c words (StoreWord index) image = (length image ≡ image_words c) × AreRead c words image index
+IsAim c words (LoadWord index extent) image = (length image ≡ index) × AreLoaded c words extent image index × (is_of_extent c extent index ≡ true)
+IsAim c words (StoreWord index extent) image = (length image ≡ image_words c) × AreRead c words (record { extent = extent; image = image }) index × (counts c extent image index ≡ true)
 IsAim c words _ image = Unit {0}
+
+-- the extent of its pause is that of the words that it has loaded
+abbrev pub IsOfExtent : Config → ℕ → ControlSpot → List ℕ → Type 0
+IsOfExtent c phase (LoadWord index extent) image = extent ≡ extent_by c phase image
+IsOfExtent c phase _ image = Unit {0}

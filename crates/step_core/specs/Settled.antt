@@ -1,30 +1,36 @@
 -- The words of a stage that count.
-use Rattle.std.specs.Prelude.{ℕ, ◌+◌, List, Option, Some, None, slice_get, if◌then◌else◌}
+use Rattle.std.specs.Prelude.{ℕ, ◌+◌, ◌-◌, ◌&&◌, Bool, List, Option, Some, None, slice_get, if◌then◌else◌}
 use Rattle.heap_words.specs.declared.config.Config.{Config}
-use Rattle.heap_words.specs.Words.{Word, view, is_image}
+use Rattle.heap_words.specs.Words.{Word, view, is_image, image_start, word_at}
 use Rattle.heap_world.specs.Change.{image_view}
 use Rattle.steps_base.specs.Steps.{Stage}
+use Rattle.control_rows.specs.Extent.{counts, Counting}
 use Rattle.step_core.specs.Actor.{Actor}
 pub use Rattle.step_core.specs.Machines.{stored_image, image_read}
 
--- a table in which the words of an image count as the image has them
-abbrev pub mixed : Config → List ℕ → List ℕ → Word → ℕ
-mixed c words image word = if is_image word then image_view c image word else view c words word
+-- a word of an image counts there
+abbrev pub is_counting : Config → Counting → Word → Bool
+is_counting c n word = is_image word && counts c n.extent n.image (word_at c word - image_start c)
+
+-- a table in which the words of an image that count do so as the image has them
+abbrev pub mixed : Config → List ℕ → Counting → Word → ℕ
+mixed c words n word = if is_counting c n word then image_view c n.image word else view c words word
 
 -- the image that counts, if one does
-abbrev pub image_of : Option Actor → Option (List ℕ)
+abbrev pub image_of : Option Actor → Option Counting
 image_of None = None
 image_of (Some a) = image_read a.machine
 
-abbrev pub settled_by : Config → List ℕ → Option (List ℕ) → Word → ℕ
+abbrev pub settled_by : Config → List ℕ → Option Counting → Word → ℕ
 settled_by c words None = view c words
-settled_by c words (Some image) = mixed c words image
+settled_by c words (Some n) = mixed c words n
 
 -- The number of the control.
 abbrev pub control_number : Config → ℕ
 control_number c = c.mutators + c.helpers
 
 -- The words that count, by their names. A pause changes them all at once, when it has computed the new ones: from then on, until
--- it has written all of them, the words of its image count and not those of the table.
+-- it has written all of them, the words of its image count and not those of the table. Where it has loaded a part of the image, these are
+-- the words of that part, and headers of free words that only fill then.
 abbrev pub settled : Config → Stage Actor → Word → ℕ
 settled c s = settled_by c s.words (image_of (slice_get s.machines (control_number c)))

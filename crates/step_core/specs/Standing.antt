@@ -33,7 +33,7 @@ help_standing _ = inside
 
 abbrev pub control_standing : ControlSpot → Standing
 control_standing (Stopping at) = stop_standing at
-control_standing (LoadWord index) = works
-control_standing (StoreWord index) = works
+control_standing (LoadWord index extent) = works
+control_standing (StoreWord index extent) = works
 control_standing Go = goes
 control_standing _ = idle

@@ -14,7 +14,8 @@ ghost use Rattle.shen_graph.specs.Graph.{Graph};
 ghost use Rattle.alloc_buffers.specs.Facts.{HasLess};
 ghost use Rattle.shen_graph.specs.History.{after};
 ghost use Rattle.heap_world.specs.Asking.{nothing};
-ghost use Rattle.heap_world.specs.Change.{Change, IsPause};
+ghost use Rattle.heap_world.specs.Change.{Change};
+ghost use Rattle.control_rows.specs.ByParts.{PausesByParts};
 ghost use Rattle.heap_world.specs.Represents.{Represents};
 ghost use Rattle.control_rows.specs.Rows.{Controlling};
 ghost use Rattle.step_core.specs.Actor.{Actor, controlling};
@@ -41,7 +42,7 @@ pub use opening::{first_free, open_words};
 /// pause's: that makes, where a pause is due, of an image that stands for a graph one that stands for the same graph, and answers
 /// who waits.
 pub fn every_schedule()
-    ensures { (change : Change) → IsPause change → (c : Config) (s : Stage Actor) (g : Graph) → Begins c s g → (events : List (Event Order)) → IsSound c g (go (kind change c) s events) (history change c s events) }
+    ensures { (change : Change) → PausesByParts change → (c : Config) (s : Stage Actor) (g : Graph) → Begins c s g → (events : List (Event Order)) → IsSound c g (go (kind change c) s events) (history change c s events) }
 {}
 
 /// A law: the opening begins the graph of one object, the hub.
@@ -51,42 +52,42 @@ pub fn opening_begins()
 
 /// A law: a machine that is reached by some steps makes its next access inside the table, whatever order it takes.
 pub fn accesses_are_inside()
-    ensures { (change : Change) → IsPause change → (c : Config) (s : Stage Actor) (g : Graph) → Begins c s g → (number : ℕ) (a : Actor) (order : Order) → HasReached (kind change c) s number a → takes_of a.machine order ≡ true → table_index (plan_of c order a.machine) < table_words c }
+    ensures { (change : Change) → PausesByParts change → (c : Config) (s : Stage Actor) (g : Graph) → Begins c s g → (number : ℕ) (a : Actor) (order : Order) → HasReached (kind change c) s number a → takes_of a.machine order ≡ true → table_index (plan_of c order a.machine) < table_words c }
 {}
 
 /// A law: a word that a machine finds after some steps is fit.
 pub fn found_words_are_fit()
-    ensures { (change : Change) → IsPause change → (c : Config) (s : Stage Actor) (g : Graph) → Begins c s g → (number : ℕ) (a : Actor) (order : Order) (got : ℕ) → Finds (kind change c) s number a order got → IsFitFor c order got a.machine }
+    ensures { (change : Change) → PausesByParts change → (c : Config) (s : Stage Actor) (g : Graph) → Begins c s g → (number : ℕ) (a : Actor) (order : Order) (got : ℕ) → Finds (kind change c) s number a order got → IsFitFor c order got a.machine }
 {}
 
 /// A law: in a pause, from the control's last check to its end, no mutator and no helper is in the heap, and none makes an access
 /// to a word that the pause may change, but a mutator to look for its answer.
 pub fn pauses_are_empty()
-    ensures { (change : Change) → IsPause change → (c : Config) (s : Stage Actor) (g : Graph) → Begins c s g → (events : List (Event Order)) → IsInPause c (go (kind change c) s events) → IsEmpty c (go (kind change c) s events) }
+    ensures { (change : Change) → PausesByParts change → (c : Config) (s : Stage Actor) (g : Graph) → Begins c s g → (events : List (Event Order)) → IsInPause c (go (kind change c) s events) → IsEmpty c (go (kind change c) s events) }
 {}
 
 /// A law: where the word of the end is 0 before the first step, it is 1 after a list of steps where the control has ended, and
 /// 0 where it has not.
 pub fn end_is_known()
-    ensures { (change : Change) → IsPause change → (c : Config) (s : Stage Actor) (g : Graph) → Begins c s g → view c s.words End ≡ 0 → (events : List (Event Order)) → IsEndWord c has_ended (go (kind change c) s events) }
+    ensures { (change : Change) → PausesByParts change → (c : Config) (s : Stage Actor) (g : Graph) → Begins c s g → view c s.words End ≡ 0 → (events : List (Event Order)) → IsEndWord c has_ended (go (kind change c) s events) }
 {}
 
 /// A law: a machine that is about to look for a free region, for a new object or for a copy, has a buffer with fewer free words than it
 /// wants, or none.
 pub fn looks_for_room_in_need()
-    ensures { (change : Change) → IsPause change → (c : Config) (s : Stage Actor) (g : Graph) → Begins c s g → (events : List (Event Order)) (number : ℕ) (a : Actor) (words : ℕ) → slice_get (go (kind change c) s events).machines number ≡ Some a → looks_for a.machine ≡ Some words → HasLess (settled c (go (kind change c) s events)) number words }
+    ensures { (change : Change) → PausesByParts change → (c : Config) (s : Stage Actor) (g : Graph) → Begins c s g → (events : List (Event Order)) (number : ℕ) (a : Actor) (words : ℕ) → slice_get (go (kind change c) s events).machines number ≡ Some a → looks_for a.machine ≡ Some words → HasLess (settled c (go (kind change c) s events)) number words }
 {}
 
 /// A law: of the image the control has, while it loads its words, exactly those that it has loaded as the table has them, and while it
 /// stores the new ones the first of them are the table's.
 pub fn read_words_are_the_tables()
-    ensures { (change : Change) → IsPause change → (c : Config) (s : Stage Actor) (g : Graph) → Begins c s g → (events : List (Event Order)) (number : ℕ) (a : Actor) (k : Controlling) → slice_get (go (kind change c) s events).machines number ≡ Some a → a.machine ≡ controlling k → IsAim c (go (kind change c) s events).words k.spot k.image }
+    ensures { (change : Change) → PausesByParts change → (c : Config) (s : Stage Actor) (g : Graph) → Begins c s g → (events : List (Event Order)) (number : ℕ) (a : Actor) (k : Controlling) → slice_get (go (kind change c) s events).machines number ≡ Some a → a.machine ≡ controlling k → IsAim c (go (kind change c) s events).words k.spot k.image }
 {}
 
 /// A law: a pin word is changed by a step of its own mutator alone, which stores into it, whatever happened before. So a pinned object stays at
 /// its place until its own slot is emptied.
 pub fn only_pinning_pins()
-    ensures { (change : Change) → IsPause change → (c : Config) (s : Stage Actor) (g : Graph) → Begins c s g → (events : List (Event Order)) (e : Event Order) → OnlyPinningPins change c (go (kind change c) s events) e }
+    ensures { (change : Change) → PausesByParts change → (c : Config) (s : Stage Actor) (g : Graph) → Begins c s g → (events : List (Event Order)) (e : Event Order) → OnlyPinningPins change c (go (kind change c) s events) e }
 {}
 
 /// A law: a machine keeps how many hints it has taken, whatever the events are.
@@ -103,5 +104,5 @@ pub fn hints_have_places()
 /// A law: where a heap is at rest, whatever happened before and in whichever phase it is, its words represent the graph after the history,
 /// and nobody asks for an object.
 pub fn rest_represents()
-    ensures { (change : Change) → IsPause change → (c : Config) (s : Stage Actor) (g : Graph) → Begins c s g → (events : List (Event Order)) → IsAtRest c (go (kind change c) s events) → Represents c (settled c (go (kind change c) s events)) (after g (history change c s events)) (λ t. nothing) }
+    ensures { (change : Change) → PausesByParts change → (c : Config) (s : Stage Actor) (g : Graph) → Begins c s g → (events : List (Event Order)) → IsAtRest c (go (kind change c) s events) → Represents c (settled c (go (kind change c) s events)) (after g (history change c s events)) (λ t. nothing) }
 {}

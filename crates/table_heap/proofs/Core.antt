@@ -84,7 +84,7 @@ run_from c start g begins events = record { start = start; graph = g; begins = b
 
 -- a control that has made its last access stores no image
 gone_is_calm : (spot : ControlSpot) (image : List ℕ) → (true && (if is_gone spot then false else true)) ≡ false → stored_image spot image ≡ None
-gone_is_calm (StoreWord index) image gone = absurd cc
+gone_is_calm (StoreWord index extent) image gone = absurd cc
 gone_is_calm _ image gone = refl
 
 machine_is_calm : (machine : Machine) → takes_of machine Nothing ≡ false → image_read machine ≡ None

@@ -127,7 +127,7 @@ machine_shown p s t a shows here =
 
 -- an end of the control is no time at which it stores
 gone_stores_none : (spot : ControlSpot) (image : List ℕ) → ◌≡◌ {A = Option Order} (if is_gone spot then None else Some Nothing) None → stored_image spot image ≡ None
-gone_stores_none (StoreWord index) image idle = absurd cc
+gone_stores_none (StoreWord index extent) image idle = absurd cc
 gone_stores_none _ image idle = refl
 
 -- a machine that is idle stores no image

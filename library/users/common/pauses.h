@@ -3,8 +3,9 @@
  *
  * A pause begins at the place P1. The control comes there from I1, where it has looked what is asked for: while a cycle runs, that is
  * room for an object that waits. It comes from I2, where few regions are free; and else where all units of the phase's work are
- * claimed. In the pause it loads each word of the heap at PL, and with the last one it has chosen what becomes of them, the phase too; this
- * it stores at PS. So a pause is counted where the control comes from PL to PS, by the phase before it and the phase after it.
+ * claimed. In the pause it loads at PL each word of the heap, or in a brief pause those that it may change, and with the last one it has chosen what
+ * becomes of them, the phase too; this it stores at PS. So a pause is counted where the control comes from PL to PS, by the phase before it and the phase
+ * after it.
  *
  * One thing is not seen: an object that begins to wait between the control's last look and the pause. That pause makes room as well. It is counted as
  * the end of a cycle that has come to its end by then, though of one whose marking has just ended it does the rest.

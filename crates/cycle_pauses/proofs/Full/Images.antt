@@ -40,10 +40,10 @@ pub image_length : (c : Config) (image : List ℕ) → length (full_image c imag
 image_length c image = image_of_length c (full c (image_view c image))
 
 -- a word of an image, and one before it
-inside_word : (c : Config) (image : List ℕ) (k : ℕ) → image_start c ≤ k → get_or (replicate (image_start c) 0 ++ image) k 0 ≡ get_or image (k - image_start c) 0
+pub inside_word : (c : Config) (image : List ℕ) (k : ℕ) → image_start c ≤ k → get_or (replicate (image_start c) 0 ++ image) k 0 ≡ get_or image (k - image_start c) 0
 inside_word c image k from = let none : ℕ = 0 in get_or-append_right (replicate (image_start c) none) image (image_start c) k 0 (length-replicate (image_start c) none) from
 
-before_word : (c : Config) (image : List ℕ) (k : ℕ) → k < image_start c → get_or (replicate (image_start c) 0 ++ image) k 0 ≡ 0
+pub before_word : (c : Config) (image : List ℕ) (k : ℕ) → k < image_start c → get_or (replicate (image_start c) 0 ++ image) k 0 ≡ 0
 before_word c image k below =
     let none : ℕ = 0 in
     get_or_append_left (replicate (image_start c) none) image 0 k (omega (arith, below, length-replicate (image_start c) none)) ∙ get_or-replicate (image_start c) k none 0 below

@@ -1,5 +1,5 @@
 -- A pause begins only where it is due, and then all has been copied, or updated.
-use Rattle.std.proofs.Common.{◌≡◌, ◌≢◌, ℕ, ◌+◌, ◌<◌, ◌≤◌, true, List, [], ◌∷◌, ◌++◌, Some, sym, ap, ◌∙◌, subst, arith}
+use Rattle.std.proofs.Common.{◌≡◌, ◌≢◌, ℕ, ◌+◌, ◌<◌, ◌≤◌, true, List, [], ◌∷◌, ◌++◌, Some, refl, sym, ap, ◌∙◌, subst, arith}
 use Rattle.std.specs.Prelude.{slice_get, slice_index}
 use Rattle.heap_words.specs.declared.config.Config.{Config}
 use Rattle.heap_words.specs.Access.{table_index}
@@ -13,13 +13,16 @@ use Rattle.shen_graph.specs.History.{Entry, after, of_thread}
 use Rattle.handshake.specs.Standing.{is_pausing}
 use Rattle.heap_world.specs.World.{World, promised, IsCollected, IsUsable, IsCurrent}
 use Rattle.heap_world.specs.Asking.{Asking, nothing, asks, refused, given, IsAsked}
-use Rattle.heap_world.specs.Change.{Change, IsDue, IsPause, image_view, image_words}
+use Rattle.heap_world.specs.Change.{Change, IsDue, image_view, image_words}
+use Rattle.control_rows.specs.ByParts.{PausesByParts}
 use Rattle.heap_world.proofs.Updated.{usable_current}
 use Rattle.move_steps.proofs.Updating.Done.{units_are_updated, all_is_updated}
 use Rattle.mutator.specs.Rows.{Mutating}
 use Rattle.control_rows.specs.declared.spot.ControlSpot.{ControlSpot}
 use Rattle.control_rows.specs.declared.spot.ControlSpot.TheVariants as control
 use Rattle.control_rows.specs.Rows.{Controlling, access_with, word_stored}
+use Rattle.control_rows.specs.declared.extent.Extent.{Extent}
+use Rattle.control_rows.specs.declared.extent.Extent.TheVariants.{Whole}
 use Rattle.step_core.specs.Actor.{Machine, mutating, controlling, Actor}
 use Rattle.step_core.specs.Begins.{Begins}
 use Rattle.step_core.specs.History.{history}
@@ -28,7 +31,7 @@ use Rattle.step_core.specs.Pausing.{IsInPause, IsEmpty, IsAim, AreRead}
 use Rattle.step_core.specs.Settled.{stored_image, image_read, image_of, settled_by, settled, control_number}
 use Rattle.step_core.specs.Standing.{control_standing}
 use Rattle.step_core.proofs.Control.Asked.{asking_at}
-use Rattle.step_core.proofs.Control.Images.{mixed_whole, image_grows}
+use Rattle.step_core.proofs.Control.Images.{mixed_whole, image_grows, all_of}
 use Rattle.step_core.proofs.Machines.Owed.{IsMachine, IsThread, ControlFacts}
 use Rattle.step_core.proofs.Theorem.Induction.{Goes}
 use Rattle.step_core.proofs.Control.Paused.{asked_outside}
@@ -40,7 +43,7 @@ use Rattle.cycle_runs.proofs.Evacuation.Runs.{the_world, stands, idle, stage_goe
 -- where the control has begun a pause, that is due
 begun_due : (c : Config) (w : World) (number : ℕ) (spot : ControlSpot) → has_begun spot ≡ true → ControlFacts c w number spot → IsDue c w.memory
 begun_due c w number (control.Stopping at) on facts = facts.1
-begun_due c w number (control.LoadWord index) on facts = facts.1
+begun_due c w number (control.LoadWord index extent) on facts = facts.1
 begun_due c w number _ on facts = absurd (cc (on))
 
 module _ (c : Config) (g : Graph) (s : Stage Actor) (h : List Entry) (goes : Goes c g s h) where
@@ -104,17 +107,17 @@ pub pauses_come_when_due : PausesComeWhenDue
 pauses_come_when_due change law c s g begins events k has on = pause_due c g (go (kind change c) s events) (history change c s events) (stage_goes change law c s g begins events) k has on
 
 -- the control that reads the image is in a pause
-reads_in_pause : (c : Config) (s : Stage Actor) (k : Controlling) → HasControl c s k → (index : ℕ) → k.spot ≡ control.LoadWord index → IsInPause c s
-reads_in_pause c s k has index is = record { actor = has.actor; control = k; here = has.here; is = has.is; pausing = ap (λ spot. is_pausing (control_standing spot)) is }
+reads_in_pause : (c : Config) (s : Stage Actor) (k : Controlling) → HasControl c s k → (index : ℕ) (extent : Extent) → k.spot ≡ control.LoadWord index extent → IsInPause c s
+reads_in_pause c s k has index extent is = record { actor = has.actor; control = k; here = has.here; is = has.is; pausing = ap (λ spot. is_pausing (control_standing spot)) is }
 
 pub evacuation_is_whole : EvacuationIsWhole
-evacuation_is_whole change law c s g begins events k has index is two quiet room =
-    all_is_forwarded_in_runs change law c s g begins events (reads_in_pause c (go (kind change c) s events) k has index is) two
+evacuation_is_whole change law c s g begins events k has index extent is two quiet room =
+    all_is_forwarded_in_runs change law c s g begins events (reads_in_pause c (go (kind change c) s events) k has index extent is) two
     (pauses_come_when_due change law c s g begins events k has (ap has_begun is) (omega (arith, two)) quiet) room
 
 -- The control that has found the last word of the image.
-module _ (change : Change) (law : IsPause change) (c : Config) (s : Stage Actor) (g : Graph) (begins : Begins c s g) (number index : ℕ) (a : Actor) (k : Controlling) (is : a.machine ≡ controlling k)
-    (at : k.spot ≡ control.LoadWord index) (last : index + 1 ≡ image_words c) (events : List (Event Order)) (here : slice_get (go (kind change c) s events).machines number ≡ Some a) where
+module _ (change : Change) (law : PausesByParts change) (c : Config) (s : Stage Actor) (g : Graph) (begins : Begins c s g) (number index : ℕ) (a : Actor) (k : Controlling) (is : a.machine ≡ controlling k)
+    (at : k.spot ≡ control.LoadWord index Whole) (last : index + 1 ≡ image_words c) (events : List (Event Order)) (here : slice_get (go (kind change c) s events).machines number ≡ Some a) where
   abbrev t : Stage Actor
   t = go (kind change c) s events
 
@@ -123,11 +126,11 @@ module _ (change : Change) (law : IsPause change) (c : Config) (s : Stage Actor)
   image = k.image ++ slice_index t.words (image_start c + index) ∷ []
 
   -- it has the words of the table
-  aims : IsAim c t.words (control.LoadWord index) k.image
+  aims : IsAim c t.words (control.LoadWord index Whole) k.image
   aims = subst (λ spot. IsAim c t.words spot k.image) at (run_aims change law c s g begins events number a k here is).1
 
-  read : AreRead c t.words image (image_words c)
-  read i below = image_grows c t.words k.image index aims.0 aims.1 i (omega (arith, below, last))
+  read : AreRead c t.words (all_of image) (image_words c)
+  read i below counted = image_grows c t.words Whole k.image index aims.0 aims.1 refl i (omega (arith, below, last))
 
   -- the machine is that of the control's number
   there : slice_get t.machines (control_number c) ≡ Some a
@@ -138,7 +141,7 @@ module _ (change : Change) (law : IsPause change) (c : Config) (s : Stage Actor)
   table_counts = ap (λ o. settled_by c t.words (image_of o)) there ∙ ap (λ m. settled_by c t.words (image_read m)) is ∙ ap (λ spot. settled_by c t.words (stored_image spot k.image)) at
 
   image_evacuated : IsEvacuated c (image_view c image)
-  image_evacuated = subst (λ memory. IsEvacuated c memory) (table_counts ∙ sym (mixed_whole c t.words image read)) (evacuation_is_whole change law c s g begins events k (record { actor = a; here = there; is = is }) index at)
+  image_evacuated = subst (λ memory. IsEvacuated c memory) (table_counts ∙ sym (mixed_whole c t.words (all_of image) read)) (evacuation_is_whole change law c s g begins events k (record { actor = a; here = there; is = is }) index Whole at)
 
 pub images_are_evacuated : ImagesAreEvacuated
 unfolding kind
@@ -152,7 +155,7 @@ images_are_evacuated change law c s g begins number index got a k finds is at la
     finds.reached) finds.here finds.found
 
 pub updating_is_whole : UpdatingIsWhole
-updating_is_whole change law c s g begins events k has index is three quiet =
-    let pause : IsInPause c (go (kind change c) s events) = reads_in_pause c (go (kind change c) s events) k has index is in
+updating_is_whole change law c s g begins events k has index extent is three quiet =
+    let pause : IsInPause c (go (kind change c) s events) = reads_in_pause c (go (kind change c) s events) k has index extent is in
     are_updated c g (go (kind change c) s events) (history change c s events) (stage_goes change law c s g begins events) pause (run_pauses change law c s g begins events pause) three
     (pauses_come_when_due change law c s g begins events k has (ap has_begun is) (omega (arith, three)) quiet)

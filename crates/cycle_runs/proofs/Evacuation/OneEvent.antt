@@ -30,6 +30,8 @@ use Rattle.control_rows.specs.declared.spot.ControlSpot.{ControlSpot}
 use Rattle.control_rows.specs.declared.spot.ControlSpot.TheVariants as control
 use Rattle.control_rows.specs.Rows as controls
 use Rattle.control_rows.specs.Rows.{Controlling, control_seat, control_touch}
+use Rattle.control_rows.specs.declared.extent.Extent.{Extent}
+use Rattle.control_rows.specs.Extent.{next_stored, Counting}
 use Rattle.step_core.specs.Actor.{Machine, mutating, helping, controlling, Actor, command_by}
 use Rattle.step_core.specs.History.{history}
 use Rattle.step_core.specs.Machines.{is_for_working, takes_of, helping_by, controlling_by, plan_of, machine_after, took_of, kind}
@@ -69,16 +71,16 @@ module _ (change : Change) (c : Config) (g : Graph) (s : Stage Actor) (h : List 
     abbrev stage_then : Stage Actor
     stage_then = record { words = words_after c s.words t; machines = slice_set s.machines number new }
 
-    counts_accessed : ((image : List ℕ) → held_image c s ≡ Some image → is_image t.word ≡ false) → CountsAfter c (settled c s) (settled c stage_then) (placed c t) t
+    counts_accessed : ((image : Counting) → held_image c s ≡ Some image → is_image t.word ≡ false) → CountsAfter c (settled c s) (settled c stage_then) (placed c t) t
     counts_accessed outside = inr (refl, ap (settled_by c (words_after c s.words t)) (other_holds c s number new other) ∙ settled_touched c s.words t (held_image c s) word goes.follows.words outside)
 
     counts_loaded : words_after c s.words t ≡ s.words → CountsAfter c (settled c s) (settled c stage_then) (placed c t) t
     counts_loaded same = inl (ap (settled_by c (words_after c s.words t)) (other_holds c s number new other) ∙ ap (λ ws. settled_by c ws (held_image c s)) same)
 
-    counts_by_image : ((image : List ℕ) → held_image c s ≡ Some image → (is_image t.word ≡ false) ⊎ (words_after c s.words t ≡ s.words)) → CountsAfter c (settled c s) (settled c stage_then) (placed c t) t
+    counts_by_image : ((image : Counting) → held_image c s ≡ Some image → (is_image t.word ≡ false) ⊎ (words_after c s.words t ≡ s.words)) → CountsAfter c (settled c s) (settled c stage_then) (placed c t) t
     counts_by_image cases = by_image (held_image c s) refl
       where
-        by_image : (o : Option (List ℕ)) → held_image c s ≡ o → CountsAfter c (settled c s) (settled c stage_then) (placed c t) t
+        by_image : (o : Option Counting) → held_image c s ≡ o → CountsAfter c (settled c s) (settled c stage_then) (placed c t) t
         by_image None none = counts_accessed (λ image held. absurd (let clash = sym none ∙ held in cc))
         by_image (Some image) held = ⊎_elim
             (λ (outside : is_image t.word ≡ false). counts_accessed (λ more same. outside))
@@ -156,7 +158,7 @@ module _ (change : Change) (c : Config) (g : Graph) (s : Stage Actor) (h : List 
       settled_open spot here none = ap (settled_by c (words_then spot)) (image_then spot here ∙ none)
 
       -- an image does not begin to count
-      not_begun : (spot : ControlSpot) (more : List ℕ) → Here (control_at spot) → stored_image spot image ≡ None → image_read (new_of Nothing (control_at spot)).machine ≡ Some more → (BeginsToCount c s (next Nothing (control_at spot)) → ⊥) → ⊥
+      not_begun : (spot : ControlSpot) (more : Counting) → Here (control_at spot) → stored_image spot image ≡ None → image_read (new_of Nothing (control_at spot)).machine ≡ Some more → (BeginsToCount c s (next Nothing (control_at spot)) → ⊥) → ⊥
       not_begun spot more here none counts not = not (record { image = more; not_yet = held_is spot here ∙ none; counts = image_then spot here ∙ counts })
 
       -- at a spot outside the image
@@ -164,7 +166,7 @@ module _ (change : Change) (c : Config) (g : Graph) (s : Stage Actor) (h : List 
           → CountsAt spot
       plain_counts spot here none plan word not = by_image (image_read (new_of Nothing (control_at spot)).machine) refl
         where
-          by_image : (o : Option (List ℕ)) → image_read (new_of Nothing (control_at spot)).machine ≡ o → Counts Nothing (control_at spot)
+          by_image : (o : Option Counting) → image_read (new_of Nothing (control_at spot)).machine ≡ o → Counts Nothing (control_at spot)
           by_image None none_then = inr (
             plan,
             settled_open spot here none_then
@@ -175,26 +177,26 @@ module _ (change : Change) (c : Config) (g : Graph) (s : Stage Actor) (h : List 
           by_image (Some more) counts = absurd (not_begun spot more here none counts not)
 
       -- where it loads a word of the image
-      load_counts : (index : ℕ) → Here (control_at (control.LoadWord index)) → CountsAt (control.LoadWord index)
-      load_counts index here not = by_image (image_read (new_of Nothing (control_at (control.LoadWord index))).machine) refl
+      load_counts : (index : ℕ) (extent : Extent) → Here (control_at (control.LoadWord index extent)) → CountsAt (control.LoadWord index extent)
+      load_counts index extent here not = by_image (image_read (new_of Nothing (control_at (control.LoadWord index extent))).machine) refl
         where
-          by_image : (o : Option (List ℕ)) → image_read (new_of Nothing (control_at (control.LoadWord index))).machine ≡ o → Counts Nothing (control_at (control.LoadWord index))
+          by_image : (o : Option Counting) → image_read (new_of Nothing (control_at (control.LoadWord index extent))).machine ≡ o → Counts Nothing (control_at (control.LoadWord index extent))
           by_image None none_then = inl (
-              settled_open (control.LoadWord index) here none_then
+              settled_open (control.LoadWord index extent) here none_then
               ∙ ap (view c) (set-get_or s.words (image_start c + index) 0)
-              ∙ sym (settled_none (control.LoadWord index) here refl))
-          by_image (Some more) counts = absurd (not_begun (control.LoadWord index) more here refl counts not)
+              ∙ sym (settled_none (control.LoadWord index extent) here refl))
+          by_image (Some more) counts = absurd (not_begun (control.LoadWord index extent) more here refl counts not)
 
       -- where it stores one
-      store_counts : (index : ℕ) → Here (control_at (control.StoreWord index)) → Counts Nothing (control_at (control.StoreWord index))
+      store_counts : (index : ℕ) (extent : Extent) → Here (control_at (control.StoreWord index extent)) → Counts Nothing (control_at (control.StoreWord index extent))
       unfolding kind
-      store_counts index here =
-          let at = known (control.StoreWord index) here in
+      store_counts index extent here =
+          let at = known (control.StoreWord index extent) here in
           inl (
-          ap (settled_by c (words_then (control.StoreWord index))) (image_then (control.StoreWord index) here)
-          ∙ sym (counts_then change c s.words goes.follows.block goes.follows.ghost (after g h) h s.machines image index seen phase cset hints command calls at.ready goes.follows.words at.aims.0 at.aims.1 goes.follows.seats
-          (nat_lt (index + 1) (image_words c)) refl)
-          ∙ sym (ap (settled_by c s.words) (held_is (control.StoreWord index) here)))
+          ap (settled_by c (words_then (control.StoreWord index extent))) (image_then (control.StoreWord index extent) here)
+          ∙ sym (counts_then change c s.words goes.follows.block goes.follows.ghost (after g h) h s.machines extent image index seen phase cset hints command calls at.ready goes.follows.words at.aims.0 at.aims.1 at.aims.2 goes.follows.seats
+          (nat_lt (next_stored c extent image index) (image_words c)) refl)
+          ∙ sym (ap (settled_by c s.words) (held_is (control.StoreWord index extent) here)))
 
       -- wherever it stands
       control_counts : (spot : ControlSpot) → Here (control_at spot) → CountsAt spot
@@ -205,8 +207,8 @@ module _ (change : Change) (c : Config) (g : Graph) (s : Stage Actor) (h : List 
       control_counts (control.Working at) here not =
           plain_counts (control.Working at) here refl refl (is_word_from c _ (unit_inside c (control_seat c) at (omega arith) (and_parts _ _ (known (control.Working at) here).ready).0)) not
       control_counts (control.Stopping at) here not = plain_counts (control.Stopping at) here refl refl (and_parts _ _ (and_parts _ _ (known (control.Stopping at) here).ready).0).0 not
-      control_counts (control.LoadWord index) here not = load_counts index here not
-      control_counts (control.StoreWord index) here not = store_counts index here
+      control_counts (control.LoadWord index extent) here not = load_counts index extent here not
+      control_counts (control.StoreWord index extent) here not = store_counts index extent here
       control_counts control.Go here not = plain_counts control.Go here refl refl refl not
       control_counts control.Gone here not = plain_counts control.Gone here refl refl refl not
 

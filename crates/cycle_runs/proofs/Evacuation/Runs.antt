@@ -23,7 +23,8 @@ use Rattle.load_barrier.proofs.Knows.{header_forwarded, header_names}
 use Rattle.heap_world.specs.World.{World, Block, thing, words_of, Body, body_at, body_words, IsCollected}
 use Rattle.heap_world.proofs.Pointing.{copy_cases, body_piece}
 use Rattle.move_steps.proofs.Resolving.Bodies.{piece_word_is}
-use Rattle.heap_world.specs.Change.{Change, IsPause}
+use Rattle.heap_world.specs.Change.{Change}
+use Rattle.control_rows.specs.ByParts.{PausesByParts}
 use Rattle.move_steps.proofs.Evacuation.Parts.{all_is_forwarded}
 use Rattle.mutator.specs.Rows.{Mutating, touch_of}
 use Rattle.control_rows.specs.declared.spot.ControlSpot.{ControlSpot}
@@ -97,8 +98,8 @@ module _ (c : Config) (g : Graph) (s : Stage Actor) (h : List Entry) (goes : Goe
       → IsNamedBy (control_access c (record { spot = spot; seen = seen; phase = phase; cset = cset; hints = hints; image = image })) (control_touch c spot)
   control_named seen phase cset hints image (Working at) ready out = inl (refl, unit_inside c (control_seat c) at (omega arith) (and_parts _ _ ready).0)
   control_named seen phase cset hints image (Stopping at) ready out = inl (refl, is_word_true c (stop_touch at).word (and_parts _ _ (and_parts _ _ ready).0).0)
-  control_named seen phase cset hints image (LoadWord index) ready out = inr (image_start c + index, refl)
-  control_named seen phase cset hints image (StoreWord index) ready out = absurd (cc (out))
+  control_named seen phase cset hints image (LoadWord index extent) ready out = inr (image_start c + index, refl)
+  control_named seen phase cset hints image (StoreWord index extent) ready out = absurd (cc (out))
   control_named seen phase cset hints image _ ready out = inl (refl, tt)
 
   named : (number : ℕ) (order : Order) (x : Actor) (machine : Machine) → IsMachine c s.words the_world (of_thread h (number + 1)) number x machine → takes_of machine order ≡ true → image_read machine ≡ None → IsNamed order machine
@@ -173,7 +174,7 @@ module _ (c : Config) (g : Graph) (s : Stage Actor) (h : List Entry) (goes : Goe
     control_rests number (Working at) on facts = absurd (cc (on))
     control_rests number LookFree on facts = absurd (cc (on))
     control_rests number (Stopping at) on facts = facts.0
-    control_rests number (LoadWord index) on facts = facts.0
+    control_rests number (LoadWord index extent) on facts = facts.0
     control_rests number _ on facts = facts
 
     -- no machine works on a unit of evacuation, or stands in one of updating
@@ -201,7 +202,7 @@ module _ (c : Config) (g : Graph) (s : Stage Actor) (h : List Entry) (goes : Goe
     are_forwarded on all room a low inside marked = all_is_forwarded c the_world goes.follows.shared on (λ number below. (idle number below).0) all room a low inside marked
 
 -- in each stage that events lead to all goes as it should
-pub stage_goes : (change : Change) → IsPause change → (c : Config) (s : Stage Actor) (g : Graph) → Begins c s g → (events : List (Event Order)) → Goes c g (go (kind change c) s events) (history change c s events)
+pub stage_goes : (change : Change) → PausesByParts change → (c : Config) (s : Stage Actor) (g : Graph) → Begins c s g → (events : List (Event Order)) → Goes c g (go (kind change c) s events) (history change c s events)
 stage_goes change law c s g begins events = goes_run change law c g s [] events (goes_begins c s g begins)
 
 pub headers_lead_in_runs : HeadersLeadInRuns

@@ -245,8 +245,8 @@ module _ (c : Config) (w : World) (shared : Shared c w) where
   control_writes control.LookFree Work facts = Writes.only_loads refl
   control_writes (control.Working at) Work facts = unit_writes (control_seat c) at Work facts
   control_writes (control.Stopping at) Work facts = stop_writes (control_seat c) at Work
-  control_writes (control.LoadWord index) Work facts = Writes.only_loads refl
-  control_writes (control.StoreWord index) Work facts = Writes.only_loads refl
+  control_writes (control.LoadWord index extent) Work facts = Writes.only_loads refl
+  control_writes (control.StoreWord index extent) Work facts = Writes.only_loads refl
   control_writes control.Go Work facts = Writes.elsewhere refl
   control_writes control.Gone Work facts = Writes.only_loads refl
 

@@ -16,6 +16,7 @@ use Rattle.heap_world.specs.Change.{Change}
 use Rattle.control_rows.specs.declared.spot.ControlSpot.{ControlSpot}
 use Rattle.control_rows.specs.declared.spot.ControlSpot.TheVariants.{StoreWord}
 use Rattle.control_rows.specs.Rows.{Controlling}
+use Rattle.control_rows.specs.Extent.{Counting}
 use Rattle.step_core.specs.Actor.{Machine, controlling, Actor}
 use Rattle.step_core.specs.History.{history}
 use Rattle.step_core.specs.Machines.{takes_of, plan_of, kind}
@@ -50,7 +51,7 @@ module _ (change : Change) (c : Config) (g : Graph) (s : Stage Actor) (h : List 
       ∙ left)) takes.free)
 
   -- while the control writes an image back no other machine changes it, and it takes no region
-  not_storing : (k : Actor) (control : Controlling) (image : List ℕ) → slice_get s.machines (control_number c) ≡ Some k → k.machine ≡ controlling control → stored_image control.spot control.image ≡ Some image → ⊥
+  not_storing : (k : Actor) (control : Controlling) (image : Counting) → slice_get s.machines (control_number c) ≡ Some k → k.machine ≡ controlling control → stored_image control.spot control.image ≡ Some image → ⊥
   not_storing k control image here is storing = other (λ number.
       let same : x ≡ k = same_Some x k (sym takes.event.here ∙ ap (λ n. slice_get s.machines n) number ∙ here) in
       none-some image (sym takes.no_image ∙ ap (λ y. image_read y.machine) same ∙ ap image_read is ∙ storing))
@@ -68,8 +69,8 @@ module _ (change : Change) (c : Config) (g : Graph) (s : Stage Actor) (h : List 
   -- so the words of the table count
   by_spot : (k : Actor) (control : Controlling) → slice_get s.machines (control_number c) ≡ Some k → k.machine ≡ controlling control → (spot : ControlSpot) → control.spot ≡ spot
       → settled_by c s.words (stored_image spot control.image) ≡ view c s.words
-  by_spot k control here is (StoreWord index) same =
-      absurd (not_storing k control control.image here is (ap (λ spot. stored_image spot control.image) same))
+  by_spot k control here is (StoreWord index extent) same =
+      absurd (not_storing k control (record { extent = extent; image = control.image }) here is (ap (λ spot. stored_image spot control.image) same))
   by_spot k control here is _ same = refl
 
   by_machine : (k : Actor) (machine : Machine) → slice_get s.machines (control_number c) ≡ Some k → k.machine ≡ machine → settled_by c s.words (image_read machine) ≡ view c s.words

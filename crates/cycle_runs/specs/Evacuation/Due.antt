@@ -13,9 +13,12 @@ use Rattle.shen_graph.specs.History.{after}
 use Rattle.regions.specs.Marks.{HasMark}
 use Rattle.heap_words.specs.Counter.{is_out_of_room}
 use Rattle.heap_world.specs.World.{thing, IsCollected}
-use Rattle.heap_world.specs.Change.{Change, IsDue, IsPause, image_view, image_words}
+use Rattle.heap_world.specs.Change.{Change, IsDue, image_view, image_words}
+use Rattle.control_rows.specs.ByParts.{PausesByParts}
 use Rattle.control_rows.specs.declared.spot.ControlSpot.{ControlSpot}
 use Rattle.control_rows.specs.declared.spot.ControlSpot.TheVariants.{Stopping, LoadWord}
+use Rattle.control_rows.specs.declared.extent.Extent.{Extent}
+use Rattle.control_rows.specs.declared.extent.Extent.TheVariants.{Whole}
 use Rattle.control_rows.specs.Rows.{Controlling}
 use Rattle.step_core.specs.Actor.{controlling, Actor}
 use Rattle.step_core.specs.Begins.{Begins}
@@ -27,7 +30,7 @@ use Rattle.step_core.specs.Sound.{StandsFor}
 -- whether the control stops the other machines for a pause, or reads the image in one
 abbrev pub has_begun : ControlSpot → Bool
 has_begun (Stopping at) = true
-has_begun (LoadWord index) = true
+has_begun (LoadWord index extent) = true
 has_begun _ = false
 
 -- the control of a stage is this
@@ -38,7 +41,7 @@ pub record HasControl (c : Config) (s : Stage Actor) (control : Controlling) : T
 
 -- a pause begins only where it is due, and is so until the image is read
 abbrev pub PausesComeWhenDue : Type 0
-PausesComeWhenDue = (change : Change) → IsPause change → (c : Config) (s : Stage Actor) (g : Graph) → Begins c s g → (events : List (Event Order))
+PausesComeWhenDue = (change : Change) → PausesByParts change → (c : Config) (s : Stage Actor) (g : Graph) → Begins c s g → (events : List (Event Order))
     → (control : Controlling) → HasControl c (go (kind change c) s events) control → has_begun control.spot ≡ true → IsDue c (settled c (go (kind change c) s events))
 
 -- in phase 2, where no allocation waits and there was always room, each marked address of the collection set has the header of an
@@ -49,14 +52,14 @@ IsEvacuated c memory = memory Phase ≡ 2 → bit_at (memory Ask) 1 ≡ 0 → is
 
 -- so it is wherever the control reads the image in a pause
 abbrev pub EvacuationIsWhole : Type 0
-EvacuationIsWhole = (change : Change) → IsPause change → (c : Config) (s : Stage Actor) (g : Graph) → Begins c s g → (events : List (Event Order))
-    → (control : Controlling) → HasControl c (go (kind change c) s events) control → (index : ℕ) → control.spot ≡ LoadWord index
+EvacuationIsWhole = (change : Change) → PausesByParts change → (c : Config) (s : Stage Actor) (g : Graph) → Begins c s g → (events : List (Event Order))
+    → (control : Controlling) → HasControl c (go (kind change c) s events) control → (index : ℕ) (extent : Extent) → control.spot ≡ LoadWord index extent
     → IsEvacuated c (settled c (go (kind change c) s events))
 
--- and of the image itself that it has read, with the last word that it finds: each marked object was copied before updating begins
+-- and of the image itself where it has read all of it, with the last word that it finds: each marked object was copied before updating begins
 abbrev pub ImagesAreEvacuated : Type 0
-ImagesAreEvacuated = (change : Change) → IsPause change → (c : Config) (s : Stage Actor) (g : Graph) → Begins c s g
-    → (number index got : ℕ) (a : Actor) (k : Controlling) → Finds (kind change c) s number a Nothing got → a.machine ≡ controlling k → k.spot ≡ LoadWord index → index + 1 ≡ image_words c
+ImagesAreEvacuated = (change : Change) → PausesByParts change → (c : Config) (s : Stage Actor) (g : Graph) → Begins c s g
+    → (number index got : ℕ) (a : Actor) (k : Controlling) → Finds (kind change c) s number a Nothing got → a.machine ≡ controlling k → k.spot ≡ LoadWord index Whole → index + 1 ≡ image_words c
     → IsEvacuated c (image_view c (k.image ++ got ∷ []))
 
 -- a word is null, or names no address of the collection set
@@ -73,7 +76,7 @@ pub record AreUpdated (c : Config) (s : Stage Actor) (g : Graph) : Type 0 where
 
 -- so it is wherever the control reads the image in a pause in phase 3, where no allocation waits
 abbrev pub UpdatingIsWhole : Type 0
-UpdatingIsWhole = (change : Change) → IsPause change → (c : Config) (s : Stage Actor) (g : Graph) → Begins c s g → (events : List (Event Order))
-    → (control : Controlling) → HasControl c (go (kind change c) s events) control → (index : ℕ) → control.spot ≡ LoadWord index
+UpdatingIsWhole = (change : Change) → PausesByParts change → (c : Config) (s : Stage Actor) (g : Graph) → Begins c s g → (events : List (Event Order))
+    → (control : Controlling) → HasControl c (go (kind change c) s events) control → (index : ℕ) (extent : Extent) → control.spot ≡ LoadWord index extent
     → settled c (go (kind change c) s events) Phase ≡ 3 → bit_at (settled c (go (kind change c) s events) Ask) 1 ≡ 0
     → AreUpdated c (go (kind change c) s events) (after g (history change c s events))

@@ -9,7 +9,9 @@ use Rattle.shen_graph.specs.declared.order.Order.{Order}
 use Rattle.shen_graph.specs.Graph.{Graph}
 use Rattle.shen_graph.specs.History.{after}
 use Rattle.heap_world.specs.World.{World, Block, thing, hand, spare, carved, words_of, Body, IsCollected}
-use Rattle.heap_world.specs.Change.{Change, IsPause}
+use Rattle.heap_world.specs.Change.{Change}
+use Rattle.control_rows.specs.ByParts.{PausesByParts}
+use Rattle.control_rows.specs.Extent.{Counting}
 use Rattle.step_core.specs.Actor.{Actor}
 use Rattle.step_core.specs.Begins.{Begins}
 use Rattle.step_core.specs.History.{history}
@@ -21,7 +23,7 @@ use Rattle.cycle_runs.specs.Evacuation.Runs.{IsPublishing}
 
 -- By an event the words that a pause has computed begin to count, and those of the table count no more.
 pub record BeginsToCount (c : Config) (before later : Stage Actor) : Type 0 where
-  pub image : List ℕ
+  pub image : Counting
   pub not_yet : image_of (slice_get before.machines (control_number c)) ≡ None
   pub counts : image_of (slice_get later.machines (control_number c)) ≡ Some image
 
@@ -68,6 +70,6 @@ pub record EventSpares (change : Change) (c : Config) (s : Stage Actor) (g : Gra
 
 -- So it is of each event after every list of events, but of that by which the words of a pause begin to count.
 abbrev pub EventsSpareCopies : Type 0
-EventsSpareCopies = (change : Change) → IsPause change → (c : Config) (s : Stage Actor) (g : Graph) → Begins c s g → (events : List (Event Order)) (e : Event Order)
+EventsSpareCopies = (change : Change) → PausesByParts change → (c : Config) (s : Stage Actor) (g : Graph) → Begins c s g → (events : List (Event Order)) (e : Event Order)
     → (BeginsToCount c (go (kind change c) s events) (act (kind change c) (go (kind change c) s events) e) → ⊥)
     → EventSpares change c (go (kind change c) s events) (after g (history change c s events)) e (settled c (act (kind change c) (go (kind change c) s events) e))

@@ -16,7 +16,8 @@ use Rattle.shen_graph.specs.History.{after}
 use Rattle.regions.specs.Marks.{HasMark}
 use Rattle.heap_words.specs.Counter.{is_out_of_room, IsQuiet}
 use Rattle.heap_world.specs.World.{World, thing, moved, Body, body_at, body_words, IsCollected}
-use Rattle.heap_world.specs.Change.{Change, IsPause}
+use Rattle.heap_world.specs.Change.{Change}
+use Rattle.control_rows.specs.ByParts.{PausesByParts}
 use Rattle.move_steps.specs.Resolving.Facts.{IsCopied}
 use Rattle.mutator.specs.Rows.{Mutating}
 use Rattle.step_core.specs.Actor.{Machine, mutating, Actor}
@@ -46,7 +47,7 @@ pub record HaveHeaders (c : Config) (s : Stage Actor) (g : Graph) : Type 0 where
   pub once : (a b refs nums more_refs more_nums : ℕ) (name : Name) → stands.block a ≡ Some (thing name refs nums) → stands.block b ≡ Some (thing name more_refs more_nums) → a ≡ b
 
 abbrev pub HeadersLeadInRuns : Type 0
-HeadersLeadInRuns = (change : Change) → IsPause change → (c : Config) (s : Stage Actor) (g : Graph) → Begins c s g → (events : List (Event Order))
+HeadersLeadInRuns = (change : Change) → PausesByParts change → (c : Config) (s : Stage Actor) (g : Graph) → Begins c s g → (events : List (Event Order))
     → HaveHeaders c (go (kind change c) s events) (after g (history change c s events))
 
 -- The access exchanges the header of a copy of an object, from that of one that has not moved to one that leads to room in the hand of
@@ -89,7 +90,7 @@ pub record AreSpared (c : Config) (s : Stage Actor) (g : Graph) : Type 0 where
       → IsSparing c (world_of c s stands.block stands.ghost g) number order x.machine a k b
 
 abbrev pub CopiesAreSpared : Type 0
-CopiesAreSpared = (change : Change) → IsPause change → (c : Config) (s : Stage Actor) (g : Graph) → Begins c s g → (events : List (Event Order))
+CopiesAreSpared = (change : Change) → PausesByParts change → (c : Config) (s : Stage Actor) (g : Graph) → Begins c s g → (events : List (Event Order))
     → AreSpared c (go (kind change c) s events) (after g (history change c s events))
 
 -- where all regions are claimed and there was always room, each marked address of the collection set has the header of an object that has
@@ -100,5 +101,5 @@ AreAllForwarded c s = settled c s Phase ≡ 2 → c.regions ≤ settled c s Clai
 
 -- so it is in each pause
 abbrev pub AllIsForwardedInRuns : Type 0
-AllIsForwardedInRuns = (change : Change) → IsPause change → (c : Config) (s : Stage Actor) (g : Graph) → Begins c s g → (events : List (Event Order))
+AllIsForwardedInRuns = (change : Change) → PausesByParts change → (c : Config) (s : Stage Actor) (g : Graph) → Begins c s g → (events : List (Event Order))
     → IsInPause c (go (kind change c) s events) → AreAllForwarded c (go (kind change c) s events)

@@ -16,6 +16,7 @@ use Rattle.cycle_words.specs.Marking.WhileMarking.{IsMarkedThrough}
 use Rattle.mark_steps.specs.Chains.{IsSafe}
 use Rattle.cycle_pauses.specs.Collect.{collect_image}
 use Rattle.control_rows.specs.declared.spot.ControlSpot.TheVariants.{LoadWord}
+use Rattle.control_rows.specs.declared.extent.Extent.{Extent}
 use Rattle.control_rows.specs.Rows.{Controlling}
 use Rattle.step_core.specs.Actor.{controlling, Actor}
 use Rattle.step_core.specs.Machines.{kind}
@@ -48,6 +49,6 @@ pub record AreMarkedThrough (c : Config) (memory : Word → ℕ) : Type 0 where
 -- In the pause that leaves the phase of marking, with the last word that the control loads: once the marks of the image are closed,
 -- each object that can be reached is marked or was allocated since.
 abbrev pub ReachableAreMarkedInRuns : Type 0
-ReachableAreMarkedInRuns = (c : Config) (s : Stage Actor) (g : Graph) → Begins c s g → (number index got : ℕ) (a : Actor) (k : Controlling) → Finds (kind collect_image c) s number a Nothing got
-    → a.machine ≡ controlling k → k.spot ≡ LoadWord index → index + 1 ≡ image_words c → image_view c (k.image ++ got ∷ []) Phase ≡ 1
+ReachableAreMarkedInRuns = (c : Config) (s : Stage Actor) (g : Graph) → Begins c s g → (number index got : ℕ) (extent : Extent) (a : Actor) (k : Controlling) → Finds (kind collect_image c) s number a Nothing got
+    → a.machine ≡ controlling k → k.spot ≡ LoadWord index extent → index + 1 ≡ image_words c → image_view c (k.image ++ got ∷ []) Phase ≡ 1
     → ∥ AreMarkedThrough c (closed c (image_view c (k.image ++ got ∷ []))) ∥₁

@@ -10,7 +10,8 @@ use Rattle.shen_graph.specs.declared.order.Order.{Order}
 use Rattle.shen_graph.specs.Graph.{Graph}
 use Rattle.shen_graph.specs.History.{after}
 use Rattle.heap_world.specs.World.{World, Block, Body, body_at}
-use Rattle.heap_world.specs.Change.{Change, IsPause}
+use Rattle.heap_world.specs.Change.{Change}
+use Rattle.control_rows.specs.ByParts.{PausesByParts}
 use Rattle.mutator.specs.Rows.{Mutating}
 use Rattle.step_core.specs.Actor.{mutating, Actor}
 use Rattle.step_core.specs.Begins.{Begins}
@@ -46,7 +47,7 @@ pub record FreeIsNotHeld (c : Config) (s : Stage Actor) (g : Graph) : Type 0 whe
 
 -- so it is after every list of events
 abbrev pub FreeIsNotHeldInRuns : Type 0
-FreeIsNotHeldInRuns = (change : Change) → IsPause change → (c : Config) (s : Stage Actor) (g : Graph) → Begins c s g → (events : List (Event Order))
+FreeIsNotHeldInRuns = (change : Change) → PausesByParts change → (c : Config) (s : Stage Actor) (g : Graph) → Begins c s g → (events : List (Event Order))
     → FreeIsNotHeld c (go (kind change c) s events) (after g (history change c s events))
 
 -- a machine of which no image counts takes a region: by its step the bit of the region in the table is 1 no more
@@ -58,6 +59,6 @@ pub record TakesRegion (change : Change) (c : Config) (s : Stage Actor) (e : Eve
 
 -- The words of the table are those that count then, so that the region is free by them.
 abbrev pub TakenRegionsWereFree : Type 0
-TakenRegionsWereFree = (change : Change) → IsPause change → (c : Config) (s : Stage Actor) (g : Graph) → Begins c s g → (events : List (Event Order))
+TakenRegionsWereFree = (change : Change) → PausesByParts change → (c : Config) (s : Stage Actor) (g : Graph) → Begins c s g → (events : List (Event Order))
     → (e : Event Order) (x : Actor) (r : ℕ) → r < c.regions → TakesRegion change c (go (kind change c) s events) e x r
     → (settled c (go (kind change c) s events) ≡ view c (go (kind change c) s events).words) × IsIn (settled c (go (kind change c) s events) Free) r

@@ -1,6 +1,6 @@
 -- What the control has read or written of the image stays while another machine makes a step: in a pause that machine is outside.
 use Rattle.std.proofs.Common.{◌≡◌, ℕ, ◌+◌, ◌<◌, true, false, List, Some, refl, sym, ap, ◌∙◌, subst}
-use Rattle.std.specs.Prelude.{slice_get, slice_index}
+use Rattle.std.specs.Prelude.{slice_get, slice_index, if◌then◌else◌}
 use Rattle.std.proofs.lemmas.Option.{same_Some}
 use Rattle.heap_words.specs.declared.config.Config.{Config}
 use Rattle.heap_words.specs.Words.{image_start}
@@ -11,6 +11,7 @@ use Rattle.handshake.specs.Standing.{is_within, is_pausing}
 use Rattle.handshake.proofs.Still.{pause_empty}
 use Rattle.control_rows.specs.declared.spot.ControlSpot.{ControlSpot}
 use Rattle.control_rows.specs.declared.spot.ControlSpot.TheVariants.{LoadWord, StoreWord}
+use Rattle.control_rows.specs.Extent.{is_of_extent}
 use Rattle.control_rows.specs.Rows.{Controlling}
 use Rattle.step_core.specs.Actor.{controlling, Actor}
 use Rattle.step_core.specs.Machines.{HasNumber, standing_of}
@@ -37,6 +38,6 @@ module _ (c : Config) (g : Graph) (s : Stage Actor) (past : List Entry) (follows
   aims_stay k b there control is aim = by_spot control.spot (out_then k b there control is) aim
     where
       by_spot : (spot : ControlSpot) → (is_pausing (control_standing spot) ≡ true → is_within (standing_of old.machine) ≡ false) → IsAim c s.words spot control.image → IsAim c words_then spot control.image
-      by_spot (LoadWord index) out known = (known.0, λ i less. known.1 i less ∙ sym (stays (out refl) i))
-      by_spot (StoreWord index) out known = (known.0, λ i less. known.1 i less ∙ sym (stays (out refl) i))
+      by_spot (LoadWord index extent) out known = (known.0, λ i less. known.1 i less ∙ ap (λ n. if is_of_extent c extent i then n else 0) (sym (stays (out refl) i)), known.2)
+      by_spot (StoreWord index extent) out known = (known.0, λ i less counted. known.1 i less counted ∙ sym (stays (out refl) i), known.2)
       by_spot _ out known = tt

@@ -1,7 +1,7 @@
 -- An event of the control leads from a stage that follows its history to one that does.
-use Rattle.std.proofs.Common.{◌≡◌, ◌≢◌, ℕ, ◌+◌, ◌<◌, Bool, true, false, List, [], ◌∷◌, ◌++◌, length, Option, Some, None, refl, sym, ap, ◌∙◌, subst, arith}
-use Rattle.std.specs.Prelude.{nat_lt, slice_get, slice_set, slice_index, if◌then◌else◌}
-use Rattle.std.proofs.lemmas.List.{length-set, set-get_or, length-append}
+use Rattle.std.proofs.Common.{◌≡◌, ◌≢◌, ℕ, ◌+◌, ◌<◌, ◌≤◌, Bool, true, false, List, [], ◌++◌, Option, Some, None, refl, sym, ap, ◌∙◌, subst, arith}
+use Rattle.std.specs.Prelude.{slice_get, slice_set, slice_index, if◌then◌else◌}
+use Rattle.std.proofs.lemmas.List.{length-set, set-get_or}
 use Rattle.std.proofs.lemmas.Option.{same_Some, slice_get_within}
 use Rattle.std.proofs.lemmas.Bool.{and_parts, ltb-true, ltb-false}
 use Rattle.heap_words.specs.declared.config.Config.{Config}
@@ -23,19 +23,23 @@ use Rattle.unit_part.specs.declared.spot.UnitSpot.{UnitSpot}
 use Rattle.unit_part.specs.Rows as units
 use Rattle.unit_part.specs.Ready as unit
 use Rattle.unit_part.proofs.Inside.{unit_inside}
-use Rattle.heap_world.specs.Change.{Change, IsDue, IsPause, image_view, image_words}
+use Rattle.heap_world.specs.Change.{Change, IsDue, image_view, image_words}
+use Rattle.control_rows.specs.ByParts.{PausesByParts}
 use Rattle.steps_base.specs.Touch.{touch, loads}
+use Rattle.control_rows.specs.declared.extent.Extent.{Extent}
+use Rattle.control_rows.specs.Extent.{next_loaded, extent_after, Counting}
 use Rattle.control_rows.specs.declared.spot.ControlSpot.{ControlSpot}
 use Rattle.control_rows.specs.declared.spot.ControlSpot.TheVariants.{LookLeft, StoreEnd, LookAsked, LookFree, Working, Stopping, LoadWord, StoreWord, Go, Gone}
-use Rattle.control_rows.specs.Rows.{Controlling, control_access, seen_after, is_gone}
+use Rattle.control_rows.specs.Rows.{Controlling, control_access, loads_more, loaded_on, loaded_all, seen_after, is_gone}
 use Rattle.control_rows.specs.Ready.{is_ready}
 use Rattle.step_core.specs.Actor.{controlling, Actor}
 use Rattle.step_core.specs.Machines.{took_of, kind, told_storing, standing_of}
 use Rattle.step_core.specs.Settled.{stored_image, settled_by, image_read, image_of, control_number}
 use Rattle.step_core.specs.Sound.{world_of}
-use Rattle.step_core.specs.Fit.{IsImageOfSome}
-use Rattle.step_core.proofs.Machines.Owed.{IsResting, IsControl, IsMachine, Follows, Owes, AreRead}
-use Rattle.step_core.proofs.Control.Images.{words_after, found-placed, image_grows}
+use Rattle.step_core.specs.Fit.{IsPartOfSome}
+use Rattle.step_core.proofs.Machines.Owed.{IsResting, IsControl, IsMachine, Follows, Owes}
+use Rattle.step_core.proofs.Control.Images.{words_after, found-placed, image_in, image_in_long}
+use Rattle.step_core.proofs.Control.ByParts as parts
 use Rattle.step_core.proofs.Helpers.Units.{work_fits}
 use Rattle.step_core.proofs.History.Owing.{follows_owes}
 use Rattle.step_core.proofs.Control.Paused.{asking, image_stands, paused_owes}
@@ -44,12 +48,8 @@ use Rattle.step_core.proofs.Control.Loaded.{read_owes}
 use Rattle.step_core.proofs.Control.Storing.{stored_owes}
 use Rattle.step_core.proofs.Control.Held.{IsKept, held_image}
 
--- a list with one more at its end
-length-snoc : (xs : List ℕ) (x : ℕ) → length (xs ++ x ∷ []) ≡ length xs + 1
-length-snoc xs x = length-append xs (x ∷ [])
-
 -- A step of the control.
-module _ (change : Change) (law : IsPause change) (c : Config) (g : Graph) (s : Stage Actor) (past : List Entry) (number : ℕ) (k : Controlling) (command : Command) (calls : List Entry)
+module _ (change : Change) (law : PausesByParts change) (c : Config) (g : Graph) (s : Stage Actor) (past : List Entry) (number : ℕ) (k : Controlling) (command : Command) (calls : List Entry)
     (follows : Follows c g s past) (shaken : IsKept c s) (here : slice_get s.machines number ≡ Some (record { machine = controlling k; command = command; calls = calls })) where
   abbrev control_before : Actor
   control_before = record { machine = controlling k; command = command; calls = calls }
@@ -68,7 +68,7 @@ module _ (change : Change) (law : IsPause change) (c : Config) (g : Graph) (s : 
   control_after = took_of change c control_before Nothing (slice_index s.words (table_index (control_access c k))) (controlling k)
 
   -- the world in which an image counts, or none
-  abbrev world_held : Option (List ℕ) → World
+  abbrev world_held : Option Counting → World
   world_held o = record { memory = settled_by c s.words o; block = follows.block; ghost = follows.ghost; graph = after g past }
 
   world_is : world_of c s follows.block follows.ghost (after g past) ≡ world_held (stored_image k.spot k.image)
@@ -106,7 +106,7 @@ module _ (change : Change) (law : IsPause change) (c : Config) (g : Graph) (s : 
       pause_empty c (λ a. standing_of a.machine) s shaken (ap (λ a. is_pausing (standing_of a.machine)) (sym same) ∙ pausing) j b (omega (arith, less, other)) there
 
 -- by its spot
-module _ (change : Change) (law : IsPause change) (c : Config) (g : Graph) (s : Stage Actor) (past : List Entry) (number seen phase cset hints : ℕ) (image : List ℕ) (command : Command) (calls : List Entry)
+module _ (change : Change) (law : PausesByParts change) (c : Config) (g : Graph) (s : Stage Actor) (past : List Entry) (number seen phase cset hints : ℕ) (image : List ℕ) (command : Command) (calls : List Entry)
     (follows : Follows c g s past) (shaken : IsKept c s) where
   abbrev control_at : ControlSpot → Controlling
   control_at spot = record { spot = spot; seen = seen; phase = phase; cset = cset; hints = hints; image = image }
@@ -152,83 +152,113 @@ module _ (change : Change) (law : IsPause change) (c : Config) (g : Graph) (s : 
   abbrev loaded : ℕ → ℕ
   loaded index = slice_index s.words (image_start c + index)
 
-  -- while it loads the image it rests
-  idle_at : (index : ℕ) → Here (LoadWord index) → IsResting open_now (control_number c)
-  idle_at index here = (control_held change law c g s past number (control_at (LoadWord index)) command calls follows shaken here).facts.0
+  -- what holds of it while it loads the image
+  known_at : (index : ℕ) (extent : Extent) → Here (LoadWord index extent) → IsControl c s.words open_now (control_number c) (control_at (LoadWord index extent))
+  known_at index extent here = control_held change law c g s past number (control_at (LoadWord index extent)) command calls follows shaken here
+
+  -- it rests
+  idle_at : (index : ℕ) (extent : Extent) → Here (LoadWord index extent) → IsResting open_now (control_number c)
+  idle_at index extent here = (known_at index extent here).facts.0
 
   -- and the pause is due
-  due_at : (index : ℕ) → Here (LoadWord index) → IsDue c open_now.memory
-  due_at index here = (control_held change law c g s past number (control_at (LoadWord index)) command calls follows shaken here).facts.1
+  due_at : (index : ℕ) (extent : Extent) → Here (LoadWord index extent) → IsDue c open_now.memory
+  due_at index extent here = (known_at index extent here).facts.1
 
-  -- The last word of the image is loaded: the image stands for the graph.
-  pub whole_stands : (index : ℕ) → Here (LoadWord index) → index + 1 ≡ image_words c → IsImageOfSome c (image ++ loaded index ∷ [])
-  whole_stands index here last =
-      let known = facts change law c g s past number (control_at (LoadWord index)) command calls follows shaken here in
-      let read : AreRead c s.words (image ++ loaded index ∷ []) (image_words c) = λ i below. image_grows c s.words image index known.aims.0 known.aims.1 i (omega (arith, below, last)) in
+  below_at : (index : ℕ) (extent : Extent) → Here (LoadWord index extent) → index < image_words c
+  below_at index extent here = ltb-true _ _ (ready_at (LoadWord index extent) here)
+
+  -- The last word of the image is loaded: what was loaded is a part of one that stands for the graph.
+  pub whole_stands : (index : ℕ) (extent : Extent) → Here (LoadWord index extent) → loads_more c phase index extent (loaded index) ≡ false → IsPartOfSome c (extent_after phase index extent (loaded index)) (loaded_all c image (loaded index))
+  whole_stands index extent here all =
+      let known = known_at index extent here in
+      let below = below_at index extent here in
+      let end : image_words c ≤ parts.next c s.words phase extent image index below known.aims.0 known.aims.1 known.aims.2 known.extent_is = ltb-false _ _ all in
       ∣ (
+        image_in c s.words,
         after g past,
-        asking c s.words follows.block follows.ghost (after g past) past s.machines follows.seats (idle_at index here),
-        image_stands c s.words follows.block follows.ghost (after g past) past s.machines follows.seats (idle_at index here) (image ++ loaded index ∷ []) read
-            (shared_held change law c g s past number (control_at (LoadWord index)) command calls follows shaken here) follows.promised_to follows.no_more follows.no_more_pins
-            (known_held change law c g s past number (control_at (LoadWord index)) command calls follows shaken here)
-            (all_outside change law c g s past number (control_at (LoadWord index)) command calls follows shaken here refl),
+        asking c s.words follows.block follows.ghost (after g past) past s.machines follows.seats (idle_at index extent here),
+        image_in_long c s.words follows.words,
+        parts.part_of c s.words phase extent image index below known.aims.0 known.aims.1 known.aims.2 known.extent_is end known.phase_is,
+        parts.part_extent c s.words phase extent image index below known.aims.0 known.aims.1 known.aims.2 known.extent_is end known.phase_is,
+        image_stands c s.words follows.block follows.ghost (after g past) past s.machines follows.seats (idle_at index extent here)
+            (shared_held change law c g s past number (control_at (LoadWord index extent)) command calls follows shaken here) follows.promised_to follows.no_more follows.no_more_pins
+            (known_held change law c g s past number (control_at (LoadWord index extent)) command calls follows shaken here)
+            (all_outside change law c g s past number (control_at (LoadWord index extent)) command calls follows shaken here refl),
       ) ∣₁
 
   -- the control after it loaded a word: it loads the next one, or it was the last one
-  abbrev after_word : ℕ → Bool → Actor
-  after_word index more = record {
+  abbrev after_word : (index : ℕ) → Extent → Bool → Actor
+  after_word index extent more = record {
     machine = controlling (record {
-      spot = if more then LoadWord (index + 1) else StoreWord 0;
-      seen = if more then seen else seen_after seen (image_view c (change c (image ++ loaded index ∷ [])));
-      phase = if more then phase else image_view c (change c (image ++ loaded index ∷ [])) Phase;
-      cset = if more then cset else image_view c (change c (image ++ loaded index ∷ [])) Cset;
+      spot = if more then LoadWord (next_loaded c (extent_after phase index extent (loaded index)) index) (extent_after phase index extent (loaded index)) else StoreWord 0 (extent_after phase index extent (loaded index));
+      seen = if more then seen else seen_after seen (image_view c (change c (loaded_all c image (loaded index))));
+      phase = if more then phase else image_view c (change c (loaded_all c image (loaded index))) Phase;
+      cset = if more then cset else image_view c (change c (loaded_all c image (loaded index))) Cset;
       hints = hints;
-      image = if more then image ++ loaded index ∷ [] else change c (image ++ loaded index ∷ []);
+      image = if more then loaded_on (next_loaded c (extent_after phase index extent (loaded index)) index) image (loaded index) else change c (loaded_all c image (loaded index));
     });
     command = command;
     calls = calls ++ [];
   }
 
   -- what it owes then
-  loaded_owes : (index : ℕ) → Here (LoadWord index) → Shared c open_now → IsControl c s.words open_now (control_number c) (control_at (LoadWord index)) → (more : Bool) → nat_lt (index + 1) (image_words c) ≡ more
-      → Owes c s.words s.words open_now past (control_number c) s.machines (settled_by c s.words (image_read (after_word index more).machine)) [] (after_word index more)
-  loaded_owes index here shared known true more =
+  loaded_owes : (index : ℕ) (extent : Extent) → Here (LoadWord index extent) → Shared c open_now → IsControl c s.words open_now (control_number c) (control_at (LoadWord index extent)) → (more : Bool) → loads_more c phase index extent (loaded index) ≡ more
+      → Owes c s.words s.words open_now past (control_number c) s.machines (settled_by c s.words (image_read (after_word index extent more).machine)) [] (after_word index extent more)
+  loaded_owes index extent here shared known true more =
+      let below = below_at index extent here in
+      let next = parts.goes_next c s.words phase extent image index below known.aims.0 known.aims.1 known.aims.2 known.extent_is in
       read_owes c s.words follows.block follows.ghost (after g past) past s.machines command calls
-      (record { spot = LoadWord (index + 1); seen = seen; phase = phase; cset = cset; hints = hints; image = image ++ loaded index ∷ [] }) shared follows.promised_to
+      (record {
+        spot = LoadWord (next_loaded c (extent_after phase index extent (loaded index)) index) (extent_after phase index extent (loaded index));
+        seen = seen;
+        phase = phase;
+        cset = cset;
+        hints = hints;
+        image = loaded_on (next_loaded c (extent_after phase index extent (loaded index)) index) image (loaded index);
+      }) shared follows.promised_to
       (record {
         number_is = refl;
         ready = more;
         phase_is = known.phase_is;
         set_is = known.set_is;
         facts = known.facts;
-        aims = (length-snoc image (loaded index) ∙ ap (λ n. n + 1) known.aims.0, image_grows c s.words image index known.aims.0 known.aims.1);
+        aims = (
+          parts.next_long c s.words phase extent image index below known.aims.0 known.aims.1 known.aims.2 known.extent_is,
+          parts.next_words c s.words phase extent image index below known.aims.0 known.aims.1 known.aims.2 known.extent_is,
+          next.here (ltb-true _ _ more),
+        );
+        extent_is = parts.next_extent c s.words phase extent image index below known.aims.0 known.aims.1 known.aims.2 known.extent_is;
       }) refl
-  loaded_owes index here shared known false all =
-      let less : index + 1 ≡ image_words c = (let last = ltb-false _ _ all in let ready = ltb-true _ _ (ready_at (LoadWord index) here) in omega (arith, last, ready)) in
-      paused_owes c s.words follows.block follows.ghost (after g past) past s.machines follows.seats (idle_at index here) (image ++ loaded index ∷ [])
-      (λ i below. image_grows c s.words image index known.aims.0 known.aims.1 i (omega (arith, below, less))) change law (due_at index here)
-      (length-snoc image (loaded index) ∙ ap (λ n. n + 1) known.aims.0 ∙ less) shared follows.promised_to follows.no_more follows.no_more_pins
-      (known_held change law c g s past number (control_at (LoadWord index)) command calls follows shaken here)
-      (all_outside change law c g s past number (control_at (LoadWord index)) command calls follows shaken here refl)
-      (seen_after seen (image_view c (change c (image ++ loaded index ∷ [])))) hints command calls
+  loaded_owes index extent here shared known false all =
+      let below = below_at index extent here in
+      let end : image_words c ≤ parts.next c s.words phase extent image index below known.aims.0 known.aims.1 known.aims.2 known.extent_is = ltb-false _ _ all in
+      paused_owes c s.words follows.block follows.ghost (after g past) past s.machines follows.seats (idle_at index extent here) (extent_after phase index extent (loaded index)) (loaded_all c image (loaded index))
+      (parts.part_of c s.words phase extent image index below known.aims.0 known.aims.1 known.aims.2 known.extent_is end known.phase_is)
+      (parts.part_extent c s.words phase extent image index below known.aims.0 known.aims.1 known.aims.2 known.extent_is end known.phase_is)
+      (image_in_long c s.words follows.words)
+      (parts.part_long c s.words phase extent image index below known.aims.0 known.aims.1 known.aims.2 known.extent_is end known.phase_is)
+      change law (due_at index extent here) shared follows.promised_to follows.no_more follows.no_more_pins
+      (known_held change law c g s past number (control_at (LoadWord index extent)) command calls follows shaken here)
+      (all_outside change law c g s past number (control_at (LoadWord index extent)) command calls follows shaken here refl)
+      (seen_after seen (image_view c (change c (loaded_all c image (loaded index))))) hints command calls
 
   -- a word of the image that is loaded
-  load_word : (index : ℕ) → Here (LoadWord index) → ControlGoal (LoadWord index)
-  load_word index here =
-      let same_words : accessed (control_access c (control_at (LoadWord index))) s.words ≡ s.words = set-get_or s.words (image_start c + index) 0 in
-      quiet (LoadWord index) here refl refl (λ shared known.
+  load_word : (index : ℕ) (extent : Extent) → Here (LoadWord index extent) → ControlGoal (LoadWord index extent)
+  load_word index extent here =
+      let same_words : accessed (control_access c (control_at (LoadWord index extent))) s.words ≡ s.words = set-get_or s.words (image_start c + index) 0 in
+      quiet (LoadWord index extent) here refl refl (λ shared known.
       subst (λ ws. Owes c s.words ws open_now past (control_number c) s.machines
-      (settled_by c ws (image_read (control_after change law c g s past number (control_at (LoadWord index)) command calls follows shaken here).machine)) []
-      (control_after change law c g s past number (control_at (LoadWord index)) command calls follows shaken here)) (sym same_words)
-      (loaded_owes index here shared known (nat_lt (index + 1) (image_words c)) refl))
+      (settled_by c ws (image_read (control_after change law c g s past number (control_at (LoadWord index extent)) command calls follows shaken here).machine)) []
+      (control_after change law c g s past number (control_at (LoadWord index extent)) command calls follows shaken here)) (sym same_words)
+      (loaded_owes index extent here shared known (loads_more c phase index extent (loaded index)) refl))
 
   -- a word of the new image that is stored
-  store_word : (index : ℕ) → Here (StoreWord index) → ControlGoal (StoreWord index)
-  store_word index here =
-      let k = control_at (StoreWord index) in
+  store_word : (index : ℕ) (extent : Extent) → Here (StoreWord index extent) → ControlGoal (StoreWord index extent)
+  store_word index extent here =
+      let k = control_at (StoreWord index extent) in
       let known = facts change law c g s past number k command calls follows shaken here in
-      from_owes change law c g s past number k command calls follows shaken here (told_storing c s (StoreWord index) image)
-      (stored_owes change c s.words follows.block follows.ghost (after g past) past s.machines image index seen phase cset hints command calls known.ready follows.words known.aims.0 known.aims.1 follows.seats
+      from_owes change law c g s past number k command calls follows shaken here (told_storing c s (StoreWord index extent) image)
+      (stored_owes change c s.words follows.block follows.ghost (after g past) past s.machines extent image index seen phase cset hints command calls known.ready follows.words known.aims.0 known.aims.1 known.aims.2 follows.seats
       (shared_held change law c g s past number k command calls follows shaken here) follows.promised_to (control_held change law c g s past number k command calls follows shaken here)
       (known_held change law c g s past number k command calls follows shaken here))
 
@@ -269,8 +299,8 @@ module _ (change : Change) (law : IsPause change) (c : Config) (g : Graph) (s : 
   by_spot (Stopping (stop.Check seat)) going here = quiet (Stopping (stop.Check seat)) here refl refl (λ shared known.
       pauses.check_seat c s.words follows.block follows.ghost (after g past) past s.machines command calls change seen phase cset hints image follows.words shared follows.promised_to seat (got (Stopping (stop.Check seat))) known)
   by_spot (Stopping stop.Stopped) going here = absurd (let ready = ready_at (Stopping stop.Stopped) here in cc (ready))
-  by_spot (LoadWord index) going here = load_word index here
-  by_spot (StoreWord index) going here = store_word index here
+  by_spot (LoadWord index extent) going here = load_word index extent here
+  by_spot (StoreWord index extent) going here = store_word index extent here
   by_spot Go going here = quiet Go here refl refl (λ shared known.
       pauses.let_go c s.words follows.block follows.ghost (after g past) past s.machines command calls change seen phase cset hints image follows.words shared follows.promised_to (got Go) known)
   by_spot Gone going here = absurd (cc (going))

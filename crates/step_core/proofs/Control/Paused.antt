@@ -1,14 +1,14 @@
 -- The step by which the control has read the last word of an image: the new image counts from here on, all at once, and each machine
 -- is where it should be in it.
 use Rattle.std.proofs.Common.{◌≡◌, ◌≢◌, ℕ, ◌+◌, ◌<◌, ◌≤◌, inl, inr, ⊎_elim, true, false, List, [], ◌++◌, length, Option, Some, None, refl, sym, ap, ◌∙◌, subst, arith}
-use Rattle.std.specs.Prelude.{◌*◌, ◌-◌, ◌==◌, sum_by, slice_get, if◌then◌else◌}
-use Rattle.std.proofs.lemmas.Bool.{false≢true, true≢false, lt-ltb}
+use Rattle.std.specs.Prelude.{◌*◌, ◌-◌, ◌==◌, ◌||◌, not, sum_by, slice_get, slice_index, if◌then◌else◌}
+use Rattle.std.proofs.lemmas.Bool.{cond-true, false≢true, true≢false, lt-ltb}
 use Rattle.std.proofs.lemmas.List.{append-nil}
 use Rattle.std.proofs.lemmas.List.Elements.{All-nil}
 use Rattle.heap_words.specs.declared.config.Config.{Config}
 use Rattle.heap_words.specs.Ranges.{seat_count}
 use Rattle.std.specs.Int.{bit_at}
-use Rattle.heap_words.specs.Words.{Phase, Cset, Evac, Ask, Root, Answer, view}
+use Rattle.heap_words.specs.Words.{Word, Phase, Cset, Evac, Ask, Root, Answer, image_start, view}
 use Rattle.packing.specs.Tops.{sum_below}
 use Rattle.packing.proofs.Sums.{sum_same}
 use Rattle.shen_graph.specs.declared.command.Command.{Command}
@@ -30,20 +30,25 @@ use Rattle.mutator.specs.Rows.{Mutating}
 use Rattle.alloc_buffers.specs.Facts.{IsSpare, OnlySpares}
 use Rattle.heap_world.specs.World.{Ghost, World, Block, Plot, hand, carved, room_of, Points, IsUsable, UsableIn, Shared}
 use Rattle.heap_world.specs.Asking.{Asking, nothing, asks, refused, given, IsAsked}
-use Rattle.heap_world.specs.Change.{Change, Answers, IsDue, IsPause, IsPaused, image_view, image_words, words_given}
+use Rattle.heap_world.specs.Change.{Change, Answers, IsDue, IsPaused, image_view, image_words, words_given}
+use Rattle.control_rows.specs.ByParts.{PausesByParts}
 use Rattle.heap_world.specs.Represents.{NobodyMarks, NobodyCopies, Represents}
 use Rattle.heap_world.specs.Roots.{HasNoMore, HasNoMorePins}
+use Rattle.control_rows.specs.declared.extent.Extent.{Extent}
+use Rattle.control_rows.specs.Extent.{extent_by, counts, Counting}
+use Rattle.control_rows.specs.ByParts.{IsImagePart, IsMadeOf}
+use Rattle.control_rows.proofs.Extents.{early}
 use Rattle.control_rows.specs.declared.spot.ControlSpot.TheVariants.{StoreWord}
 use Rattle.step_core.specs.Actor.{Machine, mutating, controlling, Actor}
-use Rattle.step_core.specs.Settled.{mixed, settled_by, control_number}
+use Rattle.step_core.specs.Settled.{is_counting, mixed, settled_by, control_number}
 use Rattle.step_core.specs.Own.{root_now}
 use Rattle.step_core.specs.Standing.{standing_at}
 use Rattle.step_core.specs.Machines.{standing_of}
 use Rattle.step_core.proofs.Machines.Stepped.{recording_of, has_phase, has_set, copies_at, HasMarkingBy, HasCopyingBy, IsMaking, IsPolling, IsAnswered, SpotFacts, Mine}
 use Rattle.step_core.specs.Threads.{IsSettled}
-use Rattle.step_core.proofs.Machines.Owed.{IsSeen, IsShort, AreRead, IsThread, IsResting, IsMachine, PromisedToMutators, Owes, words_promised}
+use Rattle.step_core.proofs.Machines.Owed.{IsSeen, IsShort, IsThread, IsResting, IsMachine, PromisedToMutators, Owes, words_promised}
 use Rattle.step_core.proofs.Control.Asked.{asking_by, asking_asks, asking_refused, asking_given, asking_at, asking_in, asking_of, asked_same, polling_asked, answered_asked, nothing_then, refused_then, given_then, asks_then, promised_given}
-use Rattle.step_core.proofs.Control.Images.{mixed_whole}
+use Rattle.step_core.proofs.Control.Images.{mixed_whole, image_in, image_in_reads, all_of, parts_same}
 use Rattle.step_core.proofs.Control.Pauses.{open_world}
 use Rattle.step_core.proofs.History.Replies.{answered_polls}
 use Rattle.step_core.proofs.Machines.Roles.{full_settled, machine_there, mutator_there, unmarking_by, uncopying_by, rests_by, rests_there, outside_goes_on}
@@ -372,48 +377,72 @@ module _ (c : Config) (words : List ℕ) (block : Plot) (ghost : Ghost) (g : Gra
     no_more_pins = no_more_pins;
   }
 
-  -- An image that was read.
-  module _ (image : List ℕ) (read : AreRead c words image (image_words c)) where
-    -- It stands for the graph.
-    pub image_stands : Shared c before → PromisedToMutators c block → HasNoMore c.mutators g → HasNoMorePins c.mutators g → AllKnown → AllOutside → Represents c (image_view c image) g asking
-    image_stands shared promised_to no_more no_more_pins known outside =
-        let whole : view c words ≡ mixed c words image = sym (mixed_whole c words image read) in
-        let stands = words_stand shared promised_to no_more no_more_pins known outside in
-        record {
-          block = stands.block;
-          ghost = stands.ghost;
-          shared = subst (λ memory. Shared c (record { memory = memory; block = stands.block; ghost = stands.ghost; graph = g })) whole stands.shared;
-          roots = λ t i below small. subst (λ memory. Points stands.block (memory (Root t i)) (g.root (t + 1) i)) whole (stands.roots t i below small);
-          usable = λ t i below small. subst (λ memory. IsUsable c (memory Cset) (memory Evac) stands.block (memory (Root t i))) whole (stands.usable t i below small);
-          none = stands.none;
-          uncarved = stands.uncarved;
-          asked = λ t below. asked_same (mixed c words image) (image_view c image) stands.block g.count t (asking t) refl refl (λ a. refl) (subst (λ memory. IsAsked memory stands.block g.count t (asking t)) whole (stands.asked t below));
-          heard = λ t refs nums below is. subst (λ memory. bit_at (memory Ask) 1 ≡ 1) whole (stands.heard t refs nums below is);
-          promised_to = stands.promised_to;
-          unmarking = stands.unmarking;
-          uncopying = stands.uncopying;
-          no_more = no_more;
-          no_more_pins = no_more_pins;
-        }
+  -- All of the image stands for the graph.
+  abbrev pub whole : List ℕ
+  whole = image_in c words
 
+  all_read : view c words ≡ mixed c words (all_of whole)
+  all_read = sym (mixed_whole c words (all_of whole) (λ i below counted. image_in_reads c words i))
+
+  pub image_stands : Shared c before → PromisedToMutators c block → HasNoMore c.mutators g → HasNoMorePins c.mutators g → AllKnown → AllOutside → Represents c (image_view c whole) g asking
+  image_stands shared promised_to no_more no_more_pins known outside =
+      let stands = words_stand shared promised_to no_more no_more_pins known outside in
+      record {
+        block = stands.block;
+        ghost = stands.ghost;
+        shared = subst (λ memory. Shared c (record { memory = memory; block = stands.block; ghost = stands.ghost; graph = g })) all_read stands.shared;
+        roots = λ t i below small. subst (λ memory. Points stands.block (memory (Root t i)) (g.root (t + 1) i)) all_read (stands.roots t i below small);
+        usable = λ t i below small. subst (λ memory. IsUsable c (memory Cset) (memory Evac) stands.block (memory (Root t i))) all_read (stands.usable t i below small);
+        none = stands.none;
+        uncarved = stands.uncarved;
+        asked = λ t below. asked_same (mixed c words (all_of whole)) (image_view c whole) stands.block g.count t (asking t) refl refl (λ a. refl) (subst (λ memory. IsAsked memory stands.block g.count t (asking t)) all_read (stands.asked t below));
+        heard = λ t refs nums below is. subst (λ memory. bit_at (memory Ask) 1 ≡ 1) all_read (stands.heard t refs nums below is);
+        promised_to = stands.promised_to;
+        unmarking = stands.unmarking;
+        uncopying = stands.uncopying;
+        no_more = no_more;
+        no_more_pins = no_more_pins;
+      }
+
+  -- A part of it was read.
+  module _ (extent : Extent) (part : List ℕ) (part_of : IsImagePart c extent whole part) (extent_is : extent ≡ extent_by c (slice_index part 0) part) (whole_long : length whole ≡ image_words c) (part_long : length part ≡ image_words c) where
     -- The new image counts: what the step owes.
-    module _ (change : Change) (law : IsPause change) (due : IsDue c (view c words)) (long : length image ≡ image_words c) (shared : Shared c before) (promised_to : PromisedToMutators c block) (no_more : HasNoMore c.mutators g) (no_more_pins : HasNoMorePins c.mutators g)
+    module _ (change : Change) (law : PausesByParts change) (due : IsDue c (view c words)) (shared : Shared c before) (promised_to : PromisedToMutators c block) (no_more : HasNoMore c.mutators g) (no_more_pins : HasNoMorePins c.mutators g)
         (known : AllKnown) (outside : AllOutside) where
       -- the pause is due by the image
-      image_due : IsDue c (image_view c image)
-      image_due = subst (λ memory. IsDue c memory) (sym (mixed_whole c words image read)) due
+      image_due : IsDue c (image_view c whole)
+      image_due = subst (λ memory. IsDue c memory) all_read due
 
-      paused : IsPaused c (image_view c image) (image_view c (change c image)) g asking
-      paused = law.pauses c image g asking long (image_stands shared promised_to no_more no_more_pins known outside) image_due
+      paused : IsPaused c (image_view c whole) (image_view c (change c whole)) g asking
+      paused = law.whole.pauses c whole g asking whole_long (image_stands shared promised_to no_more no_more_pins known outside) image_due
+
+      -- what counts then is what the pause makes of all of the image
+      abbrev counting : Counting
+      counting = record { extent = extent; image = change c part }
+
+      counts_all : mixed c words counting ≡ mixed c words (all_of (change c whole))
+      counts_all = parts_same c words extent (change c whole) (change c part)
+          (subst (λ e. IsMadeOf c e whole (change c whole) (change c part)) (sym extent_is)
+          (law.parts.made c whole part whole_long part_long (subst (λ e. IsImagePart c e whole part) extent_is part_of)))
+
+      -- the first words count
+      early_counts : (k : ℕ) → k < 7 → counts c extent (change c part) k ≡ true
+      early_counts k few = ap (λ b. b || not (slice_index (change c part) k == 0)) (early c extent k few)
+
+      phase_counts : image_view c (change c part) Phase ≡ image_view c (change c whole) Phase
+      phase_counts = sym (cond-true (is_counting c counting Phase) _ _ (early_counts (image_start c - image_start c) (omega arith))) ∙ ap (λ (m : Word → ℕ). m Phase) counts_all
+
+      set_counts : image_view c (change c part) Cset ≡ image_view c (change c whole) Cset
+      set_counts = sym (cond-true (is_counting c counting Cset) _ _ (early_counts (image_start c + 1 - image_start c) (omega arith))) ∙ ap (λ (m : Word → ℕ). m Cset) counts_all
 
       -- the world then
       abbrev then_world : World
-      then_world = record { memory = mixed c words (change c image); block = paused.stands.block; ghost = paused.stands.ghost; graph = g }
+      then_world = record { memory = mixed c words (all_of (change c whole)); block = paused.stands.block; ghost = paused.stands.ghost; graph = g }
 
       -- what each mutator has asked for stands in its words
       asked_in_it : (t : ℕ) → t < c.mutators → IsAsked then_world.memory paused.stands.block g.count t (paused.asked_then t)
       asked_in_it t below =
-          asked_same (image_view c (change c image)) then_world.memory paused.stands.block g.count t (paused.asked_then t) refl refl (λ a. refl) (paused.stands.asked t below)
+          asked_same (image_view c (change c whole)) then_world.memory paused.stands.block g.count t (paused.asked_then t) refl refl (λ a. refl) (paused.stands.asked t below)
 
       -- the words that are promised then
       promised_sum : (t : ℕ) → sum_below (λ v. if v == t then 0 else words_given (paused.asked_then v)) c.mutators ≡ sum_below (λ v. if v == t then 0 else words_promised then_world.memory v) c.mutators
@@ -455,11 +484,11 @@ module _ (c : Config) (words : List ℕ) (block : Plot) (ghost : Ghost) (g : Gra
           (λ m role. mutator_then k b m there (is ∙ role) (ap (λ x. is_within (standing_of x)) (sym role) ∙ out)) facts
 
       -- what the control owes
-      pub paused_owes : (seen hints : ℕ) (command : Command) (calls : List Entry) → Owes c words words before past (control_number c) machines (settled_by c words (Some (change c image))) []
-          (record { machine = controlling (record { spot = StoreWord 0; seen = seen; phase = image_view c (change c image) Phase; cset = image_view c (change c image) Cset; hints = hints; image = change c image }); command = command; calls = calls ++ [] })
+      pub paused_owes : (seen hints : ℕ) (command : Command) (calls : List Entry) → Owes c words words before past (control_number c) machines (settled_by c words (Some counting)) []
+          (record { machine = controlling (record { spot = StoreWord 0 extent; seen = seen; phase = image_view c (change c part) Phase; cset = image_view c (change c part) Cset; hints = hints; image = change c part }); command = command; calls = calls ++ [] })
       paused_owes seen hints command calls = record {
         world = then_world;
-        memory_is = refl;
+        memory_is = sym counts_all;
         graph_is = refl;
         legal = tt;
         entries = All-nil (IsSettled c.mutators);
@@ -468,10 +497,11 @@ module _ (c : Config) (words : List ℕ) (block : Plot) (ghost : Ghost) (g : Gra
         own = record {
           number_is = refl;
           ready = lt-ltb _ _ (some_words c);
-          phase_is = refl;
-          set_is = refl;
+          phase_is = phase_counts;
+          set_is = set_counts;
           facts = rests_by c then_world (control_number c) paused.stands.unmarking paused.stands.uncopying (λ a. only_spares paused.stands.block paused.stands.none paused.stands.uncarved a (control_number c)) (omega arith);
-          aims = (law.long c image long, λ i below. absurd (omega (arith, below)));
+          aims = (law.whole.long c part part_long, λ i below. absurd (omega (arith, below)), early_counts 0 (omega arith));
+          extent_is = tt;
         };
         others = λ k b other there is.
             subst (λ es. IsMachine c words then_world es k b b.machine) (ap (λ es. of_thread es (k + 1)) (sym (append-nil past)))

@@ -25,10 +25,12 @@ use Rattle.heap_world.specs.Part.{PartStep}
 use Rattle.control_rows.specs.declared.spot.ControlSpot.{ControlSpot}
 use Rattle.control_rows.specs.declared.spot.ControlSpot.TheVariants.{LookLeft, StoreEnd, LookAsked, LookFree, Working, Stopping, Go}
 use Rattle.control_rows.specs.Rows.{Controlling, control_touch, control_next, stopping, after_unit, begins_pause, unasked, wants_pause}
+use Rattle.control_rows.specs.Extent.{first_extent}
 use Rattle.control_rows.proofs.Ready.{stays_ready}
+use Rattle.control_rows.proofs.Extents.{early, extent_none}
 use Rattle.step_core.specs.Actor.{Machine, controlling, Actor}
 use Rattle.step_core.specs.Settled.{stored_image, settled_by, control_number}
-use Rattle.step_core.proofs.Machines.Owed.{IsResting, CanWork, ControlFacts, IsAim, IsControl, IsMachine, PromisedToMutators, Owes}
+use Rattle.step_core.proofs.Machines.Owed.{IsResting, CanWork, ControlFacts, IsAim, IsOfExtent, IsControl, IsMachine, PromisedToMutators, Owes}
 use Rattle.step_core.proofs.Control.Images.{words_after, view-placed}
 use Rattle.step_core.proofs.Machines.Alike.{is_of_handshake, load_step, store_step}
 use Rattle.step_core.proofs.Mutators.WhileMarking.{world_with}
@@ -77,21 +79,30 @@ module _ (c : Config) (words : List ℕ) (block : Plot) (ghost : Ghost) (g : Gra
   plain_facts w true x y one other = one refl
   plain_facts w false x y one other = other refl
 
+  plain_extent : (b : Bool) (x y : ControlSpot) (phase : ℕ) (image : List ℕ) → IsOfExtent c phase x image → IsOfExtent c phase y image → IsOfExtent c phase (if b then x else y) image
+  plain_extent true x y phase image one other = one
+  plain_extent false x y phase image one other = other
+
   -- once all others are stopped it loads the first word
-  stopping_spot : (at : StopSpot) → stored_image (stopping at) [] ≡ None
-  stopping_spot stop.Raise = refl
-  stopping_spot (stop.Check seat) = refl
-  stopping_spot stop.Stopped = refl
+  stopping_spot : (phase : ℕ) (at : StopSpot) → stored_image (stopping c phase at) [] ≡ None
+  stopping_spot phase stop.Raise = refl
+  stopping_spot phase (stop.Check seat) = refl
+  stopping_spot phase stop.Stopped = refl
 
-  stopping_aim : (at : StopSpot) (ws : List ℕ) → IsAim c ws (stopping at) []
-  stopping_aim stop.Raise ws = tt
-  stopping_aim (stop.Check seat) ws = tt
-  stopping_aim stop.Stopped ws = (refl, λ i below. absurd (omega (arith, below)))
+  stopping_aim : (phase : ℕ) (at : StopSpot) (ws : List ℕ) → IsAim c ws (stopping c phase at) []
+  stopping_aim phase stop.Raise ws = tt
+  stopping_aim phase (stop.Check seat) ws = tt
+  stopping_aim phase stop.Stopped ws = (refl, λ i below. absurd (omega (arith, below)), early c (first_extent c phase) 0 (omega arith))
 
-  stopping_facts : (w : World) (at : StopSpot) → IsResting w (control_number c) × IsDue c w.memory → ControlFacts c w (control_number c) (stopping at)
-  stopping_facts w stop.Raise facts = facts
-  stopping_facts w (stop.Check seat) facts = facts
-  stopping_facts w stop.Stopped facts = facts
+  stopping_extent : (phase : ℕ) (at : StopSpot) → IsOfExtent c phase (stopping c phase at) []
+  stopping_extent phase stop.Raise = tt
+  stopping_extent phase (stop.Check seat) = tt
+  stopping_extent phase stop.Stopped = sym (extent_none c phase)
+
+  stopping_facts : (w : World) (phase : ℕ) (at : StopSpot) → IsResting w (control_number c) × IsDue c w.memory → ControlFacts c w (control_number c) (stopping c phase at)
+  stopping_facts w phase stop.Raise facts = facts
+  stopping_facts w phase (stop.Check seat) facts = facts
+  stopping_facts w phase stop.Stopped facts = facts
 
   -- where it works on a unit, or has done so
   unit_spot : (at : UnitSpot) → stored_image (after_unit at) [] ≡ None
@@ -103,6 +114,11 @@ module _ (c : Config) (words : List ℕ) (block : Plot) (ghost : Ghost) (g : Gra
   unit_aim (Ended Worked) ws = tt
   unit_aim (Ended NoneLeft) ws = tt
   unit_aim _ ws = tt
+
+  unit_extent : (phase : ℕ) (at : UnitSpot) → IsOfExtent c phase (after_unit at) []
+  unit_extent phase (Ended Worked) = tt
+  unit_extent phase (Ended NoneLeft) = tt
+  unit_extent phase _ = tt
 
   unit_facts : (w : World) (at : UnitSpot) → CanWork c w (control_number c) at → ControlFacts c w (control_number c) (after_unit at)
   unit_facts w (Ended Worked) can = can
@@ -144,11 +160,12 @@ module _ (c : Config) (words : List ℕ) (block : Plot) (ghost : Ghost) (g : Gra
         loads_word Left (then_at LookLeft got) refl
         (record {
           number_is = refl;
-          ready = stays_ready c phase cset seen LookLeft got known.ready tt;
+          ready = stays_ready c phase cset seen 0 LookLeft got known.ready tt;
           phase_is = known.phase_is;
           set_is = known.set_is;
           facts = plain_facts u (got == 0) StoreEnd LookAsked (λ yes. known.facts) (λ no. known.facts);
           aims = plain_aim (got == 0) StoreEnd LookAsked _ [] tt tt;
+          extent_is = plain_extent (got == 0) StoreEnd LookAsked phase [] tt tt;
         })
         (plain_spot (got == 0) StoreEnd LookAsked [] refl refl)
 
@@ -156,7 +173,7 @@ module _ (c : Config) (words : List ℕ) (block : Plot) (ghost : Ghost) (g : Gra
     pub store_end : (got : ℕ) → Quiet StoreEnd got
     store_end got known =
         stores_word End 1 (then_at StoreEnd got) refl refl (λ k differs. refl) shared
-        (record { number_is = refl; ready = stays_ready c phase cset seen StoreEnd got known.ready tt; phase_is = known.phase_is; set_is = known.set_is; facts = known.facts; aims = tt }) refl
+        (record { number_is = refl; ready = stays_ready c phase cset seen 0 StoreEnd got known.ready tt; phase_is = known.phase_is; set_is = known.set_is; facts = known.facts; aims = tt; extent_is = tt }) refl
 
     -- while objects are marked or evacuated, or references updated, it claims a unit
     begins_facts : IsControl c words u (control_number c) (at_spot LookAsked) → (phase == 0) ≡ false → CanWork c u (control_number c) (units.begins phase cset)
@@ -178,12 +195,13 @@ module _ (c : Config) (words : List ℕ) (block : Plot) (ghost : Ghost) (g : Gra
         loads_word Ask (then_at LookAsked got) refl
         (record {
           number_is = refl;
-          ready = stays_ready c phase cset seen LookAsked got known.ready tt;
+          ready = stays_ready c phase cset seen 0 LookAsked got known.ready tt;
           phase_is = known.phase_is;
           set_is = known.set_is;
           facts = plain_facts u (begins_pause phase got) (Stopping stop.Raise) (unasked phase cset) (λ yes. (known.facts, asks_due got found known.phase_is yes))
               (λ no. plain_facts u (phase == 0) LookFree (Working (units.begins phase cset)) (λ yes. (known.facts, sym known.phase_is ∙ eqb-true _ _ yes)) (λ some. begins_facts known some));
           aims = plain_aim (begins_pause phase got) (Stopping stop.Raise) (unasked phase cset) _ [] tt (plain_aim (phase == 0) LookFree (Working (units.begins phase cset)) _ [] tt tt);
+          extent_is = plain_extent (begins_pause phase got) (Stopping stop.Raise) (unasked phase cset) phase [] tt (plain_extent (phase == 0) LookFree (Working (units.begins phase cset)) phase [] tt tt);
         })
         (plain_spot (begins_pause phase got) (Stopping stop.Raise) (unasked phase cset) [] refl (plain_spot (phase == 0) LookFree (Working (units.begins phase cset)) [] refl refl))
 
@@ -193,11 +211,12 @@ module _ (c : Config) (words : List ℕ) (block : Plot) (ghost : Ghost) (g : Gra
         loads_word Free (then_at LookFree got) refl
         (record {
           number_is = refl;
-          ready = stays_ready c phase cset seen LookFree got known.ready tt;
+          ready = stays_ready c phase cset seen 0 LookFree got known.ready tt;
           phase_is = known.phase_is;
           set_is = known.set_is;
           facts = plain_facts u (wants_pause c seen got) (Stopping stop.Raise) LookLeft (λ yes. (known.facts.0, early_due c u.memory (let none = known.facts.1 in omega (arith, none)))) (λ no. known.facts.0);
           aims = plain_aim (wants_pause c seen got) (Stopping stop.Raise) LookLeft _ [] tt tt;
+          extent_is = plain_extent (wants_pause c seen got) (Stopping stop.Raise) LookLeft phase [] tt tt;
         })
         (plain_spot (wants_pause c seen got) (Stopping stop.Raise) LookLeft [] refl refl)
 
@@ -211,11 +230,12 @@ module _ (c : Config) (words : List ℕ) (block : Plot) (ghost : Ghost) (g : Gra
         (step_with c u (control_number c) (units.touch_at c (control_number c) at) _ _ step
         (record {
           number_is = refl;
-          ready = stays_ready c phase cset seen (Working at) got known.ready (work_fits c u (control_number c) shared at ready.0 known.facts);
+          ready = stays_ready c phase cset seen 0 (Working at) got known.ready (work_fits c u (control_number c) shared at ready.0 known.facts);
           phase_is = known.phase_is ∙ sym step.keeps.marks.phase;
           set_is = known.set_is ∙ sym step.keeps.copies.cset;
           facts = unit_facts step.world (units.next_at c at got) step.own;
           aims = unit_aim (units.next_at c at got) _;
+          extent_is = unit_extent phase (units.next_at c at got);
         }))
         (unit_spot (units.next_at c at got))
 
@@ -223,7 +243,7 @@ module _ (c : Config) (words : List ℕ) (block : Plot) (ghost : Ghost) (g : Gra
     pub raise_pause : (got : ℕ) → Quiet (Stopping stop.Raise) got
     raise_pause got known =
         stores_word Pause 1 (then_at (Stopping stop.Raise) got) refl refl (λ k differs. refl) shared
-        (record { number_is = refl; ready = stays_ready c phase cset seen (Stopping stop.Raise) got known.ready tt; phase_is = known.phase_is; set_is = known.set_is; facts = known.facts; aims = tt }) refl
+        (record { number_is = refl; ready = stays_ready c phase cset seen 0 (Stopping stop.Raise) got known.ready tt; phase_is = known.phase_is; set_is = known.set_is; facts = known.facts; aims = tt; extent_is = tt }) refl
 
     -- it looks whether a seat is out
     pub check_seat : (seat got : ℕ) → Quiet (Stopping (stop.Check seat)) got
@@ -231,16 +251,17 @@ module _ (c : Config) (words : List ℕ) (block : Plot) (ghost : Ghost) (g : Gra
         loads_word (State seat) (then_at (Stopping (stop.Check seat)) got) (and_parts _ _ (and_parts _ _ known.ready).0).0
         (record {
           number_is = refl;
-          ready = stays_ready c phase cset seen (Stopping (stop.Check seat)) got known.ready tt;
+          ready = stays_ready c phase cset seen 0 (Stopping (stop.Check seat)) got known.ready tt;
           phase_is = known.phase_is;
           set_is = known.set_is;
-          facts = stopping_facts u (stop_next c (stop.Check seat) got) known.facts;
-          aims = stopping_aim (stop_next c (stop.Check seat) got) _;
+          facts = stopping_facts u phase (stop_next c (stop.Check seat) got) known.facts;
+          aims = stopping_aim phase (stop_next c (stop.Check seat) got) _;
+          extent_is = stopping_extent phase (stop_next c (stop.Check seat) got);
         })
-        (stopping_spot (stop_next c (stop.Check seat) got))
+        (stopping_spot phase (stop_next c (stop.Check seat) got))
 
     -- it lets the others go
     pub let_go : (got : ℕ) → Quiet Go got
     let_go got known =
         stores_word Pause 0 (then_at Go got) refl refl (λ k differs. refl) shared
-        (record { number_is = refl; ready = stays_ready c phase cset seen Go got known.ready tt; phase_is = known.phase_is; set_is = known.set_is; facts = known.facts; aims = tt }) refl
+        (record { number_is = refl; ready = stays_ready c phase cset seen 0 Go got known.ready tt; phase_is = known.phase_is; set_is = known.set_is; facts = known.facts; aims = tt; extent_is = tt }) refl

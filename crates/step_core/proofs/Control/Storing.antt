@@ -1,8 +1,8 @@
 -- The step by which the control stores a word of the new image. Nothing that counts changes by it, and where the word says to a
 -- mutator that the heap is full, the reply of its call is settled.
-use Rattle.std.proofs.Common.{◌≡◌, ◌≢◌, ℕ, ◌+◌, ◌<◌, inl, inr, ⊎_elim, Bool, true, false, List, [], ◌++◌, length, Some, None, refl, sym, ap, ◌∙◌, subst, arith}
+use Rattle.std.proofs.Common.{◌≡◌, ◌≢◌, ℕ, ◌+◌, ◌<◌, ◌≤◌, ◌⊎◌, inl, inr, ⊎_elim, Bool, true, false, List, [], ◌++◌, length, Some, None, refl, sym, ap, ◌∙◌, subst, arith}
 use Rattle.std.specs.Prelude.{◌==◌, ◌-◌, ◌&&◌, nat_lt, slice_get, slice_index, slice_set, if◌then◌else◌}
-use Rattle.std.proofs.lemmas.Bool.{cases_eq, and_parts, eqb-true, ne_eqb, eq-eqb, and_from, cond-true, cond-false, false≢true, ltb-true, ltb-false, le-leb}
+use Rattle.std.proofs.lemmas.Bool.{cases_eq, cases_lt, and_parts, eqb-true, ne_eqb, eq-eqb, and_from, cond-true, cond-false, false≢true, true≢false, ltb-true, ltb-false, le-leb}
 use Rattle.std.proofs.lemmas.Option.{same_Some}
 use Rattle.std.proofs.lemmas.List.{append-nil, get_or-set_same, get_or-set_other}
 use Rattle.std.proofs.lemmas.List.Elements.{All-nil}
@@ -21,24 +21,29 @@ use Rattle.mutator.specs.Rows.{Mutating}
 use Rattle.heap_world.specs.World.{Ghost, World, Plot, Shared}
 use Rattle.heap_world.specs.Change.{Change, image_words}
 use Rattle.heap_world.proofs.Keeping.{rely_same}
+use Rattle.control_rows.specs.declared.extent.Extent.{Extent}
+use Rattle.control_rows.specs.Extent.{counts, next_stored, Counting}
+use Rattle.control_rows.specs.declared.spot.ControlSpot.{ControlSpot}
 use Rattle.control_rows.specs.declared.spot.ControlSpot.TheVariants.{StoreWord, Go}
 use Rattle.control_rows.specs.Rows.{Controlling, control_next}
 use Rattle.control_rows.specs.Ready.{is_ready}
 use Rattle.control_rows.proofs.Ready.{stays_ready}
+use Rattle.control_rows.proofs.Extents.{IsStoredNext, stored_next_is}
 use Rattle.step_core.specs.Actor.{mutating, controlling, Actor, entries_of}
 use Rattle.step_core.specs.Machines.{command_at, told_word}
-use Rattle.step_core.specs.Settled.{mixed, stored_image, settled_by, control_number}
+use Rattle.step_core.specs.Settled.{is_counting, mixed, stored_image, settled_by, control_number}
 use Rattle.step_core.proofs.Machines.Stepped.{Mine}
 use Rattle.step_core.specs.Threads.{IsSettled}
 use Rattle.step_core.proofs.History.Entries.{entries_settled, own_more, other_more}
-use Rattle.step_core.proofs.Machines.Owed.{IsThread, IsAim, ControlFacts, IsControl, IsMachine, AreRead, PromisedToMutators, Owes}
+use Rattle.step_core.proofs.Machines.Owed.{IsThread, IsAim, IsOfExtent, ControlFacts, IsControl, IsMachine, AreRead, PromisedToMutators, Owes}
 use Rattle.step_core.proofs.Control.Images.{image_reads, mixed_whole, mixed_stored}
 use Rattle.step_core.proofs.Control.Pauses.{no_other_control}
 use Rattle.step_core.proofs.Mutators.Refusing.{refused_new, refused_mine}
 use Rattle.step_core.proofs.Machines.Roles.{machine_stays, mutator_there}
 
-module _ (change : Change) (c : Config) (words : List ℕ) (block : Plot) (ghost : Ghost) (g : Graph) (past : List Entry) (machines : List Actor) (image : List ℕ) (index seen phase cset hints : ℕ) (command : Command) (calls : List Entry)
-    (ready : is_ready c (StoreWord index) ≡ true) (long : length words ≡ table_words c) (image_long : length image ≡ image_words c) (read : AreRead c words image index)
+module _ (change : Change) (c : Config) (words : List ℕ) (block : Plot) (ghost : Ghost) (g : Graph) (past : List Entry) (machines : List Actor) (extent : Extent) (image : List ℕ) (index seen phase cset hints : ℕ) (command : Command) (calls : List Entry)
+    (ready : is_ready c (StoreWord index extent) ≡ true) (long : length words ≡ table_words c) (image_long : length image ≡ image_words c)
+    (read : AreRead c words (record { extent = extent; image = image }) index) (here : counts c extent image index ≡ true)
     (seats : length machines ≡ seat_count c.mutators c.helpers) where
   -- where the word stands, what was there, and what is stored
   abbrev at : ℕ
@@ -54,13 +59,17 @@ module _ (change : Change) (c : Config) (words : List ℕ) (block : Plot) (ghost
   abbrev words_then : List ℕ
   words_then = slice_set words at value
 
+  -- the image as it counts
+  abbrev now : Counting
+  now = record { extent = extent; image = image }
+
   -- the world, in which the image counts
   abbrev u : World
-  u = record { memory = mixed c words image; block = block; ghost = ghost; graph = g }
+  u = record { memory = mixed c words now; block = block; ghost = ghost; graph = g }
 
   -- the control, and the control then
   abbrev pub storing : Controlling
-  storing = record { spot = StoreWord index; seen = seen; phase = phase; cset = cset; hints = hints; image = image }
+  storing = record { spot = StoreWord index extent; seen = seen; phase = phase; cset = cset; hints = hints; image = image }
 
   abbrev control_then : Controlling
   control_then = control_next change c storing raw
@@ -74,27 +83,48 @@ module _ (change : Change) (c : Config) (words : List ℕ) (block : Plot) (ghost
   inside : at < table_words c
   inside = (let less = below in omega (arith, less))
 
-  -- one word more of the image is the table's
-  read_more : AreRead c words_then image (index + 1)
-  read_more i less = ⊎_elim
+  -- the word that is stored next
+  abbrev next : ℕ
+  next = next_stored c extent image index
+
+  next_is : IsStoredNext c extent image index next
+  next_is = stored_next_is c extent image index below
+
+  -- of the words of the image that count those up to the next one are the table's
+  read_more : AreRead c words_then now next
+  read_more i less counted = ⊎_elim
       (λ (same : i ≡ index).
       ap (λ k. slice_index image k) same
       ∙ sym (get_or-set_same words at value 0 (let within = inside in omega (arith, within, long)))
       ∙ ap (λ k. slice_index words_then (image_start c + k)) (sym same))
-      (λ (other : i ≡ index → ⊥). read i (omega (arith, less, other)) ∙ sym (get_or-set_other words at (image_start c + i) value 0 (λ e. other (omega (arith, e)))))
+      (λ (other : i ≡ index → ⊥).
+      let before : i < index = by_order i other less counted (cases_lt i index) in
+      read i before counted ∙ sym (get_or-set_other words at (image_start c + i) value 0 (λ e. other (omega (arith, e)))))
       (cases_eq i index)
+    where
+      by_order : (i : ℕ) → (i ≡ index → ⊥) → i < next → counts c extent image i ≡ true → (i < index) ⊎ (index ≤ i) → i < index
+      by_order i other less counted (inl before) = before
+      by_order i other less counted (inr behind) = absurd (true≢false (sym counted ∙ next_is.between i (omega (arith, other, behind)) less))
 
   -- what counts then is what counted
-  pub counts_then : (b : Bool) → nat_lt (index + 1) (image_words c) ≡ b → mixed c words image ≡ settled_by c words_then (stored_image (if b then StoreWord (index + 1) else Go) (if b then image else []))
-  counts_then true more = sym (mixed_stored c words image at value (omega arith))
-  counts_then false all =
-      sym (mixed_stored c words image at value (omega arith))
-      ∙ mixed_whole c words_then image (λ i less. read_more i (let last = ltb-false _ _ all in omega (arith, less, last)))
+  abbrev spot_then : Bool → ControlSpot
+  spot_then b = if b then StoreWord next extent else Go
+
+  same_counts : mixed c words_then now ≡ mixed c words now
+  same_counts = mixed_stored c words now at value (omega arith) (ap (counts c extent image) (omega arith) ∙ here)
+
+  pub counts_then : (b : Bool) → nat_lt next (image_words c) ≡ b → mixed c words now ≡ settled_by c words_then (stored_image (spot_then b) (if b then image else []))
+  counts_then true more = sym same_counts
+  counts_then false all = sym same_counts ∙ mixed_whole c words_then now (λ i less counted. read_more i (let last = ltb-false _ _ all in omega (arith, less, last)) counted)
 
   -- the control knows how far it is
-  aims_then : (b : Bool) → IsAim c words_then (if b then StoreWord (index + 1) else Go) (if b then image else [])
-  aims_then true = (image_long, read_more)
-  aims_then false = tt
+  aims_then : (b : Bool) → nat_lt next (image_words c) ≡ b → IsAim c words_then (spot_then b) (if b then image else [])
+  aims_then true more = (image_long, read_more, next_is.here (ltb-true _ _ more))
+  aims_then false all = tt
+
+  extent_then : (b : Bool) → IsOfExtent c phase (spot_then b) (if b then image else [])
+  extent_then true = tt
+  extent_then false = tt
 
   -- the name of the word
   abbrev name : Word
@@ -115,13 +145,13 @@ module _ (change : Change) (c : Config) (words : List ℕ) (block : Plot) (ghost
   view_raw = view_word c words name name_is_word ∙ ap (λ k. slice_index words k) name_at
 
   -- what counts of the word is what is stored
-  pub now_is : mixed c words image name ≡ value
+  pub now_is : mixed c words now name ≡ value
   now_is =
       let in_image : is_image name ≡ true = is_image-word_at c name name_is_word ∙ (let place = name_at in le-leb _ _ (omega (arith, place))) in
-      cond-true (is_image name) _ _ in_image
+      let place : word_at c name - image_start c ≡ index = (let there = name_at in omega (arith, there)) in
+      cond-true (is_counting c now name) _ _ (and_from (is_image name) _ in_image (ap (counts c extent image) place ∙ here))
       ∙ image_reads c image name (is_word_from c name name_is_word) in_image
-      ∙ ap (λ k. slice_index image (k - image_start c)) name_at
-      ∙ ap (λ k. slice_index image k) (omega arith)
+      ∙ ap (λ k. slice_index image k) place
 
   -- what holds of the machines
   abbrev pub AllKnown : Type 0
@@ -146,18 +176,19 @@ module _ (change : Change) (c : Config) (words : List ℕ) (block : Plot) (ghost
     Stored settles = Owes c words words_then u past (control_number c) machines (settled_by c words_then (stored_image control_then.spot control_then.image)) settles new
 
     -- the control stores the next word, or has stored all
-    facts_then : (b : Bool) → ControlFacts c u (control_number c) (if b then StoreWord (index + 1) else Go)
+    facts_then : (b : Bool) → ControlFacts c u (control_number c) (spot_then b)
     facts_then true = stands.facts
     facts_then false = stands.facts
 
     own_then : IsControl c words_then u (control_number c) control_then
     own_then = record {
       number_is = refl;
-      ready = stays_ready c phase cset seen (StoreWord index) raw ready tt;
+      ready = stays_ready c phase cset seen next (StoreWord index extent) raw ready tt;
       phase_is = stands.phase_is;
       set_is = stands.set_is;
-      facts = facts_then (nat_lt (index + 1) (image_words c));
-      aims = aims_then (nat_lt (index + 1) (image_words c));
+      facts = facts_then (nat_lt next (image_words c));
+      aims = aims_then (nat_lt next (image_words c)) refl;
+      extent_is = extent_then (nat_lt next (image_words c));
     }
 
     -- a store that settles nothing
@@ -165,7 +196,7 @@ module _ (change : Change) (c : Config) (words : List ℕ) (block : Plot) (ghost
         → IsMachine c words_then u (of_thread (past ++ []) (k + 1)) k b b.machine) → Stored []
     quiet_store others = record {
       world = u;
-      memory_is = counts_then (nat_lt (index + 1) (image_words c)) refl;
+      memory_is = counts_then (nat_lt next (image_words c)) refl;
       graph_is = refl;
       legal = tt;
       entries = All-nil (IsSettled c.mutators);
@@ -195,8 +226,8 @@ module _ (change : Change) (c : Config) (words : List ℕ) (block : Plot) (ghost
       raw_answer : view c words (Answer t) ≡ raw
       raw_answer = ap (view c words) (sym is_answer) ∙ view_raw
 
-      now_answer : mixed c words image (Answer t) ≡ value
-      now_answer = ap (mixed c words image) (sym is_answer) ∙ now_is
+      now_answer : mixed c words now (Answer t) ≡ value
+      now_answer = ap (mixed c words now) (sym is_answer) ∙ now_is
 
       -- the mutator of the answer, once its answer stands in the table
       thread_then : (b : Actor) (m : Mutating) → ((raw ≡ 0) × (value ≡ 1) → ⊥) → IsThread c words u (of_thread past (t + 1)) t b m → IsThread c words_then u (of_thread (past ++ []) (t + 1)) t b m
@@ -206,11 +237,11 @@ module _ (change : Change) (c : Config) (words : List ℕ) (block : Plot) (ghost
         valid = thread.valid;
         mine = thread.mine;
         seen = record {
-          null = λ now. own_answer ∙ sym now_answer ∙ now;
-          full = λ now. ⊎_elim
-              (λ (both : (view c words (Answer t) ≡ 1) × (thread.fixed ≡ Some Full)). inl (own_answer ∙ sym now_answer ∙ now, both.1))
-              (λ (none : (view c words (Answer t) ≡ 0) × (thread.fixed ≡ None)). absurd (not_settled (sym raw_answer ∙ none.0, sym now_answer ∙ now)))
-              (thread.seen.full now);
+          null = λ zero_now. own_answer ∙ sym now_answer ∙ zero_now;
+          full = λ one_now. ⊎_elim
+              (λ (both : (view c words (Answer t) ≡ 1) × (thread.fixed ≡ Some Full)). inl (own_answer ∙ sym now_answer ∙ one_now, both.1))
+              (λ (none : (view c words (Answer t) ≡ 0) × (thread.fixed ≡ None)). absurd (not_settled (sym raw_answer ∙ none.0, sym now_answer ∙ one_now)))
+              (thread.seen.full one_now);
           given = λ more is. (let same = own_answer ∙ sym now_answer in omega (arith, more, is, same));
         };
         short = thread.short;
@@ -221,16 +252,16 @@ module _ (change : Change) (c : Config) (words : List ℕ) (block : Plot) (ghost
       refused_then : (b : Actor) (m : Mutating) → raw ≡ 0 → value ≡ 1 → (thread : IsThread c words u (of_thread past (t + 1)) t b m) → thread.fixed ≡ None
           → IsThread c words_then u (of_thread (past ++ entries_of t b.command (Some Full)) (t + 1)) t b m
       refused_then b m none one thread unsettled =
-          let now : mixed c words image (Answer t) ≡ 1 = now_answer ∙ one in
+          let at_1 : mixed c words now (Answer t) ≡ 1 = now_answer ∙ one in
           record {
             fixed = Some Full;
             number_is = thread.number_is;
             valid = thread.valid;
-            mine = refused_mine c u m.seat m.made m.kept b.command (subst (λ j. mixed c words image (Answer j) ≡ 1) (sym thread.number_is) now) m.spot (subst (λ f. Mine c u m b.command f) unsettled thread.mine);
+            mine = refused_mine c u m.seat m.made m.kept b.command (subst (λ j. mixed c words now (Answer j) ≡ 1) (sym thread.number_is) at_1) m.spot (subst (λ f. Mine c u m b.command f) unsettled thread.mine);
             seen = record {
-              null = λ zero_now. absurd (omega (arith, now, zero_now));
+              null = λ zero_now. absurd (omega (arith, at_1, zero_now));
               full = λ e. inl (own_answer ∙ one, refl);
-              given = λ more. absurd (omega (arith, now, more));
+              given = λ more. absurd (omega (arith, at_1, more));
             };
             short = λ e settled. absurd (cc (settled));
             entries_are = own_more past t b.command (Some Full) ∙ ap (λ es. es ++ entries_of t b.command (Some Full)) (thread.entries_are ∙ ap (λ f. b.calls ++ entries_of t b.command f) unsettled ∙ append-nil b.calls);
@@ -257,12 +288,12 @@ module _ (change : Change) (c : Config) (words : List ℕ) (block : Plot) (ghost
           (λ (not_yet : (view c words (Answer t) ≡ 0) × (thread.fixed ≡ None)). not_yet.1)
           (thread.seen.full (now_answer ∙ one)) in
           let own : Mine c u m b.command None = subst (λ f. Mine c u m b.command f) unsettled thread.mine in
-          let now : mixed c words image (Answer m.seat) ≡ 1 = ap (λ j. mixed c words image (Answer j)) thread.number_is ∙ now_answer ∙ one in
+          let at_1 : mixed c words now (Answer m.seat) ≡ 1 = ap (λ j. mixed c words now (Answer j)) thread.number_is ∙ now_answer ∙ one in
           record {
             world = u;
-            memory_is = counts_then (nat_lt (index + 1) (image_words c)) refl;
+            memory_is = counts_then (nat_lt next (image_words c)) refl;
             graph_is = refl;
-            legal = (inr (inl (refused_new c u m.seat m.made m.kept b.command now m.spot own, refl, refl)), tt);
+            legal = (inr (inl (refused_new c u m.seat m.made m.kept b.command at_1 m.spot own, refl, refl)), tt);
             entries = entries_settled c.mutators t b.command (Some Full) within thread.valid;
             shared = shared;
             promised_to = promised_to;

@@ -1,5 +1,5 @@
 -- The word of the end: a step of a mutator leaves it as it is, and one of the control writes it where it ends.
-use Rattle.std.proofs.Common.{◌≡◌, ◌≢◌, ℕ, ◌+◌, ◌⊎◌, Bool, true, false, inl, inr, refl, arith}
+use Rattle.std.proofs.Common.{◌≡◌, ◌≢◌, ℕ, ◌⊎◌, Bool, true, false, inl, inr, refl, arith}
 use Rattle.std.specs.Prelude.{◌==◌, nat_lt, if◌then◌else◌}
 use Rattle.std.proofs.lemmas.Bool.{and_parts}
 use Rattle.heap_words.specs.declared.config.Config.{Config}
@@ -32,7 +32,9 @@ use Rattle.mutator.specs.Rows.{Mutating, touch_at, first_touch}
 use Rattle.mutator.specs.Fit.{numbers_fit}
 use Rattle.control_rows.specs.declared.spot.ControlSpot.{ControlSpot}
 use Rattle.control_rows.specs.declared.spot.ControlSpot.TheVariants as control
-use Rattle.control_rows.specs.Rows.{control_seat, is_gone, access_with, next_spot, stopping, after_unit, begins_pause, unasked, wants_pause}
+use Rattle.control_rows.specs.Rows.{control_seat, is_gone, access_with, next_spot, stopping, after_unit, after_load, begins_pause, unasked, wants_pause}
+use Rattle.control_rows.specs.declared.extent.Extent.{Extent}
+use Rattle.control_rows.specs.Extent.{next_loaded, extent_after}
 use Rattle.control_rows.specs.Ready.{is_ready}
 use Rattle.step_core.proofs.Handshake.Mutator.{StaysIn, stays_in, waits_in, IsGiven, given_order, given_ended}
 use Rattle.step_core.proofs.Handshake.Control.{unit_above}
@@ -93,23 +95,26 @@ neither : (b : Bool) (x y : ControlSpot) → is_gone x ≡ false → is_gone y �
 neither true x y is_x is_y = is_x
 neither false x y is_x is_y = is_y
 
-stopping_goes : (at : StopSpot) → is_gone (stopping at) ≡ false
-stopping_goes stop.Raise = refl
-stopping_goes (stop.Check seat) = refl
-stopping_goes stop.Stopped = refl
+stopping_goes : (c : Config) (phase : ℕ) (at : StopSpot) → is_gone (stopping c phase at) ≡ false
+stopping_goes c phase stop.Raise = refl
+stopping_goes c phase (stop.Check seat) = refl
+stopping_goes c phase stop.Stopped = refl
+
+loads_go : (c : Config) (extent : Extent) (index : ℕ) → is_gone (after_load c extent index) ≡ false
+loads_go c extent index = neither (nat_lt (next_loaded c extent index) (image_words c)) (control.LoadWord (next_loaded c extent index) extent) (control.StoreWord 0 extent) refl refl
 
 unit_goes : (at : UnitSpot) → is_gone (after_unit at) ≡ false
 unit_goes (unit.Ended Worked) = refl
 unit_goes (unit.Ended NoneLeft) = refl
 unit_goes _ = refl
 
-module _ (c : Config) (phase cset seen value : ℕ) where
+module _ (c : Config) (phase cset seen next value : ℕ) where
   stop_not : (at : StopSpot) → (is_load (access_with c (control.Stopping at) value) ≡ true) ⊎ (table_index (access_with c (control.Stopping at) value) ≢ word_at c End)
   stop_not stop.Raise = inr (λ e. omega (arith, e))
   stop_not _ = inl refl
 
   -- a step of the control writes the word where it ends, and only there
-  pub control_keeps_end : (spot : ControlSpot) → is_ready c spot ≡ true → KeepsEnd c (is_gone spot) (access_with c spot value) (λ got. is_gone (next_spot c phase cset seen spot got))
+  pub control_keeps_end : (spot : ControlSpot) → is_ready c spot ≡ true → KeepsEnd c (is_gone spot) (access_with c spot value) (λ got. is_gone (next_spot c phase cset seen next spot got))
   control_keeps_end control.LookLeft ready = inr (record { not_written = inl refl; same = λ got. neither (got == 0) control.StoreEnd control.LookAsked refl refl })
   control_keeps_end control.StoreEnd ready = inl (record { access_is = refl; has_ended = λ got. refl })
   control_keeps_end control.LookAsked ready = inr (record {
@@ -120,9 +125,9 @@ module _ (c : Config) (phase cset seen value : ℕ) where
   control_keeps_end (control.Working at) ready =
       let above = unit_above c (control_seat c) at (omega arith) (and_parts _ _ ready).0 in
       inr (record { not_written = inr (λ e. omega (arith, e, above)); same = λ got. unit_goes (units.next_at c at got) })
-  control_keeps_end (control.Stopping at) ready = inr (record { not_written = stop_not at; same = λ got. stopping_goes (stop_next c at got) })
-  control_keeps_end (control.LoadWord index) ready = inr (record { not_written = inl refl; same = λ got. neither (nat_lt (index + 1) (image_words c)) (control.LoadWord (index + 1)) (control.StoreWord 0) refl refl })
-  control_keeps_end (control.StoreWord index) ready =
-      inr (record { not_written = inr (λ e. omega (arith, e)); same = λ got. neither (nat_lt (index + 1) (image_words c)) (control.StoreWord (index + 1)) control.Go refl refl })
+  control_keeps_end (control.Stopping at) ready = inr (record { not_written = stop_not at; same = λ got. stopping_goes c phase (stop_next c at got) })
+  control_keeps_end (control.LoadWord index extent) ready = inr (record { not_written = inl refl; same = λ got. loads_go c (extent_after phase index extent got) index })
+  control_keeps_end (control.StoreWord index extent) ready =
+      inr (record { not_written = inr (λ e. omega (arith, e)); same = λ got. neither (nat_lt next (image_words c)) (control.StoreWord next extent) control.Go refl refl })
   control_keeps_end control.Go ready = inr (record { not_written = inr (λ e. omega (arith, e)); same = λ got. refl })
   control_keeps_end control.Gone ready = inr (record { not_written = inl refl; same = λ got. refl })

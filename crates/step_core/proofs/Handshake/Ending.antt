@@ -8,7 +8,8 @@ use Rattle.steps_base.specs.Steps.{Stage, Event, act, go}
 use Rattle.shen_graph.specs.Graph.{Graph}
 use Rattle.shen_graph.specs.declared.order.Order.{Order}
 use Rattle.shen_graph.specs.History.{Entry}
-use Rattle.heap_world.specs.Change.{Change, IsPause}
+use Rattle.heap_world.specs.Change.{Change}
+use Rattle.control_rows.specs.ByParts.{PausesByParts}
 use Rattle.handshake.specs.Ending.{EventKeepsEnd, EachKeepsEnd, IsEndWord}
 use Rattle.handshake.proofs.Ending.{known_run}
 use Rattle.control_rows.specs.Rows.{is_gone}
@@ -27,7 +28,7 @@ unfolding kind
 event_keeps_end change c s e can a is = machine_keeps_end change c e.order a.machine is.takes (can a is.here)
 
 -- and each event of a run
-each_keeps_end : (change : Change) → IsPause change → (c : Config) (g : Graph) (s : Stage Actor) (past : List Entry) (es : List (Event Order)) → Goes c g s past
+each_keeps_end : (change : Change) → PausesByParts change → (c : Config) (g : Graph) (s : Stage Actor) (past : List Entry) (es : List (Event Order)) → Goes c g s past
     → EachKeepsEnd c (kind change c) has_ended s es
 each_keeps_end change law c g s past [] goes = tt
 each_keeps_end change law c g s past (e ∷ es) goes = (
@@ -41,7 +42,7 @@ idle_goes phase cset g number (controlling k) idle = ap is_gone idle.0
 idle_goes phase cset g number _ idle = refl
 
 -- The word of the end is 1 where the control has ended and 0 where it has not, in each stage that events lead to from one in which it is 0.
-pub run_ends : (change : Change) → IsPause change → (c : Config) (s : Stage Actor) (g : Graph) → Begins c s g → view c s.words End ≡ 0 → (events : List (Event Order))
+pub run_ends : (change : Change) → PausesByParts change → (c : Config) (s : Stage Actor) (g : Graph) → Begins c s g → view c s.words End ≡ 0 → (events : List (Event Order))
     → IsEndWord c has_ended (go (kind change c) s events)
 run_ends change law c s g begins zero events =
     known_run c (kind change c) has_ended s events

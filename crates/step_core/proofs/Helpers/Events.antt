@@ -16,6 +16,7 @@ use Rattle.handshake.specs.Standing.{is_within}
 use Rattle.helper.specs.Rows.{Helping, is_gone, help_touch}
 use Rattle.heap_world.specs.World.{World}
 use Rattle.heap_world.specs.Change.{Change}
+use Rattle.control_rows.specs.Extent.{Counting}
 use Rattle.step_core.specs.Actor.{helping, Actor}
 use Rattle.step_core.specs.Machines.{took_of, kind}
 use Rattle.step_core.specs.Settled.{settled, settled_by, control_number}
@@ -54,7 +55,7 @@ module _ (change : Change) (c : Config) (g : Graph) (s : Stage Actor) (past : Li
   word = is_word_from c t.word (help_word c u number h follows.shared helper)
 
   -- while an image counts it is outside, and its access is of no word of the image
-  left_image : (image : List ℕ) → held_image c s ≡ Some image → is_image t.word ≡ false
+  left_image : (image : Counting) → held_image c s ≡ Some image → is_image t.word ≡ false
   left_image image held = help_leaves_image c h.seat h.spot (outside_held c s shaken image held number before below here)
 
   abbrev words_then : List ℕ

@@ -11,6 +11,7 @@ use Rattle.shen_graph.specs.Graph.{Graph}
 use Rattle.shen_graph.specs.History.{Entry, of_thread}
 use Rattle.heap_world.specs.World.{Ghost, World, Plot, promised, Shared}
 use Rattle.heap_world.specs.Part.{PartStep}
+use Rattle.control_rows.specs.Extent.{Counting}
 use Rattle.control_rows.specs.Rows.{Controlling}
 use Rattle.step_core.specs.Actor.{controlling, Actor}
 use Rattle.step_core.specs.Settled.{settled_by}
@@ -28,8 +29,8 @@ promises_stay c u seat t facts promised_to step a other more there = ⊎_elim
     (λ (differs : other ≢ seat). promised_to a other more ((step.others other differs).no_promises a more there))
     (cases_eq other seat)
 
-module _ (c : Config) (words : List ℕ) (o : Option (List ℕ)) (block : Plot) (ghost : Ghost) (g : Graph) (past : List Entry) (number : ℕ) (machines : List Actor) (t : Touch)
-    (long : length words ≡ table_words c) (is : is_word c t.word ≡ true) (held : (image : List ℕ) → o ≡ Some image → is_image t.word ≡ false) (new : Actor) where
+module _ (c : Config) (words : List ℕ) (o : Option Counting) (block : Plot) (ghost : Ghost) (g : Graph) (past : List Entry) (number : ℕ) (machines : List Actor) (t : Touch)
+    (long : length words ≡ table_words c) (is : is_word c t.word ≡ true) (held : (image : Counting) → o ≡ Some image → is_image t.word ≡ false) (new : Actor) where
   abbrev words_then : List ℕ
   words_then = words_after c words t
 

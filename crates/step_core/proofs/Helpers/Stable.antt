@@ -36,7 +36,7 @@ pub control_stays : (c : Config) (u w : World) (seat : ℕ) (spot : ControlSpot)
 control_stays c u w seat (control.Working at) shared rely facts = work_stays c u w seat at shared rely facts
 control_stays c u w seat control.LookFree shared rely facts = (rests_on c u w seat rely facts.0, rely.marks.keeps.phase ∙ facts.1)
 control_stays c u w seat (control.Stopping at) shared rely facts = (rests_on c u w seat rely facts.0, due_stays c u w seat rely facts.1)
-control_stays c u w seat (control.LoadWord index) shared rely facts = (rests_on c u w seat rely facts.0, due_stays c u w seat rely facts.1)
+control_stays c u w seat (control.LoadWord index extent) shared rely facts = (rests_on c u w seat rely facts.0, due_stays c u w seat rely facts.1)
 control_stays c u w seat _ shared rely facts = rests_on c u w seat rely facts
 
 -- a helper that is not in the heap rests

@@ -29,8 +29,10 @@ use Rattle.mutator.specs.Orders.{is_between_calls}
 use Rattle.mutator.specs.Rows.{Mutating}
 use Rattle.heap_world.specs.World.{World}
 use Rattle.heap_world.specs.Asking.{nothing, asks, refused, given, IsAsked}
-use Rattle.heap_world.specs.Change.{Change, IsPause}
+use Rattle.heap_world.specs.Change.{Change}
+use Rattle.control_rows.specs.ByParts.{PausesByParts}
 use Rattle.control_rows.specs.declared.spot.ControlSpot.{ControlSpot}
+use Rattle.control_rows.specs.declared.extent.Extent.{Extent}
 use Rattle.control_rows.specs.declared.spot.ControlSpot.TheVariants.{StoreWord}
 use Rattle.step_core.specs.Actor.{Machine, mutating, controlling, Actor, entry_of, entries_of, command_by}
 use Rattle.step_core.specs.Begins.{Begins}
@@ -184,12 +186,12 @@ module _ (change : Change) (c : Config) (g : Graph) (s : Stage Actor) (past : Li
   none = quiet [] (All-nil (λ e. e.reply ≢ Full))
 
   -- a word of the new image that the control stores
-  module _ (number index seen phase cset hints : ℕ) (image : List ℕ) (command : Command) (calls : List Entry)
-      (here : slice_get s.machines number ≡ Some (record { machine = controlling (record { spot = StoreWord index; seen = seen; phase = phase; cset = cset; hints = hints; image = image }); command = command; calls = calls })) where
-    control_facts : IsControl c s.words now number (record { spot = StoreWord index; seen = seen; phase = phase; cset = cset; hints = hints; image = image })
-    control_facts = goes.follows.machines number (record { machine = controlling (record { spot = StoreWord index; seen = seen; phase = phase; cset = cset; hints = hints; image = image }); command = command; calls = calls }) here
+  module _ (number index seen phase cset hints : ℕ) (extent : Extent) (image : List ℕ) (command : Command) (calls : List Entry)
+      (here : slice_get s.machines number ≡ Some (record { machine = controlling (record { spot = StoreWord index extent; seen = seen; phase = phase; cset = cset; hints = hints; image = image }); command = command; calls = calls })) where
+    control_facts : IsControl c s.words now number (record { spot = StoreWord index extent; seen = seen; phase = phase; cset = cset; hints = hints; image = image })
+    control_facts = goes.follows.machines number (record { machine = controlling (record { spot = StoreWord index extent; seen = seen; phase = phase; cset = cset; hints = hints; image = image }); command = command; calls = calls }) here
 
-    held : held_image c s ≡ Some image
+    held : held_image c s ≡ Some (record { extent = extent; image = image })
     held = ap (λ n. image_of (slice_get s.machines n)) (sym control_facts.number_is) ∙ ap image_of here
 
     abbrev at : ℕ
@@ -201,11 +203,11 @@ module _ (change : Change) (c : Config) (g : Graph) (s : Stage Actor) (past : Li
         let block = goes.follows.block in
         let ghost = goes.follows.ghost in
         let within : t < c.mutators = subst (λ w. IsWord c w) is
-        (storing.name_is_word change c s.words block ghost (after g past) past s.machines image index seen phase cset hints command calls control_facts.ready goes.follows.words control_facts.aims.0 control_facts.aims.1 goes.follows.seats) in
+        (storing.name_is_word change c s.words block ghost (after g past) past s.machines extent image index seen phase cset hints command calls control_facts.ready goes.follows.words control_facts.aims.0 control_facts.aims.1 control_facts.aims.2 goes.follows.seats) in
         let raw : view c s.words (Answer t) ≡ slice_index s.words at = ap (view c s.words) (sym is)
-        ∙ storing.view_raw change c s.words block ghost (after g past) past s.machines image index seen phase cset hints command calls control_facts.ready goes.follows.words control_facts.aims.0 control_facts.aims.1 goes.follows.seats in
-        let value : settled c s (Answer t) ≡ slice_index image index = ap (λ o. settled_by c s.words o (Answer t)) held ∙ ap (mixed c s.words image) (sym is)
-        ∙ storing.now_is change c s.words block ghost (after g past) past s.machines image index seen phase cset hints command calls control_facts.ready goes.follows.words control_facts.aims.0 control_facts.aims.1 goes.follows.seats in
+        ∙ storing.view_raw change c s.words block ghost (after g past) past s.machines extent image index seen phase cset hints command calls control_facts.ready goes.follows.words control_facts.aims.0 control_facts.aims.1 control_facts.aims.2 goes.follows.seats in
+        let value : settled c s (Answer t) ≡ slice_index image index = ap (λ o. settled_by c s.words o (Answer t)) held ∙ ap (mixed c s.words (record { extent = extent; image = image })) (sym is)
+        ∙ storing.now_is change c s.words block ghost (after g past) past s.machines extent image index seen phase cset hints command calls control_facts.ready goes.follows.words control_facts.aims.0 control_facts.aims.1 control_facts.aims.2 goes.follows.seats in
         let there = mutator_there c s.words now past s.machines goes.follows.seats goes.follows.machines t within in
         subst (λ k. Crowded (entries_of t k (if (slice_index s.words at == 0) && (slice_index image index == 1) then Some Full else None))) (ap command_at (sym there.2))
         (by_test there.0 there.1 t there.4 raw value ((slice_index s.words at == 0) && (slice_index image index == 1)) refl)
@@ -216,7 +218,7 @@ module _ (change : Change) (c : Config) (g : Graph) (s : Stage Actor) (past : Li
         by_test a m t thread raw value true test =
             let both = and_parts (slice_index s.words at == 0) (slice_index image index == 1) test in
             crowded_one c.regions c.region_words g (scripts_begun c s) past crowded (entry_of t a.command Full)
-            (refused_crowded c g s past goes.follows (outside_held c s goes.shaken image held) t a m thread (value ∙ eqb-true _ _ both.1) (raw ∙ eqb-true _ _ both.0))
+            (refused_crowded c g s past goes.follows (outside_held c s goes.shaken (record { extent = extent; image = image }) held) t a m thread (value ∙ eqb-true _ _ both.1) (raw ∙ eqb-true _ _ both.0))
 
     -- into any word
     by_word : (w : Word) → name_of c at ≡ w → Crowded (told_word s.machines w (slice_index s.words at) (slice_index image index))
@@ -226,7 +228,7 @@ module _ (change : Change) (c : Config) (g : Graph) (s : Stage Actor) (past : Li
   -- a step of the control
   by_spot : (number seen phase cset hints : ℕ) (image : List ℕ) (command : Command) (calls : List Entry) (spot : ControlSpot)
       → slice_get s.machines number ≡ Some (record { machine = controlling (record { spot = spot; seen = seen; phase = phase; cset = cset; hints = hints; image = image }); command = command; calls = calls }) → Crowded (told_storing c s spot image)
-  by_spot number seen phase cset hints image command calls (StoreWord index) here = by_word number index seen phase cset hints image command calls here (name_of c (image_start c + index)) refl
+  by_spot number seen phase cset hints image command calls (StoreWord index extent) here = by_word number index seen phase cset hints extent image command calls here (name_of c (image_start c + index)) refl
   by_spot number seen phase cset hints image command calls _ here = none
 
   -- a step of any machine
@@ -249,7 +251,7 @@ module _ (change : Change) (c : Config) (g : Graph) (s : Stage Actor) (past : Li
       by_machine (Some a) here = by_order a (takes_of a.machine e.order) here
 
 -- a run from a stage that follows a history of such entries
-goes_crowded : (change : Change) → IsPause change → (c : Config) (g : Graph) (s : Stage Actor) (past : List Entry) (es : List (Event Order)) → Goes c g s past → AreCrowded c.regions c.region_words g (scripts_begun c s) past
+goes_crowded : (change : Change) → PausesByParts change → (c : Config) (g : Graph) (s : Stage Actor) (past : List Entry) (es : List (Event Order)) → Goes c g s past → AreCrowded c.regions c.region_words g (scripts_begun c s) past
     → AreCrowded c.regions c.region_words g (scripts_begun c (go (kind change c) s es)) (past ++ history change c s es)
 unfolding go history
 goes_crowded change law c g s past [] goes crowded = subst (λ h. AreCrowded c.regions c.region_words g (scripts_begun c s) h) (sym (append-nil past)) crowded
@@ -259,6 +261,6 @@ goes_crowded change law c g s past (e ∷ es) goes crowded =
     (crowded_longer c.regions c.region_words g (scripts_begun c s) (scripts_begun c (act (kind change c) s e)) (past ++ told c s e) (begun_grows change c s e goes.follows.seats) (told_crowded change c g s past goes crowded e)))
 
 -- Who is refused in a run from a stage that begins a graph was crowded out.
-pub run_crowded : (change : Change) → IsPause change → (c : Config) (s : Stage Actor) (g : Graph) → Begins c s g → (events : List (Event Order))
+pub run_crowded : (change : Change) → PausesByParts change → (c : Config) (s : Stage Actor) (g : Graph) → Begins c s g → (events : List (Event Order))
     → AreCrowded c.regions c.region_words g (scripts_begun c (go (kind change c) s events)) (history change c s events)
 run_crowded change law c s g begins events = goes_crowded change law c g s [] events (goes_begins c s g begins) (λ k e there full. absurd (cc (there)))

@@ -9,6 +9,7 @@ use Rattle.heap_words.proofs.Stores.{same_word_true}
 use Rattle.steps_base.specs.Touch.{Touch, touched}
 use Rattle.heap_world.specs.World.{World}
 use Rattle.heap_world.specs.Rely.{Rely}
+use Rattle.control_rows.specs.Extent.{Counting}
 use Rattle.step_core.specs.Settled.{settled_by}
 use Rattle.step_core.proofs.Machines.Owed.{words_promised}
 use Rattle.step_core.proofs.Control.Images.{words_after, view-placed}
@@ -27,7 +28,7 @@ touched_promises memory t v outside =
     ap (λ n. if nat_le n 1 then 0 else object_words (touched memory t (Heap (n + 1)))) (touched_image memory t (Answer v) outside refl)
     ∙ ap (λ n. if nat_le (memory (Answer v)) 1 then 0 else object_words n) (touched_image memory t (Heap (memory (Answer v) + 1)) outside refl)
 
-module _ (c : Config) (words : List ℕ) (o : Option (List ℕ)) (t : Touch) (u w : World) (before : u.memory ≡ settled_by c words o) (after : w.memory ≡ touched u.memory t) (long : length words ≡ table_words c)
+module _ (c : Config) (words : List ℕ) (o : Option Counting) (t : Touch) (u w : World) (before : u.memory ≡ settled_by c words o) (after : w.memory ≡ touched u.memory t) (long : length words ≡ table_words c)
     (is : is_word c t.word ≡ true) where
   abbrev words_then : List ℕ
   words_then = words_after c words t
@@ -54,13 +55,13 @@ module _ (c : Config) (words : List ℕ) (o : Option (List ℕ)) (t : Touch) (u 
   pub counts_same : w.graph ≡ u.graph → is_image t.word ≡ false → CountsTheSame u w
   counts_same graph outside = record { graph = graph; promised = λ v. ap (λ memory. words_promised memory v) after ∙ touched_promises u.memory t v outside }
 
-  module _ (held : (image : List ℕ) → o ≡ Some image → is_image t.word ≡ false) where
+  module _ (held : (image : Counting) → o ≡ Some image → is_image t.word ≡ false) where
     -- the answer in the table of a machine that can rely on the step
-    pub other_raw : (x : Option (List ℕ)) → o ≡ x → (k : ℕ) → Rely c k u w → view c words_then (Answer k) ≡ view c words (Answer k)
+    pub other_raw : (x : Option Counting) → o ≡ x → (k : ℕ) → Rely c k u w → view c words_then (Answer k) ≡ view c words (Answer k)
     other_raw None none k rely = whole_then none k ∙ rely.answer ∙ sym (whole_before none k)
     other_raw (Some image) is_held k rely = raw_stays (held image is_held) k
 
     -- that is the answer that counts, or nothing changes by which crowding is measured
-    pub other_counts : ((image : List ℕ) → o ≡ Some image → w.graph ≡ u.graph) → (x : Option (List ℕ)) → o ≡ x → (k : ℕ) → (view c words (Answer k) ≡ u.memory (Answer k)) ⊎ CountsTheSame u w
+    pub other_counts : ((image : Counting) → o ≡ Some image → w.graph ≡ u.graph) → (x : Option Counting) → o ≡ x → (k : ℕ) → (view c words (Answer k) ≡ u.memory (Answer k)) ⊎ CountsTheSame u w
     other_counts graph None none k = inl (whole_before none k)
     other_counts graph (Some image) is_held k = inr (counts_same (graph image is_held) (held image is_held))

@@ -27,9 +27,9 @@ use Rattle.control_rows.specs.Rows.{control_seat}
 use Rattle.step_core.specs.Fit.{IsWholeImage}
 
 -- of an image
-pub whole_is_prop : (c : Config) (spot : ControlSpot) (image : List ℕ) (got : ℕ) → IsProp (IsWholeImage c spot image got)
-whole_is_prop c (control.LoadWord index) image got = hlevel
-whole_is_prop c _ image got = hlevel
+pub whole_is_prop : (c : Config) (phase : ℕ) (spot : ControlSpot) (image : List ℕ) (got : ℕ) → IsProp (IsWholeImage c phase spot image got)
+whole_is_prop c phase (control.LoadWord index extent) image got = hlevel
+whole_is_prop c phase _ image got = hlevel
 
 -- of a resolving
 leaves_is_prop : (at : ResolveSpot) (got : ℕ) → IsProp (LeavesFit at got)

@@ -18,7 +18,7 @@ use Rattle.control_rows.specs.Rows as controls
 use Rattle.control_rows.specs.Rows.{Controlling, control_hinted}
 use Rattle.control_rows.proofs.Hinted as controlled
 use Rattle.step_core.specs.Machines.{stored_image}
-use Rattle.step_core.specs.Pausing.{IsAim}
+use Rattle.step_core.specs.Pausing.{IsAim, IsOfExtent}
 use Rattle.step_core.specs.Standing.{help_standing, control_standing}
 use Rattle.step_core.proofs.Machines.Owed.{CanWork, HelpFacts, ControlFacts, IsHelper, IsControl}
 
@@ -72,6 +72,7 @@ module _ (c : Config) (w : World) (seat : ℕ) where
     set_is = is.set_is;
     facts = controlled.by_unit c (λ spot next. ControlFacts c w seat spot → ControlFacts c w seat next) (Some address) (λ spot facts. facts) (λ at facts. work_hinted (Some address) at facts) k.spot is.facts;
     aims = controlled.by_unit c (λ spot next. IsAim c words spot k.image → IsAim c words next k.image) (Some address) (λ spot aims. aims) (λ at aims. tt) k.spot is.aims;
+    extent_is = controlled.by_unit c (λ spot next. IsOfExtent c k.phase spot k.image → IsOfExtent c k.phase next k.image) (Some address) (λ spot extent. extent) (λ at extent. tt) k.spot is.extent_is;
   }
 
 module _ (c : Config) where

@@ -39,7 +39,7 @@ use Rattle.step_core.specs.Actor.{Machine, mutating, helping, controlling, Actor
 use Rattle.step_core.specs.Threads.{IsSettled}
 use Rattle.step_core.proofs.Machines.Stepped.{Mine}
 use Rattle.step_core.specs.Sound.{world_of}
-pub use Rattle.step_core.specs.Pausing.{AreRead, IsAim}
+pub use Rattle.step_core.specs.Pausing.{AreRead, AreLoaded, IsAim, IsOfExtent}
 
 -- How an answer in the table, the one that counts, and the settled reply of the call go together. Table and what counts differ
 -- only while a pause writes its image back, and Full is settled by the store into the table.
@@ -118,7 +118,7 @@ abbrev pub ControlFacts : Config → World → ℕ → ControlSpot → Type 0
 ControlFacts c w number (Working at) = CanWork c w number at
 ControlFacts c w number LookFree = IsResting w number × (w.memory Phase ≡ 0)
 ControlFacts c w number (Stopping at) = IsResting w number × IsDue c w.memory
-ControlFacts c w number (LoadWord index) = IsResting w number × IsDue c w.memory
+ControlFacts c w number (LoadWord index extent) = IsResting w number × IsDue c w.memory
 ControlFacts c w number _ = IsResting w number
 
 -- what holds of the control: it knows the phase and the collection set, and can make its next access
@@ -129,6 +129,7 @@ pub record IsControl (c : Config) (words : List ℕ) (w : World) (number : ℕ) 
   pub set_is : k.cset ≡ w.memory Cset
   pub facts : ControlFacts c w number k.spot
   pub aims : IsAim c words k.spot k.image
+  pub extent_is : IsOfExtent c k.phase k.spot k.image
 
 -- what holds of a machine, by the words of the table and the world
 abbrev pub IsMachine : Config → List ℕ → World → List Entry → ℕ → Actor → Machine → Type 0

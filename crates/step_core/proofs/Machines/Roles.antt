@@ -49,14 +49,14 @@ use Rattle.control_rows.specs.Rows as controls
 use Rattle.heap_words.specs.declared.access.Access.{Access}
 use Rattle.step_core.proofs.Machines.Hinting.{help_hinted_is, help_hinted_stands, help_hinted_seat, help_hinted_gone, control_hinted_stands, control_hinted_gone}
 use Rattle.helper.specs.Ready.{spot_fits, help_ready}
-use Rattle.control_rows.specs.Rows.{Controlling, is_gone, control_says, word_stored}
+use Rattle.control_rows.specs.Rows.{Controlling, is_gone, control_says, word_stored, stored_next}
 use Rattle.control_rows.specs.Ready.{is_ready}
 use Rattle.step_core.specs.Actor.{Machine, mutating, helping, controlling, Actor, fresh_helper, command_by}
 use Rattle.step_core.specs.Machines.{takes_of, is_for_working, helping_by, controlling_by, plan_of, machine_after, answer_of, next_order, order_for, is_mutating, may_begin, has_ended_of, standing_of, HasNumber, IsIdle, IsFitFor}
 use Rattle.step_core.specs.Settled.{control_number}
 use Rattle.step_core.specs.Standing.{standing_at, help_standing}
 use Rattle.step_core.proofs.Machines.Stepped.{HasMarkingBy, HasCopyingBy, Mine}
-use Rattle.step_core.proofs.Machines.Owed.{IsSeen, IsShort, IsThread, IsHelper, IsResting, HelpFacts, ControlFacts, IsAim, IsMachine, words_promised}
+use Rattle.step_core.proofs.Machines.Owed.{IsSeen, IsShort, IsThread, IsHelper, IsResting, HelpFacts, ControlFacts, IsAim, IsOfExtent, IsMachine, words_promised}
 use Rattle.step_core.proofs.Helpers.Stable.{help_stays, control_stays, rests_outside, help_outside, help_word, help_leaves_image, is_off}
 use Rattle.step_core.proofs.Mutators.Ordered.{order_word}
 use Rattle.step_core.proofs.Mutators.Outside.{outside_touch}
@@ -141,6 +141,7 @@ machine_stays c words words_then u w entries more k b (controlling h) shared sta
       set_is = is.set_is ∙ sym stays.rely.copies.keeps.cset;
       facts = control_stays c u w k h.spot shared stays.rely is.facts;
       aims = stays.aims h refl is.aims;
+      extent_is = is.extent_is;
     }
 
 -- a machine has a number of its role
@@ -310,6 +311,7 @@ machine_begins c words w k b (controlling h) whole number idle calls valid rests
   set_is = idle.3;
   facts = subst (λ spot. ControlFacts c w k spot) (sym idle.0) (rests_by c w k rests.unmarking rests.uncopying (rests.spares k) (omega (arith, number)));
   aims = subst (λ spot. IsAim c words spot h.image) (sym idle.0) tt;
+  extent_is = subst (λ spot. IsOfExtent c h.phase spot h.image) (sym idle.0) tt;
 }
 
 -- The machines of a stage, by their numbers.
@@ -363,7 +365,7 @@ module _ (change : Change) (c : Config) (number : ℕ) (order : Order) where
   machine_obeys (controlling k) has takes can =
       let x : Controlling = controlling_by c order k in
       subst (λ stands. Obeys c number stands (plan_of c order (controlling k)) (λ got. standing_of (machine_after change c order got (controlling k)))) (control_hinted_stands c (hint_in order) k)
-      (control_obeys c number x.phase x.cset x.seen (word_stored x.spot x.image) x.spot (control_hinted_ready c (hint_in order) k can))
+      (control_obeys c number x.phase x.cset x.seen (stored_next c x.spot x.image) (word_stored x.spot x.image) x.spot (control_hinted_ready c (hint_in order) k can))
 
   pub machine_counts : (machine : Machine) → takes_of machine order ≡ true → CanGo c machine
       → Counts c (is_left_of machine) (plan_of c order machine) (λ got. is_left_of (machine_after change c order got machine))
@@ -387,7 +389,7 @@ machine_keeps_end change c given (helping h) takes can =
 machine_keeps_end change c given (controlling k) takes can =
     let x : Controlling = controlling_by c given k in
     subst (λ gone. KeepsEnd c gone (plan_of c given (controlling k)) (λ got. has_ended_of (machine_after change c given got (controlling k)))) (control_hinted_gone c (hint_in given) k)
-    (control_keeps_end c x.phase x.cset x.seen (word_stored x.spot x.image) x.spot (control_hinted_ready c (hint_in given) k can))
+    (control_keeps_end c x.phase x.cset x.seen (stored_next c x.spot x.image) (word_stored x.spot x.image) x.spot (control_hinted_ready c (hint_in given) k can))
 
 -- who is told nothing goes on, unless it has ended
 turn_by_gone : (b : Bool) → ◌≡◌ {A = Option Order} (if b then None else Some Nothing) (if (if b then false else true) then Some Nothing else None)
@@ -467,4 +469,4 @@ others_go_on c order (controlling k) got other done = goes_on c (controlling_by 
 pub fit_is_prop : (c : Config) (order : Order) (got : ℕ) (machine : Machine) → IsProp (IsFitFor c order got machine)
 fit_is_prop c order got (mutating m) = hlevel (Bool-set, part_is_prop c m.seat m.kept m.spot got, ends_is_prop order got)
 fit_is_prop c order got (helping h) = helpers_is_prop c (helping_by c order h).seat (helping_by c order h).spot got
-fit_is_prop c order got (controlling k) = hlevel (whole_is_prop c k.spot k.image got, unit_is_prop c (controlling_by c order k).spot got)
+fit_is_prop c order got (controlling k) = hlevel (whole_is_prop c k.phase k.spot k.image got, unit_is_prop c (controlling_by c order k).spot got)

@@ -208,11 +208,11 @@ module _ (c : Config) (w : World) (seat : ℕ) where
   control_at (control.Working at) facts = at_unit at facts
   control_at control.LookFree facts = at_rest Worked facts.0
   control_at (control.Stopping at) facts = at_rest Worked facts.0
-  control_at (control.LoadWord index) facts = at_rest Worked facts.0
+  control_at (control.LoadWord index extent) facts = at_rest Worked facts.0
   control_at control.LookLeft facts = at_rest Worked facts
   control_at control.StoreEnd facts = at_rest Worked facts
   control_at control.LookAsked facts = at_rest Worked facts
-  control_at (control.StoreWord index) facts = at_rest Worked facts
+  control_at (control.StoreWord index extent) facts = at_rest Worked facts
   control_at control.Go facts = at_rest Worked facts
   control_at control.Gone facts = at_rest Worked facts
 

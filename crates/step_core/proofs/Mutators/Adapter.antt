@@ -25,6 +25,7 @@ use Rattle.mutator.proofs.Orders.{in_call}
 use Rattle.mutator.specs.Told.{told_of as settled_by_step}
 use Rattle.heap_world.specs.World.{Ghost, World, Plot, Shared}
 use Rattle.heap_world.specs.Change.{Change}
+use Rattle.control_rows.specs.Extent.{Counting}
 use Rattle.control_rows.specs.Rows.{Controlling}
 use Rattle.step_core.specs.Actor.{mutating, controlling, Actor, entries_of, command_by}
 use Rattle.step_core.specs.Machines.{took_of}
@@ -87,9 +88,9 @@ next_seat c m (Hint address) got (Ended r) = refl
 next_seat c m order got _ = refl
 
 -- The adapter. While an image counts, the mutator is outside, and its access is of no word of the image.
-module _ (change : Change) (c : Config) (words : List ℕ) (o : Option (List ℕ)) (block : Plot) (ghost : Ghost) (g : Graph) (past : List Entry) (number : ℕ) (machines : List Actor) (order : Order) (m : Mutating)
+module _ (change : Change) (c : Config) (words : List ℕ) (o : Option Counting) (block : Plot) (ghost : Ghost) (g : Graph) (past : List Entry) (number : ℕ) (machines : List Actor) (order : Order) (m : Mutating)
     (command : Command) (calls : List Entry) (long : length words ≡ table_words c) (is : is_word c (touch_of c m order).word ≡ true)
-    (held : (image : List ℕ) → o ≡ Some image → (is_within (standing_at m.spot) ≡ false) × (is_image (touch_of c m order).word ≡ false)) where
+    (held : (image : Counting) → o ≡ Some image → (is_within (standing_at m.spot) ≡ false) × (is_image (touch_of c m order).word ≡ false)) where
   abbrev t : Touch
   t = touch_of c m order
 
@@ -122,14 +123,14 @@ module _ (change : Change) (c : Config) (words : List ℕ) (o : Option (List ℕ
     fixed_then = fixed_by thread.fixed the_told (given_at m.spot)
 
     -- while an image counts, nothing changes by which crowding is measured
-    same_graph : (image : List ℕ) → o ≡ Some image → step.world.graph ≡ g
+    same_graph : (image : Counting) → o ≡ Some image → step.world.graph ≡ g
     same_graph image is_held = step.graph ∙ ap (λ r. graph_by g m.seat (command_by order command) r) (outside_told u.memory m.seat m.made m.kept m.spot (held image is_held).0)
 
-    left_image : (image : List ℕ) → o ≡ Some image → is_image t.word ≡ false
+    left_image : (image : Counting) → o ≡ Some image → is_image t.word ≡ false
     left_image image is_held = (held image is_held).1
 
     -- and its own reply stays as it is
-    fixed_stays : (image : List ℕ) → o ≡ Some image → fixed_then ≡ thread.fixed
+    fixed_stays : (image : Counting) → o ≡ Some image → fixed_then ≡ thread.fixed
     fixed_stays image is_held =
         ap (λ r. fixed_by thread.fixed r (given_at m.spot)) (outside_told u.memory m.seat m.made m.kept m.spot (held image is_held).0)
         ∙ ap (λ r. fixed_by thread.fixed None r) (outside_given m.spot (held image is_held).0)
@@ -148,7 +149,7 @@ module _ (change : Change) (c : Config) (words : List ℕ) (o : Option (List ℕ
         ap (λ r. fixed_by thread.fixed r (given_at m.spot)) quiet.0 ∙ ap (λ r. fixed_by thread.fixed None r) quiet.1 ∙ settled_full
 
     -- its answer
-    own_seen : (x : Option (List ℕ)) → o ≡ x → IsSeen (view c words_then (Answer number)) (step.world.memory (Answer number)) fixed_then
+    own_seen : (x : Option Counting) → o ≡ x → IsSeen (view c words_then (Answer number)) (step.world.memory (Answer number)) fixed_then
     own_seen None none = record {
       null = λ now. whole_then c words o t u step.world refl step.memory long is none number ∙ now;
       full = λ now. inl (whole_then c words o t u step.world refl step.memory long is none number ∙ now, full_open none now);
@@ -159,7 +160,7 @@ module _ (change : Change) (c : Config) (words : List ℕ) (o : Option (List ℕ
         (seen_stays _ _ _ _ thread.fixed (raw_stays c words o t u step.world refl step.memory long is (left_image image is_held) number) (now_stays c words o t u step.world refl step.memory long is (left_image image is_held) number) thread.seen)
 
     -- crowding
-    own_short : (x : Option (List ℕ)) → o ≡ x → step.world.memory (Answer number) ≡ 1 → fixed_then ≡ None → IsShort c step.world.memory step.world.graph number (words_asked (Some the_new.command))
+    own_short : (x : Option Counting) → o ≡ x → step.world.memory (Answer number) ≡ 1 → fixed_then ≡ None → IsShort c step.world.memory step.world.graph number (words_asked (Some the_new.command))
     own_short None none now unsettled = absurd (let it = sym unsettled ∙ full_open none now in cc)
     own_short (Some image) is_held now unsettled =
         let before : u.memory (Answer number) ≡ 1 = sym (now_stays c words o t u step.world refl step.memory long is (left_image image is_held) number) ∙ now in

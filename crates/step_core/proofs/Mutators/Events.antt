@@ -27,6 +27,7 @@ use Rattle.mutator.specs.Told.{told_of as settled_by_step}
 use Rattle.mutator.proofs.Orders.{in_call}
 use Rattle.heap_world.specs.World.{World, Shared}
 use Rattle.heap_world.specs.Change.{Change}
+use Rattle.control_rows.specs.Extent.{Counting}
 use Rattle.control_rows.specs.Rows.{Controlling}
 use Rattle.step_core.specs.Actor.{mutating, controlling, Actor, entries_of, command_by}
 use Rattle.step_core.specs.Machines.{took_of, kind}
@@ -67,7 +68,7 @@ module _ (change : Change) (c : Config) (g : Graph) (s : Stage Actor) (past : Li
   word = order_word c m.seat m.made m.kept order m.spot thread.mine.seated.below thread.mine.ready takes
 
   -- while an image counts it is outside
-  outside_now : (image : List ℕ) → held_image c s ≡ Some image → is_within (standing_at m.spot) ≡ false
+  outside_now : (image : Counting) → held_image c s ≡ Some image → is_within (standing_at m.spot) ≡ false
   outside_now image held = outside_held c s shaken image held number before (let less = below in omega (arith, less)) here
 
   -- what it tells where its access is of no word of the image, or none counts
@@ -95,10 +96,10 @@ module _ (change : Change) (c : Config) (g : Graph) (s : Stage Actor) (past : Li
   new_then got = took_of change c before order got (mutating m)
 
   -- where it polls, and no image counts or its word is none of it, what counts is in the history
-  told_now : ((image : List ℕ) → held_image c s ≡ Some image → is_image (touch_of c m order).word ≡ false) → m.spot ≡ Waiting wait.Poll → u.memory (Answer m.seat) ≡ 1 → thread.fixed ≡ Some Full
+  told_now : ((image : Counting) → held_image c s ≡ Some image → is_image (touch_of c m order).word ≡ false) → m.spot ≡ Waiting wait.Poll → u.memory (Answer m.seat) ≡ 1 → thread.fixed ≡ Some Full
   told_now no_image polls one = by_image (held_image c s) refl
     where
-      by_image : (o : Option (List ℕ)) → held_image c s ≡ o → thread.fixed ≡ Some Full
+      by_image : (o : Option Counting) → held_image c s ≡ o → thread.fixed ≡ Some Full
       by_image (Some image) held = absurd (false≢true (sym (no_image image held) ∙ ap (λ spot. is_image (touch_at c m.seat m.made m.kept order spot).word) polls))
       by_image None none =
           let now : u.memory (Answer number) ≡ 1 = subst (λ n. u.memory (Answer n) ≡ 1) thread.number_is one in
@@ -109,7 +110,7 @@ module _ (change : Change) (c : Config) (g : Graph) (s : Stage Actor) (past : Li
           (thread.seen.full now)
 
   -- a step of which no image word is touched while an image counts
-  follows_plain : ((image : List ℕ) → held_image c s ≡ Some image → is_image (touch_of c m order).word ≡ false) → Follows c g (moved (kind change c) s number before order) (past ++ entries)
+  follows_plain : ((image : Counting) → held_image c s ≡ Some image → is_image (touch_of c m order).word ≡ false) → Follows c g (moved (kind change c) s number before order) (past ++ entries)
   unfolding kind
   follows_plain no_image =
       let at : ℕ = table_index (placed c (touch_of c m order)) in
@@ -127,7 +128,7 @@ module _ (change : Change) (c : Config) (g : Graph) (s : Stage Actor) (past : Li
 
 -- A mutator that looks for its answer while an image counts.
 module _ (change : Change) (c : Config) (g : Graph) (s : Stage Actor) (past : List Entry) (seat made : ℕ) (kept : Kept) (command : Command) (calls : List Entry)
-    (follows : Follows c g s past) (here : slice_get s.machines seat ≡ Some (record { machine = mutating (mutator_at seat made kept (Waiting wait.Poll)); command = command; calls = calls })) (image : List ℕ) (held : held_image c s ≡ Some image)
+    (follows : Follows c g s past) (here : slice_get s.machines seat ≡ Some (record { machine = mutating (mutator_at seat made kept (Waiting wait.Poll)); command = command; calls = calls })) (image : Counting) (held : held_image c s ≡ Some image)
     (other : seat ≢ control_number c) where
   abbrev polling : Actor
   polling = record { machine = mutating (mutator_at seat made kept (Waiting wait.Poll)); command = command; calls = calls }
@@ -170,7 +171,7 @@ module _ (change : Change) (c : Config) (g : Graph) (s : Stage Actor) (past : Li
       (past ++ entries_of m.seat (command_by o command) (settled_by_step (settled c s) (mutator_at m.seat m.made m.kept spot)))
 
   -- it looks for its answer
-  by_poll : m.spot ≡ Waiting wait.Poll → (image : List ℕ) → held_image c s ≡ Some image → Goal
+  by_poll : m.spot ≡ Waiting wait.Poll → (image : Counting) → held_image c s ≡ Some image → Goal
   by_poll polls image held =
       let thread = follows.machines number (record { machine = mutating m; command = command; calls = calls }) here in
       let less : m.seat < c.mutators = thread.mine.seated.below in
@@ -185,7 +186,7 @@ module _ (change : Change) (c : Config) (g : Graph) (s : Stage Actor) (past : Li
   pub follows_mutator : Goal
   follows_mutator = by_image (held_image c s) refl
     where
-      by_image : (o : Option (List ℕ)) → held_image c s ≡ o → Goal
+      by_image : (o : Option Counting) → held_image c s ≡ o → Goal
       by_image None none = follows_plain change c g s past number order m command calls follows shaken here takes (λ image held. absurd (let clash = sym none ∙ held in cc))
       by_image (Some image) held = ⊎_elim
           (λ (outside : is_image (touch_of c m order).word ≡ false). follows_plain change c g s past number order m command calls follows shaken here takes (λ other other_held. outside))

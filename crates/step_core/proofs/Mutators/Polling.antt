@@ -22,6 +22,7 @@ use Rattle.mutator.specs.Fit.{is_ready}
 use Rattle.heap_world.specs.World.{Ghost, World, Plot, Shared}
 use Rattle.heap_world.proofs.Keeping.{rely_same}
 use Rattle.step_core.specs.Actor.{mutating, Actor, entries_of}
+use Rattle.control_rows.specs.Extent.{Counting}
 use Rattle.step_core.specs.Settled.{mixed}
 use Rattle.step_core.proofs.Machines.Stepped.{IsPolling, IsAnswered}
 use Rattle.step_core.specs.Threads.{IsSettled}
@@ -48,7 +49,7 @@ answered_by w seat made raw k command fixed some seen (inr (inr is)) = inr (
   is.1,
 )
 
-module _ (c : Config) (words image : List ℕ) (block : Plot) (ghost : Ghost) (g : Graph) (past : List Entry) (seat made : ℕ) (kept : Kept) (machines : List Actor) (command : Command) (calls : List Entry) where
+module _ (c : Config) (words : List ℕ) (image : Counting) (block : Plot) (ghost : Ghost) (g : Graph) (past : List Entry) (seat made : ℕ) (kept : Kept) (machines : List Actor) (command : Command) (calls : List Entry) where
   abbrev u : World
   u = record { memory = mixed c words image; block = block; ghost = ghost; graph = g }
 

@@ -34,11 +34,11 @@ still_at : (c : Config) (w : World) (number : ℕ) (spot : ControlSpot) → is_w
 still_at c w number (control.Working at) calm facts = absurd cc
 still_at c w number control.LookFree calm facts = facts.0
 still_at c w number (control.Stopping at) calm facts = facts.0
-still_at c w number (control.LoadWord index) calm facts = facts.0
+still_at c w number (control.LoadWord index extent) calm facts = facts.0
 still_at c w number control.LookLeft calm facts = facts
 still_at c w number control.StoreEnd calm facts = facts
 still_at c w number control.LookAsked calm facts = facts
-still_at c w number (control.StoreWord index) calm facts = facts
+still_at c w number (control.StoreWord index extent) calm facts = facts
 still_at c w number control.Go calm facts = facts
 still_at c w number control.Gone calm facts = facts
 

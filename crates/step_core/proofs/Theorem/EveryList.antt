@@ -31,7 +31,8 @@ use Rattle.mutator.specs.Rows.{Mutating, touch_at, touch_of, next_of}
 use Rattle.mutator.specs.Fit.{IsReady, PartFit, EndsFit, IsFit}
 use Rattle.alloc_buffers.specs.Facts.{HasLess}
 use Rattle.heap_world.specs.World.{World}
-use Rattle.heap_world.specs.Change.{Change, IsPause}
+use Rattle.heap_world.specs.Change.{Change}
+use Rattle.control_rows.specs.ByParts.{PausesByParts}
 use Rattle.control_rows.specs.Ready.{is_ready}
 use Rattle.helper.specs.Rows.{Helping}
 use Rattle.control_rows.specs.Rows.{Controlling}
@@ -72,6 +73,7 @@ use Rattle.step_core.proofs.Theorem.AtRest.{at_rest}
 use Rattle.step_core.specs.AtRest.{IsAtRest}
 use Rattle.heap_world.specs.Asking.{nothing}
 use Rattle.heap_world.specs.Represents.{Represents}
+use Rattle.control_rows.specs.Extent.{Counting}
 use Rattle.step_core.proofs.Machines.Roles.{number_of, mutator_of, machine_there}
 
 -- a mutator that ends has not ended, and its access is of the count
@@ -86,7 +88,7 @@ ends_at c seat made kept (Ended reply) takes = refl
 ends_at c seat made kept _ takes = absurd (cc (takes))
 
 -- What a stage says in which all goes as it should.
-module _ (change : Change) (law : IsPause change) (c : Config) (g : Graph) (s : Stage Actor) (h : List Entry) (goes : Goes c g s h) where
+module _ (change : Change) (law : PausesByParts change) (c : Config) (g : Graph) (s : Stage Actor) (h : List Entry) (goes : Goes c g s h) where
   abbrev the_world : World
   the_world = world_of c s goes.follows.block goes.follows.ghost (after g h)
 
@@ -116,7 +118,7 @@ module _ (change : Change) (law : IsPause change) (c : Config) (g : Graph) (s : 
       )
 
   -- a mutator is outside while an image counts
-  mutator_outside : (number : ℕ) (a : Actor) (m : Mutating) → IsMutator s number a m → (image : List ℕ) → held_image c s ≡ Some image → is_within (standing_at m.spot) ≡ false
+  mutator_outside : (number : ℕ) (a : Actor) (m : Mutating) → IsMutator s number a m → (image : Counting) → held_image c s ≡ Some image → is_within (standing_at m.spot) ≡ false
   mutator_outside number a m here image held =
       let thread = thread_of number a m here in
       let below : number < control_number c = (let less = subst (λ k. k < c.mutators) thread.number_is thread.mine.seated.below in omega (arith, less)) in
@@ -244,7 +246,7 @@ outside_in_pause c s shaken pause number a below here =
     pause_empty c standing s shaken (ap is_pausing (ap standing same ∙ ap standing_of pause.is) ∙ pause.pausing) number a below here
 
 -- No mutator and no helper is, and each leaves the image alone.
-pause_is_empty : (change : Change) → IsPause change → (c : Config) (g : Graph) (s : Stage Actor) (h : List Entry) → Goes c g s h → IsInPause c s → IsEmpty c s
+pause_is_empty : (change : Change) → PausesByParts change → (c : Config) (g : Graph) (s : Stage Actor) (h : List Entry) → Goes c g s h → IsInPause c s → IsEmpty c s
 pause_is_empty change law c g s h goes pause = record {
   nobody = out;
   no_helper = help_out;
@@ -265,7 +267,7 @@ pause_is_empty change law c g s h goes pause = record {
         let facts = subst (λ machine. IsMachine c s.words (world_of c s goes.follows.block goes.follows.ghost (after g h)) (of_thread h (number + 1)) number a machine) here.is (goes.follows.machines number a here.here) in
         ap (λ machine. is_within (standing_of machine)) (sym here.is) ∙ outside_in_pause c s goes.shaken pause number a facts.below here.here
 
-module _ (change : Change) (law : IsPause change) (c : Config) (s : Stage Actor) (g : Graph) (begins : Begins c s g) where
+module _ (change : Change) (law : PausesByParts change) (c : Config) (s : Stage Actor) (g : Graph) (begins : Begins c s g) where
   -- in each stage that events lead to all goes as it should
   goes_all : (events : List (Event Order)) → Goes c g (go (kind change c) s events) (history change c s events)
   goes_all events = goes_run change law c g s [] events (goes_begins c s g begins)
@@ -311,9 +313,9 @@ module _ (change : Change) (law : IsPause change) (c : Config) (s : Stage Actor)
   run_rests events = at_rest c g (go (kind change c) s events) (history change c s events) (goes_all events)
 
 -- where a run leads is sound
-pub run_sound : (change : Change) → IsPause change → (c : Config) (run : Run c) → IsSound c run.graph (ending change c run) (history_in change c run)
+pub run_sound : (change : Change) → PausesByParts change → (c : Config) (run : Run c) → IsSound c run.graph (ending change c run) (history_in change c run)
 run_sound change law c run = every_run change law c run.start run.graph run.begins run.events
 
 -- from the opening on too
-pub every_list : (change : Change) → IsPause change → (c : Config) (events : List (Event Order)) → IsSound c (first_graph c) (reached change c events) (past change c events)
+pub every_list : (change : Change) → PausesByParts change → (c : Config) (events : List (Event Order)) → IsSound c (first_graph c) (reached change c events) (past change c events)
 every_list change law c events = run_sound change law c (opening_run c events)

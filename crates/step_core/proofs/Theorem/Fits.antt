@@ -17,7 +17,8 @@ use Rattle.shen_graph.specs.Graph.{Graph}
 use Rattle.shen_graph.specs.History.{Entry, after}
 use Rattle.handshake.specs.Standing.{is_within}
 use Rattle.heap_world.specs.World.{World}
-use Rattle.heap_world.specs.Change.{Change, IsPause}
+use Rattle.heap_world.specs.Change.{Change}
+use Rattle.control_rows.specs.ByParts.{PausesByParts}
 use Rattle.helper.specs.Rows.{Helping, help_touch}
 use Rattle.helper.specs.Ready as help
 use Rattle.control_rows.specs.declared.spot.ControlSpot.{ControlSpot}
@@ -39,7 +40,7 @@ use Rattle.step_core.proofs.Helpers.Stable.{help_word, help_fits, help_fits_outs
 use Rattle.step_core.proofs.Theorem.Hinted.{replaced, there, follows_replaced, kept_replaced, helper_takes_place, control_takes_place}
 
 -- Under no order.
-module _ (change : Change) (law : IsPause change) (c : Config) (g : Graph) (s : Stage Actor) (h : List Entry) (follows : Follows c g s h) (shaken : IsKept c s)
+module _ (change : Change) (law : PausesByParts change) (c : Config) (g : Graph) (s : Stage Actor) (h : List Entry) (follows : Follows c g s h) (shaken : IsKept c s)
     (number : ℕ) (command : Command) (calls : List Entry) where
   abbrev the_world : World
   the_world = world_of c s follows.block follows.ghost (after g h)
@@ -75,8 +76,8 @@ module _ (change : Change) (law : IsPause change) (c : Config) (g : Graph) (s : 
     abbrev control_at : ControlSpot → Controlling
     control_at spot = record { spot = spot; seen = seen; phase = phase; cset = cset; hints = hints; image = image }
 
-    fit_whole : (spot : ControlSpot) → slice_get s.machines number ≡ Some (actor_of (controlling (control_at spot))) → IsWholeImage c spot image (slice_index s.words (table_index (control_access c (control_at spot))))
-    fit_whole (LoadWord index) here = λ last. whole_stands change law c g s h number seen phase cset hints image command calls follows shaken index here last
+    fit_whole : (spot : ControlSpot) → slice_get s.machines number ≡ Some (actor_of (controlling (control_at spot))) → IsWholeImage c phase spot image (slice_index s.words (table_index (control_access c (control_at spot))))
+    fit_whole (LoadWord index extent) here = λ all. whole_stands change law c g s h number seen phase cset hints image command calls follows shaken index extent here all
     fit_whole _ here = tt
 
     fit_unit : (spot : ControlSpot) → slice_get s.machines number ≡ Some (actor_of (controlling (control_at spot))) → UnitGoesOn c spot (slice_index s.words (table_index (control_access c (control_at spot))))
@@ -84,16 +85,16 @@ module _ (change : Change) (law : IsPause change) (c : Config) (g : Graph) (s : 
     fit_unit _ here = tt
 
   control_fit_by_itself : (k : Controlling) → slice_get s.machines number ≡ Some (actor_of (controlling k))
-      → IsWholeImage c k.spot k.image (slice_index s.words (table_index (control_access c k))) × UnitGoesOn c k.spot (slice_index s.words (table_index (control_access c k)))
+      → IsWholeImage c k.phase k.spot k.image (slice_index s.words (table_index (control_access c k))) × UnitGoesOn c k.spot (slice_index s.words (table_index (control_access c k)))
   control_fit_by_itself k here = (fit_whole k.seen k.phase k.cset k.hints k.image k.spot here, fit_unit k.seen k.phase k.cset k.hints k.image k.spot here)
 
 -- who takes a hint loads no image
-whole_hinted : (c : Config) (spot : ControlSpot) (image : List ℕ) (got : ℕ) → controls.takes_hint spot ≡ true → IsWholeImage c spot image got
-whole_hinted c (Working at) image got takes = tt
-whole_hinted c _ image got takes = absurd (cc (takes))
+whole_hinted : (c : Config) (phase : ℕ) (spot : ControlSpot) (image : List ℕ) (got : ℕ) → controls.takes_hint spot ≡ true → IsWholeImage c phase spot image got
+whole_hinted c phase (Working at) image got takes = tt
+whole_hinted c phase _ image got takes = absurd (cc (takes))
 
 -- Under each order: with a hint it is so in the stage in which the machine goes on with the hint.
-module _ (change : Change) (law : IsPause change) (c : Config) (g : Graph) (s : Stage Actor) (h : List Entry) (follows : Follows c g s h) (shaken : IsKept c s) (number : ℕ) where
+module _ (change : Change) (law : PausesByParts change) (c : Config) (g : Graph) (s : Stage Actor) (h : List Entry) (follows : Follows c g s h) (shaken : IsKept c s) (number : ℕ) where
   abbrev named : Machine → Command → List Entry → Actor
   named machine command calls = record { machine = machine; command = command; calls = calls }
 
@@ -146,6 +147,6 @@ module _ (change : Change) (law : IsPause change) (c : Config) (g : Graph) (s : 
       (follows_replaced c s number (named (controlling k) command calls) (named (controlling next) command calls) here place g h follows)
       (kept_replaced c s number (named (controlling k) command calls) (named (controlling next) command calls) here place shaken) number command calls next
       (there c s number (named (controlling k) command calls) (named (controlling next) command calls) here place) in
-      (whole_hinted c k.spot k.image _ (and_parts _ _ takes).0, fit.1)
+      (whole_hinted c k.phase k.spot k.image _ (and_parts _ _ takes).0, fit.1)
   control_fit (Begin begun) k command calls here takes = absurd (cc (takes))
   control_fit End k command calls here takes = absurd (cc (takes))

@@ -14,7 +14,8 @@ use Rattle.shen_graph.specs.History.{Entry, after, of_thread}
 use Rattle.handshake.proofs.Shaking.{shaken_step}
 use Rattle.handshake.proofs.Counting.{counted_step}
 use Rattle.handshake.specs.Left.{AreLeftCounted}
-use Rattle.heap_world.specs.Change.{Change, IsPause}
+use Rattle.heap_world.specs.Change.{Change}
+use Rattle.control_rows.specs.ByParts.{PausesByParts}
 use Rattle.helper.specs.Rows as help
 use Rattle.helper.specs.Rows.{Helping}
 use Rattle.control_rows.specs.declared.spot.ControlSpot.{ControlSpot}
@@ -37,7 +38,7 @@ use Rattle.step_core.proofs.Machines.Hinting.{help_hinted_gone, control_hinted_g
 use Rattle.step_core.proofs.Theorem.Hinted.{TakesPlace, replaced, there, follows_replaced, kept_replaced, counted_replaced, moved_replaced, helper_takes_place, control_takes_place}
 
 -- an event of a machine, by its role
-follows_order : (change : Change) → IsPause change → (c : Config) (g : Graph) (s : Stage Actor) (past : List Entry) (number : ℕ) (order : Order) (command : Command) (calls : List Entry) (machine : Machine)
+follows_order : (change : Change) → PausesByParts change → (c : Config) (g : Graph) (s : Stage Actor) (past : List Entry) (number : ℕ) (order : Order) (command : Command) (calls : List Entry) (machine : Machine)
     → slice_get s.machines number ≡ Some (record { machine = machine; command = command; calls = calls })
     → takes_of machine order ≡ true → Follows c g s past → IsKept c s
     → Follows c g (moved (kind change c) s number (record { machine = machine; command = command; calls = calls }) order)
@@ -98,7 +99,7 @@ goes_replaced c g s past number before next here takes goes = record {
 }
 
 -- an event, of a machine that is there or not
-pub goes_event : (change : Change) → IsPause change → (c : Config) (g : Graph) (s : Stage Actor) (past : List Entry) (e : Event Order) → Goes c g s past → Goes c g (act (kind change c) s e) (past ++ told c s e)
+pub goes_event : (change : Change) → PausesByParts change → (c : Config) (g : Graph) (s : Stage Actor) (past : List Entry) (e : Event Order) → Goes c g s past → Goes c g (act (kind change c) s e) (past ++ told c s e)
 unfolding act told kind
 goes_event change law c g s past e goes = record {
   follows = by_machine (slice_get s.machines e.number) refl;
@@ -123,7 +124,7 @@ goes_event change law c g s past e goes = record {
     by_machine (Some a) here = by_order a (takes_of a.machine e.order) here refl
 
 -- a run
-pub goes_run : (change : Change) → IsPause change → (c : Config) (g : Graph) (s : Stage Actor) (past : List Entry) (es : List (Event Order)) → Goes c g s past → Goes c g (go (kind change c) s es) (past ++ history change c s es)
+pub goes_run : (change : Change) → PausesByParts change → (c : Config) (g : Graph) (s : Stage Actor) (past : List Entry) (es : List (Event Order)) → Goes c g s past → Goes c g (go (kind change c) s es) (past ++ history change c s es)
 unfolding go history
 goes_run change law c g s past [] goes = subst (λ h. Goes c g s h) (sym (append-nil past)) goes
 goes_run change law c g s past (e ∷ es) goes =

@@ -29,7 +29,8 @@ use Rattle.mutator.specs.Orders.{takes_at}
 use Rattle.mutator.specs.Rows.{Mutating, touch_at}
 use Rattle.mutator.specs.Told.{told_at, told_of}
 use Rattle.heap_world.specs.World.{World, Plot, PinStands, Shared}
-use Rattle.heap_world.specs.Change.{Change, IsPause}
+use Rattle.heap_world.specs.Change.{Change}
+use Rattle.control_rows.specs.ByParts.{PausesByParts}
 use Rattle.heap_world.proofs.Keeping.{load_keeps}
 use Rattle.control_rows.specs.declared.spot.ControlSpot.{ControlSpot}
 use Rattle.control_rows.specs.declared.spot.ControlSpot.TheVariants.{StoreWord}
@@ -109,7 +110,7 @@ stores_pin c memory seat made kept order t i (Pinning value pins.Store) r some c
     (cases_Bool ((seat == t) && (slot_of kept.command == i)))
 stores_pin c memory seat made kept order t i _ r some changed = absurd (cc (some))
 
-module _ (change : Change) (law : IsPause change) (c : Config) (g : Graph) (s : Stage Actor) (h : List Entry) (e : Event Order) (goes : Goes c g s h) (t i : ℕ) (below : t < c.mutators) (small : i < 4)
+module _ (change : Change) (law : PausesByParts change) (c : Config) (g : Graph) (s : Stage Actor) (h : List Entry) (e : Event Order) (goes : Goes c g s h) (t i : ℕ) (below : t < c.mutators) (small : i < 4)
     (changed : settled c (act (kind change c) s e) (Pin t i) ≢ settled c s (Pin t i)) where
   abbrev u : World
   u = world_of c s goes.follows.block goes.follows.ghost (after g h)
@@ -131,7 +132,7 @@ module _ (change : Change) (law : IsPause change) (c : Config) (g : Graph) (s : 
   no_change es is same = changed (now es is ∙ ap (λ k. place_in (k.pin (t + 1) i)) same ∙ sym before)
 
   storing : (a : Actor) (spot : ControlSpot) (image : List ℕ) → told c s e ≡ told_storing c s spot image → ⊥
-  storing a (StoreWord index) image is = no_change (told_storing c s (StoreWord index) image) is (full_same (after g h) s.machines (name_of c (image_start c + index)) (slice_index s.words (image_start c + index)) (slice_index image index))
+  storing a (StoreWord index extent) image is = no_change (told_storing c s (StoreWord index extent) image) is (full_same (after g h) s.machines (name_of c (image_start c + index)) (slice_index s.words (image_start c + index)) (slice_index image index))
   storing a _ image is = no_change [] is refl
 
   -- a mutator that settles nothing changes none
@@ -170,5 +171,5 @@ module _ (change : Change) (law : IsPause change) (c : Config) (g : Graph) (s : 
   only_own : (e.number ≡ t) × IsStoringPin s t i
   only_own = told_at_all (slice_get s.machines e.number) refl
 
-pub only_pinning : (change : Change) → IsPause change → (c : Config) (g : Graph) (s : Stage Actor) (h : List Entry) (e : Event Order) → Goes c g s h → OnlyPinningPins change c s e
+pub only_pinning : (change : Change) → PausesByParts change → (c : Config) (g : Graph) (s : Stage Actor) (h : List Entry) (e : Event Order) → Goes c g s h → OnlyPinningPins change c s e
 only_pinning change law c g s h e goes t i below small changed = only_own change law c g s h e goes t i below small changed

@@ -8,7 +8,7 @@ pub collect-requires : goal.collect-requires
 collect-requires c = subst (CanPauseSome (config_of c.args.image.now)) (sym (memory-image_in c.args.image.now c.requires.clear)) c.requires.can
 
 pub returns-clause-image : goal.returns-clause-image
-returns-clause-image c = image-collected c.args.image.now c.collect.new.image c.requires.clear c.requires.can c.collect.ensures.config c.collect.ensures.words
+returns-clause-image c = image-collected c.args.image.now c.collect.new.image c.requires.clear c.collect.ensures.config c.collect.ensures.words
 
 pub returns-clause-clear : goal.returns-clause-clear
-returns-clause-clear c = clear-collected c.args.image.now c.collect.new.image c.requires.clear c.requires.can c.collect.ensures.config c.collect.ensures.words
+returns-clause-clear c = clear-collected c.args.image.now c.collect.new.image c.requires.clear c.collect.ensures.config c.collect.ensures.words

@@ -1,11 +1,51 @@
-use Rattle.std.proofs.Common.{subst}
-use Rattle.control_rows.specs.declared.spot.ControlSpot.{ControlSpot}
+use Rattle.std.proofs.Common.{◌≡◌, ℕ, List, true, refl, sym, ap, ◌∙◌, subst}
+use Rattle.std.proofs.lemmas.Bool.{ltb-true}
+use Rattle.heap_world.specs.Change.{image_words}
 use Rattle.image_graph.specs.State.{config_of}
-use Rattle.control.specs.Image.{image_in, words_seen}
+use Rattle.control_rows.specs.declared.spot.ControlSpot.{ControlSpot}
+use Rattle.control_rows.specs.declared.spot.ControlSpot.TheVariants.{LoadWord}
+use Rattle.control_rows.specs.Extent.{extent_after}
+use Rattle.control_rows.specs.Ready.{is_ready}
+use Rattle.control_rows.specs.Rows.{stored_next, next_spot, next_image}
+use Rattle.cycle_pauses.specs.Collect.{collect_image}
 use Rattle.control.specs.Fit.{fits_with}
+use Rattle.control.specs.Image.{image_in, words_seen, SeesOwn}
+use Rattle.control.proofs.Going.{load_own, next_own, others_seen}
 use Rattle.control.proofs.pause.take_found.Goals as goal
+
+pub take_word-requires-clause-own : goal.take_word-requires-clause-own
+take_word-requires-clause-own c = subst (λ s. SeesOwn (config_of c.args.image.now) s c.args.starts.now) c.in-LoadWord.is c.requires.own
 
 pub take_word-requires-clause-fit : goal.take_word-requires-clause-fit
 take_word-requires-clause-fit c =
-    let Fits : ControlSpot → Type 0 = λ s. fits_with (config_of c.args.image.now) s (words_seen s (image_in c.args.image.now)) c.args.got in
+    let d = config_of c.args.image.now in
+    let Fits : ControlSpot → Type 0 = λ s. fits_with d s c.args.last.phase (words_seen d s c.args.starts.now (image_in c.args.image.now)) c.args.got in
     subst Fits c.in-LoadWord.is c.requires.fit
+
+pub returns-in-LoadWord-clause-image : goal.returns-in-LoadWord-clause-image
+returns-in-LoadWord-clause-image c =
+    let d = config_of c.args.image.now in
+    let seen : ControlSpot → List ℕ = λ s. words_seen d s c.args.starts.now (image_in c.args.image.now) in
+    let Made : ControlSpot → Type 0 = λ s. words_seen d (next_spot d c.args.last.phase c.args.last.cset c.args.last.seen (stored_next d s (seen s)) s c.args.got) c.take_word.new.starts (image_in c.take_word.new.image) ≡ next_image collect_image d s (seen s) c.args.last.phase c.args.got in
+    subst Made (sym c.in-LoadWord.is) c.take_word.ensures.image
+
+pub returns-in-LoadWord-clause-own : goal.returns-in-LoadWord-clause-own
+returns-in-LoadWord-clause-own c =
+    let d = config_of c.args.image.now in
+    let index = c.in-LoadWord.index in
+    let extent = c.in-LoadWord.extent in
+    let ready : is_ready d (LoadWord index extent) ≡ true = ap (is_ready d) (sym c.in-LoadWord.is) ∙ c.requires.ready in
+    let Own : ControlSpot → Type 0 = λ s. SeesOwn d (next_spot d c.args.last.phase c.args.last.cset c.args.last.seen (stored_next d s (words_seen d s c.args.starts.now (image_in c.args.image.now))) s c.args.got) c.take_word.new.starts in
+    subst Own (sym c.in-LoadWord.is) (load_own d c.take_word.new.starts (extent_after c.args.last.phase index extent c.args.got) index (ltb-true index (image_words d) ready))
+
+pub returns-in_default-clause-image : goal.returns-in_default-clause-image
+returns-in_default-clause-image c =
+    let d = config_of c.args.image.now in
+    let words = words_seen d c.args.spot c.args.starts.now (image_in c.args.image.now) in
+    others_seen d c.args.starts.now collect_image c.args.last.phase c.args.last.cset c.args.last.seen (stored_next d c.args.spot words) c.args.spot c.args.got (image_in c.args.image.now) c.in_default.not-LoadWord refl
+
+pub returns-in_default-clause-own : goal.returns-in_default-clause-own
+returns-in_default-clause-own c =
+    let d = config_of c.args.image.now in
+    let words = words_seen d c.args.spot c.args.starts.now (image_in c.args.image.now) in
+    next_own d c.args.starts.now c.args.last.phase c.args.last.cset c.args.last.seen (stored_next d c.args.spot words) c.args.spot c.args.got (image_in c.args.image.now) c.requires.ready refl

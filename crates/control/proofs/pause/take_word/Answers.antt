@@ -1,51 +1,163 @@
-use Rattle.std.proofs.Common.{◌≡◌, ℕ, ◌+◌, false, ltb, ◌∙◌, ap, arith}
-use Rattle.std.proofs.lemmas.Bool.{le-ltb}
+use Rattle.std.proofs.Common.{◌≡◌, ℕ, ◌<◌, ◌≤◌, List, length, set, take, true, sym, ap, ◌∙◌, subst, arith}
+use Rattle.std.specs.Prelude.{nat_lt, if◌then◌else◌}
+use Rattle.heap_words.specs.declared.config.Config.{Config}
 use Rattle.heap_words.specs.Words.{Word, Phase, Cset}
-use Rattle.control_rows.specs.Rows.{seen_after}
-use Rattle.image_graph.specs.State.{config_of}
-use Rattle.heap_world.specs.Change.{image_words}
-use Rattle.control.proofs.Images.{can-last, image-last, memory-last}
+use Rattle.heap_world.specs.Change.{image_words, image_view}
+use Rattle.image_graph.specs.declared.image.Image.{Image}
+use Rattle.image_graph.specs.State.{config_of, memory_of}
+use Rattle.control_rows.specs.declared.extent.Extent.{Extent}
+use Rattle.control_rows.specs.declared.spot.ControlSpot.TheVariants.{LoadWord}
+use Rattle.control_rows.specs.Extent.{is_of_extent, extent_after, next_loaded}
+use Rattle.control_rows.specs.Rows.{after_load, seen_after, next_image, next_seen, next_phase, next_set}
+use Rattle.cycle_pauses.specs.Collect.{collect_image}
+use Rattle.control.specs.Clear.{IsClear}
+use Rattle.control.specs.Fit.{CanCollectPart, fits_with}
+use Rattle.control.specs.Image.{image_in, part_in, image_shown, words_seen}
+use Rattle.control.specs.Starts.{AreHeapIndices}
+use Rattle.control.proofs.Images.{memory-image_in, length-image_in}
+use Rattle.control.proofs.Loaded.{goes_on, stays, can_collect, image_made, phase_made, cset_made, seen_made}
 use Rattle.control.proofs.pause.take_word.Goals as goal
 
-pub collect_image-requires-clause-can : goal.collect_image-requires-clause-can
-collect_image-requires-clause-can c =
-    let words : c.image_words.result ≡ image_words (config_of c.args.image.now) = c.image_words.ensures ∙ ap image_words (c.config.ensures ∙ c.put_word.ensures.config) in
-    let last : c.args.index + 1 ≡ image_words (config_of c.args.image.now) = omega (arith, words) in
-    can-last c.args.image.now c.put_word.new.image c.put_word.new.image c.args.index c.args.word last c.put_word.ensures.config c.put_word.ensures.image (c.requires.fit last)
+-- an image into which a word was put, and the extent then
+module _ (old mid : Image) (extent now : Extent) (phase index word : ℕ) (less : index < image_words (config_of old)) (own : is_of_extent (config_of old) extent index ≡ true)
+    (config : config_of mid ≡ config_of old) (put : image_in mid ≡ set (image_in old) index word) (now_is : now ≡ extent_after phase index extent word) where
+  abbrev d : Config
+  d = config_of old
+
+  abbrev then_of : Extent
+  then_of = extent_after phase index extent word
+
+  abbrev before : List ℕ
+  before = take index (part_in d extent (image_in old))
+
+  abbrev next : ℕ
+  next = next_loaded d then_of index
+
+  long : length (image_in old) ≡ image_words d
+  long = length-image_in old
+
+  pub image_on : (starts : List ℕ) → next < image_words d → words_seen d (after_load d then_of index) starts (image_in mid) ≡ next_image collect_image d (LoadWord index extent) before phase word
+  image_on starts there =
+      ap (words_seen d (after_load d then_of index) starts) put ∙ goes_on collect_image d extent phase index word (image_in old) long less own starts there
+
+  -- the word that was last stays as well
+  pub last_on : (before_it then_it : ℕ) → next < image_words d → before_it ≡ (if nat_lt next (image_words d) then before_it else then_it)
+  last_on before_it then_it there = sym (stays collect_image d extent phase index word (image_in old) long less own before_it then_it there)
+
+  module _ (last : image_words d ≤ next) where
+    pub can : fits_with d (LoadWord index extent) phase before word → CanCollectPart (config_of mid) now (image_view (config_of mid) (part_in (config_of mid) now (image_in mid)))
+    can fit =
+        let Can : Config → Extent → List ℕ → Type 0 = λ k e ys. CanCollectPart k e (image_view k (part_in k e ys)) in
+        subst (λ k. Can k now (image_in mid)) (sym config) (subst (λ e. Can d e (image_in mid)) (sym now_is) (subst (Can d then_of) (sym put)
+        (can_collect collect_image d extent phase index word (image_in old) long less own last fit)))
+
+    -- and the image that a pause has made of it
+    module _ (new : Image) (starts : List ℕ) (config_then : config_of new ≡ config_of mid) (clear : IsClear new)
+        (made : image_shown (config_of mid) now starts (image_in new) ≡ collect_image (config_of mid) (part_in (config_of mid) now (image_in mid))) where
+      made_then : image_shown d then_of starts (image_in new) ≡ collect_image d (part_in d then_of (set (image_in old) index word))
+      made_then =
+          let Made : Config → Extent → List ℕ → Type 0 = λ k e ys. image_shown k e starts (image_in new) ≡ collect_image k (part_in k e ys) in
+          subst (Made d then_of) put (subst (λ e. Made d e (image_in mid)) now_is (subst (λ k. Made k now (image_in mid)) config made))
+
+      memory_then : memory_of new ≡ image_view d (image_in new)
+      memory_then = memory-image_in new clear ∙ ap (λ k. image_view k (image_in new)) (config_then ∙ config)
+
+      pub image_then : words_seen d (after_load d then_of index) starts (image_in new) ≡ next_image collect_image d (LoadWord index extent) before phase word
+      image_then = image_made collect_image d extent phase index word (image_in old) long less own last starts (image_in new) made_then
+
+      pub phase_then : memory_of new Phase ≡ next_phase collect_image d (LoadWord index extent) before phase word
+      phase_then = ap (λ (m : Word → ℕ). m Phase) memory_then ∙ phase_made collect_image d extent phase index word (image_in old) long less own last starts (image_in new) made_then
+
+      pub cset_then : (cset : ℕ) → memory_of new Cset ≡ next_set collect_image d (LoadWord index extent) before cset phase word
+      cset_then cset = ap (λ (m : Word → ℕ). m Cset) memory_then ∙ cset_made collect_image d extent phase index word (image_in old) long less own last starts (image_in new) made_then cset
+
+      pub seen_then : (seen : ℕ) → seen_after seen (memory_of new) ≡ next_seen collect_image d (LoadWord index extent) before seen phase word
+      seen_then seen = ap (seen_after seen) memory_then ∙ seen_made collect_image d extent phase index word (image_in old) long less own last starts (image_in new) made_then seen
+
+-- the index of the next word, and that of the end
+next_is : (old mid : Image) (extent now : Extent) (phase index word n : ℕ) (k : Config) → k ≡ config_of mid → config_of mid ≡ config_of old → now ≡ extent_after phase index extent word → n ≡ next_loaded k now index
+    → n ≡ next_loaded (config_of old) (extent_after phase index extent word) index
+next_is old mid extent now phase index word n k read config now_is is =
+    is ∙ ap (λ e. next_loaded e now index) (read ∙ config) ∙ ap (λ e. next_loaded (config_of old) e index) now_is
+
+pub collect_loaded-requires-clause-can : goal.collect_loaded-requires-clause-can
+collect_loaded-requires-clause-can c =
+    let next = next_is c.args.image.now c.put_word.new.image c.args.extent c.after-extent_now.result c.args.last.phase c.args.index c.args.word c.next-next.result c.config-config.result
+    c.config-config.ensures c.put_word.ensures.config c.after-extent_now.ensures c.next-next.ensures in
+    let end = c.image_words-end.ensures ∙ ap image_words (c.config-config.ensures ∙ c.put_word.ensures.config) in
+    can c.args.image.now c.put_word.new.image c.args.extent c.after-extent_now.result c.args.last.phase c.args.index c.args.word c.requires.index c.requires.own
+    c.put_word.ensures.config c.put_word.ensures.image c.after-extent_now.ensures (omega (arith, next, end, c.if-next-end.false)) c.requires.fit
+
+pub collect_loaded-requires-clause-heap : goal.collect_loaded-requires-clause-heap
+collect_loaded-requires-clause-heap c = subst (λ d. AreHeapIndices d c.args.starts.now) (sym c.put_word.ensures.config) c.requires.heap
+
+pub returns-clause-heap : goal.returns-clause-heap
+returns-clause-heap c = subst (λ d. AreHeapIndices d c.collect_loaded.result) c.put_word.ensures.config c.collect_loaded.ensures.heap
+
+pub returns-then-next-end-clause-image : goal.returns-then-next-end-clause-image
+returns-then-next-end-clause-image c =
+    let next = next_is c.args.image.now c.put_word.new.image c.args.extent c.after-extent_now.result c.args.last.phase c.args.index c.args.word c.next-next.result c.config-config.result
+    c.config-config.ensures c.put_word.ensures.config c.after-extent_now.ensures c.next-next.ensures in
+    let end = c.image_words-end.ensures ∙ ap image_words (c.config-config.ensures ∙ c.put_word.ensures.config) in
+    image_on c.args.image.now c.put_word.new.image c.args.extent c.after-extent_now.result c.args.last.phase c.args.index c.args.word c.requires.index c.requires.own
+    c.put_word.ensures.config c.put_word.ensures.image c.after-extent_now.ensures c.args.starts.now (omega (arith, next, end, c.if-next-end.true))
+
+pub returns-then-next-end-clause-seen : goal.returns-then-next-end-clause-seen
+returns-then-next-end-clause-seen c =
+    let next = next_is c.args.image.now c.put_word.new.image c.args.extent c.after-extent_now.result c.args.last.phase c.args.index c.args.word c.next-next.result c.config-config.result
+    c.config-config.ensures c.put_word.ensures.config c.after-extent_now.ensures c.next-next.ensures in
+    let end = c.image_words-end.ensures ∙ ap image_words (c.config-config.ensures ∙ c.put_word.ensures.config) in
+    last_on c.args.image.now c.put_word.new.image c.args.extent c.after-extent_now.result c.args.last.phase c.args.index c.args.word c.requires.index c.requires.own
+    c.put_word.ensures.config c.put_word.ensures.image c.after-extent_now.ensures c.args.last.seen _ (omega (arith, next, end, c.if-next-end.true))
+
+pub returns-then-next-end-clause-phase : goal.returns-then-next-end-clause-phase
+returns-then-next-end-clause-phase c =
+    let next = next_is c.args.image.now c.put_word.new.image c.args.extent c.after-extent_now.result c.args.last.phase c.args.index c.args.word c.next-next.result c.config-config.result
+    c.config-config.ensures c.put_word.ensures.config c.after-extent_now.ensures c.next-next.ensures in
+    let end = c.image_words-end.ensures ∙ ap image_words (c.config-config.ensures ∙ c.put_word.ensures.config) in
+    last_on c.args.image.now c.put_word.new.image c.args.extent c.after-extent_now.result c.args.last.phase c.args.index c.args.word c.requires.index c.requires.own
+    c.put_word.ensures.config c.put_word.ensures.image c.after-extent_now.ensures c.args.last.phase _ (omega (arith, next, end, c.if-next-end.true))
+
+pub returns-then-next-end-clause-cset : goal.returns-then-next-end-clause-cset
+returns-then-next-end-clause-cset c =
+    let next = next_is c.args.image.now c.put_word.new.image c.args.extent c.after-extent_now.result c.args.last.phase c.args.index c.args.word c.next-next.result c.config-config.result
+    c.config-config.ensures c.put_word.ensures.config c.after-extent_now.ensures c.next-next.ensures in
+    let end = c.image_words-end.ensures ∙ ap image_words (c.config-config.ensures ∙ c.put_word.ensures.config) in
+    last_on c.args.image.now c.put_word.new.image c.args.extent c.after-extent_now.result c.args.last.phase c.args.index c.args.word c.requires.index c.requires.own
+    c.put_word.ensures.config c.put_word.ensures.image c.after-extent_now.ensures c.args.last.cset _ (omega (arith, next, end, c.if-next-end.true))
 
 pub returns-clause-image : goal.returns-clause-image
 returns-clause-image c =
-    let words : c.image_words.result ≡ image_words (config_of c.args.image.now) = c.image_words.ensures ∙ ap image_words (c.config.ensures ∙ c.put_word.ensures.config) in
-    let last : c.args.index + 1 ≡ image_words (config_of c.args.image.now) = omega (arith, words) in
-    let test : ltb (c.args.index + 1) (image_words (config_of c.args.image.now)) ≡ false = le-ltb _ _ (omega (arith, words)) in
-    rw test (image-last c.args.image.now c.put_word.new.image c.collect_image.new.image c.args.index c.args.word last c.put_word.ensures.config c.put_word.ensures.image c.collect_image.ensures.config c.collect_image.ensures.image)
-
-pub returns-clause-seen : goal.returns-clause-seen
-returns-clause-seen c =
-    let words : c.image_words.result ≡ image_words (config_of c.args.image.now) = c.image_words.ensures ∙ ap image_words (c.config.ensures ∙ c.put_word.ensures.config) in
-    let last : c.args.index + 1 ≡ image_words (config_of c.args.image.now) = omega (arith, words) in
-    let test : ltb (c.args.index + 1) (image_words (config_of c.args.image.now)) ≡ false = le-ltb _ _ (omega (arith, words)) in
-    rw test
-    (c.ended_with.ensures.seen
-    ∙ ap (seen_after c.args.last.seen)
-    (memory-last c.args.image.now c.put_word.new.image c.collect_image.new.image c.args.index c.args.word last c.put_word.ensures.config c.put_word.ensures.image c.collect_image.ensures.config c.collect_image.ensures.image c.collect_image.ensures.clear))
+    let next = next_is c.args.image.now c.put_word.new.image c.args.extent c.after-extent_now.result c.args.last.phase c.args.index c.args.word c.next-next.result c.config-config.result
+    c.config-config.ensures c.put_word.ensures.config c.after-extent_now.ensures c.next-next.ensures in
+    let end = c.image_words-end.ensures ∙ ap image_words (c.config-config.ensures ∙ c.put_word.ensures.config) in
+    image_then c.args.image.now c.put_word.new.image c.args.extent c.after-extent_now.result c.args.last.phase c.args.index c.args.word c.requires.index c.requires.own
+    c.put_word.ensures.config c.put_word.ensures.image c.after-extent_now.ensures (omega (arith, next, end, c.if-next-end.false))
+    c.collect_loaded.new.image c.collect_loaded.result c.collect_loaded.ensures.config c.collect_loaded.ensures.clear c.collect_loaded.ensures.image
 
 pub returns-clause-phase : goal.returns-clause-phase
 returns-clause-phase c =
-    let words : c.image_words.result ≡ image_words (config_of c.args.image.now) = c.image_words.ensures ∙ ap image_words (c.config.ensures ∙ c.put_word.ensures.config) in
-    let last : c.args.index + 1 ≡ image_words (config_of c.args.image.now) = omega (arith, words) in
-    let test : ltb (c.args.index + 1) (image_words (config_of c.args.image.now)) ≡ false = le-ltb _ _ (omega (arith, words)) in
-    rw test
-    (c.ended_with.ensures.phase
-    ∙ ap (λ (m : Word → ℕ). m Phase)
-    (memory-last c.args.image.now c.put_word.new.image c.collect_image.new.image c.args.index c.args.word last c.put_word.ensures.config c.put_word.ensures.image c.collect_image.ensures.config c.collect_image.ensures.image c.collect_image.ensures.clear))
+    let next = next_is c.args.image.now c.put_word.new.image c.args.extent c.after-extent_now.result c.args.last.phase c.args.index c.args.word c.next-next.result c.config-config.result
+    c.config-config.ensures c.put_word.ensures.config c.after-extent_now.ensures c.next-next.ensures in
+    let end = c.image_words-end.ensures ∙ ap image_words (c.config-config.ensures ∙ c.put_word.ensures.config) in
+    c.ended_with.ensures.phase ∙ phase_then c.args.image.now c.put_word.new.image c.args.extent c.after-extent_now.result c.args.last.phase c.args.index c.args.word c.requires.index c.requires.own
+    c.put_word.ensures.config c.put_word.ensures.image c.after-extent_now.ensures (omega (arith, next, end, c.if-next-end.false))
+    c.collect_loaded.new.image c.collect_loaded.result c.collect_loaded.ensures.config c.collect_loaded.ensures.clear c.collect_loaded.ensures.image
 
 pub returns-clause-cset : goal.returns-clause-cset
 returns-clause-cset c =
-    let words : c.image_words.result ≡ image_words (config_of c.args.image.now) = c.image_words.ensures ∙ ap image_words (c.config.ensures ∙ c.put_word.ensures.config) in
-    let last : c.args.index + 1 ≡ image_words (config_of c.args.image.now) = omega (arith, words) in
-    let test : ltb (c.args.index + 1) (image_words (config_of c.args.image.now)) ≡ false = le-ltb _ _ (omega (arith, words)) in
-    rw test
-    (c.ended_with.ensures.cset
-    ∙ ap (λ (m : Word → ℕ). m Cset)
-    (memory-last c.args.image.now c.put_word.new.image c.collect_image.new.image c.args.index c.args.word last c.put_word.ensures.config c.put_word.ensures.image c.collect_image.ensures.config c.collect_image.ensures.image c.collect_image.ensures.clear))
+    let next = next_is c.args.image.now c.put_word.new.image c.args.extent c.after-extent_now.result c.args.last.phase c.args.index c.args.word c.next-next.result c.config-config.result
+    c.config-config.ensures c.put_word.ensures.config c.after-extent_now.ensures c.next-next.ensures in
+    let end = c.image_words-end.ensures ∙ ap image_words (c.config-config.ensures ∙ c.put_word.ensures.config) in
+    c.ended_with.ensures.cset ∙ cset_then c.args.image.now c.put_word.new.image c.args.extent c.after-extent_now.result c.args.last.phase c.args.index c.args.word c.requires.index c.requires.own
+    c.put_word.ensures.config c.put_word.ensures.image c.after-extent_now.ensures (omega (arith, next, end, c.if-next-end.false))
+    c.collect_loaded.new.image c.collect_loaded.result c.collect_loaded.ensures.config c.collect_loaded.ensures.clear c.collect_loaded.ensures.image c.args.last.cset
+
+pub returns-clause-seen : goal.returns-clause-seen
+returns-clause-seen c =
+    let next = next_is c.args.image.now c.put_word.new.image c.args.extent c.after-extent_now.result c.args.last.phase c.args.index c.args.word c.next-next.result c.config-config.result
+    c.config-config.ensures c.put_word.ensures.config c.after-extent_now.ensures c.next-next.ensures in
+    let end = c.image_words-end.ensures ∙ ap image_words (c.config-config.ensures ∙ c.put_word.ensures.config) in
+    c.ended_with.ensures.seen ∙ seen_then c.args.image.now c.put_word.new.image c.args.extent c.after-extent_now.result c.args.last.phase c.args.index c.args.word c.requires.index c.requires.own
+    c.put_word.ensures.config c.put_word.ensures.image c.after-extent_now.ensures (omega (arith, next, end, c.if-next-end.false))
+    c.collect_loaded.new.image c.collect_loaded.result c.collect_loaded.ensures.config c.collect_loaded.ensures.clear c.collect_loaded.ensures.image c.args.last.seen

@@ -7,11 +7,8 @@ use Rattle.image_graph.specs.State.{config_of, words_of, memory_of, found_of}
 use Rattle.image_graph.proofs.NamedStores.{stored}
 use Rattle.mark_core.specs.Steps.{greyed, noted, emptied}
 use Rattle.image_graph.proofs.Same.{memory_same}
-use Rattle.mark_core.proofs.MarkingBegun.{held_inside_some, all_inside, begun}
+use Rattle.mark_core.proofs.MarkingBegun.{all_inside, begun}
 use Rattle.mark_core.proofs.begin.begin.Goals as goal
-
-pub find_all_held-requires : goal.find_all_held-requires
-find_all_held-requires c = held_inside_some (config_of c.args.image.now) (memory_of c.args.image.now) c.requires
 
 pub returns-clause-words : goal.returns-clause-words
 returns-clause-words c =

@@ -29,7 +29,7 @@ took-requires-in-Control-clause-fit c =
     let hint = hint_of c.in-Control.control in
     let k : Controlling = control_hinted h hint (seen_control c.in-Control.control) in
     let fit = subst (λ (m : Machine). IsFitFor (heap_of m) (order_of m) c.args.got (shown m)) c.in-Control.is c.requires.fit in
-    fit_for_control h k.spot k.image c.args.got (whole_with_hint h hint (seen_control c.in-Control.control) c.args.got fit.0)
+    fit_for_control h k.phase k.spot k.image c.args.got (whole_with_hint h hint (seen_control c.in-Control.control) c.args.got fit.0)
     (subst (λ (x : Controlling). UnitGoesOn h x.spot c.args.got) (controlled h hint (seen_control c.in-Control.control)) fit.1)
 
 pub returns-in-Control-clause-replied : goal.returns-in-Control-clause-replied

@@ -23,8 +23,8 @@ answer_graph-requires-clause-control c =
     let here = from_read p.machines.items (c.seats-control.result - 1) m (omega (arith, p.all_machines, c.seats-control.ensures)) c.index_mut.ensures.value in
     let at : slice_get (map shown p.machines.items) (control_number p.config) ≡ Some (shown m) =
     ap (slice_get (map shown p.machines.items)) (sym number) ∙ shown_here p.machines.items (c.seats-control.result - 1) m here in
-    subst (λ (e : Config). CanShow (image_from e c.deref.result.now) (shown m)) (sym (heap_here p.config p.machines.items (c.seats-control.result - 1) m p.one_heap here))
-    (subst (λ ws. CanShow (image_from p.config ws) (shown m)) (sym c.deref.ensures.value)
+    subst (λ (e : Config). CanShow e (image_from e c.deref.result.now) (shown m)) (sym (heap_here p.config p.machines.items (c.seats-control.result - 1) m p.one_heap here))
+    (subst (λ ws. CanShow p.config (image_from p.config ws) (shown m)) (sym c.deref.ensures.value)
     (some_can_show p.config p.words.items (map shown p.machines.items) c.requires.rest.mutators c.requires.rest.control p.reached (shown m) at))
 
 pub answer_graph-requires-clause-stand : goal.answer_graph-requires-clause-stand

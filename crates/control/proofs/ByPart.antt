@@ -1,0 +1,133 @@
+-- A pause makes the new image of the part that was loaded: what stands in the image for other words neither counts nor is shown, but where the free
+-- words of a buffer began.
+use Rattle.std.proofs.Common.{◌≡◌, ◌≢◌, ℕ, ◌+◌, ◌<◌, Bool, true, false, List, length, refl, sym, ap, ◌∙◌, subst, arith}
+use Rattle.std.specs.Prelude.{◌==◌, ◌||◌, not, if◌then◌else◌, slice_index}
+use Rattle.std.proofs.lemmas.Bool.{cond-true, cond-false, eqb-true}
+use Rattle.std.proofs.lemmas.Grind.{same_number_lists}
+use Rattle.heap_words.specs.declared.config.Config.{Config}
+use Rattle.heap_words.specs.Words.{Word, Phase, Evac, Ask, Current, Root, Pin, Answer}
+use Rattle.heap_graph.specs.Walk.{has}
+use Rattle.heap_world.specs.Change.{image_words, image_view}
+use Rattle.buffer_words.specs.Buffers.{IsInside, AreInside}
+use Rattle.mark_core.specs.Trace.{IsNullOrInside, HasRootsInside}
+use Rattle.control_rows.specs.declared.extent.Extent.{Extent}
+use Rattle.control_rows.specs.declared.extent.Extent.TheVariants.{Whole, OffHeap, Ahead}
+use Rattle.control_rows.specs.Extent.{is_of_extent, counts}
+use Rattle.control_rows.specs.ByParts.{IsImagePart, IsMadeOf}
+use Rattle.cycle_pauses.specs.Collect.{is_room_needed, collected, collect_image}
+use Rattle.cycle_pauses.specs.Brief.{is_off_heap, is_ahead, IsPartOf}
+use Rattle.cycle_pauses.proofs.Images.{collected_length, collected_by_name}
+use Rattle.cycle_pauses.proofs.Brief.Collected.{need_same}
+use Rattle.cycle_pauses.proofs.Brief.Indices.{off_heap_at, ahead_at, word_here, here_is, here_at, here_image, here_reads}
+use Rattle.cycle_pauses.proofs.Brief.ByParts.{part_of, off_heap_others, ahead_others, off_heap_made, ahead_made}
+use Rattle.cycle_pauses.proofs.Brief.Fills.{IsNoFirst, heap_left, behind_left}
+use Rattle.control.specs.Fit.{CanBeginOff, CanUpdateAhead, CanCollectPart}
+use Rattle.control.specs.Image.{part_in, image_shown}
+use Rattle.control.specs.Starts.{AreStarts, AreHeapIndices}
+use Rattle.control.proofs.PartShown.{part_long, part_reads, made_long, made_reads}
+use Rattle.control.proofs.Starting.{none_is_of, none_begins}
+
+-- what collecting by a part needs of all words
+pub record CanGoOn (c : Config) (memory part : Word → ℕ) : Type 0 where
+  pub calm : is_room_needed memory ≡ false
+  pub unmarked : memory Phase ≢ 1
+  pub roots : memory Phase ≡ 0 → HasRootsInside c memory
+  pub buffers : AreInside c memory
+  pub same_buffers : (seat : ℕ) → memory (Current seat) ≡ part (Current seat)
+
+-- what holds of the buffers of a part holds of those of all words
+buffers_of : (c : Config) (m part : Word → ℕ) → ((seat : ℕ) → m (Current seat) ≡ part (Current seat)) → AreInside c part → AreInside c m
+buffers_of c m part same inside = λ seat below some. subst (IsInside c) (sym (same seat)) (inside seat below (λ none. some (same seat ∙ none)))
+
+off_heap_goes : (c : Config) (m part : Word → ℕ) → IsPartOf is_off_heap m part → CanBeginOff c part → CanGoOn c m part
+off_heap_goes c m part of can = record {
+  calm = need_same m part (of.same Ask refl) (of.same Phase refl) (of.same Evac refl) ∙ can.calm;
+  unmarked = (let idle : m Phase ≡ 0 = of.same Phase refl ∙ can.idle in λ is. omega (arith, idle, is));
+  roots = λ idle. record {
+    roots = λ t i below few. subst (IsNullOrInside c) (sym (of.same (Root t i) refl)) (can.roots.roots t i below few);
+    pins = λ t i below few. subst (IsNullOrInside c) (sym (of.same (Pin t i) refl)) (can.roots.pins t i below few);
+    answers = λ t below some. subst (IsNullOrInside c) (sym (of.same (Answer t) refl)) (can.roots.answers t below (subst (λ n. 1 < n) (of.same (Answer t) refl) some));
+  };
+  buffers = buffers_of c m part (λ seat. of.same (Current seat) refl) can.buffers;
+  same_buffers = λ seat. of.same (Current seat) refl;
+}
+
+ahead_goes : (c : Config) (m part : Word → ℕ) → IsPartOf is_ahead m part → CanUpdateAhead c part → CanGoOn c m part
+ahead_goes c m part of can = record {
+  calm = need_same m part (of.same Ask refl) (of.same Phase refl) (of.same Evac refl) ∙ can.calm;
+  unmarked = λ is. can.unmarked (sym (of.same Phase refl) ∙ is);
+  roots = λ idle. absurd (can.runs (sym (of.same Phase refl) ∙ idle));
+  buffers = buffers_of c m part (λ seat. of.same (Current seat) refl) can.buffers;
+  same_buffers = λ seat. of.same (Current seat) refl;
+}
+
+-- so it is by images
+pub goes_by : (c : Config) (extent : Extent) → extent ≢ Whole → (whole part : List ℕ) → IsImagePart c extent whole part → CanCollectPart c extent (image_view c part) → CanGoOn c (image_view c whole) (image_view c part)
+goes_by c Whole other whole part is_part can = absurd (other refl)
+goes_by c OffHeap other whole part is_part can =
+    off_heap_goes c (image_view c whole) (image_view c part) (part_of c OffHeap is_off_heap (off_heap_at c) off_heap_others whole part is_part) can
+goes_by c Ahead other whole part is_part can =
+    ahead_goes c (image_view c whole) (image_view c part) (part_of c Ahead is_ahead (ahead_at c) ahead_others whole part is_part) can
+
+made_by : (c : Config) (extent : Extent) → extent ≢ Whole → (whole part : List ℕ) → IsImagePart c extent whole part → CanCollectPart c extent (image_view c part)
+    → IsMadeOf c extent whole (collect_image c whole) (collect_image c part)
+made_by c Whole other whole part is_part can = absurd (other refl)
+made_by c OffHeap other whole part is_part can = off_heap_made c whole part is_part can.calm can.idle
+made_by c Ahead other whole part is_part can = ahead_made c whole part is_part can.calm can.runs can.unmarked
+
+-- A word that is left out stays 0, but where the free words of a buffer begin.
+module _ (c : Config) (part : List ℕ) (k : ℕ) (less : k < image_words c) where
+  stays_by : collected c (image_view c part) (word_here c k less) ≡ image_view c part (word_here c k less) → slice_index (collect_image c part) k ≡ slice_index part k
+  stays_by same = sym (here_reads c k less (collect_image c part)) ∙ collected_by_name c part (word_here c k less) (here_is c k less) ∙ same ∙ here_reads c k less part
+
+  left_by : (extent : Extent) → extent ≢ Whole → CanCollectPart c extent (image_view c part) → is_of_extent c extent k ≡ false → IsNoFirst c (image_view c part) (word_here c k less)
+      → slice_index (collect_image c part) k ≡ slice_index part k
+  left_by Whole other can out none = absurd (other refl)
+  left_by OffHeap other can out none =
+      stays_by (heap_left c (image_view c part) can.calm can.idle (word_here c k less)
+      (sym (off_heap_at c (word_here c k less) (here_is c k less) (here_image c k less)) ∙ ap (is_of_extent c OffHeap) (here_at c k less) ∙ out) none)
+  left_by Ahead other can out none =
+      stays_by (behind_left c (image_view c part) can.calm can.runs can.unmarked (word_here c k less)
+      (sym (ahead_at c (word_here c k less) (here_is c k less) (here_image c k less)) ∙ ap (is_of_extent c Ahead) (here_at c k less) ∙ out) none)
+
+-- What is shown at an index of the new image: by whether it is of the extent, and whether free words began there.
+shown_at : (o h : Bool) (p y m : ℕ) → m ≡ (if o || not (p == 0) then p else y) → (o ≡ false → h ≡ true → y ≡ 0) → (o ≡ false → h ≡ false → p ≡ 0) → (if o || h then m else 0) ≡ p
+shown_at true h p y m made cleared left = made
+shown_at false false p y m made cleared left = sym (left refl refl)
+shown_at false true p y m made cleared left = made ∙ by_test (p == 0) refl
+  where
+    by_test : (b : Bool) → (p == 0) ≡ b → (if not b then p else y) ≡ p
+    by_test true is = cleared refl refl ∙ sym (eqb-true p 0 is)
+    by_test false is = refl
+
+-- what was loaded is a part of the image, ..
+pub part_of_all : (c : Config) (extent : Extent) (xs : List ℕ) → IsImagePart c extent xs (part_in c extent xs)
+part_of_all c extent xs k less = part_reads c extent xs k
+
+-- .. and of what is left where those words were made 0 at which free words begin
+module _ (c : Config) (extent : Extent) (other : extent ≢ Whole) (xs ys starts : List ℕ) (long : length xs ≡ image_words c)
+    (cleared : (k : ℕ) → slice_index ys k ≡ (if has starts k then 0 else slice_index xs k)) (of_heap : AreHeapIndices c starts) where
+  abbrev part : List ℕ
+  part = part_in c extent xs
+
+  -- the part is one of these too
+  pub part_of_cleared : IsImagePart c extent ys part
+  part_of_cleared k less = part_reads c extent xs k ∙ by_test (is_of_extent c extent k) refl
+    where
+      by_test : (b : Bool) → is_of_extent c extent k ≡ b → (if b then slice_index xs k else 0) ≡ (if b then slice_index ys k else 0)
+      by_test true is = sym (cleared k ∙ cond-false (has starts k) 0 (slice_index xs k) (none_is_of c extent other starts of_heap k is))
+      by_test false is = refl
+
+  module _ (can : CanCollectPart c extent (image_view c part)) (are : AreStarts c (image_view c part) starts) where
+    pub shown_is_made : image_shown c extent starts (collect_image c ys) ≡ collect_image c part
+    shown_is_made =
+        let one = made_long c extent starts (collect_image c ys) ∙ collected_length c ys in
+        same_number_lists (image_shown c extent starts (collect_image c ys)) (collect_image c part) (one ∙ sym (collected_length c part)) (λ k below.
+        let less : k < image_words c = omega (arith, below, one) in
+        made_reads c extent starts (collect_image c ys) k
+        ∙ shown_at (is_of_extent c extent k) (has starts k) (slice_index (collect_image c part) k) (slice_index ys k) (slice_index (collect_image c ys) k)
+        (made_by c extent other ys part part_of_cleared can k less)
+        (λ out among. cleared k ∙ cond-true (has starts k) 0 (slice_index xs k) among)
+        (λ out none.
+        left_by c part k less extent other can out (none_begins c (image_view c part) starts are k none (word_here c k less) (here_at c k less))
+        ∙ part_reads c extent xs k ∙ cond-false (is_of_extent c extent k) (slice_index xs k) 0 out))

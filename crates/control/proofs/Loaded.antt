@@ -1,0 +1,90 @@
+-- A word of the image that is loaded goes on to the next one, or is the last: then a pause makes the new image.
+use Rattle.std.proofs.Common.{◌≡◌, ℕ, ◌<◌, ◌≤◌, Bool, true, false, List, length, set, take, refl, sym, ap, ◌∙◌, subst, arith}
+use Rattle.std.specs.Prelude.{◌==◌, if◌then◌else◌, nat_lt}
+use Rattle.std.proofs.lemmas.Bool.{cond-true, cond-false, lt-ltb, le-ltb}
+use Rattle.heap_words.specs.declared.config.Config.{Config}
+use Rattle.heap_words.specs.Words.{Word, Phase, Cset, Free}
+use Rattle.heap_world.specs.Change.{Change, image_words, image_view}
+use Rattle.control_rows.specs.declared.extent.Extent.{Extent}
+use Rattle.control_rows.specs.Extent.{is_of_extent, extent_after, next_loaded, padded}
+use Rattle.control_rows.specs.declared.spot.ControlSpot.{ControlSpot}
+use Rattle.control_rows.specs.declared.spot.ControlSpot.TheVariants.{LoadWord, StoreWord}
+use Rattle.control_rows.specs.Rows.{after_load, loads_more, loaded_on, loaded_all, next_image, next_seen, next_phase, next_set, seen_after}
+use Rattle.control_rows.proofs.Extents.{next_is}
+use Rattle.control.specs.Fit.{CanCollectPart, fits_with}
+use Rattle.control.specs.Image.{part_in, image_shown, words_seen}
+use Rattle.control.proofs.PartShown.{loaded_upto, loaded_whole, first_reads}
+
+module _ (change : Change) (c : Config) (extent : Extent) (phase index got : ℕ) (xs : List ℕ) (long : length xs ≡ image_words c) (less : index < image_words c) (own : is_of_extent c extent index ≡ true) where
+  abbrev then_of : Extent
+  then_of = extent_after phase index extent got
+
+  abbrev next : ℕ
+  next = next_loaded c then_of index
+
+  abbrev more : Bool
+  more = nat_lt next (image_words c)
+
+  abbrev before : List ℕ
+  before = take index (part_in c extent xs)
+
+  below : index < length xs
+  below = omega (arith, less, long)
+
+  -- there is a next one
+  pub goes_on : (starts : List ℕ) → next < image_words c → words_seen c (after_load c then_of index) starts (set xs index got) ≡ next_image change c (LoadWord index extent) before phase got
+  goes_on starts there =
+      let is = next_is c then_of index less in
+      let test : more ≡ true = lt-ltb next (image_words c) there in
+      ap (λ spot. words_seen c spot starts (set xs index got)) (cond-true more (LoadWord next then_of) (StoreWord 0 then_of) test)
+      ∙ loaded_upto c extent phase index got xs below own next is.above (let most = is.most in omega (arith, most, long)) is.between
+      ∙ sym (cond-true more (loaded_on next before got) (change c (loaded_all c before got)) test)
+
+  pub stays : (before_it then_it : ℕ) → next < image_words c → (if more then before_it else then_it) ≡ before_it
+  stays before_it then_it there = cond-true more before_it then_it (lt-ltb next (image_words c) there)
+
+  module _ (last : image_words c ≤ next) where
+    test : more ≡ false
+    test = le-ltb next (image_words c) last
+
+    -- that was the last
+    pub all_loaded : part_in c then_of (set xs index got) ≡ loaded_all c before got
+    all_loaded =
+        let is = next_is c then_of index less in
+        loaded_whole c extent phase index got xs below own (image_words c) less (omega (arith, long)) (λ k above to. is.between k above (omega (arith, to, last))) (sym long)
+
+    pub can_collect : fits_with c (LoadWord index extent) phase before got → CanCollectPart c then_of (image_view c (part_in c then_of (set xs index got)))
+    can_collect fit = subst (λ ys. CanCollectPart c then_of (image_view c ys)) (sym all_loaded) (fit test)
+
+    module _ (starts new : List ℕ) (made : image_shown c then_of starts new ≡ change c (part_in c then_of (set xs index got))) where
+      made_of_all : image_shown c then_of starts new ≡ change c (loaded_all c before got)
+      made_of_all = made ∙ ap (change c) all_loaded
+
+      pub image_made : words_seen c (after_load c then_of index) starts new ≡ next_image change c (LoadWord index extent) before phase got
+      image_made =
+          ap (λ spot. words_seen c spot starts new) (cond-false more (LoadWord next then_of) (StoreWord 0 then_of) test) ∙ made_of_all
+          ∙ sym (cond-false more (loaded_on next before got) (change c (loaded_all c before got)) test)
+
+      -- the words of a cycle
+      abbrev then_made : Word → ℕ
+      then_made = image_view c (change c (loaded_all c before got))
+
+      phase_is : image_view c new Phase ≡ then_made Phase
+      phase_is = sym (first_reads c then_of starts new Phase tt refl (omega arith)) ∙ ap (λ ys. image_view c ys Phase) made_of_all
+
+      cset_is : image_view c new Cset ≡ then_made Cset
+      cset_is = sym (first_reads c then_of starts new Cset tt refl (omega arith)) ∙ ap (λ ys. image_view c ys Cset) made_of_all
+
+      free_is : image_view c new Free ≡ then_made Free
+      free_is = sym (first_reads c then_of starts new Free tt refl (omega arith)) ∙ ap (λ ys. image_view c ys Free) made_of_all
+
+      pub phase_made : image_view c new Phase ≡ next_phase change c (LoadWord index extent) before phase got
+      phase_made = phase_is ∙ sym (cond-false more phase (then_made Phase) test)
+
+      pub cset_made : (cset : ℕ) → image_view c new Cset ≡ next_set change c (LoadWord index extent) before cset phase got
+      cset_made cset = cset_is ∙ sym (cond-false more cset (then_made Cset) test)
+
+      pub seen_made : (seen : ℕ) → seen_after seen (image_view c new) ≡ next_seen change c (LoadWord index extent) before seen phase got
+      seen_made seen =
+          ap (λ n. if n == 0 then image_view c new Free else seen) phase_is ∙ ap (λ n. if then_made Phase == 0 then n else seen) free_is
+          ∙ sym (cond-false more seen (seen_after seen then_made) test)

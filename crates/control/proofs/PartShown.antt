@@ -1,0 +1,136 @@
+-- What the words read that a control shows of its image.
+use Rattle.std.proofs.Common.{◌≡◌, ◌≢◌, ℕ, ◌+◌, ◌-◌, ◌<◌, ◌≤◌, ◌++◌, Bool, true, false, List, [], ◌∷◌, length, get_or, set, take, ⊎_elim, refl, sym, ap, ◌∙◌, subst, arith, length-take, length-set}
+use Rattle.std.specs.Prelude.{◌||◌, if◌then◌else◌, slice_index}
+use Rattle.std.specs.List.{range_with_len}
+use Rattle.std.proofs.lemmas.Bool.{cases_eq, cases_lt, cases_Bool, cond-true, cond-false, or_left}
+use Rattle.std.proofs.lemmas.Grind.{same_number_lists}
+use Rattle.std.proofs.lemmas.List.{get_or_past, get_or-take, get_or-set_same, get_or-set_other, get_or_append_left, get_or_push, take_all, length_push}
+use Rattle.std.proofs.lemmas.List.FromFn.{get_or-map-range_with_len, length-map-range_with_len}
+use Rattle.heap_words.specs.declared.config.Config.{Config}
+use Rattle.heap_words.specs.Words.{Word, IsWord, is_image, word_at, image_start}
+use Rattle.heap_graph.specs.Walk.{has}
+use Rattle.heap_world.specs.Change.{Change, image_words, image_view}
+use Rattle.control_rows.specs.declared.extent.Extent.{Extent}
+use Rattle.control_rows.specs.declared.extent.Extent.TheVariants.{Whole, OffHeap, Ahead}
+use Rattle.control_rows.specs.Extent.{is_of_extent, extent_after, padded}
+use Rattle.control_rows.proofs.Extents.{padded_reads, padded_long, early, changes_early}
+use Rattle.cycle_pauses.proofs.Brief.Indices.{image_reads}
+use Rattle.control.specs.Image.{shown_by, part_in, is_seen, image_shown}
+
+-- 0 is so whether a word is shown or not
+pub either_zero : (b : Bool) (n : ℕ) → n ≡ 0 → (if b then n else 0) ≡ 0
+either_zero true n none = none
+either_zero false n none = refl
+
+module _ (test : ℕ → Bool) (image : List ℕ) where
+  shown_long : length (shown_by test image) ≡ length image
+  shown_long = length-map-range_with_len (λ k. if test k then slice_index image k else 0) 0 (length image)
+
+  shown_reads : (k : ℕ) → slice_index (shown_by test image) k ≡ (if test k then slice_index image k else 0)
+  shown_reads k = ⊎_elim
+      (λ (less : k < length image). get_or-map-range_with_len (λ i. if test i then slice_index image i else 0) 0 (length image) k k 0 less (omega arith))
+      (λ (past : length image ≤ k).
+      get_or_past (shown_by test image) k 0 (let long = shown_long in omega (arith, long, past)) ∙ sym (either_zero (test k) (slice_index image k) (get_or_past image k 0 past)))
+      (cases_lt k (length image))
+
+pub part_long : (c : Config) (extent : Extent) (image : List ℕ) → length (part_in c extent image) ≡ length image
+part_long c Whole image = refl
+part_long c OffHeap image = shown_long (is_of_extent c OffHeap) image
+part_long c Ahead image = shown_long (is_of_extent c Ahead) image
+
+pub part_reads : (c : Config) (extent : Extent) (image : List ℕ) (k : ℕ) → slice_index (part_in c extent image) k ≡ (if is_of_extent c extent k then slice_index image k else 0)
+part_reads c Whole image k = refl
+part_reads c OffHeap image k = shown_reads (is_of_extent c OffHeap) image k
+part_reads c Ahead image k = shown_reads (is_of_extent c Ahead) image k
+
+pub made_long : (c : Config) (extent : Extent) (starts image : List ℕ) → length (image_shown c extent starts image) ≡ length image
+made_long c Whole starts image = refl
+made_long c OffHeap starts image = shown_long (is_seen c OffHeap starts) image
+made_long c Ahead starts image = shown_long (is_seen c Ahead starts) image
+
+pub made_reads : (c : Config) (extent : Extent) (starts image : List ℕ) (k : ℕ) → slice_index (image_shown c extent starts image) k ≡ (if is_seen c extent starts k then slice_index image k else 0)
+made_reads c Whole starts image k = refl
+made_reads c OffHeap starts image k = shown_reads (is_seen c OffHeap starts) image k
+made_reads c Ahead starts image k = shown_reads (is_seen c Ahead starts) image k
+
+-- a word that is seen reads as in the image
+pub seen_reads : (c : Config) (extent : Extent) (starts image : List ℕ) (k : ℕ) → is_seen c extent starts k ≡ true → slice_index (image_shown c extent starts image) k ≡ slice_index image k
+seen_reads c extent starts image k seen = made_reads c extent starts image k ∙ cond-true (is_seen c extent starts k) (slice_index image k) 0 seen
+
+-- so do the first words, which stand for a cycle
+pub first_reads : (c : Config) (extent : Extent) (starts image : List ℕ) (w : Word) → IsWord c w → is_image w ≡ true → word_at c w < image_start c + 7
+    → image_view c (image_shown c extent starts image) w ≡ image_view c image w
+first_reads c extent starts image w is in_image few =
+    let k : ℕ = word_at c w - image_start c in
+    image_reads c (image_shown c extent starts image) w is in_image
+    ∙ seen_reads c extent starts image k (or_left (is_of_extent c extent k) (has starts k) (early c extent k (omega (arith, few))))
+    ∙ sym (image_reads c image w is in_image)
+
+-- What has been loaded up to a word, with one more word, is what has been loaded up to the next one: all between are left out.
+module _ (c : Config) (extent : Extent) (phase index got : ℕ) (xs : List ℕ) (below : index < length xs) (own : is_of_extent c extent index ≡ true) where
+  abbrev then_of : Extent
+  then_of = extent_after phase index extent got
+
+  -- the extent then has the words before as the one before it
+  same_before : (k : ℕ) → k < index → is_of_extent c then_of k ≡ is_of_extent c extent k
+  same_before k less = ⊎_elim
+      (λ (few : index < 6). early c then_of k (omega (arith, less, few)) ∙ sym (early c extent k (omega (arith, less, few))))
+      (λ (late : 6 ≤ index). ap (λ e. is_of_extent c e k) (changes_early phase index extent got late))
+      (cases_lt index 6)
+
+  own_then : is_of_extent c then_of index ≡ true
+  own_then = ⊎_elim
+      (λ (few : index < 6). early c then_of index (omega (arith, few)))
+      (λ (late : 6 ≤ index). ap (λ e. is_of_extent c e index) (changes_early phase index extent got late) ∙ own)
+      (cases_lt index 6)
+
+  abbrev before : List ℕ
+  before = take index (part_in c extent xs)
+
+  before_long : length before ≡ index
+  before_long = (let taken = length-take index (part_in c extent xs) in let all = part_long c extent xs in omega (arith, taken, all, below))
+
+  module _ (upto : ℕ) (more : index < upto) (within : upto ≤ length xs) (between : (k : ℕ) → index < k → k < upto → is_of_extent c then_of k ≡ false) where
+    abbrev after : List ℕ
+    after = part_in c then_of (set xs index got)
+
+    after_long : length after ≡ length xs
+    after_long = part_long c then_of (set xs index got) ∙ length-set xs index got
+
+    pushed_long : length (before ++ got ∷ []) ≡ index + 1
+    pushed_long = length_push before got ∙ ap (λ n. n + 1) before_long
+
+    reads : (k : ℕ) → k < upto → slice_index after k ≡ slice_index (before ++ got ∷ []) k
+    reads k less = ⊎_elim
+        (λ (less' : k < index).
+        part_reads c then_of (set xs index got) k
+        ∙ ap (λ b. if b then slice_index (set xs index got) k else 0) (same_before k less')
+        ∙ ap (λ n. if is_of_extent c extent k then n else 0) (get_or-set_other xs index k got 0 (omega (arith, less')))
+        ∙ sym (get_or_append_left before (got ∷ []) 0 k (let long = before_long in omega (arith, long, less')) ∙ get_or-take index (part_in c extent xs) k 0 less' ∙ part_reads c extent xs k))
+        (λ (from : index ≤ k). ⊎_elim
+        (λ (same : k ≡ index).
+        subst (λ i. slice_index after i ≡ slice_index (before ++ got ∷ []) i) (sym same)
+        (part_reads c then_of (set xs index got) index ∙ cond-true (is_of_extent c then_of index) (slice_index (set xs index got) index) 0 own_then
+        ∙ get_or-set_same xs index got 0 below ∙ sym (get_or_push before got 0 index before_long)))
+        (λ (other : k ≢ index).
+        part_reads c then_of (set xs index got) k
+        ∙ cond-false (is_of_extent c then_of k) (slice_index (set xs index got) k) 0 (between k (omega (arith, from, other)) less)
+        ∙ sym (get_or_past (before ++ got ∷ []) k 0 (let long = pushed_long in omega (arith, long, from, other))))
+        (cases_eq k index))
+        (cases_lt k index)
+
+    pub loaded_upto : take upto after ≡ padded upto (before ++ got ∷ [])
+    loaded_upto =
+        let taken = length-take upto after in
+        let all = after_long in
+        let pushed = pushed_long in
+        let long : length (take upto after) ≡ upto = omega (arith, taken, all, within) in
+        same_number_lists (take upto after) (padded upto (before ++ got ∷ []))
+        (long ∙ sym (padded_long upto (before ++ got ∷ []) (omega (arith, pushed, more))))
+        (λ k less.
+        let here : k < upto = omega (arith, less, long) in
+        get_or-take upto after k 0 here ∙ reads k here ∙ sym (padded_reads upto (before ++ got ∷ []) k))
+
+    -- all that was loaded, where no word is left
+    pub loaded_whole : upto ≡ length xs → after ≡ padded upto (before ++ got ∷ [])
+    loaded_whole end = sym (take_all upto after (let all = after_long in omega (arith, all, end))) ∙ loaded_upto

@@ -1,0 +1,32 @@
+use Rattle.std.proofs.Common.{◌≡◌, ◌+◌, ◌<◌, ap, sym, ◌∙◌, arith}
+use Rattle.std.proofs.lemmas.Bool.{ltb-true}
+use Rattle.heap_world.specs.Change.{image_words}
+use Rattle.control_rows.specs.declared.extent.Extent.TheVariants.{Whole}
+use Rattle.control_rows.specs.declared.spot.ControlSpot.TheVariants.{LoadWord, StoreWord}
+use Rattle.cycle_pauses.specs.Collect.{collect_image}
+use Rattle.control.specs.Image.{image_in, is_inside_image}
+use Rattle.control.specs.Seen.{config_in}
+use Rattle.control.proofs.Images.{length-image_in}
+use Rattle.control.proofs.Going.{loads_on, stores_on}
+use Rattle.control.proofs.machine.Control.goes_on_in_image.Goals as goal
+
+pub returns-in-LoadWord-default-Whole-clause-row : goal.returns-in-LoadWord-default-Whole-clause-row
+returns-in-LoadWord-default-Whole-clause-row c = λ yes.
+    let k = c.args.self.now in
+    let d = config_in k in
+    let index = c.in-LoadWord-default-Whole.index in
+    let extent : c.in-LoadWord-default-Whole.extent ≡ Whole = rw c.in-LoadWord-default-Whole.is at c.in-LoadWord-default-Whole.extent-is in
+    let spot : k.spot ≡ LoadWord index Whole = c.in-LoadWord-default-Whole.is ∙ ap (LoadWord index) extent in
+    let more : index + 1 < image_words d = (let last = k.last_is in omega (arith, last)) in
+    loads_on collect_image d k.last.seen k.last.phase k.last.cset k.hints (image_in k.image) (length-image_in k.image) index c.args.got more k.starts k.spot
+    (image_in c.put_word.new.image) spot c.put_word.ensures.image
+
+pub returns-in-StoreWord-default-Whole-clause-row : goal.returns-in-StoreWord-default-Whole-clause-row
+returns-in-StoreWord-default-Whole-clause-row c = λ yes.
+    let k = c.args.self.now in
+    let d = config_in k in
+    let index = c.in-StoreWord-default-Whole.index in
+    let extent : c.in-StoreWord-default-Whole.extent ≡ Whole = rw c.in-StoreWord-default-Whole.is at c.in-StoreWord-default-Whole.extent-is in
+    let spot : k.spot ≡ StoreWord index Whole = c.in-StoreWord-default-Whole.is ∙ ap (StoreWord index) extent in
+    let more : index + 1 < image_words d = (let last = k.last_is in omega (arith, last)) in
+    stores_on collect_image d k.last.seen k.last.phase k.last.cset k.hints (image_in k.image) (length-image_in k.image) index c.args.got more k.starts k.spot spot

@@ -1,0 +1,29 @@
+use Rattle.std.proofs.Common.{◌≡◌, ◌+◌, ap, sym, ◌∙◌, subst}
+use Rattle.std.specs.Prelude.{slice_index}
+use Rattle.std.proofs.lemmas.List.{get_or-drop}
+use Rattle.heap_words.specs.declared.config.Config.{Config}
+use Rattle.heap_words.specs.declared.access.Access.TheVariants.{Store}
+use Rattle.heap_words.specs.Words.{image_start}
+use Rattle.image_graph.specs.State.{words_of}
+use Rattle.control_rows.specs.declared.spot.ControlSpot.{ControlSpot}
+use Rattle.control_rows.specs.Rows.{Controlling}
+use Rattle.control.specs.Image.{image_in, image_shown, words_seen, SeesOwn}
+use Rattle.control.specs.Seen.{config_in, seen_control, hint_of}
+use Rattle.control.proofs.Going.{unhinted, stored_row}
+use Rattle.control.proofs.PartShown.{seen_reads}
+use Rattle.control.proofs.machine.Control.plan.Goals as goal
+
+pub returns-in-StoreWord-clause-row : goal.returns-in-StoreWord-clause-row
+returns-in-StoreWord-clause-row c =
+    let k = c.args.self.now in
+    let d = config_in k in
+    let index = c.in-StoreWord.index in
+    let extent = c.in-StoreWord.extent in
+    let hinted = sym c.goes_on_at.ensures.row ∙ c.in-StoreWord.is in
+    let spot = unhinted d index extent (hint_of k) k.spot hinted in
+    let start = c.image_start-in-StoreWord.ensures.value ∙ ap image_start c.config-config.ensures in
+    let own = subst (λ s. SeesOwn d s k.starts) c.in-StoreWord.is c.goes_on_at.ensures.own in
+    let read = c.word.ensures.value ∙ ap (λ n. slice_index (words_of k.image) (n + index)) start ∙ sym (get_or-drop (image_start d) (words_of k.image) index 0)
+    ∙ sym (seen_reads d extent k.starts (image_in k.image) index own)
+    ∙ ap (λ s. slice_index (words_seen d s k.starts (image_in k.image)) index) (sym spot) in
+    ap (λ n. Store (n + index) c.word.result) start ∙ stored_row d index extent (hint_of k) (seen_control k) c.word.result hinted read

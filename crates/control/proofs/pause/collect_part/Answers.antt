@@ -1,0 +1,88 @@
+use Rattle.std.proofs.Common.{◌≡◌, ◌≢◌, ℕ, List, sym, ap, ◌∙◌, subst}
+use Rattle.std.specs.Prelude.{false, if◌then◌else◌, slice_index}
+use Rattle.heap_words.specs.declared.config.Config.{Config}
+use Rattle.heap_words.specs.Words.{Word, Phase, Current}
+use Rattle.heap_graph.specs.Walk.{has}
+use Rattle.heap_world.specs.Change.{image_view}
+use Rattle.image_graph.specs.declared.image.Image.{Image}
+use Rattle.image_graph.specs.State.{config_of, memory_of}
+use Rattle.control_rows.specs.declared.extent.Extent.{Extent}
+use Rattle.control_rows.specs.declared.extent.Extent.TheVariants.{Whole}
+use Rattle.cycle_pauses.specs.Collect.{collected, collect_image}
+use Rattle.control.specs.Clear.{IsClear}
+use Rattle.control.specs.Fit.{CanCollectPart}
+use Rattle.control.specs.Image.{image_in, part_in, image_shown}
+use Rattle.control.specs.Starts.{start_index, AreStarts, AreHeapIndices}
+use Rattle.control.proofs.Images.{memory-image_in, length-image_in, image-collected, clear-collected}
+use Rattle.control.proofs.ByPart.{CanGoOn, goes_by, part_of_all, part_of_cleared, shown_is_made}
+use Rattle.control.proofs.pause.collect_part.Goals as goal
+
+-- an image as it was loaded
+module _ (old : Image) (extent : Extent) (part : extent ≢ Whole) (clear : IsClear old)
+    (can : CanCollectPart (config_of old) extent (image_view (config_of old) (part_in (config_of old) extent (image_in old)))) where
+  abbrev d : Config
+  d = config_of old
+
+  abbrev loaded : Word → ℕ
+  loaded = image_view d (part_in d extent (image_in old))
+
+  goes_old : CanGoOn d (memory_of old) loaded
+  goes_old =
+      subst (λ m. CanGoOn d m loaded) (sym (memory-image_in old clear))
+      (goes_by d extent part (image_in old) (part_in d extent (image_in old)) (part_of_all d extent (image_in old)) can)
+
+  -- and once the words are 0 there at which free words begin
+  module _ (mid : Image) (starts : List ℕ) (config : config_of mid ≡ config_of old) (cleared : (k : ℕ) → slice_index (image_in mid) k ≡ (if has starts k then 0 else slice_index (image_in old) k))
+      (still_clear : IsClear mid) (of_heap : AreHeapIndices (config_of old) starts) where
+    memory_is : memory_of mid ≡ image_view d (image_in mid)
+    memory_is = memory-image_in mid still_clear ∙ ap (λ k. image_view k (image_in mid)) config
+
+    goes_mid : CanGoOn (config_of mid) (memory_of mid) loaded
+    goes_mid =
+        subst (λ k. CanGoOn k (memory_of mid) loaded) (sym config) (subst (λ m. CanGoOn d m loaded) (sym memory_is)
+        (goes_by d extent part (image_in mid) (part_in d extent (image_in old)) (part_of_cleared d extent part (image_in old) (image_in mid) starts (length-image_in old) cleared of_heap) can))
+
+    -- and collected
+    made : (new : Image) → config_of new ≡ config_of mid → memory_of new ≡ collected (config_of mid) (memory_of mid) → AreStarts d (memory_of old) starts
+        → image_shown d extent starts (image_in new) ≡ collect_image d (part_in d extent (image_in old))
+    made new config_then words are =
+        ap (image_shown d extent starts) (image-collected mid new still_clear config_then words ∙ ap (λ k. collect_image k (image_in mid)) config)
+        ∙ shown_is_made d extent part (image_in old) (image_in mid) starts (length-image_in old) cleared of_heap can
+        (record { long = are.long; of_seat = λ seat below. are.of_seat seat below ∙ ap (start_index d) (goes_old.same_buffers seat) })
+
+pub starts_in-starts-requires : goal.starts_in-starts-requires
+starts_in-starts-requires c = let goes = goes_old c.args.image.now c.args.extent c.requires.part c.requires.clear c.requires.can in goes.buffers
+
+pub collect_by_part-requires-clause-calm : goal.collect_by_part-requires-clause-calm
+collect_by_part-requires-clause-calm c =
+    let goes = goes_mid c.args.image.now c.args.extent c.requires.part c.requires.clear c.requires.can c.clear_starts.new.image c.starts_in-starts.result
+    c.clear_starts.ensures.config c.clear_starts.ensures.image c.clear_starts.ensures.clear c.starts_in-starts.ensures.heap in
+    goes.calm
+
+pub collect_by_part-requires-clause-unmarked : goal.collect_by_part-requires-clause-unmarked
+collect_by_part-requires-clause-unmarked c =
+    let goes = goes_mid c.args.image.now c.args.extent c.requires.part c.requires.clear c.requires.can c.clear_starts.new.image c.starts_in-starts.result
+    c.clear_starts.ensures.config c.clear_starts.ensures.image c.clear_starts.ensures.clear c.starts_in-starts.ensures.heap in
+    goes.unmarked
+
+pub collect_by_part-requires-clause-roots : goal.collect_by_part-requires-clause-roots
+collect_by_part-requires-clause-roots c =
+    let goes = goes_mid c.args.image.now c.args.extent c.requires.part c.requires.clear c.requires.can c.clear_starts.new.image c.starts_in-starts.result
+    c.clear_starts.ensures.config c.clear_starts.ensures.image c.clear_starts.ensures.clear c.starts_in-starts.ensures.heap in
+    goes.roots
+
+pub collect_by_part-requires-clause-buffers : goal.collect_by_part-requires-clause-buffers
+collect_by_part-requires-clause-buffers c =
+    let goes = goes_mid c.args.image.now c.args.extent c.requires.part c.requires.clear c.requires.can c.clear_starts.new.image c.starts_in-starts.result
+    c.clear_starts.ensures.config c.clear_starts.ensures.image c.clear_starts.ensures.clear c.starts_in-starts.ensures.heap in
+    goes.buffers
+
+pub returns-clause-image : goal.returns-clause-image
+returns-clause-image c =
+    made c.args.image.now c.args.extent c.requires.part c.requires.clear c.requires.can c.clear_starts.new.image c.starts_in-starts.result
+    c.clear_starts.ensures.config c.clear_starts.ensures.image c.clear_starts.ensures.clear c.starts_in-starts.ensures.heap
+    c.collect_by_part.new.image c.collect_by_part.ensures.config c.collect_by_part.ensures.words c.starts_in-starts.ensures.are
+
+pub returns-clause-clear : goal.returns-clause-clear
+returns-clause-clear c =
+    clear-collected c.clear_starts.new.image c.collect_by_part.new.image c.clear_starts.ensures.clear c.collect_by_part.ensures.config c.collect_by_part.ensures.words

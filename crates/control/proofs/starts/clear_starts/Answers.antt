@@ -1,0 +1,59 @@
+use Rattle.std.proofs.Common.{◌≡◌, ◌≢◌, ◌+◌, ◌<◌, ℕ, Bool, true, false, List, length, set, take, ⊎_elim, refl, sym, ap, ◌∙◌, subst, arith}
+use Rattle.std.specs.Prelude.{◌||◌, nat_eq, if◌then◌else◌, slice_index}
+use Rattle.std.proofs.lemmas.Bool.{cases_eq, cond-true, eq-eqb, ne_eqb, or_right}
+use Rattle.std.proofs.lemmas.List.{get_or-set_same, get_or-set_other, take_all}
+use Rattle.heap_words.specs.declared.config.Config.{Config}
+use Rattle.heap_graph.specs.Walk.{has}
+use Rattle.heap_world.specs.Change.{image_words}
+use Rattle.image_graph.specs.State.{config_of}
+use Rattle.control_rows.specs.Extent.{heap_index}
+use Rattle.control.specs.Image.{image_in}
+use Rattle.control.proofs.Images.{length-image_in}
+use Rattle.control.proofs.Starting.{has_more}
+use Rattle.control.proofs.starts.clear_starts.Goals as goal
+
+or_none : (b : Bool) → (b || false) ≡ b
+or_none true = refl
+or_none false = refl
+
+-- one more index is made 0
+module _ (starts xs ys : List ℕ) (number : ℕ) (some : number < length starts) (inside : slice_index starts number < length ys)
+    (cleared : (k : ℕ) → slice_index ys k ≡ (if has (take number starts) k then 0 else slice_index xs k)) where
+  abbrev start : ℕ
+  start = slice_index starts number
+
+  one_more : (k : ℕ) → slice_index (set ys start 0) k ≡ (if has (take (number + 1) starts) k then 0 else slice_index xs k)
+  one_more k = ⊎_elim
+      (λ (same : k ≡ start).
+      subst (λ j. slice_index (set ys start 0) j ≡ 0) (sym same) (get_or-set_same ys start 0 0 inside)
+      ∙ sym (cond-true (has (take (number + 1) starts) k) 0 (slice_index xs k) (has_more starts number k some ∙ or_right (has (take number starts) k) (nat_eq k start) (eq-eqb k start same))))
+      (λ (other : k ≢ start).
+      get_or-set_other ys start k 0 0 other ∙ cleared k
+      ∙ ap (λ b. if b then 0 else slice_index xs k) (sym (has_more starts number k some ∙ ap (λ b. has (take number starts) k || b) (ne_eqb k start other) ∙ or_none (has (take number starts) k))))
+      (cases_eq k start)
+
+pub put_word-requires-clause-index : goal.put_word-requires-clause-index
+put_word-requires-clause-index c =
+    let some : c.loop-number.number < length c.args.starts.now = omega (arith, c.loop-number-test.true) in
+    let of = c.requires.heap c.loop-number.number some in
+    omega (arith, of.1, ap image_words c.loop-number.invariant.config)
+
+pub loop-number-preserved : goal.loop-number-preserved
+loop-number-preserved c =
+    let d = config_of c.args.image.now in
+    let starts = c.args.starts.now in
+    let number = c.loop-number.number in
+    let some : number < length starts = omega (arith, c.loop-number-test.true) in
+    let of = c.requires.heap number some in
+    let long = length-image_in c.loop-number.image ∙ ap image_words c.loop-number.invariant.config in
+    record {
+      config = c.put_word.ensures.config ∙ c.loop-number.invariant.config;
+      clear = c.put_word.ensures.clear;
+      cleared = λ k. ap (λ ys. slice_index ys k) c.put_word.ensures.image
+          ∙ one_more starts (image_in c.args.image.now) (image_in c.loop-number.image) number some (omega (arith, long, of.1)) c.loop-number.invariant.cleared k;
+    }
+
+pub returns-clause-image : goal.returns-clause-image
+returns-clause-image c = λ k.
+    c.loop-number.invariant.cleared k
+    ∙ ap (λ xs. if has xs k then 0 else slice_index (image_in c.args.image.now) k) (take_all c.loop-number.number c.args.starts.now (omega (arith, c.loop-number-test.false)))

@@ -1,0 +1,14 @@
+use Rattle.std.proofs.Common.{◌≡◌, ℕ, take}
+use Rattle.std.specs.Prelude.{if◌then◌else◌, slice_index}
+use Rattle.heap_graph.specs.Walk.{has}
+use Rattle.image_graph.specs.State.{config_of}
+use Rattle.control.specs.Clear.{IsClear}
+use Rattle.control.specs.Image.{image_in}
+use Rattle.control.proofs.starts.clear_starts.Given as goal
+
+abbrev pub invariant-loop-number : goal.invariant-loop-number
+invariant-loop-number l = record {
+  config : config_of l.image ≡ config_of l.initial.image;
+  clear : IsClear l.image;
+  cleared : (k : ℕ) → slice_index (image_in l.image) k ≡ (if has (take l.number l.starts) k then 0 else slice_index (image_in l.initial.image) k);
+}

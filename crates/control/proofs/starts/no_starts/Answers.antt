@@ -1,0 +1,11 @@
+use Rattle.std.proofs.Common.{◌<◌, sym, subst, arith}
+use Rattle.std.proofs.lemmas.List.{get_or-replicate}
+use Rattle.control.specs.Starts.{IsHeapIndex}
+use Rattle.control.proofs.Starting.{first_of_heap}
+use Rattle.control.proofs.starts.no_starts.Goals as goal
+
+pub returns : goal.returns
+returns c = λ i less.
+    let k = c.args.config in
+    let below : i < 12 = omega (arith, less) in
+    subst (IsHeapIndex k) (sym (get_or-replicate 12 i c.heap_index.result 0 below)) (subst (IsHeapIndex k) (sym c.heap_index.ensures) (first_of_heap k))

@@ -1,0 +1,60 @@
+use Rattle.std.proofs.Common.{◌≡◌, ◌≢◌, ◌<◌, ℕ, get_or, set, ⊎_elim, sym, ap, ◌∙◌, subst, arith, length-set}
+use Rattle.std.specs.Prelude.{slice_index}
+use Rattle.std.proofs.lemmas.Bool.{cases_eq}
+use Rattle.std.proofs.lemmas.List.{get_or-set_same, get_or-set_other}
+use Rattle.heap_words.specs.declared.config.Config.{Config}
+use Rattle.heap_words.specs.Ranges.{seat_count}
+use Rattle.heap_words.specs.Words.{Current, word_at}
+use Rattle.buffer_words.specs.Buffers.{IsInside}
+use Rattle.image_graph.specs.State.{config_of, memory_of}
+use Rattle.control.specs.Starts.{start_index, IsHeapIndex, AreHeapIndices}
+use Rattle.control.proofs.Starting.{one_more_of_heap}
+use Rattle.control.proofs.starts.starts_in.Goals as goal
+
+pub loop-seat-init : goal.loop-seat-init
+loop-seat-init c = record {
+  long = omega arith;
+  of_seat = λ seat less. absurd (omega (arith, less));
+  heap = subst (λ d. AreHeapIndices d c.no_starts-starts.result) c.config-config.ensures c.no_starts-starts.ensures;
+}
+
+pub start_of-requires : goal.start_of-requires
+start_of-requires c =
+    let k = config_of c.args.image.now in
+    let m = memory_of c.args.image.now in
+    let seat = c.loop-seat.seat in
+    let config = c.config-config.ensures in
+    let below : seat < seat_count k.mutators k.helpers = omega (arith, c.loop-seat-test.true, c.seats-seat-end.ensures, ap (λ (d : Config). seat_count d.mutators d.helpers) config) in
+    let word : c.word.result ≡ m (Current seat) = c.word.ensures.named (Current seat) below (sym (c.cur_at.ensures ∙ ap (λ d. word_at d (Current seat)) config)) in
+    λ some. subst (λ (d : Config). IsInside d c.word.result) (sym config) (subst (IsInside k) (sym word) (c.requires seat below (λ none. some (word ∙ none))))
+
+pub loop-seat-preserved : goal.loop-seat-preserved
+loop-seat-preserved c =
+    let k = config_of c.args.image.now in
+    let m = memory_of c.args.image.now in
+    let seat = c.loop-seat.seat in
+    let starts = c.loop-seat.starts in
+    let config = c.config-config.ensures in
+    let below : seat < seat_count k.mutators k.helpers = omega (arith, c.loop-seat-test.true, c.seats-seat-end.ensures, ap (λ (d : Config). seat_count d.mutators d.helpers) config) in
+    let mutators = k.in_range.most_mutators in
+    let helpers = k.in_range.most_helpers in
+    let word : c.word.result ≡ m (Current seat) = c.word.ensures.named (Current seat) below (sym (c.cur_at.ensures ∙ ap (λ d. word_at d (Current seat)) config)) in
+    let start : c.start_of.result ≡ start_index k (m (Current seat)) = c.start_of.ensures.value ∙ ap (λ d. start_index d c.word.result) config ∙ ap (start_index k) word in
+    let long = c.loop-seat.invariant.long in
+    record {
+      long = length-set starts seat c.start_of.result ∙ long;
+      of_seat = λ s less. ⊎_elim
+          (λ (same : s ≡ seat). subst (λ j. slice_index (set starts seat c.start_of.result) j ≡ start_index k (m (Current j))) (sym same)
+          (get_or-set_same starts seat c.start_of.result 0 (omega (arith, long, below, mutators, helpers)) ∙ start))
+          (λ (other : s ≢ seat). get_or-set_other starts seat s c.start_of.result 0 other ∙ c.loop-seat.invariant.of_seat s (omega (arith, less, other)))
+          (cases_eq s seat);
+      heap = one_more_of_heap k starts seat c.start_of.result (subst (λ d. IsHeapIndex d c.start_of.result) config c.start_of.ensures.heap) c.loop-seat.invariant.heap;
+    }
+
+pub returns-clause-are : goal.returns-clause-are
+returns-clause-are c =
+    let seats = ap (λ (d : Config). seat_count d.mutators d.helpers) c.config-config.ensures in
+    record {
+      long = c.loop-seat.invariant.long;
+      of_seat = λ seat below. c.loop-seat.invariant.of_seat seat (omega (arith, below, c.loop-seat-test.false, c.seats-seat-end.ensures, seats));
+    }

@@ -1,0 +1,24 @@
+-- Where in the image the free words of buffers begin. A pause that leaves out the words of the heap writes no others of them.
+use Rattle.std.specs.Prelude.{ℕ, ◌≡◌, ◌+◌, ◌-◌, ◌<◌, ◌≤◌, nat_lt, if◌then◌else◌, List, length, slice_index}
+use Rattle.heap_words.specs.declared.config.Config.{Config}
+use Rattle.heap_words.specs.Ranges.{seat_count}
+use Rattle.heap_words.specs.Words.{Word, Current, Heap, word_at, image_start, heap_size}
+use Rattle.heap_words.specs.Encoding.{next_in, end_in}
+use Rattle.control_rows.specs.Extent.{heap_index}
+
+-- of a buffer, by its word; where it has no free words, where those of the heap begin
+abbrev pub start_index : Config → ℕ → ℕ
+start_index c word = if nat_lt (next_in word) (end_in word) then word_at c (Heap (next_in word)) - image_start c else heap_index c
+
+-- of the buffer of each seat
+pub record AreStarts (c : Config) (memory : Word → ℕ) (starts : List ℕ) : Type 0 where
+  pub long : length starts ≡ 12
+  pub of_seat : (seat : ℕ) → seat < seat_count c.mutators c.helpers → slice_index starts seat ≡ start_index c (memory (Current seat))
+
+-- an index is one of a word of the heap
+abbrev pub IsHeapIndex : Config → ℕ → Type 0
+IsHeapIndex c k = (heap_index c ≤ k) × (k < heap_index c + heap_size c)
+
+-- each of them is
+abbrev pub AreHeapIndices : Config → List ℕ → Type 0
+AreHeapIndices c starts = (i : ℕ) → i < length starts → IsHeapIndex c (slice_index starts i)

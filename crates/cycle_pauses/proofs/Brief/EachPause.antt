@@ -1,0 +1,106 @@
+-- The beginning of marking is made of the words off the heap, and the beginning of updating and its end of those before the words of the mutators.
+use Rattle.std.proofs.Common.{◌≡◌, ℕ, Bool, true, false, refl, ap, ◌∙◌}
+use Rattle.std.specs.Prelude.{◌==◌, if◌then◌else◌}
+use Rattle.std.specs.Int.{bit_at}
+use Rattle.std.specs.Int.RustNames.{bit_or}
+use Rattle.std.proofs.lemmas.Bool.{true≢false}
+use Rattle.heap_words.specs.declared.config.Config.{Config}
+use Rattle.heap_words.specs.Ranges.{seat_count}
+use Rattle.heap_words.specs.Words.{Word, Phase, Cset, Free, Evac, Claim, Ask, Top, Tams, Limit, Current, Root, Count, Answer, Grey, Black, Heap, Pin}
+use Rattle.heap_graph.specs.Walk.{has}
+use Rattle.buffer_words.specs.Settled.{buffers_settled}
+use Rattle.buffer_words.specs.Edge.{edge}
+use Rattle.buffer_words.proofs.Edges.{edges_same}
+use Rattle.cycle_words.specs.Marking.Marks.{bits_of, mark_bits}
+use Rattle.cycle_words.specs.Marking.Init.{marking_begun, init_marked}
+use Rattle.cycle_words.specs.Updating.Changes.{is_chosen, updating_begun, init_updated, final_updated}
+use Rattle.cycle_words.proofs.Marking.Alike.{same_held_words}
+use Rattle.cycle_pauses.specs.Brief.{is_off_heap, is_ahead, IsPartOf, IsMadeOfPart}
+use Rattle.cycle_pauses.proofs.Brief.Settled.{first_made, settled_made}
+
+-- the edges of two memories of which one is made of a part of the other
+edge_same : (c : Config) (inside : Word → Bool) (whole m n : Word → ℕ) → IsMadeOfPart inside whole m n → ((r : ℕ) → inside (Top r) ≡ true) → ((seat : ℕ) → inside (Current seat) ≡ true)
+    → (r : ℕ) → edge c m r ≡ edge c n r
+edge_same c inside whole m n made tops currents r =
+    edges_same c n m r (λ q. made.within (Top q) (tops q)) (λ seat. made.within (Current seat) (currents seat)) (seat_count c.mutators c.helpers)
+
+-- the beginning of marking, of settled buffers
+module _ (c : Config) (whole m n : Word → ℕ) (made : IsMadeOfPart is_off_heap whole m n) where
+  marks_within : (word : Word) → is_off_heap word ≡ true → marking_begun c m word ≡ marking_begun c n word
+  marks_within (Grey k) is =
+      ap (λ xs. mark_bits c (has xs) k) (same_held_words n m (λ t i. made.within (Root t i) refl) (λ t. made.within (Answer t) refl) (λ t i. made.within (Pin t i) refl) c)
+  marks_within (Black k) is = refl
+  marks_within (Tams r) is = edge_same c is_off_heap whole m n made (λ q. refl) (λ seat. refl) r
+  marks_within (Count t) is = refl
+  marks_within Claim is = refl
+  marks_within Ask is = refl
+  marks_within Phase is = refl
+  marks_within word is = made.within word is
+
+  marks_outside : (word : Word) → is_off_heap word ≡ false → marking_begun c m word ≡ (if marking_begun c n word == 0 then whole word else marking_begun c n word)
+  marks_outside (Heap a) other = made.outside (Heap a) other
+  marks_outside _ other = absurd (true≢false other)
+
+pub init_marked_made : (c : Config) (whole part : Word → ℕ) → IsPartOf is_off_heap whole part → IsMadeOfPart is_off_heap whole (init_marked c whole) (init_marked c part)
+init_marked_made c whole part of =
+    let settled = settled_made is_off_heap whole c (λ seat. refl) (λ r. refl) part of in
+    record {
+      within = marks_within c whole (buffers_settled c whole) (buffers_settled c part) settled;
+      outside = marks_outside c whole (buffers_settled c whole) (buffers_settled c part) settled;
+    }
+
+-- the beginning of updating, of settled buffers, and its end
+module _ (c : Config) (whole m n : Word → ℕ) (made : IsMadeOfPart is_ahead whole m n) where
+  chosen_same : (r : ℕ) → is_chosen m r ≡ is_chosen n r
+  chosen_same r = ap (λ set. bit_at set r == 1) (made.within Cset refl)
+
+  limits_within : (word : Word) → is_ahead word ≡ true → updating_begun c m word ≡ updating_begun c n word
+  limits_within Phase is = refl
+  limits_within Evac is = refl
+  limits_within Claim is = refl
+  limits_within (Limit r) is =
+      ap (λ b. if b then 0 else edge c m r) (chosen_same r)
+      ∙ ap (λ k. if is_chosen n r then 0 else k) (edge_same c is_ahead whole m n made (λ q. refl) (λ seat. refl) r)
+  limits_within word is = made.within word is
+
+  limits_outside : (word : Word) → is_ahead word ≡ false → updating_begun c m word ≡ (if updating_begun c n word == 0 then whole word else updating_begun c n word)
+  limits_outside Phase other = absurd (true≢false other)
+  limits_outside Evac other = absurd (true≢false other)
+  limits_outside Claim other = absurd (true≢false other)
+  limits_outside (Limit r) other = absurd (true≢false other)
+  limits_outside word other = made.outside word other
+
+  ends_within : (word : Word) → is_ahead word ≡ true → final_updated c m word ≡ final_updated c n word
+  ends_within Phase is = refl
+  ends_within Cset is = refl
+  ends_within Claim is = refl
+  ends_within Free is =
+      ap (λ free. bit_or free (bits_of (is_chosen m) 0 c.regions)) (made.within Free refl)
+      ∙ ap (λ set. bit_or (n Free) (bits_of (λ r. bit_at set r == 1) 0 c.regions)) (made.within Cset refl)
+  ends_within (Top r) is = ap (λ b. if b then 0 else m (Top r)) (chosen_same r) ∙ ap (λ k. if is_chosen n r then 0 else k) (made.within (Top r) refl)
+  ends_within (Tams r) is = ap (λ b. if b then 0 else m (Tams r)) (chosen_same r) ∙ ap (λ k. if is_chosen n r then 0 else k) (made.within (Tams r) refl)
+  ends_within (Limit r) is = ap (λ b. if b then 0 else m (Limit r)) (chosen_same r) ∙ ap (λ k. if is_chosen n r then 0 else k) (made.within (Limit r) refl)
+  ends_within word is = made.within word is
+
+  ends_outside : (word : Word) → is_ahead word ≡ false → final_updated c m word ≡ (if final_updated c n word == 0 then whole word else final_updated c n word)
+  ends_outside Phase other = absurd (true≢false other)
+  ends_outside Cset other = absurd (true≢false other)
+  ends_outside Claim other = absurd (true≢false other)
+  ends_outside Free other = absurd (true≢false other)
+  ends_outside (Top r) other = absurd (true≢false other)
+  ends_outside (Tams r) other = absurd (true≢false other)
+  ends_outside (Limit r) other = absurd (true≢false other)
+  ends_outside word other = made.outside word other
+
+pub init_updated_made : (c : Config) (whole part : Word → ℕ) → IsPartOf is_ahead whole part → IsMadeOfPart is_ahead whole (init_updated c whole) (init_updated c part)
+init_updated_made c whole part of =
+    let settled = settled_made is_ahead whole c (λ seat. refl) (λ r. refl) part of in
+    record {
+      within = limits_within c whole (buffers_settled c whole) (buffers_settled c part) settled;
+      outside = limits_outside c whole (buffers_settled c whole) (buffers_settled c part) settled;
+    }
+
+pub final_updated_made : (c : Config) (whole part : Word → ℕ) → IsPartOf is_ahead whole part → IsMadeOfPart is_ahead whole (final_updated c whole) (final_updated c part)
+final_updated_made c whole part of =
+    let first = first_made is_ahead whole part of in
+    record { within = ends_within c whole whole part first; outside = ends_outside c whole whole part first }

@@ -1,0 +1,90 @@
+-- What the control has loaded of the image once one word more is loaded, and what of all of it once the last one is.
+use Rattle.std.proofs.Common.{◌≡◌, ℕ, ◌+◌, ◌<◌, ◌≤◌, true, List, [], ◌∷◌, ◌++◌, length, ⊎_elim, sym, ap, ◌∙◌, subst, arith}
+use Rattle.std.specs.Prelude.{slice_index, if◌then◌else◌}
+use Rattle.std.proofs.lemmas.Bool.{cases_lt, cond-true}
+use Rattle.std.proofs.lemmas.List.{length-append}
+use Rattle.heap_words.specs.declared.config.Config.{Config}
+use Rattle.heap_words.specs.Words.{Phase, image_start, view}
+use Rattle.heap_words.proofs.Stores.{view_word}
+use Rattle.heap_world.specs.Change.{image_words}
+use Rattle.control_rows.specs.declared.extent.Extent.{Extent}
+use Rattle.control_rows.specs.Extent.{is_of_extent, next_loaded, extent_after, extent_by, padded}
+use Rattle.control_rows.specs.ByParts.{IsImagePart}
+use Rattle.control_rows.specs.Rows.{loaded_on, loaded_all}
+use Rattle.control_rows.proofs.Extents.{early, IsNext, next_is, padded_reads, padded_long, same_extent, extent_on, changes_early}
+use Rattle.step_core.proofs.Machines.Owed.{AreLoaded}
+use Rattle.step_core.proofs.Control.Images.{image_grows, loaded_early, loaded_padded, image_in, image_in_reads}
+
+-- a list with one more at its end
+pub length-snoc : (xs : List ℕ) (x : ℕ) → length (xs ++ x ∷ []) ≡ length xs + 1
+length-snoc xs x = length-append xs (x ∷ [])
+
+module _ (c : Config) (words : List ℕ) (phase : ℕ) (extent : Extent) (image : List ℕ) (index : ℕ) (below : index < image_words c) (long : length image ≡ index) (loaded : AreLoaded c words extent image index) (here : is_of_extent c extent index ≡ true)
+    (extent_is : extent ≡ extent_by c phase image) where
+  -- the word that is loaded, and the extent then
+  abbrev got : ℕ
+  got = slice_index words (image_start c + index)
+
+  abbrev pub extent_then : Extent
+  extent_then = extent_after phase index extent got
+
+  abbrev more : List ℕ
+  more = image ++ got ∷ []
+
+  more_long : length more ≡ index + 1
+  more_long = length-snoc image got ∙ ap (λ n. n + 1) long
+
+  -- it is that of the words loaded
+  then_is : extent_then ≡ extent_by c phase more
+  then_is = ap (λ e. extent_after phase index e got) extent_is ∙ sym (extent_on c phase image index got long)
+
+  padded_extent : (n : ℕ) → extent_then ≡ extent_by c phase (padded n more)
+  padded_extent n = then_is ∙ sym (same_extent c phase (padded n more) more (padded_reads n more 3) (padded_reads n more 5))
+
+  -- the words loaded are of it
+  more_loaded : AreLoaded c words extent_then more (index + 1)
+  more_loaded =
+      let grown = image_grows c words extent image index long loaded here in
+      ⊎_elim
+      (λ (first : index < 6). loaded_early c words extent extent_then more (index + 1) (omega (arith, first)) grown)
+      (λ (late : 6 ≤ index). subst (λ e. AreLoaded c words e more (index + 1)) (sym (changes_early phase index extent got late)) grown)
+      (cases_lt index 6)
+
+  -- the word that is loaded next
+  abbrev pub next : ℕ
+  next = next_loaded c extent_then index
+
+  pub goes_next : IsNext c extent_then index next
+  goes_next = next_is c extent_then index below
+
+  -- where there is one
+  pub next_long : length (loaded_on next image got) ≡ next
+  next_long = padded_long next more (let after = goes_next.above in let longer = more_long in omega (arith, after, longer))
+
+  pub next_words : AreLoaded c words extent_then (loaded_on next image got) next
+  next_words = loaded_padded c words extent_then more (index + 1) next more_long more_loaded (λ i from to. goes_next.between i (omega (arith, from)) to)
+
+  pub next_extent : extent_then ≡ extent_by c phase (loaded_on next image got)
+  next_extent = padded_extent next
+
+  -- where there is none
+  module _ (all : image_words c ≤ next) (phase_is : phase ≡ view c words Phase) where
+    abbrev part : List ℕ
+    part = loaded_all c image got
+
+    pub part_long : length part ≡ image_words c
+    part_long = padded_long (image_words c) more (let longer = more_long in omega (arith, below, longer))
+
+    part_words : AreLoaded c words extent_then part (image_words c)
+    part_words = loaded_padded c words extent_then more (index + 1) (image_words c) more_long more_loaded (λ i from to. goes_next.between i (omega (arith, from)) (omega (arith, to, all)))
+
+    pub part_of : IsImagePart c extent_then (image_in c words) part
+    part_of k less = part_words k less ∙ ap (λ n. if is_of_extent c extent_then k then n else 0) (sym (image_in_reads c words k))
+
+    first_word : slice_index part 0 ≡ phase
+    first_word =
+        part_words 0 (omega (arith, below)) ∙ cond-true (is_of_extent c extent_then 0) _ _ (early c extent_then 0 (omega arith))
+        ∙ ap (λ k. slice_index words k) (omega arith) ∙ sym (view_word c words Phase tt) ∙ sym phase_is
+
+    pub part_extent : extent_then ≡ extent_by c (slice_index part 0) part
+    part_extent = padded_extent (image_words c) ∙ ap (λ p. extent_by c p part) (sym first_word)
