@@ -22,8 +22,8 @@ TESTS = {"word_tests", "text_tests", "heap_tests", "hostile_tests"}
 # interleavings, its reading, its threads and verdicts; a hint on one thread; and the verifier of images, and the sink in memory, that tests use.
 PROMISED = {"apply", "reach", "is_valid", "is_done", "answer", "write_trace", "serve", "open_from", "place", "resume", "with_room",
             "stands", "renew_heap", "drive", "of", "write_dump", "read_dump", "read_test",
-            "trace_lines::line", "trace_lines::end", "heap_seats::with", "heap_seats::end", "find_grammar::start",
-            "find_grammar::next", "verdict_on", "dump_of", "shen_core::hint"}
+            "trace_text::line", "trace_text::end", "heap_seats::with", "heap_seats::end", "find_play::start",
+            "find_play::next", "verdict_on", "dump_of", "shen_core::hint"}
 FUNCTION = re.compile(r"^([ ]*)pub (?:const )?(?:unsafe )?fn (\w+)", re.M)
 
 

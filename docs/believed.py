@@ -41,6 +41,14 @@ def module(crate, name):
         return MODULES[crate, name]
     path = os.path.join(TOP, "crates", crate, "specs", *name.split(".")) + ".antt"
     texts, names, aliases = {}, {}, {}
+    if not os.path.exists(path):
+        # (a file of another crate that this one hands on whole)
+        lib = os.path.join(TOP, "crates", crate, "specs", "Lib.antt")
+        with open(lib, encoding="utf-8") as file:
+            handed = re.search(rf"^pub use Rattle\.(\w+)\.specs\.({re.escape(name)})$", file.read(), re.M)
+        if handed:
+            MODULES[crate, name] = module(handed[1], handed[2])
+            return MODULES[crate, name]
     if os.path.exists(path):
         with open(path, encoding="utf-8") as file:
             text = file.read()

@@ -15,7 +15,7 @@ use Rattle.heap_world.specs.Asking.{nothing}
 use Rattle.heap_world.specs.Represents.{Represents}
 use Rattle.heap_world.specs.World.{IsGiven}
 use Rattle.heap_machines.specs.FromImage.{CanBeginFrom}
-use Rattle.dump_writing.specs.Dumped.{dumped, graph_in, most_made, IsMadeBy, IsNamed, IsRow, IsDump}
+use Rattle.dump_text.specs.Dumped.{dumped, graph_in, most_made, IsMadeBy, IsNamed, IsRow, IsDump}
 use Rattle.image_graph.specs.declared.image.Image.{Image}
 use Rattle.graph_placing.specs.declared.placing.Placed.{Placed}
 use Rattle.graph_placing.specs.declared.placing.Placed.TheVariants.{Heap, TooSmall}

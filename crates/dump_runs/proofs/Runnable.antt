@@ -8,9 +8,9 @@ use Rattle.heap_words.specs.declared.schedule.Item.{Item}
 use Rattle.shen_core.specs.Progress.{IsInSeats}
 use Rattle.trace_grammar.specs.Spelling.{line, schedule_line}
 use Rattle.trace_grammar.specs.Grammar.{scripts_of}
-use Rattle.dump_writing.specs.Dumped.{Dumped, most_made}
-use Rattle.dump_writing.specs.DumpText.{dump_text}
-use Rattle.dump_reading.specs.Resumes.{run_version, Resumes, mark_line}
+use Rattle.dump_text.specs.Dumped.{Dumped, most_made}
+use Rattle.dump_text.specs.DumpText.{dump_text}
+use Rattle.dump_text.specs.Resumes.{run_version, Resumes, mark_line}
 use Rattle.dump_runs.specs.Resumed.{IsRunnableAfter}
 use Rattle.dump_runs.proofs.ScriptLines.{count_scripts, valid_script, short_script, items_in_seats}
 

@@ -31,7 +31,7 @@ use Rattle.shen_core.specs.Progress.{Jobs, CanRun, Tells}
 use Rattle.shen_core.specs.Calls.{AllCall}
 use Rattle.heap_machines.specs.FromImage.{control_from, machine_from, actor_from, stage_from}
 use Rattle.shen_core.specs.WholeRun.{HasRun, RunsSchedule}
-use Rattle.dump_writing.specs.Dumped.{most_made}
+use Rattle.dump_text.specs.Dumped.{most_made}
 use Rattle.dump_runs.specs.Resumed.{IsRunnableAfter, IsLeftBusy}
 use Rattle.dump_runs.specs.Resuming.{HasEndedFrom}
 

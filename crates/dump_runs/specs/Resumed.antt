@@ -23,7 +23,7 @@ use Rattle.heap_machines.specs.FromImage.{stage_from}
 use Rattle.shen_core.specs.Progress.{AreIdle}
 use Rattle.trace_writing.specs.Answer.{answer_text}
 use Rattle.graph_placing.specs.PlacedHeap.{IsPlaced}
-use Rattle.dump_writing.specs.Dumped.{most_made, dumped, graph_in}
+use Rattle.dump_text.specs.Dumped.{most_made, dumped, graph_in}
 
 -- the stage and the history of events from a stage on, in a heap whose pauses go on to the next phase of the cycle, or make room
 abbrev pub led_to : Config → Stage Actor → List (Event Order) → Stage Actor

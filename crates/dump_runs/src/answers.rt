@@ -2,13 +2,13 @@ ghost use Rattle.std.specs.Prelude.{◌≡◌, ◌<◌, ℕ, List, IfOk, length}
 ghost use Rattle.shen_graph.specs.Work.{HasScript};
 ghost use Rattle.trace_writing.specs.Answer.{spelled_answer};
 ghost use Rattle.graph_placing.specs.ByName.{Fits};
-ghost use Rattle.dump_writing.specs.Dumped.{dumped};
-ghost use Rattle.dump_reading.specs.Resumes.{Resumes};
+ghost use Rattle.dump_text.specs.Dumped.{dumped};
+ghost use Rattle.dump_text.specs.Resumes.{Resumes};
 ghost use Rattle.dump_runs.specs.Resumed.{IsResumed, IsCutFrom};
 ghost use Rattle.dump_runs.specs.Resuming.{IfAnswered};
 
 use crate::goes_on::{Resumed, resume};
-use dump_reading::Resumed as Read;
+use dump_text::Resumed as Read;
 use heap_words::NoMemory;
 use std::alloc::Global;
 

@@ -11,12 +11,12 @@ ghost use Rattle.shen_core.specs.Progress.{AllRest, IsInSeats};
 ghost use Rattle.trace_writing.specs.Answer.{spelled_answer};
 ghost use Rattle.graph_placing.specs.ByName.{Fits};
 ghost use Rattle.graph_placing.specs.PlacedHeap.{IsPlaced};
-ghost use Rattle.dump_writing.specs.Dumped.{dumped, graph_in, IsDump};
+ghost use Rattle.dump_text.specs.Dumped.{dumped, graph_in, IsDump};
 ghost use Rattle.dump_runs.specs.Resumed.{IsRunnableAfter, IsResumed, IsLeftBusy, IsCutFrom};
 ghost use Rattle.dump_runs.specs.Resuming.{IfAnswered, HasEndedFrom};
 
 use crate::placing::place;
-use dump_writing::Dump;
+use dump_text::Dump;
 use graph_placing::Placed;
 use heap_words::{Config, NoMemory, Schedule};
 use image_graph::Image;

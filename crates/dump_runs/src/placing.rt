@@ -6,9 +6,9 @@ ghost use Rattle.heap_machines.specs.FromImage.{CanBeginFrom};
 ghost use Rattle.graph_placing.specs.ByName.{Fits};
 ghost use Rattle.graph_placing.specs.PlacedHeap.{IsPlaced};
 ghost use Rattle.graph_placing.specs.Outcome.{IfHeap};
-ghost use Rattle.dump_writing.specs.Dumped.{dumped, graph_in, IsDump};
+ghost use Rattle.dump_text.specs.Dumped.{dumped, graph_in, IsDump};
 
-use dump_writing::Dump;
+use dump_text::Dump;
 use graph_placing::Placed;
 use heap_words::NoMemory;
 use std::alloc::Global;

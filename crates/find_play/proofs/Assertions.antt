@@ -1,7 +1,7 @@
 -- Going over the claims of a test.
 use Rattle.std.proofs.Common.{ℕ, Bool, ◌&&◌, ◌||◌, List, Option, Some}
 use Rattle.std.specs.Prelude.{if◌then◌else◌}
-use Rattle.find_grammar.specs.declared.claim.Claim.{Claim}
+use Rattle.find_play.specs.declared.claim.Claim.{Claim}
 use Rattle.find_play.specs.Claims.{Left, all_hold, another_holds, broken_behind}
 
 -- what is said where the assertion holds or not

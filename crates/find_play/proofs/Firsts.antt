@@ -8,8 +8,8 @@ use Rattle.std.proofs.lemmas.List.Folds.{list_all_at}
 use Rattle.std.proofs.lemmas.List.Sums.{position_or_len_is}
 use Rattle.std.proofs.lemmas.Option.{slice_get_within, get_or_from_slice_get}
 use Rattle.shen_graph.specs.History.{Entry}
-use Rattle.find_grammar.specs.declared.wanted.Wanted.{Wanted}
-use Rattle.find_grammar.specs.Wanted.{fits}
+use Rattle.find_play.specs.declared.wanted.Wanted.{Wanted}
+use Rattle.find_play.specs.Wanted.{fits}
 
 some_if : (n m : ℕ) → n < m → Some n ≡ cond (nat_lt n m) (Some n) None
 some_if n m lt = grind (arith, nat_tests)

@@ -3,15 +3,15 @@ use Rattle.std.proofs.Common.{◌≡◌, ℕ, suc, ◌+◌, ◌-◌, ◌*◌, �
 use Rattle.std.proofs.lemmas.Option.{slice_get_within}
 use Rattle.std.specs.Prelude.{slice_get, if◌then◌else◌}
 use Rattle.shen_graph.specs.declared.command.Reply.{Reply}
-use Rattle.find_grammar.specs.declared.statement.Statement.{Statement}
-use Rattle.find_grammar.specs.declared.statement.Statement.TheVariants as statement
-use Rattle.find_grammar.specs.declared.thread.Part.TheVariants as part
-use Rattle.find_grammar.specs.declared.thread.Move.{Move}
-use Rattle.find_grammar.specs.declared.thread.Move.TheVariants.{Goes, Back, Gives}
-use Rattle.find_grammar.specs.declared.thread.Next.{Next}
-use Rattle.find_grammar.specs.declared.thread.Next.TheVariants.{Keep}
-use Rattle.find_grammar.specs.declared.thread.Thread.{Thread}
-use Rattle.find_grammar.specs.Meaning.{fits_last, behind, move_by, move_at, Runs, Gave, Went, Returned, Stopped}
+use Rattle.find_play.specs.declared.statement.Statement.{Statement}
+use Rattle.find_play.specs.declared.statement.Statement.TheVariants as statement
+use Rattle.find_play.specs.declared.thread.Part.TheVariants as part
+use Rattle.find_play.specs.declared.thread.Move.{Move}
+use Rattle.find_play.specs.declared.thread.Move.TheVariants.{Goes, Back, Gives}
+use Rattle.find_play.specs.declared.thread.Next.{Next}
+use Rattle.find_play.specs.declared.thread.Next.TheVariants.{Keep}
+use Rattle.find_play.specs.declared.thread.Thread.{Thread}
+use Rattle.find_play.specs.Meaning.{fits_last, behind, move_by, move_at, Runs, Gave, Went, Returned, Stopped}
 
 -- what is left of a program and of its returns
 abbrev pub room : List Statement → Thread → ℕ

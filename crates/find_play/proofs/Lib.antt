@@ -1,3 +1,5 @@
+mod Jumps
+mod Steps
 mod Assertions
 mod Firsts
 mod Keeping

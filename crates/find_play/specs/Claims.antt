@@ -6,11 +6,11 @@ use Rattle.shen_graph.specs.declared.command.Reply.TheVariants as reply
 use Rattle.shen_graph.specs.Graph.{Reference, hub, same_name, same_reference}
 use Rattle.shen_graph.specs.GraphText.{Row}
 use Rattle.shen_graph.specs.History.{Entry}
-use Rattle.find_grammar.specs.declared.claim.Claim.{Claim}
-use Rattle.find_grammar.specs.declared.claim.Claim.TheVariants.{Assert, Or, Is, Isnt, Never, Count, Alike, Differ, Number, Null, Chain, Same}
-use Rattle.find_grammar.specs.declared.test.Place.{Place}
-use Rattle.find_grammar.specs.declared.wanted.Wanted.{Wanted}
-use Rattle.find_grammar.specs.Wanted.{fits}
+use Rattle.find_play.specs.declared.claim.Claim.{Claim}
+use Rattle.find_play.specs.declared.claim.Claim.TheVariants.{Assert, Or, Is, Isnt, Never, Count, Alike, Differ, Number, Null, Chain, Same}
+use Rattle.find_play.specs.declared.test.Place.{Place}
+use Rattle.find_play.specs.declared.wanted.Wanted.{Wanted}
+use Rattle.find_play.specs.Wanted.{fits}
 use Rattle.find_play.specs.Rows.{number_held, follow, along}
 
 -- what a run has left: what the notes hold, the history, the objects of the last graph, and the references at the places

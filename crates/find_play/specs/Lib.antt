@@ -1,3 +1,6 @@
+pub mod Wanted
+pub mod Meaning
+pub mod Names
 pub mod Plays
 pub mod Scenes
 pub mod Rows

@@ -2,11 +2,11 @@
 use Rattle.std.specs.Prelude.{ℕ, ◌≡◌, ◌≢◌, ◌+◌, Bool, true, false, List, [], ◌∷◌, ◌++◌, replicate, take, Option, Some, None, slice_get, slice_index_or, slice_set}
 use Rattle.shen_graph.specs.declared.command.Reply.{Reply}
 use Rattle.shen_graph.specs.History.{Entry}
-use Rattle.find_grammar.specs.declared.statement.Statement.{Statement}
-use Rattle.find_grammar.specs.declared.thread.Next.{Next}
-use Rattle.find_grammar.specs.declared.thread.Next.TheVariants.{Command, Keep, Done}
-use Rattle.find_grammar.specs.declared.thread.Thread.{Thread}
-use Rattle.find_grammar.specs.Meaning.{Runs}
+use Rattle.find_play.specs.declared.statement.Statement.{Statement}
+use Rattle.find_play.specs.declared.thread.Next.{Next}
+use Rattle.find_play.specs.declared.thread.Next.TheVariants.{Command, Keep, Done}
+use Rattle.find_play.specs.declared.thread.Thread.{Thread}
+use Rattle.find_play.specs.Meaning.{Runs}
 
 abbrev pub Notes : Type 0
 Notes = List (Option Reply)

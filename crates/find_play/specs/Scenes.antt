@@ -1,7 +1,7 @@
 -- What a cast shows.
 use Rattle.std.specs.Prelude.{ℕ, ◌≡◌, ◌+◌, Some, slice_index_or}
 use Rattle.shen_graph.specs.History.{Entry}
-use Rattle.find_grammar.specs.declared.thread.Next.TheVariants.{Command, Done}
+use Rattle.find_play.specs.declared.thread.Next.TheVariants.{Command, Done}
 use Rattle.find_play.specs.declared.cast.Cast.{Cast}
 use Rattle.find_play.specs.Plays.{Programs, Scene, StepsOn}
 

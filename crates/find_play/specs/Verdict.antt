@@ -2,10 +2,10 @@
 use Rattle.std.specs.Prelude.{ℕ, ◌≡◌, ◌⊎◌, ◌+◌, Bool, true, false, List, position, All, Option, Some, None, slice_index_or}
 use Rattle.shen_graph.specs.GraphText.{Row}
 use Rattle.shen_graph.specs.History.{Entry}
-use Rattle.find_grammar.specs.declared.claim.Claim.{Claim}
-use Rattle.find_grammar.specs.declared.test.Place.{Place}
-use Rattle.find_grammar.specs.declared.thread.Next.{Next}
-use Rattle.find_grammar.specs.declared.thread.Next.TheVariants.{Command, Done, TooLong}
+use Rattle.find_play.specs.declared.claim.Claim.{Claim}
+use Rattle.find_play.specs.declared.test.Place.{Place}
+use Rattle.find_play.specs.declared.thread.Next.{Next}
+use Rattle.find_play.specs.declared.thread.Next.TheVariants.{Command, Done, TooLong}
 use Rattle.find_play.specs.declared.verdict.Verdict.{Verdict}
 use Rattle.find_play.specs.declared.verdict.Verdict.TheVariants.{Holds, Fails, Stuck}
 use Rattle.find_play.specs.Claims.{Left, places_in, first_broken}

@@ -4,7 +4,7 @@ ghost use Rattle.shen_graph.specs.Noting.{seen};
 ghost use Rattle.find_play.specs.Plays.{KeepsOn, StepsOn, Begun, IsPlay, IsNotItsCommand, IsNoPlay, opening, start};
 ghost use Rattle.find_play.specs.Scenes.{scene, IsNextEntry};
 
-use find_grammar::{Next, Program, Statement, Test, Thread};
+use crate::{Next, Program, Statement, Test, Thread};
 use heap_words::NoMemory;
 use shen_graph::{Entry, History, Reply};
 use std::alloc::Global;

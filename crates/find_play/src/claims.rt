@@ -1,11 +1,11 @@
 //! Whether the claims of a test hold of what a run has left.
 ghost use Rattle.std.specs.Prelude.{◌≡◌, Bool, None, not, count_by, length, slice_index_or, IfOk};
 ghost use Rattle.std.specs.List.{list_all};
-ghost use Rattle.find_grammar.specs.Wanted.{fits};
+ghost use Rattle.find_play.specs.Wanted.{fits};
 ghost use Rattle.find_play.specs.Claims.{places_in, same_reply, is_such, is_other, are_alike, is_null_place, has_number, are_one, holds, first_broken, Left};
 
 use crate::rows::{along, follow, number_in, same_name};
-use find_grammar::{Claim, Place, Wanted};
+use crate::{Claim, Place, Wanted};
 use heap_words::NoMemory;
 use shen_graph::{GraphText, History, Name, Reply};
 use std::alloc::Global;

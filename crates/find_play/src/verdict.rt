@@ -4,7 +4,7 @@ ghost use Rattle.find_play.specs.Verdict.{is_command, is_stuck, verdict_by, HasC
 
 use crate::cast::{Cast, played};
 use crate::claims::broken;
-use find_grammar::{Next, Test};
+use crate::{Next, Test};
 use heap_words::NoMemory;
 use shen_graph::{GraphText, History};
 use std::alloc::Global;

@@ -2,7 +2,7 @@
 use Rattle.std.proofs.Common.{◌≡◌, ◌⊎◌, inl, inr, ℕ, suc, Bool, true, false, cond, List, [], ◌∷◌, ◌++◌, length, Some, None, Ok, Err, Result, refl, sym, ap, subst, ◌∙◌}
 use Rattle.trace_grammar.specs.declared.why.Why.TheVariants.{EndOfLine}
 use Rattle.trace_grammar.proofs.Numbers.{same_some}
-use Rattle.trace_refusals.specs.Causes.{parts}
+use Rattle.trace_reading.specs.Causes.{parts}
 use Rattle.find_reading.specs.declared.fault.TestWhy.{TestWhy}
 use Rattle.find_reading.specs.declared.fault.TestWhy.TheVariants as whys
 use Rattle.find_reading.specs.declared.kind.LineKind.{LineKind}

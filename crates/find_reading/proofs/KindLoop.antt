@@ -1,7 +1,7 @@
 -- The loop over the kinds of lines.
 use Rattle.std.proofs.Common.{◌≡◌, ℕ, ◌+◌, ◌<◌, ◌≤◌, true, false, List, length, get_or, drop, Option, Some, None, refl, sym, ◌∙◌, add-one, drop-cons}
 use Rattle.std.proofs.lemmas.List.{drop_all}
-use Rattle.trace_refusals.specs.Causes.{is_same}
+use Rattle.trace_reading.specs.Causes.{is_same}
 use Rattle.find_reading.specs.declared.kind.LineKind.{LineKind}
 use Rattle.find_reading.specs.declared.kind.LineKind.TheVariants.{Bounds}
 use Rattle.find_reading.specs.Kinds.{line_word, kind_of_word}

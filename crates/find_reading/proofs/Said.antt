@@ -4,17 +4,17 @@ use Rattle.std.specs.Fmt.{decimal}
 use Rattle.std.specs.Cmp.Lexicographic.{same_text}
 use Rattle.std.specs.Str.Parse.{digits_value}
 use Rattle.std.proofs.lemmas.Bool.{ltb-true, ltb-false}
-use Rattle.find_grammar.specs.declared.wanted.Wanted.TheVariants as wanted
+use Rattle.find_play.specs.declared.wanted.Wanted.TheVariants as wanted
 use Rattle.trace_grammar.specs.declared.why.Why.TheVariants as cause
-use Rattle.trace_refusals.specs.Causes.{is_same, is_plain_number}
-use Rattle.trace_refusals.proofs.Words.{both}
-use Rattle.trace_refusals.proofs.Numerals.{number_spelled}
+use Rattle.trace_reading.specs.Causes.{is_same, is_plain_number}
+use Rattle.trace_reading.proofs.Words.{both}
+use Rattle.trace_reading.proofs.Numerals.{number_spelled}
 use Rattle.find_reading.specs.declared.fault.TestWhy.{TestWhy}
 use Rattle.find_reading.specs.declared.fault.TestWhy.TheVariants as why
 use Rattle.find_reading.specs.declared.slot.Value.{Value}
 use Rattle.find_reading.specs.declared.slot.Value.TheVariants as value
-use Rattle.find_grammar.specs.declared.wanted.Wanted.{Wanted}
-use Rattle.find_grammar.specs.Names.{number_of}
+use Rattle.find_play.specs.declared.wanted.Wanted.{Wanted}
+use Rattle.find_play.specs.Names.{number_of}
 use Rattle.find_reading.specs.declared.slot.Slot.{Slot}
 use Rattle.find_reading.specs.declared.slot.Slot.TheVariants as slot
 use Rattle.find_reading.specs.declared.kind.LineKind.{LineKind}

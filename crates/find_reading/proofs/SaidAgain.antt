@@ -9,12 +9,12 @@ use Rattle.std.proofs.lemmas.Bool.Decides.{nat_tests}
 use Rattle.std.proofs.lemmas.Fmt.{digits_value-decimal}
 use Rattle.trace_grammar.specs.declared.kind.CommandKind.TheVariants as command
 use Rattle.trace_grammar.proofs.Numbers.{own}
-use Rattle.trace_refusals.specs.Causes.{is_same, is_plain_number}
-use Rattle.trace_refusals.proofs.Words.{both}
-use Rattle.trace_refusals.proofs.Numerals.{decimal_is_number}
+use Rattle.trace_reading.specs.Causes.{is_same, is_plain_number}
+use Rattle.trace_reading.proofs.Words.{both}
+use Rattle.trace_reading.proofs.Numerals.{decimal_is_number}
 use Rattle.shen_graph.proofs.ReachLemmas.{Contains-nil, Contains-cons_cases}
-use Rattle.find_grammar.specs.declared.wanted.Wanted.{Wanted}
-use Rattle.find_grammar.specs.declared.wanted.Wanted.TheVariants as wanted
+use Rattle.find_play.specs.declared.wanted.Wanted.{Wanted}
+use Rattle.find_play.specs.declared.wanted.Wanted.TheVariants as wanted
 use Rattle.find_reading.specs.declared.slot.Value.{Value}
 use Rattle.find_reading.specs.declared.slot.Value.TheVariants as value
 use Rattle.find_reading.specs.declared.slot.Slot.{Slot}

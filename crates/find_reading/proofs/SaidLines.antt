@@ -6,7 +6,7 @@ use Rattle.std.proofs.lemmas.List.Elements.{Contains-append_right}
 use Rattle.trace_grammar.proofs.Numbers.{same_some}
 use Rattle.trace_grammar.specs.declared.kind.CommandKind.{CommandKind}
 use Rattle.trace_grammar.specs.declared.kind.CommandKind.TheVariants.{New}
-use Rattle.trace_refusals.specs.Causes.{is_same}
+use Rattle.trace_reading.specs.Causes.{is_same}
 use Rattle.find_reading.specs.declared.fault.TestWhy.{TestWhy}
 use Rattle.find_reading.specs.declared.fault.TestWhy.TheVariants as why
 use Rattle.find_reading.specs.declared.slot.Value.{Value}

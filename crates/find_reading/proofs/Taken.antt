@@ -1,9 +1,9 @@
 -- Lines that are taken from the front of bytes.
 use Rattle.std.proofs.Common.{◌≡◌, ℕ, ◌+◌, ◌≤◌, List, [], ◌∷◌, ◌++◌, length, Result, Err, Ok, refl, sym, ap, subst, ◌∙◌, append_assoc, length-append, arith}
 use Rattle.trace_grammar.specs.declared.why.Why.TheVariants.{EndOfLine}
-use Rattle.trace_refusals.specs.Causes.{parts}
-use Rattle.trace_refusals.proofs.Cuts.{cut_parts}
-use Rattle.trace_refusals.proofs.Leads.{bytes_of_line, bytes_of_last}
+use Rattle.trace_reading.specs.Causes.{parts}
+use Rattle.trace_reading.proofs.Cuts.{cut_parts}
+use Rattle.trace_reading.proofs.Leads.{bytes_of_line, bytes_of_last}
 use Rattle.find_reading.specs.declared.fault.TestFault.{TestFault}
 use Rattle.find_reading.specs.declared.fault.TestFault.TheVariants.{BadLine}
 use Rattle.find_reading.specs.declared.fault.TestWhy.{TestWhy}

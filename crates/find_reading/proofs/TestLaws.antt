@@ -11,12 +11,12 @@ use Rattle.trace_grammar.specs.declared.why.Why.{Why}
 use Rattle.trace_grammar.proofs.Numbers.{same_some}
 use Rattle.trace_grammar.proofs.Header.{numbers_in_head, sizes_again}
 use Rattle.trace_grammar.proofs.Once.{same_config}
-use Rattle.trace_refusals.specs.Causes.{parts}
-use Rattle.trace_refusals.specs.Refused.{Refused}
-use Rattle.trace_refusals.proofs.Cuts.{cut_parts}
-use Rattle.trace_refusals.proofs.Exact.{refused_once as trace_once}
-use Rattle.trace_refusals.proofs.Either.{either}
-use Rattle.find_grammar.specs.declared.test.Bounds.{Bounds}
+use Rattle.trace_reading.specs.Causes.{parts}
+use Rattle.trace_reading.specs.Refused.{Refused}
+use Rattle.trace_reading.proofs.Cuts.{cut_parts}
+use Rattle.trace_reading.proofs.Exact.{refused_once as trace_once}
+use Rattle.trace_reading.proofs.Either.{either}
+use Rattle.find_play.specs.declared.test.Bounds.{Bounds}
 use Rattle.find_reading.specs.declared.fault.TestWhy.{TestWhy}
 use Rattle.find_reading.specs.declared.fault.TestWhy.TheVariants as whys
 use Rattle.find_reading.specs.Told.{Told, untold}

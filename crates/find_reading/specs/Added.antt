@@ -5,13 +5,13 @@ use Rattle.shen_graph.specs.declared.command.Command.TheVariants as command
 use Rattle.trace_grammar.specs.declared.kind.CommandKind.{CommandKind}
 use Rattle.trace_grammar.specs.declared.kind.CommandKind.TheVariants as commands
 use Rattle.trace_grammar.specs.Kinds.{command_from}
-use Rattle.find_grammar.specs.declared.claim.Claim.{Claim}
-use Rattle.find_grammar.specs.declared.claim.Claim.TheVariants as claim
-use Rattle.find_grammar.specs.declared.statement.Statement.{Statement}
-use Rattle.find_grammar.specs.declared.statement.Statement.TheVariants as statement
-use Rattle.find_grammar.specs.declared.test.Place.{Place}
-use Rattle.find_grammar.specs.declared.wanted.Wanted.{Wanted}
-use Rattle.find_grammar.specs.declared.wanted.Wanted.TheVariants as wanted
+use Rattle.find_play.specs.declared.claim.Claim.{Claim}
+use Rattle.find_play.specs.declared.claim.Claim.TheVariants as claim
+use Rattle.find_play.specs.declared.statement.Statement.{Statement}
+use Rattle.find_play.specs.declared.statement.Statement.TheVariants as statement
+use Rattle.find_play.specs.declared.test.Place.{Place}
+use Rattle.find_play.specs.declared.wanted.Wanted.{Wanted}
+use Rattle.find_play.specs.declared.wanted.Wanted.TheVariants as wanted
 use Rattle.find_reading.specs.declared.draft.Block.{Block}
 use Rattle.find_reading.specs.declared.draft.Block.TheVariants as block
 use Rattle.find_reading.specs.declared.kind.LineKind.{LineKind}

@@ -1,6 +1,6 @@
 -- The kinds of lines, their first words, and what the words behind are to be.
 use Rattle.std.specs.Prelude.{ℕ, List, [], ◌∷◌, ◌++◌, codes, nat_lt, Option, Some, None, if◌then◌else◌}
-use Rattle.trace_refusals.specs.Causes.{is_same}
+use Rattle.trace_reading.specs.Causes.{is_same}
 use Rattle.trace_grammar.specs.declared.kind.CommandKind.{CommandKind}
 use Rattle.trace_grammar.specs.declared.kind.CommandKind.TheVariants as command
 use Rattle.trace_grammar.specs.Kinds.{word}

@@ -1,6 +1,6 @@
 -- What the words of a line say, behind the lines so far.
 use Rattle.std.specs.Prelude.{ℕ, ◌&&◌, List, [], ◌∷◌, Option, Some, None, nat_lt, is_none, if◌then◌else◌, Result, Ok, Err}
-use Rattle.find_grammar.specs.Names.{number_of}
+use Rattle.find_play.specs.Names.{number_of}
 use Rattle.find_reading.specs.declared.fault.TestWhy.{TestWhy}
 use Rattle.find_reading.specs.declared.fault.TestWhy.TheVariants as why
 use Rattle.find_reading.specs.declared.slot.Slot.{Slot}

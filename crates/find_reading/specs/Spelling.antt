@@ -1,9 +1,9 @@
 -- How the words of a line are spelled.
 use Rattle.std.specs.Prelude.{ℕ, ◌≡◌, ◌^◌, ◌<◌, ◌≤◌, true, List, [], ◌∷◌, codes, Some, None, Contains}
 use Rattle.std.specs.Fmt.{decimal}
-use Rattle.find_grammar.specs.declared.wanted.Wanted.{Wanted}
-use Rattle.find_grammar.specs.declared.wanted.Wanted.TheVariants as wanted
-use Rattle.find_grammar.specs.Names.{number_of}
+use Rattle.find_play.specs.declared.wanted.Wanted.{Wanted}
+use Rattle.find_play.specs.declared.wanted.Wanted.TheVariants as wanted
+use Rattle.find_play.specs.Names.{number_of}
 use Rattle.find_reading.specs.declared.slot.Slot.{Slot}
 use Rattle.find_reading.specs.declared.slot.Slot.TheVariants as slot
 use Rattle.find_reading.specs.declared.slot.Value.{Value}

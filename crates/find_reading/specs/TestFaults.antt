@@ -3,7 +3,7 @@ use Rattle.std.specs.Prelude.{ℕ, ◌≡◌, List, codes}
 use Rattle.trace_grammar.specs.Grammar.{HasNoHead}
 use Rattle.trace_grammar.specs.Why.{text_of}
 use Rattle.trace_grammar.specs.declared.why.Why.{Why}
-use Rattle.trace_refusals.specs.Refused.{StopsAt}
+use Rattle.trace_reading.specs.Refused.{StopsAt}
 use Rattle.find_reading.specs.declared.fault.TestWhy.{TestWhy}
 use Rattle.find_reading.specs.declared.fault.TestWhy.TheVariants as why
 use Rattle.find_reading.specs.declared.fault.TestFault.{TestFault}

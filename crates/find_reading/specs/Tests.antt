@@ -6,13 +6,13 @@ use Rattle.trace_grammar.specs.Spelling.{space, newline, IsVersion, header}
 use Rattle.trace_grammar.specs.Grammar.{most_bytes, HasNoHead}
 use Rattle.trace_grammar.specs.declared.why.Why.{Why}
 use Rattle.trace_grammar.specs.declared.why.Why.TheVariants.{EndOfLine}
-use Rattle.trace_refusals.specs.Causes.{parts}
-use Rattle.trace_refusals.specs.Refused.{StopsAt}
-use Rattle.find_grammar.specs.declared.claim.Claim.{Claim}
-use Rattle.find_grammar.specs.declared.statement.Statement.{Statement}
-use Rattle.find_grammar.specs.declared.test.Bounds.{Bounds}
-use Rattle.find_grammar.specs.declared.test.Place.{Place}
-use Rattle.find_grammar.specs.declared.test.Test.{Test}
+use Rattle.trace_reading.specs.Causes.{parts}
+use Rattle.trace_reading.specs.Refused.{StopsAt}
+use Rattle.find_play.specs.declared.claim.Claim.{Claim}
+use Rattle.find_play.specs.declared.statement.Statement.{Statement}
+use Rattle.find_play.specs.declared.test.Bounds.{Bounds}
+use Rattle.find_play.specs.declared.test.Place.{Place}
+use Rattle.find_play.specs.declared.test.Test.{Test}
 use Rattle.find_reading.specs.declared.fault.TestWhy.{TestWhy}
 use Rattle.find_reading.specs.declared.fault.TestWhy.TheVariants as whys
 use Rattle.find_reading.specs.declared.kind.LineKind.{LineKind}

@@ -1,9 +1,9 @@
 -- What the lines of a test say, as far as they are read.
 use Rattle.std.specs.Prelude.{ℕ, List, [], ◌∷◌, codes, Option, None}
-use Rattle.find_grammar.specs.declared.claim.Claim.{Claim}
-use Rattle.find_grammar.specs.declared.statement.Statement.{Statement}
-use Rattle.find_grammar.specs.declared.test.Bounds.{Bounds}
-use Rattle.find_grammar.specs.declared.test.Place.{Place}
+use Rattle.find_play.specs.declared.claim.Claim.{Claim}
+use Rattle.find_play.specs.declared.statement.Statement.{Statement}
+use Rattle.find_play.specs.declared.test.Bounds.{Bounds}
+use Rattle.find_play.specs.declared.test.Place.{Place}
 use Rattle.find_reading.specs.declared.draft.Block.{Block}
 use Rattle.find_reading.specs.declared.draft.Draft.{Draft}
 

@@ -1,9 +1,9 @@
 -- What a word says by itself.
 use Rattle.std.specs.Prelude.{ℕ, List, codes, ◌&&◌, nat_lt, if◌then◌else◌, Result, Ok, Err}
 use Rattle.std.specs.Str.Parse.{digits_value}
-use Rattle.find_grammar.specs.declared.wanted.Wanted.TheVariants as wanted
+use Rattle.find_play.specs.declared.wanted.Wanted.TheVariants as wanted
 use Rattle.trace_grammar.specs.declared.why.Why.TheVariants as cause
-use Rattle.trace_refusals.specs.Causes.{is_same, is_plain_number}
+use Rattle.trace_reading.specs.Causes.{is_same, is_plain_number}
 use Rattle.find_reading.specs.declared.fault.TestWhy.{TestWhy}
 use Rattle.find_reading.specs.declared.fault.TestWhy.TheVariants as why
 use Rattle.find_reading.specs.declared.slot.Value.{Value}

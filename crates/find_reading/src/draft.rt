@@ -4,7 +4,7 @@ ghost use Rattle.find_reading.specs.Told.{told_in};
 ghost use Rattle.find_reading.specs.Drafts.{is_in_thread, has_all_threads, may_begin_thread, is_loop, has_loop, innermost, is_then, allows};
 
 use crate::kind::LineKind;
-use find_grammar::{Bounds, Claim, Names, Place, Program};
+use find_play::{Bounds, Claim, Names, Place, Program};
 
 /// A block that has begun.
 #[derive(Clone, Copy)]

@@ -1,8 +1,8 @@
 //! What a line says.
 ghost use Rattle.std.specs.Prelude.{◌≡◌, ◌∷◌, [], slice_index_or, IfOk, IfErr, Ok, Err};
 ghost use Rattle.std.specs.Result.{result_map_both};
-ghost use Rattle.trace_refusals.specs.Causes.{parts, parts_behind};
-ghost use Rattle.find_grammar.specs.Names.{number_of};
+ghost use Rattle.trace_reading.specs.Causes.{parts, parts_behind};
+ghost use Rattle.find_play.specs.Names.{number_of};
 ghost use Rattle.find_reading.specs.Told.{told_in};
 ghost use Rattle.find_reading.specs.Kinds.{line_kinds, line_slots, kind_of_word};
 ghost use Rattle.find_reading.specs.Lines.{as_root, as_number, fresh_in, without_word, value_in, take_value, values_in, words_behind, line_in};
@@ -13,7 +13,7 @@ use crate::fault::TestWhy;
 use crate::kind::{LineKind, kinds_of};
 use crate::slot::{Slot, Value};
 use crate::words::{cut, is_name, next_word, number_in, wanted_in};
-use find_grammar::Names;
+use find_play::Names;
 
 /// A line: its kind, what its words say, and the name that it gives, if it gives one.
 #[derive(Clone, Copy)]

@@ -8,7 +8,7 @@ use crate::draft::{Block, Draft};
 use crate::kind::LineKind;
 use crate::line::Line;
 use crate::slot::Value;
-use find_grammar::{Bounds, Claim, Names, Place, Program, Statement, Wanted};
+use find_play::{Bounds, Claim, Names, Place, Program, Statement, Wanted};
 use shen_graph::{Command, NoMemory};
 use std::alloc::Global;
 use trace_grammar::CommandKind;

@@ -5,8 +5,8 @@ ghost use Rattle.shen_base.specs.Count.{Rose};
 ghost use Rattle.trace_grammar.specs.Spelling.{header};
 ghost use Rattle.trace_grammar.specs.Grammar.{most_bytes, HasNoHead, Came};
 ghost use Rattle.trace_grammar.specs.declared.why.Why.{Why as Cause};
-ghost use Rattle.trace_refusals.specs.Causes.{parts};
-ghost use Rattle.trace_refusals.specs.Refused.{StopsAt};
+ghost use Rattle.trace_reading.specs.Causes.{parts};
+ghost use Rattle.trace_reading.specs.Refused.{StopsAt};
 ghost use Rattle.trace_reading.specs.Calls.{HasFewCalls};
 ghost use Rattle.find_reading.specs.declared.fault.TestWhy.{TestWhy as Said};
 ghost use Rattle.find_reading.specs.TestFaults.{IsLineFault, IsTraceRefusal};
@@ -17,13 +17,12 @@ ghost use Rattle.find_reading.specs.Tests.{TestLineFollows, test_said, test_end_
 use crate::draft::Draft;
 use crate::fault::{TestFault, TestWhy};
 use crate::line::line_in;
-use find_grammar::{Bounds, Test};
+use find_play::{Bounds, Test};
 use heap_words::Config;
 use shen_base::Source;
 use std::alloc::Global;
 use trace_grammar::Why;
-use trace_reading::{TraceFault, all_bytes, head_at};
-use trace_refusals::{head_refusal, line_at};
+use trace_reading::{TraceFault, all_bytes, head_at, head_refusal, line_at};
 
 /// The fault of bytes that do not begin with the head of a test.
 fn bad_head(bytes: &[u8]) -> TestFault

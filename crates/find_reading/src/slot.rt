@@ -1,7 +1,7 @@
 ghost use Rattle.std.specs.Prelude.{◌≡◌};
 ghost use Rattle.find_reading.specs.Added.{small_said, large_said, index_said, wanted_said};
 
-use find_grammar::Wanted;
+use find_play::Wanted;
 
 /// What a word of a line is to be.
 #[derive(Clone, Copy)]

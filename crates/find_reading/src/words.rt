@@ -2,13 +2,13 @@
 ghost use Rattle.std.specs.Prelude.{◌≡◌, ◌∷◌, [], ◌==◌, true, false, if◌then◌else◌, ◌<◌, ◌≤◌, IfOk, IfSome, MatchOption, length};
 ghost use Rattle.std.specs.List.{prefix_len};
 ghost use Rattle.std.specs.Str.Parse.{AllDigits, digits_value};
-ghost use Rattle.trace_refusals.specs.Causes.{parts, parts_behind, is_plain_number};
+ghost use Rattle.trace_reading.specs.Causes.{parts, parts_behind, is_plain_number};
 ghost use Rattle.find_reading.specs.WordsSaid.{ranged, number_between, number_wanted, wanted_in};
 ghost use Rattle.find_reading.specs.Names.{is_name_byte, name_bytes, is_name};
 
 use crate::fault::TestWhy;
 use crate::slot::Value;
-use find_grammar::Wanted;
+use find_play::Wanted;
 use trace_grammar::{Why, digits_at, is_numeral, value_of};
 
 /// How many bytes stand before the first such byte.

@@ -4,8 +4,7 @@ ghost use Rattle.find_search.specs.Lone.{can_run_props};
 
 use crate::handing::{empty_scripts, hand_over};
 use crate::mixing::{mixed, name_sum, reply_sum};
-use find_grammar::{Next, Test};
-use find_play::{Cast, Verdict, broken};
+use find_play::{Cast, Next, Test, Verdict, broken};
 use heap_words::{Access, NoMemory, Place};
 use shen_core::{Plain, Seen, Stepped, turn_seen};
 use shen_graph::{Command, GraphText, History, Reply, Work};

@@ -6,7 +6,7 @@ use crate::record::Record;
 use crate::tally::{Found, Tally};
 use crate::tree::{Tree, Turn};
 use crate::turns::{Turns, goes_alone, possible_turns};
-use find_grammar::Test;
+use find_play::Test;
 use heap_words::NoMemory;
 use std::alloc::Global;
 use std::collections::HashMap;

@@ -2,7 +2,7 @@
 
 use crate::course::{Course, Ending};
 use crate::handing::empty_scripts;
-use find_grammar::Test;
+use find_play::Test;
 use heap_words::{Item, NoMemory, Place};
 use shen_core::Stepped;
 use shen_graph::{Command, Script};

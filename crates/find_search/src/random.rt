@@ -6,7 +6,7 @@ use crate::mixing::mixed;
 use crate::record::Record;
 use crate::tally::{Found, Tally};
 use crate::turns::{Turns, possible_turns};
-use find_grammar::Test;
+use find_play::Test;
 use heap_words::NoMemory;
 use std::alloc::Global;
 

@@ -2,8 +2,7 @@
 
 use crate::course::Course;
 use crate::tally::{Found, Tally};
-use find_grammar::Test;
-use find_play::Verdict;
+use find_play::{Test, Verdict};
 use heap_words::{Item, NoMemory};
 use std::alloc::Global;
 

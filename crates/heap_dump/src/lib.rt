@@ -7,11 +7,9 @@
 //! `Plain::open_from` takes with its counts.
 #![tactic(auto)]
 
-pub use dump_reading::{
-    Resumed, bytes_are_a_dump_or_refused, dumps_are_read_once, dumps_are_refused_once, read_dump,
-    written_dumps_are_read,
-};
 pub use dump_runs::{Placed, place};
-pub use dump_writing::{
-    Counts, Dump, WriteFault, dumps_show_their_graph, graphs_have_one_dump, write_dump,
+pub use dump_text::{
+    Counts, Dump, Resumed, WriteFault, bytes_are_a_dump_or_refused, dumps_are_read_once,
+    dumps_are_refused_once, dumps_show_their_graph, graphs_have_one_dump, read_dump, write_dump,
+    written_dumps_are_read,
 };

@@ -7,13 +7,13 @@ use Rattle.trace_grammar.specs.Grammar.{most_bytes}
 use Rattle.trace_grammar.specs.Spelling.{newline}
 use Rattle.trace_runs.specs.Words.{usual_steps}
 use Rattle.trace_runs.specs.Answered.{Input, Output, HasRead, SaysLine}
-use Rattle.find_grammar.specs.declared.test.Test.{Test}
+use Rattle.find_play.specs.declared.test.Test.{Test}
 use Rattle.find_play.specs.declared.verdict.Verdict.{Verdict}
 use Rattle.find_play.specs.declared.verdict.Verdict.TheVariants as verdict
 use Rattle.find_reading.specs.declared.fault.TestWhy.{TestWhy}
 use Rattle.find_reading.specs.declared.fault.TestFault.TheVariants as fault
 use Rattle.find_reading.specs.Tests.{test_said, IsTest, RefusesTest}
-use Rattle.find_hunt.specs.Judged.{IsBreak}
+use Rattle.find_search.specs.Judged.{IsBreak}
 use Rattle.shenfind.specs.FaultLines.{refusal_text}
 use Rattle.shenfind.specs.declared.status.Status.{Status}
 use Rattle.shenfind.specs.declared.status.Status.TheVariants.{Holds, BadWords, BadTest, Unfinished, ReadFault, WriteFault, NoMemory, Fails, Stuck}

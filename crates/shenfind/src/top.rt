@@ -9,10 +9,9 @@ ghost use Rattle.shenfind.specs.Tellings.{status_of, Reports, HasSearched, Statu
 use crate::report::{write_bad_line, write_report};
 use crate::status::Status;
 use crate::words::{Asked, asked_by};
-use find_grammar::Test;
-use find_hunt::{Break, Hunted, hunt};
-use find_play::Verdict;
+use find_play::{Test, Verdict};
 use find_reading::{TestFault, read_test};
+use find_search::{Break, Hunted, hunt};
 use heap_words::NoMemory;
 use shen_base::{Sink, Source};
 use std::alloc::Global;

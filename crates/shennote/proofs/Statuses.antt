@@ -12,7 +12,7 @@ use Rattle.trace_grammar.specs.declared.why.Why.{Why}
 use Rattle.trace_reading.specs.declared.fault.TraceFault.{TraceFault}
 use Rattle.trace_reading.specs.declared.fault.TraceFault.TheVariants as fault
 use Rattle.trace_reading.specs.Faults.{IsTextFault}
-use Rattle.trace_refusals.specs.Refused.{Refused}
+use Rattle.trace_reading.specs.Refused.{Refused}
 use Rattle.trace_writing.specs.Message.{line_text}
 use Rattle.trace_writing.specs.declared.message.Line.TheVariants as line
 use Rattle.trace_runs.specs.Answered.{Input, Output, HasRead, SaysLine}

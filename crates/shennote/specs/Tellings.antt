@@ -7,7 +7,7 @@ use Rattle.shen_base.specs.Count.{Rose}
 use Rattle.step_core.specs.Schedule.{Scripts}
 use Rattle.trace_grammar.specs.Grammar.{Reads, most_bytes}
 use Rattle.trace_grammar.specs.declared.why.Why.{Why}
-use Rattle.trace_refusals.specs.Refused.{Refused}
+use Rattle.trace_reading.specs.Refused.{Refused}
 use Rattle.trace_writing.specs.Message.{line_text}
 use Rattle.trace_writing.specs.declared.message.Line.TheVariants as line
 use Rattle.trace_runs.specs.Answered.{Input, Output, HasRead, SaysLine}

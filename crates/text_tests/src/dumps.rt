@@ -1,6 +1,5 @@
 //! Dumps and what is to run from them: read, or refused at a line.
-use dump_reading::read_dump;
-use dump_writing::write_dump;
+use dump_text::{read_dump, write_dump};
 use shen_base::{MemorySink, PlainSource};
 use shen_graph::Command;
 use std::alloc::{AllocError, Global};

@@ -1,5 +1,5 @@
 //! A test of interleavings that is read, and how its thread goes on.
-use find_grammar::{Claim, Next, Place, Statement, Test, Thread, Wanted};
+use find_play::{Claim, Next, Place, Statement, Test, Thread, Wanted};
 use find_reading::{TestFault, TestWhy, read_test};
 use shen_base::PlainSource;
 use shen_graph::{Command, Name, Reply};

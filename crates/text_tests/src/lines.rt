@@ -6,7 +6,7 @@ use shen_graph::Command;
 use std::alloc::{AllocError, Global};
 use std::test::Fail;
 use trace_grammar::Why;
-use trace_lines::{LineFault, TraceLines};
+use trace_text::{LineFault, TraceLines};
 
 // No line yet of a version, of a heap of four regions and one thread.
 fn none(alloc: Global, version: u32) -> Result<TraceLines, AllocError>

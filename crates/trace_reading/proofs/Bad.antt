@@ -13,10 +13,10 @@ use Rattle.trace_grammar.specs.Front.{IsBehindCommands}
 use Rattle.trace_grammar.specs.Grammar.{HasReadLines}
 use Rattle.trace_grammar.specs.declared.why.Why.{Why}
 use Rattle.trace_grammar.proofs.Traces.{few_lines, few_turns, command_is_no_turn}
-use Rattle.trace_refusals.specs.Causes.{parts}
-use Rattle.trace_refusals.specs.Refused.{Commands, body_stage, cause_of, StopsAt}
-use Rattle.trace_refusals.proofs.Begins.{Begun, begun_head, begun_lines, begun_turns, begun_stops}
-use Rattle.trace_refusals.proofs.Spells.{BeginsWithCommand, BeginsWithTurn, commands_spell, turns_spell}
+use Rattle.trace_reading.specs.Causes.{parts}
+use Rattle.trace_reading.specs.Refused.{Commands, body_stage, cause_of, StopsAt}
+use Rattle.trace_reading.proofs.Begins.{Begun, begun_head, begun_lines, begun_turns, begun_stops}
+use Rattle.trace_reading.proofs.Spells.{BeginsWithCommand, BeginsWithTurn, commands_spell, turns_spell}
 use Rattle.trace_reading.specs.Stops.{StopsBody, StopsCommands, StopsTurns}
 
 -- ---- no line of a command

@@ -1,2 +1,16 @@
+pub mod Cuts
+pub mod RefusedPlaces
+pub mod Words
+pub mod Lines
+pub mod Free
+pub mod Numerals
+pub mod Heads
+pub mod Commands
+pub mod ScheduleWords
+pub mod Leads
+pub mod Begins
+pub mod Spells
+pub mod Exact
+pub mod Either
 pub mod Bad
 pub mod PlaceCodes

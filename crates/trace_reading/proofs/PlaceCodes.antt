@@ -5,7 +5,7 @@ use Rattle.heap_words.specs.declared.place.Place.{Place}
 use Rattle.heap_words.specs.Place.{code_of}
 use Rattle.heap_words.proofs.Codes.{same_code}
 use Rattle.trace_grammar.specs.Front.{BeginsWith, BeginsWithNone, IsAny}
-use Rattle.trace_refusals.proofs.PlaceCodes.{two_letters}
+use Rattle.trace_reading.proofs.RefusedPlaces.{two_letters}
 
 -- two letters at the front
 split_front : (a b : ℕ) (rest code after : List ℕ) → length code ≡ 2 → a ∷ b ∷ rest ≡ code ++ after → (code ≡ a ∷ b ∷ []) × (rest ≡ after)

@@ -7,8 +7,8 @@ use Rattle.heap_words.specs.declared.schedule.Item.{Item}
 use Rattle.trace_grammar.specs.Spelling.{newline, TraceLine, line, IsLine, schedule_line, IsScheduleLine}
 use Rattle.trace_grammar.specs.Grammar.{scripts_of, items_of}
 use Rattle.trace_grammar.specs.declared.why.Why.{Why}
-use Rattle.trace_refusals.specs.Causes.{parts}
-use Rattle.trace_refusals.specs.Refused.{body_stage, cause_of}
+use Rattle.trace_reading.specs.Causes.{parts}
+use Rattle.trace_reading.specs.Refused.{body_stage, cause_of}
 
 -- behind lines of commands, of which the first has this number, these bytes are refused at line n
 pub record StopsCommands (version : ℕ) (c : Config) (first : ℕ) (bytes : List ℕ) (n : ℕ) (why : Why) : Type 0 where

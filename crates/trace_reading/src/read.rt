@@ -9,8 +9,8 @@ ghost use Rattle.trace_grammar.specs.Scanning.{sizes_at};
 ghost use Rattle.trace_grammar.specs.Front.{IsBehindCommands};
 ghost use Rattle.trace_grammar.specs.Grammar.{most_bytes, with_line, scripts_of, HasReadLines, Reads, HasNoHead, Came};
 ghost use Rattle.trace_grammar.specs.declared.why.Why.{Why as Cause};
-ghost use Rattle.trace_refusals.specs.Causes.{parts};
-ghost use Rattle.trace_refusals.specs.Refused.{body_stage, cause_of, StopsAt, Refused};
+ghost use Rattle.trace_reading.specs.Causes.{parts};
+ghost use Rattle.trace_reading.specs.Refused.{body_stage, cause_of, StopsAt, Refused};
 ghost use Rattle.trace_reading.specs.Calls.{HasFewCalls};
 ghost use Rattle.trace_reading.specs.Stops.{HasReadBody, StopsBody, StopsCommands};
 ghost use Rattle.trace_reading.specs.Faults.{IsTextFault};
@@ -19,12 +19,12 @@ use crate::fault::{NotTaken, TraceFault};
 use crate::line::line_at;
 use crate::schedule_lines::take_schedule;
 use crate::source_bytes::all_bytes;
+use crate::{body_refusal, head_refusal};
 use heap_words::{Config, Schedule};
 use shen_base::Source;
 use shen_graph::Script;
 use std::alloc::Global;
 use trace_grammar::{Scripts, Trace, numbers_at, positive_at, text_at};
-use trace_refusals::{body_refusal, head_refusal};
 
 /// The numbers at the head of a trace: its version, those of its heap, and those of its threads.
 #[derive(Clone, Copy, Debug)]

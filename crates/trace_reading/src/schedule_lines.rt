@@ -7,16 +7,16 @@ ghost use Rattle.trace_grammar.specs.Front.{IsLineEnd, IsBehindCommands, BeginsW
 ghost use Rattle.trace_grammar.specs.Grammar.{HasScheduled};
 ghost use Rattle.trace_grammar.specs.declared.why.Why.{Why as Cause};
 ghost use Rattle.trace_reading.specs.Faults.{IsTextFault};
-ghost use Rattle.trace_refusals.specs.Causes.{parts};
-ghost use Rattle.trace_refusals.specs.Refused.{body_stage, cause_of};
+ghost use Rattle.trace_reading.specs.Causes.{parts};
+ghost use Rattle.trace_reading.specs.Refused.{body_stage, cause_of};
 ghost use Rattle.trace_reading.specs.Stops.{StopsTurns};
 
+use crate::body_refusal;
 use crate::fault::{NotTaken, TraceFault};
 use crate::items::item_at;
 use heap_words::{Config, Schedule};
 use std::alloc::Global;
 use trace_grammar::text_at;
-use trace_refusals::body_refusal;
 
 /// Takes a space and an item, and adds the item to the schedule.
 fn take_item<'a>(

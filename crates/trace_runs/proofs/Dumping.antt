@@ -22,10 +22,10 @@ use Rattle.shen_core.specs.declared.plain.Plain.{Plain}
 use Rattle.shen_core.specs.Progress.{Jobs}
 use Rattle.trace_grammar.specs.Spelling.{FitsWhenWritten}
 use Rattle.trace_grammar.specs.Grammar.{most_bytes, Reads}
-use Rattle.trace_pairs.proofs.MadePairs.{IsOfScript, each_asked}
-use Rattle.dump_making.specs.ObjectsMade.{is_allocation, is_name_reply, has_made, objects_made, objects_made_by_each, IsEntryInRange, IsDumpable}
-use Rattle.dump_writing.specs.Dumped.{Dumped, IsDumpOf}
-use Rattle.dump_writing.specs.DumpText.{dump_text}
+use Rattle.trace_text.proofs.MadePairs.{IsOfScript, each_asked}
+use Rattle.dump_text.specs.ObjectsMade.{is_allocation, is_name_reply, has_made, objects_made, objects_made_by_each, IsEntryInRange, IsDumpable}
+use Rattle.dump_text.specs.Dumped.{Dumped, IsDumpOf}
+use Rattle.dump_text.specs.DumpText.{dump_text}
 use Rattle.trace_runs.specs.Replayed.{events_of, history_of, IsWhole, IsReplayedToDump}
 use Rattle.trace_runs.specs.Running.{HasFinished}
 use Rattle.trace_runs.proofs.Scripts.{count_scripts, short_script}

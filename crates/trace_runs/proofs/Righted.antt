@@ -8,8 +8,8 @@ use Rattle.trace_writing.specs.Answer.{IsAnswerText}
 use Rattle.trace_writing.specs.History.{history_text}
 use Rattle.trace_writing.specs.Message.{line_text}
 use Rattle.trace_writing.specs.declared.message.Line.TheVariants as line
-use Rattle.trace_pairs.specs.Pairs.{IsPair}
-use Rattle.trace_pairs.proofs.MadePairs.{made_pair}
+use Rattle.trace_text.specs.Pairs.{IsPair}
+use Rattle.trace_text.proofs.MadePairs.{made_pair}
 use Rattle.shen_check.specs.declared.verdict.Verdict.TheVariants.{Yes}
 use Rattle.trace_runs.specs.Replayed.{history_of, IsReplayedNoted}
 use Rattle.trace_runs.specs.Checked.{IsChecked}

@@ -4,7 +4,7 @@ use Rattle.shen_graph.specs.declared.command.Command.{Command}
 use Rattle.shen_graph.specs.History.{Entry}
 use Rattle.heap_words.specs.declared.config.Config.{Config}
 use Rattle.heap_words.specs.declared.schedule.Item.{Item}
-use Rattle.trace_pairs.specs.Pairs.{IsPair}
+use Rattle.trace_text.specs.Pairs.{IsPair}
 use Rattle.shen_check.specs.declared.verdict.Verdict.{Verdict}
 use Rattle.shen_check.specs.declared.verdict.Verdict.TheVariants.{Yes, Entry as NoEntry, Script, Text}
 use Rattle.shen_check.specs.Judged.{IsVerdict}

@@ -7,10 +7,10 @@ use Rattle.heap_words.specs.declared.config.Config.{Config}
 use Rattle.heap_words.specs.declared.schedule.Item.{Item}
 use Rattle.trace_grammar.specs.Grammar.{Reads}
 use Rattle.trace_grammar.specs.declared.why.Why.{Why}
-use Rattle.trace_refusals.specs.Refused.{Refused}
-use Rattle.trace_pairs.specs.Pairs.{IsPair}
-use Rattle.trace_pairs.specs.Refusals.{IsPairRefused}
-use Rattle.dump_reading.specs.DumpLines.{DumpRefused}
+use Rattle.trace_reading.specs.Refused.{Refused}
+use Rattle.trace_text.specs.Pairs.{IsPair}
+use Rattle.trace_text.specs.Refusals.{IsPairRefused}
+use Rattle.dump_text.specs.DumpLines.{DumpRefused}
 use Rattle.trace_runs.specs.declared.mode.Mode.{Mode}
 use Rattle.trace_runs.specs.declared.mode.Mode.TheVariants.{Replay, Noted, Dump, Resume, Run, Churn, Queue, Check}
 use Rattle.trace_runs.specs.Replayed.{IsUnfinished}

@@ -2,7 +2,7 @@
 ghost use Rattle.std.specs.Prelude.{◌≡◌, ℕ, List, IfOk, IfErr, OnOk};
 ghost use Rattle.text_writer.specs.Sending.{outlet};
 ghost use Rattle.trace_grammar.specs.Grammar.{Came};
-ghost use Rattle.trace_pairs.specs.Pairs.{IsPair};
+ghost use Rattle.trace_text.specs.Pairs.{IsPair};
 ghost use Rattle.trace_runs.specs.Checked.{verdict_line};
 ghost use Rattle.trace_runs.specs.Words.{Asks};
 ghost use Rattle.trace_runs.specs.Answered.{StatusFits};
@@ -13,7 +13,7 @@ use crate::status::Status;
 use shen_base::{Sink, Source};
 use shen_check::Verdict;
 use std::alloc::Global;
-use trace_pairs::{Pair, read_pair};
+use trace_text::{Pair, read_pair};
 use trace_writing::Line;
 
 // The line of a verdict.

@@ -1,6 +1,6 @@
 use Rattle.std.proofs.Common.{List, All, length, sym, ap, subst, ◌∙◌}
 use Rattle.shen_graph.specs.declared.command.Command.{Command}
-use Rattle.dump_writing.specs.Dumped.{dumped}
+use Rattle.dump_text.specs.Dumped.{dumped}
 use Rattle.dump_runs.specs.Resumed.{IsRunnableAfter}
 use Rattle.dump_runs.proofs.Runnable.{count_read, runnable_read, items_read}
 use Rattle.dump_runs.proofs.Outcomes.{answered_fits, unfinished_fits}

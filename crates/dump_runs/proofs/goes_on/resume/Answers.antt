@@ -12,7 +12,7 @@ use Rattle.step_core.specs.Begins.{Begins}
 use Rattle.step_core.specs.Schedule.{schedule_events}
 use Rattle.heap_machines.specs.FromImage.{stage_from}
 use Rattle.graph_placing.specs.PlacedHeap.{IsPlaced}
-use Rattle.dump_writing.specs.Dumped.{dumped, graph_in}
+use Rattle.dump_text.specs.Dumped.{dumped, graph_in}
 use Rattle.dump_runs.specs.Resuming.{HasEndedFrom}
 use Rattle.dump_runs.proofs.WholeFrom.{run_of, whole_from, all_rest_from, answer_from}
 use Rattle.dump_runs.proofs.goes_on.resume.Goals as goal

@@ -8,7 +8,7 @@ use Rattle.shen_core.specs.declared.plain.Plain.{Plain}
 use Rattle.shen_core.specs.State.{Shows}
 use Rattle.heap_machines.specs.FromImage.{CanBeginFrom, stage_from}
 use Rattle.shen_core.specs.Progress.{CanRun, IsInSeats}
-use Rattle.dump_writing.specs.Dumped.{dumped, graph_in}
+use Rattle.dump_text.specs.Dumped.{dumped, graph_in}
 use Rattle.dump_runs.proofs.StageFrom.{can_run_from, ended, cut}
 use Rattle.dump_runs.proofs.goes_on.run.Goals as goal
 

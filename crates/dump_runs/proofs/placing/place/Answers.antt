@@ -5,7 +5,7 @@ use Rattle.std.proofs.Common.{ℕ, List}
 use Rattle.image_graph.specs.declared.image.Image.{Image}
 use Rattle.image_graph.specs.State.{memory_of}
 use Rattle.heap_machines.specs.FromImage.{CanBeginFrom}
-use Rattle.dump_writing.specs.Dumped.{dumped, graph_in}
+use Rattle.dump_text.specs.Dumped.{dumped, graph_in}
 use Rattle.graph_placing.specs.PlacedHeap.{IsPlaced}
 use Rattle.graph_placing.specs.TextGraph.{IsGraphOf}
 use Rattle.dump_runs.proofs.DumpedText.{placeable, can_begin, of_both}

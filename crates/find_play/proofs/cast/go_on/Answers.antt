@@ -1,5 +1,5 @@
 use Rattle.std.proofs.Common.{refl, subst}
-use Rattle.find_grammar.specs.declared.thread.Next.TheVariants.{Keep, Command, Done, TooLong}
+use Rattle.find_play.specs.declared.thread.Next.TheVariants.{Keep, Command, Done, TooLong}
 use Rattle.find_play.specs.Plays.{Notes, KeepsOn, Acts, Keeps}
 use Rattle.find_play.proofs.Keeping.{keeps_less}
 use Rattle.find_play.proofs.cast.go_on.Goals as goal

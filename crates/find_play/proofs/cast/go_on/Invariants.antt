@@ -1,6 +1,6 @@
 use Rattle.std.proofs.Common.{◌+◌, ◌-◌, ◌*◌, length}
-use Rattle.find_grammar.specs.declared.thread.Next.{Next}
-use Rattle.find_grammar.specs.declared.thread.Thread.{Thread}
+use Rattle.find_play.specs.declared.thread.Next.{Next}
+use Rattle.find_play.specs.declared.thread.Thread.{Thread}
 use Rattle.find_play.specs.Plays.{Notes, KeepsOn}
 use Rattle.find_play.proofs.cast.go_on.Given as goal
 

@@ -1,6 +1,6 @@
 use Rattle.std.proofs.Common.{◌≡◌, drop, not}
 use Rattle.std.specs.List.{list_all}
-use Rattle.find_grammar.specs.Wanted.{fits}
+use Rattle.find_play.specs.Wanted.{fits}
 use Rattle.find_play.proofs.claims.is_never.Given as goal
 
 abbrev pub invariant-loop-at : goal.invariant-loop-at

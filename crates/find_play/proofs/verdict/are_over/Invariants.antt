@@ -1,5 +1,5 @@
 use Rattle.std.proofs.Common.{◌≡◌, ℕ, ◌<◌, false, get_or}
-use Rattle.find_grammar.specs.declared.thread.Next.TheVariants.{Done}
+use Rattle.find_play.specs.declared.thread.Next.TheVariants.{Done}
 use Rattle.find_play.specs.Verdict.{is_command}
 use Rattle.find_play.proofs.verdict.are_over.Given as goal
 

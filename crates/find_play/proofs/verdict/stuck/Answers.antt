@@ -1,5 +1,5 @@
 use Rattle.std.proofs.Common.{ap, sym, arith}
-use Rattle.find_grammar.specs.declared.thread.Next.TheVariants.{Done}
+use Rattle.find_play.specs.declared.thread.Next.TheVariants.{Done}
 use Rattle.find_play.specs.Verdict.{is_stuck}
 use Rattle.find_play.proofs.Firsts.{position_is}
 use Rattle.find_play.proofs.verdict.stuck.Goals as goal

@@ -1,6 +1,6 @@
 use Rattle.std.proofs.Common.{◌≡◌, vec_len, ap, ◌∙◌}
 use Rattle.std.proofs.lemmas.Result.{IfOk-weaker}
-use Rattle.find_grammar.specs.declared.test.Test.{Test}
+use Rattle.find_play.specs.declared.test.Test.{Test}
 use Rattle.find_reading.specs.Told.{Told, told_in}
 use Rattle.find_reading.proofs.Following.{threads_stay, version_stays}
 use Rattle.find_reading.proofs.read.body_of.Goals as goal

@@ -1,6 +1,6 @@
 use Rattle.std.proofs.Common.{◌≡◌, Err, ap, subst, ◌∙◌}
 use Rattle.std.proofs.lemmas.Result.{err_from_is_err_and}
-use Rattle.trace_refusals.specs.Causes.{parts}
+use Rattle.trace_reading.specs.Causes.{parts}
 use Rattle.trace_grammar.specs.declared.why.Why.TheVariants.{EndOfLine}
 use Rattle.find_reading.specs.declared.fault.TestFault.TheVariants.{BadLine}
 use Rattle.find_reading.specs.declared.fault.TestWhy.{TestWhy}

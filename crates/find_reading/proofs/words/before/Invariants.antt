@@ -1,5 +1,5 @@
 use Rattle.std.proofs.Common.{◌≡◌, ◌+◌, drop}
-use Rattle.trace_refusals.proofs.Cuts.{count_before}
+use Rattle.trace_reading.proofs.Cuts.{count_before}
 use Rattle.find_reading.proofs.words.before.Given as goal
 
 abbrev pub invariant-loop-count : goal.invariant-loop-count

@@ -1,6 +1,6 @@
 use Rattle.std.proofs.Common.{cond, eqb, true, false, arith}
 use Rattle.std.proofs.lemmas.List.Sums.{prefix_len-le-length}
-use Rattle.trace_refusals.proofs.Cuts.{cut_parts}
+use Rattle.trace_reading.proofs.Cuts.{cut_parts}
 use Rattle.find_reading.proofs.words.cut.Goals as goal
 
 pub split_at-requires : goal.split_at-requires

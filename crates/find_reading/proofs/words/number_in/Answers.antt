@@ -1,5 +1,5 @@
 use Rattle.std.proofs.Common.{sym}
-use Rattle.trace_refusals.proofs.Words.{number_digits}
+use Rattle.trace_reading.proofs.Words.{number_digits}
 use Rattle.find_reading.proofs.words.number_in.Goals as goal
 
 pub ranged-requires : goal.ranged-requires

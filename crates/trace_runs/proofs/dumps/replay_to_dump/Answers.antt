@@ -1,8 +1,8 @@
 use Rattle.std.proofs.Common.{refl, subst}
 use Rattle.trace_writing.specs.Message.{line_text}
 use Rattle.trace_writing.specs.declared.message.Line.TheVariants as line
-use Rattle.dump_writing.specs.Dumped.{dumped}
-use Rattle.dump_writing.specs.DumpText.{dump_text}
+use Rattle.dump_text.specs.Dumped.{dumped}
+use Rattle.dump_text.specs.DumpText.{dump_text}
 use Rattle.text_writer.specs.Sending.{outlet}
 use Rattle.trace_runs.specs.Answered.{Input, Output}
 use Rattle.trace_runs.specs.CallEnds.{EndsWith}

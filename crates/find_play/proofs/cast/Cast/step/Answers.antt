@@ -2,8 +2,8 @@ use Rattle.std.proofs.Common.{◌≡◌, List, get_or, length, refl, sym, subst,
 use Rattle.std.specs.Vec.{with_items}
 use Rattle.std.proofs.lemmas.List.{with_items_is}
 use Rattle.std.proofs.lemmas.Option.{slice_get-get_or}
-use Rattle.find_grammar.specs.declared.statement.Statement.{Statement}
-use Rattle.find_grammar.specs.declared.thread.Thread.{Thread}
+use Rattle.find_play.specs.declared.statement.Statement.{Statement}
+use Rattle.find_play.specs.declared.thread.Thread.{Thread}
 use Rattle.find_play.specs.Plays.{Notes, KeepsOn, start}
 use Rattle.find_play.proofs.cast.Cast.step.Goals as goal
 

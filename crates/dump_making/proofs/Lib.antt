@@ -1,3 +1,0 @@
-pub mod FormedGraphs
-pub mod ObjectCounts
-pub mod FormedDumps

@@ -1,0 +1,10 @@
+pub mod Dumped
+pub mod DumpText
+pub mod RowsReached
+pub mod Resumes
+pub mod DumpLines
+pub mod HeldReferences
+pub mod ObjectWords
+pub mod Steps
+pub mod Listing
+pub mod ObjectsMade

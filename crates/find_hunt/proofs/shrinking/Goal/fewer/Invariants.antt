@@ -1,4 +1,0 @@
-use Rattle.find_hunt.proofs.shrinking.Goal.fewer.Given as goal
-
-abbrev pub decreases-loop-at : goal.decreases-loop-at
-decreases-loop-at l = l.at

@@ -1,2 +1,0 @@
-pub mod LineKinds
-pub mod TakenTraces

@@ -1,5 +1,0 @@
-use Rattle.trace_lines.proofs.TakenTraces.{read_as_taken}
-use Rattle.trace_lines.proofs.laws.lines_taken_are_read.Goals as goal
-
-pub returns : goal.returns
-returns c = read_as_taken

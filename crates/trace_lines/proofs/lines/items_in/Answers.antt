@@ -1,8 +1,0 @@
-use Rattle.std.proofs.Common.{◌∙◌}
-use Rattle.trace_lines.proofs.LineKinds.{items_read}
-use Rattle.trace_lines.proofs.lines.items_in.Goals as goal
-
-pub returns-in-Ok-trace_behind : goal.returns-in-Ok-trace_behind
-returns-in-Ok-trace_behind c =
-    let t = c.in-Ok-trace_behind in
-    items_read 1 c.args.config c.args.text.now c.deref.result.now t.trace.scripts t.trace.schedule c.requires.line (c.deref.ensures.value ∙ c.in-Ok.ensures) t.ensures.ok

@@ -1,9 +1,0 @@
-pub mod ReadReplies
-pub mod ReadEntries
-pub mod CutLines
-pub mod Wanted
-pub mod PairLaws
-pub mod SmallGraphs
-pub mod TraceLines
-pub mod AnswerLines
-pub mod MadePairs

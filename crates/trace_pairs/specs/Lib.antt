@@ -1,4 +1,0 @@
-pub mod Entries
-pub mod LineCuts
-pub mod Pairs
-pub mod Refusals

@@ -1,0 +1,191 @@
+-- Lines of a trace at the front of bytes.
+use Rattle.std.proofs.Common.{◌≡◌, ◌⊎◌, ℕ, suc, ◌+◌, Bool, true, false, List, [], ◌∷◌, ◌++◌, length, ltb, Some, None, inl, inr, refl, sym, ap, subst, ◌∙◌, append_assoc, arith}
+use Rattle.std.specs.Prelude.{codes}
+use Rattle.std.specs.List.{flat_map, join_with_byte, AllByRecursion}
+use Rattle.std.proofs.lemmas.Bool.Decides.{nat_tests}
+use Rattle.std.proofs.lemmas.List.Concat.{flat_map-cons}
+use Rattle.std.proofs.lemmas.List.{length-append}
+use Rattle.heap_words.specs.declared.config.Config.{Config}
+use Rattle.heap_words.specs.Narrow.{IsNarrow}
+use Rattle.heap_words.specs.declared.schedule.Item.{Item}
+use Rattle.trace_grammar.specs.Spelling.{TraceLine, IsVersion, IsLine, line, newline, titled, header, schedule_line, IsScheduleLine}
+use Rattle.trace_grammar.specs.declared.why.Why.{Why}
+use Rattle.trace_reading.specs.Causes.{parts}
+use Rattle.trace_reading.specs.Refused.{LineStage, Version, Heap, Threads, Commands, Turns, body_stage, cause_of, LineFollows, Lead, StopsAt}
+use Rattle.trace_reading.proofs.Heads.{titled_is, version_spelled, heap_spelled, threads_spelled}
+use Rattle.trace_reading.proofs.Commands.{line_words, line_is}
+use Rattle.trace_reading.proofs.ScheduleWords.{words_of_turn, turn_is}
+use Rattle.trace_reading.proofs.Leads.{line_of, line_in_front, bytes_of_line, first_line}
+
+-- the bytes begin with so many lines of a trace, and this is to stand on the next
+pub record Begun (bytes rest : List ℕ) (n : ℕ) (stage : LineStage) : Type 0 where
+  pub before : List (List ℕ)
+  pub lines : parts newline bytes ≡ before ++ parts newline rest
+  pub number : n ≡ length before
+  pub lead : Lead Version before stage
+
+pub begun_none : (bytes : List ℕ) → Begun bytes bytes 0 Version
+begun_none bytes = record { before = []; lines = refl; number = refl; lead = refl }
+
+lead_more : (first : LineStage) (texts : List (List ℕ)) (stage : LineStage) (text : List ℕ) (next : LineStage) → Lead first texts stage → LineFollows stage text next → Lead first (texts ++ text ∷ []) next
+lead_more first [] stage text next lead f = subst (λ (s : LineStage). Lead s (text ∷ []) next) (sym lead) (next, f, refl)
+lead_more first (t ∷ texts) stage text next lead f = (lead.0, lead.1, lead_more lead.0 texts stage text next lead.2 f)
+
+pub begun_more : (bytes text rest : List ℕ) (n : ℕ) (stage next : LineStage) → Begun bytes (text ++ 10 ∷ rest) n stage → LineFollows stage text next → Begun bytes rest (n + 1) next
+begun_more bytes text rest n stage next b f = record {
+  before = b.before ++ text ∷ [];
+  lines = b.lines ∙ ap (λ (ts : List (List ℕ)). b.before ++ ts) (line_in_front stage text rest next f) ∙ sym (append_assoc b.before (text ∷ []) (parts newline rest));
+  number = omega (arith, b.number, length-append b.before (text ∷ []));
+  lead = lead_more Version b.before stage text next b.lead f;
+}
+
+pub begun_stops : (bytes rest : List ℕ) (n m : ℕ) (stage : LineStage) (why : Why) → Begun bytes rest n stage → m ≡ n + 1 → cause_of stage (parts newline rest) ≡ Some why → StopsAt bytes m why
+begun_stops bytes rest n m stage why b e cause = record {
+  before = b.before;
+  from_it = parts newline rest;
+  lines = b.lines;
+  number = omega (arith, b.number, e);
+  stage = stage;
+  lead = b.lead;
+  cause = cause;
+}
+
+-- ---- the head
+
+-- a text and the end of its line, in front of the rest
+front_line : (text whole rest : List ℕ) → text ++ newline ∷ [] ≡ whole → text ++ 10 ∷ rest ≡ whole ++ rest
+front_line text whole rest e = sym (append_assoc text (newline ∷ []) rest) ∙ ap (λ (t : List ℕ). t ++ rest) e
+
+-- the line that a title and numbers spell
+titled_line : (title : List ℕ) (ns : List ℕ) → (text : List ℕ) × (text ++ newline ∷ [] ≡ titled title ns)
+titled_line title ns = (_, titled_is title ns)
+
+pub begun_head : (bytes rest : List ℕ) (v : ℕ) (c : Config) → IsVersion v → IsNarrow c → bytes ≡ header v c ++ rest → Begun bytes rest 3 (Commands v c)
+begun_head bytes rest v c known narrow e =
+    let shen = titled_line (codes "shen") (v ∷ []) in
+    let heap = titled_line (codes "heap") (c.regions ∷ c.region_words ∷ c.reserve ∷ []) in
+    let threads = titled_line (codes "threads") (c.mutators ∷ c.helpers ∷ []) in
+    let third = threads.0 ++ 10 ∷ rest in
+    let second = heap.0 ++ 10 ∷ third in
+    let whole : bytes ≡ shen.0 ++ 10 ∷ second =
+    e ∙ append_assoc (titled (codes "shen") (v ∷ [])) (titled (codes "heap") (c.regions ∷ c.region_words ∷ c.reserve ∷ []) ++ titled (codes "threads") (c.mutators ∷ c.helpers ∷ [])) rest
+    ∙ ap (λ (t : List ℕ). titled (codes "shen") (v ∷ []) ++ t)
+    (append_assoc (titled (codes "heap") (c.regions ∷ c.region_words ∷ c.reserve ∷ [])) (titled (codes "threads") (c.mutators ∷ c.helpers ∷ [])) rest
+    ∙ ap (λ (t : List ℕ). titled (codes "heap") (c.regions ∷ c.region_words ∷ c.reserve ∷ []) ++ t) (sym (front_line threads.0 (titled (codes "threads") (c.mutators ∷ c.helpers ∷ [])) rest threads.1))
+    ∙ sym (front_line heap.0 (titled (codes "heap") (c.regions ∷ c.region_words ∷ c.reserve ∷ [])) third heap.1))
+    ∙ sym (front_line shen.0 (titled (codes "shen") (v ∷ [])) second shen.1) in
+    let one = begun_more bytes shen.0 second 0 Version (Heap v) (subst (λ (bs : List ℕ). Begun bytes bs 0 Version) whole (begun_none bytes)) (v, known, shen.1, refl) in
+    let two = begun_more bytes heap.0 third 1 (Heap v) (Threads v c.regions c.region_words c.reserve) one (c, narrow, heap.1, refl) in
+    begun_more bytes threads.0 rest 2 (Threads v c.regions c.region_words c.reserve) (Commands v c) two (c, refl, refl, refl, threads.1, refl)
+
+-- ---- the lines behind it
+
+pub begun_lines : (bytes : List ℕ) (lines : List TraceLine) (rest : List ℕ) (n : ℕ) (v : ℕ) (c : Config) → AllByRecursion (IsLine v c.mutators) lines → Begun bytes (flat_map line lines ++ rest) n (Commands v c) → Begun bytes rest (n + length lines) (Commands v c)
+begun_lines bytes [] rest n v c all b = subst (λ (m : ℕ). Begun bytes rest m (Commands v c)) (zero_more n) b
+  where
+    zero_more : (n : ℕ) → n ≡ n + 0
+    zero_more n = omega arith
+begun_lines bytes (l ∷ lines) rest n v c all b =
+    let text = join_with_byte 32 (line_words l) in
+    let others = flat_map line lines ++ rest in
+    let front : flat_map line (l ∷ lines) ++ rest ≡ text ++ 10 ∷ others =
+    ap (λ (t : List ℕ). t ++ rest) (flat_map-cons line l lines) ∙ append_assoc (line l) (flat_map line lines) rest ∙ sym (front_line text (line l) others (line_is l)) in
+    let one = begun_more bytes text others n (Commands v c) (Commands v c) (subst (λ (bs : List ℕ). Begun bytes bs n (Commands v c)) front b) (inl ((l, all.0, line_is l), refl)) in
+    subst (λ (m : ℕ). Begun bytes rest m (Commands v c)) (one_less n (length lines)) (begun_lines bytes lines rest (n + 1) v c all.1 one)
+  where
+    one_less : (n k : ℕ) → (n + 1) + k ≡ n + suc k
+    one_less n k = omega arith
+
+begun_turn : (bytes : List ℕ) (items : List Item) (others : List ℕ) (n : ℕ) (v : ℕ) (c : Config) (behind : Bool) → IsScheduleLine c items → Begun bytes (schedule_line items ++ others) n (body_stage v c behind) → Begun bytes others (n + 1) (Turns c)
+begun_turn bytes items others n v c false good b =
+    let text = join_with_byte 32 (words_of_turn items) in
+    begun_more bytes text others n (Commands v c) (Turns c) (subst (λ (bs : List ℕ). Begun bytes bs n (Commands v c)) (sym (front_line text (schedule_line items) others (turn_is items))) b) (inr ((items, good, turn_is items), refl))
+begun_turn bytes items others n v c true good b =
+    let text = join_with_byte 32 (words_of_turn items) in
+    begun_more bytes text others n (Turns c) (Turns c) (subst (λ (bs : List ℕ). Begun bytes bs n (Turns c)) (sym (front_line text (schedule_line items) others (turn_is items))) b) ((items, good, turn_is items), refl)
+
+begun_later : (bytes : List ℕ) (turns : List (List Item)) (rest : List ℕ) (n : ℕ) (c : Config) → AllByRecursion (IsScheduleLine c) turns → Begun bytes (flat_map schedule_line turns ++ rest) n (Turns c) → Begun bytes rest (n + length turns) (Turns c)
+begun_later bytes [] rest n c all b = subst (λ (m : ℕ). Begun bytes rest m (Turns c)) (zero_more n) b
+  where
+    zero_more : (n : ℕ) → n ≡ n + 0
+    zero_more n = omega arith
+begun_later bytes (items ∷ turns) rest n c all b =
+    let others = flat_map schedule_line turns ++ rest in
+    let front : flat_map schedule_line (items ∷ turns) ++ rest ≡ schedule_line items ++ others = ap (λ (t : List ℕ). t ++ rest) (flat_map-cons schedule_line items turns) ∙ append_assoc (schedule_line items) (flat_map schedule_line turns) rest in
+    let one = begun_turn bytes items others n 1 c true all.0 (subst (λ (bs : List ℕ). Begun bytes bs n (Turns c)) front b) in
+    subst (λ (m : ℕ). Begun bytes rest m (Turns c)) (one_less n (length turns)) (begun_later bytes turns rest (n + 1) c all.1 one)
+  where
+    one_less : (n k : ℕ) → (n + 1) + k ≡ n + suc k
+    one_less n k = omega arith
+
+pub begun_turns : (bytes : List ℕ) (turns : List (List Item)) (rest : List ℕ) (n : ℕ) (v : ℕ) (c : Config) → AllByRecursion (IsScheduleLine c) turns → Begun bytes (flat_map schedule_line turns ++ rest) n (Commands v c) → Begun bytes rest (n + length turns) (body_stage v c (ltb 0 (length turns)))
+begun_turns bytes [] rest n v c all b = subst (λ (m : ℕ). Begun bytes rest m (Commands v c)) (zero_more n) b
+  where
+    zero_more : (n : ℕ) → n ≡ n + 0
+    zero_more n = omega arith
+begun_turns bytes (items ∷ turns) rest n v c all b =
+    let others = flat_map schedule_line turns ++ rest in
+    let front : flat_map schedule_line (items ∷ turns) ++ rest ≡ schedule_line items ++ others = ap (λ (t : List ℕ). t ++ rest) (flat_map-cons schedule_line items turns) ∙ append_assoc (schedule_line items) (flat_map schedule_line turns) rest in
+    let one = begun_turn bytes items others n v c false all.0 (subst (λ (bs : List ℕ). Begun bytes bs n (Commands v c)) front b) in
+    let later : Begun bytes rest (n + suc (length turns)) (Turns c) = subst (λ (m : ℕ). Begun bytes rest m (Turns c)) (one_less n (length turns)) (begun_later bytes turns rest (n + 1) c all.1 one) in
+    subst (λ (some : Bool). Begun bytes rest (n + suc (length turns)) (body_stage v c some)) (sym (is_some (length turns))) later
+  where
+    is_some : (k : ℕ) → ltb 0 (suc k) ≡ true
+    is_some k = grind (arith, nat_tests)
+
+    one_less : (n k : ℕ) → (n + 1) + k ≡ n + suc k
+    one_less n k = omega arith
+
+-- ---- the head, line by line
+
+-- what is behind the first line, where it has an end
+abbrev pub IsBehindLine : List ℕ → List ℕ → Type 0
+IsBehindLine bytes rest = (text : List ℕ) × ((parts 10 bytes ≡ text ∷ []) ⊎ (parts 10 bytes ≡ text ∷ parts 10 rest))
+
+pub version_read : (bytes rest : List ℕ) → IsBehindLine bytes rest → cause_of Version (parts 10 bytes) ≡ None → (v : ℕ) × IsVersion v × Begun bytes rest 1 (Heap v) × (bytes ≡ titled (codes "shen") (v ∷ []) ++ rest)
+version_read bytes rest behind none =
+    let read = line_of Version bytes rest behind.0 behind.1 refl none in
+    let made = version_spelled behind.0 read.1 in
+    let v = made.0 in
+    let whole = bytes_of_line bytes behind.0 rest read.0 in (
+      v,
+      made.1,
+      begun_more bytes behind.0 rest 0 Version (Heap v) (subst (λ (bs : List ℕ). Begun bytes bs 0 Version) whole (begun_none bytes)) (v, made.1, made.2, refl),
+      whole ∙ front_line behind.0 (titled (codes "shen") (v ∷ [])) rest made.2,
+    )
+
+pub heap_read : (v : ℕ) (bytes first rest : List ℕ) → Begun bytes first 1 (Heap v) → IsBehindLine first rest → cause_of (Heap v) (parts 10 first) ≡ None
+    → (h : Config) × IsNarrow h × Begun bytes rest 2 (Threads v h.regions h.region_words h.reserve) × (first ≡ titled (codes "heap") (h.regions ∷ h.region_words ∷ h.reserve ∷ []) ++ rest)
+heap_read v bytes first rest b behind none =
+    let read = line_of (Heap v) first rest behind.0 behind.1 refl none in
+    let made = heap_spelled v behind.0 read.1 in
+    let h = made.0 in
+    let whole = bytes_of_line first behind.0 rest read.0 in (
+      h,
+      made.1,
+      begun_more bytes behind.0 rest 1 (Heap v) (Threads v h.regions h.region_words h.reserve) (subst (λ (bs : List ℕ). Begun bytes bs 1 (Heap v)) whole b) (h, made.1, made.2, refl),
+      whole ∙ front_line behind.0 (titled (codes "heap") (h.regions ∷ h.region_words ∷ h.reserve ∷ [])) rest made.2,
+    )
+
+pub threads_read : (v : ℕ) (h : Config) (first : List ℕ) → IsNarrow h → cause_of (Threads v h.regions h.region_words h.reserve) (parts 10 first) ≡ None
+    → (c : Config) × IsNarrow c × (rest : List ℕ) × (titled (codes "heap") (h.regions ∷ h.region_words ∷ h.reserve ∷ []) ≡ titled (codes "heap") (c.regions ∷ c.region_words ∷ c.reserve ∷ [])) × (first ≡ titled (codes "threads") (c.mutators ∷ c.helpers ∷ []) ++ rest)
+threads_read v h first narrow none =
+    let behind = first_line first in
+    let stage = Threads v h.regions h.region_words h.reserve in
+    let read = line_of stage first behind.1 behind.0 behind.2 refl none in
+    let made = threads_spelled v h.regions h.region_words h.reserve h behind.0 refl refl refl read.1 in
+    let c = made.0 in (
+      c,
+      omega (arith, narrow, made.2),
+      behind.1,
+      ap (λ (r : ℕ). titled (codes "heap") (r ∷ h.region_words ∷ h.reserve ∷ [])) (sym made.1) ∙ ap (λ (w : ℕ). titled (codes "heap") (c.regions ∷ w ∷ h.reserve ∷ [])) (sym made.2) ∙ ap (λ (e : ℕ). titled (codes "heap") (c.regions ∷ c.region_words ∷ e ∷ [])) (sym made.3),
+      bytes_of_line first behind.0 behind.1 read.0 ∙ front_line behind.0 (titled (codes "threads") (c.mutators ∷ c.helpers ∷ [])) behind.1 made.4,
+    )
+
+pub head_read : (bytes first second rest : List ℕ) (v : ℕ) (h c : Config) → bytes ≡ titled (codes "shen") (v ∷ []) ++ first → first ≡ titled (codes "heap") (h.regions ∷ h.region_words ∷ h.reserve ∷ []) ++ second
+    → titled (codes "heap") (h.regions ∷ h.region_words ∷ h.reserve ∷ []) ≡ titled (codes "heap") (c.regions ∷ c.region_words ∷ c.reserve ∷ []) → second ≡ titled (codes "threads") (c.mutators ∷ c.helpers ∷ []) ++ rest → bytes ≡ header v c ++ rest
+head_read bytes first second rest v h c e1 e2 same e3 =
+    let shen = titled (codes "shen") (v ∷ []) in
+    let heap = titled (codes "heap") (c.regions ∷ c.region_words ∷ c.reserve ∷ []) in
+    let threads = titled (codes "threads") (c.mutators ∷ c.helpers ∷ []) in
+    e1 ∙ ap (λ (t : List ℕ). shen ++ t) (e2 ∙ ap (λ (t : List ℕ). t ++ second) same ∙ ap (λ (t : List ℕ). heap ++ t) e3 ∙ sym (append_assoc heap threads rest)) ∙ sym (append_assoc shen (heap ++ threads) rest)

@@ -1,0 +1,148 @@
+-- Which lines may follow, and why another may not.
+use Rattle.std.proofs.Common.{◌≡◌, ◌⊎◌, ℕ, ◌^◌, ◌<◌, Bool, true, false, List, [], ◌∷◌, ◌++◌, map, take, drop, Some, None, inl, inr, refl, sym, ap, subst, ◌∙◌, arith}
+use Rattle.std.specs.List.{join_with_byte}
+use Rattle.std.specs.Fmt.{decimal}
+use Rattle.std.specs.Str.Parse.{AllDigits}
+use Rattle.std.specs.Cmp.Lexicographic.{same_text}
+use Rattle.std.proofs.lemmas.Fmt.{digits_decimal}
+use Rattle.std.proofs.lemmas.List.Splits.{join_with_byte-slice_split}
+use Rattle.heap_words.specs.declared.config.Config.{Config}
+use Rattle.heap_words.specs.declared.schedule.Item.{Item}
+use Rattle.trace_grammar.specs.Spelling.{TraceLine, IsLine, line, newline, item, schedule_line, IsScheduleLine, command_word, numbers_of}
+use Rattle.trace_grammar.specs.declared.why.Why.TheVariants.{EndOfLine}
+use Rattle.trace_grammar.proofs.Numbers.{own}
+use Rattle.trace_reading.specs.Causes.{parts, parts_behind, is_same, schedule_cause, command_cause}
+use Rattle.trace_reading.specs.Refused.{LineStage, Version, Heap, Threads, Commands, Turns, body_stage, words_cause, end_cause, cause_of, LineFollows, IsCommandLine, IsTurnItem}
+use Rattle.trace_reading.proofs.Cuts.{count_before, cut_parts}
+use Rattle.trace_reading.proofs.Lines.{whole_line, cut_line, turn_words, late_words, command_words}
+use Rattle.trace_reading.proofs.Free.{is_free, parts_at, parts_again, joined_free}
+use Rattle.trace_reading.proofs.Heads.{joined, same_before_end, version_spelled, version_again, heap_spelled, heap_again, threads_spelled, threads_again}
+use Rattle.trace_reading.proofs.Commands.{line_words, line_is, line_clean, line_fine, line_spelled}
+use Rattle.trace_reading.proofs.ScheduleWords.{words_of_turn, turn_is, turn_clean, schedule_spelled, schedule_again}
+
+pub few_threads : (c : Config) → c.mutators < 2 ^ 64
+few_threads c = omega (arith, c.in_range.most_mutators)
+
+-- ---- a line of the grammar has no cause, and no end within it
+
+pub line_text : (version threads : ℕ) (text : List ℕ) (l : TraceLine) → threads < 2 ^ 64 → IsLine version threads l → text ++ newline ∷ [] ≡ line l → (parts 32 text ≡ line_words l) × (is_free 10 text ≡ true)
+line_text version threads text l small fits e =
+    let same : text ≡ join_with_byte 32 (line_words l) = same_before_end text (join_with_byte 32 (line_words l)) newline (e ∙ sym (line_is l)) in
+    let clean = line_clean version threads l small fits in
+    let others = command_word l.command ∷ map decimal (numbers_of l.command) in
+    (ap (parts 32) same ∙ parts_again (decimal l.thread) others clean, ap (is_free 10) same ∙ joined_free (decimal l.thread) others clean)
+
+pub turn_text : (c : Config) (text : List ℕ) (items : List Item) → IsScheduleLine c items → text ++ newline ∷ [] ≡ schedule_line items → (parts 32 text ≡ words_of_turn items) × (is_free 10 text ≡ true)
+turn_text c text items good e =
+    let same : text ≡ join_with_byte 32 (words_of_turn items) = same_before_end text (join_with_byte 32 (words_of_turn items)) newline (e ∙ sym (turn_is items)) in
+    let clean = turn_clean c items good in
+    (ap (parts 32) same ∙ parts_again (33 ∷ []) (map item items) clean, ap (is_free 10) same ∙ joined_free (33 ∷ []) (map item items) clean)
+
+-- a number is no mark of the schedule
+pub no_number : (n : ℕ) → n < 2 ^ 64 → decimal n ≡ 33 ∷ [] → ⊥
+no_number n small e = let digits : AllDigits 10 (33 ∷ []) = subst (AllDigits 10) e (digits_decimal own n small) in omega (arith, digits.0)
+
+no_mark : (n : ℕ) → n < 2 ^ 64 → false ≡ is_same (decimal n) (33 ∷ [])
+no_mark n small = by_test (is_same (decimal n) (33 ∷ [])) refl
+  where
+    by_test : (test : Bool) → is_same (decimal n) (33 ∷ []) ≡ test → false ≡ test
+    by_test false e = refl
+    by_test true e = absurd (no_number n small (same_text (decimal n) (33 ∷ []) (sym e)))
+
+command_fine : (v : ℕ) (c : Config) (text : List ℕ) → IsCommandLine v c text → (words_cause (Commands v c) (parts 32 text) ≡ None) × (is_free 10 text ≡ true)
+command_fine v c text it =
+    let l = it.0 in
+    let read = line_text v c.mutators text l (few_threads c) it.1 it.2 in
+    let small : l.thread < 2 ^ 64 = omega (arith, it.1.to_last, few_threads c) in
+    (command_words v c false (parts 32 text) (decimal l.thread) (command_word l.command ∷ map decimal (numbers_of l.command)) read.0 (no_mark l.thread small) refl ∙ line_fine v c.mutators l (few_threads c) it.1, read.1)
+
+turn_fine : (v : ℕ) (c : Config) (behind : Bool) (text : List ℕ) → IsTurnItem c text → (words_cause (body_stage v c behind) (parts 32 text) ≡ None) × (is_free 10 text ≡ true)
+turn_fine v c behind text it =
+    let read = turn_text c text it.0 it.1 it.2 in
+    (turn_words v c behind (parts 32 text) (33 ∷ []) (map item it.0) read.0 refl ∙ schedule_again c it.0 it.1, read.1)
+
+pub fine : (stage : LineStage) (text : List ℕ) (next : LineStage) → LineFollows stage text next → (words_cause stage (parts 32 text) ≡ None) × (is_free 10 text ≡ true)
+fine Version text next f = let read = version_again f.0 text f.1 f.2 in (read.0, read.1)
+fine (Heap v) text next f = let read = heap_again v f.0 text f.1 f.2 in (read.0, read.1)
+fine (Threads v r w e) text next f = let read = threads_again v r w e f.0 text f.4 in (read.0, read.1)
+fine (Commands v c) text next (inl f) = command_fine v c text f.0
+fine (Commands v c) text next (inr f) = turn_fine v c false text f.0
+fine (Turns c) text next f = turn_fine 1 c true text f.0
+
+-- ---- a text without a cause is a line of the grammar
+
+-- the sizes behind which the threads are wanted are those of a configuration
+abbrev pub Fits : LineStage → Type 0
+Fits Version = Unit {0}
+Fits (Heap v) = Unit {0}
+Fits (Threads v r w e) = (h : Config) × (h.regions ≡ r) × (h.region_words ≡ w) × (h.reserve ≡ e)
+Fits (Commands v c) = Unit {0}
+Fits (Turns c) = Unit {0}
+
+body_turn : (c : Config) (text w : List ℕ) (more : List (List ℕ)) → parts 32 text ≡ w ∷ more → true ≡ is_same w (33 ∷ []) → schedule_cause c more ≡ None → IsTurnItem c text
+body_turn c text w more e same none =
+    let made = schedule_spelled c more none in
+    let words : parts 32 text ≡ words_of_turn made.0 = e ∙ ap (λ (v : List ℕ). v ∷ more) (same_text w (33 ∷ []) same) ∙ ap (λ (vs : List (List ℕ)). (33 ∷ []) ∷ vs) made.2 in
+    (made.0, made.1, ap (λ (t : List ℕ). t ++ newline ∷ []) (joined text (words_of_turn made.0) words) ∙ turn_is made.0)
+
+body_command : (v : ℕ) (c : Config) (text w : List ℕ) (more : List (List ℕ)) → parts 32 text ≡ w ∷ more → command_cause v c.mutators w more ≡ None → IsCommandLine v c text
+body_command v c text w more e none =
+    let made = line_spelled v c.mutators w more (few_threads c) none in
+    (made.0, made.1, ap (λ (t : List ℕ). t ++ newline ∷ []) (joined text (line_words made.0) (e ∙ made.2)) ∙ line_is made.0)
+
+pub commands_follow : (v : ℕ) (c : Config) (text : List ℕ) → words_cause (Commands v c) (parts 32 text) ≡ None → IsCommandLine v c text ⊎ IsTurnItem c text
+commands_follow v c text none = by_test (is_same (take (count_before 32 text) text) (33 ∷ [])) refl
+  where
+    by_test : (test : Bool) → is_same (take (count_before 32 text) text) (33 ∷ []) ≡ test → IsCommandLine v c text ⊎ IsTurnItem c text
+    by_test true same = inr (body_turn c text _ _ (cut_parts 32 text) (sym same) (sym (turn_words v c false (parts 32 text) _ _ (cut_parts 32 text) (sym same)) ∙ none))
+    by_test false other = inl (body_command v c text _ _ (cut_parts 32 text) (sym (command_words v c false (parts 32 text) _ _ (cut_parts 32 text) (sym other) refl) ∙ none))
+
+pub turns_follow : (c : Config) (text : List ℕ) → words_cause (Turns c) (parts 32 text) ≡ None → IsTurnItem c text
+turns_follow c text none = by_test (is_same (take (count_before 32 text) text) (33 ∷ [])) refl
+  where
+    by_test : (test : Bool) → is_same (take (count_before 32 text) text) (33 ∷ []) ≡ test → IsTurnItem c text
+    by_test true same = body_turn c text _ _ (cut_parts 32 text) (sym same) (sym (turn_words 1 c true (parts 32 text) _ _ (cut_parts 32 text) (sym same)) ∙ none)
+    by_test false other = absurd (let late = late_words 1 c true (parts 32 text) _ _ (cut_parts 32 text) (sym other) refl in cc)
+
+pub follows : (stage : LineStage) (text : List ℕ) → Fits stage → words_cause stage (parts 32 text) ≡ None → (next : LineStage) × LineFollows stage text next × Fits next
+follows Version text fits none = let made = version_spelled text none in (Heap made.0, (made.0, made.1, made.2, refl), tt)
+follows (Heap v) text fits none =
+    let made = heap_spelled v text none in
+    (Threads v made.0.regions made.0.region_words made.0.reserve, (made.0, made.1, made.2, refl), (made.0, refl, refl, refl))
+follows (Threads v r w e) text fits none =
+    let made = threads_spelled v r w e fits.0 text fits.1 fits.2 fits.3 none in
+    (Commands v made.0, (made.0, made.1, made.2, made.3, made.4, refl), tt)
+follows (Commands v c) text fits none = by_kind (commands_follow v c text none)
+  where
+    by_kind : IsCommandLine v c text ⊎ IsTurnItem c text → (next : LineStage) × LineFollows (Commands v c) text next × Fits next
+    by_kind (inl it) = (Commands v c, inl (it, refl), tt)
+    by_kind (inr it) = (Turns c, inr (it, refl), tt)
+follows (Turns c) text fits none = (Turns c, (turns_follow c text none, refl), tt)
+
+-- ---- lines at the front of bytes
+
+-- the first line: it has an end, and others behind it, or it is the last
+pub first_line : (bytes : List ℕ) → (text : List ℕ) × (rest : List ℕ) × ((parts 10 bytes ≡ text ∷ []) ⊎ (parts 10 bytes ≡ text ∷ parts 10 rest))
+first_line bytes = by_rest (take (count_before 10 bytes) bytes) (drop (count_before 10 bytes) bytes) (cut_parts 10 bytes)
+  where
+    by_rest : (text end : List ℕ) → parts 10 bytes ≡ text ∷ parts_behind 10 end → (t : List ℕ) × (rest : List ℕ) × ((parts 10 bytes ≡ t ∷ []) ⊎ (parts 10 bytes ≡ t ∷ parts 10 rest))
+    by_rest text [] e = (text, [], inl e)
+    by_rest text (b ∷ rest) e = (text, rest, inr e)
+
+pub bytes_of_line : (bytes text rest : List ℕ) → parts 10 bytes ≡ text ∷ parts 10 rest → bytes ≡ text ++ 10 ∷ rest
+bytes_of_line bytes text rest e =
+    sym (join_with_byte-slice_split 10 bytes) ∙ ap (join_with_byte 10) (e ∙ ap (λ (ts : List (List ℕ)). text ∷ ts) (cut_parts 10 rest))
+    ∙ ap (λ (t : List ℕ). text ++ 10 ∷ t) (ap (join_with_byte 10) (sym (cut_parts 10 rest)) ∙ join_with_byte-slice_split 10 rest)
+
+pub bytes_of_last : (bytes text : List ℕ) → parts 10 bytes ≡ text ∷ [] → bytes ≡ text
+bytes_of_last bytes text e = sym (join_with_byte-slice_split 10 bytes) ∙ ap (join_with_byte 10) e
+
+-- a line that ends, and has no cause
+pub line_of : (stage : LineStage) (bytes rest text : List ℕ) → (parts 10 bytes ≡ text ∷ []) ⊎ (parts 10 bytes ≡ text ∷ parts 10 rest) → end_cause stage text ≡ Some EndOfLine → cause_of stage (parts 10 bytes) ≡ None
+    → (parts 10 bytes ≡ text ∷ parts 10 rest) × (words_cause stage (parts 32 text) ≡ None)
+line_of stage bytes rest text (inl last) ends none = absurd (let cut = cut_line stage bytes text last in cc)
+line_of stage bytes rest text (inr e) ends none = (e, sym (whole_line stage bytes text rest e) ∙ none)
+
+-- a line of the grammar at the front
+pub line_in_front : (stage : LineStage) (text rest : List ℕ) (next : LineStage) → LineFollows stage text next → parts 10 (text ++ 10 ∷ rest) ≡ text ∷ parts 10 rest
+line_in_front stage text rest next f = parts_at 10 text rest (fine stage text next f).1

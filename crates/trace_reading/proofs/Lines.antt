@@ -1,0 +1,83 @@
+-- Lines at the front of bytes.
+use Rattle.std.proofs.Common.{◌≡◌, ℕ, ◌-◌, Bool, ◌&&◌, true, false, cond, eqb, List, [], ◌∷◌, length, Option, Some, None, refl, ap, arith}
+use Rattle.std.specs.Prelude.{codes, slice_index_or}
+use Rattle.std.specs.Str.Parse.{digits_value}
+use Rattle.std.proofs.lemmas.Bool.Decides.{nat_tests}
+use Rattle.heap_words.specs.declared.config.Config.{Config}
+use Rattle.trace_grammar.specs.declared.why.Why.{Why}
+use Rattle.trace_grammar.specs.declared.why.Why.TheVariants.{EndOfLine, Header, ScheduleLast}
+use Rattle.trace_reading.specs.Causes.{parts, parts_behind, first_cause, is_same, number_cause, numbers_cause, title_cause, heap_ranges, schedule_cause, command_cause}
+use Rattle.trace_reading.specs.Refused.{LineStage, Version, Heap, Threads, Commands, Turns, body_stage, words_cause, end_cause, cause_of}
+use Rattle.trace_reading.proofs.Cuts.{cut_parts}
+
+-- a line with an end is judged by its words
+pub whole_line : (stage : LineStage) (bytes text rest : List ℕ) → parts 10 bytes ≡ text ∷ parts 10 rest → cause_of stage (parts 10 bytes) ≡ words_cause stage (parts 32 text)
+unfolding cause_of
+whole_line stage bytes text rest e = rw (e, cut_parts 10 rest) refl
+
+-- a line without one
+pub cut_line : (stage : LineStage) (bytes text : List ℕ) → parts 10 bytes ≡ text ∷ [] → cause_of stage (parts 10 bytes) ≡ end_cause stage text
+unfolding cause_of
+cut_line stage bytes text e = rw e refl
+
+by_cause : (cause : Option Why) (fits : Bool) (others : ℕ → Option Why) (m n : ℕ) → (cause ≡ None → m ≡ n) → cond fits (first_cause cause (others m)) (Some Header) ≡ cond fits (first_cause cause (others n)) (Some Header)
+by_cause None fits others m n given = ap (λ (k : ℕ). cond fits (others k) (Some Header)) (given refl)
+by_cause (Some why) fits others m n given = refl
+
+-- the number of regions that may be reserved matters only where the number of regions is right
+pub same_heap : (words : List (List ℕ)) (most : ℕ) → (number_cause 4 64 (slice_index_or words 1 []) ≡ None → most ≡ digits_value 10 (slice_index_or words 1 []) - 1)
+    → title_cause (codes "heap") ((4, 64) ∷ (64, 1024) ∷ (0, most) ∷ []) words ≡ title_cause (codes "heap") (heap_ranges words) words
+unfolding title_cause numbers_cause
+same_heap [] most given = refl
+same_heap (w ∷ []) most given = refl
+same_heap (w ∷ r ∷ ws) most given =
+    by_cause (number_cause 4 64 r) (is_same w (codes "heap") && eqb (length (r ∷ ws)) 3) (λ n. numbers_cause ((64, 1024) ∷ (0, n) ∷ []) ws) most (digits_value 10 r - 1) given
+
+-- ---- the head
+
+pub version_words : (words : List (List ℕ)) → words_cause Version words ≡ title_cause (codes "shen") ((1, 2) ∷ []) words
+unfolding words_cause
+version_words words = refl
+
+pub heap_words : (v : ℕ) (words : List (List ℕ)) → words_cause (Heap v) words ≡ title_cause (codes "heap") (heap_ranges words) words
+unfolding words_cause
+heap_words v words = refl
+
+pub threads_words : (v r w e : ℕ) (words : List (List ℕ)) → words_cause (Threads v r w e) words ≡ title_cause (codes "threads") ((1, 8) ∷ (0, 3) ∷ []) words
+unfolding words_cause
+threads_words v r w e words = refl
+
+-- ---- the lines behind it
+
+pub turn_words : (v : ℕ) (c : Config) (behind : Bool) (words : List (List ℕ)) (w : List ℕ) (more : List (List ℕ)) → words ≡ w ∷ more → true ≡ is_same w (33 ∷ []) → words_cause (body_stage v c behind) words ≡ schedule_cause c more
+unfolding words_cause
+turn_words v c true words w more e same = rw (e, ← same) refl
+turn_words v c false words w more e same = rw (e, ← same) refl
+
+pub late_words : (v : ℕ) (c : Config) (behind : Bool) (words : List (List ℕ)) (w : List ℕ) (more : List (List ℕ)) → words ≡ w ∷ more → false ≡ is_same w (33 ∷ []) → behind ≡ true → words_cause (body_stage v c behind) words ≡ Some ScheduleLast
+unfolding words_cause
+late_words v c true words w more e other late = rw (e, ← other) refl
+late_words v c false words w more e other late = absurd cc
+
+pub command_words : (v : ℕ) (c : Config) (behind : Bool) (words : List (List ℕ)) (w : List ℕ) (more : List (List ℕ)) → words ≡ w ∷ more → false ≡ is_same w (33 ∷ []) → behind ≡ false → words_cause (body_stage v c behind) words ≡ command_cause v c.mutators w more
+unfolding words_cause
+command_words v c true words w more e other early = absurd cc
+command_words v c false words w more e other early = rw (e, ← other) refl
+
+pub ended : (stage : LineStage) (bytes text end : List ℕ) → parts 10 bytes ≡ text ∷ parts_behind 10 end → false ≡ eqb (length end) 0 → cause_of stage (parts 10 bytes) ≡ words_cause stage (parts 32 text)
+ended stage bytes text [] e some = absurd cc
+ended stage bytes text (b ∷ rest) e some = whole_line stage bytes text rest e
+
+not_ended : (stage : LineStage) (bytes text end : List ℕ) → parts 10 bytes ≡ text ∷ parts_behind 10 end → true ≡ eqb (length end) 0 → cause_of stage (parts 10 bytes) ≡ end_cause stage text
+not_ended stage bytes text [] e none = cut_line stage bytes text e
+not_ended stage bytes text (b ∷ rest) e none = absurd (grind (arith, nat_tests))
+
+pub nothing_left : (v : ℕ) (c : Config) (behind : Bool) (bytes text end : List ℕ) → parts 10 bytes ≡ text ∷ parts_behind 10 end → true ≡ eqb (length end) 0 → true ≡ eqb (length text) 0 → cause_of (body_stage v c behind) (parts 10 bytes) ≡ None
+nothing_left v c behind bytes (b ∷ text) end e none empty = absurd (grind (arith, nat_tests))
+nothing_left v c true bytes [] end e none empty = not_ended (Turns c) bytes [] end e none
+nothing_left v c false bytes [] end e none empty = not_ended (Commands v c) bytes [] end e none
+
+pub cut_off : (v : ℕ) (c : Config) (behind : Bool) (bytes text end : List ℕ) → parts 10 bytes ≡ text ∷ parts_behind 10 end → true ≡ eqb (length end) 0 → false ≡ eqb (length text) 0 → cause_of (body_stage v c behind) (parts 10 bytes) ≡ Some EndOfLine
+cut_off v c behind bytes [] end e none some = absurd cc
+cut_off v c true bytes (b ∷ text) end e none some = not_ended (Turns c) bytes (b ∷ text) end e none
+cut_off v c false bytes (b ∷ text) end e none some = not_ended (Commands v c) bytes (b ∷ text) end e none

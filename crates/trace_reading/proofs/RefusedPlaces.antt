@@ -1,0 +1,47 @@
+-- Which texts are the code of a place.
+use Rattle.std.proofs.Common.{◌≡◌, ◌≢◌, ℕ, Bool, ◌||◌, true, false, nat_eq, Option, Some, None, IfSome, IfNone, List, [], ◌∷◌, length, refl, sym, ap, ◌∙◌}
+use Rattle.std.specs.List.{list_any}
+use Rattle.std.specs.Option.{is_some}
+use Rattle.std.specs.Cmp.Lexicographic.{pointwise, same_text}
+use Rattle.heap_words.specs.declared.place.Place.{Place}
+use Rattle.heap_words.specs.declared.place.Place.TheVariants.{E1}
+use Rattle.heap_words.specs.Place.{code_of}
+use Rattle.trace_reading.specs.Codes.{places, is_code}
+
+among : (ps : List Place) (text : List ℕ) → list_any (λ p. pointwise nat_eq (code_of p) text) ps ≡ true → (p : Place) × (code_of p ≡ text)
+among [] text e = absurd cc
+among (p ∷ ps) text e = by_first (pointwise nat_eq (code_of p) text) refl (among ps text) e
+  where
+    by_first : (first : Bool) → pointwise nat_eq (code_of p) text ≡ first → (list_any (λ q. pointwise nat_eq (code_of q) text) ps ≡ true → (q : Place) × (code_of q ≡ text))
+        → (first || list_any (λ q. pointwise nat_eq (code_of q) text) ps) ≡ true → (q : Place) × (code_of q ≡ text)
+    by_first true here others e = (p, same_text (code_of p) text (sym here))
+    by_first false here others e = others e
+
+pub code_takes : (text : List ℕ) → is_code text ≡ true → (p : Place) × (code_of p ≡ text)
+unfolding is_code
+code_takes text e = among places text e
+
+pub code_again : (p : Place) → is_code (code_of p) ≡ true
+unfolding is_code
+code_again E1 = refl
+code_again _ = refl
+
+-- a text that is no place's code
+pub no_code : (text : List ℕ) → ((p : Place) → code_of p ≢ text) → is_code text ≡ false
+no_code text none = by_test (is_code text) refl
+  where
+    by_test : (test : Bool) → is_code text ≡ test → test ≡ false
+    by_test true e = let found = code_takes text e in absurd (none found.0 found.1)
+    by_test false e = refl
+
+pub two_letters : (p : Place) → length (code_of p) ≡ 2
+two_letters E1 = refl
+two_letters _ = refl
+
+-- a text of another length
+pub other_length : (text : List ℕ) → (length text ≡ 2 → ⊥) → is_code text ≡ false
+other_length text other = no_code text (λ p e. other (sym (ap length e) ∙ two_letters p))
+
+pub code_asked : (o : Option Place) (code : List ℕ) → IfSome o (λ p. code_of p ≡ code) → IfNone o ((p : Place) → code_of p ≢ code) → is_some o ≡ is_code code
+code_asked (Some p) code found unknown = sym (code_again p) ∙ ap is_code found
+code_asked None code found unknown = sym (no_code code unknown)

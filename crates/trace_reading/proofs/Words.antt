@@ -1,0 +1,235 @@
+-- Words where numbers are to stand.
+use Rattle.std.proofs.Common.{◌≡◌, ℕ, zero, suc, ◌+◌, ◌^◌, ◌<◌, ◌≤◌, Bool, ◌&&◌, true, false, cond, eqb, ltb, List, [], ◌∷◌, length, get_or, take, drop, map, Option, Some, None, refl, sym, ap, subst, ◌∙◌, arith, add-one, drop-cons}
+use Rattle.std.specs.Str.Parse.{AllDigits, digits_value}
+use Rattle.std.proofs.lemmas.Bool.{eqb-true, ltb-false}
+use Rattle.std.proofs.lemmas.Bool.Decides.{nat_tests}
+use Rattle.std.proofs.lemmas.List.{take_all, drop_all}
+use Rattle.trace_grammar.specs.Scanning.{digit_count, is_numeral}
+use Rattle.heap_words.specs.declared.config.Config.{Config}
+use Rattle.trace_grammar.specs.declared.kind.CommandKind.{CommandKind}
+use Rattle.trace_grammar.specs.declared.kind.CommandKind.TheVariants.{New}
+use Rattle.trace_grammar.specs.Kinds.{kinds, word, limits}
+use Rattle.trace_grammar.specs.declared.why.Why.{Why}
+use Rattle.trace_grammar.specs.declared.why.Why.TheVariants.{Header, Command, Number, Range}
+use Rattle.trace_grammar.proofs.Digits.{digits_are_digits}
+use Rattle.trace_reading.specs.Causes.{first_cause, is_same, parts_behind, is_plain_number, range_cause, number_cause, numbers_cause, title_cause, kind_named, ranges_of, command_cause, item_cause, items_cause, schedule_cause}
+use Rattle.trace_reading.proofs.Cuts.{cut_parts}
+
+pub both : (a b : Bool) → (a && b) ≡ true → (a ≡ true) × (b ≡ true)
+both true b e = (refl, e)
+both false b e = absurd cc
+
+-- a number is digits
+pub number_digits : (w : List ℕ) → is_plain_number w ≡ true → AllDigits 10 w
+number_digits w e =
+    let count : digit_count w ≡ length w = eqb-true _ _ (both (eqb (digit_count w) (length w)) (is_numeral w) e).0 in
+    subst (AllDigits 10) (ap (λ (n : ℕ). take n w) count ∙ take_all (length w) w (omega arith)) (digits_are_digits w)
+
+pub range_fine : (least most : ℕ) (w : List ℕ) → range_cause least most w ≡ None → (least ≤ digits_value 10 w) × (digits_value 10 w ≤ most)
+unfolding range_cause
+range_fine least most w e = by_tests (ltb (digits_value 10 w) least) (ltb most (digits_value 10 w)) refl refl e
+  where
+    by_tests : (low high : Bool) → ltb (digits_value 10 w) least ≡ low → ltb most (digits_value 10 w) ≡ high → cond low (Some Range) (cond high (Some Range) None) ≡ None → (least ≤ digits_value 10 w) × (digits_value 10 w ≤ most)
+    by_tests false false a b e = (ltb-false _ _ a, ltb-false _ _ b)
+    by_tests false true a b e = absurd cc
+    by_tests true high a b e = absurd cc
+
+pub number_fine : (least most : ℕ) (w : List ℕ) → number_cause least most w ≡ None → (is_plain_number w ≡ true) × (least ≤ digits_value 10 w) × (digits_value 10 w ≤ most)
+unfolding number_cause
+number_fine least most w e = by_test (is_plain_number w) refl e
+  where
+    by_test : (test : Bool) → is_plain_number w ≡ test → cond test (range_cause least most w) (Some Number) ≡ None → (is_plain_number w ≡ true) × (least ≤ digits_value 10 w) × (digits_value 10 w ≤ most)
+    by_test true is e = let fine = range_fine least most w e in (is, fine.0, fine.1)
+    by_test false is e = absurd cc
+
+-- the second word of a line
+pub second_word : (words : List (List ℕ)) (w : List ℕ) (behind : List (List ℕ)) (r : List ℕ) (more : List (List ℕ)) → words ≡ w ∷ behind → behind ≡ r ∷ more → get_or words 1 [] ≡ r
+second_word words w behind r more e f = rw (e, f) refl
+
+pub no_second_word : (words : List (List ℕ)) (w : List ℕ) (behind : List (List ℕ)) → words ≡ w ∷ behind → behind ≡ [] → number_cause 4 64 (get_or words 1 []) ≡ None → ⊥
+no_second_word words w behind e f fine =
+    let none : get_or words 1 [] ≡ [] = rw (e, f) refl in
+    let bad = (number_fine 4 64 (get_or words 1 []) fine).0 in
+    let not : is_plain_number (get_or words 1 []) ≡ false = rw none refl in
+    absurd cc
+
+pub not_regions : (words : List (List ℕ)) (r : List ℕ) → get_or words 1 [] ≡ r → number_cause 4 64 (get_or words 1 []) ≡ None → false ≡ is_plain_number r → ⊥
+not_regions words r second fine none = let is = (number_fine 4 64 (get_or words 1 []) fine).0 in let not : is_plain_number (get_or words 1 []) ≡ false = ap is_plain_number second ∙ sym none in cc
+
+pub regions_small : (words : List (List ℕ)) (r : List ℕ) → get_or words 1 [] ≡ r → number_cause 4 64 (get_or words 1 []) ≡ None → 2 ^ 64 ≤ digits_value 10 r → ⊥
+regions_small words r second fine large =
+    let small = (number_fine 4 64 (get_or words 1 []) fine).2 in
+    let same : digits_value 10 (get_or words 1 []) ≡ digits_value 10 r = ap (digits_value 10) second in
+    omega (arith, small, same, large)
+
+-- ---- the loop over the words
+
+pub numbers_go_on : (ranges : List (ℕ × ℕ)) (i : ℕ) (d : ℕ × ℕ) (words : List (List ℕ)) (w : List ℕ) (more : List (List ℕ)) (whole : Option Why) → i < length ranges → words ≡ w ∷ more
+    → number_cause (get_or ranges i d).0 (get_or ranges i d).1 w ≡ None → numbers_cause (drop i ranges) words ≡ whole → numbers_cause (drop (i + 1) ranges) more ≡ whole
+unfolding numbers_cause
+numbers_go_on ranges i d words w more whole lt e fine so_far =
+    let one : numbers_cause (drop i ranges) words ≡ numbers_cause (drop (i + 1) ranges) more = rw (add-one, drop-cons ranges i d, e, fine) refl in
+    sym one ∙ so_far
+
+pub number_stops : (ranges : List (ℕ × ℕ)) (i : ℕ) (d : ℕ × ℕ) (words : List (List ℕ)) (w : List ℕ) (more : List (List ℕ)) (why : Why) (whole : Option Why) → i < length ranges → words ≡ w ∷ more
+    → number_cause (get_or ranges i d).0 (get_or ranges i d).1 w ≡ Some why → numbers_cause (drop i ranges) words ≡ whole → whole ≡ Some why
+unfolding numbers_cause
+number_stops ranges i d words w more why whole lt e bad so_far =
+    let one : numbers_cause (drop i ranges) words ≡ Some why = rw (drop-cons ranges i d, e, bad) refl in
+    sym so_far ∙ one
+
+pub words_end : (ranges : List (ℕ × ℕ)) (i : ℕ) (d : ℕ × ℕ) (words : List (List ℕ)) (whole : Option Why) → i < length ranges → words ≡ [] → numbers_cause (drop i ranges) words ≡ whole → whole ≡ None
+unfolding numbers_cause
+words_end ranges i d words whole lt e so_far =
+    let one : numbers_cause (drop i ranges) words ≡ None = rw (drop-cons ranges i d, e) refl in
+    sym so_far ∙ one
+
+pub ranges_end : (ranges : List (ℕ × ℕ)) (i : ℕ) (words : List (List ℕ)) (whole : Option Why) → length ranges ≤ i → numbers_cause (drop i ranges) words ≡ whole → whole ≡ None
+unfolding numbers_cause
+ranges_end ranges i words whole le so_far =
+    let one : numbers_cause (drop i ranges) words ≡ None = rw (drop_all i ranges le) refl in
+    sym so_far ∙ one
+
+-- ---- the loop over the kinds
+
+pub kind_found : (kinds : List CommandKind) (i : ℕ) (w : List ℕ) (whole : Option CommandKind) → i < length kinds → true ≡ is_same w (word (get_or kinds i New)) → kind_named (drop i kinds) w ≡ whole → whole ≡ Some (get_or kinds i New)
+unfolding kind_named
+kind_found kinds i w whole lt same so_far =
+    let one : kind_named (drop i kinds) w ≡ Some (get_or kinds i New) = rw (drop-cons kinds i New, ← same) refl in
+    sym so_far ∙ one
+
+pub kind_goes_on : (kinds : List CommandKind) (i : ℕ) (w : List ℕ) (whole : Option CommandKind) → i < length kinds → false ≡ is_same w (word (get_or kinds i New)) → kind_named (drop i kinds) w ≡ whole → kind_named (drop (i + 1) kinds) w ≡ whole
+unfolding kind_named
+kind_goes_on kinds i w whole lt other so_far =
+    let one : kind_named (drop i kinds) w ≡ kind_named (drop (i + 1) kinds) w = rw (add-one, drop-cons kinds i New, ← other) refl in
+    sym one ∙ so_far
+
+pub kinds_end : (kinds : List CommandKind) (i : ℕ) (w : List ℕ) (whole : Option CommandKind) → length kinds ≤ i → kind_named (drop i kinds) w ≡ whole → whole ≡ None
+unfolding kind_named
+kinds_end kinds i w whole le so_far =
+    let one : kind_named (drop i kinds) w ≡ None = rw (drop_all i kinds le) refl in
+    sym so_far ∙ one
+
+-- ---- the loop over the items
+
+pub item_goes_on : (c : Config) (words : List (List ℕ)) (w : List ℕ) (more : List (List ℕ)) (whole : Option Why) → words ≡ w ∷ more → item_cause c w ≡ None → items_cause c words ≡ whole → items_cause c more ≡ whole
+unfolding items_cause
+item_goes_on c words w more whole e fine so_far =
+    let one : items_cause c words ≡ items_cause c more = rw (e, fine) refl in
+    sym one ∙ so_far
+
+pub item_stops : (c : Config) (words : List (List ℕ)) (w : List ℕ) (more : List (List ℕ)) (why : Why) (whole : Option Why) → words ≡ w ∷ more → item_cause c w ≡ Some why → items_cause c words ≡ whole → whole ≡ Some why
+unfolding items_cause
+item_stops c words w more why whole e bad so_far =
+    let one : items_cause c words ≡ Some why = rw (e, bad) refl in
+    sym so_far ∙ one
+
+pub items_end : (c : Config) (words : List (List ℕ)) (whole : Option Why) → words ≡ [] → items_cause c words ≡ whole → whole ≡ None
+unfolding items_cause
+items_end c words whole e so_far =
+    let one : items_cause c words ≡ None = rw e refl in
+    sym so_far ∙ one
+
+-- words behind a mark are some
+pub some_items : (c : Config) (bytes : List ℕ) → 1 ≤ length bytes → schedule_cause c (parts_behind 32 bytes) ≡ items_cause c (parts_behind 32 bytes)
+some_items c [] some = absurd (omega arith)
+some_items c (b ∷ bytes) some = rw (cut_parts 32 bytes) refl
+
+-- ---- lines
+
+-- a title and numbers
+pub titled_words : (title : List ℕ) (ranges : List (ℕ × ℕ)) (words : List (List ℕ)) (w : List ℕ) (more : List (List ℕ)) → words ≡ w ∷ more → is_same w title ≡ true → length more ≡ length ranges → title_cause title ranges words ≡ numbers_cause ranges more
+unfolding title_cause
+titled_words title ranges words w more e same count = rw (e, same, count, eqb_same (length ranges)) refl
+  where
+    eqb_same : (n : ℕ) → eqb n n ≡ true
+    eqb_same n = grind (arith, nat_tests)
+
+pub other_title : (title : List ℕ) (ranges : List (ℕ × ℕ)) (words : List (List ℕ)) (w : List ℕ) (more : List (List ℕ)) → words ≡ w ∷ more → is_same w title ≡ false → title_cause title ranges words ≡ Some Header
+unfolding title_cause
+other_title title ranges words w more e other = rw (e, other) refl
+
+pub other_count : (title : List ℕ) (ranges : List (ℕ × ℕ)) (words : List (List ℕ)) (w : List ℕ) (more : List (List ℕ)) → words ≡ w ∷ more → (length more ≡ length ranges → ⊥) → title_cause title ranges words ≡ Some Header
+unfolding title_cause
+other_count title ranges words w more e other = rw e (by_title (is_same w title) (differs (length more) (length ranges) other))
+  where
+    differs : (m n : ℕ) → (m ≡ n → ⊥) → eqb m n ≡ false
+    differs m n ne = grind (arith, nat_tests)
+
+    by_title : (same : Bool) → eqb (length more) (length ranges) ≡ false → cond (same && eqb (length more) (length ranges)) (numbers_cause ranges more) (Some Header) ≡ Some Header
+    by_title true off = rw off refl
+    by_title false off = refl
+
+not_none : (bytes : List ℕ) → false ≡ eqb (length bytes) 0 → 1 ≤ length bytes
+not_none [] e = absurd cc
+not_none (b ∷ bytes) e = omega arith
+
+pub some_items_left : (c : Config) (bytes : List ℕ) → false ≡ eqb (length bytes) 0 → schedule_cause c (parts_behind 32 bytes) ≡ items_cause c (parts_behind 32 bytes)
+some_items_left c bytes e = some_items c bytes (not_none bytes e)
+
+-- ---- the line of a command
+
+pub no_command_word : (version threads : ℕ) (thread : List ℕ) (words : List (List ℕ)) → words ≡ [] → command_cause version threads thread words ≡ Some Command
+unfolding command_cause
+no_command_word version threads thread words e = rw e refl
+
+pub no_kind : (version threads : ℕ) (thread : List ℕ) (words : List (List ℕ)) (w : List ℕ) (more : List (List ℕ)) → words ≡ w ∷ more → kind_named (kinds version) w ≡ None → command_cause version threads thread words ≡ Some Command
+unfolding command_cause
+no_kind version threads thread words w more e none = rw (e, none) refl
+
+pub kind_known : (version threads : ℕ) (thread : List ℕ) (words : List (List ℕ)) (w : List ℕ) (more : List (List ℕ)) (k : CommandKind) → words ≡ w ∷ more → kind_named (kinds version) w ≡ Some k
+    → command_cause version threads thread words ≡ cond (eqb (length more) (length (limits k))) (numbers_cause (ranges_of threads (limits k)) (thread ∷ more)) (Some Command)
+unfolding command_cause
+kind_known version threads thread words w more k e known = rw (e, known) refl
+
+pub thread_first : (threads : ℕ) (thread : List ℕ) (bounds : List ℕ) (more : List (List ℕ)) → numbers_cause (ranges_of threads bounds) (thread ∷ more) ≡ first_cause (number_cause 1 threads thread) (numbers_cause (map (λ limit. (0, limit)) bounds) more)
+unfolding numbers_cause
+thread_first threads thread bounds more = refl
+
+differs : (m n : ℕ) → (m ≡ n → ⊥) → eqb m n ≡ false
+differs m n ne = grind (arith, nat_tests)
+
+pub agrees : (m n : ℕ) → m ≡ n → eqb m n ≡ true
+agrees m n e = grind (arith, nat_tests)
+
+pub other_numbers : (version threads : ℕ) (thread : List ℕ) (words : List (List ℕ)) (w : List ℕ) (more : List (List ℕ)) (k : CommandKind) → words ≡ w ∷ more → kind_named (kinds version) w ≡ Some k → (length more ≡ length (limits k) → ⊥)
+    → command_cause version threads thread words ≡ Some Command
+other_numbers version threads thread words w more k e known other = kind_known version threads thread words w more k e known ∙ rw (differs (length more) (length (limits k)) other) refl
+
+pub command_numbers : (version threads : ℕ) (thread : List ℕ) (words : List (List ℕ)) (w : List ℕ) (more : List (List ℕ)) (k : CommandKind) → words ≡ w ∷ more → kind_named (kinds version) w ≡ Some k → length more ≡ length (limits k)
+    → command_cause version threads thread words ≡ first_cause (number_cause 1 threads thread) (numbers_cause (map (λ limit. (0, limit)) (limits k)) more)
+command_numbers version threads thread words w more k e known same =
+    kind_known version threads thread words w more k e known ∙ rw (agrees (length more) (length (limits k)) same) (thread_first threads thread (limits k) more)
+
+-- ---- the loop over the words of a command
+
+-- numbers up to these limits
+abbrev pub up_to : List ℕ → List (ℕ × ℕ)
+up_to bounds = map (λ limit. (0, limit)) bounds
+
+pub up_to_length : (bounds : List ℕ) → length (up_to bounds) ≡ length bounds
+up_to_length [] = refl
+up_to_length (b ∷ bounds) = ap suc (up_to_length bounds)
+
+at_up_to : (bounds : List ℕ) (i : ℕ) → i < length bounds → (length (up_to bounds) ≡ length bounds) × ((get_or (up_to bounds) i (0, 0)).0 ≡ 0) × ((get_or (up_to bounds) i (0, 0)).1 ≡ get_or bounds i 0)
+at_up_to [] i lt = absurd (omega arith)
+at_up_to (b ∷ bounds) zero lt = (ap suc (up_to_length bounds), refl, refl)
+at_up_to (b ∷ bounds) (suc i) lt = let others = at_up_to bounds i (omega arith) in (ap suc others.0, others.1, others.2)
+
+pub limits_go_on : (bounds : List ℕ) (i : ℕ) (words : List (List ℕ)) (w : List ℕ) (more : List (List ℕ)) (whole : Option Why) → i < length bounds → words ≡ w ∷ more
+    → number_cause 0 (get_or bounds i 0) w ≡ None → numbers_cause (drop i (up_to bounds)) words ≡ whole → numbers_cause (drop (i + 1) (up_to bounds)) more ≡ whole
+limits_go_on bounds i words w more whole lt e fine so_far =
+    let there = at_up_to bounds i lt in
+    numbers_go_on (up_to bounds) i (0, 0) words w more whole (omega (arith, there.0)) e (rw (there.1, there.2) fine) so_far
+
+pub limit_stops : (bounds : List ℕ) (i : ℕ) (words : List (List ℕ)) (w : List ℕ) (more : List (List ℕ)) (why : Why) (whole : Option Why) → i < length bounds → words ≡ w ∷ more
+    → number_cause 0 (get_or bounds i 0) w ≡ Some why → numbers_cause (drop i (up_to bounds)) words ≡ whole → whole ≡ Some why
+limit_stops bounds i words w more why whole lt e bad so_far =
+    let there = at_up_to bounds i lt in
+    number_stops (up_to bounds) i (0, 0) words w more why whole (omega (arith, there.0)) e (rw (there.1, there.2) bad) so_far
+
+pub limit_words_end : (bounds : List ℕ) (i : ℕ) (words : List (List ℕ)) (whole : Option Why) → i < length bounds → words ≡ [] → numbers_cause (drop i (up_to bounds)) words ≡ whole → whole ≡ None
+limit_words_end bounds i words whole lt e so_far = let there = at_up_to bounds i lt in words_end (up_to bounds) i (0, 0) words whole (omega (arith, there.0)) e so_far
+
+pub limits_end : (bounds : List ℕ) (i : ℕ) (words : List (List ℕ)) (whole : Option Why) → length bounds ≤ i → numbers_cause (drop i (up_to bounds)) words ≡ whole → whole ≡ None
+limits_end bounds i words whole le so_far = let size = up_to_length bounds in ranges_end (up_to bounds) i words whole (omega (arith, size)) so_far

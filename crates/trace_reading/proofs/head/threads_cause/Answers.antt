@@ -1,0 +1,10 @@
+use Rattle.std.proofs.Common.{sym, ◌∙◌}
+use Rattle.trace_reading.specs.Refused.{Threads}
+use Rattle.trace_reading.proofs.Lines.{whole_line, cut_line, threads_words}
+use Rattle.trace_reading.proofs.head.threads_cause.Goals as goal
+
+pub returns-in-Some : goal.returns-in-Some
+returns-in-Some c = λ v r w e. c.title_cause.ensures ∙ sym (whole_line (Threads v r w e) c.args.bytes.now _ c.in-Some.field-0-1.now c.in-Some.ensures ∙ threads_words v r w e _)
+
+pub returns-in-None : goal.returns-in-None
+returns-in-None c = λ v r w e. let last = c.in-None.ensures in sym (cut_line (Threads v r w e) c.args.bytes.now last.0 last.1)

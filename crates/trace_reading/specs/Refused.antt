@@ -1,0 +1,93 @@
+-- Which bytes are refused, at which line, and why.
+use Rattle.std.specs.Prelude.{ℕ, ◌≡◌, ◌⊎◌, ◌+◌, ◌≤◌, Bool, true, false, List, [], ◌∷◌, ◌++◌, codes, length, if◌then◌else◌, Option, Some, None}
+use Rattle.heap_words.specs.declared.config.Config.{Config}
+use Rattle.heap_words.specs.Narrow.{IsNarrow}
+use Rattle.heap_words.specs.declared.schedule.Item.{Item}
+use Rattle.trace_grammar.specs.Spelling.{space, newline, titled, TraceLine, line, IsVersion, IsLine, schedule_line, IsScheduleLine}
+use Rattle.trace_grammar.specs.Grammar.{most_bytes}
+use Rattle.trace_grammar.specs.declared.why.Why.{Why}
+use Rattle.trace_grammar.specs.declared.why.Why.TheVariants.{EndOfLine, ScheduleLast}
+use Rattle.trace_reading.specs.Causes.{parts, is_same, title_cause, version_ranges, heap_ranges, threads_ranges, command_cause, schedule_cause}
+
+-- what is to stand on a line
+pub data LineStage : Type 0 where
+  -- the version; the heap of a trace of that version; and the threads behind a heap of these sizes
+  Version : LineStage
+  Heap : (version : ℕ) → LineStage
+  Threads : (version regions region_words reserve : ℕ) → LineStage
+  -- a command that the version has, or a line of the schedule
+  Commands : (version : ℕ) → Config → LineStage
+  -- a line of the schedule
+  Turns : Config → LineStage
+
+-- behind the head, where a line of the schedule stands before it or not
+abbrev pub body_stage : (version : ℕ) → Config → Bool → LineStage
+body_stage version c false = Commands version c
+body_stage version c true = Turns c
+
+-- ---- the lines of a trace
+
+abbrev pub IsCommandLine : (version : ℕ) → Config → List ℕ → Type 0
+IsCommandLine version c text = (l : TraceLine) × IsLine version c.mutators l × (text ++ newline ∷ [] ≡ line l)
+
+abbrev pub IsTurnItem : Config → List ℕ → Type 0
+IsTurnItem c text = (items : List Item) × IsScheduleLine c items × (text ++ newline ∷ [] ≡ schedule_line items)
+
+-- this text, with the end of its line, is a line of the grammar there, and what is to stand on the next
+abbrev pub LineFollows : LineStage → List ℕ → LineStage → Type 0
+LineFollows Version text next = (v : ℕ) × IsVersion v × (text ++ newline ∷ [] ≡ titled (codes "shen") (v ∷ [])) × (next ≡ Heap v)
+LineFollows (Heap v) text next = (c : Config) × IsNarrow c × (text ++ newline ∷ [] ≡ titled (codes "heap") (c.regions ∷ c.region_words ∷ c.reserve ∷ [])) × (next ≡ Threads v c.regions c.region_words c.reserve)
+LineFollows (Threads v r w e) text next = (c : Config) × (c.regions ≡ r) × (c.region_words ≡ w) × (c.reserve ≡ e) × (text ++ newline ∷ [] ≡ titled (codes "threads") (c.mutators ∷ c.helpers ∷ [])) × (next ≡ Commands v c)
+LineFollows (Commands v c) text next = (IsCommandLine v c text × (next ≡ Commands v c)) ⊎ (IsTurnItem c text × (next ≡ Turns c))
+LineFollows (Turns c) text next = IsTurnItem c text × (next ≡ Turns c)
+
+-- these lines follow one on the other
+abbrev pub Lead : LineStage → List (List ℕ) → LineStage → Type 0
+Lead stage [] end = stage ≡ end
+Lead stage (text ∷ texts) end = (next : LineStage) × LineFollows stage text next × Lead next texts end
+
+-- ---- the first line that is none
+
+-- a line of a command or of the schedule, by its words
+abbrev pub body_cause : Config → Option Why → List (List ℕ) → Option Why
+body_cause c other [] = other
+body_cause c other (w ∷ ws) = if is_same w (33 ∷ []) then schedule_cause c ws else other
+
+-- a line of a command, by its words
+abbrev pub command_line_cause : (version : ℕ) → Config → List (List ℕ) → Option Why
+command_line_cause version c [] = None
+command_line_cause version c (w ∷ ws) = command_cause version c.mutators w ws
+
+-- the first cause that holds for a line with these words
+unfoldable pub words_cause : LineStage → List (List ℕ) → Option Why
+words_cause Version ws = title_cause (codes "shen") version_ranges ws
+words_cause (Heap v) ws = title_cause (codes "heap") (heap_ranges ws) ws
+words_cause (Threads v r w e) ws = title_cause (codes "threads") threads_ranges ws
+words_cause (Commands v c) ws = body_cause c (command_line_cause v c ws) ws
+words_cause (Turns c) ws = body_cause c (Some ScheduleLast) ws
+
+-- the bytes end here, with this text behind the last end of a line
+abbrev pub end_cause : LineStage → List ℕ → Option Why
+end_cause (Commands v c) [] = None
+end_cause (Turns c) [] = None
+end_cause _ text = Some EndOfLine
+
+-- the first cause that holds for the first of these lines; the last of them has no end
+unfoldable pub cause_of : LineStage → List (List ℕ) → Option Why
+cause_of stage [] = None
+cause_of stage (text ∷ []) = end_cause stage text
+cause_of stage (text ∷ next ∷ more) = words_cause stage (parts space text)
+
+-- Line n, counted from 1, is the first that is outside the grammar, and why is the first cause that holds for it.
+pub record StopsAt (bytes : List ℕ) (n : ℕ) (why : Why) : Type 0 where
+  pub before : List (List ℕ)
+  pub from_it : List (List ℕ)
+  pub lines : parts newline bytes ≡ before ++ from_it
+  pub number : n ≡ length before + 1
+  pub stage : LineStage
+  pub lead : Lead Version before stage
+  pub cause : cause_of stage from_it ≡ Some why
+
+-- the bytes are not too many, and are refused at line n
+abbrev pub Refused : List ℕ → ℕ → Why → Type 0
+Refused bytes n why = StopsAt bytes n why × (length bytes ≤ most_bytes)

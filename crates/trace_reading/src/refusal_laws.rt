@@ -1,0 +1,17 @@
+//! Laws of what is refused.
+ghost use Rattle.std.specs.Prelude.{◌≡◌, ◌⊎◌, ℕ, ◌≤◌, List, length};
+ghost use Rattle.shen_graph.specs.declared.command.Command.{Command};
+ghost use Rattle.heap_words.specs.declared.config.Config.{Config};
+ghost use Rattle.heap_words.specs.declared.schedule.Item.{Item};
+ghost use Rattle.trace_grammar.specs.Grammar.{most_bytes, Reads};
+ghost use Rattle.trace_grammar.specs.declared.why.Why.{Why};
+ghost use Rattle.trace_reading.specs.Refused.{Refused};
+
+/// A law: bytes within the limit are a trace, or are refused at a line for a cause; never both, and never at two lines or
+/// for two causes. That they are one trace at most is a law of the grammar.
+pub fn bytes_are_read_or_refused()
+    ensures either { (bytes : List ℕ) → length bytes ≤ most_bytes
+        → ((v : ℕ) × (c : Config) × (scripts : List (List Command)) × (items : List Item) × Reads bytes v c scripts items) ⊎ ((n : ℕ) × (why : Why) × Refused bytes n why) }
+    ensures never_both { (bytes : List ℕ) (v : ℕ) (c : Config) (scripts : List (List Command)) (items : List Item) (n : ℕ) (why : Why) → Reads bytes v c scripts items → Refused bytes n why → ⊥ }
+    ensures once { (bytes : List ℕ) (n m : ℕ) (why other : Why) → Refused bytes n why → Refused bytes m other → (n ≡ m) × (why ≡ other) }
+{}

@@ -1,6 +1,0 @@
-use Rattle.std.proofs.Common.{◌≡◌, drop, map}
-use Rattle.trace_refusals.specs.Causes.{numbers_cause, parts_behind}
-use Rattle.trace_refusals.proofs.body.limits_cause.Given as goal
-
-abbrev pub invariant-loop-limit : goal.invariant-loop-limit
-invariant-loop-limit l = numbers_cause (drop l.limit-index (map (λ limit. (0, limit)) l.limits)) (parts_behind 32 l.rest) ≡ numbers_cause (map (λ limit. (0, limit)) l.limits) (parts_behind 32 l.words)

@@ -1,8 +1,0 @@
-use Rattle.std.proofs.Common.{inl, inr}
-use Rattle.trace_refusals.proofs.head.behind_line.Goals as goal
-
-pub returns-in-Some : goal.returns-in-Some
-returns-in-Some c = (_, inr c.in-Some.ensures)
-
-pub returns-in-None : goal.returns-in-None
-returns-in-None c = let last = c.in-None.ensures in (last.0, inl last.1)

@@ -1,0 +1,11 @@
+pub mod ReadReplies
+pub mod ReadEntries
+pub mod CutLines
+pub mod Wanted
+pub mod PairLaws
+pub mod SmallGraphs
+pub mod LinesOfTraces
+pub mod AnswerLines
+pub mod MadePairs
+pub mod LineKinds
+pub mod TakenTraces

@@ -1,0 +1,121 @@
+-- The two laws of the reader of an entry's line, and lines of entries one after the other.
+use Rattle.std.proofs.Common.{◌≡◌, ℕ, zero, suc, ◌^◌, ◌<◌, ◌≤◌, List, [], ◌∷◌, ◌++◌, length, codes, Option, Some, None, refl, sym, ap, subst, ◌∙◌, append_assoc, arith}
+use Rattle.std.specs.Fmt.{decimal}
+use Rattle.std.specs.List.{flat_map, AllByRecursion}
+use Rattle.std.proofs.lemmas.Fmt.{decimal_nonempty}
+use Rattle.std.proofs.lemmas.List.{length-append, append-nil}
+use Rattle.std.proofs.lemmas.List.Concat.{flat_map-cons}
+use Rattle.std.proofs.lemmas.Grind.{flat_map-append}
+use Rattle.shen_graph.specs.History.{Entry}
+use Rattle.trace_grammar.specs.Spelling.{command_word, numbers, numbers_of}
+use Rattle.trace_grammar.specs.Scanning.{◌>>=◌, behind, positive_at, spelled_command}
+use Rattle.trace_grammar.proofs.Numbers.{then_some, same_some, behind_takes, positive_takes, positive_again}
+use Rattle.trace_grammar.proofs.Lines.{command_takes, command_again_at}
+use Rattle.trace_writing.specs.Answer.{reply_word}
+use Rattle.trace_writing.specs.History.{entry_line}
+use Rattle.trace_text.specs.Entries.{IsClaim, BeginsWithNoEntry, spelled_reply, entry_at}
+use Rattle.trace_text.proofs.ReadReplies.{reply_takes, reply_again}
+
+-- the line of an entry in front of the rest
+line-append : (e : Entry) (rest : List ℕ) → entry_line e ++ rest ≡ decimal e.thread ++ 32 ∷ (command_word e.command ++ (numbers (numbers_of e.command) ++ (codes " : " ++ (reply_word e.reply ++ 10 ∷ rest))))
+line-append e rest = simp append_assoc
+
+entry_parts : (bytes gap words after answer reply end rest : List ℕ) (e : Entry) → bytes ≡ decimal e.thread ++ gap → gap ≡ 32 ∷ words → words ≡ command_word e.command ++ (numbers (numbers_of e.command) ++ after) → after ≡ codes " : " ++ answer → answer ≡ reply_word e.reply ++ end → end ≡ 10 ∷ rest → bytes ≡ entry_line e ++ rest
+entry_parts bytes gap words after answer reply end rest e a b c d f g = rw (a, b, c, d, f, g) (sym (line-append e rest))
+
+pub entry_takes : (version threads : ℕ) (bytes : List ℕ) (x : Entry × List ℕ) → threads < 2 ^ 64 → entry_at version threads bytes ≡ Some x → (bytes ≡ entry_line x.0 ++ x.1) × IsClaim version threads x.0
+unfolding entry_at
+entry_takes version threads bytes x small e =
+    then_some (positive_at threads bytes) (λ t. behind (codes " ") t.1 >>= λ words. spelled_command version words >>= λ c. behind (codes " : ") c.1 >>= λ reply. spelled_reply reply >>= λ r. behind (codes "\n") r.1 >>= λ end. Some (record { thread = t.0; command = c.0; reply = r.0 }, end)) x e (λ t at_t e1.
+    then_some (behind (codes " ") t.1) (λ words. spelled_command version words >>= λ c. behind (codes " : ") c.1 >>= λ reply. spelled_reply reply >>= λ r. behind (codes "\n") r.1 >>= λ end. Some (record { thread = t.0; command = c.0; reply = r.0 }, end)) x e1 (λ words at_words e2.
+    then_some (spelled_command version words) (λ c. behind (codes " : ") c.1 >>= λ reply. spelled_reply reply >>= λ r. behind (codes "\n") r.1 >>= λ end. Some (record { thread = t.0; command = c.0; reply = r.0 }, end)) x e2 (λ c at_c e3.
+    then_some (behind (codes " : ") c.1) (λ reply. spelled_reply reply >>= λ r. behind (codes "\n") r.1 >>= λ end. Some (record { thread = t.0; command = c.0; reply = r.0 }, end)) x e3 (λ reply at_reply e4.
+    then_some (spelled_reply reply) (λ r. behind (codes "\n") r.1 >>= λ end. Some (record { thread = t.0; command = c.0; reply = r.0 }, end)) x e4 (λ r at_r e5.
+    then_some (behind (codes "\n") r.1) (λ end. Some (record { thread = t.0; command = c.0; reply = r.0 }, end)) x e5 (λ end at_end e6.
+    let thread = positive_takes threads bytes t small at_t in
+    let command = command_takes version words c at_c in
+    let answer = reply_takes reply r at_r in
+    let made : Entry × List ℕ = (record { thread = t.0; command = c.0; reply = r.0 }, end) in
+    let spelled : bytes ≡ entry_line made.0 ++ made.1 =
+    entry_parts bytes t.1 words c.1 reply reply r.1 end made.0 thread.0 (behind_takes (codes " ") t.1 words at_words) command.0 (behind_takes (codes " : ") c.1 reply at_reply) answer.0 (behind_takes (codes "\n") r.1 end at_end) in
+    subst (λ (y : Entry × List ℕ). (bytes ≡ entry_line y.0 ++ y.1) × IsClaim version threads y.0) (same_some made x e6)
+    (spelled, record { from_one = thread.1; to_last = thread.2; known = command.1; valid = command.2; fits = command.3; reply = answer.1 })))))))
+
+pub entry_again : (version threads : ℕ) (e : Entry) (rest : List ℕ) → threads < 2 ^ 64 → IsClaim version threads e → entry_at version threads (entry_line e ++ rest) ≡ Some (e, rest)
+unfolding entry_at
+entry_again version threads e rest small fits =
+    let answer = reply_word e.reply ++ 10 ∷ rest in
+    let words = command_word e.command ++ (numbers (numbers_of e.command) ++ (codes " : " ++ answer)) in
+    ap (entry_at version threads) (line-append e rest)
+    ∙ rw (positive_again threads e.thread (32 ∷ words) fits.from_one fits.to_last small refl, command_again_at version e.command (codes " : " ++ answer) fits.known fits.valid fits.fits refl, reply_again e.reply rest fits.reply) refl
+
+-- ---- one after the other
+
+-- what was not read is no line of an entry
+pub none_read : (version threads : ℕ) (bytes : List ℕ) → threads < 2 ^ 64 → entry_at version threads bytes ≡ None → BeginsWithNoEntry version threads bytes
+none_read version threads bytes small none e rest fits spelled = let again = entry_again version threads e rest small fits in let here = ap (entry_at version threads) spelled in cc
+
+some_bytes : (version threads : ℕ) (e : Entry) → threads < 2 ^ 64 → IsClaim version threads e → 1 ≤ length (entry_line e)
+some_bytes version threads e small fits =
+    let some = decimal_nonempty e.thread (omega (arith, fits.to_last, small)) in
+    omega (arith, some, length-append (decimal e.thread) (32 ∷ ((command_word e.command ++ numbers (numbers_of e.command)) ++ (codes " : " ++ (reply_word e.reply ++ 10 ∷ [])))))
+
+pub nothing_read : (version threads : ℕ) → threads < 2 ^ 64 → BeginsWithNoEntry version threads []
+nothing_read version threads small e rest fits spelled = let some = some_bytes version threads e small fits in let size = ap length spelled in omega (arith, some, size, length-append (entry_line e) rest)
+
+front : (e : Entry) (es : List Entry) (rest : List ℕ) → flat_map entry_line (e ∷ es) ++ rest ≡ entry_line e ++ (flat_map entry_line es ++ rest)
+front e es rest = ap (λ (bs : List ℕ). bs ++ rest) (flat_map-cons entry_line e es) ∙ append_assoc (entry_line e) (flat_map entry_line es) rest
+
+-- one entry more at the end
+pub all_more : (version threads : ℕ) (es : List Entry) (e : Entry) → AllByRecursion (IsClaim version threads) es → IsClaim version threads e → AllByRecursion (IsClaim version threads) (es ++ e ∷ [])
+all_more version threads [] e all fits = (fits, tt)
+all_more version threads (x ∷ es) e all fits = (all.0, all_more version threads es e all.1 fits)
+
+pub spelled_more : (es : List Entry) (e : Entry) (bytes rest after : List ℕ) → bytes ≡ flat_map entry_line es ++ rest → rest ≡ entry_line e ++ after → bytes ≡ flat_map entry_line (es ++ e ∷ []) ++ after
+spelled_more es e bytes rest after a b =
+    a ∙ ap (λ (bs : List ℕ). flat_map entry_line es ++ bs) b ∙ sym (append_assoc (flat_map entry_line es) (entry_line e) after)
+    ∙ ap (λ (bs : List ℕ). bs ++ after) (sym (flat_map-append entry_line es (e ∷ []) ∙ ap (λ (bs : List ℕ). flat_map entry_line es ++ bs) (flat_map-cons entry_line e [] ∙ append-nil (entry_line e))))
+
+-- entries with no other line behind them are the same
+pub entries_once : (version threads : ℕ) (xs ys : List Entry) (rest after : List ℕ) → threads < 2 ^ 64 → AllByRecursion (IsClaim version threads) xs → AllByRecursion (IsClaim version threads) ys → BeginsWithNoEntry version threads rest → BeginsWithNoEntry version threads after
+    → flat_map entry_line xs ++ rest ≡ flat_map entry_line ys ++ after → (xs ≡ ys) × (rest ≡ after)
+entries_once version threads [] [] rest after small all_xs all_ys p q e = (refl, e)
+entries_once version threads [] (y ∷ ys) rest after small all_xs all_ys p q e = absurd (p y (flat_map entry_line ys ++ after) all_ys.0 (e ∙ front y ys after))
+entries_once version threads (x ∷ xs) [] rest after small all_xs all_ys p q e = absurd (q x (flat_map entry_line xs ++ rest) all_xs.0 (sym e ∙ front x xs rest))
+entries_once version threads (x ∷ xs) (y ∷ ys) rest after small all_xs all_ys p q e =
+    let one : Entry × List ℕ = (x, flat_map entry_line xs ++ rest) in
+    let two : Entry × List ℕ = (y, flat_map entry_line ys ++ after) in
+    let same : one ≡ two = same_some one two (sym (entry_again version threads x (flat_map entry_line xs ++ rest) small all_xs.0) ∙ ap (entry_at version threads) (sym (front x xs rest) ∙ e ∙ front y ys after) ∙ entry_again version threads y (flat_map entry_line ys ++ after) small all_ys.0) in
+    let others = entries_once version threads xs ys rest after small all_xs.1 all_ys.1 p q (ap (λ (z : Entry × List ℕ). z.1) same) in
+    (ap (λ (z : Entry × List ℕ). z.0 ∷ xs) same ∙ ap (λ (zs : List Entry). y ∷ zs) others.0, others.1)
+
+-- bytes are some entries, and something that begins with none
+pub record HasEntries (version threads : ℕ) (bytes : List ℕ) : Type 0 where
+  pub entries : List Entry
+  pub rest : List ℕ
+  pub in_range : AllByRecursion (IsClaim version threads) entries
+  pub spelled : bytes ≡ flat_map entry_line entries ++ rest
+  pub none : BeginsWithNoEntry version threads rest
+
+pub entries_of : (k version threads : ℕ) (bytes : List ℕ) → threads < 2 ^ 64 → length bytes ≤ k → HasEntries version threads bytes
+entries_of zero version threads [] small le = record { entries = []; rest = []; in_range = tt; spelled = refl; none = nothing_read version threads small }
+entries_of zero version threads (b ∷ bytes) small le = absurd (omega (arith, le))
+entries_of (suc k) version threads bytes small le = by_first (entry_at version threads bytes) refl (λ rest fewer. entries_of k version threads rest small fewer)
+  where
+    by_first : (first : Option (Entry × List ℕ)) → entry_at version threads bytes ≡ first → ((rest : List ℕ) → length rest ≤ k → HasEntries version threads rest) → HasEntries version threads bytes
+    by_first None at_first go = record { entries = []; rest = bytes; in_range = tt; spelled = refl; none = none_read version threads bytes small at_first }
+    by_first (Some x) at_first go =
+        let took = entry_takes version threads bytes x small at_first in
+        let some = some_bytes version threads x.0 small took.1 in
+        let others = go x.1 (let size = ap length took.0 in omega (arith, some, size, le, length-append (entry_line x.0) x.1)) in
+        record {
+          entries = x.0 ∷ others.entries;
+          rest = others.rest;
+          in_range = (took.1, others.in_range);
+          spelled = took.0 ∙ ap (λ (bs : List ℕ). entry_line x.0 ++ bs) others.spelled ∙ sym (front x.0 others.entries others.rest);
+          none = others.none;
+        }
+
+-- what is behind an entry is shorter
+pub entry_shorter : (version threads : ℕ) (e : Entry) (rest behind : List ℕ) → threads < 2 ^ 64 → IsClaim version threads e → rest ≡ entry_line e ++ behind → length behind < length rest
+entry_shorter version threads e rest behind small fits spelled = let some = some_bytes version threads e small fits in let size = ap length spelled in omega (arith, some, size, length-append (entry_line e) behind)

@@ -1,0 +1,27 @@
+use Rattle.std.proofs.Common.{◌≡◌, None, sym, subst}
+use Rattle.trace_reading.specs.Causes.{parts}
+use Rattle.trace_reading.specs.Refused.{body_stage, words_cause}
+use Rattle.trace_text.specs.LinesTaken.{Taken}
+use Rattle.trace_text.proofs.LineKinds.{is_command, is_items}
+use Rattle.trace_text.proofs.lines.TraceLines.line.Goals as goal
+
+pub take_items-taken-requires : goal.take_items-taken-requires
+take_items-taken-requires c =
+    let now = c.args.self.now in
+    let inside : words_cause (body_stage c.self.inside.version c.self.inside.config c.self.inside.scheduled) (parts 32 c.args.line.now) ≡ None = let e = c.text_cause.ensures in let i = c.in_default.is in cc in
+    let none = subst (λ (t : Taken). words_cause (body_stage t.version t.config t.scheduled) (parts 32 c.args.line.now) ≡ None) c.self.view_is inside in
+    record { line = is_items now.version now.config now.scheduled c.args.line.now c.in-Some-text_at.field-0.now none (sym c.in-Some-text_at.ensures) }
+
+pub take_command-taken-requires-clause-before : goal.take_command-taken-requires-clause-before
+take_command-taken-requires-clause-before c =
+    let now = c.args.self.now in
+    let inside : words_cause (body_stage c.self.inside.version c.self.inside.config c.self.inside.scheduled) (parts 32 c.args.line.now) ≡ None = let e = c.text_cause.ensures in let i = c.in_default.is in cc in
+    let none = subst (λ (t : Taken). words_cause (body_stage t.version t.config t.scheduled) (parts 32 c.args.line.now) ≡ None) c.self.view_is inside in
+    (is_command now.version now.config now.scheduled c.args.line.now none (sym c.in-None.ensures)).0
+
+pub take_command-taken-requires-clause-line : goal.take_command-taken-requires-clause-line
+take_command-taken-requires-clause-line c =
+    let now = c.args.self.now in
+    let inside : words_cause (body_stage c.self.inside.version c.self.inside.config c.self.inside.scheduled) (parts 32 c.args.line.now) ≡ None = let e = c.text_cause.ensures in let i = c.in_default.is in cc in
+    let none = subst (λ (t : Taken). words_cause (body_stage t.version t.config t.scheduled) (parts 32 c.args.line.now) ≡ None) c.self.view_is inside in
+    (is_command now.version now.config now.scheduled c.args.line.now none (sym c.in-None.ensures)).1

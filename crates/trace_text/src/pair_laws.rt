@@ -1,0 +1,38 @@
+//! Laws of what is read.
+ghost use Rattle.std.specs.Prelude.{ℕ, ◌≡◌, ◌⊎◌, ◌≤◌, List, ◌++◌, codes, length};
+ghost use Rattle.heap_words.specs.declared.config.Config.{Config};
+ghost use Rattle.heap_words.specs.declared.schedule.Item.{Item};
+ghost use Rattle.shen_graph.specs.declared.command.Command.{Command};
+ghost use Rattle.shen_graph.specs.Graph.{opening};
+ghost use Rattle.shen_graph.specs.History.{Entry, EachIsLegal, Follows};
+ghost use Rattle.trace_grammar.specs.Grammar.{most_bytes, Reads};
+ghost use Rattle.trace_grammar.specs.declared.why.Why.{Why};
+ghost use Rattle.trace_writing.specs.Answer.{IsAnswerText};
+ghost use Rattle.trace_writing.specs.History.{history_text};
+ghost use Rattle.trace_text.specs.Pairs.{IsPair, IsSamePair};
+ghost use Rattle.trace_text.specs.Refusals.{IsPairRefused};
+
+/// A law: bytes are a trace with a body and a history in one way at most.
+pub fn pairs_are_read_once()
+    ensures { (bytes : List ℕ) (v w : ℕ) (c d : Config) (xs ys : List (List Command)) (is js : List Item) (body other : List ℕ) (es fs : List Entry)
+        → IsPair bytes v c xs is body es → IsPair bytes w d ys js other fs → IsSamePair v c xs is body es w d ys js other fs }
+{}
+
+/// A law: bytes within the limit are a trace with a body and a history, or are refused at a line for a cause; never both, and
+/// never at two lines or for two causes.
+pub fn pairs_are_read_or_refused()
+    ensures either { (bytes : List ℕ) → length bytes ≤ most_bytes
+        → ((v : ℕ) × (c : Config) × (scripts : List (List Command)) × (items : List Item) × (body : List ℕ) × (entries : List Entry) × IsPair bytes v c scripts items body entries)
+        ⊎ ((n : ℕ) × (why : Why) × IsPairRefused bytes n why) }
+    ensures never_both { (bytes : List ℕ) (v : ℕ) (c : Config) (scripts : List (List Command)) (items : List Item) (body : List ℕ) (entries : List Entry) (n : ℕ) (why : Why)
+        → IsPair bytes v c scripts items body entries → IsPairRefused bytes n why → ⊥ }
+    ensures once { (bytes : List ℕ) (n m : ℕ) (why other : Why) → IsPairRefused bytes n why → IsPairRefused bytes m other → (n ≡ m) × (why ≡ other) }
+{}
+
+/// A law: a trace, the line `answer`, and the answer and the text of a history that the trace's threads may have are such a text, of
+/// that answer and that history, where they are not too long. So what a replay writes with its history can be judged.
+pub fn histories_can_be_read()
+    ensures { (trace body : List ℕ) (v : ℕ) (c : Config) (scripts : List (List Command)) (items : List Item) (entries : List Entry) → Reads trace v c scripts items
+        → EachIsLegal c.regions c.region_words (opening c.mutators) entries → Follows scripts entries → IsAnswerText v c.mutators entries body → length (trace ++ (codes "answer\n" ++ (body ++ history_text entries))) ≤ most_bytes
+        → IsPair (trace ++ (codes "answer\n" ++ (body ++ history_text entries))) v c scripts items body entries }
+{}
