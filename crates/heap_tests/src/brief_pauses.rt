@@ -138,11 +138,11 @@ struct Course {
 
 impl Course {
     // Before the first step.
-    fn open(alloc: Global) -> Result<Course, Fail>
+    fn open(alloc: Global, run: &Run) -> Result<Course, Fail>
         ensures { IfOk result (λ course. CanRun course.played.plain course.played.work × IsWalkOf (config_of course.played.plain) course.walk) }
     {
-        let played = opened(alloc, &CYCLE)?;
-        let walk = Walk::open(schedule(alloc, played.plain.config(), CYCLE.items)?);
+        let played = opened(alloc, run)?;
+        let walk = Walk::open(schedule(alloc, played.plain.config(), run.items)?);
         Ok(Course { played, walk })
     }
 
@@ -179,7 +179,7 @@ impl Course {
 // A cycle has three brief pauses, and one of all of the image, which ends marking; and two buffers are given up in brief ones.
 #[test]
 fn a_wide_heap_has_brief_pauses(rt: HostRuntime) -> Result<(), Fail> {
-    let mut course = Course::open(rt.alloc())?;
+    let mut course = Course::open(rt.alloc(), &CYCLE)?;
     let pauses = course.pauses(rt.alloc())?;
     assert!(rt; pauses.as_slice() == PAUSES.as_slice());
     course.played.compare(&rt, &LEFT);
