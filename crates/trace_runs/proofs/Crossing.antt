@@ -6,7 +6,10 @@ use denote.Struct.Declared.{shape}
 use Rattle.std.proofs.option.Option.TheSendSync as option
 use Rattle.std.specs.contracts.option.Option as options
 use Rattle.std.specs.contracts.snapshot.Snapshot as snapshot
-use Rattle.std.proofs.Crossing as global
+use Rattle.std.specs.contracts.alloc.Global as global
+use Rattle.std.specs.contracts.impls.GlobalAllocator.TheImpl.{ghosts}
+use Rattle.std.specs.contracts.vec.Vec as vec
+use Rattle.std.proofs.Crossing as memory
 use Rattle.std.proofs.Crossing.{Vec-send, crosses}
 use Rattle.atomic_table.proofs.shared.Seat.TheSendSync as seat
 use Rattle.atomic_table.proofs.owned.Table.TheSendSync as table
@@ -32,23 +35,13 @@ snapshot_sync Y = search crosses
 
 -- ---- what threads share: the heap
 left_sync : IsSync left.the_row
-left_sync = recorded_sync left.the_field.row _ _ left.the_type.to_one (struct_sync (shape left.the_type) (snapshot_sync _, (snapshot_sync _, tt)))
+left_sync = recorded_sync left.the_field.row _ _ left.the_type.to_one (struct_sync (shape left.the_type) (snapshot_sync (vec.the_row builtin.u64 global.the_row ghosts), (snapshot_sync (vec.the_row builtin.u32 global.the_row ghosts), tt)))
 
 key_sync : IsSync key.the_field.row
 key_sync = struct_sync (shape key.the_type) (config.the_field_sync, (option.the_field_sync left.the_row left_sync, tt))
 
 heap_field_sync : IsSync heap.the_field.row
-heap_field_sync =
-    struct_sync (shape heap.the_type) (
-      config.the_field_sync,
-      (
-        key_sync,
-        (
-          table.the_field_sync _ _ _ _ _ _ _ (search (global.send, global.sync, global.frees, sendable)) (search (global.send, global.sync, global.frees, sendable)) (search (global.send, global.sync, global.frees, sendable)) (search (global.send, global.sync, global.frees, sendable)),
-          tt,
-        ),
-      ),
-    )
+heap_field_sync = struct_sync (shape heap.the_type) (config.the_field_sync, (key_sync, (search (table.the_field_sync, memory.send, memory.sync, memory.frees, sendable) depth 6, tt)))
 
 pub heap_sync : IsSync heap.the_row
 heap_sync = recorded_sync heap.the_field.row _ _ heap.the_type.to_one heap_field_sync
@@ -73,8 +66,11 @@ bundle_send =
       ),
     )
 
-pub part_send : IsSend part.the_field.row
-part_send = struct_send (shape part.the_type) (bundle_send, (load.the_field_send, tt))
+part_field_send : IsSend part.the_field.row
+part_field_send = struct_send (shape part.the_type) (bundle_send, (load.the_field_send, tt))
+
+pub part_send : IsSend part.the_row
+part_send = recorded_send part.the_field.row _ _ part.the_type.to_one part_field_send
 
 pub returned_send : IsSend returned.the_row
-returned_send = recorded_send returned.the_field.row _ _ returned.the_type.to_one (struct_send (shape returned.the_type) (part_send, (search sendable, tt)))
+returned_send = recorded_send returned.the_field.row _ _ returned.the_type.to_one (struct_send (shape returned.the_type) (part_field_send, (search sendable, tt)))

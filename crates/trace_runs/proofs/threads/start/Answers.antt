@@ -1,7 +1,7 @@
-use denote.Param.Send.{param_send, sendable}
+use denote.Param.{param}
+use denote.Param.Send.{IsSync, sendable}
 use Rattle.std.proofs.Common.{rules, ◌+◌, sym, subst, arith}
 use Rattle.std.proofs.Crossing.{crosses}
-use Rattle.trace_runs.specs.contracts.parts.Returned as returned
 use Rattle.trace_runs.proofs.Crossing.{heap_sync, part_send, returned_send}
 use Rattle.trace_runs.specs.DealtParts.{IsGivenBack}
 use Rattle.trace_runs.specs.declared.parts.Part.{Part}
@@ -17,7 +17,10 @@ pub spawn_with-started-requires-clause-keeps : goal.spawn_with-started-requires-
 spawn_with-started-requires-clause-keeps g c κs within = λ back kept. subst (λ (given : Part). IsGivenBack given back) (sym c.of.ensures) kept
 
 pub spawn_with-started-requires-send-F : goal.spawn_with-started-requires-send-F
-spawn_with-started-requires-send-F g c κs within = search (part_send, heap_sync, sendable, crosses) depth 20
+spawn_with-started-requires-send-F g c κs within =
+    let runtime : IsSync (param 1 g.row.R) = c.type_bounds.sync-R in
+    let gate : IsSync (param 2 g.row.G) = c.type_bounds.sync-G in
+    search (part_send, heap_sync, sendable, crosses) depth 20
 
 pub spawn_with-started-requires-send-T : goal.spawn_with-started-requires-send-T
-spawn_with-started-requires-send-T g c κs within = param_send 3 returned.the_row returned_send
+spawn_with-started-requires-send-T g c κs within = search (returned_send, sendable)
