@@ -46,8 +46,8 @@ pub fn evacuation_is_whole()
     ensures { EvacuationIsWhole }
 {}
 
-/// A law: and so it is of the image itself that the control has read in such a pause, with the last word that it finds: each marked object of
-/// the collection set was copied before the updating of references begins.
+/// A law: and where it reads all of the image in such a pause, as wherever regions are no larger than those of a trace, so it is of the image
+/// itself, with the last word that it finds: each marked object of the collection set was copied before the updating of references begins.
 pub fn images_are_evacuated()
     ensures { ImagesAreEvacuated }
 {}

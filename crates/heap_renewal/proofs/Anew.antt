@@ -1,5 +1,5 @@
 -- A heap on one thread that begins from words in which objects were placed under new names.
-use Rattle.std.proofs.Common.{◌≡◌, ℕ, List, sym, subst}
+use Rattle.std.proofs.Common.{◌≡◌, ℕ, List, refl, sym, subst}
 use Rattle.heap_words.specs.declared.config.Config.{Config}
 use Rattle.shen_graph.specs.Graph.{Graph}
 use Rattle.shen_graph.specs.GraphText.{Text, names_of}
@@ -35,5 +35,6 @@ module _ (c : Config) (t : Text) (whole : IsPlaceable c t) (threads : AreOfThrea
             (begins h (subst (λ (d : Config). CanBeginFrom d (images.memory_of image) counts h) (sym same) can_now));
         names = name_anew (names_of t);
         same = same_anew c t whole threads counts are g shows;
+        no_pins = λ thread slot. refl;
         renewable = renewable_anew c t whole threads counts;
       }

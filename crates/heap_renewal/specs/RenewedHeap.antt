@@ -1,5 +1,5 @@
 -- What comes of renewing a heap.
-use Rattle.std.specs.Prelude.{◌≡◌}
+use Rattle.std.specs.Prelude.{ℕ, ◌≡◌, None}
 use Rattle.heap_words.specs.declared.config.Config.{Config}
 use Rattle.steps_base.specs.Steps.{Stage}
 use Rattle.shen_graph.specs.declared.name.Name.{Name}
@@ -28,7 +28,7 @@ pub record StandsRenewable (p : Plain) : Type 0 where
   pub renewable : IsRenewable (config_of p).mutators (graph_after pause_image (config_of p) run)
 
 -- The new heap stands where runs may begin that go on from a graph; this is the same graph as the one before, up to names that are counted
--- anew, and it can be named anew once more. Nothing was pinned.
+-- anew, and it can be named anew once more. Nothing was pinned, and nothing is.
 pub record BeginsAnew (c : Config) (before : Graph) (new : Plain) : Type 0 where
   pub sizes : config_of new ≡ c
   pub unpinned : HoldsNothing c.mutators before
@@ -38,4 +38,5 @@ pub record BeginsAnew (c : Config) (before : Graph) (new : Plain) : Type 0 where
   pub begins : Begins c start graph
   pub names : Name → Name
   pub same : IsSameAnew names c.mutators before graph
+  pub no_pins : (thread slot : ℕ) → graph.pin thread slot ≡ None
   pub renewable : IsRenewable c.mutators graph

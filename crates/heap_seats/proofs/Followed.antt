@@ -1,9 +1,9 @@
 -- Seats of a heap that goes on with the graph of another: under new names, or from its own words.
-use Rattle.std.proofs.Common.{◌≡◌, ℕ, List, Option, Some, None, refl, sym, subst}
+use Rattle.std.proofs.Common.{◌≡◌, ℕ, List, Option, Some, None, refl, sym, ap, ◌∙◌, subst}
 use Rattle.std.specs.Prelude.{Result, Ok, Err, IfOk, IfSome}
 use Rattle.std.proofs.Math.Logic.{∥∥₁_map}
 use Rattle.heap_words.specs.declared.config.Config.{Config}
-use Rattle.heap_words.specs.Words.{Word, view}
+use Rattle.heap_words.specs.Words.{Word, End, view}
 use Rattle.shen_graph.specs.Graph.{Graph}
 use Rattle.shen_graph.specs.GraphText.{Text, names_of}
 use Rattle.heap_world.specs.Asking.{nothing}
@@ -14,7 +14,7 @@ use Rattle.image_graph.specs.declared.image.Image.{Image}
 use Rattle.image_graph.specs.State as images
 use Rattle.heap_machines.specs.FromImage.{CanBeginFrom, stage_from}
 use Rattle.heap_machines.specs.Pause.{pause_image}
-use Rattle.heap_machines.proofs.FromImages.{begins_from}
+use Rattle.heap_machines.proofs.FromImages.{begins_from, stage_words}
 use Rattle.step_core.specs.Actor.{Actor}
 use Rattle.step_core.specs.AtRest.{IsAtRest}
 use Rattle.step_core.specs.Begins.{Run, Begins, ending, graph_after}
@@ -48,7 +48,7 @@ if_some (Some x) P Q goes is = goes x is
 
 -- what is so of some graphs is so of others that are among them
 pub begin_others : (c : Config) (Of Other : Graph → Type 0) (said : Renewal) (seats : List Seat) → ((g : Graph) → Other g → Of g) → BeginSeats c Of said seats → BeginSeats c Other said seats
-begin_others c Of Other said seats among begin = record { start = begin.start; fresh = begin.fresh; graphs = λ g is. begin.graphs g (among g is) }
+begin_others c Of Other said seats among begin = record { start = begin.start; fresh = begin.fresh; goes_on = begin.goes_on; graphs = λ g is. begin.graphs g (among g is) }
 
 -- the graph that a text shows which shows that of each run to a stage
 pub left_shown : (c : Config) (left : Stage Actor) (t : Text) → ((run : Run c) → ending pause_image c run ≡ left → ShowsGraph t c.mutators (graph_after pause_image c run)) → (g : Graph) → IsGraphLeft c left g → ShowsGraph t c.mutators g
@@ -63,6 +63,12 @@ module _ (c : Config) (image : Image) (sizes : images.config_of image ≡ c) (co
   image_begins g can =
       subst (λ (d : Config). Begins d start_of_image g) sizes
       (begins_from (images.config_of image) (images.words_of image) counts image.all_words g (subst (λ (d : Config). CanBeginFrom d (images.memory_of image) counts g) (sym sizes) can))
+
+  -- a word of its start is that of the image
+  start_word : (w : Word) → view c start_of_image.words w ≡ images.memory_of image w
+  start_word w =
+      ap (λ (words : List ℕ). view c words w) (stage_words (images.config_of image) (images.words_of image) counts)
+      ∙ ap (λ (d : Config). view d (images.words_of image) w) (sym sizes)
 
   fresh_seats : (seats : List Seat) → AreFreshSeats (images.config_of image) start_of_image seats → AreFreshSeats c start_of_image seats
   fresh_seats seats fresh = subst (λ (d : Config). AreFreshSeats d start_of_image seats) sizes fresh
@@ -88,10 +94,11 @@ module _ (c : Config) (image : Image) (sizes : images.config_of image ≡ c) (co
     seats_renewed are none seats fresh = record {
       start = start_of_image;
       fresh = fresh_seats seats fresh;
+      goes_on = start_word End ∙ placed.others End refl;
       graphs = λ g shows. record {
         graph = text_graph (text_anew t) counts;
         begins = image_begins (text_graph (text_anew t) counts) new_can;
-        becomes = record { unpinned = nothing_pinned t c.mutators g shows whole.threads none; names = name_anew (names_of t); same = same_anew c t whole threads counts are g shows };
+        becomes = record { unpinned = nothing_pinned t c.mutators g shows whole.threads none; names = name_anew (names_of t); same = same_anew c t whole threads counts are g shows; no_pins = λ thread slot. refl };
       };
     }
 
@@ -118,5 +125,6 @@ module _ (c : Config) (image : Image) (sizes : images.config_of image ≡ c) (co
     seats_kept seats fresh why = record {
       start = start_of_image;
       fresh = fresh_seats seats fresh;
+      goes_on = start_word End ∙ ap (λ (memory : Word → ℕ). memory End) words;
       graphs = λ g kept. record { graph = g; begins = image_begins g (again g kept.is_left); becomes = becomes_kept why g kept.keeps };
     }

@@ -1,6 +1,7 @@
 -- What comes of a heap that was to be renewed: the seats of another one, which goes on with its graph.
-use Rattle.std.specs.Prelude.{ℕ, ◌≡◌, ⊤, List, Some, slice_get}
+use Rattle.std.specs.Prelude.{ℕ, ◌≡◌, ⊤, List, None, Some, slice_get}
 use Rattle.heap_words.specs.declared.config.Config.{Config}
+use Rattle.heap_words.specs.Words.{End, view}
 use Rattle.shen_graph.specs.declared.name.Name.{Name}
 use Rattle.shen_graph.specs.declared.order.Order.{Order}
 use Rattle.shen_graph.specs.Graph.{Graph}
@@ -20,11 +21,12 @@ use Rattle.heap_seats.specs.GivenUp.{heap_closing, sizes_closing, AreGivenUp, Ar
 use Rattle.heap_seats.specs.Histories.{led, OfEachBegun}
 use Rattle.heap_seats.specs.Seats.{state_in}
 
--- The graph of a renewed heap: the same up to new names, counted from 1 for each thread. Nothing was pinned.
+-- The graph of a renewed heap: the same up to new names, counted from 1 for each thread. Nothing was pinned, and nothing is.
 pub record IsRenewedGraph (threads : ℕ) (before now : Graph) : Type 0 where
   pub unpinned : HoldsNothing threads before
   pub names : Name → Name
   pub same : IsSameAnew names threads before now
+  pub no_pins : (thread slot : ℕ) → now.pin thread slot ≡ None
 
 -- why a graph keeps its names: an object is pinned, the objects do not fit, or memory was refused
 abbrev pub KeepsNames : Renewal → Config → Graph → Type 0
@@ -44,10 +46,12 @@ pub record BeginsAfter (c : Config) (start : Stage Actor) (said : Renewal) (befo
   pub begins : Begins c start graph
   pub becomes : Becomes said c before graph
 
--- Seats before the first event of a heap of these sizes, which begins with what has become of each graph of which this is so.
+-- Seats before the first event of a heap of these sizes, which begins with what has become of each graph of which this is so. Its control has not
+-- ended, so its helpers have work.
 pub record BeginSeats (c : Config) (Of : Graph → Type 0) (said : Renewal) (seats : List Seat) : Type 0 where
   pub start : Stage Actor
   pub fresh : AreFreshSeats c start seats
+  pub goes_on : view c start.words End ≡ 0
   pub graphs : (before : Graph) → Of before → BeginsAfter c start said before
 
 -- some run leads to a stage, and the graph after it is this one

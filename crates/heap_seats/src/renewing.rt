@@ -125,7 +125,7 @@ impl Closing {
 
     /// Ends the heap, all of whose seats are given up and have ended, and goes on with its graph in another one of the same sizes: with new names
     /// for its objects, or else with those that they have, from the heap's own words. A mutator goes on with its roots and its pin slots. `None`
-    /// where memory was refused for either, which is less than the room and the old heap gave back, or where a share of the heap is
+    /// where memory was refused for the second, which is less than the room and the old heap gave back, or where a share of the heap is
     /// elsewhere: then nothing is left of it. The time is linear in the words of the heap, but for the sort of the objects.
     pub fn renew(self, alloc: Global, mut room: RenewalRoom) -> Option<Following>
         requires whole { MayRenewHeap self }
