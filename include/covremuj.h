@@ -177,7 +177,7 @@ typedef enum cvm_status {
     CVM_PINNED = 24,      /* a pin slot holds an object, which may not move: all names are as they were */
     CVM_TOO_SMALL = 25,   /* the objects do not fit, one behind the other in the order of their names and each within one region: all names are as they were */
     CVM_NOT_RENEWED = 26, /* memory was refused for the new names: all are as they were */
-    CVM_LOST = 27,        /* memory was refused for the old ones too: nothing is left of the heap, and its seats are empty */
+    CVM_LOST = 27,        /* memory was refused for the old ones too, or for the seats: nothing is left of the heap, and its seats are empty */
 
     /* Refusals of a seat. */
     CVM_NOT_OPEN = 32,     /* the seat is empty: never opened, moved away, or closed */
@@ -295,16 +295,17 @@ cvm_status cvm_close_all(cvm_seat *seats, size_t count);
  * call is made on a seat of that heap meanwhile.
  *
  * Answers CVM_NOT_OPEN where a seat is empty; else CVM_NOT_ALL where these are not as many as the heap has, each at the
- * place of its number, or are of two heaps; else CVM_BUSY where one has not ended; else CVM_NO_MEMORY; and then nothing has
- * changed. Or the old heap is over, and the answer is
+ * place of its number; else CVM_BUSY where one has not ended; else CVM_NO_MEMORY; and then nothing has changed. Or the old
+ * heap is over, and the answer is
  *
  *   CVM_DONE         the objects that roots lead to have new names, counted from 1 for each mutator, in the order of the old
  *                    ones; of each mutator cvm_look tells as many made as have names of it. References, numbers and roots
  *                    are as they were. Pin slots are empty, and were so before.
  *   CVM_PINNED, CVM_TOO_SMALL, CVM_NOT_RENEWED
  *                    the heap goes on with the names, the counts and the pins that it had, and its mutators may make calls
- *                    again, such as to empty pin slots, or to let objects go. They have as few names left as before.
- *   CVM_LOST         memory was refused for that too: all seats are empty.
+ *                    again, such as to empty pin slots, or to let objects go. They have as few names left as before, and
+ *                    one that has none left can only end: it empties its pin slots before it makes its last object.
+ *   CVM_LOST         memory was refused for that too, or for the new seats: all of them are empty.
  *
  * What is taken of memory, 48 bytes for each word of the heap, is taken before the old heap is over, but for a heap like
  * that which was given back, and for the room in which its words are computed, 25 bytes a word, without which the answer is

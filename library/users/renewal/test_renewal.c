@@ -84,6 +84,9 @@ static void pinned(cvm_seat *seats, uint64_t round) {
     end_all(seats);
     MUST(cvm_renew(seats, SEATS) == CVM_PINNED);
     MUST(cvm_look(&seats[1], &after) == CVM_DONE && after.state == CVM_FREE && after.made == before.made && after.left == before.left);
+    for (size_t i = MUTATORS; i < SEATS; i++) { /* its control has not ended, so its helpers have not */
+        MUST(cvm_work(&seats[i], 1) != CVM_ENDED);
+    }
     see(seats, round, false);
     MUST(call(seats, 1, CVM_PIN, 2, LIST, 0, 0, CVM_AT).number == address);
     call(seats, 1, CVM_UNPIN, 2, 0, 0, 0, CVM_OK);
