@@ -1,5 +1,5 @@
 -- A heap on one thread that begins from words in which objects were placed under new names.
-use Rattle.std.proofs.Common.{◌≡◌, ℕ, List, refl, sym, subst}
+use Rattle.std.proofs.Common.{◌≡◌, ℕ, List, sym, subst}
 use Rattle.heap_words.specs.declared.config.Config.{Config}
 use Rattle.shen_graph.specs.Graph.{Graph}
 use Rattle.shen_graph.specs.GraphText.{Text, names_of}
@@ -17,6 +17,7 @@ use Rattle.graph_renewal.specs.Renaming.{AreOfThreads, AreCountsOf}
 use Rattle.graph_renewal.specs.Renewed.{HoldsNothing}
 use Rattle.graph_renewal.proofs.SameGraphs.{same_anew}
 use Rattle.graph_renewal.proofs.ShownRenewable.{renewable_anew}
+use Rattle.heap_reopening.proofs.Placed.{text_unpinned}
 use Rattle.heap_renewal.specs.RenewedHeap.{BeginsAnew}
 
 module _ (c : Config) (t : Text) (whole : IsPlaceable c t) (threads : AreOfThreads c.mutators (names_of t)) (g : Graph) (shows : ShowsGraph t c.mutators g) (counts : List ℕ) (are : AreCountsOf (names_of t) c.mutators counts) where
@@ -35,6 +36,6 @@ module _ (c : Config) (t : Text) (whole : IsPlaceable c t) (threads : AreOfThrea
             (begins h (subst (λ (d : Config). CanBeginFrom d (images.memory_of image) counts h) (sym same) can_now));
         names = name_anew (names_of t);
         same = same_anew c t whole threads counts are g shows;
-        no_pins = λ thread slot. refl;
+        no_pins = text_unpinned (text_anew t) counts;
         renewable = renewable_anew c t whole threads counts;
       }

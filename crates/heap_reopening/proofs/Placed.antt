@@ -1,8 +1,9 @@
 -- A heap can begin from words in which objects were placed under new names.
-use Rattle.std.proofs.Common.{◌≡◌, ℕ, ◌+◌, suc, List, refl, ap, ◌∙◌, arith}
+use Rattle.std.proofs.Common.{◌≡◌, ℕ, ◌+◌, suc, List, None, refl, ap, ◌∙◌, arith}
 use Rattle.heap_words.specs.declared.config.Config.{Config}
 use Rattle.heap_words.specs.Words.{Word, Pause, State}
 use Rattle.shen_graph.specs.GraphText.{Text}
+use Rattle.shen_graph.specs.PlainGraph.{graph_of}
 use Rattle.heap_world.specs.Asking.{nothing}
 use Rattle.heap_world.specs.Represents.{Represents}
 use Rattle.heap_machines.specs.FromImage.{CanBeginFrom}
@@ -10,6 +11,11 @@ use Rattle.graph_placing.specs.PlacedHeap.{IsPlaced}
 use Rattle.graph_placing.specs.TextGraph.{text_graph}
 use Rattle.graph_renewal.specs.NamesAnew.{text_anew}
 use Rattle.graph_renewal.proofs.SameGraphs.{text_count}
+
+-- in the graph of a text nothing is pinned
+pub text_unpinned : (t : Text) (counts : List ℕ) (thread slot : ℕ) → (text_graph t counts).pin thread slot ≡ None
+unfolding graph_of
+text_unpinned t counts thread slot = refl
 
 pub placed_can_begin : (c : Config) (t : Text) (counts : List ℕ) (memory : Word → ℕ) → IsPlaced c (text_anew t) memory → Represents c memory (text_graph (text_anew t) counts) (λ m. nothing)
     → CanBeginFrom c memory counts (text_graph (text_anew t) counts)

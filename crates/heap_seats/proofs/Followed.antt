@@ -29,7 +29,7 @@ use Rattle.graph_renewal.proofs.PinsShown.{nothing_pinned}
 use Rattle.graph_renewal.proofs.SameGraphs.{same_anew}
 use Rattle.graph_renewal.proofs.ShownRenewable.{renewable_anew}
 use Rattle.heap_reopening.specs.Reopened.{words_reopened, AreMadeBy}
-use Rattle.heap_reopening.proofs.Placed.{placed_can_begin}
+use Rattle.heap_reopening.proofs.Placed.{text_unpinned, placed_can_begin}
 use Rattle.heap_reopening.proofs.Rested.{can_begin_again}
 use Rattle.heap_seats.specs.declared.renewing.Renewal.{Renewal}
 use Rattle.heap_seats.specs.declared.renewing.Renewal.TheVariants.{Renewed, Pinned, TooSmall, NoMemory}
@@ -98,7 +98,7 @@ module _ (c : Config) (image : Image) (sizes : images.config_of image ≡ c) (co
       graphs = λ g shows. record {
         graph = text_graph (text_anew t) counts;
         begins = image_begins (text_graph (text_anew t) counts) new_can;
-        becomes = record { unpinned = nothing_pinned t c.mutators g shows whole.threads none; names = name_anew (names_of t); same = same_anew c t whole threads counts are g shows; no_pins = λ thread slot. refl };
+        becomes = record { unpinned = nothing_pinned t c.mutators g shows whole.threads none; names = name_anew (names_of t); same = same_anew c t whole threads counts are g shows; no_pins = text_unpinned (text_anew t) counts };
       };
     }
 
