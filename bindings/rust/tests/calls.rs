@@ -240,6 +240,7 @@ fn heaps_are_renewed() -> Result<(), Error> {
         }
         assert_eq!(seats.renew()?, Renewal::Renewed);
         assert_eq!(name_of(answer(&mut seats, Command::Get { dst: 2, src: 0, field: 3 })?), (1, 1));
+        answer(&mut seats, Command::Drop { dst: 2 })?;
         assert_eq!(answer(&mut seats, Command::Rd { obj: 1, index: 0 })?, Reply::Number(round));
     }
     seats.mutators[1].begin(Command::Gc)?;
