@@ -1,5 +1,5 @@
 -- Seats that are given up together for a renewal, and what is answered then.
-use Rattle.std.proofs.Common.{◌≡◌, ◌≢◌, ◌<◌, ◌≤◌, ◌⊎◌, inl, inr, ℕ, zero, suc, Bool, true, false, List, [], ◌∷◌, ◌++◌, length, Option, Some, None, append-nil, append_assoc, refl, sym, ap, ◌∙◌, subst, arith}
+use Rattle.std.proofs.Common.{◌≡◌, ◌≢◌, inl, inr, ℕ, Bool, true, false, List, [], ◌∷◌, ◌++◌, length, Option, Some, None, refl, sym, ap, ◌∙◌, arith}
 use Rattle.std.specs.Prelude.{slice_get, IfSome, ◌==◌}
 use Rattle.std.proofs.lemmas.Bool.Decides.{nat_tests}
 use Rattle.std.proofs.lemmas.Option.{slice_get_within}
@@ -24,9 +24,6 @@ given_first s closing given heap = record { given = given; first = s; there = re
 
 pub given_more : (before : List Seat) (s : Seat) (old new : Closing) → AreGivenAs before old → AreGivenUp (before ++ s ∷ []) new → heap_closing new ≡ heap_closing old → AreGivenAs (before ++ s ∷ []) new
 given_more before s old new was given heap = record { given = given; first = was.first; there = get_init before (s ∷ []) 0 was.first was.there; heap = was.heap ∙ sym heap }
-
-pub given_none : (before : List Seat) (closing : Option Closing) → AreGivenIn before closing → AreGivenIn (before ++ []) closing
-given_none before closing given = subst (λ (xs : List Seat). AreGivenIn xs closing) (sym (append-nil before)) given
 
 next_there : (before rest : List Seat) (s : Seat) → slice_get (before ++ s ∷ rest) (length before) ≡ Some s
 next_there [] rest s = refl
