@@ -27,7 +27,8 @@
  * was answered is its thread's part of a legal history: one order of the calls of all threads, in which each is
  * answered as by a graph of objects that are never moved and never freed. Where cvm_close_all gives up the seats that
  * one cvm_open gave, it is one history for all of them, in which each call stands once; and cvm_renew goes on with the
- * graph after that history (docs/LIBRARY.md says by which contracts). The inline functions, the file library/workers.c, and the wrappers for other languages are not proved.
+ * graph after that history (docs/LIBRARY.md says by which contracts). The inline functions, the file library/workers.c,
+ * and the wrappers for other languages are not proved.
  * Nothing is claimed about time, progress or fairness.
  *
  * WHAT IS BELIEVED AT THE BORDER. The proved functions check all that they can see: an empty seat, a seat of the
