@@ -8,14 +8,12 @@ ghost use Rattle.alloc_buffers.specs.Seen.{IsFit};
 
 use heap_words::{Access, Config, Place, Took, buffer, end_of, filler, next_of};
 use regions::{all_but, base, is_in, lowest, size};
-use std::fmt;
-use std::fmt::{Debug, Formatter, Write};
 
 /// The words of a buffer, where the shared region has so many left.
 const BUFFER_WORDS: u64 = 64;
 
 /// What the room is for.
-#[derive(Clone, Copy, Debug)]
+#[derive(Clone, Copy)]
 pub enum Kind {
     /// For a new object: it leaves the reserve of free regions to copies.
     Fresh,
@@ -24,7 +22,7 @@ pub enum Kind {
 }
 
 /// What came of it.
-#[derive(Clone, Copy, Debug, PartialEq, Eq)]
+#[derive(Clone, Copy, PartialEq, Eq)]
 pub enum Taken {
     /// The room begins at this address, in words. That nobody else has it is a theorem of the machines together.
     At(u64),
@@ -280,13 +278,6 @@ impl TakeSpot {
             (_, TakeSpot::Ended { .. }) => Took::Done,
             _ => Took::More,
         }
-    }
-}
-
-/// Written as the place of its next access.
-impl Debug for TakeSpot {
-    fn fmt<W: Write>(&self, f: &mut Formatter<W>) -> fmt::Result {
-        self.place().fmt(f)
     }
 }
 

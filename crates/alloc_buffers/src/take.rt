@@ -6,7 +6,7 @@ use crate::spot::{Kind, TakeSpot, Taken};
 use heap_words::{Access, Config, Place, Took};
 
 /// A machine that takes room of so many words for one object, in steps of one access.
-#[derive(Debug, Drop)]
+#[derive(Drop)]
 pub struct Take {
     config: Config,
     seat: usize,

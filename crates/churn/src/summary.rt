@@ -6,7 +6,7 @@ ghost use Rattle.churn.specs.Summary.{summary_of, all_replies, number_summed, ro
 use shen_graph::{GraphText, Reply, Work};
 
 /// What is told of a run of the workload.
-#[derive(Clone, Copy, Debug, PartialEq, Eq)]
+#[derive(Clone, Copy, PartialEq, Eq)]
 pub struct Summary {
     /// The number that the run was made from.
     pub seed: u64,

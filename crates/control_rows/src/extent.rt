@@ -29,7 +29,7 @@ const ROOM: u32 = 1;
 const OUT_OF_ROOM: u32 = 63;
 
 /// How much of the image a pause loads and stores. It stores besides the headers of free words that only fill from then on.
-#[derive(Clone, Copy, Debug, PartialEq, Eq)]
+#[derive(Clone, Copy)]
 pub enum Extent {
     /// All of it.
     Whole,

@@ -11,8 +11,6 @@ use crate::extent::{Extent, first_extent, image_words};
 use handshake::{StopSpot, go_access};
 use heap_words::{Access, Config, Place, Took, Unit};
 use regions::size;
-use std::fmt;
-use std::fmt::{Debug, Formatter, Write};
 use unit_part::UnitSpot;
 
 // The bits of what is asked for: a cycle, and room for an object.
@@ -24,7 +22,7 @@ const ROOM: u32 = 1;
 const IDLE: u64 = 0;
 
 /// What stood in the image at the end of the control's last pause.
-#[derive(Clone, Copy, Debug)]
+#[derive(Clone, Copy)]
 pub struct LastPause {
     /// The phase.
     pub phase: u64,
@@ -227,13 +225,6 @@ impl ControlSpot {
             ControlSpot::Go => (ControlSpot::LookLeft, Took::More),
             ControlSpot::StoreEnd | ControlSpot::Gone => (ControlSpot::Gone, Took::More),
         }
-    }
-}
-
-/// Written as the place of its next access.
-impl Debug for ControlSpot {
-    fn fmt<W: Write>(&self, f: &mut Formatter<W>) -> fmt::Result {
-        self.place().fmt(f)
     }
 }
 

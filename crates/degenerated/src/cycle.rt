@@ -19,7 +19,7 @@ use regions::is_in;
 use update_refs::end_updating;
 
 /// How finishing a cycle has ended.
-#[derive(Clone, Copy, Debug, PartialEq, Eq)]
+#[derive(Clone, Copy)]
 pub enum Finished {
     /// Each object that was left was copied out, and each request served.
     Whole,

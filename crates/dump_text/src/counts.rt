@@ -5,7 +5,7 @@ use std::alloc::Global;
 use std::marker::Model;
 
 /// How many objects each thread made, that of thread 1 first. Contracts see it as a list of numbers.
-#[derive(Debug, Drop)]
+#[derive(Drop)]
 pub struct Counts {
     counts: Vec<u32>,
 }

@@ -14,7 +14,7 @@ const ROOTS: usize = Command::ROOTS as usize;
 
 /// A heap written down: the sizes of the heap, how many objects each thread made, and the objects that the roots lead to, in the
 /// order of names, with the roots of each thread.
-#[derive(Debug, Drop)]
+#[derive(Drop)]
 pub struct Dump {
     /// The sizes of the heap, and how many machines work on it.
     pub config: Config,

@@ -6,7 +6,7 @@ use crate::spot::RoomSpot;
 use heap_words::{Access, Config, Place, Took};
 
 /// A copier that asks to copy. Each step is one access of the word that counts the copiers.
-#[derive(Debug, Drop)]
+#[derive(Drop)]
 pub struct EnterEvac {
     config: Config,
     spot: RoomSpot,

@@ -5,7 +5,7 @@ use crate::spot::RoomSpot;
 use heap_words::{Access, Config, Place, Took};
 
 /// A copier that has copied, and takes itself off the counter in one step.
-#[derive(Debug, Drop)]
+#[derive(Drop)]
 pub struct LeaveEvac {
     config: Config,
     spot: RoomSpot,

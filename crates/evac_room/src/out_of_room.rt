@@ -6,7 +6,7 @@ use crate::spot::RoomSpot;
 use heap_words::{Access, Config, Place, Took};
 
 /// A copier that found no room: it sets bit 63 of the counter and takes itself off, and waits until nobody copies.
-#[derive(Debug, Drop)]
+#[derive(Drop)]
 pub struct OutOfRoom {
     config: Config,
     spot: RoomSpot,

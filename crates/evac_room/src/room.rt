@@ -1,5 +1,5 @@
 /// What a copier may do once its call has ended.
-#[derive(Clone, Copy, Debug)]
+#[derive(Clone, Copy)]
 pub enum Room {
     /// It is counted, and may copy.
     Inside,

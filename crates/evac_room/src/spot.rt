@@ -6,8 +6,6 @@ ghost use Rattle.evac_room.specs.Rows as rows;
 
 use crate::counter::{count_of, is_out_of_room, marked};
 use heap_words::{Access, Config, Place, Took};
-use std::fmt;
-use std::fmt::{Debug, Formatter, Write};
 
 /// Where a copier stands between two accesses of the word that counts the copiers.
 #[derive(Clone, Copy)]
@@ -125,12 +123,5 @@ impl RoomSpot {
             RoomSpot::Wait if count_of(got) > 0 => Took::Again,
             _ => Took::Done,
         }
-    }
-}
-
-/// Written as the place of its next access.
-impl Debug for RoomSpot {
-    fn fmt<W: Write>(&self, f: &mut Formatter<W>) -> fmt::Result {
-        self.place().fmt(f)
     }
 }

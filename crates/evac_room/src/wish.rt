@@ -10,7 +10,7 @@ pub enum Wish {
 }
 
 /// What a copier says of its step.
-#[derive(Clone, Copy, Debug, PartialEq, Eq)]
+#[derive(Clone, Copy)]
 pub enum Copying {
     /// It has more to do.
     More,

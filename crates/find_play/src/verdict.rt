@@ -10,7 +10,7 @@ use shen_graph::{GraphText, History};
 use std::alloc::Global;
 
 /// How a run ended.
-#[derive(Clone, Copy, Debug, PartialEq, Eq)]
+#[derive(Clone, Copy)]
 pub enum Verdict {
     /// All assertions hold.
     Holds,

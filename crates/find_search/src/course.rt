@@ -17,7 +17,7 @@ pub const SEATS: usize = 12;
 const MOST_MADE: u32 = 4_000_000_000;
 
 /// Whether a machine has found nothing to do.
-#[derive(Clone, Copy, Debug, PartialEq, Eq)]
+#[derive(Clone, Copy, PartialEq, Eq)]
 enum Halt {
     /// It goes on.
     Awake,
@@ -449,7 +449,7 @@ impl Course {
 }
 
 /// How a run of a test ended.
-#[derive(Clone, Copy, Debug)]
+#[derive(Clone, Copy)]
 pub struct Ending {
     /// The verdict on it.
     pub verdict: Verdict,

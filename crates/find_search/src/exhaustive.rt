@@ -12,7 +12,7 @@ use std::alloc::Global;
 use std::collections::HashMap;
 
 /// How to search.
-#[derive(Clone, Copy, Debug)]
+#[derive(Clone, Copy)]
 pub struct Plan {
     /// Whether helpers and the control take part everywhere, and not only where a thread waits.
     pub everywhere: bool,

@@ -9,7 +9,7 @@ use trace_reading::{TraceFault, trace_of};
 use trace_runs::{Refusal, noted_answer_to};
 
 /// What is said of a trace.
-#[derive(Clone, Copy, Debug, PartialEq, Eq)]
+#[derive(Clone, Copy)]
 pub enum Judged {
     /// Its replay comes to its end, and this is the verdict of the test on it.
     Verdict(Verdict),

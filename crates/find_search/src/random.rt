@@ -11,7 +11,7 @@ use heap_words::NoMemory;
 use std::alloc::Global;
 
 /// How schedules are drawn.
-#[derive(Clone, Copy, Debug, PartialEq, Eq)]
+#[derive(Clone, Copy)]
 pub enum Draw {
     /// Each step is one of any machine that may go, each as likely as another.
     Uniform,

@@ -4,7 +4,7 @@ use heap_words::NoMemory;
 use std::alloc::Global;
 
 /// A machine whose turn a step is, where another would have been the usual one.
-#[derive(Clone, Copy, Debug)]
+#[derive(Clone, Copy)]
 pub(crate) struct Turn {
     /// The step, counted from 0.
     pub step: u64,
@@ -12,7 +12,7 @@ pub(crate) struct Turn {
     pub number: usize,
 }
 
-#[derive(Clone, Copy, Debug)]
+#[derive(Clone, Copy)]
 struct Branch {
     // The schedule from which this one departs; None for the first.
     parent: Option<usize>,

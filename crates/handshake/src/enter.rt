@@ -4,7 +4,7 @@ use crate::enter_spot::EnterSpot;
 use heap_words::{Access, Config, Place, Took};
 
 /// A mutator or helper that enters the heap, in steps of one access.
-#[derive(Debug, Drop)]
+#[derive(Drop)]
 pub struct Enter {
     config: Config,
     seat: usize,

@@ -6,8 +6,6 @@ ghost use Rattle.handshake.specs.Rows as rows;
 
 use crate::values::{IN, OUT, UNWANTED};
 use heap_words::{Access, Config, Place, Took};
-use std::fmt;
-use std::fmt::{Debug, Formatter, Write};
 
 /// Where a mutator or a helper stands that enters the heap.
 #[derive(Clone, Copy)]
@@ -94,12 +92,5 @@ impl EnterSpot {
             EnterSpot::Inside => Took::Done,
             _ => Took::More,
         }
-    }
-}
-
-/// Written as the place of its next access.
-impl Debug for EnterSpot {
-    fn fmt<W: Write>(&self, f: &mut Formatter<W>) -> fmt::Result {
-        self.place().fmt(f)
     }
 }

@@ -4,7 +4,7 @@ use crate::out::go_access;
 use heap_words::{Access, Config, Place, Took};
 
 /// The control that ends a pause, in one step.
-#[derive(Debug, Drop)]
+#[derive(Drop)]
 pub struct Go {
     config: Config,
     is_done: bool,

@@ -4,7 +4,7 @@ use crate::out::leave_access;
 use heap_words::{Access, Config, Place, Took};
 
 /// A mutator or helper that leaves the heap, in one step.
-#[derive(Debug, Drop)]
+#[derive(Drop)]
 pub struct Leave {
     config: Config,
     seat: usize,

@@ -6,7 +6,7 @@ use crate::stop_spot::StopSpot;
 use heap_words::{Access, Config, Place, Took};
 
 /// The control that stops all mutators and helpers for a pause, in steps of one access.
-#[derive(Debug, Drop)]
+#[derive(Drop)]
 pub struct Stop {
     config: Config,
     spot: StopSpot,

@@ -7,8 +7,6 @@ ghost use Rattle.handshake.specs.Rows as rows;
 
 use crate::values::{OUT, WANTED};
 use heap_words::{Access, Config, Place, Took};
-use std::fmt;
-use std::fmt::{Debug, Formatter, Write};
 
 /// Where the control stands that stops the mutators and helpers for a pause.
 #[derive(Clone, Copy)]
@@ -87,13 +85,6 @@ impl StopSpot {
             StopSpot::Stopped => Took::Done,
             _ => Took::More,
         }
-    }
-}
-
-/// Written as the place of its next access.
-impl Debug for StopSpot {
-    fn fmt<W: Write>(&self, f: &mut Formatter<W>) -> fmt::Result {
-        self.place().fmt(f)
     }
 }
 

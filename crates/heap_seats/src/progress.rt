@@ -1,7 +1,7 @@
 use shen_graph::Reply;
 
 /// What a seat answers that was asked for steps.
-#[derive(Clone, Copy, Debug, PartialEq, Eq)]
+#[derive(Clone, Copy)]
 pub enum Progress {
     /// The steps are made, and there is more to do.
     More,
@@ -16,7 +16,7 @@ pub enum Progress {
 }
 
 /// Why a seat takes no order. Nothing has changed then.
-#[derive(Clone, Copy, Debug, PartialEq, Eq)]
+#[derive(Clone, Copy)]
 pub enum Refused {
     /// It has ended.
     Ended,
@@ -29,7 +29,7 @@ pub enum Refused {
 }
 
 /// Whether a seat may be given an order.
-#[derive(Clone, Copy, Debug, PartialEq, Eq)]
+#[derive(Clone, Copy)]
 pub enum State {
     /// A mutator between two calls, to which nothing is ordered.
     Free,

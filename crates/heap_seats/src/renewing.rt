@@ -25,7 +25,7 @@ use std::alloc::Global;
 use table_heap::{Bundle, Closed};
 
 /// What came of the renewal of a heap. It goes on in each case.
-#[derive(Clone, Copy, Debug, PartialEq, Eq)]
+#[derive(Clone, Copy)]
 pub enum Renewal {
     /// Its objects have new names, counted from 1 for each thread.
     Renewed,

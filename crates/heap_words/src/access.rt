@@ -150,7 +150,7 @@ impl Debug for Access {
 }
 
 /// What a machine says after a step.
-#[derive(Clone, Copy, Debug, PartialEq, Eq)]
+#[derive(Clone, Copy, PartialEq, Eq)]
 pub enum Took {
     /// It has more to do.
     More,
@@ -161,7 +161,7 @@ pub enum Took {
 }
 
 /// What a machine that does units of a phase's work says at the end of one.
-#[derive(Clone, Copy, Debug, PartialEq, Eq)]
+#[derive(Clone, Copy, PartialEq, Eq)]
 pub enum Unit {
     /// It has done a unit.
     Worked,

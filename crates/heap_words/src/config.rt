@@ -19,7 +19,7 @@ pub enum BadConfig {
 }
 
 /// The sizes of a heap and of the set of machines that work on it. Every value is in range.
-#[derive(Clone, Copy, Debug, PartialEq, Eq)]
+#[derive(Clone, Copy)]
 pub struct Config {
     /// Regions of the heap.
     pub regions: usize,

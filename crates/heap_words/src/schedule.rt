@@ -10,7 +10,7 @@ pub struct NoMemory;
 
 /// A piece of a schedule. `number` is that of a machine, counted from 0: the mutators, the helpers,
 /// the control.
-#[derive(Clone, Copy, Debug)]
+#[derive(Clone, Copy)]
 pub enum Item {
     /// The machine makes `count` steps, or fewer if it becomes idle.
     Steps {

@@ -5,7 +5,7 @@ use crate::spot::HelpSpot;
 use heap_words::{Access, Config, Place, Took};
 
 /// A helper: it goes through rounds, each in steps of one access. In a round it works on one unit of the phase, if there is one.
-#[derive(Debug, Drop)]
+#[derive(Drop)]
 pub struct Helper {
     config: Config,
     seat: usize,

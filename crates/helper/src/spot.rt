@@ -8,8 +8,6 @@ ghost use Rattle.helper.specs.Waits.{waits_at};
 
 use handshake::{EnterSpot, leave_access};
 use heap_words::{Access, Config, Place, Took, Unit};
-use std::fmt;
-use std::fmt::{Debug, Formatter, Write};
 use unit_part::UnitSpot;
 
 // The phase in which there is no work for a helper.
@@ -172,13 +170,6 @@ impl HelpSpot {
             HelpSpot::Leave => (HelpSpot::LoadEnd, Took::More),
             HelpSpot::Gone => (HelpSpot::Gone, Took::More),
         }
-    }
-}
-
-/// Written as the place of its next access.
-impl Debug for HelpSpot {
-    fn fmt<W: Write>(&self, f: &mut Formatter<W>) -> fmt::Result {
-        self.place().fmt(f)
     }
 }
 

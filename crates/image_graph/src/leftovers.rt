@@ -20,7 +20,7 @@ fn is_filler(header: u64) -> bool
 }
 
 /// Which objects are left over.
-#[derive(Clone, Copy, Debug, PartialEq, Eq)]
+#[derive(Clone, Copy)]
 pub enum Leftover {
     /// Those that have moved.
     Moved,

@@ -8,8 +8,6 @@ ghost use Rattle.load_barrier.specs.Fit.{copy_ready};
 
 use crate::spot::ResolveSpot;
 use heap_words::{Access, Config, Place, buffer, forwardee, header_to};
-use std::fmt;
-use std::fmt::{Debug, Formatter, Write};
 
 // The header of an object that is its own current copy.
 const PLAIN_HEADER: u64 = 1;
@@ -121,12 +119,5 @@ impl CopySpot {
             CopySpot::GiveBack { answer } => return ResolveSpot::Leaving { answer },
         };
         ResolveSpot::Copying { copy, end, at }
-    }
-}
-
-/// Written as the place of its next access.
-impl Debug for CopySpot {
-    fn fmt<W: Write>(&self, f: &mut Formatter<W>) -> fmt::Result {
-        self.place().fmt(f)
     }
 }

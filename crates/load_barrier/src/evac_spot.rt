@@ -12,8 +12,6 @@ use crate::set::{COPY, lies_in_set};
 use crate::spot::ResolveSpot;
 use heap_words::{Access, Config, Place, Took, Unit, filler_words, words_of};
 use regions::{base, is_in, is_marked_in, mark_word};
-use std::fmt;
-use std::fmt::{Debug, Formatter, Write};
 
 /// Where a machine stands that claims a unit of evacuation, a region, and copies what is marked there.
 #[derive(Clone, Copy)]
@@ -171,13 +169,6 @@ impl EvacSpot {
             }
             EvacSpot::Ended { .. } => led(self),
         }
-    }
-}
-
-/// Written as the place of its next access.
-impl Debug for EvacSpot {
-    fn fmt<W: Write>(&self, f: &mut Formatter<W>) -> fmt::Result {
-        self.place().fmt(f)
     }
 }
 

@@ -6,7 +6,7 @@ use crate::evac_spot::EvacSpot;
 use heap_words::{Access, Config, Place, Took, Unit};
 
 /// A machine that claims a unit of evacuation and copies what is marked there, in steps of one access.
-#[derive(Debug, Drop)]
+#[derive(Drop)]
 pub struct EvacUnit {
     config: Config,
     seat: usize,

@@ -7,7 +7,7 @@ use crate::spot::ResolveSpot;
 use heap_words::{Access, Config, Place, Took};
 
 /// A machine that resolves an address of the collection set, in steps of one access.
-#[derive(Debug, Drop)]
+#[derive(Drop)]
 pub struct Resolve {
     config: Config,
     seat: usize,

@@ -11,8 +11,6 @@ use crate::copying::CopySpot;
 use alloc_buffers::{Kind, TakeSpot, Taken};
 use evac_room::RoomSpot;
 use heap_words::{Access, Config, Place, Took, forwarded, forwardee, words_of};
-use std::fmt;
-use std::fmt::{Debug, Formatter, Write};
 
 // The phase in which references are updated, and objects are copied no more.
 const UPDATE: u64 = 3;
@@ -145,13 +143,6 @@ impl ResolveSpot {
             }),
             ResolveSpot::Resolved { .. } => led(self),
         }
-    }
-}
-
-/// Written as the place of its next access.
-impl Debug for ResolveSpot {
-    fn fmt<W: Write>(&self, f: &mut Formatter<W>) -> fmt::Result {
-        self.place().fmt(f)
     }
 }
 

@@ -73,7 +73,7 @@ impl Choice {
 }
 
 /// An operation in its course.
-#[derive(Clone, Copy, Debug, PartialEq, Eq)]
+#[derive(Clone, Copy)]
 pub struct Course {
     /// Which operation it is.
     pub choice: Choice,
@@ -111,7 +111,7 @@ impl Course {
 }
 
 /// A put into the queue, by a thread that has joined: root 1 names the anchor, and root 7 is null. Uses roots 3, 4 and 5.
-#[derive(Debug, Drop)]
+#[derive(Drop)]
 pub struct Put {
     course: Course,
 }
@@ -160,7 +160,7 @@ impl Put {
 }
 
 /// A take from the queue, by a thread that has joined: root 1 names the anchor. Uses roots 4, 5 and 6.
-#[derive(Debug, Drop)]
+#[derive(Drop)]
 pub struct Take {
     course: Course,
 }

@@ -9,7 +9,7 @@ use crate::operation::{Choice, QueueReply};
 use shen_graph::{Command, Reply};
 
 /// Where a user of the queue stands: what it does next. The number is that of its `Put`, or the one that its `Take` read.
-#[derive(Clone, Copy, Debug, PartialEq, Eq)]
+#[derive(Clone, Copy)]
 pub enum Spot {
     /// The set-up: makes the anchor.
     MakesAnchor,

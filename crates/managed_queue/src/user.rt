@@ -12,7 +12,7 @@ use shen_graph::{Command, Driver, Reply};
 use std::marker::Model;
 
 /// What a user has left to do.
-#[derive(Clone, Copy, Debug, PartialEq, Eq)]
+#[derive(Clone, Copy)]
 pub enum Plan {
     /// So many puts, of `next`, `next + 1` and so on.
     Puts { next: u64, left: u64 },
@@ -51,7 +51,7 @@ impl Plan {
 }
 
 /// A thread that sets the queue up or joins it, and then puts numbers or takes some.
-#[derive(Debug, Drop)]
+#[derive(Drop)]
 pub struct User {
     spot: Spot,
     plan: Plan,

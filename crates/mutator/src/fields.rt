@@ -10,8 +10,6 @@ use crate::resolves::Loaded;
 use crate::spot::Spot;
 use heap_words::{Access, Config, Place, Took};
 use shen_graph::{Command, Reply};
-use std::fmt;
-use std::fmt::{Debug, Formatter, Write};
 
 /// What a call does to the reference field that its command is about.
 #[derive(Clone, Copy)]
@@ -127,13 +125,6 @@ impl FieldSpot {
             FieldSpot::Exchange { found, .. } if got != found => Took::Again,
             _ => Took::More,
         }
-    }
-}
-
-/// Written as the place of its next access.
-impl Debug for FieldSpot {
-    fn fmt<W: Write>(&self, f: &mut Formatter<W>) -> fmt::Result {
-        self.place().fmt(f)
     }
 }
 

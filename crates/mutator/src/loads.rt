@@ -12,8 +12,6 @@ use crate::spot::Spot;
 use alloc_buffers::TakeSpot;
 use heap_words::{Access, Config, Place, refs_of};
 use shen_graph::{Command, Reply};
-use std::fmt;
-use std::fmt::{Debug, Formatter, Write};
 
 /// Where a call stands that loads the roots of its command, and the shape of its object.
 #[derive(Clone, Copy)]
@@ -82,13 +80,6 @@ impl LoadSpot {
                 third,
             } => after_shape(phase, command, object, second, third, got),
         }
-    }
-}
-
-/// Written as the place of its next access.
-impl Debug for LoadSpot {
-    fn fmt<W: Write>(&self, f: &mut Formatter<W>) -> fmt::Result {
-        self.place().fmt(f)
     }
 }
 

@@ -12,8 +12,6 @@ use crate::waits::WaitSpot;
 use alloc_buffers::{Kind, TakeSpot, Taken};
 use heap_words::{Access, Config, Place, Took, name_word, shape_of};
 use shen_graph::{Command, Name, Reply};
-use std::fmt;
-use std::fmt::{Debug, Formatter, Write};
 
 /// Where a call stands that makes an object.
 #[derive(Clone, Copy)]
@@ -119,13 +117,6 @@ impl MakeSpot {
             MakeSpot::StoreRoot { .. } => made + 1,
             _ => made,
         }
-    }
-}
-
-/// Written as the place of its next access.
-impl Debug for MakeSpot {
-    fn fmt<W: Write>(&self, f: &mut Formatter<W>) -> fmt::Result {
-        self.place().fmt(f)
     }
 }
 

@@ -7,8 +7,6 @@ use crate::commands::{index_of, number_of};
 use crate::spot::Spot;
 use heap_words::{Access, Config, Place};
 use shen_graph::{Command, Reply};
-use std::fmt;
-use std::fmt::{Debug, Formatter, Write};
 
 /// What a call does to the number that its command is about.
 #[derive(Clone, Copy)]
@@ -55,12 +53,5 @@ impl NumberSpot {
             NumberSpot::Store => Reply::Ok,
         };
         Spot::Leave { reply }
-    }
-}
-
-/// Written as the place of its next access.
-impl Debug for NumberSpot {
-    fn fmt<W: Write>(&self, f: &mut Formatter<W>) -> fmt::Result {
-        self.place().fmt(f)
     }
 }

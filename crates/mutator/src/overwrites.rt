@@ -6,8 +6,6 @@ use crate::shows::after_field;
 use crate::spot::Spot;
 use satb_barrier::RememberSpot;
 use shen_graph::Reply;
-use std::fmt;
-use std::fmt::{Debug, Formatter, Write};
 
 /// Whether a reference that is overwritten in a phase has to be recorded: objects are marked, and it is not null.
 pub(crate) fn is_to_record(phase: u64, found: u64) -> bool
@@ -82,16 +80,5 @@ impl Overwritten {
             Overwritten::Xchg => after_field(found),
             Overwritten::Cas => Spot::Leave { reply: Reply::Yes },
         }
-    }
-}
-
-/// Written as what it does then.
-impl Debug for Overwritten {
-    fn fmt<W: Write>(&self, f: &mut Formatter<W>) -> fmt::Result {
-        f.write_str(match self {
-            Overwritten::Set { .. } => "Set",
-            Overwritten::Xchg => "Xchg",
-            Overwritten::Cas => "Cas",
-        })
     }
 }

@@ -8,8 +8,6 @@ use crate::commands::{fits_slot, slot_of};
 use crate::spot::Spot;
 use heap_words::{Access, Config, Place};
 use shen_graph::{Command, Reply};
-use std::fmt;
-use std::fmt::{Debug, Formatter, Write};
 
 /// What a call does to the pin slot that its command is about.
 #[derive(Clone, Copy)]
@@ -59,13 +57,6 @@ impl PinSpot {
                 reply: pin_reply(command, value),
             },
         }
-    }
-}
-
-/// Written as the place of its next access.
-impl Debug for PinSpot {
-    fn fmt<W: Write>(&self, f: &mut Formatter<W>) -> fmt::Result {
-        self.place().fmt(f)
     }
 }
 

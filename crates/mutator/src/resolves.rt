@@ -8,8 +8,6 @@ use crate::spot::Spot;
 use heap_words::Config;
 use load_barrier::{ResolveSpot, must_resolve};
 use shen_graph::Reply;
-use std::fmt;
-use std::fmt::{Debug, Formatter, Write};
 
 /// What a mutator does with the reference that it has found in a field, once that is resolved.
 #[derive(Clone, Copy)]
@@ -71,16 +69,6 @@ impl Loaded {
                 value,
             } => after_expected(object, expect, value, found, answer),
         }
-    }
-}
-
-/// Written as what it does then.
-impl Debug for Loaded {
-    fn fmt<W: Write>(&self, f: &mut Formatter<W>) -> fmt::Result {
-        f.write_str(match self {
-            Loaded::ForRoot => "ForRoot",
-            Loaded::ToCompare { .. } => "ToCompare",
-        })
     }
 }
 

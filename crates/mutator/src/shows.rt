@@ -7,8 +7,6 @@ use crate::commands::dst_of;
 use crate::spot::Spot;
 use heap_words::{Access, Config, Place, count_of, thread_of};
 use shen_graph::{Command, Name, Reply};
-use std::fmt;
-use std::fmt::{Debug, Formatter, Write};
 
 /// Where a call stands that shows a reference which it has found, and stores it into the command's root.
 #[derive(Clone, Copy)]
@@ -63,13 +61,6 @@ impl ShowSpot {
             },
             ShowSpot::StoreRoot { reply } => Spot::Leave { reply },
         }
-    }
-}
-
-/// Written as the place of its next access.
-impl Debug for ShowSpot {
-    fn fmt<W: Write>(&self, f: &mut Formatter<W>) -> fmt::Result {
-        self.place().fmt(f)
     }
 }
 

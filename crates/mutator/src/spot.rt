@@ -16,11 +16,9 @@ use heap_words::{Place, Took};
 use load_barrier::ResolveSpot;
 use satb_barrier::RememberSpot;
 use shen_graph::{Command, Order, Reply};
-use std::fmt;
-use std::fmt::{Debug, Formatter, Write};
 
 /// What a call keeps of its start.
-#[derive(Clone, Copy, Debug)]
+#[derive(Clone, Copy)]
 pub struct Kept {
     /// Its command.
     pub command: Command,
@@ -31,7 +29,7 @@ pub struct Kept {
 }
 
 /// What a mutator does once it is inside.
-#[derive(Clone, Copy, Debug)]
+#[derive(Clone, Copy)]
 pub enum Entered {
     /// It begins a call.
     Call,
@@ -190,13 +188,6 @@ impl Spot {
             Spot::Leave { .. } => Place::LV,
             Spot::Gone => Place::ML,
         }
-    }
-}
-
-/// Written as the place of its next access; between two calls as with no order.
-impl Debug for Spot {
-    fn fmt<W: Write>(&self, f: &mut Formatter<W>) -> fmt::Result {
-        self.place(Order::Nothing).fmt(f)
     }
 }
 

@@ -17,7 +17,7 @@ use load_barrier::ResolveSpot;
 use shen_graph::{Command, Order, Reply};
 
 /// A mutator thread: it makes calls one after the other, each in steps of one access.
-#[derive(Debug, Drop)]
+#[derive(Drop)]
 pub struct Mutator {
     config: Config,
     mutator: usize,

@@ -10,8 +10,6 @@ use crate::spot::{Entered, Spot};
 use handshake::{EnterSpot, leave_access};
 use heap_words::{Access, Config, Place, Took, request_word, shape_of};
 use shen_graph::{Command, Reply};
-use std::fmt;
-use std::fmt::{Debug, Formatter, Write};
 
 /// Where a call stands that waits for its object: it found no room, and a pause makes the object for it, or answers that the
 /// heap is full.
@@ -132,13 +130,6 @@ impl WaitSpot {
             WaitSpot::Poll if got == 0 => Took::Again,
             _ => Took::More,
         }
-    }
-}
-
-/// Written as the place of its next access.
-impl Debug for WaitSpot {
-    fn fmt<W: Write>(&self, f: &mut Formatter<W>) -> fmt::Result {
-        self.place().fmt(f)
     }
 }
 

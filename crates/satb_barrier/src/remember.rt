@@ -6,7 +6,7 @@ use crate::spot::RememberSpot;
 use heap_words::{Access, Config, Place, Took};
 
 /// A mutator that records an address in its buffer, in steps of one access.
-#[derive(Debug, Drop)]
+#[derive(Drop)]
 pub struct Remember {
     config: Config,
     mutator: usize,

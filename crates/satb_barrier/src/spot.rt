@@ -6,8 +6,6 @@ ghost use Rattle.satb_barrier.specs.Rows as rows;
 
 use heap_words::{Access, Config, Place, Took};
 use regions::grey_access;
-use std::fmt;
-use std::fmt::{Debug, Formatter, Write};
 
 // The last entry of a buffer.
 const LAST_ENTRY: usize = 7;
@@ -142,12 +140,5 @@ impl RememberSpot {
             RememberSpot::StoreCount { .. } | RememberSpot::Recorded => Took::Done,
             _ => Took::More,
         }
-    }
-}
-
-/// Written as the place of its next access.
-impl Debug for RememberSpot {
-    fn fmt<W: Write>(&self, f: &mut Formatter<W>) -> fmt::Result {
-        self.place().fmt(f)
     }
 }

@@ -5,7 +5,7 @@ use crate::spot::ScanSpot;
 use heap_words::{Access, Config, Place, Took, Unit};
 
 /// A machine that claims a unit of marking and scans it, in steps of one access.
-#[derive(Debug, Drop)]
+#[derive(Drop)]
 pub struct ScanUnit {
     config: Config,
     spot: ScanSpot,

@@ -8,8 +8,6 @@ ghost use Rattle.scan_part.specs.Seen.{IsFit};
 
 use heap_words::{Access, Config, Place, Took, Unit, refs_of};
 use regions::{black_access, grey_access, is_marked_in, lowest_address, mark_word, mark_words};
-use std::fmt;
-use std::fmt::{Debug, Formatter, Write};
 
 /// Where a machine stands that claims a unit of marking and scans it.
 #[derive(Clone, Copy)]
@@ -211,13 +209,6 @@ impl ScanSpot {
             ScanSpot::Ended { .. } => Took::Done,
             _ => Took::More,
         }
-    }
-}
-
-/// Written as the place of its next access.
-impl Debug for ScanSpot {
-    fn fmt<W: Write>(&self, f: &mut Formatter<W>) -> fmt::Result {
-        self.place().fmt(f)
     }
 }
 

@@ -11,7 +11,7 @@ use crate::source::Source;
 use std::io::{Read, Write};
 
 /// A source over a reader of the standard library. Each of the reader's errors is one fault; no read is tried again.
-#[derive(Debug, Drop)]
+#[derive(Drop)]
 pub struct InSource<R: Read> {
     reader: R,
     // The errors and the calls so far, which stand still at `u64::MAX`.
@@ -73,7 +73,7 @@ impl<R: Read> Source for InSource<R> {
 /// takes nothing of a piece that is not empty; no write is tried again.
 ///
 /// Nothing flushes the writer, so it should be one that keeps nothing back, as `Stdout` is.
-#[derive(Debug, Drop)]
+#[derive(Drop)]
 pub struct OutSink<W: Write> {
     writer: W,
     // The faults and the calls so far, which stand still at `u64::MAX`.

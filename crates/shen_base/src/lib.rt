@@ -14,11 +14,11 @@ pub use sink::Sink;
 pub use source::Source;
 
 /// A read or a write did not take place, and the object that was asked counted a fault.
-#[derive(Clone, Copy, Debug, PartialEq, Eq)]
+#[derive(Clone, Copy, PartialEq, Eq)]
 pub enum Failed {
     Failed,
 }
 
 /// The allocator refused a request for memory.
-#[derive(Clone, Copy, Debug, PartialEq, Eq)]
+#[derive(Clone, Copy, Debug)]
 pub struct NoMemory;

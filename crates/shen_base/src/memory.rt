@@ -12,7 +12,7 @@ use std::alloc::Global;
 use std::marker::Model;
 
 // Bytes in memory of which some were given. Contracts see them as the list of the bytes left.
-#[derive(Debug, Drop)]
+#[derive(Drop)]
 struct Unread {
     bytes: Vec<u8>,
     // How many of the bytes were given.
@@ -52,7 +52,7 @@ impl Unread {
 }
 
 /// A source over bytes in memory that never fails. Contracts see it as a `Stock`.
-#[derive(Debug, Drop)]
+#[derive(Drop)]
 pub struct PlainSource {
     unread: Unread,
     calls: u64,
@@ -106,7 +106,7 @@ impl Source for PlainSource {
 
 /// A source over bytes in memory that gives small pieces, and fails at the calls that are named beforehand. Contracts
 /// see it as a `Supply`.
-#[derive(Debug, Drop)]
+#[derive(Drop)]
 pub struct MemorySource {
     unread: Unread,
     piece: usize,
@@ -186,7 +186,7 @@ impl Source for MemorySource {
 
 /// A sink in memory that has room for so many bytes, takes small pieces, and fails at the calls that are named
 /// beforehand. Contracts see it as a `Store`.
-#[derive(Debug, Drop)]
+#[derive(Drop)]
 pub struct MemorySink {
     bytes: Vec<u8>,
     // How many bytes it still takes, for which memory is reserved.

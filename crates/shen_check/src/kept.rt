@@ -9,7 +9,7 @@ use std::alloc::Global;
 use trace_writing::{Answer, write_answer};
 
 /// A sink that keeps what is written. It fails only where memory is refused.
-#[derive(Debug, Drop)]
+#[derive(Drop)]
 struct Kept {
     bytes: Vec<u8>,
     calls: u64,

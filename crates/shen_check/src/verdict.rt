@@ -1,5 +1,5 @@
 /// What is said of a history, and of the body that is to answer for it.
-#[derive(Clone, Copy, Debug, PartialEq, Eq)]
+#[derive(Clone, Copy)]
 pub enum Verdict {
     /// A heap may have this history for the trace, whole, and the body is the text that answers for it.
     Yes,

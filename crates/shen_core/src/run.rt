@@ -14,7 +14,7 @@ use heap_words::{Item, Place, Schedule};
 use shen_graph::{History, Work};
 
 /// How a run has ended.
-#[derive(Clone, Copy, Debug, PartialEq, Eq)]
+#[derive(Clone, Copy)]
 pub enum Ran {
     /// All machines are idle.
     Finished,

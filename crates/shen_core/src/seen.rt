@@ -9,7 +9,7 @@ use heap_words::{Access, Place};
 use shen_graph::{Entry, Work};
 
 /// What memory saw of one event.
-#[derive(Clone, Copy, Debug, PartialEq, Eq)]
+#[derive(Clone, Copy)]
 pub struct Seen {
     /// The machine, counted from 0: the mutators, the helpers, the control.
     pub number: usize,

@@ -5,7 +5,7 @@ ghost use Rattle.shen_graph.specs.Valid as valid;
 use crate::name::Name;
 
 /// What a thread may ask of the heap. Roots are numbered from 0 to 15, reference fields and numbers of an object from 0.
-#[derive(Clone, Copy, Debug, PartialEq, Eq)]
+#[derive(Clone, Copy, PartialEq, Eq)]
 pub enum Command {
     /// Makes an object of `refs` null references and `nums` zeros, which root `dst` names from then on.
     New {

@@ -12,14 +12,14 @@ use std::marker::Model;
 use std::mem;
 
 // Part of a list, from one index up to another.
-#[derive(Clone, Copy, Debug)]
+#[derive(Clone, Copy)]
 struct Span {
     from: usize,
     to: usize,
 }
 
 // Where the fields of an object lie, in the references of all objects and in their numbers.
-#[derive(Clone, Copy, Debug)]
+#[derive(Clone, Copy)]
 struct Place {
     name: Name,
     refs: Span,
@@ -28,7 +28,7 @@ struct Place {
 
 /// A graph as it is to be written: rows of objects, and for each thread a row of 16 roots and one of 4 pin slots. Threads
 /// are counted from 1, rows, fields, roots and pin slots from 0. Only `open` takes memory.
-#[derive(Debug, Drop)]
+#[derive(Drop)]
 pub struct GraphText {
     places: Vec<Place>,
     references: Vec<Option<Name>>,

@@ -7,7 +7,7 @@ use std::alloc::Global;
 use std::marker::Model;
 
 /// A command of a thread, and what it was answered.
-#[derive(Clone, Copy, Debug, PartialEq, Eq)]
+#[derive(Clone, Copy)]
 pub struct Entry {
     /// The thread, counted from 1.
     pub thread: u32,
@@ -18,7 +18,7 @@ pub struct Entry {
 }
 
 /// The commands of all threads in one order, each with its reply.
-#[derive(Debug, Drop)]
+#[derive(Drop)]
 pub struct History {
     entries: Vec<Entry>,
 }

@@ -31,7 +31,7 @@ pub use script::Script;
 pub use work::{Replies, Work};
 
 /// Memory was refused. Nothing was changed.
-#[derive(Clone, Copy, Debug, PartialEq, Eq)]
+#[derive(Clone, Copy, Debug)]
 pub struct NoMemory;
 
 impl From<AllocError> for NoMemory {

@@ -1,7 +1,7 @@
 use crate::command::Command;
 
 /// What a machine of a heap is to do next, beside what it does by itself.
-#[derive(Clone, Copy, Debug, PartialEq, Eq)]
+#[derive(Clone, Copy)]
 pub enum Order {
     /// Nothing: it goes on with what it does, or rests.
     Nothing,

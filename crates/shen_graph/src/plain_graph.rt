@@ -21,7 +21,7 @@ use std::alloc::Global;
 use std::marker::Model;
 
 // An object, with its name.
-#[derive(Debug, Drop)]
+#[derive(Drop)]
 struct Object {
     name: Name,
     refs: Vec<Option<Name>>,
@@ -38,7 +38,7 @@ impl Model for Object {
 
 /// The graph of objects as it is defined, plain and slow: what the heap is judged by. It moves and frees nothing.
 /// Threads are counted from 1.
-#[derive(Debug, Drop)]
+#[derive(Drop)]
 pub struct PlainGraph {
     // the newest first
     objects: Vec<Object>,

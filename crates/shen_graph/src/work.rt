@@ -9,7 +9,7 @@ use std::marker::Model;
 use std::mem;
 
 /// What the commands of one thread were answered, in their order.
-#[derive(Debug, Drop)]
+#[derive(Drop)]
 pub struct Replies {
     given: Vec<Reply>,
 }
@@ -50,7 +50,7 @@ impl Replies {
 }
 
 // The script of a mutator and the replies to its first commands, with room for the other replies.
-#[derive(Debug, Drop)]
+#[derive(Drop)]
 struct Job {
     script: Script,
     replies: Replies,
@@ -105,7 +105,7 @@ impl Job {
 
 /// The scripts of up to eight mutators, each with the replies to its first commands and with room for the others.
 /// Mutators are counted from 0.
-#[derive(Debug, Drop)]
+#[derive(Drop)]
 pub struct Work {
     jobs: [Option<Job>; 8],
 }

@@ -2,7 +2,7 @@ ghost use Rattle.std.specs.Prelude.{◌≡◌};
 ghost use Rattle.shenfind.specs.ExitNumbers.{exit_number};
 
 /// How a call of the program ended.
-#[derive(Clone, Copy, Debug, PartialEq, Eq)]
+#[derive(Clone, Copy)]
 pub enum Status {
     /// All runs of the test that were made have all that is claimed.
     Holds,

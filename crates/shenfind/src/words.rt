@@ -5,7 +5,7 @@ use find_search::{Draw, Plan};
 use trace_grammar::number_in;
 
 /// What the words ask for.
-#[derive(Clone, Copy, Debug)]
+#[derive(Clone, Copy)]
 pub struct Asked {
     /// How schedules are drawn, and by which seed; None where all are run.
     pub drawn: Option<(Draw, u64)>,

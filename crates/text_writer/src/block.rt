@@ -15,7 +15,7 @@ const ROOM: usize = 4096;
 ///
 /// Contracts see a block as the bytes that are not sent yet, and whether there was a fault. All calls of one block are to
 /// be given the same sink.
-#[derive(Debug, Drop)]
+#[derive(Drop)]
 pub struct Block {
     bytes: [u8; 4096],
     used: usize,

@@ -3,7 +3,7 @@ ghost use Rattle.text_writer.specs.Sending.{Writes, outlet};
 use shen_base::Sink;
 
 /// The sink counted a fault, and only the front of a text was written.
-#[derive(Clone, Copy, Debug, PartialEq, Eq)]
+#[derive(Clone, Copy)]
 pub struct WriteFault;
 
 /// Writes `text` to the sink, in as many pieces as the sink makes of it: at most one call per byte, since each call takes

@@ -6,7 +6,7 @@ use shen_graph::Script;
 use std::marker::Model;
 
 /// The scripts of the threads, that of thread 1 first. Contracts see them as a list of lists of commands.
-#[derive(Debug, Drop)]
+#[derive(Drop)]
 pub struct Scripts {
     scripts: Vec<Script>,
 }

@@ -2,7 +2,7 @@ ghost use Rattle.std.specs.Prelude.{◌≡◌};
 ghost use Rattle.trace_grammar.specs.Why.{text_of};
 
 /// Why a line of a trace or of a dump is refused, or one of what stands behind a trace.
-#[derive(Clone, Copy, Debug, PartialEq, Eq)]
+#[derive(Clone, Copy, PartialEq, Eq)]
 pub enum Why {
     /// The input ends within the line, or where a line of the head is to come: `end of line wanted`.
     EndOfLine,

@@ -1,7 +1,7 @@
 use trace_grammar::Why;
 
 /// Why no trace was read.
-#[derive(Clone, Copy, Debug, PartialEq, Eq)]
+#[derive(Clone, Copy, PartialEq, Eq)]
 pub enum TraceFault {
     /// This line of the bytes, counted from 1, is the first that is outside the grammar, and why.
     BadLine { line: u64, why: Why },

@@ -95,7 +95,7 @@ fn behind_line(bytes: &[u8]) -> &[u8]
 }
 
 /// A line of the head that is refused.
-#[derive(Clone, Copy, Debug)]
+#[derive(Clone, Copy)]
 pub struct Refusal {
     /// The line, counted from 1.
     pub line: u64,

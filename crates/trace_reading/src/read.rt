@@ -27,7 +27,7 @@ use std::alloc::Global;
 use trace_grammar::{Scripts, Trace, numbers_at, positive_at, text_at};
 
 /// The numbers at the head of a trace: its version, those of its heap, and those of its threads.
-#[derive(Clone, Copy, Debug)]
+#[derive(Clone, Copy)]
 struct HeadNumbers {
     version: u64,
     heap: [u64; 4],

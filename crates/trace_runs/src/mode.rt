@@ -25,7 +25,7 @@ const MOST_ROUNDS: u64 = 20_000;
 const MOST_NUMBERS: u64 = 390;
 
 /// What the program can be asked for.
-#[derive(Clone, Copy, Debug, PartialEq, Eq)]
+#[derive(Clone, Copy)]
 pub enum Mode {
     /// A trace, by its schedule, in at most so many steps, 1 to 4000000000.
     Replay { steps: u64 },
@@ -46,7 +46,7 @@ pub enum Mode {
 }
 
 /// What the scripts of a churn are made from.
-#[derive(Clone, Copy, Debug, PartialEq, Eq)]
+#[derive(Clone, Copy)]
 pub struct Workload {
     /// The number that all sizes and values depend on, 0 to 1000000.
     pub seed: u64,

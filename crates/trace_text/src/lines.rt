@@ -14,7 +14,7 @@ use trace_grammar::{Scripts, Trace, Why, positive_at, text_at};
 use trace_reading::{command_at, text_cause, trace_behind};
 
 /// Why a line was not taken.
-#[derive(Clone, Copy, Debug, PartialEq, Eq)]
+#[derive(Clone, Copy, PartialEq, Eq)]
 pub enum LineFault {
     /// The line may not stand there, for this cause, the first that holds.
     Bad { why: Why },

@@ -19,7 +19,7 @@ const SLOTS: usize = Command::SLOTS as usize;
 
 /// An answer: what the commands of each thread were answered, and the graph at the end. `replies` is to have the script of
 /// each thread of `graph`.
-#[derive(Debug, Drop)]
+#[derive(Drop)]
 pub struct Answer {
     /// The version of the trace that is answered. From version 2 on the answer says what is pinned.
     pub version: u32,

@@ -11,7 +11,7 @@ use text_writer::{Block, WriteFault, write_all};
 use trace_grammar::Why;
 
 /// The one line that stands in the place of an answer, the verdict on one, or the lines of a churn or of a queue.
-#[derive(Clone, Copy, Debug, PartialEq, Eq)]
+#[derive(Clone, Copy)]
 pub enum Line {
     /// The words of the command line are outside their grammar: `bad words`.
     BadWords,

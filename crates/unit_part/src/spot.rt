@@ -12,8 +12,6 @@ ghost use Rattle.unit_part.specs.Ends.{WaitsAt};
 use heap_words::{Access, Config, Place, Took, Unit};
 use load_barrier::EvacSpot;
 use scan_part::ScanSpot;
-use std::fmt;
-use std::fmt::{Debug, Formatter, Write};
 use update_part::UpdateSpot;
 
 // The phase in which objects are marked.
@@ -166,13 +164,6 @@ impl UnitSpot {
             }
             UnitSpot::Ended { .. } => (self, Took::Done),
         }
-    }
-}
-
-/// Written as the place of its next access.
-impl Debug for UnitSpot {
-    fn fmt<W: Write>(&self, f: &mut Formatter<W>) -> fmt::Result {
-        self.place().fmt(f)
     }
 }
 

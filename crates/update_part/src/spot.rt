@@ -10,11 +10,9 @@ use heap_words::{
     Access, Config, Place, Took, Unit, filler_words, forwarded, forwardee, refs_of, words_of,
 };
 use regions::{base, is_in, is_marked_in, mark_word, region_of};
-use std::fmt;
-use std::fmt::{Debug, Formatter, Write};
 
 /// A walk over the objects of a region, with the words of the region that end it and say which objects are kept.
-#[derive(Clone, Copy, Debug)]
+#[derive(Clone, Copy)]
 pub struct Walk {
     /// The region, counted from 0.
     pub region: usize,
@@ -25,7 +23,7 @@ pub struct Walk {
 }
 
 /// An object that a walk has come to.
-#[derive(Clone, Copy, Debug)]
+#[derive(Clone, Copy)]
 pub struct Visit {
     /// The walk.
     pub walk: Walk,
@@ -219,13 +217,6 @@ impl UpdateSpot {
             _ if self.after(config, cset, got).is_ended() => Took::Done,
             _ => Took::More,
         }
-    }
-}
-
-/// Written as the place of its next access.
-impl Debug for UpdateSpot {
-    fn fmt<W: Write>(&self, f: &mut Formatter<W>) -> fmt::Result {
-        self.place().fmt(f)
     }
 }
 

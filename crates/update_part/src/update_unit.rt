@@ -5,7 +5,7 @@ use crate::spot::UpdateSpot;
 use heap_words::{Access, Config, Place, Took, Unit};
 
 /// A machine that claims a unit of updating and updates it, in steps of one access.
-#[derive(Debug, Drop)]
+#[derive(Drop)]
 pub struct UpdateUnit {
     config: Config,
     cset: u64,
