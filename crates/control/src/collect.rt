@@ -4,7 +4,7 @@ ghost use Rattle.std.specs.Prelude.{◌≡◌, ◌≢◌, ◌==◌, true, false}
 ghost use Rattle.std.specs.Int.{bit_at};
 ghost use Rattle.heap_words.specs.Words.{Phase, Ask, Evac};
 ghost use Rattle.heap_words.specs.Counter as counter;
-ghost use Rattle.buffer_words.specs.Buffers.{AreInside};
+ghost use Rattle.pause_words.specs.Buffers.{AreInside};
 ghost use Rattle.image_graph.specs.State.{config_of, memory_of};
 ghost use Rattle.cycle_words.specs.Marking.Final.{final_marked};
 ghost use Rattle.mark_core.specs.Result.{MarksSome};

@@ -7,9 +7,9 @@ use Rattle.std.proofs.lemmas.List.{get_or-replicate, get_or-set_same, get_or-set
 use Rattle.std.proofs.lemmas.Nat.Bits.{bit_at_above, bit_at-lt}
 use Rattle.heap_words.specs.declared.config.Config.{Config}
 use Rattle.heap_words.specs.Words.{Word, Free, Top, Tams}
-use Rattle.packing.proofs.Sums.{sum_same}
+use Rattle.regions.proofs.Sums.{sum_same}
 use Rattle.regions.specs.Sets.{members_below}
-use Rattle.full_words.specs.Pinned.{is_pinned}
+use Rattle.pause_words.specs.Pinned.{is_pinned}
 use Rattle.cycle_words.specs.Marking.Marks.{bits_of}
 use Rattle.cycle_words.proofs.Marking.Bits.{one, bits_at}
 use Rattle.cycle_words.specs.Marking.Final.{is_current}

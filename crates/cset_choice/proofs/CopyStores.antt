@@ -9,9 +9,9 @@ use Rattle.heap_words.specs.declared.config.Config.{Config}
 use Rattle.heap_words.specs.Words.{Word, Cset, Free, Top, Heap, write}
 use Rattle.heap_words.specs.Encoding.{header_word, plain_header}
 use Rattle.regions.specs.Sets.{IsIn, IsOutside, all_but}
-use Rattle.packing.proofs.Rooms.{has_room}
+use Rattle.regions.proofs.ServedRooms.{has_room}
 use Rattle.regions.specs.Place.{region_with}
-use Rattle.full_words.specs.Full.{now_in}
+use Rattle.pause_words.specs.Full.{now_in}
 use Rattle.cycle_words.specs.Evacuation.Live.{words_at}
 use Rattle.cycle_words.specs.Evacuation.Copying.{tops_outside}
 use Rattle.cycle_words.specs.Evacuation.Copied.{CanCopyOut, copy_room, copy_in, copy_address, top_address, copied_in, copied_out, copied_to}

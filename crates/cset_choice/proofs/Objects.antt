@@ -6,9 +6,9 @@ use Rattle.std.proofs.lemmas.Nat.{mod_below}
 use Rattle.std.proofs.lemmas.Nat.Bits.{bit_at_above}
 use Rattle.heap_words.specs.declared.config.Config.{Config}
 use Rattle.heap_words.specs.Words.{Word, Cset, Heap, IsWord}
-use Rattle.packing.specs.Places.{LieApart}
-use Rattle.packing.specs.Tops.{sum_below}
-use Rattle.packing.proofs.Sums.{sum_next}
+use Rattle.regions.specs.Places.{LieApart}
+use Rattle.regions.specs.Tops.{sum_below}
+use Rattle.regions.proofs.Sums.{sum_next}
 use Rattle.regions.specs.Place.{region_with}
 use Rattle.regions.proofs.PlaceLemmas.{regions_tile}
 use Rattle.image_graph.specs.Make.{AreInHeap}

@@ -3,7 +3,7 @@ use Rattle.std.specs.Prelude.{ℕ, ◌≡◌, ◌<◌, ◌≤◌, ◌==◌, ◌&
 use Rattle.std.specs.Int.{bit_at}
 use Rattle.heap_words.specs.declared.config.Config.{Config}
 use Rattle.heap_words.specs.Words.{Word}
-use Rattle.packing.specs.Tops.{sum_below}
+use Rattle.regions.specs.Tops.{sum_below}
 use Rattle.cycle_words.specs.Evacuation.Live.{live_words, is_candidate}
 use Rattle.cycle_words.specs.Evacuation.Front.{comes_before}
 

@@ -5,7 +5,7 @@ ghost use Rattle.std.specs.Int.{bit_at};
 ghost use Rattle.heap_words.specs.Words.{Free};
 ghost use Rattle.image_graph.specs.State.{config_of, memory_of};
 ghost use Rattle.cycle_words.specs.Marking.Marks.{bits_of};
-ghost use Rattle.packing.specs.Places.{LieApart};
+ghost use Rattle.regions.specs.Places.{LieApart};
 ghost use Rattle.cycle_words.specs.Evacuation.Live as lives;
 ghost use Rattle.cycle_words.specs.Evacuation.Front as front;
 ghost use Rattle.cycle_words.specs.Evacuation.Choice as choices;

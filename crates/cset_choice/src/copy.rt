@@ -2,7 +2,7 @@
 
 ghost use Rattle.std.specs.Prelude.{ℕ, ◌≡◌, ◌+◌, ◌<◌, ◌≤◌, ◌⊎◌, nat_le};
 ghost use Rattle.heap_words.specs.Words.{Cset, Top};
-ghost use Rattle.packing.specs.Rooms.{lowest_room};
+ghost use Rattle.regions.specs.ServedRooms.{lowest_room};
 ghost use Rattle.image_graph.specs.State.{config_of, memory_of};
 ghost use Rattle.image_graph.specs.Make.{AreInHeap, AreWithin};
 ghost use Rattle.cycle_words.specs.Evacuation.Live.{words_at};

@@ -2,7 +2,7 @@
 
 ghost use Rattle.std.specs.Prelude.{◌≡◌, ◌*◌, ◌<◌, ◌≤◌, true};
 ghost use Rattle.heap_words.specs.Words.{Heap, IsWord};
-ghost use Rattle.packing.specs.Places.{LieApart};
+ghost use Rattle.regions.specs.Places.{LieApart};
 ghost use Rattle.image_graph.specs.State.{config_of, memory_of};
 ghost use Rattle.cycle_words.specs.Marking.Marks as marks;
 ghost use Rattle.cycle_words.specs.Evacuation.Live as lives;

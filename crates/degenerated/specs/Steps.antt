@@ -3,7 +3,7 @@ use Rattle.std.specs.Prelude.{ℕ, ◌+◌, ◌==◌, ◌&&◌, nat_le, nat_lt, 
 use Rattle.heap_words.specs.declared.config.Config.{Config}
 use Rattle.heap_words.specs.Words.{Word, Root, Answer, Heap}
 use Rattle.regions.specs.Place.{base_of, region_with}
-use Rattle.packing.specs.Table.{now_of}
+use Rattle.regions.specs.Table.{now_of}
 use Rattle.image_graph.specs.declared.image.Image.{Image}
 use Rattle.image_graph.specs.State.{config_of, places_of}
 use Rattle.cycle_words.specs.Evacuation.Copied.{copied_out}

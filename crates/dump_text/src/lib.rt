@@ -30,6 +30,6 @@ pub use reading_laws::{
     bytes_are_a_dump_or_refused, dumps_are_read_once, dumps_are_refused_once,
     written_dumps_are_read,
 };
-pub use text_writer::WriteFault;
+pub use shen_base::WriteFault;
 pub use write::write_dump;
 pub use writing_laws::{dumps_show_their_graph, graphs_have_one_dump};

@@ -4,24 +4,24 @@ use Rattle.std.proofs.Math.Logic.{∥∥₁_map}
 use Rattle.heap_words.specs.declared.config.Config.{Config}
 use Rattle.heap_words.specs.Words.{Word, Top, Wait, Answer, Heap}
 use Rattle.heap_words.specs.Ranges.{seat_count}
-use Rattle.buffer_words.specs.LetGo.{let_go}
-use Rattle.buffer_words.proofs.Elsewhere.{let_go_same}
+use Rattle.pause_words.specs.LetGo.{let_go}
+use Rattle.pause_words.proofs.Elsewhere.{let_go_same}
 use Rattle.shen_graph.specs.Graph.{Graph}
 use Rattle.heap_world.specs.World.{thing, Plot}
-use Rattle.packing.specs.Rooms.{NoneHasRoom, IsLowestRoom}
-use Rattle.full_words.specs.Held.{IsAmong}
-use Rattle.full_words.specs.Pinned.{is_row_pinned}
-use Rattle.full_words.specs.Full.{now_in, held_words, kept_in, asked_in, packed_in, full_from, full}
-use Rattle.full_words.specs.Plot.{packed_block}
-use Rattle.full_words.specs.Promised.{Promises, with_promised}
-use Rattle.full_words.specs.Image.{ImageStands}
-use Rattle.full_words.specs.Serving.{served_block, served_promises}
-use Rattle.full_words.specs.Served.{tops_at_turn}
-use Rattle.full_words.proofs.Reached.{held_are_reachable}
-use Rattle.full_words.proofs.Walked.{walk_keeps}
-use Rattle.full_words.proofs.Served.{requests_are_answered}
-use Rattle.full_words.proofs.Serving.{full_stands}
-use Rattle.full_words.proofs.Still.{packed_wait}
+use Rattle.regions.specs.ServedRooms.{NoneHasRoom, IsLowestRoom}
+use Rattle.pause_words.specs.Held.{IsAmong}
+use Rattle.pause_words.specs.Pinned.{is_row_pinned}
+use Rattle.pause_words.specs.Full.{now_in, held_words, kept_in, asked_in, packed_in, full_from, full}
+use Rattle.pause_words.specs.Plot.{packed_block}
+use Rattle.pause_words.specs.Promised.{Promises, with_promised}
+use Rattle.pause_words.specs.Image.{ImageStands}
+use Rattle.pause_words.specs.Serving.{served_block, served_promises}
+use Rattle.pause_words.specs.Served.{tops_at_turn}
+use Rattle.pause_words.proofs.Reached.{held_are_reachable}
+use Rattle.pause_words.proofs.Walked.{walk_keeps}
+use Rattle.pause_words.proofs.Served.{requests_are_answered}
+use Rattle.pause_words.proofs.Serving.{full_stands}
+use Rattle.pause_words.proofs.Still.{packed_wait}
 use Rattle.image_graph.specs.Holds.{HoldsBy, HoldsSized}
 use Rattle.image_graph.specs.Buffers.{LettingGoHolds}
 use Rattle.image_graph.specs.Left.{IsLeft}

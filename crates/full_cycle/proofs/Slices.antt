@@ -11,17 +11,17 @@ use Rattle.heap_words.specs.Encoding.{refs_in, object_words, is_forwarded, forwa
 use Rattle.heap_words.proofs.Bounds.{heap_size_le}
 use Rattle.heap_words.proofs.Stores.{is_word_true, view_word, view_none}
 use Rattle.heap_graph.specs.Walk.{has, IsMarked}
-use Rattle.packing.specs.Places.{open_kept, new_place, LieApart}
-use Rattle.packing.specs.Tops.{top_before, words_in}
-use Rattle.packing.proofs.Placed.{covering, is_open, stays_above, places_apart}
-use Rattle.packing.proofs.Sums.{sum_of_none}
-use Rattle.packing.proofs.Tops.{added, place_in_range}
-use Rattle.packing.specs.Slide.{IsSlidTo, PlacesApart, renewed, slid, slid_word, is_covered}
-use Rattle.packing.specs.Table.{word_of, kept_of, now_of, place_of, LeadsToKept, CanCompact}
-use Rattle.packing.proofs.Slid.{slid_word-same, slid_next, slid_none, slid_only, renewed_alike}
-use Rattle.packing.proofs.Flags.{kept_marked, kept_unmarked, kept_below}
-use Rattle.full_words.specs.Plot.{heap_end, packed_top}
-use Rattle.full_words.specs.Full.{now_in, held_in, kept_in, place_in, top_then, moved_heap}
+use Rattle.regions.specs.Places.{open_kept, new_place, LieApart}
+use Rattle.regions.specs.Tops.{top_before, words_in}
+use Rattle.regions.proofs.Placed.{covering, is_open, stays_above, places_apart}
+use Rattle.regions.proofs.Sums.{sum_of_none}
+use Rattle.regions.proofs.Tops.{added, place_in_range}
+use Rattle.regions.specs.Slide.{IsSlidTo, PlacesApart, renewed, slid, slid_word, is_covered}
+use Rattle.regions.specs.Table.{word_of, kept_of, now_of, place_of, LeadsToKept, CanCompact}
+use Rattle.regions.proofs.Slid.{slid_word-same, slid_next, slid_none, slid_only, renewed_alike}
+use Rattle.regions.proofs.Flags.{kept_marked, kept_unmarked, kept_below}
+use Rattle.pause_words.specs.Plot.{heap_end, packed_top}
+use Rattle.pause_words.specs.Full.{now_in, held_in, kept_in, place_in, top_then, moved_heap}
 use Rattle.image_graph.specs.Pack.{IsPacked}
 use Rattle.image_graph.proofs.Packed.{heap_part}
 use Rattle.image_graph.proofs.Read.{heap_length}

@@ -3,12 +3,12 @@ use Rattle.std.specs.Prelude.{ℕ, ◌≡◌, ◌≢◌, ◌+◌, ◌<◌, ◌�
 use Rattle.heap_words.specs.declared.config.Config.{Config}
 use Rattle.heap_words.specs.Words.{Word, Root, Answer, Pin, Heap}
 use Rattle.heap_words.specs.Encoding.{refs_in}
-use Rattle.packing.specs.Places.{LieApart}
-use Rattle.full_words.specs.Held.{found_in}
-use Rattle.full_words.specs.Pinned.{is_pinned, CanFill}
-use Rattle.full_words.specs.Plot.{heap_end}
-use Rattle.full_words.specs.Full.{now_in, copies_of, field_words, held_words, kept_in}
-use Rattle.full_words.specs.Promised.{Promises}
+use Rattle.regions.specs.Places.{LieApart}
+use Rattle.pause_words.specs.Held.{found_in}
+use Rattle.pause_words.specs.Pinned.{is_pinned, CanFill}
+use Rattle.pause_words.specs.Plot.{heap_end}
+use Rattle.pause_words.specs.Full.{now_in, copies_of, field_words, held_words, kept_in}
+use Rattle.pause_words.specs.Promised.{Promises}
 use Rattle.shen_graph.specs.Graph.{Graph}
 use Rattle.heap_world.specs.World.{Plot, HasNoRoom}
 use Rattle.image_graph.specs.Holds.{HoldsBy, AreSized}

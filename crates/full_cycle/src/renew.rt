@@ -2,7 +2,7 @@
 
 ghost use Rattle.std.specs.Prelude.{ℕ, ◌≡◌, ◌<◌, ◌≤◌, slice_index};
 ghost use Rattle.heap_words.specs.Words.{Root, Answer, table_words};
-ghost use Rattle.packing.specs.Table.{IsInTable};
+ghost use Rattle.regions.specs.Table.{IsInTable};
 ghost use Rattle.image_graph.specs.State.{config_of, words_of, memory_of, places_of};
 ghost use Rattle.full_cycle.specs.Steps.{renewed_by, roots_renewed, IsChanged};
 

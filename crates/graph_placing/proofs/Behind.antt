@@ -1,9 +1,9 @@
 -- Things that are placed one behind the other, each within one region, where nothing is shut: their places rise, and they stand apart.
 use Rattle.std.proofs.Common.{◌≡◌, ℕ, ◌+◌, ◌*◌, ◌/◌, ◌%◌, ◌<◌, ◌≤◌, ◌⊎◌, inl, inr, true, false, zero, suc, nat_le, ⊎_elim, sym, ap, ◌∙◌, subst, arith}
 use Rattle.std.proofs.lemmas.Bool.{cond-true, cond-false, cases_eq, cases_Bool}
-use Rattle.packing.specs.Places.{none_shut, next_open, first_row, open_row, place_around, place_behind, end_before, new_place}
-use Rattle.packing.proofs.Around.{open_next, around_cases, around_not_below, around_within}
-use Rattle.packing.proofs.Placed.{end_next}
+use Rattle.regions.specs.Places.{none_shut, next_open, first_row, open_row, place_around, place_behind, end_before, new_place}
+use Rattle.regions.proofs.Around.{open_next, around_cases, around_not_below, around_within}
+use Rattle.regions.proofs.Placed.{end_next}
 
 -- the first row with room is the open one
 first_is_open : (row : ℕ) → next_open none_shut 64 row ≡ row

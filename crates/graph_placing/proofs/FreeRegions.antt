@@ -1,7 +1,7 @@
 -- The free word while regions are looked at.
 use Rattle.std.proofs.Common.{◌≡◌, ℕ, ◌+◌, ◌*◌, ◌^◌, ◌==◌, cond, suc, refl, ap, ◌∙◌, arith}
-use Rattle.full_words.specs.Full.{empty_regions}
-use Rattle.full_words.specs.Pinned.{set_of}
+use Rattle.pause_words.specs.Full.{empty_regions}
+use Rattle.pause_words.specs.Pinned.{set_of}
 
 pub empty_none : (top : ℕ → ℕ) → 0 ≡ empty_regions top 0
 unfolding set_of

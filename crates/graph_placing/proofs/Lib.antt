@@ -7,3 +7,15 @@ pub mod GraphStands
 pub mod Written
 pub mod FreeRegions
 pub mod TextGraphs
+pub mod NamesCounted
+pub mod Renamings
+pub mod FewRows
+pub mod CountsKept
+pub mod Mapped
+pub mod TextsAnew
+pub mod WrittenAnew
+pub mod TextShown
+pub mod SameGraphs
+pub mod PinsShown
+pub mod Renewables
+pub mod ShownRenewable

@@ -8,10 +8,10 @@ use Rattle.heap_words.specs.declared.config.Config.{Config}
 use Rattle.heap_words.specs.Words.{Heap, IsWord}
 use Rattle.regions.specs.Place.{base_of, region_with}
 use Rattle.regions.proofs.PlaceLemmas.{regions_tile}
-use Rattle.packing.specs.Places.{place_behind, end_before}
+use Rattle.regions.specs.Places.{place_behind, end_before}
 use Rattle.shen_graph.specs.Graph.{hub}
 use Rattle.shen_graph.specs.GraphText.{Text, Row, row_of, bare}
-use Rattle.full_words.specs.Plot.{heap_end}
+use Rattle.pause_words.specs.Plot.{heap_end}
 use Rattle.graph_placing.specs.ByName.{words_of_row, address_of, end_behind, Fits, used_words}
 use Rattle.graph_placing.specs.PlaceableText.{IsPlaceable}
 use Rattle.graph_placing.proofs.Behind as behind

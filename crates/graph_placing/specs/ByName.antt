@@ -3,9 +3,9 @@
 use Rattle.std.specs.Prelude.{ℕ, ◌+◌, ◌-◌, ◌≤◌, ◌==◌, if◌then◌else◌, length, zero, suc}
 use Rattle.heap_words.specs.declared.config.Config.{Config}
 use Rattle.regions.specs.Place.{base_of, region_with}
-use Rattle.packing.specs.Places.{none_shut, end_before, new_place}
+use Rattle.regions.specs.Places.{none_shut, end_before, new_place}
 use Rattle.shen_graph.specs.GraphText.{Text, row_of}
-use Rattle.full_words.specs.Plot.{heap_end}
+use Rattle.pause_words.specs.Plot.{heap_end}
 
 -- the words of the object in a row: header, shape, name, and one for each reference and each number
 abbrev pub words_of_row : Text → ℕ → ℕ

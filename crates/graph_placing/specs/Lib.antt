@@ -4,3 +4,9 @@ pub mod PlaceableText
 pub mod TextGraph
 pub mod Writing
 pub mod Outcome
+pub mod NamesAnew
+pub mod Renaming
+pub mod SameGraph
+pub mod Renewable
+pub mod Renewing
+pub mod Renewed

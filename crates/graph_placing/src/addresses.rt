@@ -6,7 +6,7 @@ ghost use Rattle.graph_placing.specs.PlaceableText.{IsPlaceable};
 ghost use Rattle.graph_placing.specs.Writing.{AreAddresses};
 
 use heap_words::{Config, NoMemory};
-use packing::place_behind;
+use regions::place_behind;
 use shen_graph::GraphText;
 use std::alloc::Global;
 

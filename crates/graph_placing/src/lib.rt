@@ -1,23 +1,23 @@
 //! Places the objects of a graph's text in a heap that nothing has happened in yet: in the order of their names, one behind the other, in
 //! regions 0 upward, each within one region. A run can begin from there.
+//!
+//! Names the objects of a graph anew, and places them in a heap that nothing has happened in yet: a run can begin from there, in which each
+//! thread has only made the objects that are left of it. Each name keeps its thread and its place in the order, and those of a thread are
+//! counted from 1.
 #![tactic(auto)]
 
 mod addresses;
+mod counts;
 mod free;
+mod names;
 mod objects;
+mod pins;
 mod placing;
+pub mod placing_laws;
+pub mod renewal_laws;
+mod renewing;
 mod roots;
 mod rows;
 
-ghost use Rattle.std.specs.Prelude.{ℕ, List};
-ghost use Rattle.heap_words.specs.declared.config.Config.{Config};
-ghost use Rattle.shen_graph.specs.GraphText.{Text};
-ghost use Rattle.graph_placing.specs.PlaceableText.{IsPlaceable};
-ghost use Rattle.graph_placing.specs.TextGraph.{IsGraphOf, AreGiven, text_graph};
-
 pub use placing::{Placed, place};
-
-/// A law: the graph of a text alone is one of the text, where its names are given by these counts.
-pub fn texts_have_a_graph()
-    ensures { (c : Config) (t : Text) (counts : List ℕ) → IsPlaceable c t → AreGiven c t counts → IsGraphOf c t counts (text_graph t counts) }
-{}
+pub use renewing::{Renewed, renew};

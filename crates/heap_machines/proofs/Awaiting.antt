@@ -29,12 +29,12 @@ use Rattle.load_barrier.specs.UnitRows as evacs
 use Rattle.satb_barrier.specs.declared.spot.RememberSpot.{RememberSpot}
 use Rattle.satb_barrier.specs.declared.spot.RememberSpot.TheVariants as remember
 use Rattle.satb_barrier.specs.Rows as satb
-use Rattle.scan_part.specs.declared.spot.ScanSpot.{ScanSpot}
-use Rattle.scan_part.specs.declared.spot.ScanSpot.TheVariants as scan
-use Rattle.scan_part.specs.Rows as scans
-use Rattle.update_part.specs.declared.spot.UpdateSpot.{UpdateSpot}
-use Rattle.update_part.specs.declared.spot.UpdateSpot.TheVariants as update
-use Rattle.update_part.specs.Rows as updates
+use Rattle.unit_part.specs.declared.scan_spot.ScanSpot.{ScanSpot}
+use Rattle.unit_part.specs.declared.scan_spot.ScanSpot.TheVariants as scan
+use Rattle.unit_part.specs.ScanRows as scans
+use Rattle.unit_part.specs.declared.update_spot.UpdateSpot.{UpdateSpot}
+use Rattle.unit_part.specs.declared.update_spot.UpdateSpot.TheVariants as update
+use Rattle.unit_part.specs.UpdateRows as updates
 use Rattle.unit_part.specs.declared.spot.UnitSpot.{UnitSpot}
 use Rattle.unit_part.specs.declared.spot.UnitSpot.TheVariants as unit
 use Rattle.unit_part.specs.Rows as units

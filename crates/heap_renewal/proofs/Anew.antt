@@ -12,11 +12,11 @@ use Rattle.shen_core.specs.declared.plain.Plain.{Plain}
 use Rattle.shen_core.specs.State.{config_of, Shows}
 use Rattle.graph_placing.specs.PlaceableText.{IsPlaceable}
 use Rattle.graph_placing.specs.TextGraph.{text_graph}
-use Rattle.graph_renewal.specs.NamesAnew.{name_anew, text_anew}
-use Rattle.graph_renewal.specs.Renaming.{AreOfThreads, AreCountsOf}
-use Rattle.graph_renewal.specs.Renewed.{HoldsNothing}
-use Rattle.graph_renewal.proofs.SameGraphs.{same_anew}
-use Rattle.graph_renewal.proofs.ShownRenewable.{renewable_anew}
+use Rattle.graph_placing.specs.NamesAnew.{name_anew, text_anew}
+use Rattle.graph_placing.specs.Renaming.{AreOfThreads, AreCountsOf}
+use Rattle.graph_placing.specs.Renewed.{HoldsNothing}
+use Rattle.graph_placing.proofs.SameGraphs.{same_anew}
+use Rattle.graph_placing.proofs.ShownRenewable.{renewable_anew}
 use Rattle.heap_reopening.proofs.Placed.{text_unpinned}
 use Rattle.heap_renewal.specs.RenewedHeap.{BeginsAnew}
 

@@ -9,9 +9,9 @@ use Rattle.step_core.specs.Actor.{Actor}
 use Rattle.step_core.specs.Begins.{Run, Begins, ending, graph_after}
 use Rattle.shen_core.specs.declared.plain.Plain.{Plain}
 use Rattle.shen_core.specs.State.{config_of, Shows}
-use Rattle.graph_renewal.specs.Renewable.{IsRenewable}
-use Rattle.graph_renewal.specs.Renewed.{HoldsNothing}
-use Rattle.graph_renewal.specs.SameGraph.{IsSameAnew}
+use Rattle.graph_placing.specs.Renewable.{IsRenewable}
+use Rattle.graph_placing.specs.Renewed.{HoldsNothing}
+use Rattle.graph_placing.specs.SameGraph.{IsSameAnew}
 use Rattle.heap_renewal.specs.declared.renewing.Renewal.{Renewal}
 use Rattle.heap_renewal.specs.declared.renewing.Renewal.TheVariants.{Renewed, Pinned, TooSmall}
 

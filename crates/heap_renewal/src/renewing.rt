@@ -5,10 +5,10 @@ ghost use Rattle.step_core.specs.Begins.{Run, ending, graph_after};
 ghost use Rattle.shen_graph.specs.declared.order.Order.TheVariants.{Nothing};
 ghost use Rattle.shen_core.specs.State.{config_of, orders_of, Shows, IsUnchanged};
 ghost use Rattle.shen_core.specs.Progress.{AllRest};
-ghost use Rattle.graph_renewal.specs.Renewed.{HoldsNothing, DoesNotFit};
+ghost use Rattle.graph_placing.specs.Renewed.{HoldsNothing, DoesNotFit};
 ghost use Rattle.heap_renewal.specs.RenewedHeap.{IfHeapRenewed, StandsRenewable, BeginsAnew};
 
-use graph_renewal::{Renewed, renew};
+use graph_placing::{Renewed, renew};
 use heap_words::NoMemory;
 use shen_core::Plain;
 use shen_graph::GraphText;

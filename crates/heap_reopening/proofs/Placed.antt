@@ -9,8 +9,8 @@ use Rattle.heap_world.specs.Represents.{Represents}
 use Rattle.heap_machines.specs.FromImage.{CanBeginFrom}
 use Rattle.graph_placing.specs.PlacedHeap.{IsPlaced}
 use Rattle.graph_placing.specs.TextGraph.{text_graph}
-use Rattle.graph_renewal.specs.NamesAnew.{text_anew}
-use Rattle.graph_renewal.proofs.SameGraphs.{text_count}
+use Rattle.graph_placing.specs.NamesAnew.{text_anew}
+use Rattle.graph_placing.proofs.SameGraphs.{text_count}
 
 -- in the graph of a text nothing is pinned
 pub text_unpinned : (t : Text) (counts : List ℕ) (thread slot : ℕ) → (text_graph t counts).pin thread slot ≡ None

@@ -21,13 +21,13 @@ use Rattle.step_core.specs.Begins.{Run, Begins, ending, graph_after}
 use Rattle.graph_placing.specs.PlaceableText.{IsPlaceable}
 use Rattle.graph_placing.specs.PlacedHeap.{IsPlaced}
 use Rattle.graph_placing.specs.TextGraph.{text_graph}
-use Rattle.graph_renewal.specs.NamesAnew.{name_anew, text_anew}
-use Rattle.graph_renewal.specs.Renaming.{AreOfThreads, AreCountsOf}
-use Rattle.graph_renewal.specs.Renewable.{IsRenewable}
-use Rattle.graph_renewal.specs.Renewed.{PinsNothing}
-use Rattle.graph_renewal.proofs.PinsShown.{nothing_pinned}
-use Rattle.graph_renewal.proofs.SameGraphs.{same_anew}
-use Rattle.graph_renewal.proofs.ShownRenewable.{renewable_anew}
+use Rattle.graph_placing.specs.NamesAnew.{name_anew, text_anew}
+use Rattle.graph_placing.specs.Renaming.{AreOfThreads, AreCountsOf}
+use Rattle.graph_placing.specs.Renewable.{IsRenewable}
+use Rattle.graph_placing.specs.Renewed.{PinsNothing}
+use Rattle.graph_placing.proofs.PinsShown.{nothing_pinned}
+use Rattle.graph_placing.proofs.SameGraphs.{same_anew}
+use Rattle.graph_placing.proofs.ShownRenewable.{renewable_anew}
 use Rattle.heap_reopening.specs.Reopened.{words_reopened, AreMadeBy}
 use Rattle.heap_reopening.proofs.Placed.{text_unpinned, placed_can_begin}
 use Rattle.heap_reopening.proofs.Rested.{can_begin_again}

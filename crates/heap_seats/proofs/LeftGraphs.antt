@@ -20,10 +20,10 @@ use Rattle.step_core.specs.Begins.{Run, ending, history_in, graph_after}
 use Rattle.step_core.specs.Threads.{IsSettled}
 use Rattle.step_core.proofs.Theorem.EveryList.{run_sound}
 use Rattle.graph_placing.specs.PlaceableText.{IsPlaceable}
-use Rattle.graph_renewal.specs.Renaming.{AreOfThreads}
-use Rattle.graph_renewal.specs.Renewable.{IsRenewable, IsEntryOf}
-use Rattle.graph_renewal.proofs.Renewables.{history_renewable}
-use Rattle.graph_renewal.proofs.ShownRenewable.{placeable, of_threads}
+use Rattle.graph_placing.specs.Renaming.{AreOfThreads}
+use Rattle.graph_placing.specs.Renewable.{IsRenewable, IsEntryOf}
+use Rattle.graph_placing.proofs.Renewables.{history_renewable}
+use Rattle.graph_placing.proofs.ShownRenewable.{placeable, of_threads}
 use Rattle.table_heap.proofs.Core.{run_from}
 use Rattle.heap_seats.specs.Histories.{BeginsRenewable, led}
 use Rattle.heap_seats.specs.Renewing.{IsLeftRenewable}

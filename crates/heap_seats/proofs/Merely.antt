@@ -13,7 +13,7 @@ use Rattle.shen_graph.specs.GraphText.{Text, names_of}
 use Rattle.shen_graph.specs.Reach.{IsBefore, InOrder}
 use Rattle.shen_graph.proofs.PlainLemmas.{same_name-true, same_name-itself}
 use Rattle.graph_placing.specs.PlaceableText.{IsPlaceable}
-use Rattle.graph_renewal.specs.Renaming.{AreOfThreads}
+use Rattle.graph_placing.specs.Renaming.{AreOfThreads}
 
 later : (m : Name) (ms : List Name) (n : Name) → same_name m n ≡ false → Contains (m ∷ ms) n → Contains ms n
 later m ms n other there = by_place there.0 there.1 there.2

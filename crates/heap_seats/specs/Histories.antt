@@ -12,7 +12,7 @@ use Rattle.step_core.specs.Begins.{Begins}
 use Rattle.step_core.specs.Begun.{scripts_begun}
 use Rattle.step_core.specs.History.{history}
 use Rattle.table_heap.specs.Core.{heap_kind}
-use Rattle.graph_renewal.specs.Renewable.{IsRenewable}
+use Rattle.graph_placing.specs.Renewable.{IsRenewable}
 
 -- where events lead from a start, and their history
 abbrev pub led : Config → Stage Actor → List (Event Order) → Stage Actor

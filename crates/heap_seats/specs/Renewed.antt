@@ -9,8 +9,8 @@ use Rattle.steps_base.specs.Steps.{Stage, Event}
 use Rattle.step_core.specs.Actor.{Actor}
 use Rattle.heap_machines.specs.Pause.{pause_image}
 use Rattle.step_core.specs.Begins.{Run, Begins, ending, graph_after}
-use Rattle.graph_renewal.specs.SameGraph.{IsSameAnew}
-use Rattle.graph_renewal.specs.Renewed.{HoldsNothing, DoesNotFit}
+use Rattle.graph_placing.specs.SameGraph.{IsSameAnew}
+use Rattle.graph_placing.specs.Renewed.{HoldsNothing, DoesNotFit}
 use Rattle.heap_seats.specs.declared.progress.State.TheVariants.{Ended}
 use Rattle.heap_seats.specs.declared.renewing.Renewal.{Renewal}
 use Rattle.heap_seats.specs.declared.renewing.Renewal.TheVariants.{Renewed, Pinned, TooSmall, NoMemory}

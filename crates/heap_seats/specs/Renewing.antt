@@ -3,7 +3,7 @@ use Rattle.heap_words.specs.declared.config.Config.{Config}
 use Rattle.shen_graph.specs.Graph.{Graph}
 use Rattle.steps_base.specs.Steps.{Stage}
 use Rattle.step_core.specs.Actor.{Actor}
-use Rattle.graph_renewal.specs.Renewable.{IsRenewable}
+use Rattle.graph_placing.specs.Renewable.{IsRenewable}
 use Rattle.heap_seats.specs.declared.renewing.Renewal.{Renewal}
 use Rattle.heap_seats.specs.declared.room.RenewalRoom.{RenewalRoom}
 use Rattle.heap_seats.specs.Renewed.{KeepsNames, IsGraphLeft}

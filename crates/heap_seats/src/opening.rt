@@ -4,7 +4,7 @@ ghost use Rattle.shen_graph.specs.Graph.{Graph};
 ghost use Rattle.image_graph.specs.State as images;
 ghost use Rattle.heap_machines.specs.FromImage.{CanBeginFrom, stage_from};
 ghost use Rattle.shared_table.specs.Views.{whole, dealt_to};
-ghost use Rattle.graph_renewal.specs.Renewable.{IsRenewable};
+ghost use Rattle.graph_placing.specs.Renewable.{IsRenewable};
 ghost use Rattle.table_heap.specs.declared.bundle.Bundle.{Bundle as Bundles};
 ghost use Rattle.table_heap.specs.Core.{heap_opening};
 ghost use Rattle.table_heap.specs.State.{config_of, start_of_heap, IsFresh};

@@ -1,7 +1,6 @@
 use heap_words::{Access, Config, Place, Took, Unit};
-use scan_part::ScanUnit;
 use std::test::Fail;
-use update_part::UpdateUnit;
+use unit_part::{ScanUnit, UpdateUnit};
 
 // In the smallest heap, of 4 regions of 64 words, there are 4 units of marking and 4 of updating. The claim word is word 8.
 

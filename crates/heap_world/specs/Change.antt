@@ -3,7 +3,7 @@ use Rattle.std.specs.Prelude.{ℕ, ◌≡◌, ◌+◌, ◌-◌, ◌*◌, ◌<◌
 use Rattle.heap_words.specs.declared.config.Config.{Config}
 use Rattle.std.specs.Int.{bit_at}
 use Rattle.heap_words.specs.Words.{Word, Phase, Claim, Ask, image_start, table_words, view}
-use Rattle.packing.specs.Tops.{sum_below}
+use Rattle.regions.specs.Tops.{sum_below}
 use Rattle.shen_graph.specs.declared.name.Name.{Name}
 use Rattle.shen_graph.specs.Graph.{Graph, named}
 use Rattle.shen_graph.specs.Reach.{IsReach, size}

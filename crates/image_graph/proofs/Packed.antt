@@ -7,9 +7,9 @@ use Rattle.std.proofs.lemmas.Slice.{take-put_mid_below, drop-put_mid, between-pu
 use borrow.Rule.Slice.PartMut.{put_mid, post_of}
 use Rattle.heap_words.specs.declared.config.Config.{Config}
 use Rattle.heap_words.specs.Words.{Top, word_at, table_words, heap_size, heap_start, heap_in}
-use Rattle.packing.specs.Tops.{top_before}
-use Rattle.packing.specs.Slide.{IsSlidTo, renewed}
-use Rattle.packing.specs.Table.{word_of, kept_of, place_of, now_of, LeadsToKept, IsRenewedBy}
+use Rattle.regions.specs.Tops.{top_before}
+use Rattle.regions.specs.Slide.{IsSlidTo, renewed}
+use Rattle.regions.specs.Table.{word_of, kept_of, place_of, now_of, LeadsToKept, IsRenewedBy}
 use Rattle.image_graph.specs.Pack.{IsPacked}
 
 -- what stands behind a front of a list

@@ -8,9 +8,9 @@ use Rattle.heap_words.specs.Words.{Word, Top, Wait}
 use Rattle.heap_words.specs.Encoding.{object_words, request_shape_in}
 use Rattle.regions.specs.Rooms.{EachHasLess, IsFirstWithRoom}
 use Rattle.regions.specs.Place.{base_of}
-use Rattle.packing.specs.Rooms.{lowest_room, NoneHasRoom, IsLowestRoom}
-use Rattle.packing.proofs.Rooms.{all_full, lowest_is, has_room, none_has_room}
-use Rattle.full_words.specs.Full.{made_in}
+use Rattle.regions.specs.ServedRooms.{lowest_room, NoneHasRoom, IsLowestRoom}
+use Rattle.regions.proofs.ServedRooms.{all_full, lowest_is, has_room, none_has_room}
+use Rattle.pause_words.specs.Full.{made_in}
 use Rattle.image_graph.specs.Make.{AreInHeap, AreWithin}
 
 -- where each region has less room than is asked for

@@ -2,9 +2,9 @@
 use Rattle.std.specs.Prelude.{ℕ, ◌≡◌, ◌+◌, ◌<◌, ◌≤◌, ◌⊎◌, if◌then◌else◌, Bool, List, slice_index}
 use Rattle.heap_words.specs.declared.config.Config.{Config}
 use Rattle.heap_words.specs.Words.{Top, word_at, heap_size, heap_start, heap_in}
-use Rattle.packing.specs.Tops.{top_before}
-use Rattle.packing.specs.Slide.{IsSlidTo, renewed}
-use Rattle.packing.specs.Table.{word_of, kept_of, place_of, now_of, LeadsToKept, IsRenewedBy}
+use Rattle.regions.specs.Tops.{top_before}
+use Rattle.regions.specs.Slide.{IsSlidTo, renewed}
+use Rattle.regions.specs.Table.{word_of, kept_of, place_of, now_of, LeadsToKept, IsRenewedBy}
 
 -- The heap was slid around the regions that are shut, the tops are those of the packed objects, or in a shut region as before, and no word
 -- is changed that is of neither, before the heap or behind it. By the table of new places each word that led to a marked object can be renewed.

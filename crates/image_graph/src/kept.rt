@@ -2,7 +2,7 @@
 
 ghost use Rattle.std.specs.Prelude.{◌≡◌};
 ghost use Rattle.heap_words.specs.Words.{Heap, IsWord, heap_in};
-ghost use Rattle.packing.specs.Table.{now_of};
+ghost use Rattle.regions.specs.Table.{now_of};
 ghost use Rattle.image_graph.specs.State.{config_of, words_of, marks_of, found_of, places_of, IsUnchanged};
 
 use crate::image::Image;

@@ -2,18 +2,18 @@
 
 ghost use Rattle.std.specs.Prelude.{ℕ, ◌≡◌, ◌+◌, ◌<◌, ◌≤◌, ◌⊎◌, length, slice_index};
 ghost use Rattle.heap_words.specs.Words.{Top, word_at, table_words, heap_size, heap_start, heap_in};
-ghost use Rattle.packing.specs.Tops.{top_before};
-ghost use Rattle.packing.specs.Slide.{IsSlidTo, renewed};
-ghost use Rattle.packing.specs.Table.{word_of, kept_of, now_of, LeadsToKept, CanCompact, IsRenewedBy, IsInTable, from_table};
-ghost use Rattle.full_words.specs.Pinned.{pinned_set, is_row_pinned};
-ghost use Rattle.packing.specs.Places.{is_shut};
+ghost use Rattle.regions.specs.Tops.{top_before};
+ghost use Rattle.regions.specs.Slide.{IsSlidTo, renewed};
+ghost use Rattle.regions.specs.Table.{word_of, kept_of, now_of, LeadsToKept, CanCompact, IsRenewedBy, IsInTable, from_table};
+ghost use Rattle.pause_words.specs.Pinned.{pinned_set, is_row_pinned};
+ghost use Rattle.regions.specs.Places.{is_shut};
 ghost use Rattle.image_graph.specs.State.{config_of, words_of, memory_of, marks_of, found_of, places_of};
 ghost use Rattle.image_graph.specs.Pack.{IsPacked};
 
 use crate::image::Image;
 use crate::sets::with_if;
 use heap_words::Config;
-use packing::{compact_marked, renew};
+use regions::{compact_marked, renew};
 
 // Packs the marked objects of a table around the regions that are shut. `marks` and `places` have an entry for each word of the heap.
 fn pack_words(config: Config, shut: u64, marks: &[bool], words: &mut [u64], places: &mut [u64])

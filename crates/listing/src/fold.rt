@@ -7,8 +7,7 @@ use crate::event::Event;
 use crate::line::Line;
 use crate::row::Row;
 use heap_words::Took;
-use shen_base::Sink;
-use text_writer::Block;
+use shen_base::{Block, Sink};
 
 // The most lines of a group.
 const GROUP: usize = 12;

@@ -1,7 +1,6 @@
 ghost use Rattle.std.specs.Prelude.{◌≤◌};
 
-use shen_base::Sink;
-use text_writer::Block;
+use shen_base::{Block, Sink};
 
 // The bytes that a row has room for.
 const ROOM: usize = 4096;

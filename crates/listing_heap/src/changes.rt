@@ -6,8 +6,7 @@ use crate::heap::{
 use heap_words::refs_of;
 use listing::{Row, Table, heap_word, piece_at, region_of_buffer, shared_region, top, used};
 use regions::mark_words;
-use shen_base::Sink;
-use text_writer::Block;
+use shen_base::{Block, Sink};
 
 /// The heap before and after an event.
 #[derive(Clone, Copy)]

@@ -3,9 +3,8 @@ ghost use Rattle.std.specs.Prelude.{◌≡◌, ◌<◌, ◌≤◌, ℕ, length};
 ghost use Rattle.shen_graph.specs.GraphText.{row_of};
 
 use listing::{Row, json_key, json_text, put_name};
-use shen_base::Sink;
+use shen_base::{Block, Sink};
 use shen_graph::{Command, GraphText, Name};
-use text_writer::Block;
 
 // The number of roots of a thread.
 const ROOTS: usize = Command::ROOTS as usize;

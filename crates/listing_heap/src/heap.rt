@@ -6,9 +6,8 @@ use listing::{
     put_place, put_reference, put_value, region_of_buffer, shared_region, top, used,
 };
 use regions::{is_in, mark_words};
-use shen_base::Sink;
+use shen_base::{Block, Sink};
 use shen_graph::Command;
-use text_writer::Block;
 
 // The columns of a line: what a region is, and how full it is.
 const USED: usize = 13;

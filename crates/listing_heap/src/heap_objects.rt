@@ -8,8 +8,7 @@ use listing::{
     json_value, piece_at, region_of_buffer, shared_region, top, used,
 };
 use regions::is_in;
-use shen_base::Sink;
-use text_writer::Block;
+use shen_base::{Block, Sink};
 
 // Puts members for the object from one address to another.
 fn json_object(row: &mut Row, table: &Table, at: u64, next: u64) {

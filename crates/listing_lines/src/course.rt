@@ -11,11 +11,10 @@ use crate::words_now::WordsNow;
 use heap_words::{NoMemory, Place, Took};
 use listing::{Event, Folds, Pauses, Row, Stall};
 use listing_words::{Asked, Filter, PauseForm, Wanted};
-use shen_base::Sink;
+use shen_base::{Sink, WriteFault, write_all};
 use shen_core::{Plain, Seen};
 use shen_graph::{Command, Reply, Work};
 use std::alloc::Global;
-use text_writer::{WriteFault, write_all};
 
 // The events between two times at which they are told of.
 const EVENTS: u64 = 1_000_000;

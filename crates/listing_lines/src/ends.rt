@@ -9,10 +9,9 @@ use listing::{
     Event, Row, json_flag, json_key, json_number, json_text, put_command, put_item, put_machine,
     put_reply,
 };
-use shen_base::Sink;
+use shen_base::{Block, Sink, WriteFault};
 use shen_core::Plain;
 use shen_graph::{Command, Reply, Work};
-use text_writer::{Block, WriteFault};
 use trace_grammar::Trace;
 
 // The version of the form of the objects.

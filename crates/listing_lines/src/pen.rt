@@ -1,9 +1,8 @@
 //! What writes the lines: the one that is set, and those that wait to be sent.
 
 use listing::Row;
-use shen_base::Sink;
+use shen_base::{Block, Sink, WriteFault};
 use std::mem;
-use text_writer::{Block, WriteFault};
 
 // So many lines are sent on at once.
 const LINES: u64 = 256;

@@ -15,4 +15,4 @@ pub use close::close_marks;
 pub use dead::free_region;
 pub use end::final_mark;
 pub use look::{is_black, next_black};
-pub use scan_part::ScanUnit;
+pub use unit_part::ScanUnit;

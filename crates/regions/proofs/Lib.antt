@@ -1,3 +1,14 @@
+pub mod Around
+pub mod Placed
+pub mod Sums
+pub mod Tops
+pub mod ServedRooms
+pub mod Flags
+pub mod Assigned
+pub mod Slid
+pub mod Moved
+pub mod Checked
+pub mod Followed
 pub mod MarksApart
 pub mod PlaceLemmas
 pub mod SetLemmas

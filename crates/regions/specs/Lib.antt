@@ -1,3 +1,9 @@
+pub mod Places
+pub mod Tops
+pub mod ServedRooms
+pub mod SlideLaws
+pub mod Slide
+pub mod Table
 pub mod Marks
 pub mod Touches
 pub mod Place

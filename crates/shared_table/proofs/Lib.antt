@@ -8,3 +8,7 @@ pub mod Kept
 pub mod Numbers
 pub mod Reached
 pub mod Counted
+mod Tables
+mod Crossing
+mod Spared
+mod Reading

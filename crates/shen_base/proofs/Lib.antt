@@ -1,1 +1,4 @@
 mod Lists
+pub mod Stages
+mod Digits
+mod Fronts

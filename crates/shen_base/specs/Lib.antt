@@ -1,3 +1,4 @@
 pub mod Count
 pub mod Memory
 pub mod Adapter
+pub mod Sending

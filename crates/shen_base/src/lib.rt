@@ -1,15 +1,23 @@
 //! Bytes in and bytes out, with faults that are counted: what a program reads from and writes to,
 //! the standard library's readers and writers behind it, and sources and sinks in memory for tests.
+//!
+//! Text on its way to a sink: a block of bytes collects what is put and goes to the sink as a whole, so that the system
+//! sees blocks and not bytes. Nothing here takes memory.
 #![tactic(auto)]
 
 mod adapter;
+mod block;
 mod count;
 mod memory;
+mod number;
+mod send;
 mod sink;
 mod source;
 
 pub use adapter::{InSource, OutSink};
+pub use block::Block;
 pub use memory::{MemorySink, MemorySource, PlainSource};
+pub use send::{WriteFault, write_all};
 pub use sink::Sink;
 pub use source::Source;
 

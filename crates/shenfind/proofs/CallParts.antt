@@ -2,7 +2,7 @@
 use Rattle.std.proofs.Common.{◌≡◌, ℕ, ◌+◌, List, length, Ok, Err, Result, IfOk, OnOk, inl, inr, refl, sym, subst}
 use Rattle.std.specs.Io.KnownBytes.{Appends, Consumes}
 use Rattle.shen_base.specs.Count.{Rose}
-use Rattle.text_writer.specs.declared.send.WriteFault.{WriteFault}
+use Rattle.shen_base.specs.declared.send.WriteFault.{WriteFault}
 use Rattle.trace_grammar.specs.Grammar.{most_bytes}
 use Rattle.trace_runs.specs.Words.{usual_steps}
 use Rattle.trace_runs.specs.Answered.{Input, Output, HasRead, SaysLine}

@@ -1,7 +1,7 @@
 -- Texts that are put one after the other.
 use Rattle.std.proofs.Common.{◌≡◌, ℕ, ◌++◌, List, append_assoc, sym, ap, ◌∙◌}
-use Rattle.text_writer.specs.Sending.{SinkStage, Puts}
-use Rattle.text_writer.proofs.Stages.{puts_both, puts_same}
+use Rattle.shen_base.specs.Sending.{SinkStage, Puts}
+use Rattle.shen_base.proofs.Stages.{puts_both, puts_same}
 
 -- some text was put
 pub some_text : {a b : SinkStage} {x : List ℕ} → Puts a b x → (text : List ℕ) × Puts a b text

@@ -1,7 +1,7 @@
 //! What is told of a search.
 ghost use Rattle.std.specs.Prelude.{ℕ, List, [], ◌∷◌, ◌++◌};
 ghost use Rattle.std.specs.Fmt.{decimal};
-ghost use Rattle.text_writer.specs.Sending.{Puts, Writes, outlet, stage};
+ghost use Rattle.shen_base.specs.Sending.{Puts, Writes, outlet, stage};
 ghost use Rattle.trace_grammar.specs.Spelling.{newline};
 ghost use Rattle.shenfind.specs.FaultLines.{refusal_text};
 ghost use Rattle.shenfind.specs.Tellings.{line_of_verdict};
@@ -10,8 +10,7 @@ ghost use Rattle.find_reading.specs.declared.fault.TestFault.TheVariants.{BadLin
 use find_play::Verdict;
 use find_reading::TestWhy;
 use find_search::Tally;
-use shen_base::Sink;
-use text_writer::{Block, WriteFault};
+use shen_base::{Block, Sink, WriteFault};
 
 // Puts a line of words, with a space behind them, and a number.
 fn put_line<K: Sink>(block: &mut Block, sink: &mut K, words: &[u8], number: u64)

@@ -2,7 +2,7 @@
 ghost use Rattle.std.specs.Prelude.{◌≡◌, ◌⊎◌, IfOk, OnOk, OnErr};
 ghost use Rattle.std.specs.Io.KnownBytes.{Appends};
 ghost use Rattle.shen_base.specs.Count.{Rose};
-ghost use Rattle.text_writer.specs.Sending.{outlet};
+ghost use Rattle.shen_base.specs.Sending.{outlet};
 ghost use Rattle.shenfind.specs.FaultLines.{refusal_text, refusal_status};
 ghost use Rattle.shenfind.specs.Tellings.{status_of, Reports, HasSearched, StatusTells};
 
@@ -13,9 +13,8 @@ use find_play::{Test, Verdict};
 use find_reading::{TestFault, read_test};
 use find_search::{Break, Hunted, hunt};
 use heap_words::NoMemory;
-use shen_base::{Sink, Source};
+use shen_base::{Sink, Source, WriteFault, write_all};
 use std::alloc::Global;
-use text_writer::{WriteFault, write_all};
 
 /// The most steps of a replay, as many as `shenrun replay` makes where its words do not say.
 const STEPS: u64 = 100_000_000;

@@ -6,7 +6,7 @@ use Rattle.heap_words.specs.declared.config.Config.{Config}
 use Rattle.heap_words.specs.declared.schedule.Item.{Item}
 use Rattle.shen_base.specs.Count.{Rose}
 use Rattle.step_core.specs.Schedule.{Scripts}
-use Rattle.text_writer.specs.Sending.{Outlet, WritesFront}
+use Rattle.shen_base.specs.Sending.{Outlet, WritesFront}
 use Rattle.trace_grammar.specs.Grammar.{most_bytes, Reads, Came}
 use Rattle.trace_grammar.specs.declared.why.Why.{Why}
 use Rattle.trace_reading.specs.declared.fault.TraceFault.{TraceFault}

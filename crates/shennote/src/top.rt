@@ -1,15 +1,14 @@
 //! The top call: a trace in, the same with a schedule of a run out.
 ghost use Rattle.std.specs.Prelude.{◌≡◌, ◌<◌, length};
-ghost use Rattle.text_writer.specs.Sending.{outlet};
+ghost use Rattle.shen_base.specs.Sending.{outlet};
 ghost use Rattle.trace_runs.specs.CallEnds.{EndsWith};
 ghost use Rattle.shennote.specs.Tellings.{NotingTells};
 
 use crate::note::{Noted, note_trace};
-use shen_base::{Sink, Source};
+use shen_base::{Sink, Source, write_all};
 use std::alloc::Global;
 use std::sync::Wait;
 use std::thread::Threads;
-use text_writer::write_all;
 use trace_reading::{all_bytes, trace_of};
 use trace_runs::{Status, refuse, say};
 use trace_writing::Line;

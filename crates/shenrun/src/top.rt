@@ -2,7 +2,7 @@
 ghost use Rattle.std.specs.Prelude.{◌≡◌, ◌⊎◌, ℕ, List, Some, map};
 ghost use Rattle.std.specs.String.{string_bytes};
 ghost use Rattle.shen_base.specs.Count.{Rose};
-ghost use Rattle.text_writer.specs.Sending.{outlet};
+ghost use Rattle.shen_base.specs.Sending.{outlet};
 ghost use Rattle.trace_runs.specs.Words.{Asked};
 ghost use Rattle.trace_runs.specs.Readings.{reading_of, ReadsInput, ReadsNothing, Takes};
 ghost use Rattle.trace_runs.specs.Answered.{HasAnswered, StatusFits, IsTraceStatus};

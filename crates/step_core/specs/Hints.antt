@@ -7,7 +7,7 @@ use Rattle.shen_graph.specs.declared.order.Order.{Order}
 use Rattle.shen_graph.specs.declared.order.Order.TheVariants.{Nothing}
 use Rattle.shen_graph.specs.Order.{hint_in}
 use Rattle.heap_world.specs.Change.{Change}
-use Rattle.scan_part.specs.Rows as scans
+use Rattle.unit_part.specs.ScanRows as scans
 use Rattle.unit_part.specs.declared.spot.UnitSpot.{UnitSpot}
 use Rattle.unit_part.specs.declared.spot.UnitSpot.TheVariants.{Scanning}
 use Rattle.step_core.specs.Actor.{Machine, Actor}

@@ -12,7 +12,7 @@ use Rattle.mutator.specs.declared.makes.MakeSpot.TheVariants as make
 use Rattle.mutator.specs.declared.resolves.Loaded.{Loaded}
 use Rattle.mutator.specs.declared.resolves.Loaded.TheVariants.{ForRoot, ToCompare}
 use Rattle.mutator.specs.Commands.{dst_of}
-use Rattle.move_steps.specs.Resolving.Facts.{IsResolvingRoom}
+use Rattle.cycle_steps.specs.Resolving.Facts.{IsResolvingRoom}
 use Rattle.mutator.specs.Rows.{Mutating, words_made}
 use Rattle.heap_world.specs.World.{World, Block, hand, room_of, Points}
 use Rattle.alloc_buffers.specs.Facts as takes

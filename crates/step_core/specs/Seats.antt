@@ -19,10 +19,10 @@ use Rattle.load_barrier.specs.declared.evac_spot.EvacSpot.TheVariants as evac
 use Rattle.unit_part.specs.declared.spot.UnitSpot.{UnitSpot}
 use Rattle.unit_part.specs.declared.spot.UnitSpot.TheVariants.{Scanning, Evacuating, Updating, Ended}
 use Rattle.heap_words.specs.declared.access.Unit.TheVariants.{Worked}
-use Rattle.mark_steps.specs.Scanning.{scanning_of}
-use Rattle.move_steps.specs.Resolving.Facts.{IsResolvingRoom}
-use Rattle.move_steps.specs.Evacuation.Facts.{working_of}
-use Rattle.move_steps.specs.Updating.Facts.{pass_of}
+use Rattle.cycle_steps.specs.Scanning.{scanning_of}
+use Rattle.cycle_steps.specs.Resolving.Facts.{IsResolvingRoom}
+use Rattle.cycle_steps.specs.Evacuation.Facts.{working_of}
+use Rattle.cycle_steps.specs.Updating.Facts.{pass_of}
 use Rattle.mutator.specs.declared.spot.Kept.{Kept}
 use Rattle.mutator.specs.declared.spot.Spot.{Spot}
 use Rattle.mutator.specs.declared.spot.Spot.TheVariants.{Entering, Loading, OnField, Resolving, Recording, OnNumber, Showing, StoreRoot, Making, Pinning, Waiting}

@@ -4,8 +4,7 @@ use crate::bundle::Bundle;
 use crate::heap::Heap;
 use crate::key::HeapKey;
 use crate::machines::{Acting, OfHeaps};
-use seat_gathering::{gather_seat, read_run};
-use shared_table::ViewSeat;
+use shared_table::{ViewSeat, gather_seat, read_run};
 use shen_graph::Order;
 use std::marker::Brand;
 

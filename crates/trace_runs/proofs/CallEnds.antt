@@ -4,7 +4,7 @@ use Rattle.std.proofs.KnownBytes.{Appends-trans}
 use Rattle.std.proofs.lemmas.List.{length-append}
 use Rattle.std.specs.Io.KnownBytes.{Appends}
 use Rattle.shen_base.specs.Count.{Rose, CalledAtMost}
-use Rattle.text_writer.specs.Sending.{Outlet, WritesFront}
+use Rattle.shen_base.specs.Sending.{Outlet, WritesFront}
 use Rattle.trace_runs.specs.declared.status.Status.{Status}
 use Rattle.trace_runs.specs.declared.status.Status.TheVariants.{Ok, BadWords, BadTrace, Unfinished, ReadFault, WriteFault, NoMemory}
 use Rattle.trace_runs.specs.Answered.{Allows, Input, Output, IsWritten, StatusFits, HasAnswered}

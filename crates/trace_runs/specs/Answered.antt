@@ -3,7 +3,7 @@
 use Rattle.std.specs.Prelude.{ℕ, ◌≡◌, ◌+◌, ◌⊎◌, List, length, Option, Some, None}
 use Rattle.std.specs.Io.KnownBytes.{Appends, Consumes}
 use Rattle.shen_base.specs.Count.{Rose, CalledAtMost}
-use Rattle.text_writer.specs.Sending.{Outlet, WritesFront}
+use Rattle.shen_base.specs.Sending.{Outlet, WritesFront}
 use Rattle.trace_grammar.specs.Grammar.{most_bytes, Came}
 use Rattle.trace_grammar.specs.declared.why.Why.{Why}
 use Rattle.trace_writing.specs.Message.{line_text}

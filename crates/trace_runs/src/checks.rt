@@ -1,6 +1,6 @@
 //! `check`: a history that somebody claims for a trace, judged.
 ghost use Rattle.std.specs.Prelude.{◌≡◌, ℕ, List, IfOk, IfErr, OnOk};
-ghost use Rattle.text_writer.specs.Sending.{outlet};
+ghost use Rattle.shen_base.specs.Sending.{outlet};
 ghost use Rattle.trace_grammar.specs.Grammar.{Came};
 ghost use Rattle.trace_text.specs.Pairs.{IsPair};
 ghost use Rattle.trace_runs.specs.Checked.{verdict_line};

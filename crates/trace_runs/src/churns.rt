@@ -1,7 +1,7 @@
 //! `churn`: a large workload that is made from a number, on a heap that threads share.
 ghost use Rattle.std.specs.Prelude.{◌≤◌, ℕ, List, IfOk};
 ghost use Rattle.churn.specs.Laws.{SumsUpTurns};
-ghost use Rattle.text_writer.specs.Sending.{outlet};
+ghost use Rattle.shen_base.specs.Sending.{outlet};
 ghost use Rattle.trace_runs.specs.Words.{most_seed, most_rounds, Asks};
 ghost use Rattle.trace_runs.specs.Churned.{IsChurnHeap};
 ghost use Rattle.trace_runs.specs.Answered.{Input, StatusFits};

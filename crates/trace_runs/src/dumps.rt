@@ -1,7 +1,7 @@
 //! `replay --dump`, which writes the heap at the end of a replay down, and `resume`, which goes on from what was written.
 ghost use Rattle.std.specs.Prelude.{◌≡◌, ◌<◌, ◌++◌, ℕ, List, Err, IfOk, IfErr, OnOk, length};
 ghost use Rattle.shen_graph.specs.Work.{HasScript};
-ghost use Rattle.text_writer.specs.Sending.{outlet};
+ghost use Rattle.shen_base.specs.Sending.{outlet};
 ghost use Rattle.trace_grammar.specs.Grammar.{Came, Reads};
 ghost use Rattle.trace_writing.specs.Answer.{spelled_answer};
 ghost use Rattle.dump_text.specs.Dumped.{dumped, IsDump};

@@ -1,7 +1,7 @@
 //! What the commands read and write: a trace comes in, and an answer or one line goes out.
 ghost use Rattle.std.specs.Prelude.{◌≡◌, ◌<◌, ◌++◌, ℕ, List, IfOk, IfErr, OnOk, length};
 ghost use Rattle.shen_graph.specs.Work.{HasScript};
-ghost use Rattle.text_writer.specs.Sending.{outlet};
+ghost use Rattle.shen_base.specs.Sending.{outlet};
 ghost use Rattle.trace_grammar.specs.Grammar.{Came, Reads};
 ghost use Rattle.trace_writing.specs.Message.{line_text};
 ghost use Rattle.trace_writing.specs.Answer.{spelled_answer};

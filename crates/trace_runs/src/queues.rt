@@ -1,6 +1,6 @@
 //! `queue`: users of a queue in the heap, on a heap of their own that threads share.
 ghost use Rattle.std.specs.Prelude.{◌≡◌, ◌+◌, ◌≤◌, ◌<◌, ◌^◌, ℕ, List, Some, IfOk, length, slice_get};
-ghost use Rattle.text_writer.specs.Sending.{outlet};
+ghost use Rattle.shen_base.specs.Sending.{outlet};
 ghost use Rattle.managed_queue.specs.Users.{Use};
 ghost use Rattle.table_heap.specs.declared.heap.Heap.{Heap as Shared};
 ghost use Rattle.trace_writing.specs.Message.{line_text};

@@ -14,7 +14,7 @@ ghost use Rattle.step_core.specs.Begins.{Run, ending, graph_after, first_graph};
 ghost use Rattle.shen_core.specs.State as memory;
 ghost use Rattle.shen_core.specs.State.{config_of};
 ghost use Rattle.shen_core.specs.Progress.{AllRest};
-ghost use Rattle.text_writer.specs.Sending.{outlet};
+ghost use Rattle.shen_base.specs.Sending.{outlet};
 ghost use Rattle.trace_grammar.specs.Grammar.{Came, Reads};
 ghost use Rattle.trace_writing.specs.Answer.{spelled_answer};
 ghost use Rattle.trace_writing.specs.History.{history_text};

@@ -7,7 +7,7 @@ ghost use Rattle.heap_graph.specs.Shows.{ShowsGraph};
 ghost use Rattle.heap_machines.specs.Pause.{pause_image};
 ghost use Rattle.shen_core.specs.Progress.{IsRunnable};
 ghost use Rattle.step_core.specs.Begins.{Run, ending, graph_after};
-ghost use Rattle.text_writer.specs.Sending.{outlet};
+ghost use Rattle.shen_base.specs.Sending.{outlet};
 ghost use Rattle.trace_grammar.specs.Grammar.{Reads};
 ghost use Rattle.trace_writing.specs.Answer.{spelled_answer};
 ghost use Rattle.table_heap.specs.Closed.{config_of, stage_of, AllRest};

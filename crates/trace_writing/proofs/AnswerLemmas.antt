@@ -11,8 +11,8 @@ use Rattle.shen_graph.specs.declared.name.Name.{Name}
 use Rattle.shen_graph.specs.declared.command.Reply.{Reply}
 use Rattle.shen_graph.specs.Graph.{Reference}
 use Rattle.shen_graph.specs.GraphText.{Row}
-use Rattle.text_writer.specs.Sending.{SinkStage, Puts}
-use Rattle.text_writer.proofs.Stages.{puts_both, puts_same}
+use Rattle.shen_base.specs.Sending.{SinkStage, Puts}
+use Rattle.shen_base.proofs.Stages.{puts_both, puts_same}
 use Rattle.trace_grammar.specs.Spelling.{space, newline}
 use Rattle.trace_writing.specs.Answer.{line_of, name_word, reference_word, reply_line, object_line, roots_line, root_spellings, pins_line, pin_spellings, pins_text, answer_text}
 

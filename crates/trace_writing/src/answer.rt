@@ -3,13 +3,12 @@ ghost use Rattle.std.specs.List.{flat_map};
 ghost use Rattle.std.specs.Fmt.{decimal};
 ghost use Rattle.shen_graph.specs.Work.{HasScript, replies_of};
 ghost use Rattle.shen_graph.specs.GraphText.{row_of, root_of, pin_of};
-ghost use Rattle.text_writer.specs.Sending.{Puts, Writes, outlet, stage};
+ghost use Rattle.shen_base.specs.Sending.{Puts, Writes, outlet, stage};
 ghost use Rattle.trace_grammar.specs.Spelling.{space};
 ghost use Rattle.trace_writing.specs.Answer.{name_word, reference_word, reply_word, reply_line, object_line, roots_line, root_spellings, pins_line, pin_spellings, pins_text, thread_numbers, spelled_answer};
 
-use shen_base::Sink;
+use shen_base::{Block, Sink, WriteFault};
 use shen_graph::{Command, GraphText, Name, Reply, Work};
-use text_writer::{Block, WriteFault};
 
 // The number of roots of a thread.
 const ROOTS: usize = Command::ROOTS as usize;

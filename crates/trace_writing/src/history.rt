@@ -2,14 +2,13 @@
 ghost use Rattle.std.specs.Prelude.{◌≡◌};
 ghost use Rattle.std.specs.List.{flat_map};
 ghost use Rattle.shen_graph.specs.Noting.{seen};
-ghost use Rattle.text_writer.specs.Sending.{Puts, Writes, outlet, stage};
+ghost use Rattle.shen_base.specs.Sending.{Puts, Writes, outlet, stage};
 ghost use Rattle.trace_writing.specs.History.{entry_line, history_text};
 
 use crate::answer::put_reply_word;
 use crate::trace::put_command;
-use shen_base::Sink;
+use shen_base::{Block, Sink, WriteFault};
 use shen_graph::{Entry, History};
-use text_writer::{Block, WriteFault};
 
 /// Writes the history to the sink: the line `history`, and for each entry a line `t words : reply`, which has the thread, its
 /// command as in a trace, and the reply. It takes no memory, and calls the sink at most once per byte. After `WriteFault` a

@@ -9,5 +9,5 @@ mod trace;
 pub use answer::{Answer, put_objects, put_roots, write_answer};
 pub use history::write_history;
 pub use message::{Line, write_line};
-pub use text_writer::WriteFault;
+pub use shen_base::WriteFault;
 pub use trace::{put_title, read_traces_can_be_written, write_trace};

@@ -1,13 +1,12 @@
 ghost use Rattle.std.specs.Prelude.{[], ◌∷◌, ◌++◌, codes};
 ghost use Rattle.std.specs.Fmt.{decimal};
-ghost use Rattle.text_writer.specs.Sending.{Puts, Writes, outlet, stage};
+ghost use Rattle.shen_base.specs.Sending.{Puts, Writes, outlet, stage};
 ghost use Rattle.trace_grammar.specs.Spelling.{newline};
 ghost use Rattle.trace_grammar.specs.Why.{text_of as why_text};
 ghost use Rattle.trace_writing.specs.Message.{line_text, summary_text, queue_text};
 
 use churn::Summary;
-use shen_base::Sink;
-use text_writer::{Block, WriteFault, write_all};
+use shen_base::{Block, Sink, WriteFault, write_all};
 use trace_grammar::Why;
 
 /// The one line that stands in the place of an answer, the verdict on one, or the lines of a churn or of a queue.

@@ -4,15 +4,14 @@ ghost use Rattle.std.specs.List.{flat_map, AllByRecursion};
 ghost use Rattle.shen_graph.specs.declared.command.Command.{Command as Asked};
 ghost use Rattle.heap_words.specs.declared.config.Config.{Config as Sizes};
 ghost use Rattle.heap_words.specs.declared.schedule.Item.{Item as Turn};
-ghost use Rattle.text_writer.specs.Sending.{Puts, Writes, outlet, stage};
+ghost use Rattle.shen_base.specs.Sending.{Puts, Writes, outlet, stage};
 ghost use Rattle.trace_grammar.specs.Spelling.{numbers, command_word, numbers_of, line, titled, header, number_of, aim, spaced_item, schedule_line, IsItem};
 ghost use Rattle.trace_grammar.specs.Grammar.{Reads};
 ghost use Rattle.trace_writing.specs.Canonical.{lines_of, lines_from, turns_of, spelling_of, IsWritable};
 
 use heap_words::{Config, Item};
-use shen_base::Sink;
+use shen_base::{Block, Sink, WriteFault};
 use shen_graph::{Command, Script};
-use text_writer::{Block, WriteFault};
 use trace_grammar::Trace;
 
 /// Writes the trace to the sink, in its version: the three lines at its head, the lines of threads 1 to T one thread after the other, and all

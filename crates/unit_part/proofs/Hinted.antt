@@ -7,9 +7,9 @@ use Rattle.heap_words.specs.Words.{Heap, is_word, bit_words}
 use Rattle.heap_words.proofs.Stores.{is_word_true}
 use Rattle.regions.specs.Marks.{mark_word}
 use Rattle.regions.proofs.MarksApart.{word_inside}
-use Rattle.scan_part.specs.declared.spot.ScanSpot.{ScanSpot}
-use Rattle.scan_part.specs.declared.spot.ScanSpot.TheVariants.{LoadClaim, ClaimUnit, LoadGrey, LoadBlack, SetBlack, LoadShape, LoadField, SetGrey, Ended}
-use Rattle.scan_part.specs.Rows as scans
+use Rattle.unit_part.specs.declared.scan_spot.ScanSpot.{ScanSpot}
+use Rattle.unit_part.specs.declared.scan_spot.ScanSpot.TheVariants.{LoadClaim, ClaimUnit, LoadGrey, LoadBlack, SetBlack, LoadShape, LoadField, SetGrey, Ended}
+use Rattle.unit_part.specs.ScanRows as scans
 use Rattle.unit_part.specs.declared.spot.UnitSpot.{UnitSpot}
 use Rattle.unit_part.specs.declared.spot.UnitSpot.TheVariants.{Scanning, Evacuating, Updating}
 use Rattle.unit_part.specs.declared.spot.UnitSpot.TheVariants as unit

@@ -7,19 +7,19 @@ use Rattle.heap_words.specs.Ranges.{seat_count}
 use Rattle.heap_words.specs.Words.{IsWord, is_image, word_at, table_words}
 use Rattle.heap_words.proofs.Rows.{word_inside}
 use Rattle.steps_base.proofs.Touches.{table_index-access_at}
-use Rattle.scan_part.specs.declared.spot.ScanSpot.{ScanSpot}
-use Rattle.scan_part.specs.declared.spot.ScanSpot.TheVariants as scan
-use Rattle.scan_part.specs.Rows as scans
-use Rattle.scan_part.proofs.Inside.{scan_inside, scan_image}
+use Rattle.unit_part.specs.declared.scan_spot.ScanSpot.{ScanSpot}
+use Rattle.unit_part.specs.declared.scan_spot.ScanSpot.TheVariants as scan
+use Rattle.unit_part.specs.ScanRows as scans
+use Rattle.unit_part.proofs.ScanInside.{scan_inside, scan_image}
 use Rattle.load_barrier.specs.declared.evac_spot.EvacSpot.{EvacSpot}
 use Rattle.load_barrier.specs.declared.evac_spot.EvacSpot.TheVariants as evac
 use Rattle.load_barrier.specs.UnitRows as evacs
 use Rattle.load_barrier.specs.UnitFit as evac_fit
 use Rattle.load_barrier.proofs.Inside.{evacuation_inside, evacuation_image}
-use Rattle.update_part.specs.declared.spot.UpdateSpot.{UpdateSpot}
-use Rattle.update_part.specs.declared.spot.UpdateSpot.TheVariants as update
-use Rattle.update_part.specs.Rows as updates
-use Rattle.update_part.proofs.Inside.{updating_inside, updating_image}
+use Rattle.unit_part.specs.declared.update_spot.UpdateSpot.{UpdateSpot}
+use Rattle.unit_part.specs.declared.update_spot.UpdateSpot.TheVariants as update
+use Rattle.unit_part.specs.UpdateRows as updates
+use Rattle.unit_part.proofs.UpdateInside.{updating_inside, updating_image}
 use Rattle.unit_part.specs.declared.spot.UnitSpot.{UnitSpot}
 use Rattle.unit_part.specs.declared.spot.UnitSpot.TheVariants.{Scanning, Evacuating, Updating, Ended}
 use Rattle.unit_part.specs.Rows.{touch_at, scanned, evacuated, updated}

@@ -7,22 +7,22 @@ use Rattle.heap_words.specs.declared.config.Config.{Config}
 use Rattle.heap_words.specs.declared.access.Unit.TheVariants.{Worked, NoneLeft}
 use Rattle.heap_words.specs.Encoding.{filler_words_in, refs_in, is_forwarded, forwardee_in}
 use Rattle.regions.specs.Marks.{mark_word, mark_bit, lowest_address}
-use Rattle.scan_part.specs.declared.spot.ScanSpot.{ScanSpot}
-use Rattle.scan_part.specs.declared.spot.ScanSpot.TheVariants as scan
-use Rattle.scan_part.specs.Rows as scans
-use Rattle.scan_part.specs.Ends as scan_ends
+use Rattle.unit_part.specs.declared.scan_spot.ScanSpot.{ScanSpot}
+use Rattle.unit_part.specs.declared.scan_spot.ScanSpot.TheVariants as scan
+use Rattle.unit_part.specs.ScanRows as scans
+use Rattle.unit_part.specs.ScanEnds as scan_ends
 use Rattle.load_barrier.specs.declared.spot.ResolveSpot.{ResolveSpot}
 use Rattle.load_barrier.specs.declared.spot.ResolveSpot.TheVariants as resolve
 use Rattle.load_barrier.specs.declared.evac_spot.EvacSpot.{EvacSpot}
 use Rattle.load_barrier.specs.declared.evac_spot.EvacSpot.TheVariants as evac
 use Rattle.load_barrier.specs.UnitRows as evacs
 use Rattle.load_barrier.specs.UnitEnds as evac_ends
-use Rattle.update_part.specs.declared.spot.Walk.{Walk}
-use Rattle.update_part.specs.declared.spot.Visit.{Visit}
-use Rattle.update_part.specs.declared.spot.UpdateSpot.{UpdateSpot}
-use Rattle.update_part.specs.declared.spot.UpdateSpot.TheVariants as update
-use Rattle.update_part.specs.Rows as updates
-use Rattle.update_part.specs.Ends as update_ends
+use Rattle.unit_part.specs.declared.update_spot.Walk.{Walk}
+use Rattle.unit_part.specs.declared.update_spot.Visit.{Visit}
+use Rattle.unit_part.specs.declared.update_spot.UpdateSpot.{UpdateSpot}
+use Rattle.unit_part.specs.declared.update_spot.UpdateSpot.TheVariants as update
+use Rattle.unit_part.specs.UpdateRows as updates
+use Rattle.unit_part.specs.UpdateEnds as update_ends
 use Rattle.unit_part.specs.declared.spot.UnitSpot.{UnitSpot}
 use Rattle.unit_part.specs.declared.spot.UnitSpot.TheVariants.{Scanning, Evacuating, Updating, Ended}
 use Rattle.unit_part.specs.Rows.{begins, scanned, evacuated, updated, next_at}

@@ -1,9 +1,9 @@
 -- When a step of a machine that works on a unit says that it waits, or that another was faster, and where no unit is left.
 use Rattle.std.specs.Prelude.{ℕ}
 use Rattle.heap_words.specs.declared.config.Config.{Config}
-use Rattle.scan_part.specs.Ends as scans
+use Rattle.unit_part.specs.ScanEnds as scans
 use Rattle.load_barrier.specs.UnitEnds as evacs
-use Rattle.update_part.specs.Ends as updates
+use Rattle.unit_part.specs.UpdateEnds as updates
 use Rattle.unit_part.specs.declared.spot.UnitSpot.{UnitSpot}
 use Rattle.unit_part.specs.declared.spot.UnitSpot.TheVariants.{Scanning, Evacuating, Updating}
 

@@ -1,3 +1,10 @@
+pub mod ScanRows
+pub mod ScanSeen
+pub mod ScanEnds
+pub mod Unscanned
+pub mod UpdateRows
+pub mod UpdateSeen
+pub mod UpdateEnds
 pub mod Rows
 pub mod Ready
 pub mod Ends

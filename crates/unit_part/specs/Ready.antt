@@ -5,12 +5,12 @@ use Rattle.heap_words.specs.Access.{table_index}
 use Rattle.heap_words.specs.Ranges.{seat_count}
 use Rattle.heap_words.specs.Words.{table_words}
 use Rattle.steps_base.specs.Touch.{placed}
-use Rattle.scan_part.specs.Rows as scans
-use Rattle.scan_part.specs.Seen as scan
+use Rattle.unit_part.specs.ScanRows as scans
+use Rattle.unit_part.specs.ScanSeen as scan
 use Rattle.load_barrier.specs.UnitRows as evacs
 use Rattle.load_barrier.specs.UnitFit as evac
-use Rattle.update_part.specs.Rows as updates
-use Rattle.update_part.specs.Seen as update
+use Rattle.unit_part.specs.UpdateRows as updates
+use Rattle.unit_part.specs.UpdateSeen as update
 use Rattle.unit_part.specs.declared.spot.UnitSpot.{UnitSpot}
 use Rattle.unit_part.specs.declared.spot.UnitSpot.TheVariants.{Scanning, Evacuating, Updating}
 use Rattle.unit_part.specs.Rows.{touch_at, next_at}

@@ -8,15 +8,15 @@ use Rattle.heap_words.specs.declared.access.Took.{Took}
 use Rattle.heap_words.specs.declared.access.Took.TheVariants.{Done}
 use Rattle.heap_words.specs.Words.{Claim}
 use Rattle.steps_base.specs.Touch.{Touch, touch, loads}
-use Rattle.scan_part.specs.declared.spot.ScanSpot.{ScanSpot}
-use Rattle.scan_part.specs.declared.spot.ScanSpot.TheVariants as scan
-use Rattle.scan_part.specs.Rows as scans
+use Rattle.unit_part.specs.declared.scan_spot.ScanSpot.{ScanSpot}
+use Rattle.unit_part.specs.declared.scan_spot.ScanSpot.TheVariants as scan
+use Rattle.unit_part.specs.ScanRows as scans
 use Rattle.load_barrier.specs.declared.evac_spot.EvacSpot.{EvacSpot}
 use Rattle.load_barrier.specs.declared.evac_spot.EvacSpot.TheVariants as evac
 use Rattle.load_barrier.specs.UnitRows as evacs
-use Rattle.update_part.specs.declared.spot.UpdateSpot.{UpdateSpot}
-use Rattle.update_part.specs.declared.spot.UpdateSpot.TheVariants as update
-use Rattle.update_part.specs.Rows as updates
+use Rattle.unit_part.specs.declared.update_spot.UpdateSpot.{UpdateSpot}
+use Rattle.unit_part.specs.declared.update_spot.UpdateSpot.TheVariants as update
+use Rattle.unit_part.specs.UpdateRows as updates
 use Rattle.unit_part.specs.declared.spot.UnitSpot.{UnitSpot}
 use Rattle.unit_part.specs.declared.spot.UnitSpot.TheVariants.{Scanning, Evacuating, Updating, Ended}
 

@@ -3,16 +3,15 @@ ghost use Rattle.heap_words.specs.Ranges.{seat_count};
 ghost use Rattle.heap_words.specs.Access.{table_index};
 ghost use Rattle.heap_words.specs.Words.{Heap, IsWord, table_words};
 ghost use Rattle.steps_base.specs.Touch.{placed};
-ghost use Rattle.update_part.specs.Rows as updates;
-ghost use Rattle.update_part.specs.Ends as updating;
+ghost use Rattle.unit_part.specs.UpdateRows as updates;
+ghost use Rattle.unit_part.specs.UpdateEnds as updating;
 ghost use Rattle.unit_part.specs.Rows as rows;
 ghost use Rattle.unit_part.specs.Ready.{is_ready, IsFit};
 ghost use Rattle.unit_part.specs.Ends.{WaitsAt};
 
+use crate::{ScanSpot, UpdateSpot};
 use heap_words::{Access, Config, Place, Took, Unit};
 use load_barrier::EvacSpot;
-use scan_part::ScanSpot;
-use update_part::UpdateSpot;
 
 // The phase in which objects are marked.
 const MARK: u64 = 1;

@@ -6,4 +6,4 @@ mod end;
 
 pub use begin::init_update;
 pub use end::{end_updating, final_update, free_set};
-pub use update_part::UpdateUnit;
+pub use unit_part::UpdateUnit;

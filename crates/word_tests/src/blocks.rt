@@ -1,9 +1,8 @@
 //! What a sink has of text that is put into blocks, whole and where a call of the sink fails.
 use crate::sources_sinks::sink;
-use shen_base::MemorySink;
+use shen_base::{Block, MemorySink};
 use std::alloc::{AllocError, Global};
 use std::test::Fail;
-use text_writer::Block;
 
 // The sink's call that fails, 0 for none; a number and its digits behind 9000 bytes; and how many bytes are written. The
 // sink takes pieces of 1000 bytes: two blocks of 4096 bytes go in five calls each, the rest of 810 bytes in one.

@@ -1,4 +1,4 @@
-use packing::{compact_marked, renew};
+use regions::{compact_marked, renew};
 
 // Three regions of 8 words, whose addresses begin at 8. In each an object of 5 words, after another that is dead or in
 // front of it: with two of them in a region the second would not fit. Each names the next, and the last the first.

@@ -4,12 +4,11 @@ ghost use Rattle.shen_graph.specs.Work.{HasScript};
 
 use crate::sources_sinks::sink;
 use churn::Summary;
-use shen_base::{MemorySink, PlainSource};
+use shen_base::{MemorySink, PlainSource, WriteFault};
 use shen_graph::{GraphText, Script, Work};
 use std::alloc::{AllocError, Global};
 use std::slice::from_ref;
 use std::test::Fail;
-use text_writer::WriteFault;
 use trace_grammar::Why;
 use trace_reading::read_trace;
 use trace_writing::{

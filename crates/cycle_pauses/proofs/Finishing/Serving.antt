@@ -12,8 +12,8 @@ use Rattle.heap_words.specs.declared.config.Config.{Config}
 use Rattle.heap_words.specs.Words.{Word, Cset, Free, Evac, Top, Current, Root, Pin, Wait, Answer, Heap, Share}
 use Rattle.heap_words.specs.Encoding.{object_words, request_shape_in, request_count_in, shape_word, name_code}
 use Rattle.heap_words.specs.Encoding as encoding
-use Rattle.packing.specs.Rooms.{IsLowestRoom}
-use Rattle.packing.proofs.Rooms.{has_room}
+use Rattle.regions.specs.ServedRooms.{IsLowestRoom}
+use Rattle.regions.proofs.ServedRooms.{has_room}
 use Rattle.regions.specs.Place.{base_of}
 use Rattle.regions.specs.Sets.{all_but}
 use Rattle.shen_graph.specs.declared.name.Name.{Name}
@@ -27,11 +27,11 @@ use Rattle.heap_world.proofs.FreeRegions.{free_before}
 use Rattle.heap_world.proofs.Joined as joined
 use Rattle.heap_world.proofs.Joined.{CanJoin}
 use Rattle.heap_world.proofs.Unwritten.{blank_stays}
-use Rattle.full_words.proofs.Buffers.{SameRoom, rooms_stay, buffers_stay, share_stays}
+use Rattle.pause_words.proofs.Buffers.{SameRoom, rooms_stay, buffers_stay, share_stays}
 use Rattle.std.proofs.lemmas.Option.{none-some}
-use Rattle.full_words.specs.Full.{made_word, made_in, served_in, room_for, served}
-use Rattle.full_words.proofs.Made.{outside_fresh}
-use Rattle.full_words.proofs.Served.{served_first, turn_idle, turn_waits}
+use Rattle.pause_words.specs.Full.{made_word, made_in, served_in, room_for, served}
+use Rattle.pause_words.proofs.Made.{outside_fresh}
+use Rattle.pause_words.proofs.Served.{served_first, turn_idle, turn_waits}
 use Rattle.cycle_pauses.proofs.Full.Holding.{request_reads}
 use Rattle.cycle_pauses.specs.Marking.MarkedOut.{AreUnmoved}
 use Rattle.cycle_pauses.proofs.Evacuation.Asked.{asked_stays}

@@ -5,23 +5,23 @@ use Rattle.std.proofs.Math.Nat.{mul-le-mul_right}
 use Rattle.heap_words.specs.declared.config.Config.{Config}
 use Rattle.heap_words.specs.Words.{Word, Top, Wait, Answer}
 use Rattle.heap_words.specs.Encoding.{object_words, request_shape_in}
-use Rattle.packing.specs.Tops.{sum_below}
-use Rattle.packing.specs.Rooms.{NoneHasRoom, IsLowestRoom, tops_served, given_by, room_at_turn}
-use Rattle.packing.proofs.Sums.{sum_next, sum_none, sum_both, sum_of_none, sum_front, sum_of_two_rows}
-use Rattle.packing.proofs.Rooms.{all_full}
+use Rattle.regions.specs.Tops.{sum_below}
+use Rattle.regions.specs.ServedRooms.{NoneHasRoom, IsLowestRoom, tops_served, given_by, room_at_turn}
+use Rattle.regions.proofs.Sums.{sum_next, sum_none, sum_both, sum_of_none, sum_front, sum_of_two_rows}
+use Rattle.regions.proofs.ServedRooms.{all_full}
 use Rattle.shen_graph.specs.Graph.{Graph}
 use Rattle.heap_world.specs.Asking.{Asking, nothing, asks, refused, given, IsRequest, IsAsked}
 use Rattle.heap_world.specs.Change.{words_given, IsCrowded}
 use Rattle.heap_world.specs.Represents.{RepresentsByCopies}
-use Rattle.full_words.specs.Full.{packed_in, asked_in, full_from}
-use Rattle.full_words.specs.Promised.{Promises, words_if, promised_words}
-use Rattle.full_words.specs.Served.{tops_at_turn, given_in}
-use Rattle.full_words.proofs.Served.{tops_are_served, requests_are_answered}
-use Rattle.full_words.proofs.Crowded.{full_is_crowded}
+use Rattle.pause_words.specs.Full.{packed_in, asked_in, full_from}
+use Rattle.pause_words.specs.Promised.{Promises, words_if, promised_words}
+use Rattle.pause_words.specs.Served.{tops_at_turn, given_in}
+use Rattle.pause_words.proofs.Served.{tops_are_served, requests_are_answered}
+use Rattle.pause_words.proofs.Crowded.{full_is_crowded}
 use Rattle.cycle_pauses.proofs.Full.Promises.{promised_ref, promised_refs, promised_nums, promises_of, ref_of, refs_of, nums_of}
 use Rattle.cycle_pauses.proofs.Full.Before.{live}
 use Rattle.cycle_pauses.proofs.Full.Holding.{request_reads, waits_for, are_fresh, holds_by}
-use Rattle.full_words.proofs.Still.{packed_wait}
+use Rattle.pause_words.proofs.Still.{packed_wait}
 use Rattle.cycle_pauses.proofs.Full.Paused.{then_of, asked_then}
 use Rattle.cycle_pauses.proofs.Full.Reached.{reach_list}
 use Rattle.cycle_pauses.proofs.Full.PinnedOnes.{held_ones, pinned_ones}

@@ -8,19 +8,19 @@ use Rattle.heap_words.specs.declared.config.Config.{Config}
 use Rattle.heap_words.specs.Words.{Word, State, Top, Tams, Limit, Current, Root, Pin, Count, Buffer, Wait, Answer, Grey, Black, Heap, is_word}
 use Rattle.heap_words.specs.Encoding.{filler_header, object_words, name_code, request_count_in, request_shape_in}
 use Rattle.regions.specs.Place.{base_of, region_with}
-use Rattle.packing.specs.Places.{open_kept, LieApart}
-use Rattle.packing.specs.Tops.{words_in}
-use Rattle.packing.proofs.Placed.{is_open, moves_down, stays_above}
-use Rattle.packing.proofs.Sums.{sum_of_none}
-use Rattle.packing.proofs.Tops.{added, place_in_range}
-use Rattle.packing.proofs.Rooms.{has_room}
-use Rattle.packing.specs.Slide.{renewed, is_covered, slid_word, slid}
-use Rattle.packing.proofs.Slid.{slid_next, slid_none, covered_here}
-use Rattle.full_words.specs.Plot.{heap_end, packed_top}
-use Rattle.full_words.specs.Pinned.{is_row_pinned, object_of, is_in_use, begins}
-use Rattle.full_words.specs.Full.{packed_in, now_in, kept_in, place_in, is_unkept, moved_heap, packed, made_in, served_in, room_for, served, refused, full_from}
-use Rattle.full_words.proofs.Made.{outside_fresh}
-use Rattle.full_words.proofs.Served.{served_first, turn_idle, turn_waits}
+use Rattle.regions.specs.Places.{open_kept, LieApart}
+use Rattle.regions.specs.Tops.{words_in}
+use Rattle.regions.proofs.Placed.{is_open, moves_down, stays_above}
+use Rattle.regions.proofs.Sums.{sum_of_none}
+use Rattle.regions.proofs.Tops.{added, place_in_range}
+use Rattle.regions.proofs.ServedRooms.{has_room}
+use Rattle.regions.specs.Slide.{renewed, is_covered, slid_word, slid}
+use Rattle.regions.proofs.Slid.{slid_next, slid_none, covered_here}
+use Rattle.pause_words.specs.Plot.{heap_end, packed_top}
+use Rattle.pause_words.specs.Pinned.{is_row_pinned, object_of, is_in_use, begins}
+use Rattle.pause_words.specs.Full.{packed_in, now_in, kept_in, place_in, is_unkept, moved_heap, packed, made_in, served_in, room_for, served, refused, full_from}
+use Rattle.pause_words.proofs.Made.{outside_fresh}
+use Rattle.pause_words.proofs.Served.{served_first, turn_idle, turn_waits}
 
 -- all that is no word of the table reads 0
 abbrev pub IsZeroOutside : Config → (Word → ℕ) → Type 0

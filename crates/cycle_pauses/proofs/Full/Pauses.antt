@@ -7,12 +7,12 @@ use Rattle.shen_graph.specs.Graph.{Graph}
 use Rattle.heap_world.specs.Asking.{Asking}
 use Rattle.heap_world.specs.Change.{image_view, IsPaused}
 use Rattle.heap_world.specs.Represents.{RepresentsByCopies}
-use Rattle.buffer_words.specs.LetGo.{let_go, HasNoBuffers}
-use Rattle.buffer_words.proofs.LettingGo.{letting_go_leaves}
-use Rattle.buffer_pauses.proofs.Refitted.{currents_of}
-use Rattle.buffer_pauses.proofs.Trimmed.{trim, trimmed_none}
-use Rattle.buffer_pauses.proofs.Kept.{trimmed_copies}
-use Rattle.full_words.specs.Full.{moved_heap, packed, packed_in, served, refused, full_from, full}
+use Rattle.pause_words.specs.LetGo.{let_go, HasNoBuffers}
+use Rattle.pause_words.proofs.LettingGo.{letting_go_leaves}
+use Rattle.pause_words.proofs.Refitted.{currents_of}
+use Rattle.pause_words.proofs.Trimmed.{trim, trimmed_none}
+use Rattle.pause_words.proofs.Kept.{trimmed_copies}
+use Rattle.pause_words.specs.Full.{moved_heap, packed, packed_in, served, refused, full_from, full}
 use Rattle.cycle_pauses.specs.Full.Laws.{RepresentingHolds, ImageIsFull, TableIsFull, FullFromCopies, FullIsPause}
 use Rattle.cycle_pauses.proofs.Full.ByCopies.{by_copies}
 use Rattle.cycle_pauses.proofs.Full.Holding.{holds_some, holds_sized}

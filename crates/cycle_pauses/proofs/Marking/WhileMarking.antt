@@ -7,11 +7,11 @@ use Rattle.heap_world.specs.World.{Plot}
 use Rattle.heap_world.specs.Asking.{Asking}
 use Rattle.heap_world.specs.Represents.{Represents}
 use Rattle.heap_words.specs.Ranges.{seat_count}
-use Rattle.buffer_words.specs.Settled.{buffers_settled}
-use Rattle.buffer_words.proofs.Settling.{settling_leaves}
-use Rattle.buffer_words.proofs.Elsewhere.{settled_same}
-use Rattle.buffer_pauses.proofs.Kept.{settling_keeps, edges_divide}
-use Rattle.full_words.specs.Promised.{Promises}
+use Rattle.pause_words.specs.Settled.{buffers_settled}
+use Rattle.pause_words.proofs.Settling.{settling_leaves}
+use Rattle.pause_words.proofs.Elsewhere.{settled_same}
+use Rattle.pause_words.proofs.Kept.{settling_keeps, edges_divide}
+use Rattle.pause_words.specs.Promised.{Promises}
 use Rattle.cycle_pauses.proofs.Full.ByCopies.{by_copies}
 use Rattle.cycle_pauses.proofs.Full.Promises.{promises_of}
 use Rattle.cycle_pauses.proofs.Full.Before.{live}

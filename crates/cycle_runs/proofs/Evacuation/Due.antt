@@ -16,7 +16,7 @@ use Rattle.heap_world.specs.Asking.{Asking, nothing, asks, refused, given, IsAsk
 use Rattle.heap_world.specs.Change.{Change, IsDue, image_view, image_words}
 use Rattle.control_rows.specs.ByParts.{PausesByParts}
 use Rattle.heap_world.proofs.Updated.{usable_current}
-use Rattle.move_steps.proofs.Updating.Done.{units_are_updated, all_is_updated}
+use Rattle.cycle_steps.proofs.Updating.Done.{units_are_updated, all_is_updated}
 use Rattle.mutator.specs.Rows.{Mutating}
 use Rattle.control_rows.specs.declared.spot.ControlSpot.{ControlSpot}
 use Rattle.control_rows.specs.declared.spot.ControlSpot.TheVariants as control

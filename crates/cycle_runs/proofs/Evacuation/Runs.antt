@@ -22,10 +22,10 @@ use Rattle.handshake.specs.Standing.{is_pausing}
 use Rattle.load_barrier.proofs.Knows.{header_forwarded, header_names}
 use Rattle.heap_world.specs.World.{World, Block, thing, words_of, Body, body_at, body_words, IsCollected}
 use Rattle.heap_world.proofs.Pointing.{copy_cases, body_piece}
-use Rattle.move_steps.proofs.Resolving.Bodies.{piece_word_is}
+use Rattle.cycle_steps.proofs.Resolving.Bodies.{piece_word_is}
 use Rattle.heap_world.specs.Change.{Change}
 use Rattle.control_rows.specs.ByParts.{PausesByParts}
-use Rattle.move_steps.proofs.Evacuation.Parts.{all_is_forwarded}
+use Rattle.cycle_steps.proofs.Evacuation.Parts.{all_is_forwarded}
 use Rattle.mutator.specs.Rows.{Mutating, touch_of}
 use Rattle.control_rows.specs.declared.spot.ControlSpot.{ControlSpot}
 use Rattle.control_rows.specs.declared.spot.ControlSpot.TheVariants.{LookFree, Working, Stopping, LoadWord, StoreWord}

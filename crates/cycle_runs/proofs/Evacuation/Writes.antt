@@ -23,9 +23,9 @@ use Rattle.alloc_buffers.specs.Rows as takes
 use Rattle.satb_barrier.specs.declared.spot.RememberSpot.{RememberSpot}
 use Rattle.satb_barrier.specs.declared.spot.RememberSpot.TheVariants as remember
 use Rattle.satb_barrier.specs.Rows as satb
-use Rattle.scan_part.specs.declared.spot.ScanSpot.{ScanSpot}
-use Rattle.scan_part.specs.declared.spot.ScanSpot.TheVariants as scan
-use Rattle.scan_part.specs.Rows as scans
+use Rattle.unit_part.specs.declared.scan_spot.ScanSpot.{ScanSpot}
+use Rattle.unit_part.specs.declared.scan_spot.ScanSpot.TheVariants as scan
+use Rattle.unit_part.specs.ScanRows as scans
 use Rattle.load_barrier.specs.declared.copying.CopySpot.{CopySpot}
 use Rattle.load_barrier.specs.declared.copying.CopySpot.TheVariants.{LoadWord, StoreWord, StoreHeader, Publish, GiveBack}
 use Rattle.load_barrier.specs.declared.spot.ResolveSpot.{ResolveSpot}
@@ -36,14 +36,14 @@ use Rattle.load_barrier.specs.declared.evac_spot.EvacSpot.TheVariants as evac
 use Rattle.load_barrier.specs.UnitRows as evacs
 use Rattle.alloc_buffers.specs.Facts.{TakeFacts}
 use Rattle.heap_world.specs.World.{World, Block, thing, hand, spare, words_of, room_of, Body, body_at, body_words, IsCollected, TargetIn, Shared}
-use Rattle.move_steps.specs.Resolving.Facts.{IsCopied, CanResolve}
-use Rattle.move_steps.proofs.Resolving.Parts.{resolving_steps}
-use Rattle.move_steps.specs.Evacuation.Facts.{CanEvacuate}
-use Rattle.update_part.specs.Rows as updates
-use Rattle.update_part.specs.declared.spot.UpdateSpot.{UpdateSpot}
-use Rattle.update_part.specs.declared.spot.UpdateSpot.TheVariants as update
-use Rattle.move_steps.specs.Updating.Facts.{CanUpdate}
-use Rattle.move_steps.proofs.Updating.Following.{following_steps}
+use Rattle.cycle_steps.specs.Resolving.Facts.{IsCopied, CanResolve}
+use Rattle.cycle_steps.proofs.Resolving.Parts.{resolving_steps}
+use Rattle.cycle_steps.specs.Evacuation.Facts.{CanEvacuate}
+use Rattle.unit_part.specs.UpdateRows as updates
+use Rattle.unit_part.specs.declared.update_spot.UpdateSpot.{UpdateSpot}
+use Rattle.unit_part.specs.declared.update_spot.UpdateSpot.TheVariants as update
+use Rattle.cycle_steps.specs.Updating.Facts.{CanUpdate}
+use Rattle.cycle_steps.proofs.Updating.Following.{following_steps}
 use Rattle.mutator.specs.declared.spot.Kept.{Kept}
 use Rattle.mutator.specs.declared.spot.Spot.{Spot}
 use Rattle.mutator.specs.declared.spot.Spot.TheVariants.{Rest, Ended, Entering as Enters, LoadPhase, LoadSet, Loading, OnField, Resolving, Recording, OnNumber, Showing, StoreRoot, Making, AskCycle, Pinning, Waiting, Leave, Gone}

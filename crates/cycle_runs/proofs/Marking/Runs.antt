@@ -12,7 +12,7 @@ use Rattle.heap_world.specs.Represents.{Represents}
 use Rattle.shen_graph.specs.declared.order.Order.TheVariants.{Nothing}
 use Rattle.heap_world.specs.Change.{image_view, image_words}
 use Rattle.cycle_words.specs.Marking.Close.{closed}
-use Rattle.mark_steps.proofs.Chained.{marking_comes}
+use Rattle.cycle_steps.proofs.Chained.{marking_comes}
 use Rattle.cycle_pauses.specs.Collect.{collect_image}
 use Rattle.cycle_pauses.proofs.Marking.WhileMarking.{reachable_are_marked}
 use Rattle.cycle_pauses.proofs.Brief.ByParts.{collect_pauses_by_parts}

@@ -11,7 +11,7 @@ use Rattle.shen_graph.specs.Graph.{Reference}
 use Rattle.heap_world.specs.World.{World, Block, thing, spent, promised, words_of, name_at, Body, body_at, Points, TargetIn, UsableIn, HasCopy, IsMarkable, Shared}
 use Rattle.heap_world.proofs.Pointing.{named_piece, body_piece}
 use Rattle.heap_world.proofs.Pieces.{some_words}
-use Rattle.move_steps.proofs.Evacuation.Walks.{placed}
+use Rattle.cycle_steps.proofs.Evacuation.Walks.{placed}
 
 module _ (c : Config) (w : World) (shared : Shared c w) (r : ℕ) (inside : r < c.regions) (free : IsIn (w.memory Free) r) where
   -- an address does not lie there

@@ -8,8 +8,8 @@ use Rattle.shen_graph.specs.declared.command.Command.{Command}
 use Rattle.shen_graph.specs.declared.command.Command.TheVariants.{Pin, Unpin}
 use Rattle.shen_graph.specs.declared.command.Reply.{Reply}
 use Rattle.heap_world.specs.World.{World, Shared}
-use Rattle.move_steps.specs.Resolving.Facts.{CanResolve}
-use Rattle.move_steps.specs.Updating.Following.{CanFollow}
+use Rattle.cycle_steps.specs.Resolving.Facts.{CanResolve}
+use Rattle.cycle_steps.specs.Updating.Following.{CanFollow}
 use Rattle.load_barrier.specs.declared.spot.ResolveSpot.{ResolveSpot}
 use Rattle.mutator.specs.declared.spot.Kept.{Kept}
 use Rattle.mutator.specs.declared.spot.Spot.{Spot}

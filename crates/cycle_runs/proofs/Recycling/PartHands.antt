@@ -7,29 +7,29 @@ use Rattle.regions.specs.Sets.{IsIn}
 use Rattle.regions.specs.Marks.{address_at}
 use Rattle.satb_barrier.specs.declared.spot.RememberSpot.{RememberSpot}
 use Rattle.satb_barrier.specs.declared.spot.RememberSpot.TheVariants as remember
-use Rattle.scan_part.specs.declared.spot.ScanSpot.{ScanSpot}
-use Rattle.scan_part.specs.declared.spot.ScanSpot.TheVariants as scan
+use Rattle.unit_part.specs.declared.scan_spot.ScanSpot.{ScanSpot}
+use Rattle.unit_part.specs.declared.scan_spot.ScanSpot.TheVariants as scan
 use Rattle.load_barrier.specs.declared.copying.CopySpot.{CopySpot}
 use Rattle.load_barrier.specs.declared.copying.CopySpot.TheVariants.{LoadWord, StoreWord, StoreHeader, Publish, GiveBack}
 use Rattle.load_barrier.specs.declared.spot.ResolveSpot.{ResolveSpot}
 use Rattle.load_barrier.specs.declared.spot.ResolveSpot.TheVariants.{LoadHeader, Entering, LoadShape, Taking, Copying, Leaving, Stopping, LoadAgain, Resolved}
 use Rattle.load_barrier.specs.declared.evac_spot.EvacSpot.{EvacSpot}
 use Rattle.load_barrier.specs.declared.evac_spot.EvacSpot.TheVariants as evac
-use Rattle.update_part.specs.declared.spot.UpdateSpot.{UpdateSpot}
-use Rattle.update_part.specs.declared.spot.UpdateSpot.TheVariants as update
+use Rattle.unit_part.specs.declared.update_spot.UpdateSpot.{UpdateSpot}
+use Rattle.unit_part.specs.declared.update_spot.UpdateSpot.TheVariants as update
 use Rattle.heap_words.specs.Encoding.{next_in}
 use Rattle.alloc_buffers.specs.declared.spot.TakeSpot.{TakeSpot}
 use Rattle.alloc_buffers.specs.declared.spot.TakeSpot.TheVariants as take
 use Rattle.alloc_buffers.specs.Rows.{free_words}
 use Rattle.alloc_buffers.specs.Facts.{TakeFacts}
 use Rattle.heap_world.specs.World.{World, thing, moved, hand, dead, filler, spare, carved, Body, body_words, IsMarkable, Shared}
-use Rattle.move_steps.specs.Resolving.Facts.{HasMovedTo, CopyFacts, CanResolve}
-use Rattle.move_steps.specs.Evacuation.Facts.{IsMeasured, CanEvacuate}
-use Rattle.move_steps.proofs.Evacuation.Walks.{placed}
-use Rattle.mark_steps.specs.Recording.{CanRecord}
-use Rattle.mark_steps.specs.Scanning.{CanScan}
-use Rattle.move_steps.specs.Updating.Following.{CanFollow}
-use Rattle.move_steps.specs.Updating.Facts.{IsPiece, HasShape, CanUpdate}
+use Rattle.cycle_steps.specs.Resolving.Facts.{HasMovedTo, CopyFacts, CanResolve}
+use Rattle.cycle_steps.specs.Evacuation.Facts.{IsMeasured, CanEvacuate}
+use Rattle.cycle_steps.proofs.Evacuation.Walks.{placed}
+use Rattle.cycle_steps.specs.Recording.{CanRecord}
+use Rattle.cycle_steps.specs.Scanning.{CanScan}
+use Rattle.cycle_steps.specs.Updating.Following.{CanFollow}
+use Rattle.cycle_steps.specs.Updating.Facts.{IsPiece, HasShape, CanUpdate}
 use Rattle.cycle_runs.specs.Recycling.InHand.{IsTakeHand, IsCopyHand, IsResolveHand, IsRememberHand, IsScanHand, IsEvacHand, IsUpdateHand}
 use Rattle.cycle_runs.proofs.Recycling.Free.{IsElsewhere, piece_elsewhere, body_elsewhere, copy_elsewhere, markable_elsewhere}
 

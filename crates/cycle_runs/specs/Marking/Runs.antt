@@ -9,11 +9,11 @@ use Rattle.shen_graph.specs.Graph.{Graph}
 use Rattle.shen_graph.specs.History.{after}
 use Rattle.heap_world.specs.World.{Plot, IsMarkable}
 use Rattle.heap_world.specs.Change.{image_view, image_words}
-use Rattle.full_words.specs.Promised.{Promises}
+use Rattle.pause_words.specs.Promised.{Promises}
 use Rattle.image_graph.specs.Holds.{HoldsBy}
 use Rattle.cycle_words.specs.Marking.Close.{closed}
 use Rattle.cycle_words.specs.Marking.WhileMarking.{IsMarkedThrough}
-use Rattle.mark_steps.specs.Chains.{IsSafe}
+use Rattle.cycle_steps.specs.Chains.{IsSafe}
 use Rattle.cycle_pauses.specs.Collect.{collect_image}
 use Rattle.control_rows.specs.declared.spot.ControlSpot.TheVariants.{LoadWord}
 use Rattle.control_rows.specs.declared.extent.Extent.{Extent}

@@ -9,16 +9,16 @@ use Rattle.std.proofs.lemmas.Nat.Bits.{bit_at-zero}
 use Rattle.heap_words.specs.declared.config.Config.{Config}
 use Rattle.heap_words.specs.Words.{Word, Cset, Top, Answer, Heap}
 use Rattle.heap_words.specs.Encoding.{is_forwarded, object_words}
-use Rattle.packing.specs.Places.{LieApart}
+use Rattle.regions.specs.Places.{LieApart}
 use Rattle.regions.specs.Place.{region_with}
 use Rattle.regions.specs.Sets.{IsIn}
 use Rattle.shen_graph.specs.Graph.{Graph}
 use Rattle.heap_world.specs.World.{Plot, thing}
-use Rattle.full_words.specs.Held.{IsAmong}
-use Rattle.full_words.specs.Full.{held_words}
-use Rattle.full_words.specs.Promised.{Promises}
-use Rattle.full_words.proofs.Roots.{root_among, answer_among}
-use Rattle.full_words.proofs.Reached.{words_read}
+use Rattle.pause_words.specs.Held.{IsAmong}
+use Rattle.pause_words.specs.Full.{held_words}
+use Rattle.pause_words.specs.Promised.{Promises}
+use Rattle.pause_words.proofs.Roots.{root_among, answer_among}
+use Rattle.pause_words.proofs.Reached.{words_read}
 use Rattle.image_graph.specs.Holds.{HoldsBy}
 use Rattle.cycle_words.specs.Marking.Marks.{is_black, IsNew}
 use Rattle.cycle_words.specs.Marking.Close.{IsTraced}

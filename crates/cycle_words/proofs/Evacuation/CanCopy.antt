@@ -4,17 +4,17 @@ use Rattle.std.proofs.lemmas.Bool.{cases_Bool, cond-true, cond-false}
 use Rattle.heap_words.specs.declared.config.Config.{Config}
 use Rattle.heap_words.specs.Words.{Word, Cset, Top, Heap}
 use Rattle.heap_words.specs.Encoding.{is_forwarded}
-use Rattle.packing.proofs.Sums.{sum_same}
+use Rattle.regions.proofs.Sums.{sum_same}
 use Rattle.regions.specs.Place.{base_of, region_with}
 use Rattle.regions.specs.Sets.{IsIn}
 use Rattle.shen_graph.specs.Graph.{Graph}
 use Rattle.heap_world.specs.World.{Block, thing, words_of, is_loose, Plot}
 use Rattle.heap_world.proofs.Pointing.{piece_inside}
-use Rattle.full_words.specs.Promised.{Promises, with_promised}
+use Rattle.pause_words.specs.Promised.{Promises, with_promised}
 use Rattle.image_graph.specs.Holds.{HoldsBy, AreSized}
-use Rattle.full_words.specs.Held.{IsAmong}
-use Rattle.full_words.specs.Full.{now_in, held_words}
-use Rattle.full_words.proofs.Reached.{held_is_reached}
+use Rattle.pause_words.specs.Held.{IsAmong}
+use Rattle.pause_words.specs.Full.{now_in, held_words}
+use Rattle.pause_words.proofs.Reached.{held_is_reached}
 use Rattle.cycle_words.specs.Marking.Marks.{is_black, IsNew}
 use Rattle.cycle_words.proofs.Marking.Plain.{below_top}
 use Rattle.cycle_words.specs.Evacuation.Live.{words_at, marked_words, live_words, is_candidate}

@@ -16,11 +16,11 @@ use Rattle.heap_words.specs.declared.config.Config.{Config}
 use Rattle.heap_words.specs.Words.{Word, Cset, Top, Black, Heap, same_word}
 use Rattle.heap_words.specs.Encoding.{header_word, is_forwarded, object_words}
 use Rattle.heap_words.proofs.Stores.{same_word_refl, same_word_true}
-use Rattle.packing.specs.Places.{LieApart}
+use Rattle.regions.specs.Places.{LieApart}
 use Rattle.regions.specs.Place.{region_with, IsOf}
 use Rattle.regions.specs.Sets.{IsIn, IsOutside}
 use Rattle.regions.proofs.PlaceLemmas.{regions_tile}
-use Rattle.full_words.specs.Full.{now_in}
+use Rattle.pause_words.specs.Full.{now_in}
 use Rattle.image_graph.specs.Make.{AreWithin}
 use Rattle.regions.specs.Marks.{mark_word, mark_bit}
 use Rattle.cycle_words.specs.Marking.Marks.{is_black}

@@ -7,9 +7,9 @@ use Rattle.std.proofs.lemmas.List.Elements.{Contains-get_or}
 use Rattle.heap_words.specs.declared.config.Config.{Config}
 use Rattle.heap_words.specs.Words.{Word, Cset, Top, Heap}
 use Rattle.heap_words.specs.Encoding.{object_words}
-use Rattle.packing.specs.Places.{LieApart}
-use Rattle.packing.specs.Rooms.{lowest_room, taken_in, room_at_turn}
-use Rattle.packing.proofs.Rooms.{same_room, served_next, served_none, taken_here, taken_elsewhere}
+use Rattle.regions.specs.Places.{LieApart}
+use Rattle.regions.specs.ServedRooms.{lowest_room, taken_in, room_at_turn}
+use Rattle.regions.proofs.ServedRooms.{same_room, served_next, served_none, taken_here, taken_elsewhere}
 use Rattle.regions.specs.Place.{region_with}
 use Rattle.regions.specs.Sets.{IsIn, IsOutside}
 use Rattle.cycle_words.specs.Marking.Marks.{is_black}

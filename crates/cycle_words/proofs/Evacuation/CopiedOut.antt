@@ -7,7 +7,7 @@ use Rattle.std.proofs.lemmas.Nat.Bits.{bit_at-lt, bit_at_clear_same, bit_at_clea
 use Rattle.heap_words.specs.declared.config.Config.{Config}
 use Rattle.heap_words.specs.Words.{Word, Cset, Free, Top, Heap}
 use Rattle.heap_words.specs.Encoding.{header_word, plain_header}
-use Rattle.packing.proofs.Rooms.{has_room}
+use Rattle.regions.proofs.ServedRooms.{has_room}
 use Rattle.regions.specs.Place.{region_with, IsOf}
 use Rattle.regions.specs.Sets.{IsIn, IsOutside}
 use Rattle.heap_world.specs.World.{IsCollected}

@@ -7,11 +7,11 @@ use Rattle.std.proofs.lemmas.List.{get_or_append_left}
 use Rattle.heap_words.specs.declared.config.Config.{Config}
 use Rattle.heap_words.specs.Words.{Word, Cset, Free, Top, Heap, write}
 use Rattle.heap_words.specs.Encoding.{header_word, is_forwarded, forwardee_in, object_words}
-use Rattle.packing.specs.Rooms.{lowest_room}
+use Rattle.regions.specs.ServedRooms.{lowest_room}
 use Rattle.regions.specs.Place.{base_of, region_with}
 use Rattle.regions.specs.Sets.{IsOutside, all_but}
 use Rattle.regions.specs.Walk.{is_filler}
-use Rattle.full_words.specs.Full.{now_in}
+use Rattle.pause_words.specs.Full.{now_in}
 use Rattle.cycle_words.specs.Evacuation.Live.{words_at}
 use Rattle.cycle_words.specs.Evacuation.Copying.{tops_outside}
 use Rattle.cycle_words.specs.Evacuation.Copied.{copy_room, top_address, copied_word, copied_in, copied_to, copied_out, copied_by}

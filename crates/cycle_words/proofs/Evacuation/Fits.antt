@@ -9,10 +9,10 @@ use Rattle.std.proofs.lemmas.List.Elements.{Contains-get_or}
 use Rattle.std.proofs.lemmas.Map.Keys.{apart_from_distinct}
 use Rattle.heap_words.specs.declared.config.Config.{Config}
 use Rattle.heap_words.specs.Words.{Word, Free, Top, Black}
-use Rattle.packing.specs.Tops.{sum_below}
-use Rattle.packing.specs.Rooms.{room_at_turn}
-use Rattle.packing.proofs.Sums.{sum_next, sum_same, sum_grows, sum_of_things}
-use Rattle.packing.proofs.Rooms.{has_room}
+use Rattle.regions.specs.Tops.{sum_below}
+use Rattle.regions.specs.ServedRooms.{room_at_turn}
+use Rattle.regions.proofs.Sums.{sum_next, sum_same, sum_grows, sum_of_things}
+use Rattle.regions.proofs.ServedRooms.{has_room}
 use Rattle.regions.specs.Place.{base_of, region_with}
 use Rattle.regions.specs.Sets.{IsIn, IsOutside}
 use Rattle.regions.specs.Marks.{mark_word, mark_bit}

@@ -3,7 +3,7 @@ use Rattle.std.proofs.Common.{◌≡◌, ℕ, ◌+◌, ◌<◌, ◌≤◌, ◌�
 use Rattle.std.specs.Int.{bit_at}
 use Rattle.std.proofs.lemmas.Bool.{and_parts, and_from, cases_lt, cases_eq, leb-true, le-leb, eq-eqb, eqb-true, not-true, not_from_false, false_from_ne_true, both_ways, cond-false, ne_eqb}
 use Rattle.std.proofs.lemmas.Nat.Bits.{bit_at-lt, bit_at_above, same_from_bits_below}
-use Rattle.packing.proofs.Sums.{sum_of_none}
+use Rattle.regions.proofs.Sums.{sum_of_none}
 use Rattle.regions.specs.Sets.{IsIn}
 use Rattle.cycle_words.proofs.Marking.Bits.{one, bits_small, bits_at}
 use Rattle.cycle_words.specs.Evacuation.Front.{ComesBefore, comes_before, live_in, live_up_to, IsFront, IsLongestFront, is_in_front, longest_front}

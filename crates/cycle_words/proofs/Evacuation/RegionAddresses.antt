@@ -3,7 +3,7 @@ use Rattle.std.proofs.Common.{◌≡◌, ◌≢◌, ℕ, ◌+◌, ◌-◌, ◌*�
 use Rattle.std.proofs.lemmas.Bool.{cases_lt}
 use Rattle.std.proofs.lemmas.Nat.{div-add-mod', mod_below, mul-le, div-mul-add, mod-mul-add}
 use Rattle.heap_words.specs.declared.config.Config.{Config}
-use Rattle.packing.proofs.Tops.{rows_apart}
+use Rattle.regions.proofs.Tops.{rows_apart}
 use Rattle.regions.specs.Place.{base_of, region_with, IsOf}
 
 -- how far an address is from the base of its region

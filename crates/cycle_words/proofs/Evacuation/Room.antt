@@ -2,10 +2,10 @@
 use Rattle.std.proofs.Common.{◌≡◌, ◌≢◌, ℕ, ◌+◌, ◌-◌, ◌*◌, ◌<◌, ◌≤◌, ◌==◌, if◌then◌else◌, zero, suc, Option, Some, None, ap, ⊎_elim, arith}
 use Rattle.std.specs.Int.{bit_at}
 use Rattle.std.proofs.lemmas.Bool.{cases_eq, cond_both, eqb-true}
-use Rattle.packing.specs.Tops.{sum_below}
-use Rattle.packing.specs.Rooms.{taken_in, tops_served, given_by, room_at_turn, granted}
-use Rattle.packing.proofs.Sums.{sum_both}
-use Rattle.packing.proofs.Rooms.{none_has_room, served_next, served_none, served_is, taken_here, taken_elsewhere}
+use Rattle.regions.specs.Tops.{sum_below}
+use Rattle.regions.specs.ServedRooms.{taken_in, tops_served, given_by, room_at_turn, granted}
+use Rattle.regions.proofs.Sums.{sum_both}
+use Rattle.regions.proofs.ServedRooms.{none_has_room, served_next, served_none, served_is, taken_here, taken_elsewhere}
 use Rattle.regions.specs.Sets.{IsIn, members_below}
 use Rattle.cycle_words.proofs.Evacuation.Sums.{sum_at_most, members_at_least}
 

@@ -4,8 +4,8 @@ use Rattle.std.specs.Int.{bit_at}
 use Rattle.std.proofs.lemmas.Bool.{cases_eq, cases_lt, cond-true, cond-false, cond_both, eq-eqb, ne_eqb, eqb-true}
 use Rattle.std.proofs.lemmas.Nat.Bits.{bit_at-lt, bit_at-zero, bit_at_above, same_from_bits}
 use Rattle.std.proofs.lemmas.Nat.{pow_pos}
-use Rattle.packing.specs.Tops.{sum_below}
-use Rattle.packing.proofs.Sums.{sum_both, sum_of_none, sum_of_one}
+use Rattle.regions.specs.Tops.{sum_below}
+use Rattle.regions.proofs.Sums.{sum_both, sum_of_none, sum_of_one}
 use Rattle.regions.specs.Sets.{IsIn, IsOutside}
 use Rattle.cycle_words.specs.Marking.Marks.{bits_of}
 use Rattle.cycle_words.proofs.Marking.Bits.{one, bits_small, bits_at}

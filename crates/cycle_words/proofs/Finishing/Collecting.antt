@@ -10,10 +10,10 @@ use Rattle.regions.specs.Marks.{mark_word, mark_bit}
 use Rattle.regions.proofs.PlaceLemmas.{regions_tile}
 use Rattle.shen_graph.specs.Graph.{Graph}
 use Rattle.heap_world.specs.World.{Plot, IsPlotted, IsCollected}
-use Rattle.buffer_words.specs.Buffers.{buffer_region}
-use Rattle.buffer_words.specs.LetGo.{let_go}
-use Rattle.full_words.specs.Promised.{Promises}
-use Rattle.buffer_pauses.proofs.Inside.{buffer_ends, buffer_region_is}
+use Rattle.pause_words.specs.Buffers.{buffer_region}
+use Rattle.pause_words.specs.LetGo.{let_go}
+use Rattle.pause_words.specs.Promised.{Promises}
+use Rattle.pause_words.proofs.Inside.{buffer_ends, buffer_region_is}
 use Rattle.image_graph.specs.State.{EndsIn}
 use Rattle.image_graph.specs.Holds.{HoldsBy}
 use Rattle.image_graph.specs.Buffers.{HasNoMoreSeats}

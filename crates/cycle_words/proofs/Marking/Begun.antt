@@ -9,15 +9,15 @@ use Rattle.shen_graph.specs.Graph.{Graph}
 use Rattle.heap_graph.specs.Walk.{has}
 use Rattle.heap_world.specs.World.{Plot, thing, moved, hand, carved, no_ghost, name_at, IsPlotted, AreObjects, AreBuffers, IsMarkable, IsLed}
 use Rattle.heap_world.proofs.Pointing.{named_thing}
-use Rattle.buffer_words.specs.Settled.{buffers_settled}
-use Rattle.buffer_words.proofs.Settling.{settling_leaves}
-use Rattle.buffer_pauses.specs.Divided.{AreDivided}
-use Rattle.full_words.specs.Held.{IsAmong, IsCopy}
-use Rattle.full_words.specs.Full.{held_words, held_in}
-use Rattle.full_words.specs.Promised.{Promises, with_promised}
-use Rattle.full_words.proofs.Reached.{refs_read}
-use Rattle.full_words.proofs.Walked.{held_is_found, found_is_held}
-use Rattle.full_words.proofs.Buffers.{buffers_stay}
+use Rattle.pause_words.specs.Settled.{buffers_settled}
+use Rattle.pause_words.proofs.Settling.{settling_leaves}
+use Rattle.pause_words.specs.Divided.{AreDivided}
+use Rattle.pause_words.specs.Held.{IsAmong, IsCopy}
+use Rattle.pause_words.specs.Full.{held_words, held_in}
+use Rattle.pause_words.specs.Promised.{Promises, with_promised}
+use Rattle.pause_words.proofs.Reached.{refs_read}
+use Rattle.pause_words.proofs.Walked.{held_is_found, found_is_held}
+use Rattle.pause_words.proofs.Buffers.{buffers_stay}
 use Rattle.image_graph.specs.Holds.{HoldsBy}
 use Rattle.image_graph.specs.Buffers.{HasNoMoreSeats, settled_block}
 use Rattle.cycle_words.specs.Marking.Init.{marking_begun, init_marked, pruned}

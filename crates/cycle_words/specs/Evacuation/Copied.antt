@@ -6,7 +6,7 @@ use Rattle.heap_words.specs.Words.{Word, Cset, Free, Top, Heap}
 use Rattle.heap_words.specs.Encoding.{header_word, plain_header}
 use Rattle.regions.specs.Place.{base_of, region_with}
 use Rattle.regions.specs.Sets.{IsIn, IsOutside, all_but}
-use Rattle.packing.specs.Rooms.{lowest_room}
+use Rattle.regions.specs.ServedRooms.{lowest_room}
 use Rattle.image_graph.specs.Make.{AreWithin}
 use Rattle.cycle_words.specs.Evacuation.Live.{words_at}
 use Rattle.cycle_words.specs.Evacuation.Copying.{tops_outside}

@@ -6,7 +6,7 @@ use Rattle.heap_words.specs.declared.config.Config.{Config}
 use Rattle.heap_words.specs.Words.{Word, Top}
 use Rattle.regions.specs.Place.{region_with}
 use Rattle.regions.specs.Sets.{IsIn, IsOutside}
-use Rattle.packing.specs.Rooms.{tops_served, room_at_turn}
+use Rattle.regions.specs.ServedRooms.{tops_served, room_at_turn}
 use Rattle.cycle_words.specs.Marking.Marks.{is_black}
 use Rattle.cycle_words.specs.Evacuation.Live.{words_at}
 

@@ -3,7 +3,7 @@
 use Rattle.std.specs.Prelude.{ℕ, ◌≡◌, ◌≢◌, ◌+◌, ◌^◌, ◌<◌, ◌≤◌, ◌⊎◌, ◌==◌, ◌&&◌, ◌||◌, nat_lt, nat_le, not, if◌then◌else◌, Bool, true}
 use Rattle.std.specs.Int.{bit_at}
 use Rattle.regions.specs.Sets.{IsIn, IsOutside}
-use Rattle.packing.specs.Tops.{sum_below}
+use Rattle.regions.specs.Tops.{sum_below}
 use Rattle.cycle_words.specs.Marking.Marks.{bits_of}
 
 -- a region comes before another: less lives in it, or as much, and its number is lower

@@ -2,11 +2,11 @@
 use Rattle.std.specs.Prelude.{ℕ, ◌≡◌, ◌+◌, ◌^◌, ◌<◌, ◌≤◌, ◌↔◌, Option, true, Bool, if◌then◌else◌, List, length, slice_index, Some, None}
 use Rattle.heap_words.specs.declared.config.Config.{Config}
 use Rattle.heap_words.specs.Words.{Word, Cset}
-use Rattle.packing.specs.Places.{LieApart}
-use Rattle.packing.specs.Tops.{sum_below}
+use Rattle.regions.specs.Places.{LieApart}
+use Rattle.regions.specs.Tops.{sum_below}
 use Rattle.shen_graph.specs.Graph.{Graph}
 use Rattle.heap_world.specs.World.{Block, Plot, words_of}
-use Rattle.full_words.specs.Promised.{Promises}
+use Rattle.pause_words.specs.Promised.{Promises}
 use Rattle.image_graph.specs.Holds.{HoldsBy, AreSized, HasObject}
 use Rattle.cycle_words.specs.Marking.Marks.{is_black}
 use Rattle.cycle_words.specs.Marking.WhileMarking.{IsObjectAt, CanBeReached, IsMarking, IsMarkedThrough}

@@ -9,8 +9,8 @@ use Rattle.heap_words.specs.declared.config.Config.{Config}
 use Rattle.heap_words.specs.Ranges.{seat_count}
 use Rattle.std.specs.Int.{bit_at}
 use Rattle.heap_words.specs.Words.{Word, Phase, Cset, Evac, Ask, Root, Answer, image_start, view}
-use Rattle.packing.specs.Tops.{sum_below}
-use Rattle.packing.proofs.Sums.{sum_same}
+use Rattle.regions.specs.Tops.{sum_below}
+use Rattle.regions.proofs.Sums.{sum_same}
 use Rattle.shen_graph.specs.declared.command.Command.{Command}
 use Rattle.shen_graph.specs.declared.command.Reply.{Reply}
 use Rattle.shen_graph.specs.Crowd.{words_asked}

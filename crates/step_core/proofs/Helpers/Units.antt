@@ -7,28 +7,28 @@ use Rattle.heap_words.specs.declared.access.Unit.TheVariants.{Worked, NoneLeft}
 use Rattle.heap_words.specs.Ranges.{seat_count}
 use Rattle.heap_words.specs.Words.{Phase, Cset, Claim}
 use Rattle.steps_base.specs.Touch.{Touch}
-use Rattle.scan_part.specs.declared.spot.ScanSpot.{ScanSpot}
-use Rattle.scan_part.specs.declared.spot.ScanSpot.TheVariants as scan
-use Rattle.scan_part.specs.Rows as scans
+use Rattle.unit_part.specs.declared.scan_spot.ScanSpot.{ScanSpot}
+use Rattle.unit_part.specs.declared.scan_spot.ScanSpot.TheVariants as scan
+use Rattle.unit_part.specs.ScanRows as scans
 use Rattle.load_barrier.specs.declared.evac_spot.EvacSpot.{EvacSpot}
 use Rattle.load_barrier.specs.declared.evac_spot.EvacSpot.TheVariants as evac
 use Rattle.load_barrier.specs.UnitRows as evacs
 use Rattle.load_barrier.specs.UnitEnds as evac_ends
-use Rattle.update_part.specs.declared.spot.UpdateSpot.{UpdateSpot}
-use Rattle.update_part.specs.declared.spot.UpdateSpot.TheVariants as update
-use Rattle.update_part.specs.Rows as updates
-use Rattle.update_part.specs.Ends as update_ends
+use Rattle.unit_part.specs.declared.update_spot.UpdateSpot.{UpdateSpot}
+use Rattle.unit_part.specs.declared.update_spot.UpdateSpot.TheVariants as update
+use Rattle.unit_part.specs.UpdateRows as updates
+use Rattle.unit_part.specs.UpdateEnds as update_ends
 use Rattle.unit_part.specs.declared.spot.UnitSpot.{UnitSpot}
 use Rattle.unit_part.specs.declared.spot.UnitSpot.TheVariants.{Scanning, Evacuating, Updating, Ended}
 use Rattle.unit_part.specs.Rows.{begins, touch_at, next_at, is_ended, scanned, evacuated, updated}
 use Rattle.unit_part.specs.Ready.{is_ready, IsFit}
 use Rattle.unit_part.proofs.Inside.{not_ended}
 use Rattle.unit_part.proofs.Left.{by_phase, evac_left, update_left}
-use Rattle.mark_steps.proofs.Parts.{scanning_steps}
-use Rattle.move_steps.specs.Evacuation.Facts.{HasNothing, CanEvacuate}
-use Rattle.move_steps.proofs.Evacuation.Parts.{evacuating_steps}
-use Rattle.move_steps.specs.Updating.Facts.{CanUpdate}
-use Rattle.move_steps.proofs.Updating.Parts.{updating_steps}
+use Rattle.cycle_steps.proofs.Parts.{scanning_steps}
+use Rattle.cycle_steps.specs.Evacuation.Facts.{HasNothing, CanEvacuate}
+use Rattle.cycle_steps.proofs.Evacuation.Parts.{evacuating_steps}
+use Rattle.cycle_steps.specs.Updating.Facts.{CanUpdate}
+use Rattle.cycle_steps.proofs.Updating.Parts.{updating_steps}
 use Rattle.heap_world.specs.World.{World, Shared}
 use Rattle.heap_world.specs.Rely.{Rely}
 use Rattle.heap_world.specs.Part.{PartStep}

@@ -8,7 +8,7 @@ use Rattle.std.proofs.lemmas.List.Elements.{All-nil}
 use Rattle.heap_words.specs.declared.config.Config.{Config}
 use Rattle.heap_words.specs.Rows.{name_of}
 use Rattle.heap_words.specs.Words.{Word, Answer, IsWord, view, image_start}
-use Rattle.packing.specs.Tops.{sum_below}
+use Rattle.regions.specs.Tops.{sum_below}
 use Rattle.steps_base.specs.Steps.{Stage, Event, act, go}
 use Rattle.shen_graph.specs.declared.command.Command.{Command}
 use Rattle.shen_graph.specs.declared.command.Reply.{Reply}

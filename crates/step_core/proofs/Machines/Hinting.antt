@@ -2,12 +2,12 @@
 -- too. It stands in the heap as before, and no image counts.
 use Rattle.std.proofs.Common.{◌≡◌, ℕ, List, Option, Some, None, refl}
 use Rattle.heap_words.specs.declared.config.Config.{Config}
-use Rattle.scan_part.specs.declared.spot.ScanSpot.{ScanSpot}
-use Rattle.scan_part.specs.declared.spot.ScanSpot.TheVariants as scan
+use Rattle.unit_part.specs.declared.scan_spot.ScanSpot.{ScanSpot}
+use Rattle.unit_part.specs.declared.scan_spot.ScanSpot.TheVariants as scan
 use Rattle.unit_part.specs.declared.spot.UnitSpot.{UnitSpot}
 use Rattle.unit_part.specs.declared.spot.UnitSpot.TheVariants.{Scanning, Evacuating, Updating, Ended}
 use Rattle.unit_part.specs.Rows as units
-use Rattle.mark_steps.proofs.Parts.{scanning_steps}
+use Rattle.cycle_steps.proofs.Parts.{scanning_steps}
 use Rattle.heap_world.specs.World.{World}
 use Rattle.helper.specs.declared.spot.HelpSpot.{HelpSpot}
 use Rattle.helper.specs.declared.spot.HelpSpot.TheVariants as help

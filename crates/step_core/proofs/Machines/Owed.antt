@@ -4,7 +4,7 @@ use Rattle.heap_words.specs.declared.config.Config.{Config}
 use Rattle.heap_words.specs.Encoding.{object_words}
 use Rattle.heap_words.specs.Ranges.{seat_count}
 use Rattle.heap_words.specs.Words.{Word, Phase, Cset, Answer, Heap, view, table_words}
-use Rattle.packing.specs.Tops.{sum_below}
+use Rattle.regions.specs.Tops.{sum_below}
 use Rattle.steps_base.specs.Steps.{Stage}
 use Rattle.shen_graph.specs.declared.name.Name.{Name}
 use Rattle.shen_graph.specs.declared.command.Reply.{Reply}
@@ -29,12 +29,12 @@ use Rattle.helper.specs.declared.spot.HelpSpot.TheVariants as help
 use Rattle.helper.specs.Rows.{Helping}
 use Rattle.helper.specs.Ready.{help_ready}
 use Rattle.heap_words.specs.declared.access.Unit.TheVariants.{Worked, NoneLeft}
-use Rattle.scan_part.specs.declared.spot.ScanSpot.{ScanSpot}
+use Rattle.unit_part.specs.declared.scan_spot.ScanSpot.{ScanSpot}
 use Rattle.unit_part.specs.declared.spot.UnitSpot.{UnitSpot}
 use Rattle.unit_part.specs.declared.spot.UnitSpot.TheVariants.{Scanning, Evacuating, Updating, Ended}
-use Rattle.mark_steps.specs.Scanning.{CanScan}
-use Rattle.move_steps.specs.Evacuation.Facts.{CanEvacuate}
-use Rattle.move_steps.specs.Updating.Facts.{CanUpdate}
+use Rattle.cycle_steps.specs.Scanning.{CanScan}
+use Rattle.cycle_steps.specs.Evacuation.Facts.{CanEvacuate}
+use Rattle.cycle_steps.specs.Updating.Facts.{CanUpdate}
 use Rattle.step_core.specs.Actor.{Machine, mutating, helping, controlling, Actor, entries_of}
 use Rattle.step_core.specs.Threads.{IsSettled}
 use Rattle.step_core.proofs.Machines.Stepped.{Mine}

@@ -14,7 +14,7 @@ use Rattle.shen_graph.specs.declared.command.Command.{Command}
 use Rattle.shen_graph.specs.declared.command.Command.TheVariants.{Gc}
 use Rattle.shen_graph.specs.declared.command.Reply.{Reply}
 use Rattle.shen_graph.specs.declared.command.Reply.TheVariants.{Full}
-use Rattle.packing.specs.Tops.{sum_below}
+use Rattle.regions.specs.Tops.{sum_below}
 use Rattle.shen_graph.specs.History.{Entry, of_thread}
 use Rattle.shen_graph.specs.Crowd.{words_asked}
 use Rattle.shen_graph.specs.declared.order.Order.{Order}

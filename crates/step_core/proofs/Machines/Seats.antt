@@ -17,12 +17,12 @@ use Rattle.alloc_buffers.specs.declared.spot.TakeSpot.{TakeSpot}
 use Rattle.alloc_buffers.specs.declared.spot.TakeSpot.TheVariants.{LoadFree}
 use Rattle.load_barrier.specs.declared.spot.ResolveSpot.{ResolveSpot}
 use Rattle.load_barrier.specs.declared.spot.ResolveSpot.TheVariants as resolve
-use Rattle.move_steps.specs.Resolving.Facts.{ResolveFacts, CanResolve, CopyFacts}
+use Rattle.cycle_steps.specs.Resolving.Facts.{ResolveFacts, CanResolve, CopyFacts}
 use Rattle.load_barrier.specs.declared.copying.CopySpot.{CopySpot}
 use Rattle.load_barrier.specs.declared.copying.CopySpot.TheVariants as copy
 use Rattle.load_barrier.specs.declared.evac_spot.EvacSpot.{EvacSpot}
 use Rattle.load_barrier.specs.declared.evac_spot.EvacSpot.TheVariants as evac
-use Rattle.move_steps.specs.Evacuation.Facts.{HasNothing, WorkFacts}
+use Rattle.cycle_steps.specs.Evacuation.Facts.{HasNothing, WorkFacts}
 use Rattle.mutator.specs.declared.spot.Kept.{Kept}
 use Rattle.mutator.specs.declared.spot.Spot.{Spot}
 use Rattle.mutator.specs.declared.pins.PinSpot.{PinSpot}

@@ -46,8 +46,8 @@ use Rattle.heap_world.specs.Rely.{Keeps, Rely}
 use Rattle.alloc_buffers.specs.Facts.{TakeFacts}
 use Rattle.alloc_buffers.proofs.TakeStays.{take_stays}
 use Rattle.satb_barrier.specs.declared.spot.RememberSpot.{RememberSpot}
-use Rattle.mark_steps.specs.Recording.{CanRecord}
-use Rattle.mark_steps.proofs.Parts.{recording_steps}
+use Rattle.cycle_steps.specs.Recording.{CanRecord}
+use Rattle.cycle_steps.proofs.Parts.{recording_steps}
 use Rattle.step_core.proofs.Mutators.WhileMarking.{covered_stays, marking_relied, copying_relied}
 use Rattle.heap_world.proofs.Keeping.{points_stay, usable_stays, keeps_of}
 

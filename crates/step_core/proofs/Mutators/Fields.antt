@@ -25,7 +25,7 @@ use Rattle.mutator.specs.Told.{name_the_same}
 use Rattle.mutator.specs.Fit.{is_ready}
 use Rattle.shen_graph.specs.declared.order.Order.TheVariants.{Nothing}
 use Rattle.satb_barrier.specs.declared.spot.RememberSpot.TheVariants.{LoadCount}
-use Rattle.mark_steps.specs.Laws.{with_in_hand}
+use Rattle.cycle_steps.specs.Laws.{with_in_hand}
 use Rattle.heap_world.specs.World.{World, Points, Shared}
 use Rattle.heap_world.proofs.Keeping.{load_keeps}
 use Rattle.step_core.proofs.Machines.Stepped.{HasObject, IsCas, Mine, Stepped, Row}

@@ -25,7 +25,7 @@ use Rattle.heap_world.proofs.Copies.{same_plot, rely_copies}
 use Rattle.heap_world.proofs.Evacuated.{evacuated_words}
 use Rattle.heap_world.proofs.Updated.{updated_elsewhere}
 use Rattle.heap_world.proofs.Fields.{fields_stored}
-use Rattle.move_steps.proofs.Resolving.Bodies.{room_outside}
+use Rattle.cycle_steps.proofs.Resolving.Bodies.{room_outside}
 use Rattle.heap_world.proofs.Pointing.{body_piece}
 use Rattle.heap_world.proofs.Marked.{rely_marks, marked_elsewhere}
 use Rattle.heap_world.proofs.Unwritten.{unwritten_stays}

@@ -15,10 +15,10 @@ use Rattle.shen_graph.specs.Graph.{Reference, Graph}
 use Rattle.satb_barrier.specs.declared.spot.RememberSpot.{RememberSpot}
 use Rattle.satb_barrier.specs.declared.spot.RememberSpot.TheVariants.{LoadCount, LoadEntry, MarkEntry, ClearCount, StoreEntry, StoreCount, Recorded}
 use Rattle.satb_barrier.specs.Rows as satb
-use Rattle.mark_steps.specs.Recording.{CanRecord}
-use Rattle.mark_steps.specs.Laws.{with_in_hand, TakesInHand}
-use Rattle.mark_steps.proofs.MarkedMore.{markable_word}
-use Rattle.mark_steps.proofs.Parts.{recording_steps}
+use Rattle.cycle_steps.specs.Recording.{CanRecord}
+use Rattle.cycle_steps.specs.Laws.{with_in_hand, TakesInHand}
+use Rattle.cycle_steps.proofs.MarkedMore.{markable_word}
+use Rattle.cycle_steps.proofs.Parts.{recording_steps}
 use Rattle.mutator.specs.declared.spot.Kept.{Kept}
 use Rattle.mutator.specs.declared.spot.Spot.TheVariants.{Recording}
 use Rattle.mutator.specs.declared.overwrites.Overwritten.{Overwritten}

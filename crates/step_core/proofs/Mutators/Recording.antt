@@ -10,8 +10,8 @@ use Rattle.shen_graph.specs.declared.command.Reply.TheVariants as reply
 use Rattle.satb_barrier.specs.declared.spot.RememberSpot.{RememberSpot}
 use Rattle.satb_barrier.specs.declared.spot.RememberSpot.TheVariants.{Recorded}
 use Rattle.satb_barrier.specs.Rows as satb
-use Rattle.mark_steps.specs.Recording.{CanRecord}
-use Rattle.mark_steps.proofs.Parts.{recording_steps}
+use Rattle.cycle_steps.specs.Recording.{CanRecord}
+use Rattle.cycle_steps.proofs.Parts.{recording_steps}
 use Rattle.mutator.specs.declared.spot.Kept.{Kept}
 use Rattle.mutator.specs.declared.spot.Spot.{Spot}
 use Rattle.mutator.specs.declared.spot.Spot.TheVariants.{Recording, Leave}

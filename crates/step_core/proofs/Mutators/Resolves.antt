@@ -8,11 +8,11 @@ use Rattle.load_barrier.specs.declared.spot.ResolveSpot.TheVariants.{LoadHeader,
 use Rattle.load_barrier.specs.Alone.{is_copier}
 use Rattle.load_barrier.specs.Rows as resolves
 use Rattle.load_barrier.specs.Fit as load
-use Rattle.move_steps.specs.Resolving.Facts.{IsAnswer, IsResolvingRoom}
-use Rattle.move_steps.proofs.Resolving.Parts.{resolving_steps}
-use Rattle.move_steps.proofs.Updating.Following.{following_steps}
+use Rattle.cycle_steps.specs.Resolving.Facts.{IsAnswer, IsResolvingRoom}
+use Rattle.cycle_steps.proofs.Resolving.Parts.{resolving_steps}
+use Rattle.cycle_steps.proofs.Updating.Following.{following_steps}
 use Rattle.alloc_buffers.specs.Facts.{IsSpare, OnlySpares}
-use Rattle.move_steps.specs.Updating.Following.{FollowFacts}
+use Rattle.cycle_steps.specs.Updating.Following.{FollowFacts}
 use Rattle.heap_world.specs.World.{World, Block, Body, room_of, HasCopy, body_at, IsCollected, Shared}
 use Rattle.heap_world.specs.Rely.{Rely}
 use Rattle.heap_world.specs.Part.{PartStep}

@@ -20,8 +20,8 @@ use Rattle.load_barrier.specs.UnitFit.{resolve_ready}
 use Rattle.load_barrier.specs.Alone.{is_copier}
 use Rattle.load_barrier.specs.Rows as resolves
 use Rattle.load_barrier.specs.Fit as load
-use Rattle.move_steps.specs.Resolving.Facts.{IsAnswer}
-use Rattle.move_steps.proofs.Resolving.Bodies.{copy_piece, piece_begins}
+use Rattle.cycle_steps.specs.Resolving.Facts.{IsAnswer}
+use Rattle.cycle_steps.proofs.Resolving.Bodies.{copy_piece, piece_begins}
 use Rattle.mutator.specs.declared.spot.Kept.{Kept}
 use Rattle.mutator.specs.declared.spot.Spot.{Spot}
 use Rattle.mutator.specs.declared.spot.Spot.TheVariants.{Resolving, Leave}

@@ -20,7 +20,7 @@ use Rattle.mutator.specs.declared.fields.FieldSpot.TheVariants as fields
 use Rattle.mutator.specs.declared.overwrites.Overwritten.TheVariants as overwrites
 use Rattle.mutator.specs.declared.numbers.NumberSpot.TheVariants as numbers
 use Rattle.satb_barrier.specs.declared.spot.RememberSpot.TheVariants.{LoadCount}
-use Rattle.mark_steps.specs.Laws.{with_in_hand}
+use Rattle.cycle_steps.specs.Laws.{with_in_hand}
 use Rattle.mutator.specs.declared.spot.Kept.{Kept}
 use Rattle.shen_graph.specs.declared.order.Order.TheVariants.{Nothing}
 use Rattle.mutator.specs.Commands.{dst_of, index_of, stored_number}

@@ -1,5 +1,5 @@
 use Rattle.std.proofs.Common.{◌<◌, sym, arith}
-use Rattle.packing.proofs.Sums.{sum_none}
+use Rattle.regions.proofs.Sums.{sum_none}
 use Rattle.cset_choice.specs.Tables.{adds, most_live}
 use Rattle.cset_choice.proofs.Objects.{sum_more}
 use Rattle.cset_choice.proofs.Choosing.{adds_few}

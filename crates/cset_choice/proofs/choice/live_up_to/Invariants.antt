@@ -1,5 +1,5 @@
 use Rattle.std.proofs.Common.{◌≡◌, ◌*◌, ◌≤◌}
-use Rattle.packing.specs.Tops.{sum_below}
+use Rattle.regions.specs.Tops.{sum_below}
 use Rattle.cset_choice.specs.Tables.{adds, most_live}
 use Rattle.cset_choice.proofs.choice.live_up_to.Given as goal
 

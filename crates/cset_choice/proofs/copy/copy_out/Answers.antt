@@ -2,7 +2,7 @@ use Rattle.std.proofs.Common.{◌≡◌, ◌+◌, ℕ, Option, Some, None, sym, 
 use Rattle.heap_words.specs.declared.config.Config.{Config}
 use Rattle.heap_words.specs.Words.{Word, Cset, Top, Heap, IsWord, word_at}
 use Rattle.heap_words.specs.Encoding.{object_words}
-use Rattle.packing.specs.Rooms.{lowest_room}
+use Rattle.regions.specs.ServedRooms.{lowest_room}
 use Rattle.image_graph.specs.State.{config_of, memory_of}
 use Rattle.cycle_words.specs.Evacuation.Live.{words_at}
 use Rattle.cycle_words.specs.Evacuation.Copying.{tops_outside}

@@ -2,7 +2,7 @@ use Rattle.std.proofs.Common.{◌≡◌, ◌+◌, ◌<◌, ℕ, sym, ap, ◌∙�
 use Rattle.std.proofs.lemmas.Bool.{leb-true}
 use Rattle.heap_words.specs.declared.config.Config.{Config}
 use Rattle.heap_words.specs.Words.{Word, Cset, Top}
-use Rattle.packing.proofs.Rooms.{lowest_is, all_full}
+use Rattle.regions.proofs.ServedRooms.{lowest_is, all_full}
 use Rattle.image_graph.specs.State.{config_of, memory_of}
 use Rattle.cycle_words.specs.Evacuation.Copying.{tops_outside}
 use Rattle.cset_choice.proofs.copy.room_outside.Goals as goal

@@ -2,8 +2,8 @@ use Rattle.std.proofs.Common.{◌≡◌, ◌+◌, ◌-◌, ℕ, sym, ap, ◌∙�
 use Rattle.std.proofs.lemmas.Bool.{cond-false}
 use Rattle.heap_words.specs.declared.config.Config.{Config}
 use Rattle.heap_words.specs.Words.{Word}
-use Rattle.packing.specs.Tops.{sum_below}
-use Rattle.packing.proofs.Sums.{sum_none}
+use Rattle.regions.specs.Tops.{sum_below}
+use Rattle.regions.proofs.Sums.{sum_none}
 use Rattle.regions.specs.Place.{base_of}
 use Rattle.image_graph.specs.State.{config_of, memory_of}
 use Rattle.image_graph.proofs.Room.{room_in_heap}

@@ -1,7 +1,7 @@
 use Rattle.std.proofs.Common.{◌≡◌, ◌^◌, ◌<◌, ℕ, sym, ap, ◌∙◌, subst}
 use Rattle.heap_words.specs.declared.config.Config.{Config}
 use Rattle.heap_words.specs.Words.{Word, Cset, heap_in}
-use Rattle.packing.specs.Table.{now_of}
+use Rattle.regions.specs.Table.{now_of}
 use Rattle.image_graph.specs.State.{config_of, words_of, memory_of}
 use Rattle.image_graph.proofs.Same.{memory_same, carried}
 use Rattle.cycle_words.specs.Finishing.Updated.{CanUpdateAll}

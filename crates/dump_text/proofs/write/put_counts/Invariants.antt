@@ -1,5 +1,5 @@
 use Rattle.std.proofs.Common.{◌++◌, codes, take}
-use Rattle.text_writer.specs.Sending.{Puts, stage}
+use Rattle.shen_base.specs.Sending.{Puts, stage}
 use Rattle.trace_grammar.specs.Spelling.{numbers}
 use Rattle.dump_text.proofs.write.put_counts.Given as goal
 

@@ -1,5 +1,5 @@
 use Rattle.std.proofs.Common.{◌≡◌, [], ◌∷◌, codes, refl}
-use Rattle.text_writer.proofs.Stages.{puts_both, puts_same}
+use Rattle.shen_base.proofs.Stages.{puts_both, puts_same}
 use Rattle.trace_grammar.specs.Spelling.{titled}
 use Rattle.dump_text.proofs.write.put_head.Goals as goal
 

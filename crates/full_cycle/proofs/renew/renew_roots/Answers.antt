@@ -1,7 +1,7 @@
 use Rattle.std.proofs.Common.{◌≡◌, ◌<◌, ℕ, get_or, sym, ap, ◌∙◌, subst, arith}
 use Rattle.heap_words.specs.declared.config.Config.{Config}
 use Rattle.heap_words.specs.Words.{Root, Count, Answer, Grey, word_at, view}
-use Rattle.packing.specs.Table.{IsInTable}
+use Rattle.regions.specs.Table.{IsInTable}
 use Rattle.image_graph.specs.State.{config_of, words_of, places_of}
 use Rattle.full_cycle.specs.Steps.{renewed_by, IsChanged}
 use Rattle.full_cycle.proofs.TableRows.{roots_are_renewed}

@@ -1,7 +1,7 @@
 use Rattle.std.proofs.Common.{◌≡◌, ◌+◌, ◌<◌, ℕ, List, get_or, refl, sym, ap, ◌∙◌, subst, arith}
 use Rattle.heap_words.specs.declared.config.Config.{Config}
 use Rattle.heap_words.specs.Words.{table_words}
-use Rattle.packing.specs.Table.{IsInTable}
+use Rattle.regions.specs.Table.{IsInTable}
 use Rattle.image_graph.specs.State.{config_of, words_of, places_of}
 use Rattle.full_cycle.specs.Steps.{renewed_by, IsChanged}
 use Rattle.full_cycle.proofs.Changed.{none_changed, not_yet, changed_more}

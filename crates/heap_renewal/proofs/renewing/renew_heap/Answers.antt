@@ -14,11 +14,11 @@ use Rattle.graph_placing.specs.ByName.{Fits}
 use Rattle.graph_placing.specs.PlaceableText.{IsPlaceable}
 use Rattle.graph_placing.specs.PlacedHeap.{IsPlaced}
 use Rattle.graph_placing.specs.TextGraph.{text_graph}
-use Rattle.graph_renewal.specs.declared.renewing.Renewed.{Renewed}
-use Rattle.graph_renewal.specs.NamesAnew.{text_anew}
-use Rattle.graph_renewal.specs.Renaming.{AreOfThreads, AreCountsOf}
-use Rattle.graph_renewal.proofs.PinsShown.{nothing_pinned, nothing_held, not_pinned}
-use Rattle.graph_renewal.proofs.ShownRenewable.{placeable, of_threads}
+use Rattle.graph_placing.specs.declared.renewing.Renewed.{Renewed}
+use Rattle.graph_placing.specs.NamesAnew.{text_anew}
+use Rattle.graph_placing.specs.Renaming.{AreOfThreads, AreCountsOf}
+use Rattle.graph_placing.proofs.PinsShown.{nothing_pinned, nothing_held, not_pinned}
+use Rattle.graph_placing.proofs.ShownRenewable.{placeable, of_threads}
 use Rattle.heap_reopening.proofs.Placed.{placed_can_begin}
 use Rattle.heap_renewal.proofs.Anew.{begins_anew}
 use Rattle.heap_renewal.proofs.renewing.renew_heap.Goals as goal

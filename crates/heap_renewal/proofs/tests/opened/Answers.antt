@@ -18,7 +18,7 @@ use Rattle.step_core.proofs.Theorem.FirstFacts.{opening_begins}
 use Rattle.shen_core.specs.declared.plain.Plain.{Plain}
 use Rattle.shen_core.specs.State.{config_of, machine_at, Shows}
 use Rattle.shen_core.specs.Progress.{AllRest}
-use Rattle.graph_renewal.proofs.Renewables.{opening_renewable}
+use Rattle.graph_placing.proofs.Renewables.{opening_renewable}
 use Rattle.heap_renewal.specs.RenewedHeap.{StandsRenewable}
 use Rattle.heap_renewal.proofs.tests.opened.Goals as goal
 

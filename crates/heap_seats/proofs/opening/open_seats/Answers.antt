@@ -5,7 +5,7 @@ use Rattle.shared_table.specs.Views.{whole, dealt_to}
 use Rattle.step_core.specs.Actor.{Actor}
 use Rattle.step_core.specs.Begins.{first_graph}
 use Rattle.step_core.proofs.Theorem.FirstFacts.{opening_begins}
-use Rattle.graph_renewal.proofs.Renewables.{opening_renewable}
+use Rattle.graph_placing.proofs.Renewables.{opening_renewable}
 use Rattle.table_heap.specs.State.{IsFresh}
 use Rattle.heap_seats.specs.FreshSeats.{AreFreshSeats}
 use Rattle.heap_seats.specs.Histories.{BeginsRenewable}

@@ -5,7 +5,7 @@ use Rattle.heap_graph.specs.Shows.{ShowsGraph}
 use Rattle.steps_base.specs.Steps.{Stage}
 use Rattle.step_core.specs.Actor.{Actor}
 use Rattle.graph_placing.specs.PlaceableText.{IsPlaceable}
-use Rattle.graph_renewal.specs.Renaming.{AreOfThreads}
+use Rattle.graph_placing.specs.Renaming.{AreOfThreads}
 use Rattle.table_heap.specs.Closed as ends
 use Rattle.heap_seats.specs.declared.renewing.Renewal.TheVariants as renewals
 use Rattle.heap_seats.specs.Renewed.{KeepsNames, BeginSeats, IsGraphLeft}

@@ -6,10 +6,10 @@ use Rattle.heap_world.specs.Represents.{Represents}
 use Rattle.image_graph.specs.State as images
 use Rattle.graph_placing.specs.PlacedHeap.{IsPlaced}
 use Rattle.graph_placing.specs.TextGraph.{text_graph}
-use Rattle.graph_renewal.specs.declared.renewing.Renewed.TheVariants as renewals
-use Rattle.graph_renewal.specs.NamesAnew.{text_anew}
-use Rattle.graph_renewal.specs.Renaming.{AreCountsOf}
-use Rattle.graph_renewal.proofs.PinsShown.{nothing_held, not_pinned}
+use Rattle.graph_placing.specs.declared.renewing.Renewed.TheVariants as renewals
+use Rattle.graph_placing.specs.NamesAnew.{text_anew}
+use Rattle.graph_placing.specs.Renaming.{AreCountsOf}
+use Rattle.graph_placing.proofs.PinsShown.{nothing_held, not_pinned}
 use Rattle.heap_seats.proofs.Followed.{renewed_can, seats_renewed}
 use Rattle.heap_seats.proofs.renewing.renewed_seats.Goals as goal
 

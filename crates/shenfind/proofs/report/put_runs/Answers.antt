@@ -1,4 +1,4 @@
-use Rattle.text_writer.proofs.Stages.{puts_both}
+use Rattle.shen_base.proofs.Stages.{puts_both}
 use Rattle.shenfind.proofs.Reports.{some_text}
 use Rattle.shenfind.proofs.report.put_runs.Goals as goal
 

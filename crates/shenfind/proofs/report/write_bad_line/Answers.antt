@@ -1,4 +1,4 @@
-use Rattle.text_writer.proofs.Stages.{puts_both, puts_same, taken_by_new}
+use Rattle.shen_base.proofs.Stages.{puts_both, puts_same, taken_by_new}
 use Rattle.shenfind.proofs.report.write_bad_line.Goals as goal
 
 pub returns : goal.returns

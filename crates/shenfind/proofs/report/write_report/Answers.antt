@@ -1,4 +1,4 @@
-use Rattle.text_writer.proofs.Stages.{taken_by_new}
+use Rattle.shen_base.proofs.Stages.{taken_by_new}
 use Rattle.shenfind.proofs.Reports.{behind_more}
 use Rattle.shenfind.proofs.report.write_report.Goals as goal
 

@@ -1,5 +1,5 @@
 use Rattle.std.proofs.Common.{refl}
-use Rattle.text_writer.specs.Sending.{outlet}
+use Rattle.shen_base.specs.Sending.{outlet}
 use Rattle.trace_runs.specs.Answered.{Input, Output}
 use Rattle.shenfind.proofs.CallParts.{searched, refused, fault_is}
 use Rattle.shenfind.proofs.top.told.Goals as goal

@@ -1,5 +1,5 @@
 use Rattle.std.proofs.Common.{rules}
-use Rattle.text_writer.specs.Sending.{outlet}
+use Rattle.shen_base.specs.Sending.{outlet}
 use Rattle.shennote.proofs.Statuses.{unread_tells, trace_tells, long_tells}
 use Rattle.shennote.proofs.top.shennote.Goals as goal
 

@@ -4,7 +4,7 @@ use Rattle.shen_check.proofs.ScriptsLeft.{can_be_judged}
 use Rattle.trace_writing.specs.Message.{line_text}
 use Rattle.trace_writing.specs.declared.message.Line.{Line}
 use Rattle.trace_writing.specs.declared.message.Line.TheVariants as line
-use Rattle.text_writer.specs.Sending.{outlet}
+use Rattle.shen_base.specs.Sending.{outlet}
 use Rattle.trace_runs.specs.declared.mode.Mode.TheVariants.{Check}
 use Rattle.trace_runs.specs.declared.status.Status.TheVariants.{Ok, NoMemory}
 use Rattle.trace_runs.specs.Answered.{Input, Output}

@@ -1,4 +1,4 @@
-use Rattle.text_writer.specs.Sending.{outlet}
+use Rattle.shen_base.specs.Sending.{outlet}
 use Rattle.trace_runs.specs.declared.mode.Mode.TheVariants.{Resume}
 use Rattle.trace_runs.specs.Readings.{ReadDump}
 use Rattle.trace_runs.specs.Answered.{Input, Output}

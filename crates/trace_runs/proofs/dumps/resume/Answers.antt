@@ -3,7 +3,7 @@ use Rattle.shen_graph.specs.Work.{HasScript}
 use Rattle.trace_writing.specs.Message.{line_text}
 use Rattle.trace_writing.specs.declared.message.Line.TheVariants as line
 use Rattle.trace_writing.specs.Answer.{spelled_answer}
-use Rattle.text_writer.specs.Sending.{outlet}
+use Rattle.shen_base.specs.Sending.{outlet}
 use Rattle.graph_placing.specs.ByName.{Fits}
 use Rattle.dump_runs.specs.Resumed.{IsResumed}
 use Rattle.trace_runs.specs.Answered.{Input, Output}

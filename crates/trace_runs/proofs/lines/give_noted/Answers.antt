@@ -1,4 +1,4 @@
-use Rattle.text_writer.specs.Sending.{Outlet, outlet}
+use Rattle.shen_base.specs.Sending.{Outlet, outlet}
 use Rattle.trace_writing.specs.Answer.{spelled_answer}
 use Rattle.trace_writing.specs.History.{history_text}
 use Rattle.trace_runs.specs.declared.status.Status.TheVariants.{Ok}

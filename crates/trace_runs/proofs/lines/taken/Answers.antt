@@ -1,5 +1,5 @@
 use Rattle.std.proofs.Common.{sym, subst}
-use Rattle.text_writer.specs.Sending.{outlet}
+use Rattle.shen_base.specs.Sending.{outlet}
 use Rattle.trace_runs.specs.Answered.{Input, Output}
 use Rattle.trace_runs.specs.Readings.{Reading, ReadTrace, HasInput}
 use Rattle.trace_runs.proofs.Refusing.{IsTold, told_by, fault_said}

@@ -3,7 +3,7 @@ use Rattle.trace_writing.specs.Message.{line_text}
 use Rattle.trace_writing.specs.declared.message.Line.TheVariants as line
 use Rattle.trace_writing.specs.Answer.{spelled_answer}
 use Rattle.trace_writing.specs.History.{history_text}
-use Rattle.text_writer.specs.Sending.{outlet}
+use Rattle.shen_base.specs.Sending.{outlet}
 use Rattle.trace_runs.specs.Answered.{Input, Output}
 use Rattle.trace_runs.specs.CallEnds.{EndsWith}
 use Rattle.trace_runs.specs.declared.mode.Mode.TheVariants.{Noted}

@@ -1,7 +1,7 @@
 use Rattle.std.specs.List.{flat_map}
 use Rattle.shen_graph.specs.GraphText.{pin_of}
 use Rattle.trace_writing.specs.Answer.{pins_line, thread_numbers}
-use Rattle.text_writer.specs.Sending.{Puts, stage}
+use Rattle.shen_base.specs.Sending.{Puts, stage}
 use Rattle.trace_writing.proofs.answer.put_all_pins.Given as goal
 
 abbrev pub invariant-loop-mutator : goal.invariant-loop-mutator

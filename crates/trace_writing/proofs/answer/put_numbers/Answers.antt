@@ -1,7 +1,7 @@
 use Rattle.std.proofs.Common.{◌∷◌, arith}
 use Rattle.std.specs.Fmt.{decimal}
 use Rattle.shen_graph.specs.GraphText.{row_of}
-use Rattle.text_writer.proofs.Stages.{puts_both}
+use Rattle.shen_base.proofs.Stages.{puts_both}
 use Rattle.trace_grammar.specs.Spelling.{space}
 use Rattle.trace_writing.proofs.AnswerLemmas.{puts_next, puts_all}
 use Rattle.trace_writing.proofs.answer.put_numbers.Goals as goal

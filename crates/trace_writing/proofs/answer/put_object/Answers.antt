@@ -1,5 +1,5 @@
 use Rattle.shen_graph.specs.GraphText.{row_of}
-use Rattle.text_writer.proofs.Stages.{puts_both, puts_same}
+use Rattle.shen_base.proofs.Stages.{puts_both, puts_same}
 use Rattle.trace_writing.proofs.AnswerLemmas.{object_line_is}
 use Rattle.trace_writing.proofs.answer.put_object.Goals as goal
 

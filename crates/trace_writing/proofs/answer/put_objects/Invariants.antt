@@ -1,7 +1,7 @@
 use Rattle.std.proofs.Common.{take}
 use Rattle.std.specs.List.{flat_map}
 use Rattle.trace_writing.specs.Answer.{object_line}
-use Rattle.text_writer.specs.Sending.{Puts, stage}
+use Rattle.shen_base.specs.Sending.{Puts, stage}
 use Rattle.trace_writing.proofs.answer.put_objects.Given as goal
 
 abbrev pub invariant-loop-row : goal.invariant-loop-row

@@ -1,6 +1,6 @@
 use Rattle.std.proofs.Common.{◌∷◌, ap, arith}
 use Rattle.shen_graph.specs.GraphText.{pin_of}
-use Rattle.text_writer.proofs.Stages.{puts_same}
+use Rattle.shen_base.proofs.Stages.{puts_same}
 use Rattle.trace_grammar.specs.Spelling.{space}
 use Rattle.trace_writing.specs.Answer.{reference_word}
 use Rattle.trace_writing.proofs.AnswerLemmas.{puts_next_number, pin_words_are}

@@ -1,7 +1,7 @@
 use Rattle.std.proofs.Common.{◌≡◌, ℕ, ◌+◌, ◌-◌, ap, ◌∙◌, arith}
 use Rattle.std.specs.List.{flat_map}
 use Rattle.shen_graph.specs.Work.{replies_of}
-use Rattle.text_writer.proofs.Stages.{puts_same}
+use Rattle.shen_base.proofs.Stages.{puts_same}
 use Rattle.trace_writing.specs.Answer.{reply_line}
 use Rattle.trace_writing.proofs.AnswerLemmas.{puts_next_number, puts_each_number}
 use Rattle.trace_writing.proofs.answer.put_replies.Goals as goal

@@ -2,7 +2,7 @@ use Rattle.std.proofs.Common.{◌-◌, ◌≤◌}
 use Rattle.std.specs.List.{flat_map}
 use Rattle.shen_graph.specs.Work.{replies_of}
 use Rattle.trace_writing.specs.Answer.{reply_line, thread_numbers}
-use Rattle.text_writer.specs.Sending.{Puts, stage}
+use Rattle.shen_base.specs.Sending.{Puts, stage}
 use Rattle.trace_writing.proofs.answer.put_replies.Given as goal
 
 abbrev pub invariant-loop-mutator : goal.invariant-loop-mutator

@@ -3,7 +3,7 @@ use Rattle.std.specs.List.{flat_map, range_with_len}
 use Rattle.shen_graph.specs.GraphText.{root_of}
 use Rattle.trace_grammar.specs.Spelling.{space}
 use Rattle.trace_writing.specs.Answer.{reference_word}
-use Rattle.text_writer.specs.Sending.{Puts, stage}
+use Rattle.shen_base.specs.Sending.{Puts, stage}
 use Rattle.trace_writing.proofs.answer.put_root_words.Given as goal
 
 abbrev pub invariant-loop-index : goal.invariant-loop-index

@@ -1,7 +1,7 @@
 use Rattle.std.proofs.Common.{◌-◌, length}
 use Rattle.std.specs.List.{flat_map}
 use Rattle.shen_graph.specs.Work.{replies_of}
-use Rattle.text_writer.proofs.Stages.{puts_both, taken_by_new}
+use Rattle.shen_base.proofs.Stages.{puts_both, taken_by_new}
 use Rattle.trace_writing.specs.Answer.{reply_line}
 use Rattle.trace_writing.proofs.AnswerLemmas.{puts_each_number}
 use Rattle.trace_writing.proofs.answer.write_answer.Goals as goal

@@ -1,7 +1,7 @@
 use Rattle.std.proofs.Common.{take}
 use Rattle.std.specs.List.{flat_map}
 use Rattle.trace_writing.specs.History.{entry_line}
-use Rattle.text_writer.specs.Sending.{Puts, stage}
+use Rattle.shen_base.specs.Sending.{Puts, stage}
 use Rattle.trace_writing.proofs.history.put_entries.Given as goal
 
 abbrev pub invariant-loop-at : goal.invariant-loop-at

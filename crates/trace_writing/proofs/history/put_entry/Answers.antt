@@ -1,4 +1,4 @@
-use Rattle.text_writer.proofs.Stages.{puts_both}
+use Rattle.shen_base.proofs.Stages.{puts_both}
 use Rattle.trace_writing.proofs.history.put_entry.Goals as goal
 
 pub returns : goal.returns

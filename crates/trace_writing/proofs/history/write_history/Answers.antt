@@ -1,4 +1,4 @@
-use Rattle.text_writer.proofs.Stages.{puts_both, taken_by_new}
+use Rattle.shen_base.proofs.Stages.{puts_both, taken_by_new}
 use Rattle.trace_writing.proofs.history.write_history.Goals as goal
 
 pub returns : goal.returns

@@ -1,6 +1,6 @@
 use Rattle.std.proofs.Common.{codes}
 use Rattle.std.specs.Fmt.{decimal}
-use Rattle.text_writer.proofs.Stages.{puts_both, taken_by_new}
+use Rattle.shen_base.proofs.Stages.{puts_both, taken_by_new}
 use Rattle.trace_writing.proofs.AnswerLemmas.{puts_told}
 use Rattle.trace_writing.proofs.message.write_queue.Goals as goal
 

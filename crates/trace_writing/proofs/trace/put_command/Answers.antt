@@ -1,5 +1,5 @@
 use Rattle.std.proofs.Common.{ℕ, List, ◌++◌, ◌∙◌, ap, take}
-use Rattle.text_writer.proofs.Stages.{puts_same}
+use Rattle.shen_base.proofs.Stages.{puts_same}
 use Rattle.trace_grammar.specs.Spelling.{command_word, numbers_of, numbers}
 use Rattle.trace_writing.proofs.trace.put_command.Goals as goal
 

@@ -1,6 +1,6 @@
 use Rattle.std.proofs.Common.{ap}
 use Rattle.std.specs.Fmt.{decimal}
-use Rattle.text_writer.proofs.Stages.{puts_both, puts_same}
+use Rattle.shen_base.proofs.Stages.{puts_both, puts_same}
 use Rattle.trace_writing.proofs.trace.put_item.Goals as goal
 
 pub returns : goal.returns

@@ -1,5 +1,5 @@
 use Rattle.std.proofs.Common.{[], ◌∷◌, append_assoc}
-use Rattle.text_writer.proofs.Stages.{puts_both, puts_same}
+use Rattle.shen_base.proofs.Stages.{puts_both, puts_same}
 use Rattle.trace_grammar.specs.Spelling.{newline, command_word, numbers_of, numbers}
 use Rattle.trace_writing.proofs.trace.put_line.Goals as goal
 

@@ -2,7 +2,7 @@ use Rattle.std.proofs.Common.{List, ap, arith}
 use Rattle.std.specs.List.{flat_map}
 use Rattle.std.proofs.lemmas.List.{take_all}
 use Rattle.shen_graph.specs.declared.command.Command.{Command}
-use Rattle.text_writer.proofs.Stages.{puts_both, puts_same}
+use Rattle.shen_base.proofs.Stages.{puts_both, puts_same}
 use Rattle.trace_grammar.specs.Spelling.{line}
 use Rattle.trace_writing.specs.Canonical.{lines_of}
 use Rattle.trace_writing.proofs.CanonicalLemmas.{line_more}

@@ -1,6 +1,6 @@
 use Rattle.std.proofs.Common.{take}
 use Rattle.std.specs.List.{flat_map}
-use Rattle.text_writer.specs.Sending.{Puts, stage}
+use Rattle.shen_base.specs.Sending.{Puts, stage}
 use Rattle.trace_grammar.specs.Spelling.{line}
 use Rattle.trace_writing.specs.Canonical.{lines_of}
 use Rattle.trace_writing.proofs.trace.put_script.Given as goal

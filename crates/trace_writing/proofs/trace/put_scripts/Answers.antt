@@ -1,7 +1,7 @@
 use Rattle.std.proofs.Common.{ℕ, List, ◌+◌, ◌∙◌, ap, arith}
 use Rattle.std.specs.List.{flat_map}
 use Rattle.shen_graph.specs.declared.command.Command.{Command}
-use Rattle.text_writer.proofs.Stages.{puts_both, puts_same}
+use Rattle.shen_base.proofs.Stages.{puts_both, puts_same}
 use Rattle.trace_grammar.specs.Spelling.{line}
 use Rattle.trace_writing.specs.Canonical.{lines_of}
 use Rattle.trace_writing.proofs.CanonicalLemmas.{script_more, all_scripts}

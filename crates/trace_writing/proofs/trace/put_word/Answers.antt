@@ -1,7 +1,7 @@
 use Rattle.std.proofs.Common.{ℕ, List, ◌∷◌, ◌++◌, ◌∙◌, ap, sym, append-nil, append_assoc, arith, take}
 use Rattle.std.specs.Fmt.{decimal}
 use Rattle.std.proofs.lemmas.List.{take_all}
-use Rattle.text_writer.proofs.Stages.{puts_both, puts_same}
+use Rattle.shen_base.proofs.Stages.{puts_both, puts_same}
 use Rattle.trace_grammar.specs.Spelling.{space, numbers}
 use Rattle.trace_writing.proofs.AnswerLemmas.{flat_map-take_more}
 use Rattle.trace_writing.proofs.trace.put_word.Goals as goal

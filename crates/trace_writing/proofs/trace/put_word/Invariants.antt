@@ -1,5 +1,5 @@
 use Rattle.std.proofs.Common.{◌++◌, take}
-use Rattle.text_writer.specs.Sending.{Puts, stage}
+use Rattle.shen_base.specs.Sending.{Puts, stage}
 use Rattle.trace_grammar.specs.Spelling.{numbers}
 use Rattle.trace_writing.proofs.trace.put_word.Given as goal
 

@@ -2,7 +2,7 @@ use Rattle.std.proofs.Common.{List, ap}
 use Rattle.std.specs.List.{flat_map}
 use Rattle.shen_graph.specs.declared.command.Command.{Command}
 use Rattle.heap_words.specs.declared.schedule.Item.{Item}
-use Rattle.text_writer.proofs.Stages.{puts_both, puts_same, taken_by_new}
+use Rattle.shen_base.proofs.Stages.{puts_both, puts_same, taken_by_new}
 use Rattle.trace_grammar.specs.Spelling.{line, schedule_line}
 use Rattle.trace_writing.specs.Canonical.{lines_from, turns_of}
 use Rattle.trace_writing.proofs.CanonicalLemmas.{reads_again}

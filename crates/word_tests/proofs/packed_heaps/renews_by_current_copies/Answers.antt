@@ -1,6 +1,6 @@
 -- The heap of the test can be packed, by tests that compute.
 use Rattle.std.proofs.Common.{ℕ, Bool, true, false, List, [], ◌∷◌, arith, refl}
-use Rattle.packing.proofs.Checked.{marked_if, can_compact_if}
+use Rattle.regions.proofs.Checked.{marked_if, can_compact_if}
 use Rattle.word_tests.proofs.packed_heaps.renews_by_current_copies.Goals as goal
 
 abbrev heap : List ℕ

@@ -1,6 +1,6 @@
 use Rattle.std.proofs.Common.{ℕ, Bool, List, length, sym, ap, ◌∙◌, subst}
 use Rattle.heap_words.specs.Words.{heap_in}
-use Rattle.packing.specs.Table.{CanCompact}
+use Rattle.regions.specs.Table.{CanCompact}
 use Rattle.image_graph.proofs.image.Image.pack_found.Goals as goal
 
 pub pack_words-requires-clause-table : goal.pack_words-requires-clause-table

@@ -1,7 +1,7 @@
 use Rattle.std.proofs.Common.{◌≡◌, ℕ, ◌<◌, slice_index, sym, subst}
 use Rattle.heap_words.specs.declared.config.Config.{Config}
 use Rattle.heap_words.specs.Words.{Top}
-use Rattle.packing.specs.Rooms.{lowest_room}
+use Rattle.regions.specs.ServedRooms.{lowest_room}
 use Rattle.image_graph.specs.State.{memory_of}
 use Rattle.image_graph.specs.Make.{AreWithin}
 use Rattle.image_graph.proofs.Room.{room_found}

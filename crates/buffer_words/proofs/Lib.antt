@@ -1,5 +1,0 @@
-pub mod OneTurn
-pub mod Settling
-pub mod LettingGo
-pub mod Edges
-pub mod Elsewhere

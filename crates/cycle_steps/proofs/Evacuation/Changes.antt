@@ -1,0 +1,156 @@
+-- What a step owes that changes what is claimed, and on which unit a machine works.
+use Rattle.std.proofs.Common.{◌≡◌, ◌≢◌, ℕ, ◌+◌, ◌<◌, ◌≤◌, ◌⊎◌, Option, Some, ⊎_elim, inl, inr, sym, ap, ◌∙◌, subst, arith}
+use Rattle.std.proofs.lemmas.Bool.{cases_eq}
+use Rattle.heap_words.specs.declared.config.Config.{Config}
+use Rattle.heap_words.specs.Ranges.{seat_count}
+use Rattle.heap_words.specs.Words.{Phase, Cset, Evac, Claim, write}
+use Rattle.steps_base.specs.Touch.{Touch, touched}
+use Rattle.heap_world.specs.World.{World, Plot, with_working, IsCaredFor, AreCaredFor, IsSweptTo, Shared}
+use Rattle.heap_world.specs.Rely.{Keeps, Rely}
+use Rattle.heap_world.specs.Part.{PartStep}
+use Rattle.heap_world.proofs.Updates.{updated, updated_there, updated_else}
+use Rattle.regions.specs.Place.{base_of}
+use Rattle.cycle_steps.specs.Evacuation.Facts.{HasNothing}
+
+-- the world with another number of units claimed, and with a machine that works on a unit, or on none
+abbrev pub world_then : World → ℕ → ℕ → Option ℕ → World
+world_then w seat claim unit = record { memory = write w.memory Claim claim; block = w.block; ghost = with_working w.ghost (updated w.ghost.working seat unit); graph = w.graph }
+
+-- a unit is cared for still, where the machine that worked on it goes on with it or leaves it swept
+pub cared_still : (c : Config) (evac : ℕ) (block : Plot) (working : ℕ → Option ℕ) (seat : ℕ) (unit : Option ℕ) (region : ℕ)
+    → (working seat ≡ Some region → IsSweptTo c evac block region (base_of c (region + 1)) ⊎ (unit ≡ Some region))
+    → IsCaredFor c evac block working region → IsCaredFor c evac block (updated working seat unit) region
+cared_still c evac block working seat unit region own (inl swept) = inl swept
+cared_still c evac block working seat unit region own (inr worker) = ⊎_elim
+    (λ (same : seat ≡ worker.0). ⊎_elim
+    (λ (swept : IsSweptTo c evac block region (base_of c (region + 1))). inl swept)
+    (λ (goes_on : unit ≡ Some region). inr (seat, subst (λ s. s < seat_count c.mutators c.helpers) (sym same) worker.1, updated_there working seat unit ∙ goes_on))
+    (own (ap working same ∙ worker.2)))
+    (λ (other : seat ≢ worker.0). inr (worker.0, worker.1, updated_else working seat unit worker.0 other ∙ worker.2))
+    (cases_eq seat worker.0)
+
+module _ (c : Config) (u w : World) (seat claim : ℕ) (unit : Option ℕ) (on : w.memory Phase ≡ 2) (most : w.memory Claim ≤ claim) where
+  -- machines share what they should
+  shared_then : Shared c w → AreCaredFor c (w.memory Phase) (w.memory Cset) (w.memory Evac) claim w.block (updated w.ghost.working seat unit) → Shared c (world_then w seat claim unit)
+  shared_then shared units = record {
+    parsable = shared.parsable;
+    contents = shared.contents;
+    owned = shared.owned;
+    phased = shared.phased;
+    unwritten = shared.unwritten;
+    marked = shared.marked;
+    evacuated = record {
+      moved = shared.evacuated.moved;
+      counted = shared.evacuated.counted;
+      aside = shared.evacuated.aside;
+      kept = shared.evacuated.kept;
+      units = units;
+    };
+    updated = λ updating. absurd (omega (arith, updating, on));
+    pinned = shared.pinned;
+  }
+
+  -- the facts of the seat's machine stand
+  keeps_then : Keeps c seat u w → Keeps c seat u (world_then w seat claim unit)
+  keeps_then keeps = record {
+    names = keeps.names;
+    targets = keeps.targets;
+    promises = keeps.promises;
+    no_promises = keeps.no_promises;
+    promise_words = keeps.promise_words;
+    root_words = keeps.root_words;
+    roots = keeps.roots;
+    pin_words = keeps.pin_words;
+    pins = keeps.pins;
+    count = keeps.count;
+    wait = keeps.wait;
+    answer = keeps.answer;
+    marks = record { phase = keeps.marks.phase; snapshot = keeps.marks.snapshot; markable = keeps.marks.markable; shapes = keeps.marks.shapes; noted = keeps.marks.noted };
+    copies = record {
+      cset = keeps.copies.cset;
+      bodies = keeps.copies.bodies;
+      moveds = keeps.copies.moveds;
+      spents = keeps.copies.spents;
+      pieces = keeps.copies.pieces;
+      no_new = keeps.copies.no_new;
+      tops = keeps.copies.tops;
+      out = keeps.copies.out;
+      quiet = keeps.copies.quiet;
+    };
+  }
+
+  -- others can rely on what they knew
+  others_then : (k : ℕ) → k ≢ seat → Rely c k u w → Rely c k u (world_then w seat claim unit)
+  others_then k differs rely = record {
+    names = rely.names;
+    targets = rely.targets;
+    rooms = rely.rooms;
+    no_rooms = rely.no_rooms;
+    room_words = rely.room_words;
+    promises = rely.promises;
+    no_promises = rely.no_promises;
+    promise_words = rely.promise_words;
+    current = rely.current;
+    opens = rely.opens;
+    owners = rely.owners;
+    tops = rely.tops;
+    root_words = rely.root_words;
+    roots = rely.roots;
+    pin_words = rely.pin_words;
+    pins = rely.pins;
+    count = rely.count;
+    wait = rely.wait;
+    answer = rely.answer;
+    state = rely.state;
+    asked = rely.asked;
+    marks = record {
+      keeps = record { phase = rely.marks.keeps.phase; snapshot = rely.marks.keeps.snapshot; markable = rely.marks.keeps.markable; shapes = rely.marks.keeps.shapes; noted = rely.marks.keeps.noted };
+      recording = rely.marks.recording;
+      scanning = rely.marks.scanning;
+      entries = rely.marks.entries;
+      buffer = rely.marks.buffer;
+      greys = rely.marks.greys;
+    };
+    copies = record {
+      keeps = record {
+        cset = rely.copies.keeps.cset;
+        bodies = rely.copies.keeps.bodies;
+        moveds = rely.copies.keeps.moveds;
+        spents = rely.copies.keeps.spents;
+        pieces = rely.copies.keeps.pieces;
+        no_new = rely.copies.keeps.no_new;
+        tops = rely.copies.keeps.tops;
+        out = rely.copies.keeps.out;
+        quiet = rely.copies.keeps.quiet;
+      };
+      copying = rely.copies.copying;
+      working = updated_else w.ghost.working seat unit k (λ e. differs (sym e)) ∙ rely.copies.working;
+      words = rely.copies.words;
+    };
+    fields = record {
+      tams = rely.fields.tams;
+      limits = rely.fields.limits;
+      deads = rely.fields.deads;
+      fillers = rely.fields.fillers;
+      claims = λ all. (let claimed = rely.fields.claims all in omega (arith, claimed, most));
+      fields = rely.fields.fields;
+    };
+  }
+
+  -- what the step owes, that led to the world but for these two, is owed then
+  pub step_then : (t : Touch) (facts : World → Type 0) → write w.memory Claim claim ≡ touched u.memory t → w.graph ≡ u.graph → Shared c w → Keeps c seat u w → ((k : ℕ) → k ≢ seat → Rely c k u w)
+      → AreCaredFor c (w.memory Phase) (w.memory Cset) (w.memory Evac) claim w.block (updated w.ghost.working seat unit)
+      → facts (world_then w seat claim unit) → PartStep c u seat t facts
+  step_then t facts memory graph shared keeps others units own = record {
+    world = world_then w seat claim unit;
+    memory = memory;
+    graph = graph;
+    shared = shared_then shared units;
+    own = own;
+    keeps = keeps_then keeps;
+    others = λ k differs. others_then k differs (others k differs);
+  }
+
+-- the machine has nothing still
+pub nothing_then : (w : World) (seat claim : ℕ) (unit : Option ℕ) → HasNothing w seat → HasNothing (world_then w seat claim unit) seat
+nothing_then w seat claim unit nothing = record { copying = nothing.copying; records_none = nothing.records_none; scans_none = nothing.scans_none; rooms = nothing.rooms }

@@ -1,0 +1,194 @@
+-- Working on a unit of evacuation as a part: any machine that has a seat can have it inside. And what all units come to.
+use Rattle.std.proofs.Common.{◌≡◌, ℕ, ◌+◌, ◌*◌, ◌%◌, ◌<◌, nat_lt, true, false, Some, None, ⊎_elim, inl, inr, ◌⊎◌, refl, sym, ap, ◌∙◌, subst, arith}
+use Rattle.std.proofs.lemmas.Bool.{cases_Bool, cond-true, cond-false, eq-eqb, and_from, false≢true, le-leb, lt-ltb, ltb-true}
+use Rattle.heap_words.specs.declared.config.Config.{Config}
+use Rattle.heap_words.specs.Encoding.{header_word, is_forwarded}
+use Rattle.heap_words.specs.Ranges.{seat_count}
+use Rattle.heap_words.specs.Words.{Evac, Top, Heap, IsWord, is_word}
+use Rattle.steps_base.specs.Touch.{loads}
+use Rattle.regions.specs.Place.{base_of, region_with}
+use Rattle.regions.specs.Sets.{IsIn}
+use Rattle.regions.proofs.MarksApart.{word_inside}
+use Rattle.shen_graph.specs.declared.name.Name.{Name}
+use Rattle.heap_world.specs.World.{World, Block, thing, moved, filling, Body, body_at, body_words, HasCopy, IsCaredFor, Shared}
+use Rattle.heap_world.specs.Rely.{Rely}
+use Rattle.heap_world.proofs.Pieces.{some_words}
+use Rattle.heap_world.proofs.Pointing.{piece_inside, copy_cases}
+use Rattle.load_barrier.specs.declared.evac_spot.EvacSpot.{EvacSpot}
+use Rattle.load_barrier.specs.declared.evac_spot.EvacSpot.TheVariants.{LoadClaim, ClaimUnit, LoadTop, LoadFirst, LoadShape, LoadMark, Resolving, Ended}
+use Rattle.load_barrier.specs.UnitRows.{touch_at, is_ended}
+use Rattle.load_barrier.specs.Fit as resolve
+use Rattle.load_barrier.specs.UnitFit.{has_shape, is_walkable, is_ready, PartFit}
+use Rattle.cycle_steps.specs.Resolving.Laws.{ResolvingSteps}
+use Rattle.cycle_steps.proofs.Resolving.Parts.{resolving_steps}
+use Rattle.cycle_steps.specs.Evacuation.Facts.{IsSwept, IsWalkedTo, IsMeasured, HasNothing, WorkFacts, CanEvacuate}
+use Rattle.cycle_steps.specs.Evacuation.Laws.{spot_then, EvacStep, SweptStep, EvacuatingSteps, SweptIsForwarded, AllIsForwarded}
+use Rattle.cycle_steps.proofs.Evacuation.Walks.{before_end, next_base, placed, three_words, swept_stays, walked_stays, object_stays, measured_stays}
+use Rattle.cycle_steps.proofs.Evacuation.Units.{each_step}
+
+-- While others step, what a machine counts on stays.
+module _ (resolving : ResolvingSteps) (c : Config) (u w : World) (seat : ℕ) (shared : Shared c u) (rely : Rely c seat u w) where
+  nothing_stays : HasNothing u seat → HasNothing w seat
+  nothing_stays nothing = record {
+    copying = rely.copies.copying ∙ nothing.copying;
+    records_none = rely.marks.recording ∙ nothing.records_none;
+    scans_none = rely.marks.scanning ∙ nothing.scans_none;
+    rooms = λ a x is room. nothing.rooms a x (rely.no_rooms a x is room) room;
+  }
+
+  facts_stay : (at : EvacSpot) → WorkFacts c u seat at → WorkFacts c w seat at
+  facts_stay LoadClaim facts = nothing_stays facts
+  facts_stay (ClaimUnit unit) facts = (nothing_stays facts.0, facts.1)
+  facts_stay (LoadTop region) facts = (nothing_stays facts.0, subst (λ set. IsIn set region) (sym rely.copies.keeps.cset) facts.1)
+  facts_stay (LoadFirst address end) facts = (nothing_stays facts.0, walked_stays c u w rely.copies.keeps address end facts.1)
+  facts_stay (LoadShape address end) facts = (nothing_stays facts.0, object_stays c u w rely.copies.keeps address end facts.1)
+  facts_stay (LoadMark address end next) facts = (nothing_stays facts.0, measured_stays c u w rely.copies.keeps address end next facts.1)
+  facts_stay (Resolving address end next at) facts =
+      (facts.0, resolving.stays c u w seat address at shared rely facts.1, measured_stays c u w rely.copies.keeps address end next facts.2)
+  facts_stay (Ended unit) facts = nothing_stays facts
+
+  pub can_evacuate_stays : (cset : ℕ) (at : EvacSpot) → CanEvacuate c u seat cset at → CanEvacuate c w seat cset at
+  can_evacuate_stays cset at can = record {
+    seated = can.seated;
+    phase = rely.marks.keeps.phase ∙ can.phase;
+    set_is = can.set_is ∙ sym rely.copies.keeps.cset;
+    working = rely.copies.working ∙ can.working;
+    facts = facts_stay at can.facts;
+  }
+
+-- a word of the heap is one by test
+word_there : (c : Config) (a : ℕ) → IsWord c (Heap a) → is_word c (Heap a) ≡ true
+word_there c a is = and_from _ _ (le-leb _ _ is.0) (lt-ltb _ _ is.1)
+
+-- The numbers of the spot are in range.
+module _ (c : Config) (u : World) (seat : ℕ) (shared : Shared c u) where
+  -- the first word of a piece is of the heap
+  header_there : (a : ℕ) (x : Block) → u.block a ≡ Some x → IsWord c (Heap a)
+  header_there a x is =
+      let inside = piece_inside c (λ r. u.memory (Top r)) u.block shared.parsable.plotted a x is in
+      let some = some_words c (λ r. u.memory (Top r)) u.block shared.parsable shared.owned.rooms a x is in
+      (inside.0, omega (arith, inside.1, some))
+
+  -- so is the second one, where the piece does not only fill
+  second_there : (address end : ℕ) (at : IsWalkedTo c u address end) → filling at.piece ≡ None → IsWord c (Heap (address + 1))
+  second_there address end at solid =
+      let inside = piece_inside c (λ r. u.memory (Top r)) u.block shared.parsable.plotted address at.piece at.there in
+      let some = three_words c u shared address at.piece at.inside solid at.there in
+      (omega (arith, inside.0), omega (arith, inside.1, some))
+
+  shape_there : (address end : ℕ) (at : IsWalkedTo c u address end) → filling at.piece ≡ None → has_shape c address ≡ true
+  shape_there address end at solid = and_from _ _ (word_there c address (header_there address at.piece at.there)) (word_there c (address + 1) (second_there address end at solid))
+
+  -- behind a piece there is another one, or the end
+  walkable_there : (address end next : ℕ) → IsMeasured c u address end next → is_walkable c next end ≡ true
+  walkable_there address end next measured = ⊎_elim
+      (λ (more : nat_lt next end ≡ true).
+      let at = measured.at in
+      let within = (placed c u shared address at.piece at.there).within in
+      let next_is = measured.next_is in
+      let end_is = at.end_is in
+      let less : next < end = ltb-true next end more in
+      let piece = shared.parsable.filled.next (region_with c address) address at.piece within at.from_base at.there (omega (arith, less, next_is, end_is)) in
+      cond-true (nat_lt next end) _ _ more ∙ word_there c next (header_there next piece.0 (ap u.block next_is ∙ piece.1)))
+      (λ (none : nat_lt next end ≡ false). cond-false (nat_lt next end) _ _ none)
+      (cases_Bool (nat_lt next end))
+
+  ready_there : (at : EvacSpot) → WorkFacts c u seat at → is_ready c seat at ≡ true
+  ready_there LoadClaim facts = refl
+  ready_there (ClaimUnit unit) facts = lt-ltb _ _ facts.1
+  ready_there (LoadTop region) facts = lt-ltb _ _ (shared.evacuated.aside.in_heap region facts.1)
+  ready_there (LoadFirst address end) facts = word_there c address (header_there address facts.1.piece facts.1.there)
+  ready_there (LoadShape address end) facts = shape_there address end facts.1.at facts.1.solid
+  ready_there (LoadMark address end next) facts = and_from _ _ (shape_there address end facts.1.at facts.1.solid) (walkable_there address end next facts.1)
+  ready_there (Resolving address end next at) facts =
+      and_from _ _ (shape_there address end facts.2.at facts.2.solid) (and_from _ _ (walkable_there address end next facts.2)
+      (and_from _ _ facts.1.ready (ap (λ resolved. resolve.is_busy resolved) facts.0)))
+  ready_there (Ended unit) facts = refl
+
+-- the next access is of the table
+pub unit_inside : (resolving : ResolvingSteps) (c : Config) (u : World) (seat cset : ℕ) (at : EvacSpot) → Shared c u → CanEvacuate c u seat cset at → IsWord c (touch_at c seat at).word
+unit_inside resolving c u seat cset LoadClaim shared can = tt
+unit_inside resolving c u seat cset (ClaimUnit unit) shared can = tt
+unit_inside resolving c u seat cset (LoadTop region) shared can = shared.evacuated.aside.in_heap region can.facts.1
+unit_inside resolving c u seat cset (LoadFirst address end) shared can = header_there c u seat shared address can.facts.1.piece can.facts.1.there
+unit_inside resolving c u seat cset (LoadShape address end) shared can = second_there c u seat shared address end can.facts.1.at can.facts.1.solid
+unit_inside resolving c u seat cset (LoadMark address end next) shared can = word_inside c address (header_there c u seat shared address can.facts.1.at.piece can.facts.1.at.there)
+unit_inside resolving c u seat cset (Resolving address end next at) shared can = resolving.inside c u seat address at shared can.facts.1
+unit_inside resolving c u seat cset (Ended unit) shared can = tt
+
+-- of the words of copies only headers are accessed by more than loads
+unit_spares : (resolving : ResolvingSteps) (c : Config) (u : World) (seat cset : ℕ) (at : EvacSpot) (d k : ℕ) (b : Body) → Shared c u → CanEvacuate c u seat cset at → body_at (u.block d) ≡ Some b → k < body_words b
+    → (touch_at c seat at).word ≡ Heap (d + k) → ((touch_at c seat at).form ≡ loads) ⊎ (k ≡ 0)
+unit_spares resolving c u seat cset (ClaimUnit unit) d k b shared can is below word = absurd (cc (word))
+unit_spares resolving c u seat cset (Resolving address end next at) d k b shared can is below word =
+    ⊎_elim (λ loaded. inl loaded) (λ published. inr published.4) (resolving.spares c u seat address at d k b shared can.facts.1 is below word)
+unit_spares resolving c u seat cset _ d k b shared can is below word = inl refl
+
+-- the word that it finds is fit for the part
+part_fits : (resolving : ResolvingSteps) (c : Config) (u : World) (seat cset : ℕ) (at : EvacSpot) → Shared c u → CanEvacuate c u seat cset at → PartFit c seat at (u.memory (touch_at c seat at).word)
+part_fits resolving c u seat cset (LoadTop region) shared can = le-leb _ _ (shared.parsable.plotted.tops region (shared.evacuated.aside.in_heap region can.facts.1))
+part_fits resolving c u seat cset (Resolving address end next at) shared can = resolving.fits c u seat address at can.facts.0 shared can.facts.1
+part_fits resolving c u seat cset _ shared can = tt
+
+module _ (resolving : ResolvingSteps) where
+  pub evacuates : (c : Config) (u : World) (seat cset : ℕ) (at : EvacSpot) → is_ended at ≡ false → Shared c u → CanEvacuate c u seat cset at → EvacStep c u seat cset at
+  evacuates c u seat cset at going shared can =
+      let step = each_step resolving c u seat cset at going shared can in
+      record { world = step.world; memory = step.memory; graph = step.graph; shared = step.shared; own = step.own.can; keeps = step.keeps; others = step.others }
+
+  sweeps : (c : Config) (u : World) (seat cset : ℕ) (at : EvacSpot) → is_ended at ≡ false → Shared c u → CanEvacuate c u seat cset at → SweptStep c u seat cset at
+  sweeps c u seat cset at going shared can =
+      let step = each_step resolving c u seat cset at going shared can in
+      record { world = step.world; memory = step.memory; graph = step.graph; shared = step.shared; own = step.own.swept; keeps = step.keeps; others = step.others }
+
+  -- what the steps owe
+  pub evacuating_by : EvacuatingSteps
+  evacuating_by = record {
+    begins = λ c u seat seated on idle nothing. record { seated = seated; phase = on; set_is = refl; working = idle; facts = nothing };
+    each = evacuates;
+    sweeps = sweeps;
+    stays_swept = λ c u w region keeps is swept. swept_stays c u w keeps region (base_of c (region + 1)) is (let next = next_base c region in omega (arith, next)) swept;
+    stays = λ c u w seat cset at shared rely can. can_evacuate_stays resolving c u w seat shared rely cset at can;
+    fits = λ c u seat cset at going shared can.
+        let step = each_step resolving c u seat cset at going shared can in
+        (ready_there c step.world seat step.shared (spot_then c u seat cset at) step.own.can.facts, part_fits resolving c u seat cset at shared can);
+    spares = unit_spares resolving;
+    inside = λ c u seat cset at shared can. unit_inside resolving c u seat cset at shared can;
+  }
+
+-- as resolving is proved
+pub evacuating_steps : EvacuatingSteps
+evacuating_steps = evacuating_by resolving_steps
+
+-- a header that leads to a copy is one of an object that is forwarded
+leads_is_forwarded : (header to : ℕ) → header ≡ header_word to → is_forwarded header ≡ true
+leads_is_forwarded header to is = ap is_forwarded is ∙ eq-eqb ((4 * to + 3) % 4) 3 (omega arith)
+
+-- in a region that is swept each marked object is forwarded
+pub swept_is_forwarded : SweptIsForwarded
+swept_is_forwarded c u a shared on swept room low inside marked = by_copy (shared.evacuated.kept.only (omega (arith, on)) a low marked inside)
+  where
+    not_swept : (refs nums : ℕ) (name : Name) → u.block a ≡ Some (thing name refs nums) → IsSwept c u (region_with c a) → ⊥
+    not_swept refs nums name is (inl out) = false≢true (sym room ∙ out)
+    not_swept refs nums name is (inr none) =
+        let there = placed c u shared a (thing name refs nums) is in
+        let less = before_end c a there.from_base in
+        let next = next_base c (region_with c a) in
+        none a refs nums name there.from_base (omega (arith, less, next)) is
+
+    by_copy : HasCopy u.block a → is_forwarded (u.memory (Heap a)) ≡ true
+    by_copy (HasCopy.copy b is) = ⊎_elim
+        (λ (now : u.block a ≡ Some (thing b.name b.refs b.nums)). absurd (not_swept b.refs b.nums b.name now swept))
+        (λ (was : (to : ℕ) × (u.block a ≡ Some (moved b.name b.refs b.nums to))). leads_is_forwarded _ was.0 (shared.evacuated.moved.moveds a b.refs b.nums was.0 b.name was.1).header)
+        (copy_cases (u.block a) b is)
+    by_copy (HasCopy.spent_copy words to is) = leads_is_forwarded _ to (shared.evacuated.moved.spents a words to is).header
+
+-- a region that is cared for and on which nobody works is swept
+swept_of : (c : Config) (u : World) (region : ℕ) → ((seat : ℕ) → seat < seat_count c.mutators c.helpers → u.ghost.working seat ≡ None) → IsCaredFor c (u.memory Evac) u.block u.ghost.working region → IsSwept c u region
+swept_of c u region idle (inl swept) = swept
+swept_of c u region idle (inr worker) = let none : None ≡ Some region = sym (idle worker.0 worker.1) ∙ worker.2 in absurd (cc (none))
+
+pub all_is_forwarded : AllIsForwarded
+all_is_forwarded c u shared on idle all room a low inside marked =
+    let within : region_with c a < c.regions = shared.evacuated.aside.in_heap (region_with c a) inside in
+    swept_is_forwarded c u a shared on (swept_of c u (region_with c a) idle (shared.evacuated.units on (region_with c a) (omega (arith, within, all)) inside)) room low inside marked

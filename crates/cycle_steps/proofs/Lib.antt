@@ -1,0 +1,10 @@
+pub mod Changes
+pub mod MarkedMore
+pub mod Records
+pub mod Scanned
+pub mod Scans
+pub mod Parts
+pub mod Chained
+pub mod Resolving
+pub mod Evacuation
+pub mod Updating

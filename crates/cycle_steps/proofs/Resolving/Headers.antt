@@ -1,0 +1,39 @@
+-- A header of a copy changes only once, and leads to the current copy then.
+use Rattle.std.proofs.Common.{◌≡◌, ℕ, inl, inr, ⊎_elim, true, false, Some, sym, ap, ◌∙◌, subst}
+use Rattle.heap_words.specs.declared.config.Config.{Config}
+use Rattle.heap_words.specs.Encoding.{plain_header, header_word, is_forwarded, forwardee_in}
+use Rattle.heap_words.specs.Words.{Heap}
+use Rattle.heap_world.specs.World.{World, thing, moved, Body, TargetIn, Shared}
+use Rattle.heap_world.proofs.Pointing.{copy_cases}
+use Rattle.load_barrier.proofs.Knows.{header_forwarded, header_names}
+use Rattle.cycle_steps.specs.Resolving.Laws.{HeadersLead}
+
+module _ (c : Config) (w : World) (shared : Shared c w) (a : ℕ) (b : Body) where
+  -- the header of a current copy
+  plain : w.block a ≡ Some (thing b.name b.refs b.nums) → w.memory (Heap a) ≡ plain_header
+  plain is = (shared.contents.objects.each a b.refs b.nums b.name is).2.header
+
+  -- that of an old one
+  led : (to : ℕ) → w.block a ≡ Some (moved b.name b.refs b.nums to) → w.memory (Heap a) ≡ header_word to
+  led to is = (shared.evacuated.moved.moveds a b.refs b.nums to b.name is).header
+
+  -- where it leads
+  leads_to : (to : ℕ) → w.block a ≡ Some (moved b.name b.refs b.nums to) → TargetIn c w to b.refs b.nums b.name × (w.memory (Heap to) ≡ plain_header)
+  leads_to to is =
+      let old = shared.evacuated.moved.moveds a b.refs b.nums to b.name is in
+      (record { piece = old.copy; safe = λ inside. absurd (old.outside inside) }, (shared.contents.objects.each to b.refs b.nums b.name old.copy).2.header)
+
+pub headers_lead : HeadersLead
+headers_lead = record {
+  leads = λ c w a b shared is forwarded. ⊎_elim
+      (λ current. absurd (let differ : false ≡ true = sym (ap is_forwarded (plain c w shared a b current)) ∙ forwarded in cc))
+      (λ old. subst (λ to. TargetIn c w to b.refs b.nums b.name × (w.memory (Heap to) ≡ plain_header)) (sym (ap forwardee_in (led c w shared a b old.0 old.1) ∙ header_names old.0)) (leads_to c w shared a b old.0 old.1))
+      (copy_cases (w.block a) b is);
+  once = λ c u w a b before after keeps is. ⊎_elim
+      (λ was_current. ⊎_elim
+      (λ current. inl (plain c w after a b current ∙ sym (plain c u before a b was_current)))
+      (λ old. inr (plain c u before a b was_current, ap is_forwarded (led c w after a b old.0 old.1) ∙ header_forwarded old.0))
+      (copy_cases (w.block a) b (keeps.bodies a b is)))
+      (λ was_old. inl (led c w after a b was_old.0 (keeps.moveds a b.refs b.nums was_old.0 b.name was_old.1) ∙ sym (led c u before a b was_old.0 was_old.1)))
+      (copy_cases (u.block a) b is);
+}

@@ -1,0 +1,125 @@
+-- The steps of a machine that has its answer and leaves, or has found no room; and all steps of a resolving.
+use Rattle.std.proofs.Common.{◌≡◌, ℕ, Bool, true, false, Option, ⊎_elim, refl, sym, ap, ◌∙◌, subst, arith}
+use Rattle.std.specs.Prelude.{◌==◌, if◌then◌else◌}
+use Rattle.std.proofs.lemmas.Bool.{cond-true, cond-false}
+use Rattle.std.proofs.lemmas.Bool.Decides.{nat_tests}
+use Rattle.heap_words.specs.declared.config.Config.{Config}
+use Rattle.heap_words.specs.Encoding.{header_word, is_forwarded, forwardee_in}
+use Rattle.heap_words.specs.Words.{Evac, Heap}
+use Rattle.heap_words.specs.Counter.{count_of, IsQuiet}
+use Rattle.evac_room.specs.declared.spot.RoomSpot.{RoomSpot}
+use Rattle.evac_room.specs.declared.spot.RoomSpot.TheVariants.{Outside, Look, Raise, Inside, Lower, Ask, Mark, Wait, Stopped}
+use Rattle.evac_room.specs.Spot.{is_counted}
+use Rattle.evac_room.specs.Rows as rooms
+use Rattle.evac_room.proofs.OneStep.{Mine, after}
+use Rattle.heap_world.specs.World.{World, Shared}
+use Rattle.heap_world.proofs.Keeping.{load_keeps}
+use Rattle.heap_world.proofs.Pointing.{copy_cases}
+use Rattle.load_barrier.specs.declared.spot.ResolveSpot.{ResolveSpot}
+use Rattle.load_barrier.specs.declared.spot.ResolveSpot.TheVariants.{LoadHeader, Entering, LoadShape, Taking, Copying, Leaving, Stopping, LoadAgain, Resolved}
+use Rattle.load_barrier.specs.Rows.{is_resolved, current_copy, after_stop}
+use Rattle.load_barrier.proofs.Knows.{header_forwarded, header_names}
+use Rattle.cycle_steps.specs.Resolving.Laws.{CanResolveFor, ResolveStep}
+use Rattle.cycle_steps.proofs.Resolving.Bodies.{piece_begins, copy_piece}
+use Rattle.cycle_steps.proofs.Resolving.Counts.{counter_kept}
+use Rattle.cycle_steps.proofs.Resolving.Common as steps
+use Rattle.cycle_steps.proofs.Resolving.Common.{moved_answer, still_answer}
+use Rattle.cycle_steps.proofs.Resolving.Entering.{at_load_header, at_look, at_raise, at_load_shape}
+use Rattle.cycle_steps.proofs.Resolving.Copying.{at_taking, at_copying}
+
+module _ (c : Config) (u : World) (seat a : ℕ) (unit : Option ℕ) (shared : Shared c u) where
+  -- the subtraction from the counter on the way out
+  at_leaving : (answer : ℕ) → CanResolveFor c u seat a unit (Leaving answer) → ResolveStep c u seat a unit (Leaving answer)
+  at_leaving answer can =
+      let right = moved_answer c u a answer can.resolves.facts.0 shared can.resolves.facts.2 in
+      let kept = counter_kept c u seat Lower shared can.resolves.phase can.resolves.seated refl can.resolves.copying tt in
+      steps.counter_moves c u seat a unit shared (Leaving answer) Lower can refl refl tt refl (Resolved answer) refl (λ d x room. room) can.resolves.ready (record {
+        named = λ b is. let target = right.named b is in record { piece = target.piece; safe = λ inside. subst IsQuiet (sym (kept.quiet_stays (target.safe inside))) (target.safe inside) };
+        passed = right.passed;
+        stopped = λ inside. kept.bit_stays (right.stopped inside);
+      })
+
+  -- the load of the counter where there was no room
+  at_ask : CanResolveFor c u seat a unit (Stopping Ask) → ResolveStep c u seat a unit (Stopping Ask)
+  at_ask can =
+      steps.looked c u seat a unit shared (Stopping Ask) (Stopping (Mark (u.memory Evac))) (load_keeps u.memory Evac)
+      (steps.can_at c u seat a unit shared (Stopping Ask) (Stopping (Mark (u.memory Evac))) can refl (λ d x room. room) refl (can.resolves.facts.0, can.resolves.facts.1, tt))
+
+  -- the exchange that marks it
+  at_mark : (found : ℕ) → CanResolveFor c u seat a unit (Stopping (Mark found)) → ResolveStep c u seat a unit (Stopping (Mark found))
+  at_mark found can = by_found (u.memory Evac == found) refl
+    where
+      by_found : (b : Bool) → (u.memory Evac == found) ≡ b → steps.StepTo c u seat a unit shared (Stopping (Mark found)) (after_stop (if b then Wait else Ask))
+      by_found true is =
+          let kept = counter_kept c u seat (Mark found) shared can.resolves.phase can.resolves.seated refl can.resolves.copying tt in
+          let leads : rooms.next_at (Mark found) (u.memory Evac) ≡ Wait = cond-true (u.memory Evac == found) Wait Ask is in
+          steps.counter_moves c u seat a unit shared (Stopping (Mark found)) (Mark found) can refl refl tt refl (Stopping Wait) (sym (ap is_counted leads)) (λ d x room. room) refl
+          (can.resolves.facts.0, can.resolves.facts.1, subst (λ s. Mine (after (u.memory Evac) (Mark found)) s) leads kept.mine)
+      by_found false is =
+          steps.counter_moves c u seat a unit shared (Stopping (Mark found)) (Mark found) can refl refl tt refl (Stopping Ask) (sym (ap is_counted (cond-false (u.memory Evac == found) Wait Ask is))) (λ d x room. room) refl
+          (can.resolves.facts.0, can.resolves.facts.1, tt)
+
+  -- the load of the counter while it waits
+  at_wait : CanResolveFor c u seat a unit (Stopping Wait) → ResolveStep c u seat a unit (Stopping Wait)
+  at_wait can = by_count (count_of (u.memory Evac) == 0) refl
+    where
+      by_count : (z : Bool) → (count_of (u.memory Evac) == 0) ≡ z → steps.StepTo c u seat a unit shared (Stopping Wait) (after_stop (if z then Stopped else Wait))
+      by_count true none =
+          steps.looked c u seat a unit shared (Stopping Wait) LoadAgain (load_keeps u.memory Evac)
+          (steps.can_at c u seat a unit shared (Stopping Wait) LoadAgain can refl (λ d x room. room) refl (can.resolves.facts.0, can.resolves.facts.1, record { out_of_room = can.resolves.facts.2; nobody = grind (arith, nat_tests) }))
+      by_count false none =
+          steps.looked c u seat a unit shared (Stopping Wait) (Stopping Wait) (load_keeps u.memory Evac)
+          (steps.can_at c u seat a unit shared (Stopping Wait) (Stopping Wait) can refl (λ d x room. room) refl can.resolves.facts)
+
+  -- the last load of the header
+  at_load_again : CanResolveFor c u seat a unit LoadAgain → ResolveStep c u seat a unit LoadAgain
+  at_load_again can =
+      let b = can.resolves.facts.0 in
+      let quiet = can.resolves.facts.2 in
+      ⊎_elim
+      (λ current.
+      steps.leads_to c u seat a unit shared LoadAgain (Resolved a) (ap (λ h. Resolved (current_copy a h)) (steps.header_plain c u seat a unit shared b current))
+      (steps.looked c u seat a unit shared LoadAgain (Resolved a) (load_keeps u.memory (Heap a))
+      (steps.can_at c u seat a unit shared LoadAgain (Resolved a) can refl (λ d x room. room) (let piece = copy_piece c u shared a can.resolves.there in piece_begins c u shared a piece.0 piece.1 (let long = piece.2 in omega (arith, long)))
+      (still_answer c u a b can.resolves.inside quiet current))))
+      (λ old.
+      steps.leads_to c u seat a unit shared LoadAgain (Resolved old.0)
+      (ap (λ h. Resolved (current_copy a h)) (steps.header_leads c u seat a unit shared b old.0 old.1)
+      ∙ ap (λ x. Resolved x) (cond-true (is_forwarded (header_word old.0)) (forwardee_in (header_word old.0)) a (header_forwarded old.0) ∙ header_names old.0))
+      (steps.looked c u seat a unit shared LoadAgain (Resolved old.0) (load_keeps u.memory (Heap a))
+      (steps.can_at c u seat a unit shared LoadAgain (Resolved old.0) can refl (λ d x room. room) (steps.answer_word c u seat a unit shared b old.0 old.1) (moved_answer c u a old.0 b shared old.1))))
+      (copy_cases (u.block a) b can.resolves.facts.1)
+
+  at_entering : (at : RoomSpot) → CanResolveFor c u seat a unit (Entering at) → ResolveStep c u seat a unit (Entering at)
+  at_entering Look can = at_look c u seat a unit shared can
+  at_entering (Raise found) can = at_raise c u seat a unit shared found can
+  at_entering Outside can = absurd (let ready = can.resolves.ready in cc)
+  at_entering Inside can = absurd (let ready = can.resolves.ready in cc)
+  at_entering Lower can = absurd (let ready = can.resolves.ready in cc)
+  at_entering Ask can = absurd (let ready = can.resolves.ready in cc)
+  at_entering (Mark found) can = absurd (let ready = can.resolves.ready in cc)
+  at_entering Wait can = absurd (let ready = can.resolves.ready in cc)
+  at_entering Stopped can = absurd (let ready = can.resolves.ready in cc)
+
+  at_stopping : (at : RoomSpot) → CanResolveFor c u seat a unit (Stopping at) → ResolveStep c u seat a unit (Stopping at)
+  at_stopping Ask can = at_ask can
+  at_stopping (Mark found) can = at_mark found can
+  at_stopping Wait can = at_wait can
+  at_stopping Look can = absurd (let ready = can.resolves.ready in cc)
+  at_stopping (Raise found) can = absurd (let ready = can.resolves.ready in cc)
+  at_stopping Outside can = absurd (let ready = can.resolves.ready in cc)
+  at_stopping Inside can = absurd (let ready = can.resolves.ready in cc)
+  at_stopping Lower can = absurd (let ready = can.resolves.ready in cc)
+  at_stopping Stopped can = absurd (let ready = can.resolves.ready in cc)
+
+  -- each step of a resolving
+  pub each_resolve : (at : ResolveSpot) → is_resolved at ≡ false → CanResolveFor c u seat a unit at → ResolveStep c u seat a unit at
+  each_resolve LoadHeader going can = at_load_header c u seat a unit shared can
+  each_resolve (Entering at) going can = at_entering at can
+  each_resolve LoadShape going can = at_load_shape c u seat a unit shared can
+  each_resolve (Taking words at) going can = at_taking c u seat a unit shared words at can
+  each_resolve (Copying copy end at) going can = at_copying c u seat a unit shared copy end at can
+  each_resolve (Leaving answer) going can = at_leaving answer can
+  each_resolve (Stopping at) going can = at_stopping at can
+  each_resolve LoadAgain going can = at_load_again can
+  each_resolve (Resolved answer) going can = absurd (cc (going))

@@ -1,0 +1,121 @@
+-- Resolving an address as a part: any machine that has a seat can have it inside.
+use Rattle.std.proofs.Common.{◌≡◌, ◌≢◌, ◌⊎◌, ℕ, ◌+◌, ◌<◌, ◌≤◌, Some, inl, inr, refl, sym, ap, ◌∙◌, arith}
+use Rattle.heap_words.specs.declared.config.Config.{Config}
+use Rattle.heap_words.specs.Ranges.{seat_count}
+use Rattle.heap_words.specs.Words.{Top, Heap, IsWord}
+use Rattle.steps_base.specs.Touch.{loads}
+use Rattle.alloc_buffers.proofs.Accesses.{writes_spare}
+use Rattle.heap_world.specs.World.{World, hand, spare, Body, body_at, body_words, Shared}
+use Rattle.heap_world.proofs.Apart.{far, one_piece}
+use Rattle.heap_world.proofs.Copies.{counted_one}
+use Rattle.heap_world.proofs.Pointing.{body_piece}
+use Rattle.load_barrier.specs.declared.copying.CopySpot.{CopySpot}
+use Rattle.load_barrier.specs.declared.copying.CopySpot.TheVariants.{LoadWord, StoreWord, StoreHeader, Publish, GiveBack}
+use Rattle.load_barrier.specs.declared.spot.ResolveSpot.{ResolveSpot}
+use Rattle.load_barrier.specs.declared.spot.ResolveSpot.TheVariants.{LoadHeader, Entering, LoadShape, Taking, Copying, Leaving, Stopping, LoadAgain, Resolved}
+use Rattle.load_barrier.specs.Rows.{touch_at}
+use Rattle.load_barrier.specs.Fit.{LeavesFit}
+use Rattle.load_barrier.proofs.Inside.{resolve_inside}
+use Rattle.cycle_steps.specs.Resolving.Facts.{CanResolve}
+use Rattle.cycle_steps.specs.Resolving.Laws.{ResolvingSteps}
+use Rattle.cycle_steps.proofs.Resolving.Bodies.{copy_piece, piece_begins, room_no_copy}
+use Rattle.cycle_steps.proofs.Resolving.Stays.{can_resolve_stays}
+use Rattle.cycle_steps.proofs.Resolving.Leaving.{each_resolve}
+
+module _ (c : Config) (u : World) (seat a : ℕ) (shared : Shared c u) where
+  -- who leaves is counted
+  leaves_fit : (at : ResolveSpot) → CanResolve c u seat a at → LeavesFit at (u.memory (touch_at c seat a at).word)
+  leaves_fit (Leaving answer) can = λ none.
+      let counts = shared.evacuated.counted.counts in
+      let some = counted_one u.ghost.copying (seat_count c.mutators c.helpers) seat can.seated can.copying in
+      omega (arith, none, counts, some)
+  leaves_fit LoadHeader can = tt
+  leaves_fit (Entering at) can = tt
+  leaves_fit LoadShape can = tt
+  leaves_fit (Taking words at) can = tt
+  leaves_fit (Copying copy end at) can = tt
+  leaves_fit (Stopping at) can = tt
+  leaves_fit LoadAgain can = tt
+  leaves_fit (Resolved answer) can = tt
+
+  -- the next access is of the table
+  inside_at : (at : ResolveSpot) → CanResolve c u seat a at → IsWord c (touch_at c seat a at).word
+  inside_at at can =
+      let piece = copy_piece c u shared a can.there in
+      resolve_inside c seat a at can.seated (piece_begins c u shared a piece.0 piece.1 (let long = piece.2 in omega (arith, long))) can.ready
+
+module _ (c : Config) (u : World) (seat a d k : ℕ) (b : Body) (shared : Shared c u) (is : body_at (u.block d) ≡ Some b) (below : k < body_words b) where
+  -- what it accesses of copies
+  abbrev IsSpared : ResolveSpot → Type 0
+  IsSpared at = (touch_at c seat a at).word ≡ Heap (d + k) → ((touch_at c seat a at).form ≡ loads) ⊎ ((copy : ℕ) × (end : ℕ) × (at ≡ Copying copy end Publish) × (d ≡ a) × (k ≡ 0))
+
+  -- no word of its room is one of a copy
+  room_far : (copy index words : ℕ) → u.block copy ≡ Some (hand seat words) → index < words → copy + index ≢ d + k
+  room_far copy index words room inside =
+      let piece = body_piece (u.block d) b is in
+      let long = piece.2 in
+      far c (λ r. u.memory (Top r)) u.block shared.parsable.plotted copy d index k (hand seat words) piece.0 room piece.1
+      (λ same. room_no_copy c u shared copy seat words room b (ap (λ x. body_at (u.block x)) same ∙ is)) inside (omega (arith, below, long))
+
+  -- no free words of its buffer begin within a copy
+  spare_far : (more : ℕ) → u.block (d + k) ≡ Some (spare seat more) → 1 ≤ more → ⊥
+  spare_far more there some =
+      let piece = body_piece (u.block d) b is in
+      let long = piece.2 in
+      far c (λ r. u.memory (Top r)) u.block shared.parsable.plotted (d + k) d 0 k (spare seat more) piece.0 there piece.1
+      (λ same. (let both = sym (ap (λ x. body_at (u.block x)) same ∙ is) ∙ ap body_at there in cc)) (omega (arith, some)) (omega (arith, below, long)) (omega arith)
+
+  -- one word of the heap has one address
+  one_address : (x y : ℕ) → Heap x ≡ Heap y → x ≡ y
+  one_address x y same = cc
+
+  copy_spares : (copy end : ℕ) (at : CopySpot) → CanResolve c u seat a (Copying copy end at) → IsSpared (Copying copy end at)
+  copy_spares copy end (LoadWord words index) can word = inl refl
+  copy_spares copy end (StoreWord words index found) can word =
+      absurd (room_far copy index (body_words can.facts.0) can.facts.2.3.taken.here (let less = can.facts.2.2 in let long = can.facts.2.0 in omega (arith, less, long)) (one_address _ _ word))
+  copy_spares copy end StoreHeader can word =
+      absurd (room_far copy 0 (body_words can.facts.0) can.facts.2.taken.here (omega arith) (let same = one_address copy (d + k) word in omega (arith, same)))
+  copy_spares copy end Publish can word =
+      let there = copy_piece c u shared a can.there in
+      let piece = body_piece (u.block d) b is in
+      let long = piece.2 in
+      let same = one_address a (d + k) word in
+      let some = there.2 in
+      let one : d ≡ a = one_piece c (λ r. u.memory (Top r)) u.block shared.parsable.plotted d a a piece.0 there.0 piece.1 there.1 (omega (arith, same)) (omega (arith, same, below, long)) (omega arith) (omega (arith, some)) in
+      inr (copy, end, refl, one, omega (arith, same, one))
+  copy_spares copy end (GiveBack answer) can word = absurd (cc (word))
+
+  spares_at : (at : ResolveSpot) → CanResolve c u seat a at → IsSpared at
+  spares_at LoadHeader can word = inl refl
+  spares_at (Entering at) can word = absurd (cc (word))
+  spares_at LoadShape can word = inl refl
+  spares_at (Taking words at) can word = (let there = writes_spare c u seat words at can.facts.2.1 (d + k) word in absurd (spare_far there.0 there.1 there.2))
+  spares_at (Copying copy end at) can word = copy_spares copy end at can word
+  spares_at (Leaving answer) can word = absurd (cc (word))
+  spares_at (Stopping at) can word = absurd (cc (word))
+  spares_at LoadAgain can word = inl refl
+  spares_at (Resolved answer) can word = inl refl
+
+-- what the steps of resolving owe
+pub resolving_steps : ResolvingSteps
+resolving_steps = record {
+  begins = λ c u seat a seated on inside there copying records scans none. record {
+    seated = seated;
+    phase = on;
+    inside = inside;
+    there = there;
+    copying = copying;
+    records_none = records;
+    scans_none = scans;
+    rooms = λ b x is own. none b x is own;
+    ready = refl;
+    facts = tt;
+  };
+  each = λ c u seat a unit at going shared can. each_resolve c u seat a unit shared at going can;
+  stays = λ c u w seat a at shared rely can. can_resolve_stays c u w seat a shared rely at can;
+  fits = λ c u seat a at going shared can.
+      ((each_resolve c u seat a (u.ghost.working seat) shared at going (record { resolves = can; working = refl })).own.resolves.ready, leaves_fit c u seat a shared at can);
+  inside = λ c u seat a at shared can. inside_at c u seat a shared at can;
+  spares = λ c u seat a at d k b shared can is below word. spares_at c u seat a d k b shared is below at can word;
+  answers = λ c u seat a answer can. can.facts;
+}

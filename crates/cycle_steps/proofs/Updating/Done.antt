@@ -1,0 +1,26 @@
+-- What units of updating that are done come to: the fields of their objects are current.
+use Rattle.std.proofs.Common.{◌≡◌, ◌≢◌, ℕ}
+use Rattle.heap_words.specs.declared.config.Config.{Config}
+use Rattle.heap_words.specs.Words.{Phase, Cset, Claim, Top, Limit, Heap}
+use Rattle.heap_world.specs.World.{World, IsCollected, IsCurrent, Shared}
+use Rattle.heap_world.proofs.Units as units
+use Rattle.cycle_steps.specs.Updating.Laws.{UnitsAreUpdated, AllIsUpdated}
+
+-- a word that is current names nothing in the set
+current_outside : (c : Config) (w : World) (v : ℕ) → Shared c w → w.memory Phase ≡ 3 → IsCurrent w.block v → v ≢ 0 → IsCollected c (w.memory Cset) v → ⊥
+current_outside c w v shared on (IsCurrent.null null) some inside = some null
+current_outside c w v shared on (IsCurrent.names refs nums name is) some inside = (shared.updated on).outside v refs nums name is inside
+
+-- no field in a unit that is done names the set
+pub units_are_updated : UnitsAreUpdated
+units_are_updated = record {
+  done = λ c w a refs nums k name shared on claimed nobody is below.
+      units.unit_is_current c (w.memory Cset) (w.memory Claim) (λ r. w.memory (Top r)) (λ r. w.memory (Limit r)) (λ b. w.memory (Heap b)) w.block w.ghost.scanning (shared.updated on) a refs nums k name claimed nobody is below;
+  above = λ c w a refs nums k name shared on young is below.
+      units.above_is_current c (w.memory Cset) (w.memory Claim) (λ r. w.memory (Top r)) (λ r. w.memory (Limit r)) (λ b. w.memory (Heap b)) w.block w.ghost.scanning (shared.updated on) a refs nums k name young is below;
+  outside = λ c w v shared on current some inside. current_outside c w v shared on current some inside;
+}
+
+-- where all is claimed and nobody stands in a unit, no field does
+pub all_is_updated : AllIsUpdated
+all_is_updated c w shared on idle all a refs nums k name is below = units.all_is_current c w shared on idle all a refs nums k name is below

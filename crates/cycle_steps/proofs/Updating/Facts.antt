@@ -1,0 +1,114 @@
+-- What a machine counts on while it works on a unit of updating stays while others step, and while it goes on itself.
+use Rattle.std.proofs.Common.{◌≡◌, ℕ, ◌+◌, Some, ⊎_elim, inl, inr, sym, ap, ◌∙◌, subst, arith}
+use Rattle.heap_words.specs.declared.config.Config.{Config}
+use Rattle.heap_words.specs.Encoding.{refs_in}
+use Rattle.heap_words.proofs.Shapes.{refs_in-shape_word}
+use Rattle.heap_words.specs.Words.{Phase, Heap}
+use Rattle.regions.specs.Sets.{IsIn}
+use Rattle.shen_graph.specs.declared.name.Name.{Name}
+use Rattle.heap_world.specs.World.{World, thing, IsMarkable, IsCurrent, Shared}
+use Rattle.heap_world.specs.Rely.{KeepsFields, Keeps, Rely}
+use Rattle.heap_world.proofs.Updated.{current_stays}
+use Rattle.unit_part.specs.declared.update_spot.Walk.{Walk}
+use Rattle.unit_part.specs.declared.update_spot.Visit.{Visit}
+use Rattle.unit_part.specs.declared.update_spot.UpdateSpot.{UpdateSpot}
+use Rattle.unit_part.specs.declared.update_spot.UpdateSpot.TheVariants.{LoadClaim, ClaimUnit, LoadLimit, LoadTams, LoadFirst, LoadShape, LoadBlack, LoadField, LoadHeader, ExchangeField, Ended}
+use Rattle.cycle_steps.specs.Updating.Facts.{IsUnit, HasComeTo, IsPiece, HasPiece, HasShape, HasField, HasFound, UpdateFacts, CanUpdate}
+
+-- Outside pauses, whoever steps: what holds by where a machine stands does so then.
+module _ (c : Config) (u w : World) (seat : ℕ) (shared : Shared c u) (on : u.memory Phase ≡ 3) (keeps : Keeps c seat u w) (fields : KeepsFields c u w) where
+  -- a region that can be a unit
+  unit_stays : (region : ℕ) → IsUnit c u region → IsUnit c w region
+  unit_stays region unit = (unit.0, λ is. unit.1 (subst (λ set. IsIn set region) keeps.copies.cset is))
+
+  -- a walk of it
+  walked_stays : (walk : Walk) (address : ℕ) → HasComeTo c u walk address → HasComeTo c w walk address
+  walked_stays walk address walked = record {
+    unit = unit_stays walk.region walked.unit;
+    limit_is = walked.limit_is ∙ sym (fields.limits walk.region);
+    tams_is = walked.tams_is ∙ sym (fields.tams walk.region);
+    from_base = walked.from_base;
+    before = walked.before;
+  }
+
+  -- an object, of the graph or promised
+  alive_stays : (a : ℕ) → IsMarkable u.block a → IsMarkable w.block a
+  alive_stays = keeps.marks.markable (λ two. omega (arith, on, two))
+
+  -- a piece
+  piece_stays : (a : ℕ) → IsPiece u a → IsPiece w a
+  piece_stays a (inl alive) = inl (alive_stays a alive)
+  piece_stays a (inr fills) = inr (fills.0, fields.deads a fills.0 fills.1)
+
+  -- or words that only fill
+  any_stays : (a : ℕ) → HasPiece u a → HasPiece w a
+  any_stays a (inl piece) = inl (piece_stays a piece)
+  any_stays a (inr fills) = inr (fills.0, fields.fillers a fills.0 fills.1)
+
+  -- the shape word of a piece
+  shape_stays : (a shape : ℕ) → HasShape u a shape → HasShape w a shape
+  shape_stays a shape (inl object) = inl (alive_stays a object.0, object.1 ∙ sym (keeps.marks.shapes a object.0))
+  shape_stays a shape (inr fills) = inr (fills.0, fields.deads a fills.0 fills.1, fills.2)
+
+  -- a reference of an object
+  pub field_stays : (at : Visit) (field : ℕ) → HasField c u at field → HasField c w at field
+  field_stays at field has = record {
+    walked = walked_stays at.walk at.address has.walked;
+    alive = alive_stays at.address has.alive;
+    shape_is = has.shape_is ∙ sym (keeps.marks.shapes at.address has.alive);
+    below = has.below;
+  }
+
+  -- an object of the graph lies outside of the collection set, so that it stays where it is
+  thing_stays : (a refs nums : ℕ) (name : Name) → u.block a ≡ Some (thing name refs nums) → w.block a ≡ Some (thing name refs nums)
+  thing_stays a refs nums name is = (keeps.targets a refs nums name (record { piece = is; safe = λ inside. absurd ((shared.updated on).outside a refs nums name is inside) })).piece
+
+  -- what the reference was found to be
+  found_stays : (at : Visit) (field found to : ℕ) → HasField c u at field → HasFound u at field found to → HasFound w at field found to
+  found_stays at field found to has finds =
+      let holder = finds.holder in
+      let there = (shared.contents.objects.each at.address holder.1 holder.2 holder.0 holder.3).2 in
+      let all : refs_in at.shape ≡ holder.1 = ap refs_in (has.shape_is ∙ there.shape) ∙ refs_in-shape_word holder.1 holder.2 there.few_refs there.few_nums in
+      let below = has.below in
+      record {
+        holder = (holder.0, holder.1, holder.2, thing_stays at.address holder.1 holder.2 holder.0 holder.3);
+        refs = finds.refs;
+        nums = finds.nums;
+        name = finds.name;
+        old = keeps.copies.moveds found finds.refs finds.nums to finds.name finds.old;
+        still = ⊎_elim
+            (λ (same : w.memory (Heap (at.address + 3 + field)) ≡ u.memory (Heap (at.address + 3 + field))). ⊎_elim
+            (λ (is : u.memory (Heap (at.address + 3 + field)) ≡ found). inl (same ∙ is))
+            (λ (current : IsCurrent u.block (u.memory (Heap (at.address + 3 + field)))). inr (subst (IsCurrent w.block) (sym same) (current_stays u.block w.block thing_stays _ current)))
+            finds.still)
+            (λ (current : IsCurrent w.block (w.memory (Heap (at.address + 3 + field)))). inr current)
+            (fields.fields on at.address holder.1 holder.2 field holder.0 holder.3 (omega (arith, below, all)));
+      }
+
+  -- so do all of them
+  pub facts_stay : (at : UpdateSpot) → UpdateFacts c u at → UpdateFacts c w at
+  facts_stay LoadClaim facts = tt
+  facts_stay (ClaimUnit unit) facts = facts
+  facts_stay (LoadLimit region) facts = unit_stays region facts
+  facts_stay (LoadTams region limit) facts = (unit_stays region facts.0, facts.1 ∙ sym (fields.limits region), facts.2)
+  facts_stay (LoadFirst walk address) facts = (walked_stays walk address facts.0, any_stays address facts.1)
+  facts_stay (LoadShape walk address) facts = (walked_stays walk address facts.0, piece_stays address facts.1)
+  facts_stay (LoadBlack at) facts = (walked_stays at.walk at.address facts.0, shape_stays at.address at.shape facts.1, facts.2, facts.3)
+  facts_stay (LoadField at field) facts = field_stays at field facts
+  facts_stay (LoadHeader at field found) facts = (field_stays at field facts.0, (facts.1.0, found_stays at field found facts.1.0 facts.0 facts.1.1))
+  facts_stay (ExchangeField at field found copy) facts = (field_stays at field facts.0, found_stays at field found copy facts.0 facts.1)
+  facts_stay (Ended unit) facts = tt
+
+-- While others step, what it counts on stays.
+pub can_update_stays : (c : Config) (u w : World) (seat cset : ℕ) (at : UpdateSpot) → Shared c u → Keeps c seat u w → Rely c seat u w → CanUpdate c u seat cset at → CanUpdate c w seat cset at
+can_update_stays c u w seat cset at shared keeps rely can = record {
+  seated = can.seated;
+  phase = rely.marks.keeps.phase ∙ can.phase;
+  set_is = can.set_is ∙ sym rely.copies.keeps.cset;
+  copying = rely.copies.copying ∙ can.copying;
+  working = rely.copies.working ∙ can.working;
+  records_none = rely.marks.recording ∙ can.records_none;
+  scanning = rely.marks.scanning ∙ can.scanning;
+  rooms = λ a x is room. can.rooms a x (rely.no_rooms a x is room) room;
+  facts = facts_stay c u w seat shared can.phase keeps rely.fields at can.facts;
+}

@@ -1,0 +1,179 @@
+-- While references are updated, an address of the collection set is resolved by one load of the header.
+use Rattle.std.proofs.Common.{◌≡◌, ℕ, true, false, Some, ⊎_elim, refl, sym, ap, ◌∙◌, subst, arith}
+use Rattle.std.specs.Prelude.{◌==◌, if◌then◌else◌}
+use Rattle.std.proofs.lemmas.Bool.{cond-true}
+use Rattle.heap_words.specs.declared.config.Config.{Config}
+use Rattle.heap_words.specs.Encoding.{header_word, is_forwarded, forwardee_in}
+use Rattle.heap_words.specs.Words.{Phase, Cset, Heap, IsWord}
+use Rattle.steps_base.specs.Touch.{loads}
+use Rattle.evac_room.specs.declared.spot.RoomSpot.TheVariants.{Look}
+use Rattle.heap_world.specs.World.{World, thing, Body, body_at, IsCollected, HasCopy, Shared}
+use Rattle.heap_world.specs.Rely.{Rely}
+use Rattle.heap_world.specs.Part.{PartStep}
+use Rattle.heap_world.proofs.Keeping.{load_keeps, rely_same, keeps_of}
+use Rattle.heap_world.proofs.Pointing.{copy_cases}
+use Rattle.load_barrier.specs.declared.spot.ResolveSpot.{ResolveSpot}
+use Rattle.load_barrier.specs.declared.spot.ResolveSpot.TheVariants.{LoadHeader, Entering, LoadShape, Taking, Copying, Leaving, Stopping, LoadAgain, Resolved}
+use Rattle.load_barrier.specs.Rows.{touch_at, next_at, after_header, is_resolved}
+use Rattle.load_barrier.specs.Fit as resolve
+use Rattle.load_barrier.specs.Alone.{is_copier}
+use Rattle.load_barrier.proofs.Knows.{header_forwarded, header_names}
+use Rattle.load_barrier.proofs.Inside.{resolve_inside}
+use Rattle.cycle_steps.specs.Resolving.Facts.{HasMovedTo}
+use Rattle.cycle_steps.proofs.Resolving.Bodies.{copy_piece, piece_begins}
+use Rattle.cycle_steps.proofs.Resolving.Stays.{answer_stays}
+use Rattle.cycle_steps.proofs.Resolving.Common.{moved_answer}
+use Rattle.cycle_steps.specs.Updating.Following.{FollowFacts, CanFollow}
+use Rattle.cycle_steps.specs.Updating.Laws.{update_phase, FollowStep, FollowingSteps}
+
+module _ (c : Config) (u : World) (seat a : ℕ) (shared : Shared c u) where
+  -- a copy in the set is an old one
+  old_copy : (b : Body) → u.memory Phase ≡ 3 → IsCollected c (u.memory Cset) a → body_at (u.block a) ≡ Some b → (to : ℕ) × HasMovedTo u a b to
+  old_copy b on inside is = ⊎_elim
+      (λ (now : u.block a ≡ Some (thing b.name b.refs b.nums)). absurd ((shared.updated on).outside a b.refs b.nums b.name now inside))
+      (λ (was : (to : ℕ) × HasMovedTo u a b to). was)
+      (copy_cases (u.block a) b is)
+
+  -- where its header leads
+  leads_there : (b : Body) (to : ℕ) → HasMovedTo u a b to → after_header a update_phase (u.memory (Heap a)) ≡ Resolved to
+  leads_there b to is =
+      ap (after_header a update_phase) (shared.evacuated.moved.moveds a b.refs b.nums to b.name is).header
+      ∙ cond-true (is_forwarded (header_word to)) (Resolved (forwardee_in (header_word to))) (if update_phase == 3 then Resolved a else Entering Look) (header_forwarded to)
+      ∙ ap (λ x. Resolved x) (header_names to)
+
+  -- the load of the header
+  at_load_header : CanFollow c u seat a LoadHeader → FollowStep c u seat a LoadHeader
+  at_load_header can =
+      let old = old_copy can.body can.phase can.inside can.there in
+      subst (λ next. PartStep c u seat (touch_at c seat a LoadHeader) (λ w. CanFollow c w seat a next)) (sym (leads_there can.body old.0 old.1)) (record {
+        world = u;
+        memory = load_keeps u.memory (Heap a);
+        graph = refl;
+        shared = shared;
+        own = record {
+          seated = can.seated;
+          phase = can.phase;
+          inside = can.inside;
+          body = can.body;
+          there = can.there;
+          working = can.working;
+          nothing = can.nothing;
+          facts = moved_answer c u a old.0 can.body shared old.1;
+        };
+        keeps = keeps_of c seat u u (rely_same c seat u);
+        others = λ j differs. rely_same c j u;
+      })
+
+  -- each step
+  pub each_follow : (at : ResolveSpot) → is_resolved at ≡ false → CanFollow c u seat a at → FollowStep c u seat a at
+  each_follow LoadHeader going can = at_load_header can
+  each_follow (Resolved answer) going can = absurd (cc (going))
+  each_follow (Entering at) going can = absurd can.facts
+  each_follow LoadShape going can = absurd can.facts
+  each_follow (Taking words at) going can = absurd can.facts
+  each_follow (Copying copy end at) going can = absurd can.facts
+  each_follow (Leaving answer) going can = absurd can.facts
+  each_follow (Stopping at) going can = absurd can.facts
+  each_follow LoadAgain going can = absurd can.facts
+
+  -- the numbers of the spot are in range
+  pub follow_ready : (at : ResolveSpot) → CanFollow c u seat a at → resolve.is_ready c seat a at ≡ true
+  follow_ready LoadHeader can = refl
+  follow_ready (Resolved answer) can =
+      let target = can.facts.named can.body can.there in
+      piece_begins c u shared answer (thing can.body.name can.body.refs can.body.nums) target.piece (omega arith)
+  follow_ready (Entering at) can = absurd can.facts
+  follow_ready LoadShape can = absurd can.facts
+  follow_ready (Taking words at) can = absurd can.facts
+  follow_ready (Copying copy end at) can = absurd can.facts
+  follow_ready (Leaving answer) can = absurd can.facts
+  follow_ready (Stopping at) can = absurd can.facts
+  follow_ready LoadAgain can = absurd can.facts
+
+  -- nobody leaves who is not counted
+  leaves_fit : (at : ResolveSpot) (got : ℕ) → CanFollow c u seat a at → resolve.LeavesFit at got
+  leaves_fit (Leaving answer) got can = absurd can.facts
+  leaves_fit LoadHeader got can = tt
+  leaves_fit (Resolved answer) got can = tt
+  leaves_fit (Entering at) got can = tt
+  leaves_fit LoadShape got can = tt
+  leaves_fit (Taking words at) got can = tt
+  leaves_fit (Copying copy end at) got can = tt
+  leaves_fit (Stopping at) got can = tt
+  leaves_fit LoadAgain got can = tt
+
+  -- the next access is of the table
+  follow_inside : (at : ResolveSpot) → CanFollow c u seat a at → IsWord c (touch_at c seat a at).word
+  follow_inside at can =
+      let piece = copy_piece c u shared a (HasCopy.copy can.body can.there) in
+      resolve_inside c seat a at can.seated (piece_begins c u shared a piece.0 piece.1 (let long = piece.2 in omega (arith, long))) (follow_ready at can)
+
+-- While others step, what a machine counts on stays.
+module _ (c : Config) (u w : World) (seat a : ℕ) (shared : Shared c u) (rely : Rely c seat u w) where
+  facts_stay : (at : ResolveSpot) → CanFollow c u seat a at → FollowFacts c w a at
+  facts_stay LoadHeader can = tt
+  facts_stay (Resolved answer) can = answer_stays c u w seat a shared rely answer (HasCopy.copy can.body can.there) can.inside can.facts
+  facts_stay (Entering at) can = absurd can.facts
+  facts_stay LoadShape can = absurd can.facts
+  facts_stay (Taking words at) can = absurd can.facts
+  facts_stay (Copying copy end at) can = absurd can.facts
+  facts_stay (Leaving answer) can = absurd can.facts
+  facts_stay (Stopping at) can = absurd can.facts
+  facts_stay LoadAgain can = absurd can.facts
+
+  can_follow_stays : (at : ResolveSpot) → CanFollow c u seat a at → CanFollow c w seat a at
+  can_follow_stays at can = record {
+    seated = can.seated;
+    phase = rely.marks.keeps.phase ∙ can.phase;
+    inside = subst (λ set. IsCollected c set a) (sym rely.copies.keeps.cset) can.inside;
+    body = can.body;
+    there = rely.copies.keeps.bodies a can.body can.there;
+    working = rely.copies.working ∙ can.working;
+    nothing = record {
+      copying = rely.copies.copying ∙ can.nothing.copying;
+      records_none = rely.marks.recording ∙ can.nothing.records_none;
+      scans_none = rely.marks.scanning ∙ can.nothing.scans_none;
+      rooms = λ b x is room. can.nothing.rooms b x (rely.no_rooms b x is room) room;
+    };
+    facts = facts_stay at can;
+  }
+
+-- who resolves so does not copy
+follows_uncounted : (c : Config) (u : World) (seat a : ℕ) (at : ResolveSpot) → CanFollow c u seat a at → is_copier at ≡ false
+follows_uncounted c u seat a LoadHeader can = refl
+follows_uncounted c u seat a (Resolved answer) can = refl
+follows_uncounted c u seat a (Entering at) can = absurd can.facts
+follows_uncounted c u seat a LoadShape can = absurd can.facts
+follows_uncounted c u seat a (Taking words at) can = absurd can.facts
+follows_uncounted c u seat a (Copying copy end at) can = absurd can.facts
+follows_uncounted c u seat a (Leaving answer) can = absurd can.facts
+follows_uncounted c u seat a (Stopping at) can = absurd can.facts
+follows_uncounted c u seat a LoadAgain can = absurd can.facts
+
+-- and makes loads alone
+follows_loads : (c : Config) (u : World) (seat a : ℕ) (at : ResolveSpot) → CanFollow c u seat a at → (touch_at c seat a at).form ≡ loads
+follows_loads c u seat a LoadHeader can = refl
+follows_loads c u seat a (Resolved answer) can = refl
+follows_loads c u seat a (Entering at) can = absurd can.facts
+follows_loads c u seat a LoadShape can = absurd can.facts
+follows_loads c u seat a (Taking words at) can = absurd can.facts
+follows_loads c u seat a (Copying copy end at) can = absurd can.facts
+follows_loads c u seat a (Leaving answer) can = absurd can.facts
+follows_loads c u seat a (Stopping at) can = absurd can.facts
+follows_loads c u seat a LoadAgain can = absurd can.facts
+
+-- what the steps of such a resolving owe
+pub following_steps : FollowingSteps
+following_steps = record {
+  begins = λ c u seat a b seated on inside is idle nothing. record { seated = seated; phase = on; inside = inside; body = b; there = is; working = idle; nothing = nothing; facts = tt };
+  each = λ c u seat a at going shared can. each_follow c u seat a shared at going can;
+  stays = λ c u w seat a at shared rely can. can_follow_stays c u w seat a shared rely at can;
+  fits = λ c u seat a at going shared can.
+      let step = each_follow c u seat a shared at going can in
+      (follow_ready c step.world seat a step.shared (next_at c a update_phase at (u.memory (touch_at c seat a at).word)) step.own, leaves_fit c u seat a shared at (u.memory (touch_at c seat a at).word) can);
+  inside = λ c u seat a at shared can. follow_inside c u seat a shared at can;
+  ready = λ c u seat a at shared can. follow_ready c u seat a shared at can;
+  copies_none = λ c u seat a at can. follows_uncounted c u seat a at can;
+  only_loads = λ c u seat a at can. follows_loads c u seat a at can;
+  answers = λ c u seat a answer can. can.facts;
+}

@@ -1,0 +1,82 @@
+-- Counts of the objects of each thread, which are kept while names in their order are gone through.
+use Rattle.std.proofs.Common.{◌≡◌, ◌≢◌, ℕ, ◌+◌, ◌-◌, ◌<◌, ◌≤◌, ◌==◌, suc, cond, Bool, List, length, get_or, take, set, Contains, ⊎_elim, ap, ◌∙◌, subst, arith, get_or-set_same, get_or-set_other}
+use Rattle.std.proofs.lemmas.Bool.{cond-true, cond-false, cases_eq, cases_lt, eq-eqb, ne_eqb}
+use Rattle.std.proofs.lemmas.List.{length-set, length-take-le}
+use Rattle.std.proofs.lemmas.List.Elements.{Contains-get_or}
+use Rattle.shen_graph.specs.declared.name.Name.{Name}
+use Rattle.shen_graph.specs.Graph.{hub}
+use Rattle.shen_graph.specs.Reach.{InOrder}
+use Rattle.graph_placing.specs.NamesAnew.{earlier_names, names_by}
+use Rattle.graph_placing.specs.Renaming.{AreOfThreads, AreCountsOf}
+use Rattle.graph_placing.proofs.NamesCounted.{none_earlier, earlier_is, names_by_next, thread_at_most}
+
+-- a count is one more, or as it was
+abbrev pub one_where : Bool → ℕ
+one_where b = cond b 1 0
+
+module _ (threads : ℕ) (ns : List Name) (are : AreOfThreads threads ns) where
+  -- nothing is before the hub
+  pub hub_first : (m : Name) → m.thread ≡ 0 → Contains ns m → earlier_names ns m ≡ 0
+  hub_first m hub_thread there =
+      none_earlier ns m (λ a in_names same less.
+      let one : a.count ≡ 1 = ap (λ (x : Name). x.count) (are.hub_alone a in_names (same ∙ hub_thread)) in
+      let two : m.count ≡ 1 = ap (λ (x : Name). x.count) (are.hub_alone m there hub_thread) in
+      omega (arith, less, one, two))
+
+  module _ (k : ℕ) (below : k < length ns) (old : List ℕ) (counted : AreCountsOf (take k ns) threads old) (name : Name) (is : get_or ns k hub ≡ name) where
+    pub name_there : Contains ns name
+    name_there = subst (Contains ns) is (Contains-get_or ns k hub below)
+
+    pub thread_within : name.thread ≤ length old
+    thread_within = omega (arith, are.within name name_there, counted.long)
+
+    -- the count of a thread
+    kept : 1 ≤ name.thread → get_or old (name.thread - 1) 0 ≡ names_by (take k ns) name.thread
+    kept some =
+        let back : name.thread - 1 + 1 ≡ name.thread = omega (arith, some) in
+        counted.each (name.thread - 1) (omega (arith, some, are.within name name_there)) ∙ ap (names_by (take k ns)) back
+
+    pub count_is_few : 1 ≤ name.thread → get_or old (name.thread - 1) 0 ≤ k
+    count_is_few some = omega (arith, kept some, thread_at_most (take k ns) name.thread, length-take-le k ns (omega (arith, below)))
+
+    -- one object more is the next of its thread
+    pub next_is : InOrder ns → (count : ℕ) → (name.thread ≡ 0 → count ≡ 1) → (1 ≤ name.thread → count ≡ get_or old (name.thread - 1) 0 + 1) → count ≡ earlier_names ns name + 1
+    next_is order count of_hub of_thread = ⊎_elim
+        (λ (none : name.thread < 1). let zero' : name.thread ≡ 0 = omega (arith, none) in omega (arith, of_hub zero', hub_first name zero' name_there))
+        (λ (some : 1 ≤ name.thread).
+        let before : earlier_names ns name ≡ names_by (take k ns) name.thread = subst (λ (m : Name). earlier_names ns m ≡ names_by (take k ns) m.thread) is (earlier_is ns order k hub below) in
+        omega (arith, of_thread some, kept some, before))
+        (cases_lt name.thread 1)
+
+    one_more : (m : ℕ) → names_by (take (k + 1) ns) (m + 1) ≡ names_by (take k ns) (m + 1) + one_where (name.thread == m + 1)
+    one_more m =
+        let next : k + 1 ≡ suc k = omega arith in
+        ap (λ i. names_by (take i ns) (m + 1)) next ∙ names_by_next ns k (m + 1) hub below
+        ∙ ap (λ (x : Name). names_by (take k ns) (m + 1) + one_where (x.thread == m + 1)) is
+
+    pub counted_next : (new : List ℕ) → (name.thread ≡ 0 → new ≡ old) → (1 ≤ name.thread → new ≡ set old (name.thread - 1) (get_or old (name.thread - 1) 0 + 1)) → AreCountsOf (take (k + 1) ns) threads new
+    counted_next new of_hub of_thread = record {
+      long = ⊎_elim
+          (λ (none : name.thread < 1). ap length (of_hub (omega (arith, none))) ∙ counted.long)
+          (λ (some : 1 ≤ name.thread). ap length (of_thread some) ∙ length-set old (name.thread - 1) (get_or old (name.thread - 1) 0 + 1) ∙ counted.long)
+          (cases_lt name.thread 1);
+      each = λ m inside. ⊎_elim
+          (λ (none : name.thread < 1).
+          let other : one_where (name.thread == m + 1) ≡ 0 = cond-false (name.thread == m + 1) 1 0 (ne_eqb _ _ (λ same. omega (arith, same, none))) in
+          ap (λ (xs : List ℕ). get_or xs m 0) (of_hub (omega (arith, none))) ∙ omega (arith, counted.each m inside, one_more m, other))
+          (λ (some : 1 ≤ name.thread).
+          let set_is = ap (λ (xs : List ℕ). get_or xs m 0) (of_thread some) in
+          ⊎_elim
+          (λ (here : name.thread ≡ m + 1).
+          let one : one_where (name.thread == m + 1) ≡ 1 = cond-true (name.thread == m + 1) 1 0 (eq-eqb _ _ here) in
+          let place : name.thread - 1 ≡ m = omega (arith, here) in
+          let value : get_or (set old m (get_or old m 0 + 1)) m 0 ≡ get_or old m 0 + 1 = get_or-set_same old m (get_or old m 0 + 1) 0 (omega (arith, inside, counted.long)) in
+          set_is ∙ ap (λ i. get_or (set old i (get_or old i 0 + 1)) m 0) place ∙ omega (arith, value, counted.each m inside, one_more m, one))
+          (λ (elsewhere : name.thread ≢ m + 1).
+          let none : one_where (name.thread == m + 1) ≡ 0 = cond-false (name.thread == m + 1) 1 0 (ne_eqb _ _ elsewhere) in
+          let apart : m ≢ name.thread - 1 = omega (arith, elsewhere, some) in
+          let value = get_or-set_other old (name.thread - 1) m (get_or old (name.thread - 1) 0 + 1) 0 apart in
+          set_is ∙ value ∙ omega (arith, counted.each m inside, one_more m, none))
+          (cases_eq name.thread (m + 1)))
+          (cases_lt name.thread 1);
+    }

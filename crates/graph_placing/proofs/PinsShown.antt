@@ -1,0 +1,33 @@
+-- What pin slots hold, by a text that shows them.
+use Rattle.std.proofs.Common.{◌≡◌, ℕ, zero, suc, length, Option, Some, None, refl, sym, ap, ◌∙◌, arith}
+use Rattle.shen_graph.specs.declared.pin.Pinned.{Pinned}
+use Rattle.shen_graph.specs.Graph.{Graph, Reference}
+use Rattle.shen_graph.specs.GraphText.{Text, pin_of}
+use Rattle.shen_graph.specs.Step.{name_in}
+use Rattle.heap_graph.specs.Shows.{ShowsGraph}
+use Rattle.graph_placing.specs.Renewed.{PinsNothing, HoldsNothing}
+use Rattle.graph_placing.proofs.TextShown.{shown_pin}
+
+-- what pin slots hold, by the text
+none_named : (held : Option Pinned) → name_in held ≡ None → held ≡ None
+none_named None is = refl
+none_named (Some held) is = absurd (cc)
+
+module _ (t : Text) (threads : ℕ) (g : Graph) (shows : ShowsGraph t threads g) where
+  pub nothing_pinned : length t.roots ≡ threads → PinsNothing t → HoldsNothing threads g
+  nothing_pinned long none zero slot low high small = absurd (omega (arith, low))
+  nothing_pinned long none (suc m) slot low high small =
+      none_named (g.pin (suc m) slot) (sym (shown_pin t threads g shows m slot (omega (arith, high)) small) ∙ none (suc m) slot low (omega (arith, high, long)) small)
+
+  pub nothing_held : length t.roots ≡ threads → HoldsNothing threads g → PinsNothing t
+  nothing_held long none zero slot low high small = absurd (omega (arith, low))
+  nothing_held long none (suc m) slot low high small =
+      shown_pin t threads g shows m slot (omega (arith, high, long)) small ∙ ap name_in (none (suc m) slot low (omega (arith, high, long)) small)
+
+-- a test of pin slots that does not fail
+pub not_pinned : (t : Text) → ((PinsNothing t → ⊥) → ⊥) → PinsNothing t
+not_pinned t never thread slot low high small = by_slot (pin_of t thread slot) refl
+  where
+    by_slot : (held : Reference) → pin_of t thread slot ≡ held → pin_of t thread slot ≡ None
+    by_slot None is = is
+    by_slot (Some name) is = absurd (never (λ none. let empty = none thread slot low high small in cc))

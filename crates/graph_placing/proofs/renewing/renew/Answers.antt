@@ -1,0 +1,79 @@
+use Rattle.std.proofs.Common.{◌≡◌, ℕ, ◌<◌, List, ◌++◌, length, replicate, take, drop, ⊎_elim, sym, ap, ◌∙◌, subst, arith}
+use Rattle.std.proofs.lemmas.Bool.{cases_lt}
+use Rattle.std.proofs.lemmas.List.{take_at}
+use Rattle.heap_words.specs.declared.config.Config.{Config}
+use Rattle.image_graph.specs.State.{config_of, memory_of}
+use Rattle.shen_graph.specs.GraphText.{names_of}
+use Rattle.graph_placing.specs.ByName.{end_behind, Fits}
+use Rattle.pause_words.specs.Plot.{heap_end}
+use Rattle.graph_placing.specs.PlacedHeap.{IsPlaced}
+use Rattle.graph_placing.specs.PlaceableText.{IsPlaceable}
+use Rattle.graph_placing.specs.TextGraph.{text_graph}
+use Rattle.graph_placing.proofs.GraphStands.{stands}
+use Rattle.graph_placing.specs.NamesAnew.{name_anew, text_anew}
+use Rattle.graph_placing.specs.Renaming.{AreOfThreads, AreCountsOf}
+use Rattle.graph_placing.specs.Renewing.{names_written}
+use Rattle.graph_placing.proofs.WrittenAnew.{placed_anew}
+use Rattle.graph_placing.proofs.TextsAnew as anew
+use Rattle.graph_placing.proofs.SameGraphs.{graph_anew}
+use Rattle.graph_placing.proofs.renewing.renew.Goals as goal
+
+pub write_names-requires-clause-whole : goal.write_names-requires-clause-whole
+write_names-requires-clause-whole c =
+    let same : config_of c.in-Heap.image ≡ c.args.config = rw c.in-Heap.is at c.in_ok-image.ensures.config in
+    subst (λ (g : Config). IsPlaceable g c.args.text.now) (sym same) c.requires.whole
+
+pub write_names-requires-clause-fits : goal.write_names-requires-clause-fits
+write_names-requires-clause-fits c =
+    let g = c.args.config in
+    let t = c.args.text.now in
+    let same : config_of c.in-Heap.image ≡ g = rw c.in-Heap.is at c.in_ok-image.ensures.config in
+    let fits : Fits g t = ⊎_elim
+    (λ (over : heap_end g < end_behind g t (length t.rows)).
+    absurd (let small = c.in_ok-image.ensures.too_small.1 (λ all. omega (arith, all, over)) in let heap = c.in-Heap.is in cc))
+    (λ (all : Fits g t). all)
+    (cases_lt (heap_end g) (end_behind g t (length t.rows))) in
+    subst (λ (h : Config). Fits h t) (sym same) fits
+
+pub write_names-requires-clause-names : goal.write_names-requires-clause-names
+write_names-requires-clause-names c =
+    let same : config_of c.in-Heap.image ≡ c.args.config = rw c.in-Heap.is at c.in_ok-image.ensures.config in
+    subst (λ (g : Config). AreOfThreads g.mutators (names_of c.args.text.now)) (sym same) c.requires.names
+
+pub write_names-requires-clause-none : goal.write_names-requires-clause-none
+write_names-requires-clause-none c =
+    let same : config_of c.in-Heap.image ≡ c.args.config = rw c.in-Heap.is at c.in_ok-image.ensures.config in
+    c.deref_mut.ensures.value ∙ c.in_ok-counts.ensures ∙ ap (λ (g : Config). replicate g.mutators 0) (sym same)
+
+pub returns-clause-placed : goal.returns-clause-placed
+returns-clause-placed c =
+    let g = c.args.config in
+    let t = c.args.text.now in
+    let same : config_of c.in-Heap.image ≡ g = rw c.in-Heap.is at c.in_ok-image.ensures.config in
+    let placed : IsPlaced g t (memory_of c.in-Heap.image) = rw c.in-Heap.is at c.in_ok-image.ensures.placed in
+    let words : memory_of c.write_names.new.image ≡ names_written g t (length t.rows) (memory_of c.in-Heap.image) =
+    c.write_names.ensures.words ∙ ap (λ (h : Config). names_written h t (length t.rows) (memory_of c.in-Heap.image)) same in
+    subst (IsPlaced g (text_anew t)) (sym words) (placed_anew g t c.requires.whole (memory_of c.in-Heap.image) placed)
+
+pub returns-clause-counts : goal.returns-clause-counts
+returns-clause-counts c =
+    let same : config_of c.in-Heap.image ≡ c.args.config = rw c.in-Heap.is at c.in_ok-image.ensures.config in
+    let new = c.write_names.new.counts in
+    let back : take c.in_ok-counts.counts.len (new ++ drop (length new) c.in_ok-counts.counts.items) ≡ new =
+    take_at new (drop (length new) c.in_ok-counts.counts.items) c.in_ok-counts.counts.len (c.write_names.auto.counts ∙ c.deref_mut.ensures.len) in
+    subst (AreCountsOf (names_of c.args.text.now) c.args.config.mutators) (sym back)
+    (subst (λ (g : Config). AreCountsOf (names_of c.args.text.now) g.mutators new) same c.write_names.ensures.counts)
+
+pub returns-clause-stands : goal.returns-clause-stands
+returns-clause-stands c =
+    let g = c.args.config in
+    let t = c.args.text.now in
+    let new = c.write_names.new.counts in
+    let counts : List ℕ = take c.in_ok-counts.counts.len (new ++ drop (length new) c.in_ok-counts.counts.items) in
+    let fits : Fits g t = ⊎_elim
+    (λ (over : heap_end g < end_behind g t (length t.rows)).
+    absurd (let small = c.in_ok-image.ensures.too_small.1 (λ all. omega (arith, all, over)) in let heap = c.in-Heap.is in cc))
+    (λ (all : Fits g t). all)
+    (cases_lt (heap_end g) (end_behind g t (length t.rows))) in
+    stands g (text_anew t) (anew.placeable_anew g t c.requires.whole) (anew.fits_anew g (name_anew (names_of t)) t fits) (memory_of c.write_names.new.image) (returns-clause-placed c)
+    counts (text_graph (text_anew t) counts) (graph_anew g t c.requires.whole c.requires.names counts (returns-clause-counts c) fits)

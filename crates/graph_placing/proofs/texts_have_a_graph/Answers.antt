@@ -1,5 +1,0 @@
-use Rattle.graph_placing.proofs.TextGraphs.{is_graph}
-use Rattle.graph_placing.proofs.texts_have_a_graph.Goals as goal
-
-pub returns : goal.returns
-returns c = is_graph

@@ -1,0 +1,13 @@
+//! Places the objects of a graph's text in a heap that nothing has happened in yet: in the order of their names, one behind the other, in
+//! regions 0 upward, each within one region. A run can begin from there.
+
+ghost use Rattle.std.specs.Prelude.{ℕ, List};
+ghost use Rattle.heap_words.specs.declared.config.Config.{Config};
+ghost use Rattle.shen_graph.specs.GraphText.{Text};
+ghost use Rattle.graph_placing.specs.PlaceableText.{IsPlaceable};
+ghost use Rattle.graph_placing.specs.TextGraph.{IsGraphOf, AreGiven, text_graph};
+
+/// A law: the graph of a text alone is one of the text, where its names are given by these counts.
+pub fn texts_have_a_graph()
+    ensures { (c : Config) (t : Text) (counts : List ℕ) → IsPlaceable c t → AreGiven c t counts → IsGraphOf c t counts (text_graph t counts) }
+{}

@@ -1,0 +1,40 @@
+//! Names the objects of a graph anew, and places them in a heap that nothing has happened in yet: a run can begin from there, in which each
+//! thread has only made the objects that are left of it. Each name keeps its thread and its place in the order, and those of a thread are
+//! counted from 1.
+
+ghost use Rattle.std.specs.Prelude.{ℕ, List};
+ghost use Rattle.heap_words.specs.declared.config.Config.{Config};
+ghost use Rattle.heap_graph.specs.Shows.{ShowsGraph};
+ghost use Rattle.shen_graph.specs.declared.name.Name.{Name};
+ghost use Rattle.shen_graph.specs.Graph.{Graph};
+ghost use Rattle.shen_graph.specs.GraphText.{Text, names_of};
+ghost use Rattle.shen_graph.specs.Reach.{InOrder};
+ghost use Rattle.graph_placing.specs.PlaceableText.{IsPlaceable};
+ghost use Rattle.graph_placing.specs.TextGraph.{text_graph};
+ghost use Rattle.graph_placing.specs.NamesAnew.{name_anew, text_anew};
+ghost use Rattle.graph_placing.specs.Renaming.{AreOfThreads, IsRenaming, AreCountsOf};
+ghost use Rattle.graph_placing.specs.SameGraph.{IsSameAnew};
+ghost use Rattle.std.specs.Prelude.{All};
+ghost use Rattle.shen_graph.specs.Graph.{opening};
+ghost use Rattle.shen_graph.specs.History.{Entry, after, EachIsLegal};
+ghost use Rattle.graph_placing.specs.Renewable.{IsRenewable, IsEntryOf};
+
+/// A law: names in their order are counted anew one to one, without a gap.
+pub fn names_are_counted_anew()
+    ensures { (names : List Name) → InOrder names → IsRenaming names (name_anew names) }
+{}
+
+/// A law: where a text shows a graph, that of the text whose objects are named anew is the same graph up to the names.
+pub fn renewals_keep_the_graph()
+    ensures { (c : Config) (t : Text) (g : Graph) (counts : List ℕ) → IsPlaceable c t → AreOfThreads c.mutators (names_of t) → AreCountsOf (names_of t) c.mutators counts → ShowsGraph t c.mutators g → IsSameAnew (name_anew (names_of t)) c.mutators g (text_graph (text_anew t) counts) }
+{}
+
+/// A law: the graph of each legal history can be named anew; and then, its text meets what `renew` asks for, and the graph that comes of
+/// it can be named anew once more.
+pub fn graphs_of_histories_can_be_renewed()
+    ensures opening { (threads : ℕ) → IsRenewable threads (opening threads) }
+    ensures history { (threads regions region_words : ℕ) (g : Graph) (history : List Entry) → EachIsLegal regions region_words g history → All (IsEntryOf threads) history → IsRenewable threads g → IsRenewable threads (after g history) }
+    ensures whole { (c : Config) (t : Text) (g : Graph) → IsRenewable c.mutators g → ShowsGraph t c.mutators g → IsPlaceable c t }
+    ensures names { (c : Config) (t : Text) (g : Graph) → IsRenewable c.mutators g → ShowsGraph t c.mutators g → AreOfThreads c.mutators (names_of t) }
+    ensures once_more { (c : Config) (t : Text) (counts : List ℕ) → IsPlaceable c t → AreOfThreads c.mutators (names_of t) → IsRenewable c.mutators (text_graph (text_anew t) counts) }
+{}

@@ -1,4 +1,0 @@
-pub mod Recording
-pub mod Scanning
-pub mod Laws
-pub mod Chains

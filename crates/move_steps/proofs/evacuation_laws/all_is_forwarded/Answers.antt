@@ -1,5 +1,0 @@
-use Rattle.move_steps.proofs.Evacuation.Parts.{all_is_forwarded}
-use Rattle.move_steps.proofs.evacuation_laws.all_is_forwarded.Goals as goal
-
-pub returns : goal.returns
-returns c = all_is_forwarded

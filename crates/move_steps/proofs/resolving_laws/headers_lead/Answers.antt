@@ -1,5 +1,0 @@
-use Rattle.move_steps.proofs.Resolving.Headers as headers
-use Rattle.move_steps.proofs.resolving_laws.headers_lead.Goals as goal
-
-pub returns : goal.returns
-returns c = headers.headers_lead

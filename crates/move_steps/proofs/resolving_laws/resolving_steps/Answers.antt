@@ -1,5 +1,0 @@
-use Rattle.move_steps.proofs.Resolving.Parts.{resolving_steps}
-use Rattle.move_steps.proofs.resolving_laws.resolving_steps.Goals as goal
-
-pub returns : goal.returns
-returns c = resolving_steps

@@ -1,5 +1,0 @@
-use Rattle.move_steps.proofs.Updating.Following.{following_steps}
-use Rattle.move_steps.proofs.updating_laws.following_steps.Goals as goal
-
-pub returns : goal.returns
-returns c = following_steps

@@ -1,8 +1,0 @@
-use Rattle.packing.proofs.Slid.{slid_is, slid_only}
-use Rattle.packing.proofs.moves.slides_to_one_heap.Goals as goal
-
-pub returns : goal.returns
-returns c = record {
-  is = λ first place kept renew before apart end. slid_is place kept renew before apart first end;
-  only = λ first place kept renew before apart end after is x above. slid_only place kept renew before apart first end after is x above;
-}

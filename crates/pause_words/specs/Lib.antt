@@ -1,0 +1,17 @@
+pub mod Buffers
+pub mod Settled
+pub mod LetGo
+pub mod Edge
+pub mod BufferLaws
+pub mod Divided
+pub mod BuffersKeep
+pub mod Pinned
+pub mod Held
+pub mod Plot
+pub mod Pack
+pub mod Full
+pub mod Laws
+pub mod Served
+pub mod Promised
+pub mod Image
+pub mod Serving

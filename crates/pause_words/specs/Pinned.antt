@@ -1,0 +1,76 @@
+-- Which regions are pinned, and what of them is left over: objects that nothing leads to there become words that only fill.
+use Rattle.std.specs.Prelude.{ℕ, ◌≡◌, ◌+◌, ◌-◌, ◌*◌, ◌^◌, ◌<◌, ◌≤◌, ◌==◌, ◌&&◌, nat_le, nat_lt, if◌then◌else◌, Bool, List, [], ◌++◌, map, zero, suc}
+use Rattle.std.specs.List.{range_with_len, list_any}
+use Rattle.heap_words.specs.declared.config.Config.{Config}
+use Rattle.heap_words.specs.Words.{Word, Top, Pin, Heap, write}
+use Rattle.heap_words.specs.Encoding.{filler_header, object_words}
+use Rattle.regions.specs.Place.{base_of, region_with}
+use Rattle.regions.specs.Walk.{start_of, stride_at}
+use Rattle.regions.specs.Places.{is_shut}
+
+-- the 4 pin slots of each of so many mutators, counted from 0
+abbrev pub pins_below : (Word → ℕ) → ℕ → List ℕ
+pins_below memory zero = []
+pins_below memory (suc t) = pins_below memory t ++ map (λ i. memory (Pin t i)) (range_with_len 0 4)
+
+-- an address lies in a region
+abbrev pub lies_in : Config → (region : ℕ) → ℕ → Bool
+lies_in c r a = nat_le (base_of c r) a && nat_lt a (base_of c r + c.region_words)
+
+-- a pin slot of a mutator holds an address of a region
+abbrev pub has_pin : Config → (Word → ℕ) → (region mutator : ℕ) → Bool
+has_pin c memory r t = list_any (λ i. lies_in c r (memory (Pin t i))) (range_with_len 0 4)
+
+-- A region is pinned: some pin slot holds an address there. Its objects stay where they are.
+abbrev pub is_pinned : Config → (Word → ℕ) → ℕ → Bool
+is_pinned c memory r = list_any (has_pin c memory r) (range_with_len 0 c.mutators)
+
+abbrev pub is_pinned_below : Config → (Word → ℕ) → (regions : ℕ) → ℕ → Bool
+is_pinned_below c memory regions r = nat_lt r regions && is_pinned c memory r
+
+-- the set of the first so many regions that pass a test
+unfoldable pub set_of : (ℕ → Bool) → ℕ → ℕ
+set_of test zero = 0
+set_of test (suc r) = (if test r then 1 else 0) * 2 ^ r + set_of test r
+
+-- the set of the pinned regions, and of a row of the heap whether its region is in it: rows are regions counted from 1
+abbrev pub pinned_set : Config → (Word → ℕ) → ℕ
+pinned_set c memory = set_of (is_pinned c memory) c.regions
+
+abbrev pub is_row_pinned : Config → (Word → ℕ) → ℕ → Bool
+is_row_pinned c memory = is_shut (pinned_set c memory)
+
+-- where the object begins, or the words that only fill, that has a word of the heap
+abbrev pub object_of : Config → (Word → ℕ) → ℕ → ℕ
+object_of c memory x = base_of c (region_with c x) + start_of (λ a. memory (Heap a)) (base_of c (region_with c x)) (x - base_of c (region_with c x))
+
+-- an address lies in the part in use of one of the heap's regions
+abbrev pub is_in_use : Config → (Word → ℕ) → ℕ → Bool
+is_in_use c memory x = nat_le c.region_words x && (nat_lt (region_with c x) c.regions && nat_lt (x - base_of c (region_with c x)) (memory (Top (region_with c x))))
+
+-- an object begins there, or words that only fill
+abbrev pub begins : Config → (Word → ℕ) → ℕ → Bool
+begins c memory x = is_in_use c memory x && (object_of c memory x == x)
+
+-- The words after the objects that pass a test, in the regions that pass another, became words that only fill. All other words stay.
+abbrev pub filled_in : Config → (in_region : ℕ → Bool) (left : ℕ → Bool) → (Word → ℕ) → Word → ℕ
+filled_in c in_region left memory (Heap a) =
+    if in_region (region_with c a) && begins c memory a && left a then filler_header (object_words (memory (Heap (a + 1)))) else memory (Heap a)
+filled_in c in_region left memory word = memory word
+
+-- the words after one of them did, if it passes the test
+abbrev pub is_filled_from : Config → (left : ℕ → Bool) → (address : ℕ) → (Word → ℕ) → Word → ℕ
+is_filled_from c left a memory word = if left a then write memory (Heap a) (filler_header (object_words (memory (Heap (a + 1))))) word else memory word
+
+-- An object begins at a distance behind the base of a region, or words that only fill: what is before it ends there.
+abbrev pub BeginsAt : Config → (Word → ℕ) → (region : ℕ) → ℕ → Type 0
+BeginsAt c memory r k = start_of (λ a. memory (Heap a)) (base_of c r) k ≡ k
+
+-- each object of a region ends at its top, or before, and so do words that only fill
+abbrev pub EndInRegion : Config → (Word → ℕ) → (region : ℕ) → Type 0
+EndInRegion c memory r = (k : ℕ) → k < memory (Top r) → BeginsAt c memory r k → k + stride_at (λ a. memory (Heap a)) (base_of c r + k) ≤ memory (Top r)
+
+-- what is left over of a region can be filled
+pub record CanFill (c : Config) (memory : Word → ℕ) (r : ℕ) : Type 0 where
+  pub within : memory (Top r) ≤ c.region_words
+  pub ends : EndInRegion c memory r

@@ -1,0 +1,60 @@
+-- How the regions are divided once the kept objects were packed.
+use Rattle.std.specs.Prelude.{ℕ, ◌≡◌, ◌⊎◌, ◌+◌, ◌*◌, ◌/◌, ◌≤◌, ◌==◌, ◌&&◌, nat_lt, Bool, true, if◌then◌else◌, Option, Some, None, option_and_then, zero, suc}
+use Rattle.heap_words.specs.declared.config.Config.{Config}
+use Rattle.heap_words.specs.Encoding.{filler_header}
+use Rattle.std.specs.Option.{option_map}
+use Rattle.regions.specs.Place.{region_with}
+use Rattle.regions.specs.Walk.{stride_at}
+use Rattle.regions.specs.Places.{new_place}
+use Rattle.regions.specs.Tops.{top_before}
+use Rattle.shen_graph.specs.declared.name.Name.{Name}
+use Rattle.heap_world.specs.World.{Block, Plot, thing, promised, hand, carved, filler, words_of, name_at, IsFilled}
+
+-- Each piece is an object, or words that only fill, as they may stand in pinned regions: nobody has room in hand, and old copies and what
+-- a pause has made for a mutator count as objects.
+abbrev pub AreThings : Plot → Type 0
+AreThings block = (a : ℕ) (piece : Block) → block a ≡ Some piece
+    → ((name : Name) × (refs : ℕ) × (nums : ℕ) × (piece ≡ thing name refs nums)) ⊎ ((words : ℕ) × (1 ≤ words) × (piece ≡ filler words))
+
+-- words that only fill begin with a header that says how many they are
+abbrev pub FillersSay : (heap : ℕ → ℕ) → Plot → Type 0
+FillersSay heap block = (a words : ℕ) → block a ≡ Some (filler words) → heap a ≡ filler_header words
+
+-- What stands for a name is an object, and nothing is promised, in hand or carved: old copies and what a pause has made for a mutator count
+-- as objects. Other pieces may be of any kind: dead objects, words that only fill, and the free words of buffers.
+pub record NamedAreThings (block : Plot) : Type 0 where
+  pub named : (a : ℕ) (name : Name) → name_at (block a) ≡ Some name → (refs : ℕ) × (nums : ℕ) × (block a ≡ Some (thing name refs nums))
+  pub unpromised : (a seat words : ℕ) → block a ≡ Some (promised seat words) → ⊥
+  pub unheld : (a seat words : ℕ) → block a ≡ Some (hand seat words) → ⊥
+  pub uncarved : (a seat words : ℕ) → block a ≡ Some (carved seat words) → ⊥
+  pub some : (a : ℕ) (piece : Block) → block a ≡ Some piece → 1 ≤ words_of piece
+
+-- Regions can be walked from their bases on: pieces fill them, each has some word, and those of shut regions say how many.
+pub record AreParsed (c : Config) (shut : ℕ → Bool) (top heap : ℕ → ℕ) (block : Plot) : Type 0 where
+  pub filled : IsFilled c top block
+  pub some : (a : ℕ) (b : Block) → block a ≡ Some b → 1 ≤ words_of b
+  pub sized : (a : ℕ) (b : Block) → block a ≡ Some b → shut (a / c.region_words) ≡ true → stride_at heap a ≡ words_of b
+
+-- the address behind the last one of the heap
+abbrev pub heap_end : Config → ℕ
+heap_end c = (c.regions + 1) * c.region_words
+
+-- the kept address below an end whose object is placed at an address, if there is one
+unfoldable pub origin : (place kept : ℕ → ℕ) (at : ℕ) → ℕ → Option ℕ
+origin place kept at zero = None
+origin place kept at (suc a) = if nat_lt 0 (kept a) && (place a == at) then Some a else origin place kept at a
+
+-- a piece of a pinned region that no kept object is only fills then
+abbrev pub left_piece : Block → Block
+left_piece piece = filler (words_of piece)
+
+-- At the new place of each kept object the piece that was at its address. In pinned regions, which are shut, each other piece only
+-- fills; and there are no other pieces.
+abbrev pub packed_block : Config → (shut : ℕ → Bool) (kept : ℕ → ℕ) → Plot → Plot
+packed_block c shut kept block at =
+    if shut (region_with c at + 1) then (if kept at == 0 then option_map left_piece (block at) else block at)
+    else option_and_then block (origin (new_place c.region_words shut kept) kept at (heap_end c))
+
+-- the top of each open region then
+abbrev pub packed_top : Config → (shut : ℕ → Bool) (kept : ℕ → ℕ) → ℕ → ℕ
+packed_top c shut kept r = top_before c.region_words shut kept r (heap_end c)

@@ -1,4 +1,0 @@
-pub mod Rows
-pub mod Seen
-pub mod Ends
-pub mod Unscanned

@@ -1,4 +1,0 @@
-mod Tables
-mod Crossing
-mod Spared
-mod Reading

@@ -1,0 +1,45 @@
+-- Both references are opened, and what the two seats own crosses over where their tables are one.
+use Rattle.atomic_table.proofs.Names.{◌≡◌, ℕ, List, [], ◌∷◌, refl, ap, a_type, named, Val, vunit, vptr, inst_fn, SProp, emp, Fml, ftrue, fsep, flft, ‵, raw, ◌⊛◌, ◌$◌, ◌∵◌, !, qed, by, move, keep, split, join, fsplit, fsplit3, fjoin, fjoin3, use0, use2, feq_i, unit_lit, of_opd, returns, enter, alloc_all, pass_all, free_all, look_at, sets, tables, RattleType, owns, types_at, plain, nothing, param, layouts, Stays, walk_of, fact, fact_i, Coded, mut_vals, mut_Tells, opens, closes, stay_ref, Goes-ref}
+use Rattle.std.proofs.Common.{◌≢◌, ◌⊎◌, inl, inr, ⊎_elim}
+use Rattle.atomic_table.proofs.Walks.{proved, leaves}
+use Rattle.atomic_table.specs.Table.{Me}
+use Rattle.atomic_table.specs.Seated.{mine}
+use Rattle.atomic_table.specs.contracts.shared.Seat as seat
+use Rattle.shared_table.proofs.Tables.{table_decided}
+use Rattle.shared_table.proofs.Crossing.{which, which_same, which_one, crossed}
+use Rattle.shared_table.specs.contracts.exchange.exchange_in_one_table.{ended, clauses}
+use Rattle.shared_table.specs.contracts.exchange.exchange_in_one_table.Key.{name as #self}
+use Rattle.shared_table.proofs.exchange.exchange_in_one_table.Statement.{statement}
+use Rattle.shared_table.proofs.exchange.exchange_in_one_table.Code as code
+
+pub exchange_in_one_table_spec : {M : Type 1} → statement M
+exchange_in_one_table_spec 𝓤 𝓛 𝓜 𝓡 wired T U _ _ =
+    let H = 𝓛.H in let 𝓣 = tables 𝓤 H 𝓜 𝓡 𝓡.env in let R : RattleType = param 0 T in let W : RattleType = param 1 U in let En = ended T U in
+    let inst = layouts (a_type ∷ a_type ∷ []) (T, (U, tt)) in let fn = inst_fn inst code.function in let Sr : RattleType = seat.the_row R W in let sitter = plain (λ _. Sr) in
+    let hs : Stays En.signature.params En.kept = (stay_ref (0 ∷ []) tt sitter, (stay_ref (1 ∷ []) tt sitter, tt)) in let c = clauses T U 𝓛 𝓜.mem 𝓡.returns in
+    proved 𝓛 En hs c 𝓜 𝓡 (Goes-ref 𝓛 4 0 tt sitter, (Goes-ref 𝓛 4 1 tt sitter, tt)) (#self inst) fn (code.unfolded 𝓤 H 𝓜 𝓡 wired (T, (U, tt)))
+    (λ κs. (mut_vals, (mut_vals, tt))) (λ κs. (mut_Tells (named 0) κs.0 Sr, (mut_Tells (named 1) κs.1.0 Sr, tt))) (λ κs qs bounds a gh are.
+    let b : ℕ = a.0.ref_ptr.0 in let o : ℕ = a.0.ref_ptr.1 in let b' : ℕ = a.1.0.ref_ptr.0 in let o' : ℕ = a.1.0.ref_ptr.1 in let cv : Coded U.Denot = W.coded in
+    let one : Sr.Denot = a.0.now in let other : Sr.Denot = a.1.0.now in
+    let d : (one.table_id ≡ other.table_id) ⊎ (one.table_id ≢ other.table_id) = table_decided one.table_id other.table_id in
+    let m : ℕ × Me T.Denot U.Denot = (one.id, one.me) in let n : ℕ × Me T.Denot U.Denot = (other.id, other.me) in
+    let m' : ℕ × Me T.Denot U.Denot = which d n m in let n' : ℕ × Me T.Denot U.Denot = which d m n in
+    let one' : Sr.Denot = record { marker = one.marker; table_id = one.table_id; id = m'.0; me = m'.1 } in
+    let other' : Sr.Denot = record { marker = other.marker; table_id = other.table_id; id = n'.0; me = n'.1 } in
+    let Told : Type 0 = (one'.table_id ≡ one.table_id) × (other'.table_id ≡ other.table_id) × (one.table_id ≡ other.table_id → (one'.me ≡ other.me) × (other'.me ≡ one.me)) × ((other'.me ≡ one.me) ⊎ (other'.me ≡ other.me)) in
+    let told : Told = (refl, refl, (λ e. (ap (λ x. x.1) (which_same d n m e), ap (λ x. x.1) (which_same d m n e))), (⊎_elim (λ e. inl (ap (λ x. x.1) e)) (λ e. inr (ap (λ x. x.1) e)) (which_one d m n))) in
+    let y : (walk_of 𝓛 En hs c).Ghost = ((κs, qs, bounds, a, (vptr b o ∷ [], (vptr b' o' ∷ [], tt))), gh) in let Post : Val → SProp 𝓤 = (walk_of 𝓛 En hs c).post y in
+    let rest : Fml = fsep (flft κs.1.1.0 qs.1.1.0) (fsep (flft κs.1.1.1.0 qs.1.1.1.0) ftrue) in
+    let others : Fml = fsep (flft κs.1.0 qs.1.0) rest in
+    qed 𝓛 (((‵ (flft κs.0 qs.0) ⊛ ‵ others) ⊛ ‵ (owns (types_at En.signature.params κs) a y.0.4)) ∷ raw ((c κs a).requires gh) ∷ []) ∵
+    split ! $ split ! $ move ! (2 ∷ []) $ fsplit ! $ fsplit3 ! $ move ! (3 ∷ []) $ fsplit ! $ fsplit3 ! $ move ! (8 ∷ []) $ fsplit ! $ keep ! (7 ∷ 8 ∷ 9 ∷ 3 ∷ 4 ∷ 0 ∷ 1 ∷ []) $
+    -- [the first reference, and its token; the second, and its token; the other tokens]
+    enter ! 𝓣.C 𝓣.Λ fn (vptr b o ∷ vptr b' o' ∷ []) Post $ alloc_all ! (λ l. pass_all ! refl ((tt, tt), ((tt, tt), tt)) $
+    opens ! tt Sr b o (λ ts. move ! (5 ∷ 6 ∷ 7 ∷ []) $ opens ! tt Sr b' o' (λ us.
+    move ! (1 ∷ []) $ fsplit ! $ move ! (7 ∷ []) $ fsplit ! $ move ! (1 ∷ 3 ∷ []) $
+    use2 𝓛 (‵ (mine R cv.code one.table_id m'.0 m'.1) ⊛ ‵ (mine R cv.code other.table_id n'.0 n'.1)) (crossed 𝓛 R cv.code one.table_id m n other.table_id d) $ split ! $
+    move ! (3 ∷ 1 ∷ []) $ fjoin ! $ move ! (3 ∷ 0 ∷ 4 ∷ 5 ∷ 6 ∷ []) $ closes ! tt Sr other' us b' o' $ feq_i ! (List Val) (vptr b' o' ∷ []) (vptr b' o' ∷ []) refl $ fjoin3 ! $
+    move ! (3 ∷ 2 ∷ []) $ fjoin ! $ move ! (3 ∷ 0 ∷ 4 ∷ 5 ∷ 6 ∷ []) $ closes ! tt Sr one' ts b o $ feq_i ! (List Val) (vptr b o ∷ []) (vptr b o ∷ []) refl $ fjoin3 ! $
+    nothing ! $ move ! (3 ∷ 0 ∷ []) $ fjoin ! $ move ! (1 ∷ 0 ∷ []) $ fjoin ! $ move ! (2 ∷ 3 ∷ []) $ fjoin ! $ move ! (2 ∷ 0 ∷ []) $ join ! $
+    sets ! (of_opd ! (unit_lit !)) refl (tt, tt) $ use0 𝓛 (raw (fact 𝓤 Told)) (fact_i 𝓤 Told (emp 𝓤) told) $ feq_i ! (List Val) (vunit ∷ []) (vunit ∷ []) refl $
+    returns ! (look_at ! 0 refl) $ free_all ! refl $ keep ! (2 ∷ 3 ∷ 0 ∷ 1 ∷ []) $ by ! (leaves 𝓛 En hs c y vunit tt (one', (other', tt)) (tt, (tt, tt)))))))

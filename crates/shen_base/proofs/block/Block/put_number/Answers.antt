@@ -1,0 +1,7 @@
+use Rattle.std.proofs.Common.{rules}
+use Rattle.shen_base.proofs.Fronts.{rest_whole}
+use Rattle.shen_base.proofs.Stages.{puts_same}
+use Rattle.shen_base.proofs.block.Block.put_number.Goals as goal
+
+pub returns-clause-put : goal.returns-clause-put
+returns-clause-put g c = puts_same (rest_whole c.spell-from.new.digits _ 20 c.spell-from.result (search rules) c.spell-from.ensures.digits) c.put.ensures.put

@@ -1,3 +1,0 @@
-pub mod Stages
-mod Digits
-mod Fronts

@@ -1,0 +1,163 @@
+-- By which words a unit of updating ends.
+use Rattle.std.proofs.Common.{◌≡◌, ◌≢◌, ℕ, ◌+◌, ◌≤◌, ◌↔◌, Bool, nat_lt, true, false, Option, Some, None, refl, sym, subst, arith}
+use Rattle.std.specs.Prelude.{◌==◌, if◌then◌else◌}
+use Rattle.std.specs.Int.{bit_at}
+use Rattle.std.proofs.lemmas.Option.{none-some, same_Some}
+use Rattle.std.proofs.lemmas.Bool.{eqb-true, eqb-false, eq-eqb, ne_eqb, ltb-true, ltb-false, le-ltb}
+use Rattle.heap_words.specs.declared.config.Config.{Config}
+use Rattle.heap_words.specs.declared.access.Unit.TheVariants.{Worked, NoneLeft}
+use Rattle.heap_words.specs.Encoding.{filler_words_in, refs_in, is_forwarded, forwardee_in}
+use Rattle.regions.specs.Marks.{mark_bit}
+use Rattle.unit_part.specs.declared.update_spot.Walk.{Walk}
+use Rattle.unit_part.specs.declared.update_spot.Visit.{Visit}
+use Rattle.unit_part.specs.declared.update_spot.UpdateSpot.{UpdateSpot}
+use Rattle.unit_part.specs.declared.update_spot.UpdateSpot.TheVariants.{LoadClaim, ClaimUnit, LoadLimit, LoadTams, LoadFirst, LoadShape, LoadBlack, LoadField, LoadHeader, ExchangeField, Ended}
+use Rattle.unit_part.specs.UpdateRows.{has_unit, names_set, limit_of, tams_of, visit_end, next_object, after_words, next_field, after_shape, next_at, is_ended}
+use Rattle.unit_part.specs.UpdateEnds.{HasNoneLeft, IsLast, IsLastField, IsDoneAt}
+
+-- a unit is done there
+abbrev IsWorked : UpdateSpot → Type 0
+IsWorked spot = spot ≡ Ended Worked
+
+-- of two spots by a test, where one is no end
+where_true : (b : Bool) (x y : UpdateSpot) (P : Type 0) → (IsWorked y → ⊥) → (IsWorked x ↔ P) → (IsWorked (if b then x else y) ↔ ((b ≡ true) × P))
+where_true true x y P never is = ((λ end. (refl, is.0 end)), (λ both. is.1 both.1))
+where_true false x y P never is = ((λ end. absurd (never end)), (λ both. absurd (let no = both.0 in cc)))
+
+where_false : (b : Bool) (x y : UpdateSpot) (P : Type 0) → (IsWorked x → ⊥) → (IsWorked y ↔ P) → (IsWorked (if b then x else y) ↔ ((b ≡ false) × P))
+where_false true x y P never is = ((λ end. absurd (never end)), (λ both. absurd (let no = both.0 in cc)))
+where_false false x y P never is = ((λ end. (refl, is.0 end)), (λ both. is.1 both.1))
+
+-- the test in other words
+by_words : (X A B P : Type 0) → (A → B) → (B → A) → (X ↔ (A × P)) → (X ↔ (B × P))
+by_words X A B P to back is = ((λ x. (to (is.0 x).0, (is.0 x).1)), (λ both. is.1 (back both.0, both.1)))
+
+by_words_alone : (X A B : Type 0) → (A → B) → (B → A) → (X ↔ (A × Unit {0})) → (X ↔ B)
+by_words_alone X A B to back is = ((λ x. to (is.0 x).0), (λ b. is.1 (back b, tt)))
+
+ended : IsWorked (Ended Worked) ↔ Unit {0}
+ended = ((λ end. tt), (λ any. refl))
+
+object_ends : (c : Config) (walk : Walk) (address : ℕ) → IsWorked (next_object c walk address) ↔ (limit_of c walk ≤ address)
+object_ends c walk address = by_words_alone _ _ _ (ltb-false address (limit_of c walk)) (le-ltb _ _)
+    (where_false (nat_lt address (limit_of c walk)) (LoadFirst walk address) (Ended Worked) (Unit {0}) (λ end. cc) ended)
+
+first_ends : (c : Config) (walk : Walk) (address : ℕ) (filled : Option ℕ) → IsWorked (after_words c walk address filled) ↔ ((words : ℕ) × (filled ≡ Some words) × (limit_of c walk ≤ address + words))
+first_ends c walk address (Some words) = (
+  (λ end. (words, refl, (object_ends c walk (address + words)).0 end)),
+  (λ last. (object_ends c walk (address + words)).1 (subst (λ n. limit_of c walk ≤ address + n) (sym (same_Some words last.0 last.1)) last.2)),
+)
+first_ends c walk address None = ((λ end. cc), (λ last. absurd (none-some last.0 last.1)))
+
+field_ends : (c : Config) (at : Visit) (field : ℕ) → IsWorked (next_field c at field) ↔ ((refs_in at.shape ≤ field) × IsLast c at)
+field_ends c at field = by_words _ _ _ _ (ltb-false field (refs_in at.shape)) (le-ltb _ _)
+    (where_false (nat_lt field (refs_in at.shape)) (LoadField at field) (next_object c at.walk (visit_end at)) (IsLast c at) (λ end. cc) (object_ends c at.walk (visit_end at)))
+
+shape_ends : (c : Config) (at : Visit) → IsWorked (after_shape c at) ↔ ((refs_in at.shape ≡ 0) × IsLast c at)
+shape_ends c at = by_words _ _ _ _ (eqb-true (refs_in at.shape) 0) (eq-eqb _ _)
+    (where_true (refs_in at.shape == 0) (next_object c at.walk (visit_end at)) (if nat_lt at.address (tams_of c at.walk) then LoadBlack at else LoadField at 0) (IsLast c at)
+    (goes_on (nat_lt at.address (tams_of c at.walk))) (object_ends c at.walk (visit_end at)))
+  where
+    goes_on : (b : Bool) → IsWorked (if b then LoadBlack at else LoadField at 0) → ⊥
+    goes_on true end = cc
+    goes_on false end = cc
+
+claim_ends : (c : Config) (cset unit got : ℕ) → IsWorked (next_at c cset (ClaimUnit unit) got) ↔ IsDoneAt c cset (ClaimUnit unit) got
+claim_ends c cset unit got = by_words _ _ _ _ (eqb-true got unit) (eq-eqb _ _)
+    (where_true (got == unit) (if bit_at cset unit == 1 then Ended Worked else LoadLimit unit) LoadClaim (bit_at cset unit ≡ 1) (λ end. cc)
+    (by_words_alone _ _ _ (eqb-true (bit_at cset unit) 1) (eq-eqb _ _)
+    (where_true (bit_at cset unit == 1) (Ended Worked) (LoadLimit unit) (Unit {0}) (λ end. cc) ended)))
+
+limit_ends : (c : Config) (cset region got : ℕ) → IsWorked (next_at c cset (LoadLimit region) got) ↔ (got ≡ 0)
+limit_ends c cset region got = by_words_alone _ _ _ (eqb-true got 0) (eq-eqb _ _)
+    (where_true (got == 0) (Ended Worked) (LoadTams region got) (Unit {0}) (λ end. cc) ended)
+
+black_ends : (c : Config) (cset : ℕ) (at : Visit) (got : ℕ) → IsWorked (next_at c cset (LoadBlack at) got) ↔ IsDoneAt c cset (LoadBlack at) got
+black_ends c cset at got = by_words _ _ _ _ (eqb-false (bit_at got (mark_bit c at.address)) 1) (ne_eqb _ _)
+    (where_false (bit_at got (mark_bit c at.address) == 1) (LoadField at 0) (next_object c at.walk (visit_end at)) (IsLast c at) (λ end. cc) (object_ends c at.walk (visit_end at)))
+
+no_unit : (b : Bool) (got : ℕ) → IsWorked (if b then ClaimUnit got else Ended NoneLeft) → ⊥
+no_unit true got end = cc
+no_unit false got end = cc
+
+-- a unit is done exactly by these words
+pub worked_is : (c : Config) (cset : ℕ) (spot : UpdateSpot) (got : ℕ) → is_ended spot ≡ false → (next_at c cset spot got ≡ Ended Worked) ↔ IsDoneAt c cset spot got
+worked_is c cset LoadClaim got going = ((λ end. no_unit (has_unit c got) got end), (λ never. absurd never))
+worked_is c cset (ClaimUnit unit) got going = claim_ends c cset unit got
+worked_is c cset (LoadLimit region) got going = limit_ends c cset region got
+worked_is c cset (LoadTams region limit) got going = ((λ end. cc), (λ never. absurd never))
+worked_is c cset (LoadFirst walk address) got going = first_ends c walk address (filler_words_in got)
+worked_is c cset (LoadShape walk address) got going = shape_ends c (record { walk = walk; address = address; shape = got })
+worked_is c cset (LoadBlack at) got going = black_ends c cset at got
+worked_is c cset (LoadField at field) got going =
+    where_false (names_set c cset got) (LoadHeader at field got) (next_field c at (field + 1)) (IsLastField c at field) (λ end. cc) (field_ends c at (field + 1))
+worked_is c cset (LoadHeader at field found) got going =
+    where_false (is_forwarded got) (ExchangeField at field found (forwardee_in got)) (next_field c at (field + 1)) (IsLastField c at field) (λ end. cc) (field_ends c at (field + 1))
+worked_is c cset (ExchangeField at field found copy) got going = field_ends c at (field + 1)
+worked_is c cset (Ended unit) got going = absurd cc
+
+-- no unit is left there
+abbrev SaysNone : UpdateSpot → Type 0
+SaysNone spot = spot ≡ Ended NoneLeft
+
+none_object : (c : Config) (walk : Walk) (address : ℕ) → SaysNone (next_object c walk address) → ⊥
+none_object c walk address = by_test (nat_lt address (limit_of c walk))
+  where
+    by_test : (b : Bool) → SaysNone (if b then LoadFirst walk address else Ended Worked) → ⊥
+    by_test true end = cc
+    by_test false end = cc
+
+none_first : (c : Config) (walk : Walk) (address : ℕ) (filled : Option ℕ) → SaysNone (after_words c walk address filled) → ⊥
+none_first c walk address (Some words) end = none_object c walk (address + words) end
+none_first c walk address None end = cc
+
+none_field : (c : Config) (at : Visit) (field : ℕ) → SaysNone (next_field c at field) → ⊥
+none_field c at field = by_test (nat_lt field (refs_in at.shape))
+  where
+    by_test : (b : Bool) → SaysNone (if b then LoadField at field else next_object c at.walk (visit_end at)) → ⊥
+    by_test true end = cc
+    by_test false end = none_object c at.walk (visit_end at) end
+
+none_shape : (c : Config) (at : Visit) → SaysNone (after_shape c at) → ⊥
+none_shape c at = by_tests (refs_in at.shape == 0) (nat_lt at.address (tams_of c at.walk))
+  where
+    by_tests : (b d : Bool) → SaysNone (if b then next_object c at.walk (visit_end at) else (if d then LoadBlack at else LoadField at 0)) → ⊥
+    by_tests true d end = none_object c at.walk (visit_end at) end
+    by_tests false true end = cc
+    by_tests false false end = cc
+
+none_claim : (unit : ℕ) (b d : Bool) → SaysNone (if b then (if d then Ended Worked else LoadLimit unit) else LoadClaim) → ⊥
+none_claim unit true true end = cc
+none_claim unit true false end = cc
+none_claim unit false d end = cc
+
+none_limit : (region got : ℕ) (b : Bool) → SaysNone (if b then Ended Worked else LoadTams region got) → ⊥
+none_limit region got true end = cc
+none_limit region got false end = cc
+
+none_black : (c : Config) (at : Visit) (b : Bool) → SaysNone (if b then LoadField at 0 else next_object c at.walk (visit_end at)) → ⊥
+none_black c at true end = cc
+none_black c at false end = none_object c at.walk (visit_end at) end
+
+none_else : (c : Config) (at : Visit) (field : ℕ) (spot : UpdateSpot) → (SaysNone spot → ⊥) → (b : Bool) → SaysNone (if b then spot else next_field c at field) → ⊥
+none_else c at field spot never true end = never end
+none_else c at field spot never false end = none_field c at field end
+
+claim_none : (c : Config) (got : ℕ) (b : Bool) → has_unit c got ≡ b → SaysNone (if b then ClaimUnit got else Ended NoneLeft) ↔ (c.regions ≤ got)
+claim_none c got true is = ((λ end. absurd (let differ = end in cc)), (λ most. absurd (let less = ltb-true got c.regions is in omega (arith, less, most))))
+claim_none c got false is = ((λ end. ltb-false got c.regions is), (λ most. refl))
+
+-- no unit is left exactly by these words
+pub none_is : (c : Config) (cset : ℕ) (spot : UpdateSpot) (got : ℕ) → is_ended spot ≡ false → (next_at c cset spot got ≡ Ended NoneLeft) ↔ HasNoneLeft c spot got
+none_is c cset LoadClaim got going = claim_none c got (has_unit c got) refl
+none_is c cset (ClaimUnit unit) got going = ((λ end. none_claim unit (got == unit) (bit_at cset unit == 1) end), (λ never. absurd never))
+none_is c cset (LoadLimit region) got going = ((λ end. none_limit region got (got == 0) end), (λ never. absurd never))
+none_is c cset (LoadTams region limit) got going = ((λ end. cc), (λ never. absurd never))
+none_is c cset (LoadFirst walk address) got going = ((λ end. none_first c walk address (filler_words_in got) end), (λ never. absurd never))
+none_is c cset (LoadShape walk address) got going = ((λ end. none_shape c (record { walk = walk; address = address; shape = got }) end), (λ never. absurd never))
+none_is c cset (LoadBlack at) got going = ((λ end. none_black c at (bit_at got (mark_bit c at.address) == 1) end), (λ never. absurd never))
+none_is c cset (LoadField at field) got going = ((λ end. none_else c at (field + 1) (LoadHeader at field got) (λ is. (let differ = is in cc)) (names_set c cset got) end), (λ never. absurd never))
+none_is c cset (LoadHeader at field found) got going =
+    ((λ end. none_else c at (field + 1) (ExchangeField at field found (forwardee_in got)) (λ is. (let differ = is in cc)) (is_forwarded got) end), (λ never. absurd never))
+none_is c cset (ExchangeField at field found copy) got going = ((λ end. none_field c at (field + 1) end), (λ never. absurd never))
+none_is c cset (Ended unit) got going = absurd cc

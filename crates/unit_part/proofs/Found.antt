@@ -1,0 +1,55 @@
+-- The lowest address of a word that is grey and not black.
+use Rattle.std.proofs.Common.{◌≡◌, ◌≢◌, ◌<◌, ℕ, ◌-◌, ◌^◌, sym, ap, ◌∙◌, subst, arith, w64}
+use Rattle.std.specs.Prelude.{min}
+use Rattle.std.specs.Int.{bit_at, bit_not, trailing_zeros}
+use Rattle.std.proofs.lemmas.Nat.{and_le_l}
+use Rattle.std.proofs.lemmas.Nat.Bits.{bit_at_and, bit_at_not, bit_at-lt, bit_at-zero, bit_at-trailing_zeros}
+use Rattle.heap_words.specs.declared.config.Config.{Config}
+use Rattle.regions.specs.Marks.{mark_bit, lowest_address}
+use Rattle.regions.proofs.MarksApart.{word_back, bit_back}
+use Rattle.unit_part.specs.ScanRows.{unscanned_in}
+use Rattle.unit_part.specs.Unscanned.{IsUnscanned, IsNextUnscanned, UnscannedIsFound}
+
+-- the lesser of a bit and of another one's opposite is 1 where the one is 1 and the other 0
+bits_then : (unscanned one opposite other : ℕ) → unscanned ≡ min one opposite → opposite ≡ 1 - other → one < 2 → other < 2 → unscanned ≡ 1 → (one ≡ 1) × (other ≡ 0)
+bits_then unscanned one opposite other is turns one_bit other_bit set = (omega (arith, is, turns, one_bit, other_bit, set), omega (arith, is, turns, one_bit, other_bit, set))
+
+bits_since : (unscanned one opposite other : ℕ) → unscanned ≡ min one opposite → opposite ≡ 1 - other → one ≡ 1 → other ≡ 0 → unscanned ≡ 1
+bits_since unscanned one opposite other is turns set clear = omega (arith, is, turns, set, clear)
+
+-- a bit of the unscanned is 1 exactly where it is grey and not black
+pub unscanned_is : (grey black bit : ℕ) → black < 2 ^ 64 → bit < 64 → bit_at (unscanned_in grey black) bit ≡ 1 → IsUnscanned grey black bit
+unscanned_is grey black bit fits below one =
+    let both = bits_then (bit_at (unscanned_in grey black) bit) (bit_at grey bit) (bit_at (bit_not w64 black) bit) (bit_at black bit)
+    (bit_at_and grey (bit_not w64 black) bit) (bit_at_not w64 black bit fits below) (bit_at-lt grey bit) (bit_at-lt black bit) one in
+    record { is_grey = both.0; not_black = both.1 }
+
+pub is_unscanned : (grey black bit : ℕ) → black < 2 ^ 64 → bit < 64 → IsUnscanned grey black bit → bit_at (unscanned_in grey black) bit ≡ 1
+is_unscanned grey black bit fits below unscanned =
+    bits_since (bit_at (unscanned_in grey black) bit) (bit_at grey bit) (bit_at (bit_not w64 black) bit) (bit_at black bit)
+    (bit_at_and grey (bit_not w64 black) bit) (bit_at_not w64 black bit fits below) unscanned.is_grey unscanned.not_black
+
+next_unscanned : (c : Config) (word grey black : ℕ) → grey < 2 ^ 64 → black < 2 ^ 64 → unscanned_in grey black ≢ 0
+    → IsNextUnscanned c word grey black (lowest_address c word (unscanned_in grey black))
+next_unscanned c word grey black grey_fits black_fits some =
+    let fits : unscanned_in grey black < 2 ^ 64 = omega (arith, and_le_l grey (bit_not w64 black), grey_fits) in
+    let lowest = bit_at-trailing_zeros w64 (unscanned_in grey black) (omega (arith, some)) fits in
+    let bit : mark_bit c (lowest_address c word (unscanned_in grey black)) ≡ trailing_zeros w64 (unscanned_in grey black) = bit_back c word (trailing_zeros w64 (unscanned_in grey black)) lowest.0 in
+    record {
+      in_word = word_back c word (trailing_zeros w64 (unscanned_in grey black)) lowest.0;
+      unscanned = subst (λ k. IsUnscanned grey black k) (sym bit) (unscanned_is grey black (trailing_zeros w64 (unscanned_in grey black)) black_fits lowest.0 lowest.1);
+      none_lower = λ k below unscanned.
+          let less : k < trailing_zeros w64 (unscanned_in grey black) = subst (λ n. k < n) bit below in
+          let zero = lowest.2 k less in
+          let one = is_unscanned grey black k black_fits (omega (arith, less, lowest.0)) unscanned in
+          omega (arith, zero, one);
+    }
+
+none_unscanned : (grey black bit : ℕ) → black < 2 ^ 64 → unscanned_in grey black ≡ 0 → bit < 64 → IsUnscanned grey black bit → ⊥
+none_unscanned grey black bit fits none below unscanned =
+    let one = is_unscanned grey black bit fits below unscanned in
+    let zero : bit_at (unscanned_in grey black) bit ≡ 0 = ap (λ n. bit_at n bit) none ∙ bit_at-zero bit in
+    omega (arith, zero, one)
+
+pub unscanned_found : UnscannedIsFound
+unscanned_found = record { next = next_unscanned; none = none_unscanned }
