@@ -8,7 +8,7 @@ use Rattle.heap_words.specs.declared.config.Config.{Config}
 use Rattle.heap_words.specs.Words.{Word, Phase, Evac, Ask, Current, Root, Pin, Answer}
 use Rattle.heap_graph.specs.Walk.{has}
 use Rattle.heap_world.specs.Change.{image_words, image_view}
-use Rattle.pause_words.specs.Buffers.{IsInside, AreInside}
+use Rattle.image_graph.specs.SeatBuffers.{IsInside, AreInside}
 use Rattle.mark_core.specs.Trace.{IsNullOrInside, HasRootsInside}
 use Rattle.control_rows.specs.declared.extent.Extent.{Extent}
 use Rattle.control_rows.specs.declared.extent.Extent.TheVariants.{Whole, OffHeap, Ahead}

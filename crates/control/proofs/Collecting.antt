@@ -8,9 +8,9 @@ use Rattle.std.proofs.Math.Nat.{ℕ_set}
 use Rattle.std.proofs.Math.Bridge.{le_prop}
 use Rattle.heap_words.specs.declared.config.Config.{Config}
 use Rattle.heap_words.specs.Words.{Word, Phase, Cset}
-use Rattle.pause_words.specs.Buffers.{AreInside}
-use Rattle.pause_words.specs.Full.{full}
-use Rattle.pause_words.proofs.Inside.{buffers_inside}
+use Rattle.image_graph.specs.SeatBuffers.{AreInside}
+use Rattle.image_graph.specs.Full.{full}
+use Rattle.image_graph.proofs.Inside.{buffers_inside}
 use Rattle.image_graph.specs.Holds.{HoldsSome, HoldsSized}
 use Rattle.cycle_words.specs.Marking.Init.{init_marked}
 use Rattle.mark_core.specs.Result.{MarksSome}

@@ -11,7 +11,7 @@ use Rattle.shen_graph.specs.Graph.{Graph}
 use Rattle.heap_world.specs.Asking.{Asking}
 use Rattle.heap_world.specs.Represents.{Represents}
 use Rattle.heap_world.specs.Change.{image_view}
-use Rattle.pause_words.specs.Buffers.{IsInside, AreInside}
+use Rattle.image_graph.specs.SeatBuffers.{IsInside, AreInside}
 use Rattle.mark_core.specs.Trace.{IsNullOrInside, HasRootsInside}
 use Rattle.mark_core.proofs.MarkingBegun.{held_inside_some}
 use Rattle.control_rows.specs.declared.extent.Extent.{Extent}

@@ -3,7 +3,7 @@ use Rattle.std.specs.Prelude.{ℕ, ◌≡◌, ◌≢◌, Bool, true, false, List
 use Rattle.heap_words.specs.declared.config.Config.{Config}
 use Rattle.heap_words.specs.Words.{Word, Phase}
 use Rattle.heap_world.specs.Change.{image_view}
-use Rattle.pause_words.specs.Buffers.{AreInside}
+use Rattle.image_graph.specs.SeatBuffers.{AreInside}
 use Rattle.mark_core.specs.Trace.{HasRootsInside}
 use Rattle.control_rows.specs.declared.extent.Extent.{Extent}
 use Rattle.control_rows.specs.declared.extent.Extent.TheVariants.{Whole, OffHeap, Ahead}

@@ -4,7 +4,7 @@ ghost use Rattle.std.specs.Prelude.{◌≡◌, ◌≢◌, ◌==◌, true, false}
 ghost use Rattle.std.specs.Int.{bit_at};
 ghost use Rattle.heap_words.specs.Words.{Phase, Ask, Evac};
 ghost use Rattle.heap_words.specs.Counter as counter;
-ghost use Rattle.pause_words.specs.Buffers.{AreInside};
+ghost use Rattle.image_graph.specs.SeatBuffers.{AreInside};
 ghost use Rattle.image_graph.specs.State.{config_of, memory_of};
 ghost use Rattle.cycle_words.specs.Marking.Final.{final_marked};
 ghost use Rattle.mark_core.specs.Result.{MarksSome};
@@ -15,12 +15,10 @@ ghost use Rattle.cycle_pauses.specs.Ended.{ended, CanEnd};
 ghost use Rattle.cycle_pauses.specs.Collect as room;
 ghost use Rattle.cycle_pauses.specs.Collect.{next_in_cycle, room_made, collected, CanPauseSome};
 
-use cset_choice::{begin_evac, choose};
-use degenerated::{Finished, finish};
+use degenerated::{Finished, begin_evac, choose, final_update, finish, init_update};
 use full_cycle::full;
 use image_graph::Image;
 use mark_core::{final_mark, init_mark, init_mark_by_part};
-use update_refs::{final_update, init_update};
 
 // The phases: none between two cycles, and then those of a cycle. After evacuation references are updated.
 const IDLE: u64 = 0;

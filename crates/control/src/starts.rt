@@ -1,7 +1,7 @@
 //! Where in the image the free words of buffers begin. A pause that leaves out the words of the heap writes no others of them.
 
 ghost use Rattle.std.specs.Prelude.{ℕ, ◌≡◌, ◌≢◌, ◌<◌, if◌then◌else◌, slice_index};
-ghost use Rattle.pause_words.specs.Buffers.{IsInside, AreInside};
+ghost use Rattle.image_graph.specs.SeatBuffers.{IsInside, AreInside};
 ghost use Rattle.heap_graph.specs.Walk.{has};
 ghost use Rattle.heap_world.specs.Change.{image_words};
 ghost use Rattle.image_graph.specs.State.{config_of, memory_of};

@@ -9,7 +9,7 @@ use Rattle.heap_words.specs.declared.config.Config.{Config}
 use Rattle.heap_words.specs.Words.{Word, Free, Top, Tams}
 use Rattle.regions.proofs.Sums.{sum_same}
 use Rattle.regions.specs.Sets.{members_below}
-use Rattle.pause_words.specs.Pinned.{is_pinned}
+use Rattle.image_graph.specs.Pinned.{is_pinned}
 use Rattle.cycle_words.specs.Marking.Marks.{bits_of}
 use Rattle.cycle_words.proofs.Marking.Bits.{one, bits_at}
 use Rattle.cycle_words.specs.Marking.Final.{is_current}

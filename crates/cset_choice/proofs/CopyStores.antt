@@ -11,7 +11,7 @@ use Rattle.heap_words.specs.Encoding.{header_word, plain_header}
 use Rattle.regions.specs.Sets.{IsIn, IsOutside, all_but}
 use Rattle.regions.proofs.ServedRooms.{has_room}
 use Rattle.regions.specs.Place.{region_with}
-use Rattle.pause_words.specs.Full.{now_in}
+use Rattle.image_graph.specs.Full.{now_in}
 use Rattle.cycle_words.specs.Evacuation.Live.{words_at}
 use Rattle.cycle_words.specs.Evacuation.Copying.{tops_outside}
 use Rattle.cycle_words.specs.Evacuation.Copied.{CanCopyOut, copy_room, copy_in, copy_address, top_address, copied_in, copied_out, copied_to}

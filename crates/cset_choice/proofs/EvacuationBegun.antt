@@ -5,7 +5,7 @@ use Rattle.std.proofs.Math.Path.{fun_ext}
 use Rattle.heap_words.specs.declared.config.Config.{Config}
 use Rattle.heap_words.specs.Words.{Word, Phase, Cset, Evac, Claim, Heap, write}
 use Rattle.heap_words.specs.Encoding.{is_forwarded}
-use Rattle.pause_words.specs.Full.{now_in}
+use Rattle.image_graph.specs.Full.{now_in}
 use Rattle.cycle_words.specs.Evacuation.Copied.{copied_out, copy_in}
 use Rattle.cycle_words.specs.Evacuation.Begun.{is_collected, moved_out, cleared_at, with_set, roots_cleared, evac_started, evac_spared, evac_begun}
 

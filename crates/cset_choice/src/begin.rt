@@ -3,7 +3,7 @@
 ghost use Rattle.std.specs.Prelude.{ℕ, ◌≡◌, ◌^◌, ◌<◌, ◌↔◌, IsTrue, true, map, slice_index};
 ghost use Rattle.std.specs.List.{range_with_len};
 ghost use Rattle.heap_words.specs.Words.{Word, Cset, Root, Answer, Heap, IsWord, word_at, table_words};
-ghost use Rattle.pause_words.specs.Full.{now_in};
+ghost use Rattle.image_graph.specs.Full.{now_in};
 ghost use Rattle.image_graph.specs.State.{config_of, words_of, memory_of};
 ghost use Rattle.cycle_words.specs.Evacuation.Choice.{chosen};
 ghost use Rattle.cycle_words.specs.Evacuation.Begun as begun;

@@ -10,12 +10,12 @@ use Rattle.shen_graph.specs.Graph.{Graph}
 use Rattle.heap_world.specs.Asking.{Asking}
 use Rattle.heap_world.specs.Represents.{Represents}
 use Rattle.heap_world.specs.Change.{IsPaused}
-use Rattle.pause_words.specs.Buffers.{IsInside}
-use Rattle.pause_words.specs.LetGo.{let_go}
-use Rattle.pause_words.specs.Full.{served, full}
+use Rattle.image_graph.specs.SeatBuffers.{IsInside}
+use Rattle.image_graph.specs.LetGo.{let_go}
+use Rattle.image_graph.specs.Full.{served, full}
 use Rattle.image_graph.specs.Buffers.{HasNoMoreSeats}
 use Rattle.cycle_words.specs.Evacuation.Copied.{CanCopyOut, copied_out}
-use Rattle.pause_words.specs.Pinned.{CanFill}
+use Rattle.image_graph.specs.Pinned.{CanFill}
 use Rattle.cycle_words.specs.Finishing.Updated.{all_updated, CanUpdateAll}
 use Rattle.cycle_words.specs.Finishing.Copies.{CanCopyFrom, all_copied, is_room_for_all}
 use Rattle.cycle_words.specs.Finishing.Finish.{cycle_finished, finished, nobody_waits, is_whole, CanFree}

@@ -6,13 +6,13 @@ use Rattle.std.proofs.lemmas.Bool.{cases_Bool, cases_eq, and_left, and_right, co
 use Rattle.heap_words.specs.declared.config.Config.{Config}
 use Rattle.heap_words.specs.Ranges.{seat_count}
 use Rattle.heap_words.specs.Words.{Word, Pause, Left, End, State, Phase, Evac, Ask, Root, Wait, Answer, Heap, is_image}
-use Rattle.pause_words.specs.LetGo.{let_go}
-use Rattle.pause_words.proofs.Elsewhere.{let_go_same}
+use Rattle.image_graph.specs.LetGo.{let_go}
+use Rattle.image_graph.proofs.Elsewhere.{let_go_same}
 use Rattle.heap_words.specs.Encoding.{filler_header, object_words}
 use Rattle.regions.specs.Place.{region_with}
-use Rattle.pause_words.specs.Pinned.{begins, filled_in}
-use Rattle.pause_words.specs.Full.{made_in, served_in, room_for, served, full}
-use Rattle.pause_words.proofs.Served.{served_first, turn_idle, turn_waits}
+use Rattle.image_graph.specs.Pinned.{begins, filled_in}
+use Rattle.image_graph.specs.Full.{made_in, served_in, room_for, served, full}
+use Rattle.image_graph.proofs.Served.{served_first, turn_idle, turn_waits}
 use Rattle.cycle_pauses.proofs.Full.Images.{of_image, full_before, full_zero}
 use Rattle.cycle_pauses.proofs.Full.Outside.{IsZeroOutside, outside_heap, none_begins, served_outside}
 use Rattle.cycle_pauses.proofs.Full.LettingGoFirst.{let_go_outside}

@@ -6,9 +6,9 @@ use Rattle.heap_words.specs.Ranges.{seat_count}
 use Rattle.heap_world.specs.Change.{image_words, image_view}
 use Rattle.std.specs.Prelude.{◌==◌, if◌then◌else◌}
 use Rattle.std.proofs.lemmas.Bool.{true≢false}
-use Rattle.pause_words.specs.Settled.{buffers_settled}
-use Rattle.pause_words.proofs.Elsewhere.{settled_same}
-use Rattle.pause_words.specs.Full.{full}
+use Rattle.image_graph.specs.Settled.{buffers_settled}
+use Rattle.image_graph.proofs.Elsewhere.{settled_same}
+use Rattle.image_graph.specs.Full.{full}
 use Rattle.cycle_pauses.proofs.Full.Images.{of_image, full_before, image_of_length, word_by_name, table_by_name}
 use Rattle.cycle_words.specs.Marking.Init.{marking_begun, init_marked}
 use Rattle.cycle_pauses.specs.Evacuation.Collect.{evac_next}

@@ -18,13 +18,13 @@ use Rattle.heap_world.specs.World.{Plot}
 use Rattle.heap_world.specs.Asking.{Asking, asks}
 use Rattle.heap_world.specs.Represents.{Represents}
 use Rattle.heap_world.specs.Change.{image_view, IsPaused, IsDue}
-use Rattle.pause_words.specs.Full.{full}
-use Rattle.pause_words.specs.Promised.{Promises}
+use Rattle.image_graph.specs.Full.{full}
+use Rattle.image_graph.specs.Promised.{Promises}
 use Rattle.cycle_pauses.proofs.Full.ByCopies.{by_copies}
 use Rattle.cycle_pauses.proofs.Full.Outside.{IsZeroOutside}
 use Rattle.cycle_pauses.proofs.Full.Images.{holds_outside}
 use Rattle.cycle_pauses.proofs.Full.Pauses.{paused_from, paused}
-use Rattle.pause_words.proofs.Inside.{buffers_inside}
+use Rattle.image_graph.proofs.Inside.{buffers_inside}
 use Rattle.cycle_pauses.proofs.Full.Promises.{promises_of}
 use Rattle.cycle_pauses.proofs.Full.Before.{live}
 use Rattle.cycle_pauses.proofs.Full.Holding.{holds_by, are_sized}

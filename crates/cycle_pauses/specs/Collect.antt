@@ -10,8 +10,8 @@ use Rattle.heap_words.specs.Counter.{is_out_of_room}
 use Rattle.shen_graph.specs.Graph.{Graph}
 use Rattle.heap_world.specs.World.{Plot}
 use Rattle.heap_world.specs.Change.{Change, image_words, image_view}
-use Rattle.pause_words.specs.Full.{full}
-use Rattle.pause_words.specs.Promised.{Promises}
+use Rattle.image_graph.specs.Full.{full}
+use Rattle.image_graph.specs.Promised.{Promises}
 use Rattle.image_graph.specs.Holds.{HoldsBy, AreSized}
 use Rattle.cycle_words.specs.Marking.Init.{init_marked}
 use Rattle.cycle_words.specs.Marking.WhileMarking.{IsMarking}

@@ -2,7 +2,7 @@
 use Rattle.std.specs.Prelude.{ℕ, ◌≡◌, if◌then◌else◌, false}
 use Rattle.heap_words.specs.declared.config.Config.{Config}
 use Rattle.heap_words.specs.Words.{Word}
-use Rattle.pause_words.specs.Full.{full}
+use Rattle.image_graph.specs.Full.{full}
 use Rattle.image_graph.specs.Holds.{HoldsSized}
 use Rattle.cycle_words.specs.Finishing.Finish.{CanFinish, finished, is_whole}
 

@@ -7,9 +7,9 @@ use Rattle.shen_graph.specs.Graph.{Graph}
 use Rattle.heap_world.specs.Asking.{Asking}
 use Rattle.heap_world.specs.Represents.{Represents}
 use Rattle.heap_world.specs.Change.{image_words, image_view, IsPaused, IsPause}
-use Rattle.pause_words.specs.LetGo.{let_go}
-use Rattle.pause_words.specs.Full.{served}
-use Rattle.pause_words.specs.Pinned.{is_pinned}
+use Rattle.image_graph.specs.LetGo.{let_go}
+use Rattle.image_graph.specs.Full.{served}
+use Rattle.image_graph.specs.Pinned.{is_pinned}
 use Rattle.image_graph.specs.Buffers.{HasNoMoreSeats}
 use Rattle.cycle_words.specs.Marking.Final.{final_marked}
 use Rattle.cycle_words.specs.Evacuation.Begun.{CanBegin}

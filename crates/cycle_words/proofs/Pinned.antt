@@ -9,8 +9,8 @@ use Rattle.heap_words.specs.declared.config.Config.{Config}
 use Rattle.heap_words.specs.Words.{Word, Cset, Pin}
 use Rattle.regions.specs.Place.{region_with}
 use Rattle.regions.specs.Sets.{IsIn}
-use Rattle.pause_words.specs.Pinned.{lies_in, is_pinned}
-use Rattle.pause_words.proofs.PinnedRows.{pins_region}
+use Rattle.image_graph.specs.Pinned.{lies_in, is_pinned}
+use Rattle.image_graph.proofs.PinnedRows.{pins_region}
 use Rattle.cycle_words.specs.Evacuation.Begun.{is_collected}
 use Rattle.cycle_words.specs.StillHolds.{IsUnpinned}
 use Rattle.cycle_words.proofs.Evacuation.RegionAddresses.{from_base, some_words}

@@ -8,10 +8,10 @@ use Rattle.shen_graph.specs.Graph.{Graph}
 use Rattle.regions.specs.Sets.{IsIn}
 use Rattle.regions.specs.Place.{region_with}
 use Rattle.heap_world.specs.World.{Block, Plot, filler, words_of, AreYoungRooms, HasNoRoom, IsCollected}
-use Rattle.pause_words.specs.Held.{IsAmong}
-use Rattle.pause_words.specs.Full.{held_words}
-use Rattle.pause_words.specs.Pinned.{is_pinned}
-use Rattle.pause_words.specs.Promised.{Promises}
+use Rattle.image_graph.specs.Held.{IsAmong}
+use Rattle.image_graph.specs.Full.{held_words}
+use Rattle.image_graph.specs.Pinned.{is_pinned}
+use Rattle.image_graph.specs.Promised.{Promises}
 use Rattle.image_graph.specs.State.{EndsIn}
 use Rattle.image_graph.specs.Holds.{HoldsBy, AreSized, HasObject}
 use Rattle.image_graph.specs.Buffers.{settled_block}

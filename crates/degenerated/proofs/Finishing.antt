@@ -4,7 +4,7 @@ use Rattle.std.proofs.lemmas.Bool.{cases_eq, cond-true, cond-false, and_left, fa
 use Rattle.std.proofs.Math.Path.{fun_ext}
 use Rattle.heap_words.specs.declared.config.Config.{Config}
 use Rattle.heap_words.specs.Words.{Word, Evac, Ask, Top, Wait, write}
-use Rattle.pause_words.specs.Full.{served}
+use Rattle.image_graph.specs.Full.{served}
 use Rattle.image_graph.specs.Left.{IsLeft}
 use Rattle.image_graph.specs.Make.{AreWithin}
 use Rattle.cycle_words.specs.Updating.Changes.{cycle_ended}

@@ -10,7 +10,7 @@ use Rattle.heap_words.specs.Encoding.{filler_header, object_words, is_forwarded}
 use Rattle.regions.specs.Place.{base_of, region_with}
 use Rattle.regions.specs.Walk.{is_filler}
 use Rattle.regions.proofs.PlaceLemmas.{regions_tile}
-use Rattle.pause_words.specs.Pinned.{is_in_use, object_of, begins, filled_in, CanFill}
+use Rattle.image_graph.specs.Pinned.{is_in_use, object_of, begins, filled_in, CanFill}
 use Rattle.cycle_words.specs.Finishing.Finish.{is_to_free, is_to_stay, has_moved, set_left}
 use Rattle.mark_core.specs.Steps.{freed_one, freed_below}
 use Rattle.mark_core.proofs.Freeing.{freed_none, freed_next, left_next, freed_all}

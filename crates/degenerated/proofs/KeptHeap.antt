@@ -8,8 +8,8 @@ use Rattle.heap_words.specs.Words.{Heap, word_at, table_words, heap_size, heap_s
 use Rattle.heap_words.specs.Encoding.{is_forwarded, forwardee_in}
 use Rattle.heap_words.proofs.Stores.{view_word, view_none}
 use Rattle.regions.specs.Table.{word_of, now_of}
-use Rattle.pause_words.specs.Plot.{heap_end}
-use Rattle.pause_words.specs.Full.{now_in}
+use Rattle.image_graph.specs.Plot.{heap_end}
+use Rattle.image_graph.specs.Full.{now_in}
 use Rattle.image_graph.specs.declared.image.Image.{Image}
 use Rattle.image_graph.specs.State.{config_of, words_of, places_of, IsUnchanged}
 use Rattle.image_graph.proofs.Packed.{heap_part}

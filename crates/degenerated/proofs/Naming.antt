@@ -9,7 +9,7 @@ use Rattle.heap_words.specs.Words.{Word, Cset, Root, Answer, Heap, table_words, 
 use Rattle.heap_words.proofs.Stores.{view_none}
 use Rattle.regions.specs.Place.{region_with}
 use Rattle.regions.specs.Table.{now_of}
-use Rattle.pause_words.specs.Full.{now_in}
+use Rattle.image_graph.specs.Full.{now_in}
 use Rattle.cycle_words.specs.Evacuation.Begun.{is_collected}
 use Rattle.cycle_words.specs.Finishing.Updated.{updated_word, is_kept_field, all_updated}
 use Rattle.cycle_words.proofs.Finishing.Fields.{low_spared}

@@ -7,8 +7,8 @@ use Rattle.heap_words.specs.Words.{Word, Top, Heap}
 use Rattle.heap_words.specs.Encoding.{object_words}
 use Rattle.regions.specs.Place.{base_of, region_with}
 use Rattle.regions.specs.Walk.{is_filler, start_of, stride_at}
-use Rattle.pause_words.specs.Pinned.{is_in_use, object_of, begins, BeginsAt, CanFill}
-use Rattle.pause_words.proofs.Rows.{row_above, base_below}
+use Rattle.image_graph.specs.Pinned.{is_in_use, object_of, begins, BeginsAt, CanFill}
+use Rattle.image_graph.proofs.Rows.{row_above, base_below}
 use Rattle.image_graph.proofs.Starts.{same_starts}
 
 -- the region of an address of the heap

@@ -9,7 +9,7 @@ use Rattle.heap_words.specs.Encoding.{refs_in, object_words, is_forwarded}
 use Rattle.regions.specs.Place.{base_of, region_with}
 use Rattle.regions.specs.Walk.{is_filler, start_of, stride_at}
 use Rattle.regions.proofs.PlaceLemmas.{regions_tile}
-use Rattle.pause_words.specs.Pinned.{object_of, is_in_use}
+use Rattle.image_graph.specs.Pinned.{object_of, is_in_use}
 use Rattle.image_graph.proofs.Room.{room_in_heap}
 use Rattle.image_graph.proofs.Starts.{words, from, begins, starts_within, next_ends, next_goes_on, same_starts}
 use Rattle.image_graph.proofs.Filling.{object_stride, filler_same, region_of_base, in_heap_by_region}

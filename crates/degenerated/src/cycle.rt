@@ -5,7 +5,7 @@ ghost use Rattle.image_graph.specs.State.{config_of, memory_of};
 ghost use Rattle.heap_words.specs.Words.{Phase};
 ghost use Rattle.cycle_words.specs.Finishing.Copies.{CanCopyFrom, all_copied, is_room_for_all};
 ghost use Rattle.cycle_words.specs.Finishing.Updated.{CanUpdateAll, all_updated};
-ghost use Rattle.pause_words.specs.Pinned.{filled_in, CanFill};
+ghost use Rattle.image_graph.specs.Pinned.{filled_in, CanFill};
 ghost use Rattle.mark_core.specs.Steps.{freed_one};
 ghost use Rattle.cycle_words.specs.Updating.Changes.{is_chosen};
 ghost use Rattle.cycle_words.specs.Finishing.Finish.{CanFinish, CanFree, finished_from, finished, nobody_waits, is_whole, is_to_free, is_to_stay, has_moved, set_left, set_freed};

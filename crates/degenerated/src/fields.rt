@@ -6,7 +6,7 @@ ghost use Rattle.regions.specs.Walk.{is_filler};
 ghost use Rattle.image_graph.specs.State.{config_of, memory_of, places_of};
 ghost use Rattle.cycle_words.specs.Finishing.Updated as updates;
 ghost use Rattle.cycle_words.specs.Finishing.Updated.{CanUpdateAll, stays, is_staying};
-ghost use Rattle.pause_words.specs.Pinned.{object_of};
+ghost use Rattle.image_graph.specs.Pinned.{object_of};
 ghost use Rattle.degenerated.specs.Steps.{kept_now, updated_by, fields_updated, is_at, is_of, is_of_first};
 
 use cset_choice::is_collected;

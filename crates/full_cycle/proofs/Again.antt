@@ -12,20 +12,20 @@ use Rattle.shen_graph.specs.Reach.{IsReachable}
 use Rattle.shen_graph.specs.Reach as reach
 use Rattle.shen_graph.specs.Step.{name_in}
 use Rattle.heap_world.specs.World.{thing, filler, spare, is_loose, room_of, Plot}
-use Rattle.pause_words.specs.Held.{IsAmong}
-use Rattle.pause_words.specs.Pinned.{is_row_pinned}
-use Rattle.pause_words.specs.Plot.{AreParsed, AreThings, packed_block}
-use Rattle.pause_words.specs.Full.{now_in, held_words, kept_in, packed_in, full_from}
-use Rattle.pause_words.specs.Promised.{Promises, with_promised}
-use Rattle.pause_words.specs.Image.{ImageStands}
-use Rattle.pause_words.specs.Serving.{asked_name, served_block, served_promises}
-use Rattle.pause_words.proofs.Named.{named_things}
-use Rattle.pause_words.proofs.Reached.{reached_is_held}
-use Rattle.pause_words.proofs.Promised.{same_reference-true, old_object}
-use Rattle.pause_words.proofs.ImagesStand.{standing_holds}
-use Rattle.pause_words.proofs.Serving.{full_stands}
-use Rattle.pause_words.proofs.Still.{full_current, full_share, full_wait, packed_wait}
-use Rattle.pause_words.proofs.Turned.{SamePromise, IsPromisedAsAsked, promise_after}
+use Rattle.image_graph.specs.Held.{IsAmong}
+use Rattle.image_graph.specs.Pinned.{is_row_pinned}
+use Rattle.image_graph.specs.Plot.{AreParsed, AreThings, packed_block}
+use Rattle.image_graph.specs.Full.{now_in, held_words, kept_in, packed_in, full_from}
+use Rattle.image_graph.specs.Promised.{Promises, with_promised}
+use Rattle.image_graph.specs.Image.{ImageStands}
+use Rattle.image_graph.specs.Serving.{asked_name, served_block, served_promises}
+use Rattle.image_graph.proofs.Named.{named_things}
+use Rattle.image_graph.proofs.Reached.{reached_is_held}
+use Rattle.image_graph.proofs.Promised.{same_reference-true, old_object}
+use Rattle.image_graph.proofs.ImagesStand.{standing_holds}
+use Rattle.image_graph.proofs.Serving.{full_stands}
+use Rattle.image_graph.proofs.Still.{full_current, full_share, full_wait, packed_wait}
+use Rattle.image_graph.proofs.Turned.{SamePromise, IsPromisedAsAsked, promise_after}
 use Rattle.image_graph.specs.Holds.{HoldsBy, HoldsSome}
 use Rattle.full_cycle.specs.Collect.{HoldsWalked}
 use Rattle.full_cycle.proofs.Holding.{parsed}

@@ -6,11 +6,11 @@ use Rattle.heap_words.specs.Words.{Word, Top, Wait, Heap}
 use Rattle.heap_words.specs.Encoding.{object_words, name_code, request_count_in}
 use Rattle.regions.specs.Place.{base_of}
 use Rattle.heap_world.proofs.Pieces.{behind}
-use Rattle.pause_words.specs.Full.{made_in, served_in, served, refused, full_from, packed_in}
-use Rattle.pause_words.specs.Serving.{asked_shape, turn_room}
-use Rattle.pause_words.proofs.Made.{outside_fresh}
-use Rattle.pause_words.proofs.Served.{served_first}
-use Rattle.pause_words.proofs.Serving.{finds_room, turn_is}
+use Rattle.image_graph.specs.Full.{made_in, served_in, served, refused, full_from, packed_in}
+use Rattle.image_graph.specs.Serving.{asked_shape, turn_room}
+use Rattle.image_graph.proofs.Made.{outside_fresh}
+use Rattle.image_graph.proofs.Served.{served_first}
+use Rattle.image_graph.proofs.Serving.{finds_room, turn_is}
 
 module _ (c : Config) (m : Word → ℕ) (r x : ℕ) (low : base_of c r ≤ x) (high : x < base_of c r + m (Top r)) (within : m (Top r) ≤ c.region_words) where
   -- the word is as it was, and still below the top

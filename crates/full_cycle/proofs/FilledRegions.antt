@@ -10,7 +10,7 @@ use Rattle.heap_graph.specs.Walk.{has}
 use Rattle.regions.specs.Place.{base_of, region_with}
 use Rattle.regions.specs.Walk.{is_filler, start_of, stride_at}
 use Rattle.regions.proofs.PlaceLemmas.{regions_tile}
-use Rattle.pause_words.specs.Pinned.{is_pinned, is_pinned_below, is_in_use, object_of, begins, filled_in, BeginsAt, CanFill}
+use Rattle.image_graph.specs.Pinned.{is_pinned, is_pinned_below, is_in_use, object_of, begins, filled_in, BeginsAt, CanFill}
 use Rattle.image_graph.specs.Leftovers.{is_left_over}
 use Rattle.image_graph.specs.declared.leftovers.Leftover.TheVariants.{NotFound}
 use Rattle.image_graph.proofs.Starts.{same_starts}

@@ -12,24 +12,24 @@ use Rattle.shen_graph.specs.declared.name.Name.{Name}
 use Rattle.shen_graph.specs.Graph.{Graph, Reference}
 use Rattle.heap_world.specs.World.{Plot, thing, name_at, HasNoRoom}
 use Rattle.heap_world.proofs.Pointing.{piece_inside, named_if_not_0}
-use Rattle.pause_words.specs.Held.{IsLedTo, from_root, from_field, IsAmong, AreHeldKept}
-use Rattle.pause_words.specs.Pack.{CanPack}
-use Rattle.pause_words.specs.Pinned.{is_pinned, is_row_pinned, CanFill}
-use Rattle.pause_words.specs.Plot.{AreParsed, heap_end}
-use Rattle.pause_words.specs.Full.{now_in, held_words, copies_of, field_words, kept_in}
-use Rattle.pause_words.specs.Promised.{Promises, with_promised}
-use Rattle.pause_words.proofs.Reached.{held_is_reached, can_pack, refs_read}
-use Rattle.pause_words.proofs.Origin.{kept_inside, lie_apart}
-use Rattle.pause_words.proofs.Found.{has_at, found_held}
-use Rattle.pause_words.proofs.Walked.{walk_keeps, root_held, field_held}
-use Rattle.pause_words.proofs.Roots.{root_among, answer_among, pin_among}
+use Rattle.image_graph.specs.Held.{IsLedTo, from_root, from_field, IsAmong, AreHeldKept}
+use Rattle.image_graph.specs.Packing.{CanPack}
+use Rattle.image_graph.specs.Pinned.{is_pinned, is_row_pinned, CanFill}
+use Rattle.image_graph.specs.Plot.{AreParsed, heap_end}
+use Rattle.image_graph.specs.Full.{now_in, held_words, copies_of, field_words, kept_in}
+use Rattle.image_graph.specs.Promised.{Promises, with_promised}
+use Rattle.image_graph.proofs.Reached.{held_is_reached, can_pack, refs_read}
+use Rattle.image_graph.proofs.Origin.{kept_inside, lie_apart}
+use Rattle.image_graph.proofs.Found.{has_at, found_held}
+use Rattle.image_graph.proofs.Walked.{walk_keeps, root_held, field_held}
+use Rattle.image_graph.proofs.Roots.{root_among, answer_among, pin_among}
 use Rattle.image_graph.specs.Holds.{HoldsBy, AreSized}
 use Rattle.full_cycle.specs.Collect.{found_in_turns, LeadsToHeld, CanCollect, HoldsWalked}
-use Rattle.pause_words.proofs.PinnedRows.{row_pinned}
-use Rattle.pause_words.proofs.WalkedPieces.{piece_begins}
+use Rattle.image_graph.proofs.PinnedRows.{row_pinned}
+use Rattle.image_graph.proofs.WalkedPieces.{piece_begins}
 use Rattle.full_cycle.proofs.Strides.{strides}
 use Rattle.full_cycle.proofs.Parsed.{parsed_fills}
-use Rattle.pause_words.proofs.Rows.{row_is}
+use Rattle.image_graph.proofs.Rows.{row_is}
 use Rattle.full_cycle.proofs.Stays.{KeptBegin, begins_there}
 
 module _ (c : Config) (memory : Word → ℕ) (block : Plot) (owner : ℕ → Option ℕ) (p : Promises) (g : Graph) (holds : HoldsBy c memory block owner p g)

@@ -6,8 +6,8 @@ use Rattle.heap_words.specs.declared.config.Config.{Config}
 use Rattle.heap_words.specs.Words.{Word, Heap, IsWord}
 use Rattle.heap_words.specs.Encoding.{refs_in, object_words}
 use Rattle.heap_graph.specs.Walk.{has, with_address, with_addresses}
-use Rattle.pause_words.specs.Plot.{heap_end}
-use Rattle.pause_words.specs.Full.{now_in, held_in, kept_in, copies_of}
+use Rattle.image_graph.specs.Plot.{heap_end}
+use Rattle.image_graph.specs.Full.{now_in, held_in, kept_in, copies_of}
 use Rattle.image_graph.specs.declared.image.Image.{Image}
 use Rattle.image_graph.specs.State.{memory_of, found_of, IsUnchanged}
 use Rattle.full_cycle.specs.Collect.{current_address, CanCollect, LeadsToHeld}

@@ -8,10 +8,10 @@ use Rattle.heap_words.specs.declared.config.Config.{Config}
 use Rattle.heap_words.specs.Words.{Word, Root, Answer, Pin, heap_size}
 use Rattle.heap_graph.specs.Walk.{with_address, with_addresses}
 use Rattle.heap_graph.proofs.Marks.{with_addresses-push}
-use Rattle.pause_words.specs.Full.{copies_of, roots_below, answers_below, root_words, held_words, field_words, held_in}
-use Rattle.pause_words.specs.Pinned.{pins_below}
-use Rattle.pause_words.proofs.FoundInTurn.{noted_both}
-use Rattle.pause_words.proofs.FoundInTurn as turns
+use Rattle.image_graph.specs.Full.{copies_of, roots_below, answers_below, root_words, held_words, field_words, held_in}
+use Rattle.image_graph.specs.Pinned.{pins_below}
+use Rattle.image_graph.proofs.FoundInTurn.{noted_both}
+use Rattle.image_graph.proofs.FoundInTurn as turns
 use Rattle.full_cycle.specs.Collect.{current_address, found_in_turns}
 
 -- one word more of a row

@@ -6,10 +6,10 @@ use Rattle.regions.specs.Place.{base_of}
 use Rattle.regions.specs.Walk.{stride_at}
 use Rattle.heap_world.specs.World.{words_of, Plot, IsPlotted}
 use Rattle.heap_world.proofs.Pieces.{beside}
-use Rattle.pause_words.specs.Pinned.{BeginsAt, CanFill}
-use Rattle.pause_words.specs.Plot.{AreParsed}
-use Rattle.pause_words.proofs.WalkedPieces.{begins_piece}
-use Rattle.pause_words.proofs.Rows.{row_is}
+use Rattle.image_graph.specs.Pinned.{BeginsAt, CanFill}
+use Rattle.image_graph.specs.Plot.{AreParsed}
+use Rattle.image_graph.proofs.WalkedPieces.{begins_piece}
+use Rattle.image_graph.proofs.Rows.{row_is}
 use Rattle.image_graph.proofs.Filling.{begins_yes}
 
 module _ (c : Config) (shut : ℕ → Bool) (m : Word → ℕ) (block : Plot) (plotted : IsPlotted c (λ r. m (Top r)) block)

@@ -12,13 +12,13 @@ use Rattle.regions.specs.Walk.{is_filler, start_of}
 use Rattle.regions.proofs.PlaceLemmas.{regions_tile}
 use Rattle.shen_graph.specs.Graph.{Graph}
 use Rattle.heap_world.specs.World.{thing, Plot}
-use Rattle.pause_words.specs.LetGo.{let_go}
-use Rattle.pause_words.proofs.Elsewhere.{let_go_same}
-use Rattle.pause_words.specs.Pinned.{is_pinned, is_row_pinned, is_in_use, object_of, begins}
-use Rattle.pause_words.specs.Plot.{packed_top}
-use Rattle.pause_words.specs.Full.{kept_in, is_unkept, made_in, refused, packed, packed_in, full_from, full}
-use Rattle.pause_words.specs.Promised.{Promises}
-use Rattle.pause_words.proofs.Still.{full_still}
+use Rattle.image_graph.specs.LetGo.{let_go}
+use Rattle.image_graph.proofs.Elsewhere.{let_go_same}
+use Rattle.image_graph.specs.Pinned.{is_pinned, is_row_pinned, is_in_use, object_of, begins}
+use Rattle.image_graph.specs.Plot.{packed_top}
+use Rattle.image_graph.specs.Full.{kept_in, is_unkept, made_in, refused, packed, packed_in, full_from, full}
+use Rattle.image_graph.specs.Promised.{Promises}
+use Rattle.image_graph.proofs.Still.{full_still}
 use Rattle.image_graph.specs.Buffers.{HasNoMoreSeats}
 use Rattle.image_graph.specs.Holds.{HoldsBy, HoldsSized}
 use Rattle.image_graph.proofs.Loosening.LettingGo.{HasLetGo, has_let_go}
@@ -26,8 +26,8 @@ use Rattle.full_cycle.specs.Collect.{CanCollect, HoldsWalked}
 use Rattle.full_cycle.specs.Result.{PinnedStay}
 use Rattle.full_cycle.proofs.Kept.{kept_is}
 use Rattle.full_cycle.proofs.Shut.{shut_pinned}
-use Rattle.pause_words.proofs.PinnedRows.{row_pinned}
-use Rattle.pause_words.proofs.Rows.{row_is}
+use Rattle.image_graph.proofs.PinnedRows.{row_pinned}
+use Rattle.image_graph.proofs.Rows.{row_is}
 use Rattle.full_cycle.proofs.Holding.{can_collect_some, kept_begin_some}
 use Rattle.full_cycle.proofs.Result.{reachable_kept}
 use Rattle.full_cycle.proofs.Stays.{BeginsThere, KeptBegin, moved, own_region, owner, kept_size, kept_header, kept_shape, kept_name}

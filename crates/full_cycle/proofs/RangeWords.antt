@@ -4,8 +4,8 @@ use Rattle.std.proofs.lemmas.Bool.Decides.{nat_tests}
 use Rattle.heap_words.specs.declared.config.Config.{Config}
 use Rattle.heap_words.specs.Words.{Root, Count, Answer, Grey, Wait, word_at, view}
 use Rattle.heap_words.proofs.Stores.{view_word, view_none}
-use Rattle.pause_words.specs.Full.{empty_regions}
-use Rattle.pause_words.specs.Pinned.{set_of}
+use Rattle.image_graph.specs.Full.{empty_regions}
+use Rattle.image_graph.specs.Pinned.{set_of}
 use Rattle.full_cycle.specs.Steps.{IsChanged}
 
 pub changed_to : (f g t u : ℕ) (change : ℕ → ℕ) (before after : List ℕ) → f ≡ g → t ≡ u → IsChanged f t change before after → IsChanged g u change before after

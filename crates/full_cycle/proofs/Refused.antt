@@ -4,7 +4,7 @@ use Rattle.std.proofs.lemmas.Bool.Decides.{nat_tests}
 use Rattle.std.proofs.lemmas.Bool.{cases_eq}
 use Rattle.std.proofs.Math.Path.{fun_ext}
 use Rattle.heap_words.specs.Words.{Word, Wait, Answer, write}
-use Rattle.pause_words.specs.Full.{refused}
+use Rattle.image_graph.specs.Full.{refused}
 use Rattle.full_cycle.specs.Steps.{refused_below}
 
 -- a thread that does not wait

@@ -4,24 +4,24 @@ use Rattle.std.proofs.Math.Logic.{∥∥₁_map}
 use Rattle.heap_words.specs.declared.config.Config.{Config}
 use Rattle.heap_words.specs.Words.{Word, Top, Wait, Answer, Heap}
 use Rattle.heap_words.specs.Ranges.{seat_count}
-use Rattle.pause_words.specs.LetGo.{let_go}
-use Rattle.pause_words.proofs.Elsewhere.{let_go_same}
+use Rattle.image_graph.specs.LetGo.{let_go}
+use Rattle.image_graph.proofs.Elsewhere.{let_go_same}
 use Rattle.shen_graph.specs.Graph.{Graph}
 use Rattle.heap_world.specs.World.{thing, Plot}
 use Rattle.regions.specs.ServedRooms.{NoneHasRoom, IsLowestRoom}
-use Rattle.pause_words.specs.Held.{IsAmong}
-use Rattle.pause_words.specs.Pinned.{is_row_pinned}
-use Rattle.pause_words.specs.Full.{now_in, held_words, kept_in, asked_in, packed_in, full_from, full}
-use Rattle.pause_words.specs.Plot.{packed_block}
-use Rattle.pause_words.specs.Promised.{Promises, with_promised}
-use Rattle.pause_words.specs.Image.{ImageStands}
-use Rattle.pause_words.specs.Serving.{served_block, served_promises}
-use Rattle.pause_words.specs.Served.{tops_at_turn}
-use Rattle.pause_words.proofs.Reached.{held_are_reachable}
-use Rattle.pause_words.proofs.Walked.{walk_keeps}
-use Rattle.pause_words.proofs.Served.{requests_are_answered}
-use Rattle.pause_words.proofs.Serving.{full_stands}
-use Rattle.pause_words.proofs.Still.{packed_wait}
+use Rattle.image_graph.specs.Held.{IsAmong}
+use Rattle.image_graph.specs.Pinned.{is_row_pinned}
+use Rattle.image_graph.specs.Full.{now_in, held_words, kept_in, asked_in, packed_in, full_from, full}
+use Rattle.image_graph.specs.Plot.{packed_block}
+use Rattle.image_graph.specs.Promised.{Promises, with_promised}
+use Rattle.image_graph.specs.Image.{ImageStands}
+use Rattle.image_graph.specs.Serving.{served_block, served_promises}
+use Rattle.image_graph.specs.Served.{tops_at_turn}
+use Rattle.image_graph.proofs.Reached.{held_are_reachable}
+use Rattle.image_graph.proofs.Walked.{walk_keeps}
+use Rattle.image_graph.proofs.Served.{requests_are_answered}
+use Rattle.image_graph.proofs.Serving.{full_stands}
+use Rattle.image_graph.proofs.Still.{packed_wait}
 use Rattle.image_graph.specs.Holds.{HoldsBy, HoldsSized}
 use Rattle.image_graph.specs.Buffers.{LettingGoHolds}
 use Rattle.image_graph.specs.Left.{IsLeft}

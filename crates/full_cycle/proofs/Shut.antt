@@ -5,9 +5,9 @@ use Rattle.std.proofs.lemmas.Bool.{cases_Bool, cases_lt, and_parts, and_from, eq
 use Rattle.std.proofs.lemmas.Nat.Bits.{bit_at_above}
 use Rattle.heap_words.specs.declared.config.Config.{Config}
 use Rattle.heap_words.specs.Words.{Word}
-use Rattle.pause_words.specs.Pinned.{is_pinned, pinned_set, is_row_pinned}
-use Rattle.pause_words.proofs.FreeWord.{set_small, set_is}
-use Rattle.pause_words.proofs.PinnedRows.{row_pinned}
+use Rattle.image_graph.specs.Pinned.{is_pinned, pinned_set, is_row_pinned}
+use Rattle.image_graph.proofs.FreeWord.{set_small, set_is}
+use Rattle.image_graph.proofs.PinnedRows.{row_pinned}
 
 module _ (c : Config) (m : Word → ℕ) where
   -- a shut row is that of a pinned region

@@ -20,8 +20,8 @@ use Rattle.regions.specs.Slide.{IsSlidTo, PlacesApart, renewed, slid, slid_word,
 use Rattle.regions.specs.Table.{word_of, kept_of, now_of, place_of, LeadsToKept, CanCompact}
 use Rattle.regions.proofs.Slid.{slid_word-same, slid_next, slid_none, slid_only, renewed_alike}
 use Rattle.regions.proofs.Flags.{kept_marked, kept_unmarked, kept_below}
-use Rattle.pause_words.specs.Plot.{heap_end, packed_top}
-use Rattle.pause_words.specs.Full.{now_in, held_in, kept_in, place_in, top_then, moved_heap}
+use Rattle.image_graph.specs.Plot.{heap_end, packed_top}
+use Rattle.image_graph.specs.Full.{now_in, held_in, kept_in, place_in, top_then, moved_heap}
 use Rattle.image_graph.specs.Pack.{IsPacked}
 use Rattle.image_graph.proofs.Packed.{heap_part}
 use Rattle.image_graph.proofs.Read.{heap_length}

@@ -13,17 +13,17 @@ use Rattle.regions.proofs.PlaceLemmas.{regions_tile}
 use Rattle.regions.specs.Slide.{IsSlidTo, renewed, slid_word}
 use Rattle.regions.proofs.Placed.{new_shut, stays_within, same_kind, row_of_word, places_apart}
 use Rattle.regions.proofs.Slid.{slid_is}
-use Rattle.pause_words.specs.Plot.{heap_end, packed_top}
-use Rattle.pause_words.specs.Pinned.{is_pinned, is_pinned_below, is_row_pinned, is_in_use, object_of, begins, filled_in, CanFill}
-use Rattle.pause_words.specs.Full.{now_in, held_in, kept_in, place_in, is_unkept, moved_heap, packed}
+use Rattle.image_graph.specs.Plot.{heap_end, packed_top}
+use Rattle.image_graph.specs.Pinned.{is_pinned, is_pinned_below, is_row_pinned, is_in_use, object_of, begins, filled_in, CanFill}
+use Rattle.image_graph.specs.Full.{now_in, held_in, kept_in, place_in, is_unkept, moved_heap, packed}
 use Rattle.image_graph.specs.Leftovers.{is_left_over}
 use Rattle.image_graph.specs.declared.leftovers.Leftover.TheVariants.{NotFound}
 use Rattle.image_graph.proofs.Starts.{starts_within, same_starts}
 use Rattle.full_cycle.specs.Collect.{CanCollect}
 use Rattle.full_cycle.specs.Steps.{moved_in}
 use Rattle.full_cycle.proofs.Kept.{kept_is}
-use Rattle.pause_words.proofs.PinnedRows.{row_pinned}
-use Rattle.pause_words.proofs.Rows.{row_is, row_above, base_below}
+use Rattle.image_graph.proofs.PinnedRows.{row_pinned}
+use Rattle.image_graph.proofs.Rows.{row_is, row_above, base_below}
 use Rattle.full_cycle.proofs.Shut.{row_is_pinned}
 use Rattle.full_cycle.proofs.Slices.{in_first_rows}
 

@@ -8,9 +8,9 @@ use Rattle.heap_words.proofs.Stores.{is_word_true, view_none}
 use Rattle.regions.proofs.Tops.{top_within}
 use Rattle.regions.specs.Slide.{renewed}
 use Rattle.regions.specs.Table.{IsInTable, from_table}
-use Rattle.pause_words.specs.Plot.{heap_end, packed_top}
-use Rattle.pause_words.specs.Pinned.{is_pinned, is_pinned_below, is_row_pinned, filled_in, CanFill}
-use Rattle.pause_words.specs.Full.{now_in, held_in, kept_in, place_in, renewed_answer, empty_regions, packed}
+use Rattle.image_graph.specs.Plot.{heap_end, packed_top}
+use Rattle.image_graph.specs.Pinned.{is_pinned, is_pinned_below, is_row_pinned, filled_in, CanFill}
+use Rattle.image_graph.specs.Full.{now_in, held_in, kept_in, place_in, renewed_answer, empty_regions, packed}
 use Rattle.image_graph.specs.declared.image.Image.{Image}
 use Rattle.image_graph.specs.declared.leftovers.Leftover.TheVariants.{NotFound}
 use Rattle.image_graph.specs.Leftovers.{is_left_over}

@@ -4,11 +4,11 @@ use Rattle.heap_words.specs.declared.config.Config.{Config}
 use Rattle.heap_words.specs.Words.{Word, Root, Answer, Pin, Heap}
 use Rattle.heap_words.specs.Encoding.{refs_in}
 use Rattle.regions.specs.Places.{LieApart}
-use Rattle.pause_words.specs.Held.{found_in}
-use Rattle.pause_words.specs.Pinned.{is_pinned, CanFill}
-use Rattle.pause_words.specs.Plot.{heap_end}
-use Rattle.pause_words.specs.Full.{now_in, copies_of, field_words, held_words, kept_in}
-use Rattle.pause_words.specs.Promised.{Promises}
+use Rattle.image_graph.specs.Held.{found_in}
+use Rattle.image_graph.specs.Pinned.{is_pinned, CanFill}
+use Rattle.image_graph.specs.Plot.{heap_end}
+use Rattle.image_graph.specs.Full.{now_in, copies_of, field_words, held_words, kept_in}
+use Rattle.image_graph.specs.Promised.{Promises}
 use Rattle.shen_graph.specs.Graph.{Graph}
 use Rattle.heap_world.specs.World.{Plot, HasNoRoom}
 use Rattle.image_graph.specs.Holds.{HoldsBy, AreSized}

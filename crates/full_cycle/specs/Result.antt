@@ -7,13 +7,13 @@ use Rattle.shen_graph.specs.declared.name.Name.{Name}
 use Rattle.shen_graph.specs.Graph.{Graph}
 use Rattle.shen_graph.specs.Reach.{IsReachable}
 use Rattle.heap_world.specs.World.{Block, Plot, thing, is_loose}
-use Rattle.pause_words.specs.LetGo.{let_go}
-use Rattle.pause_words.specs.Pinned.{is_pinned, is_row_pinned}
-use Rattle.pause_words.specs.Plot.{packed_block}
-use Rattle.pause_words.specs.Full.{kept_in, packed_in}
-use Rattle.pause_words.specs.Promised.{Promises, with_promised}
-use Rattle.pause_words.specs.Image.{ImageStands}
-use Rattle.pause_words.specs.Serving.{served_block, served_promises}
+use Rattle.image_graph.specs.LetGo.{let_go}
+use Rattle.image_graph.specs.Pinned.{is_pinned, is_row_pinned}
+use Rattle.image_graph.specs.Plot.{packed_block}
+use Rattle.image_graph.specs.Full.{kept_in, packed_in}
+use Rattle.image_graph.specs.Promised.{Promises, with_promised}
+use Rattle.image_graph.specs.Image.{ImageStands}
+use Rattle.image_graph.specs.Serving.{served_block, served_promises}
 use Rattle.image_graph.specs.Holds.{HoldsBy, AreSized}
 use Rattle.image_graph.specs.Left.{IsLeft}
 

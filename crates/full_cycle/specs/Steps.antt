@@ -4,7 +4,7 @@ use Rattle.heap_words.specs.declared.config.Config.{Config}
 use Rattle.heap_words.specs.Words.{Word, Phase, Cset, Evac, Claim, Ask, Top, Tams, Limit, Current, Root, Count, Wait, Answer, Grey, Black, Heap, Share}
 use Rattle.regions.specs.Slide.{renewed}
 use Rattle.regions.specs.Table.{from_table, IsInTable}
-use Rattle.pause_words.specs.Full.{moved_heap, top_then}
+use Rattle.image_graph.specs.Full.{moved_heap, top_then}
 
 -- the words after the kept objects were packed: the heap and the tops
 abbrev pub moved_in : Config → (shut : ℕ → Bool) (now kept : ℕ → ℕ) → (Word → ℕ) → Word → ℕ

@@ -2,7 +2,7 @@
 
 ghost use Rattle.std.specs.Prelude.{◌≡◌, ◌<◌, ◌≤◌, ◌*◌, ◌^◌, ◌==◌, if◌then◌else◌};
 ghost use Rattle.heap_words.specs.Words.{Top, Free, table_words, write};
-ghost use Rattle.pause_words.specs.Full.{empty_regions};
+ghost use Rattle.image_graph.specs.Full.{empty_regions};
 ghost use Rattle.image_graph.specs.State.{config_of, words_of, memory_of};
 ghost use Rattle.full_cycle.specs.Steps.{calm, IsChanged};
 

@@ -1,7 +1,7 @@
 //! A full collection, step by step.
 
 ghost use Rattle.std.specs.Prelude.{◌≡◌};
-ghost use Rattle.pause_words.specs.Full.{full_from, full};
+ghost use Rattle.image_graph.specs.Full.{full_from, full};
 ghost use Rattle.image_graph.specs.State.{config_of, memory_of};
 ghost use Rattle.image_graph.specs.Holds.{HoldsSome, HoldsSized};
 ghost use Rattle.full_cycle.specs.Collect.{HoldsWalked};

@@ -1,8 +1,8 @@
 //! Packs what was found, by the names of words.
 
 ghost use Rattle.std.specs.Prelude.{ℕ, ◌≡◌, ◌<◌, ◌==◌, ◌&&◌, true};
-ghost use Rattle.pause_words.specs.Full.{now_in, held_in, kept_in, place_in};
-ghost use Rattle.pause_words.specs.Pinned.{is_pinned, is_pinned_below, is_row_pinned, filled_in, CanFill};
+ghost use Rattle.image_graph.specs.Full.{now_in, held_in, kept_in, place_in};
+ghost use Rattle.image_graph.specs.Pinned.{is_pinned, is_pinned_below, is_row_pinned, filled_in, CanFill};
 ghost use Rattle.image_graph.specs.Leftovers.{is_left_over};
 ghost use Rattle.image_graph.specs.State.{config_of, memory_of, found_of, marks_of, places_of, AreFound};
 ghost use Rattle.full_cycle.specs.Collect.{CanCollect, LeadsToHeld};

@@ -2,7 +2,7 @@
 
 ghost use Rattle.std.specs.Prelude.{◌≡◌, ◌≢◌, ◌<◌};
 ghost use Rattle.heap_words.specs.Words.{Wait, Answer, write};
-ghost use Rattle.pause_words.specs.Full.{refused};
+ghost use Rattle.image_graph.specs.Full.{refused};
 ghost use Rattle.image_graph.specs.State.{config_of, memory_of};
 
 use image_graph::Image;

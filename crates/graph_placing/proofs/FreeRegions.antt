@@ -1,7 +1,7 @@
 -- The free word while regions are looked at.
 use Rattle.std.proofs.Common.{◌≡◌, ℕ, ◌+◌, ◌*◌, ◌^◌, ◌==◌, cond, suc, refl, ap, ◌∙◌, arith}
-use Rattle.pause_words.specs.Full.{empty_regions}
-use Rattle.pause_words.specs.Pinned.{set_of}
+use Rattle.image_graph.specs.Full.{empty_regions}
+use Rattle.image_graph.specs.Pinned.{set_of}
 
 pub empty_none : (top : ℕ → ℕ) → 0 ≡ empty_regions top 0
 unfolding set_of

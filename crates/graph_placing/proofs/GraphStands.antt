@@ -14,7 +14,7 @@ use Rattle.heap_world.proofs.Keeping.{usable_now}
 use Rattle.heap_world.proofs.Copies.{none_evacuated}
 use Rattle.heap_world.proofs.Roomless.{rooms_none}
 use Rattle.heap_world.proofs.Unmarked.{none_marked}
-use Rattle.pause_words.proofs.FreeWord.{free_again}
+use Rattle.image_graph.proofs.FreeWord.{free_again}
 use Rattle.graph_placing.specs.ByName.{address_of, Fits}
 use Rattle.graph_placing.specs.PlacedHeap.{place_among, word_for, IsPlaced}
 use Rattle.graph_placing.specs.PlaceableText.{IsPlaceable}

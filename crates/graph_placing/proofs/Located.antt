@@ -11,7 +11,7 @@ use Rattle.regions.proofs.PlaceLemmas.{regions_tile}
 use Rattle.regions.specs.Places.{place_behind, end_before}
 use Rattle.shen_graph.specs.Graph.{hub}
 use Rattle.shen_graph.specs.GraphText.{Text, Row, row_of, bare}
-use Rattle.pause_words.specs.Plot.{heap_end}
+use Rattle.image_graph.specs.Plot.{heap_end}
 use Rattle.graph_placing.specs.ByName.{words_of_row, address_of, end_behind, Fits, used_words}
 use Rattle.graph_placing.specs.PlaceableText.{IsPlaceable}
 use Rattle.graph_placing.proofs.Behind as behind

@@ -8,7 +8,7 @@ use Rattle.heap_words.specs.Words.{Word, Free, Left, Top, Root, Heap, write}
 use Rattle.heap_words.specs.Encoding.{plain_header, shape_word, name_code}
 use Rattle.shen_graph.specs.declared.name.Name.{Name}
 use Rattle.shen_graph.specs.GraphText.{Text, row_of, names_of, root_of}
-use Rattle.pause_words.specs.Full.{empty_regions}
+use Rattle.image_graph.specs.Full.{empty_regions}
 use Rattle.graph_placing.specs.ByName.{words_of_row, address_of, used_words}
 use Rattle.graph_placing.specs.PlacedHeap.{word_for, words_of_object, is_content, IsPlaced}
 use Rattle.graph_placing.specs.PlaceableText.{IsPlaceable}

@@ -5,7 +5,7 @@ use Rattle.heap_words.specs.declared.config.Config.{Config}
 use Rattle.regions.specs.Place.{base_of, region_with}
 use Rattle.regions.specs.Places.{none_shut, end_before, new_place}
 use Rattle.shen_graph.specs.GraphText.{Text, row_of}
-use Rattle.pause_words.specs.Plot.{heap_end}
+use Rattle.image_graph.specs.Plot.{heap_end}
 
 -- the words of the object in a row: header, shape, name, and one for each reference and each number
 abbrev pub words_of_row : Text → ℕ → ℕ

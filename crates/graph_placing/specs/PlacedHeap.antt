@@ -6,7 +6,7 @@ use Rattle.heap_words.specs.Encoding.{plain_header, shape_word, name_code}
 use Rattle.shen_graph.specs.declared.name.Name.{Name}
 use Rattle.shen_graph.specs.Graph.{Reference, same_name}
 use Rattle.shen_graph.specs.GraphText.{Text, Row, row_of, names_of, root_of}
-use Rattle.pause_words.specs.Full.{empty_regions}
+use Rattle.image_graph.specs.Full.{empty_regions}
 use Rattle.graph_placing.specs.ByName.{words_of_row, address_of, used_words}
 
 -- the number of the first of some names that is this one

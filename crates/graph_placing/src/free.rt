@@ -2,7 +2,7 @@
 
 ghost use Rattle.std.specs.Prelude.{◌≡◌, ◌<◌, ◌*◌, ◌^◌, ◌==◌, if◌then◌else◌};
 ghost use Rattle.heap_words.specs.Words.{Top, Free, write};
-ghost use Rattle.pause_words.specs.Full.{empty_regions};
+ghost use Rattle.image_graph.specs.Full.{empty_regions};
 ghost use Rattle.image_graph.specs.State.{config_of, memory_of};
 
 use image_graph::Image;

@@ -18,7 +18,7 @@ use Rattle.control_rows.specs.Rows.{Controlling}
 use Rattle.heap_world.specs.Asking.{Asking, nothing, IsAsked}
 use Rattle.heap_world.specs.Change.{Answers}
 use Rattle.heap_world.specs.Represents.{Represents}
-use Rattle.pause_words.specs.Full.{full}
+use Rattle.image_graph.specs.Full.{full}
 use Rattle.image_graph.specs.Holds.{HoldsSized}
 use Rattle.cycle_pauses.proofs.Full.ByCopies.{by_copies}
 use Rattle.cycle_pauses.proofs.Full.Pauses.{from_copies, representing_holds}

@@ -20,12 +20,12 @@ use Rattle.shen_graph.proofs.PlainLemmas.{same_name-true, same_name-itself}
 use Rattle.heap_graph.specs.Walk.{has}
 use Rattle.heap_world.specs.Roots.{is_root_of}
 use Rattle.heap_world.specs.World.{Block, thing, filler, spare, words_of, Plot, name_at, Points, IsThing, IsGiven, IsPlotted, IsFilled, AreObjects}
-use Rattle.pause_words.specs.Promised.{Promises}
-use Rattle.pause_words.specs.Image.{RootsStand, ImageStands}
-use Rattle.pause_words.specs.Serving.{asked_name, IsAsking}
-use Rattle.pause_words.proofs.Found.{index_of, has_at}
-use Rattle.pause_words.proofs.Named.{named_things}
-use Rattle.pause_words.proofs.ImagesStand.{standing_holds}
+use Rattle.image_graph.specs.Promised.{Promises}
+use Rattle.image_graph.specs.Image.{RootsStand, ImageStands}
+use Rattle.image_graph.specs.Serving.{asked_name, IsAsking}
+use Rattle.image_graph.proofs.Found.{index_of, has_at}
+use Rattle.image_graph.proofs.Named.{named_things}
+use Rattle.image_graph.proofs.ImagesStand.{standing_holds}
 use Rattle.image_graph.specs.Holds.{HoldsBy, HoldsSome, HoldsSized, AreSized}
 use Rattle.image_check.specs.Laid.{laid_words, used_end, IsReference, LiesRight, ReadsRight, IsLaidOut}
 

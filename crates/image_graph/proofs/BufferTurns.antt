@@ -8,13 +8,13 @@ use Rattle.heap_words.specs.Words.{Word, Top, Current, view, write}
 use Rattle.heap_words.proofs.Stores.{view_none}
 use Rattle.heap_words.specs.Encoding.{next_in}
 use Rattle.regions.specs.Place.{base_of}
-use Rattle.pause_words.specs.Buffers.{is_last, filled_over}
-use Rattle.pause_words.specs.Settled.{settled_at, settled_below}
-use Rattle.pause_words.specs.LetGo.{given_back, let_go_at, let_go_below}
-use Rattle.pause_words.specs.Edge.{is_last_in, edge_below}
+use Rattle.image_graph.specs.SeatBuffers.{is_last, filled_over}
+use Rattle.image_graph.specs.Settled.{settled_at, settled_below}
+use Rattle.image_graph.specs.LetGo.{given_back, let_go_at, let_go_below}
+use Rattle.image_graph.specs.Edge.{is_last_in, edge_below}
 use Rattle.image_graph.specs.Buffers.{HasNoMoreSeats}
-use Rattle.pause_words.proofs.Settling as settling
-use Rattle.pause_words.proofs.LettingGo as letting
+use Rattle.image_graph.proofs.Settling as settling
+use Rattle.image_graph.proofs.LettingGo as letting
 
 -- a table has no more seats than the heap
 pub no_more_seats : (c : Config) (words : List ℕ) → HasNoMoreSeats c (view c words)

@@ -10,16 +10,16 @@ use Rattle.shen_graph.specs.Graph.{Graph, Object, Reference}
 use Rattle.heap_graph.specs.Walk.{has}
 use Rattle.heap_world.specs.World.{thing, Plot, name_at, Points, IsPlotted, IsFilled, IsThing, IsFreeWord, ShareIsOpen, AreBuffers}
 use Rattle.heap_world.proofs.Pointing.{named_piece, named_if_not_0, piece_inside}
-use Rattle.pause_words.specs.Held.{IsLedTo, from_root, from_field, IsAmong, IsCopy, HoldsGraph}
-use Rattle.pause_words.specs.Plot.{NamedAreThings}
-use Rattle.pause_words.specs.Full.{now_in, roots_below, answers_below, root_words, held_words}
-use Rattle.pause_words.specs.Pinned.{pins_below}
-use Rattle.pause_words.specs.Promised.{Promises, with_promised}
-use Rattle.pause_words.specs.Image.{AnswerStands, PinWordStands, RootsStand}
-use Rattle.pause_words.specs.Serving.{asked_shape, AreAsking}
-use Rattle.pause_words.proofs.Reached.{refs_read}
-use Rattle.pause_words.proofs.Roots as roots
-use Rattle.pause_words.proofs.Roots.{has_either, root_in, answer_in, pin_in, pin_some, pin_copy, pin_stays, root_among, answer_among, pin_among, answer_names}
+use Rattle.image_graph.specs.Held.{IsLedTo, from_root, from_field, IsAmong, IsCopy, HoldsGraph}
+use Rattle.image_graph.specs.Plot.{NamedAreThings}
+use Rattle.image_graph.specs.Full.{now_in, roots_below, answers_below, root_words, held_words}
+use Rattle.image_graph.specs.Pinned.{pins_below}
+use Rattle.image_graph.specs.Promised.{Promises, with_promised}
+use Rattle.image_graph.specs.Image.{AnswerStands, PinWordStands, RootsStand}
+use Rattle.image_graph.specs.Serving.{asked_shape, AreAsking}
+use Rattle.image_graph.proofs.Reached.{refs_read}
+use Rattle.image_graph.proofs.Roots as roots
+use Rattle.image_graph.proofs.Roots.{has_either, root_in, answer_in, pin_in, pin_some, pin_copy, pin_stays, root_among, answer_among, pin_among, answer_names}
 use Rattle.image_graph.specs.Holds.{HasMoved, HoldsBy}
 
 -- the current copy goes by the header

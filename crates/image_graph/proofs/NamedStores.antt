@@ -8,7 +8,7 @@ use Rattle.heap_words.specs.Encoding.{object_words, request_shape_in, request_co
 use Rattle.heap_words.proofs.Rows.{word_inside}
 use Rattle.regions.specs.Place.{base_of}
 use Rattle.regions.specs.Sets.{all_but}
-use Rattle.pause_words.specs.Full.{made_in}
+use Rattle.image_graph.specs.Full.{made_in}
 use Rattle.image_graph.specs.Make.{heap_cleared}
 
 -- a store at the place of a word is a store at its name

@@ -17,20 +17,20 @@ use Rattle.heap_graph.specs.Walk.{has}
 use Rattle.heap_world.specs.World.{Block, thing, filler, room_of, words_of, Plot, name_at, IsPlotted, IsFilled, IsFreeWord, ShareIsOpen, AreBuffers}
 use Rattle.heap_world.proofs.Pointing.{named_if_not_0}
 use Rattle.heap_world.proofs.Joined as joined
-use Rattle.pause_words.specs.Held.{IsLedTo, from_root, from_field, IsAmong, IsCopy, HoldsGraph}
-use Rattle.pause_words.specs.Full.{now_in, roots_below, answers_below, root_words, held_words, made_in}
-use Rattle.pause_words.specs.Pinned.{pins_below}
-use Rattle.pause_words.specs.Promised.{Promises, with_promised, AreFresh}
-use Rattle.pause_words.specs.Serving.{asked_shape, asked_name, asked_piece, made_block, made_promise, IsAsking, AreAsking}
-use Rattle.pause_words.proofs.Buffers.{buffers_stay, share_stays}
-use Rattle.pause_words.proofs.Promised.{old_object}
-use Rattle.pause_words.proofs.Reached as reached
-use Rattle.pause_words.proofs.Reached.{refs_read, reached_is_held}
-use Rattle.pause_words.proofs.Rooted.{plain_root, pin_root}
-use Rattle.pause_words.proofs.Roots as roots
-use Rattle.pause_words.proofs.Roots.{has_either, root_in, answer_in, pin_in, pin_some, pin_copy, root_among, answer_among, pin_among}
-use Rattle.pause_words.proofs.Made as made
-use Rattle.pause_words.proofs.Made.{CanMake, fresh_header, fresh_shape, fresh_field}
+use Rattle.image_graph.specs.Held.{IsLedTo, from_root, from_field, IsAmong, IsCopy, HoldsGraph}
+use Rattle.image_graph.specs.Full.{now_in, roots_below, answers_below, root_words, held_words, made_in}
+use Rattle.image_graph.specs.Pinned.{pins_below}
+use Rattle.image_graph.specs.Promised.{Promises, with_promised, AreFresh}
+use Rattle.image_graph.specs.Serving.{asked_shape, asked_name, asked_piece, made_block, made_promise, IsAsking, AreAsking}
+use Rattle.image_graph.proofs.Buffers.{buffers_stay, share_stays}
+use Rattle.image_graph.proofs.Promised.{old_object}
+use Rattle.image_graph.proofs.Reached as reached
+use Rattle.image_graph.proofs.Reached.{refs_read, reached_is_held}
+use Rattle.image_graph.proofs.Rooted.{plain_root, pin_root}
+use Rattle.image_graph.proofs.Roots as roots
+use Rattle.image_graph.proofs.Roots.{has_either, root_in, answer_in, pin_in, pin_some, pin_copy, root_among, answer_among, pin_among}
+use Rattle.image_graph.proofs.Made as made
+use Rattle.image_graph.proofs.Made.{CanMake, fresh_header, fresh_shape, fresh_field}
 use Rattle.image_graph.specs.Holds.{HasMoved, HoldsBy, AreSized}
 
 -- what the graph reaches is reached with the promised objects, too

@@ -5,7 +5,7 @@ use Rattle.std.specs.List.{range_with_len, list_any}
 use Rattle.std.proofs.lemmas.List.FromFn.{length-range_with_len, get_or-range_with_len}
 use Rattle.std.proofs.lemmas.List.Folds.{list_any_none}
 use Rattle.std.proofs.lemmas.Nat.{or_comm, or_shifted, one_shl}
-use Rattle.pause_words.specs.Pinned.{set_of}
+use Rattle.image_graph.specs.Pinned.{set_of}
 
 -- a region above those of a set joins it
 pub bit_joined : (set r : ℕ) → r < 64 → set < 2 ^ r → bit_or set (1 * 2 ^ r % 2 ^ 64) ≡ 1 * 2 ^ r + set

@@ -10,7 +10,7 @@ use Rattle.regions.specs.Rooms.{EachHasLess, IsFirstWithRoom}
 use Rattle.regions.specs.Place.{base_of}
 use Rattle.regions.specs.ServedRooms.{lowest_room, NoneHasRoom, IsLowestRoom}
 use Rattle.regions.proofs.ServedRooms.{all_full, lowest_is, has_room, none_has_room}
-use Rattle.pause_words.specs.Full.{made_in}
+use Rattle.image_graph.specs.Full.{made_in}
 use Rattle.image_graph.specs.Make.{AreInHeap, AreWithin}
 
 -- where each region has less room than is asked for

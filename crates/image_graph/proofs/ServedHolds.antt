@@ -5,11 +5,11 @@ use Rattle.heap_words.specs.declared.config.Config.{Config}
 use Rattle.heap_words.specs.Words.{Word}
 use Rattle.shen_graph.specs.Graph.{Graph}
 use Rattle.heap_world.specs.World.{Plot}
-use Rattle.pause_words.specs.Full.{served_in, served}
-use Rattle.pause_words.specs.Promised.{Promises}
-use Rattle.pause_words.specs.Serving.{made_block, made_promise, turn_room, served_block, served_promises}
-use Rattle.pause_words.proofs.Served.{served_first}
-use Rattle.pause_words.proofs.Serving.{finds_room, turn_is}
+use Rattle.image_graph.specs.Full.{served_in, served}
+use Rattle.image_graph.specs.Promised.{Promises}
+use Rattle.image_graph.specs.Serving.{made_block, made_promise, turn_room, served_block, served_promises}
+use Rattle.image_graph.proofs.Served.{served_first}
+use Rattle.image_graph.proofs.Serving.{finds_room, turn_is}
 use Rattle.image_graph.specs.Holds.{HoldsBy, AreSized}
 use Rattle.image_graph.specs.Left.{HoldsServed}
 use Rattle.image_graph.proofs.ObjectMade.{made_holds, made_sized}

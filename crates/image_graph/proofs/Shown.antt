@@ -20,16 +20,16 @@ use Rattle.heap_graph.specs.Shows.{WordsStand}
 use Rattle.heap_graph.specs.Stands.{HoldsPin}
 use Rattle.heap_world.specs.Objects.{IsObject}
 use Rattle.heap_world.proofs.Pointing.{named_thing}
-use Rattle.pause_words.proofs.ImagesStand.{own_copy}
+use Rattle.image_graph.proofs.ImagesStand.{own_copy}
 use Rattle.heap_graph.proofs.Tables.{AreCopies, copies_stand}
-use Rattle.pause_words.specs.Held.{IsLedTo, from_root, from_field, IsAmong, AreHeldKept}
-use Rattle.pause_words.specs.Full.{now_in, held_words, held_in, kept_in}
-use Rattle.pause_words.specs.Promised.{Promises, with_promised}
-use Rattle.pause_words.specs.Image.{PinWordStands}
-use Rattle.pause_words.proofs.Reached.{held_is_reached, refs_read, named_object, none_at_0}
-use Rattle.pause_words.proofs.Promised.{same_reference-true, reaches_promised}
-use Rattle.pause_words.proofs.Roots.{root_among, pin_among}
-use Rattle.pause_words.proofs.Walked.{walk_keeps}
+use Rattle.image_graph.specs.Held.{IsLedTo, from_root, from_field, IsAmong, AreHeldKept}
+use Rattle.image_graph.specs.Full.{now_in, held_words, held_in, kept_in}
+use Rattle.image_graph.specs.Promised.{Promises, with_promised}
+use Rattle.image_graph.specs.Image.{PinWordStands}
+use Rattle.image_graph.proofs.Reached.{held_is_reached, refs_read, named_object, none_at_0}
+use Rattle.image_graph.proofs.Promised.{same_reference-true, reaches_promised}
+use Rattle.image_graph.proofs.Roots.{root_among, pin_among}
+use Rattle.image_graph.proofs.Walked.{walk_keeps}
 use Rattle.image_graph.specs.Holds.{HoldsBy}
 
 -- a piece, if it is an object that is not promised

@@ -2,7 +2,7 @@
 use Rattle.std.proofs.Common.{◌≡◌, ◌≢◌, ℕ, ◌+◌, ◌-◌, ◌<◌, ◌≤◌, ◌==◌, cond, zero, suc, refl, sym, ap, ◌∙◌, ⊎_elim, arith}
 use Rattle.std.proofs.lemmas.Bool.{cases_eq}
 use Rattle.regions.specs.Walk.{stride_at, start_of}
-use Rattle.pause_words.proofs.Starts.{start_first, start_ends, start_goes_on}
+use Rattle.image_graph.proofs.PieceStarts.{start_first, start_ends, start_goes_on}
 
 module _ (heap : ℕ → ℕ) (base : ℕ) where
   -- how many words stand as one from a distance on

@@ -8,8 +8,8 @@ use Rattle.heap_words.specs.declared.config.Config.{Config}
 use Rattle.heap_words.specs.Words.{Word, Top, Wait}
 use Rattle.heap_words.specs.Encoding.{object_words, request_shape_in}
 use Rattle.regions.specs.ServedRooms.{NoneHasRoom}
-use Rattle.pause_words.specs.Full.{asked_in, served, served_in, room_for}
-use Rattle.pause_words.proofs.Served.{before_turn}
+use Rattle.image_graph.specs.Full.{asked_in, served, served_in, room_for}
+use Rattle.image_graph.proofs.Served.{before_turn}
 use Rattle.image_graph.specs.Holds.{HoldsSome}
 use Rattle.image_graph.specs.Left.{IsLeft}
 use Rattle.image_graph.specs.Make.{AreWithin}

@@ -6,8 +6,8 @@ use Rattle.heap_words.specs.Ranges.{seat_count}
 use Rattle.heap_words.specs.Words.{Word, Current}
 use Rattle.shen_graph.specs.Graph.{Graph}
 use Rattle.heap_world.specs.World.{Block, spare, filler, is_loose, Plot, HasNoRoom}
-use Rattle.pause_words.specs.Buffers.{is_last}
-use Rattle.pause_words.specs.Promised.{Promises}
+use Rattle.image_graph.specs.SeatBuffers.{is_last}
+use Rattle.image_graph.specs.Promised.{Promises}
 use Rattle.image_graph.specs.Holds.{HoldsBy, AreSized}
 
 -- no seat but those of the heap has a buffer

@@ -9,12 +9,12 @@ use Rattle.regions.specs.Walk.{is_filler}
 use Rattle.shen_graph.specs.declared.name.Name.{Name}
 use Rattle.shen_graph.specs.Graph.{Graph, Object, fresh}
 use Rattle.heap_world.specs.World.{Block, Plot, thing, filler, words_of, is_loose, IsFilled, IsFreeWord, ShareIsOpen, AreBuffers, IsGiven}
-use Rattle.pause_words.specs.Held.{IsAmong, HoldsGraph}
-use Rattle.pause_words.specs.Plot.{NamedAreThings}
-use Rattle.pause_words.specs.Full.{now_in, held_words}
-use Rattle.pause_words.specs.Promised.{Promises, with_promised, AreFresh}
-use Rattle.pause_words.specs.Image.{RootsStand}
-use Rattle.pause_words.specs.Serving.{AreAsking}
+use Rattle.image_graph.specs.Held.{IsAmong, HoldsGraph}
+use Rattle.image_graph.specs.Plot.{NamedAreThings}
+use Rattle.image_graph.specs.Full.{now_in, held_words}
+use Rattle.image_graph.specs.Promised.{Promises, with_promised, AreFresh}
+use Rattle.image_graph.specs.Image.{RootsStand}
+use Rattle.image_graph.specs.Serving.{AreAsking}
 
 -- an object that has moved is in the collection set, and its copy is outside and has not moved
 pub record HasMoved (c : Config) (memory : Word → ℕ) (block : Plot) (a refs nums : ℕ) (name : Name) : Type 0 where

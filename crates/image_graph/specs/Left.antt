@@ -4,15 +4,15 @@ use Rattle.heap_words.specs.declared.config.Config.{Config}
 use Rattle.heap_words.specs.Words.{Word, Wait, view, table_words, heap_in, roots_in, pins_in}
 use Rattle.shen_graph.specs.declared.name.Name.{Name}
 use Rattle.regions.specs.ServedRooms.{NoneHasRoom}
-use Rattle.pause_words.specs.Full.{asked_in}
-use Rattle.pause_words.specs.Served.{tops_at_turn}
+use Rattle.image_graph.specs.Full.{asked_in}
+use Rattle.image_graph.specs.Served.{tops_at_turn}
 use Rattle.shen_graph.specs.Graph.{Graph}
 use Rattle.shen_graph.specs.GraphText.{Text}
 use Rattle.heap_graph.specs.Shows.{WordsStand, StandForSome, ShowsGraph}
 use Rattle.heap_world.specs.World.{Plot}
-use Rattle.pause_words.specs.Promised.{Promises}
-use Rattle.pause_words.specs.Image.{ImageStands}
-use Rattle.pause_words.specs.Serving.{AreAsking, served_block, served_promises}
+use Rattle.image_graph.specs.Promised.{Promises}
+use Rattle.image_graph.specs.Image.{ImageStands}
+use Rattle.image_graph.specs.Serving.{AreAsking, served_block, served_promises}
 use Rattle.image_graph.specs.Holds.{HoldsBy, AreSized}
 
 -- a thread waits, and when its turn comes each region has less room than it asks for

@@ -5,11 +5,11 @@ ghost use Rattle.heap_words.specs.Ranges.{seat_count};
 ghost use Rattle.heap_words.specs.Words.{Current};
 ghost use Rattle.heap_words.specs.Encoding.{next_in};
 ghost use Rattle.regions.specs.Place.{base_of};
-ghost use Rattle.pause_words.specs.Buffers as buffers;
-ghost use Rattle.pause_words.specs.Buffers.{IsInside, AreInside, filled_over};
-ghost use Rattle.pause_words.specs.Settled.{settled_at, buffers_settled};
-ghost use Rattle.pause_words.specs.LetGo.{given_back, let_go_at, let_go};
-ghost use Rattle.pause_words.specs.Edge as edges;
+ghost use Rattle.image_graph.specs.SeatBuffers as buffers;
+ghost use Rattle.image_graph.specs.SeatBuffers.{IsInside, AreInside, filled_over};
+ghost use Rattle.image_graph.specs.Settled.{settled_at, buffers_settled};
+ghost use Rattle.image_graph.specs.LetGo.{given_back, let_go_at, let_go};
+ghost use Rattle.image_graph.specs.Edge as edges;
 ghost use Rattle.image_graph.specs.State.{config_of, memory_of};
 ghost use Rattle.image_graph.specs.Buffers.{SettlingHolds, LettingGoHolds};
 

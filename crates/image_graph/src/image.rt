@@ -29,8 +29,8 @@ impl Image {
     ghost use Rattle.std.specs.Prelude.{ℕ, ◌<◌, true, false, slice_set, slice_index, Option, IfOk};
     ghost use Rattle.heap_words.specs.Words.{Word, Top, Heap, IsWord, word_at, write};
     ghost use Rattle.heap_words.specs.Ranges.{seat_count};
-    ghost use Rattle.pause_words.specs.Full.{now_in};
-    ghost use Rattle.pause_words.specs.Pinned.{lies_in, has_pin, is_pinned};
+    ghost use Rattle.image_graph.specs.Full.{now_in};
+    ghost use Rattle.image_graph.specs.Pinned.{lies_in, has_pin, is_pinned};
     ghost use Rattle.image_graph.specs.State.{config_of, words_of, memory_of, marks_of, found_of, places_of, IsUnchanged, EndsIn, IsSomeSeats};
     ghost use Rattle.image_graph.specs.Left.{StandsForSome, ShowsTheGraph};
 

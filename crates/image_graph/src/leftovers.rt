@@ -4,7 +4,7 @@ ghost use Rattle.std.specs.Prelude.{◌≡◌, ◌+◌, ◌<◌, ◌==◌, ◌&&
 ghost use Rattle.heap_words.specs.Words.{Heap, IsWord, write};
 ghost use Rattle.heap_words.specs.Encoding.{filler_header, object_words};
 ghost use Rattle.regions.specs.Walk.{is_filler, stride_at};
-ghost use Rattle.pause_words.specs.Pinned.{CanFill, filled_in, is_filled_from};
+ghost use Rattle.image_graph.specs.Pinned.{CanFill, filled_in, is_filled_from};
 ghost use Rattle.image_graph.specs.State.{config_of, memory_of, found_of, marks_of, places_of, AreFound};
 ghost use Rattle.image_graph.specs.Leftovers.{is_left_over};
 

@@ -1,8 +1,13 @@
-//! All words of a heap in a pause: the image that a pause works on while no machine of the heap makes a step.
+//! All words of a heap in a pause: the image that a pause works on while no machine of the heap makes a step. And what a pause makes of
+//! these words, by their names, of the buffers of seats, and in a full collection of all: that they represent the same graph afterwards,
+//! and who waits is answered.
 #![tactic(auto)]
 
+pub mod buffer_laws;
 mod buffers;
+pub mod buffers_kept;
 mod found;
+pub mod full_laws;
 mod image;
 mod kept;
 mod leftovers;

@@ -5,7 +5,7 @@ ghost use Rattle.heap_words.specs.Words.{Top, word_at, table_words, heap_size, h
 ghost use Rattle.regions.specs.Tops.{top_before};
 ghost use Rattle.regions.specs.Slide.{IsSlidTo, renewed};
 ghost use Rattle.regions.specs.Table.{word_of, kept_of, now_of, LeadsToKept, CanCompact, IsRenewedBy, IsInTable, from_table};
-ghost use Rattle.pause_words.specs.Pinned.{pinned_set, is_row_pinned};
+ghost use Rattle.image_graph.specs.Pinned.{pinned_set, is_row_pinned};
 ghost use Rattle.regions.specs.Places.{is_shut};
 ghost use Rattle.image_graph.specs.State.{config_of, words_of, memory_of, marks_of, found_of, places_of};
 ghost use Rattle.image_graph.specs.Pack.{IsPacked};

@@ -4,7 +4,7 @@ ghost use Rattle.std.specs.Prelude.{ℕ, ◌≡◌, ◌≢◌, ◌+◌, ◌<◌,
 ghost use Rattle.heap_words.specs.Words.{Cset, Top, Wait};
 ghost use Rattle.heap_words.specs.Encoding.{object_words, request_shape_in};
 ghost use Rattle.regions.specs.ServedRooms.{lowest_room, NoneHasRoom};
-ghost use Rattle.pause_words.specs.Full.{made_in, served, served_in, room_for};
+ghost use Rattle.image_graph.specs.Full.{made_in, served, served_in, room_for};
 ghost use Rattle.image_graph.specs.State.{config_of, memory_of};
 ghost use Rattle.image_graph.specs.Holds.{HoldsSome};
 ghost use Rattle.image_graph.specs.Left.{IsLeft, IsServedGraph, ServingHolds};

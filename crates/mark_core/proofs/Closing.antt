@@ -12,8 +12,8 @@ use Rattle.heap_words.proofs.Stores.{view_none}
 use Rattle.shen_graph.specs.Graph.{Graph}
 use Rattle.heap_graph.specs.Walk.{has}
 use Rattle.heap_world.specs.World.{Plot}
-use Rattle.pause_words.specs.Promised.{Promises}
-use Rattle.pause_words.proofs.Reached.{refs_read}
+use Rattle.image_graph.specs.Promised.{Promises}
+use Rattle.image_graph.proofs.Reached.{refs_read}
 use Rattle.image_graph.specs.Holds.{HoldsBy}
 use Rattle.cycle_words.specs.Marking.Marks.{mark_bits}
 use Rattle.cycle_words.specs.Marking.Close.{IsTraced, traced_in, closed}

@@ -9,7 +9,7 @@ use Rattle.std.proofs.Math.Path.{fun_ext}
 use Rattle.heap_words.specs.declared.config.Config.{Config}
 use Rattle.heap_words.specs.Words.{Word, Free, Top, Tams, Limit, view, write}
 use Rattle.heap_words.proofs.Stores.{view_none}
-use Rattle.pause_words.specs.Pinned.{is_pinned}
+use Rattle.image_graph.specs.Pinned.{is_pinned}
 use Rattle.cycle_words.specs.Marking.Marks.{bits_of}
 use Rattle.cycle_words.specs.Marking.Final.{is_current, has_black, is_dead, freed}
 use Rattle.cycle_words.proofs.Marking.Bits.{one, bits_small}

@@ -7,9 +7,9 @@ use Rattle.heap_words.specs.declared.config.Config.{Config}
 use Rattle.heap_words.specs.Words.{Word, Root, Count, Buffer, Answer, Pin}
 use Rattle.heap_graph.specs.Walk.{with_address, with_addresses}
 use Rattle.heap_graph.proofs.Marks.{with_addresses-push}
-use Rattle.pause_words.specs.Full.{roots_below, answers_below}
-use Rattle.pause_words.specs.Pinned.{pins_below}
-use Rattle.pause_words.proofs.FoundInTurn.{noted_both}
+use Rattle.image_graph.specs.Full.{roots_below, answers_below}
+use Rattle.image_graph.specs.Pinned.{pins_below}
+use Rattle.image_graph.proofs.FoundInTurn.{noted_both}
 use Rattle.cycle_words.specs.Marking.Marks.{is_grey}
 use Rattle.cycle_words.specs.Marking.Close.{greys_below, entries_below}
 

@@ -5,8 +5,8 @@ use Rattle.std.proofs.Math.Path.{fun_ext}
 use Rattle.heap_words.specs.declared.config.Config.{Config}
 use Rattle.heap_words.specs.Ranges.{seat_count}
 use Rattle.heap_words.specs.Words.{Word, Tams, Count, Grey, Black, write}
-use Rattle.pause_words.specs.Edge.{edge}
-use Rattle.pause_words.proofs.Edges.{edges_same}
+use Rattle.image_graph.specs.Edge.{edge}
+use Rattle.image_graph.proofs.Edges.{edges_same}
 use Rattle.cycle_words.specs.Marking.Marks.{mark_bits}
 use Rattle.mark_core.specs.Steps.{greyed, noted, emptied}
 

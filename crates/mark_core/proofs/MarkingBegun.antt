@@ -9,20 +9,20 @@ use Rattle.heap_words.specs.declared.config.Config.{Config}
 use Rattle.heap_words.specs.Words.{Word, Phase, Claim, Ask, Top, Tams, Root, Count, Answer, Pin, Grey, Black, bit_words, view, write}
 use Rattle.heap_words.specs.Ranges.{seat_count}
 use Rattle.heap_words.proofs.Stores.{view_none}
-use Rattle.pause_words.specs.Settled.{buffers_settled}
-use Rattle.pause_words.specs.Edge.{edge}
-use Rattle.pause_words.proofs.Elsewhere.{settled_same}
-use Rattle.pause_words.proofs.Edges.{edges_same, edge_zero}
+use Rattle.image_graph.specs.Settled.{buffers_settled}
+use Rattle.image_graph.specs.Edge.{edge}
+use Rattle.image_graph.proofs.Elsewhere.{settled_same}
+use Rattle.image_graph.proofs.Edges.{edges_same, edge_zero}
 use Rattle.shen_graph.specs.Graph.{Graph}
 use Rattle.heap_graph.specs.Walk.{has, with_addresses}
 use Rattle.heap_graph.proofs.Marks as found
 use Rattle.heap_world.specs.World.{Plot, thing}
 use Rattle.heap_world.proofs.Pointing.{piece_inside}
-use Rattle.pause_words.specs.Held.{IsAmong}
-use Rattle.pause_words.specs.Full.{roots_below, answers_below, root_words, held_words}
-use Rattle.pause_words.specs.Pinned.{pins_below}
-use Rattle.pause_words.specs.Promised.{Promises}
-use Rattle.pause_words.proofs.Roots.{has_either, root_in, answer_in, pin_in, root_among, answer_among, pin_among}
+use Rattle.image_graph.specs.Held.{IsAmong}
+use Rattle.image_graph.specs.Full.{roots_below, answers_below, root_words, held_words}
+use Rattle.image_graph.specs.Pinned.{pins_below}
+use Rattle.image_graph.specs.Promised.{Promises}
+use Rattle.image_graph.proofs.Roots.{has_either, root_in, answer_in, pin_in, root_among, answer_among, pin_among}
 use Rattle.image_graph.specs.Holds.{HoldsBy, HoldsSome}
 use Rattle.cycle_words.specs.Marking.Marks.{mark_bits}
 use Rattle.cycle_words.specs.Marking.Init.{marking_begun}

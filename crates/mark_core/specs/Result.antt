@@ -5,7 +5,7 @@ use Rattle.heap_words.specs.Words.{Word, Free}
 use Rattle.regions.specs.Sets.{IsIn}
 use Rattle.shen_graph.specs.Graph.{Graph}
 use Rattle.heap_world.specs.World.{Plot}
-use Rattle.pause_words.specs.Promised.{Promises}
+use Rattle.image_graph.specs.Promised.{Promises}
 use Rattle.image_graph.specs.Holds.{HoldsBy}
 use Rattle.cycle_words.specs.Marking.WhileMarking.{IsMarking, IsMarkedThrough}
 use Rattle.cycle_words.specs.Marking.Final.{IsDead, freed_block, freed_owner}

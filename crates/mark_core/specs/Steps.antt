@@ -3,7 +3,7 @@ use Rattle.std.specs.Prelude.{ℕ, ◌*◌, ◌%◌, ◌^◌, ◌==◌, ◌&&◌
 use Rattle.std.specs.Int.RustNames.{bit_or}
 use Rattle.heap_words.specs.declared.config.Config.{Config}
 use Rattle.heap_words.specs.Words.{Word, Free, Top, Tams, Limit, Count, Grey, Black}
-use Rattle.pause_words.specs.Edge.{edge}
+use Rattle.image_graph.specs.Edge.{edge}
 use Rattle.cycle_words.specs.Marking.Marks.{bits_of, mark_bits}
 
 -- in so many words of marks exactly a set is grey, and nothing is black

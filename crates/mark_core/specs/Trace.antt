@@ -3,7 +3,7 @@ use Rattle.std.specs.Prelude.{ℕ, ◌≢◌, ◌+◌, ◌<◌, ◌≤◌}
 use Rattle.heap_words.specs.declared.config.Config.{Config}
 use Rattle.heap_words.specs.Words.{Word, Root, Count, Answer, Pin, Heap, IsWord}
 use Rattle.heap_words.specs.Encoding.{refs_in}
-use Rattle.pause_words.specs.Plot.{heap_end}
+use Rattle.image_graph.specs.Plot.{heap_end}
 use Rattle.cycle_words.specs.Marking.Close.{IsTraced}
 
 -- a word is null or an address of the heap

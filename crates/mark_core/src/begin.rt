@@ -4,9 +4,9 @@ ghost use Rattle.std.specs.Prelude.{ℕ, ◌≡◌, ◌<◌, ◌≤◌, [], map}
 ghost use Rattle.std.specs.List.{range_with_len};
 ghost use Rattle.heap_words.specs.Words.{Cset, Root, Answer, Pin};
 ghost use Rattle.heap_graph.specs.Walk.{with_address, with_addresses};
-ghost use Rattle.pause_words.specs.Full.{roots_below, answers_below, held_words};
-ghost use Rattle.pause_words.specs.Pinned.{pins_below};
-ghost use Rattle.pause_words.specs.Buffers.{AreInside};
+ghost use Rattle.image_graph.specs.Full.{roots_below, answers_below, held_words};
+ghost use Rattle.image_graph.specs.Pinned.{pins_below};
+ghost use Rattle.image_graph.specs.SeatBuffers.{AreInside};
 ghost use Rattle.image_graph.specs.State.{config_of, memory_of, found_of, AreFound, IsUnchanged};
 ghost use Rattle.image_graph.specs.Holds.{HoldsSome};
 ghost use Rattle.cycle_words.specs.Marking.Init.{marking_begun, init_marked};

@@ -4,7 +4,7 @@ ghost use Rattle.std.specs.Prelude.{ℕ, ◌≡◌, ◌+◌, ◌*◌, ◌<◌, m
 ghost use Rattle.std.specs.List.{range_with_len};
 ghost use Rattle.heap_words.specs.Words.{Count, Buffer, Heap, IsWord, heap_size};
 ghost use Rattle.heap_graph.specs.Walk.{with_address, with_addresses};
-ghost use Rattle.pause_words.specs.Full.{field_words};
+ghost use Rattle.image_graph.specs.Full.{field_words};
 ghost use Rattle.image_graph.specs.State.{config_of, memory_of, found_of, AreFound, IsUnchanged};
 ghost use Rattle.cycle_words.specs.Marking.Marks as marks;
 ghost use Rattle.cycle_words.specs.Marking.Close.{IsTraced, greys_below, entries_below, open_fields, traced_in};

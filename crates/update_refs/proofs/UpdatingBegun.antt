@@ -7,8 +7,8 @@ use Rattle.heap_words.specs.declared.config.Config.{Config}
 use Rattle.heap_words.specs.Words.{Word, Phase, Evac, Claim, Top, Limit, view, write}
 use Rattle.heap_words.specs.Ranges.{seat_count}
 use Rattle.heap_words.proofs.Stores.{view_none}
-use Rattle.pause_words.specs.Edge.{edge}
-use Rattle.pause_words.proofs.Edges.{edges_same, edge_zero}
+use Rattle.image_graph.specs.Edge.{edge}
+use Rattle.image_graph.proofs.Edges.{edges_same, edge_zero}
 use Rattle.mark_core.proofs.MarkingBegun.{below_and_past}
 use Rattle.cycle_words.specs.Updating.Changes.{is_chosen, updating_begun}
 use Rattle.update_refs.specs.Steps.{limit_in, limited, update_started}

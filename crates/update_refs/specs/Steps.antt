@@ -2,7 +2,7 @@
 use Rattle.std.specs.Prelude.{ℕ, if◌then◌else◌, nat_lt}
 use Rattle.heap_words.specs.declared.config.Config.{Config}
 use Rattle.heap_words.specs.Words.{Word, Phase, Evac, Claim, Limit}
-use Rattle.pause_words.specs.Edge.{edge}
+use Rattle.image_graph.specs.Edge.{edge}
 use Rattle.cycle_words.specs.Updating.Changes.{is_chosen}
 
 -- the limit of a region when updating begins

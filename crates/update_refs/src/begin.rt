@@ -1,7 +1,7 @@
 //! The beginning of updating.
 
 ghost use Rattle.std.specs.Prelude.{◌≡◌, ◌<◌};
-ghost use Rattle.pause_words.specs.Buffers.{AreInside};
+ghost use Rattle.image_graph.specs.SeatBuffers.{AreInside};
 ghost use Rattle.image_graph.specs.State.{config_of, memory_of};
 ghost use Rattle.cycle_words.specs.Updating.Changes.{updating_begun, init_updated};
 ghost use Rattle.cycle_words.specs.StillHolds.{LimitsHold};

@@ -8,9 +8,9 @@ use Rattle.heap_words.specs.declared.config.Config.{Config}
 use Rattle.heap_words.specs.Ranges.{seat_count}
 use Rattle.heap_words.specs.Words.{Word, Phase, Cset, Free, Evac, Claim, Ask, Top, Tams, Limit, Current, Root, Count, Answer, Grey, Black, Heap, Pin}
 use Rattle.heap_graph.specs.Walk.{has}
-use Rattle.pause_words.specs.Settled.{buffers_settled}
-use Rattle.pause_words.specs.Edge.{edge}
-use Rattle.pause_words.proofs.Edges.{edges_same}
+use Rattle.image_graph.specs.Settled.{buffers_settled}
+use Rattle.image_graph.specs.Edge.{edge}
+use Rattle.image_graph.proofs.Edges.{edges_same}
 use Rattle.cycle_words.specs.Marking.Marks.{bits_of, mark_bits}
 use Rattle.cycle_words.specs.Marking.Init.{marking_begun, init_marked}
 use Rattle.cycle_words.specs.Updating.Changes.{is_chosen, updating_begun, init_updated, final_updated}

@@ -6,11 +6,11 @@ use Rattle.heap_words.specs.declared.config.Config.{Config}
 use Rattle.heap_words.specs.Ranges.{seat_count}
 use Rattle.heap_words.specs.Words.{Word, Phase, Root, Count, Buffer, Wait, Answer, Grey, Black, Current, Heap, Share, Pin, write}
 use Rattle.heap_words.specs.Encoding.{filler_header, next_in, end_in}
-use Rattle.pause_words.specs.Buffers.{is_last, filled_over}
-use Rattle.pause_words.specs.Settled.{settled_at, settled_below, buffers_settled}
-use Rattle.pause_words.proofs.OneTurn.{if_at}
-use Rattle.pause_words.proofs.Settling.{turn_other}
-use Rattle.pause_words.proofs.Elsewhere.{settled_same}
+use Rattle.image_graph.specs.SeatBuffers.{is_last, filled_over}
+use Rattle.image_graph.specs.Settled.{settled_at, settled_below, buffers_settled}
+use Rattle.image_graph.proofs.OneTurn.{if_at}
+use Rattle.image_graph.proofs.Settling.{turn_other}
+use Rattle.image_graph.proofs.Elsewhere.{settled_same}
 use Rattle.cycle_words.specs.Updating.Changes.{init_updated, final_updated}
 use Rattle.cycle_pauses.specs.Collect.{is_room_needed, collected}
 use Rattle.cycle_pauses.specs.Brief.{is_off_heap, is_ahead}

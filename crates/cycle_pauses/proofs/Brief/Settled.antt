@@ -8,8 +8,8 @@ use Rattle.heap_words.specs.Words.{Word, Top, Current, Heap, same_word, write}
 use Rattle.heap_words.specs.Encoding.{filler_header, next_in, end_in}
 use Rattle.heap_words.proofs.Stores.{same_word_true}
 use Rattle.regions.specs.Place.{base_of}
-use Rattle.pause_words.specs.Buffers.{buffer_region, filled_over}
-use Rattle.pause_words.specs.Settled.{settled_at, settled_below, buffers_settled}
+use Rattle.image_graph.specs.SeatBuffers.{buffer_region, filled_over}
+use Rattle.image_graph.specs.Settled.{settled_at, settled_below, buffers_settled}
 use Rattle.cycle_pauses.specs.Brief.{IsPartOf, IsMadeOfPart}
 
 -- a word is made where it is written in both alike: it passes the test, or the value is not 0

@@ -12,7 +12,7 @@ use Rattle.heap_words.proofs.Stores.{same_word_true, both_equal}
 use Rattle.regions.specs.Place.{region_with}
 use Rattle.shen_graph.specs.declared.name.Name.{Name}
 use Rattle.shen_graph.specs.Graph.{Graph, Object, Reference}
-use Rattle.pause_words.specs.Full.{now_in}
+use Rattle.image_graph.specs.Full.{now_in}
 use Rattle.heap_world.specs.World.{Block, thing, moved, promised, words_of, Plot, Points, PinStands, name_at, body_of, IsCollected, IsMoved, IsThing}
 use Rattle.heap_world.specs.Asking.{Asking, given, IsPromise, IsAsked}
 use Rattle.heap_world.proofs.Pointing.{named_body, copy_cases, piece_inside}

@@ -10,7 +10,7 @@ use Rattle.heap_words.specs.Encoding.{is_forwarded}
 use Rattle.heap_words.proofs.Stores.{same_word_true, is_word_from}
 use Rattle.regions.specs.Place.{region_with, IsOf}
 use Rattle.regions.proofs.PlaceLemmas.{regions_tile}
-use Rattle.pause_words.specs.Full.{now_in}
+use Rattle.image_graph.specs.Full.{now_in}
 use Rattle.cycle_pauses.proofs.Full.Outside.{IsZeroOutside}
 use Rattle.cycle_words.specs.Marking.Final.{final_marked}
 use Rattle.cycle_words.specs.Evacuation.Live.{words_at}

@@ -20,7 +20,7 @@ use Rattle.heap_world.proofs.Keeping.{usable_now}
 use Rattle.heap_world.proofs.Copies.{counted_none, none_evacuated}
 use Rattle.heap_world.proofs.Unmarked.{none_marked_in}
 use Rattle.heap_world.proofs.Roomless.{only_spares}
-use Rattle.pause_words.proofs.Inside.{buffer_ends, buffer_region_is}
+use Rattle.image_graph.proofs.Inside.{buffer_ends, buffer_region_is}
 use Rattle.image_graph.specs.State.{IsSomeSeats}
 use Rattle.cycle_pauses.specs.Marking.MarkedOut.{IsMarkedOut}
 use Rattle.cycle_words.specs.Evacuation.Live.{IsCandidate}

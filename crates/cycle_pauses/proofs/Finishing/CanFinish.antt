@@ -15,12 +15,12 @@ use Rattle.heap_world.proofs.Copies.{none_is_in}
 use Rattle.heap_world.specs.Asking.{Asking}
 use Rattle.heap_world.specs.Represents.{RepresentsByCopies}
 use Rattle.heap_world.proofs.Pieces.{some_words}
-use Rattle.pause_words.specs.LetGo.{let_go, HasNoBuffers}
-use Rattle.pause_words.proofs.LettingGo.{letting_go_leaves}
-use Rattle.pause_words.proofs.Kept.{letting_go_keeps, none_have_room}
-use Rattle.pause_words.proofs.Inside.{buffers_inside}
+use Rattle.image_graph.specs.LetGo.{let_go, HasNoBuffers}
+use Rattle.image_graph.proofs.LettingGo.{letting_go_leaves}
+use Rattle.image_graph.proofs.Kept.{letting_go_keeps, none_have_room}
+use Rattle.image_graph.proofs.Inside.{buffers_inside}
 use Rattle.image_graph.specs.Holds.{AreSized}
-use Rattle.pause_words.specs.Pinned.{is_pinned, CanFill}
+use Rattle.image_graph.specs.Pinned.{is_pinned, CanFill}
 use Rattle.cycle_words.specs.Updating.Changes.{is_chosen}
 use Rattle.cycle_words.specs.Finishing.Updated.{all_updated, CanUpdateAll}
 use Rattle.cycle_words.specs.Finishing.Copies.{all_copied}

@@ -18,7 +18,7 @@ use Rattle.heap_world.specs.World.{Block, thing, moved, spent, promised, words_o
 use Rattle.heap_world.specs.Asking.{Asking, IsAsked}
 use Rattle.heap_world.proofs.Pointing.{body_piece, copy_cases, piece_inside}
 use Rattle.heap_world.proofs.Keeping.{points_stay}
-use Rattle.pause_words.specs.Pinned.{is_pinned}
+use Rattle.image_graph.specs.Pinned.{is_pinned}
 use Rattle.cycle_words.specs.Marking.Marks.{is_black}
 use Rattle.cycle_words.proofs.Marking.Plain.{below_top}
 use Rattle.cycle_words.specs.Evacuation.Live.{words_at}

@@ -15,7 +15,7 @@ use Rattle.heap_world.specs.Represents.{Represents, RepresentsByCopies}
 use Rattle.heap_world.proofs.Pointing.{piece_inside}
 use Rattle.heap_world.proofs.Copies.{none_in_0}
 use Rattle.heap_world.proofs.Unmarked.{none_marked_in}
-use Rattle.pause_words.specs.Pinned.{is_pinned}
+use Rattle.image_graph.specs.Pinned.{is_pinned}
 use Rattle.cycle_words.specs.Evacuation.Copied.{MayChange}
 use Rattle.cycle_pauses.proofs.Evacuation.PinsKept.{pin_same}
 use Rattle.cycle_pauses.proofs.Full.ByCopies.{by_copies}

@@ -12,17 +12,17 @@ use Rattle.heap_world.specs.World.{Plot}
 use Rattle.heap_world.specs.Asking.{Asking, nothing, asks, refused, given, IsAsked}
 use Rattle.heap_world.specs.Represents.{Represents}
 use Rattle.heap_world.specs.Change.{Answers, IsPaused}
-use Rattle.pause_words.specs.LetGo.{let_go, HasNoBuffers}
-use Rattle.pause_words.proofs.LettingGo.{none_to_let_go, letting_go_leaves}
-use Rattle.pause_words.proofs.Elsewhere.{IsOfBuffers, let_go_same}
+use Rattle.image_graph.specs.LetGo.{let_go, HasNoBuffers}
+use Rattle.image_graph.proofs.LettingGo.{none_to_let_go, letting_go_leaves}
+use Rattle.image_graph.proofs.Elsewhere.{IsOfBuffers, let_go_same}
 use Rattle.cycle_words.specs.Evacuation.Copied.{MayChange}
 use Rattle.cycle_pauses.specs.Updating.Freed.{IsFreed}
-use Rattle.pause_words.proofs.Kept.{letting_go_keeps}
-use Rattle.pause_words.specs.Full.{packed, packed_in, made_in, served_in, room_for, served, full_from, full}
-use Rattle.pause_words.specs.Full as image
-use Rattle.pause_words.proofs.Still.{served_still}
-use Rattle.pause_words.specs.Pinned.{is_pinned, filled_in}
-use Rattle.pause_words.specs.Promised.{Promises}
+use Rattle.image_graph.proofs.Kept.{letting_go_keeps}
+use Rattle.image_graph.specs.Full.{packed, packed_in, made_in, served_in, room_for, served, full_from, full}
+use Rattle.image_graph.specs.Full as image
+use Rattle.image_graph.proofs.Still.{served_still}
+use Rattle.image_graph.specs.Pinned.{is_pinned, filled_in}
+use Rattle.image_graph.specs.Promised.{Promises}
 use Rattle.image_graph.specs.Holds.{HoldsBy, AreSized}
 use Rattle.cycle_pauses.proofs.Full.ByCopies.{by_copies}
 use Rattle.cycle_pauses.proofs.Full.Promises.{promises_of}

@@ -17,11 +17,11 @@ use Rattle.heap_world.specs.Represents.{Represents}
 use Rattle.heap_world.proofs.Copies.{none_in_0, none_is_in, none_evacuated}
 use Rattle.heap_world.proofs.Keeping.{usable_now}
 use Rattle.heap_world.proofs.Unmarked.{none_marked_in}
-use Rattle.pause_words.specs.LetGo.{HasNoBuffers}
-use Rattle.pause_words.proofs.Kept.{none_have_room}
+use Rattle.image_graph.specs.LetGo.{HasNoBuffers}
+use Rattle.image_graph.proofs.Kept.{none_have_room}
 use Rattle.cycle_words.specs.Marking.Marks.{bits_of}
 use Rattle.cycle_pauses.proofs.Evacuation.Asked.{asked_stays}
-use Rattle.pause_words.specs.Pinned.{is_pinned, begins}
+use Rattle.image_graph.specs.Pinned.{is_pinned, begins}
 use Rattle.cycle_pauses.proofs.Evacuation.PinsKept.{pin_same}
 use Rattle.cycle_words.specs.Updating.Changes.{is_chosen}
 use Rattle.cycle_words.specs.Finishing.Updated.{updated_word, is_kept_field, all_updated}

@@ -17,10 +17,10 @@ use Rattle.heap_world.specs.Asking.{Asking}
 use Rattle.heap_world.proofs.Pieces.{some_words, object_reads}
 use Rattle.heap_world.proofs.Unwritten.{blank_stays}
 use Rattle.heap_world.proofs.Copies.{none_is_in, none_in_0}
-use Rattle.pause_words.proofs.Inside.{buffer_region_is}
-use Rattle.pause_words.specs.Pinned.{is_pinned, begins, filled_in}
-use Rattle.pause_words.proofs.Buffers.{SameRoom, rooms_stay, buffers_stay}
-use Rattle.pause_words.proofs.Reached.{none_at_0}
+use Rattle.image_graph.proofs.Inside.{buffer_region_is}
+use Rattle.image_graph.specs.Pinned.{is_pinned, begins, filled_in}
+use Rattle.image_graph.proofs.Buffers.{SameRoom, rooms_stay, buffers_stay}
+use Rattle.image_graph.proofs.Reached.{none_at_0}
 use Rattle.image_graph.specs.Holds.{AreSized}
 use Rattle.image_graph.proofs.Loosening.Loosened.{kind_of}
 use Rattle.image_graph.proofs.Loosening.Resized.{resized_plotted, resized_filled}

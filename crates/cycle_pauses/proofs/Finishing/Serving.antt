@@ -27,11 +27,11 @@ use Rattle.heap_world.proofs.FreeRegions.{free_before}
 use Rattle.heap_world.proofs.Joined as joined
 use Rattle.heap_world.proofs.Joined.{CanJoin}
 use Rattle.heap_world.proofs.Unwritten.{blank_stays}
-use Rattle.pause_words.proofs.Buffers.{SameRoom, rooms_stay, buffers_stay, share_stays}
+use Rattle.image_graph.proofs.Buffers.{SameRoom, rooms_stay, buffers_stay, share_stays}
 use Rattle.std.proofs.lemmas.Option.{none-some}
-use Rattle.pause_words.specs.Full.{made_word, made_in, served_in, room_for, served}
-use Rattle.pause_words.proofs.Made.{outside_fresh}
-use Rattle.pause_words.proofs.Served.{served_first, turn_idle, turn_waits}
+use Rattle.image_graph.specs.Full.{made_word, made_in, served_in, room_for, served}
+use Rattle.image_graph.proofs.Made.{outside_fresh}
+use Rattle.image_graph.proofs.Served.{served_first, turn_idle, turn_waits}
 use Rattle.cycle_pauses.proofs.Full.Holding.{request_reads}
 use Rattle.cycle_pauses.specs.Marking.MarkedOut.{AreUnmoved}
 use Rattle.cycle_pauses.proofs.Evacuation.Asked.{asked_stays}

@@ -16,13 +16,13 @@ use Rattle.heap_world.specs.World.{Block, thing, moved, spent, promised, dead, f
 use Rattle.heap_world.specs.Asking.{Asking, nothing, asks, refused, given, IsAsked}
 use Rattle.heap_world.proofs.Pointing.{named_body, copy_cases, piece_inside}
 use Rattle.heap_world.proofs.Pieces.{some_words}
-use Rattle.pause_words.specs.Full.{now_in}
-use Rattle.pause_words.specs.Pinned.{is_pinned}
+use Rattle.image_graph.specs.Full.{now_in}
+use Rattle.image_graph.specs.Pinned.{is_pinned}
 use Rattle.cycle_words.specs.Evacuation.Begun.{is_collected}
 use Rattle.cycle_words.specs.Finishing.Updated.{updated_word, is_reference, stays, all_updated}
 use Rattle.cycle_words.proofs.Finishing.Fields.{collected_none, word_spared, low_spared, word_renewed, stays_outside, stays_pinned, other_stays, moved_stays, dead_stays, field_updated, gone_stays}
 use Rattle.cycle_pauses.proofs.Evacuation.ClearingInTurn.{plain_is_plain, led_is_forwarded}
-use Rattle.pause_words.proofs.Reached.{refs_read}
+use Rattle.image_graph.proofs.Reached.{refs_read}
 use Rattle.image_graph.specs.Holds.{AreSized}
 use Rattle.cycle_words.proofs.Finishing.Strides.{filler_fills, strides}
 use Rattle.cycle_pauses.proofs.Full.Sizes.{pieces_sized}

@@ -15,10 +15,10 @@ use Rattle.heap_world.proofs.Keeping.{usable_now}
 use Rattle.heap_world.proofs.Copies.{none_in_0, none_evacuated}
 use Rattle.heap_world.proofs.Unmarked.{none_marked}
 use Rattle.heap_world.proofs.Roomless.{rooms_none}
-use Rattle.pause_words.specs.Promised.{Promises, with_promised}
-use Rattle.pause_words.specs.Image.{PinWordStands, ImageStands}
-use Rattle.pause_words.proofs.Named.{thing_at}
-use Rattle.pause_words.proofs.Promised.{same_reference-true}
+use Rattle.image_graph.specs.Promised.{Promises, with_promised}
+use Rattle.image_graph.specs.Image.{PinWordStands, ImageStands}
+use Rattle.image_graph.proofs.Named.{thing_at}
+use Rattle.image_graph.proofs.Promised.{same_reference-true}
 use Rattle.cycle_words.proofs.Marking.Trimmed.{object_stands}
 use Rattle.cycle_pauses.proofs.Full.Mapped.{mapped, mapped_at, mapped_from, plotted_alike, filled_alike}
 

@@ -10,16 +10,16 @@ use Rattle.heap_world.specs.World.{no_ghost, hand, carved}
 use Rattle.heap_world.specs.Asking.{Asking, nothing, asks, refused, given, IsAsked}
 use Rattle.heap_world.specs.Represents.{Represents, RepresentsByCopies}
 use Rattle.heap_world.specs.Change.{Answers}
-use Rattle.pause_words.specs.LetGo.{HasNoBuffers}
-use Rattle.pause_words.specs.Full.{packed_in, full_from}
-use Rattle.pause_words.specs.Promised.{Promises}
-use Rattle.pause_words.specs.Serving.{served_promises}
+use Rattle.image_graph.specs.LetGo.{HasNoBuffers}
+use Rattle.image_graph.specs.Full.{packed_in, full_from}
+use Rattle.image_graph.specs.Promised.{Promises}
+use Rattle.image_graph.specs.Serving.{served_promises}
 use Rattle.cycle_pauses.proofs.Full.Promises.{promised_ref, promised_refs, promised_nums, promises_of, ref_of, refs_of, nums_of}
 use Rattle.cycle_pauses.proofs.Full.Holding.{request_reads, waits_for}
-use Rattle.pause_words.proofs.Turned.{SamePromise, IsPromisedAsAsked, promise_after}
+use Rattle.image_graph.proofs.Turned.{SamePromise, IsPromisedAsAsked, promise_after}
 use Rattle.cycle_pauses.proofs.Full.After.{gone, no_room, shared_facts, roots_left, roots_usable}
 use Rattle.cycle_pauses.proofs.Full.Made.{promised_if_some, some_if_promised, no_promise, promise}
-use Rattle.pause_words.proofs.Still.{full_phase, full_cset, full_evac, full_current, full_share, full_wait, packed_wait}
+use Rattle.image_graph.proofs.Still.{full_phase, full_cset, full_evac, full_current, full_share, full_wait, packed_wait}
 use Rattle.cycle_pauses.proofs.Full.Paused.{then_of, packed_answer, asked_then, plot, is_after, plot_then, answer_left, answer_found}
 
 -- an asking is answered as it should be

@@ -18,9 +18,9 @@ use Rattle.heap_world.proofs.Pointing.{named_body, copy_cases}
 use Rattle.heap_world.proofs.Pieces.{some_words, object_reads}
 use Rattle.heap_world.proofs.Keeping.{points_stay}
 use Rattle.heap_world.proofs.NewObject.{new_object}
-use Rattle.pause_words.specs.Promised.{Promises, with_promised}
-use Rattle.pause_words.specs.Image.{AnswerStands, PinWordStands, RootsStand}
-use Rattle.pause_words.proofs.Promised.{same_reference-true}
+use Rattle.image_graph.specs.Promised.{Promises, with_promised}
+use Rattle.image_graph.specs.Image.{AnswerStands, PinWordStands, RootsStand}
+use Rattle.image_graph.proofs.Promised.{same_reference-true}
 use Rattle.cycle_pauses.proofs.Full.Promises.{promised_ref, promised_refs, promised_nums, promises_of, ref_of, refs_of, nums_of, promised_one}
 use Rattle.cycle_pauses.proofs.Full.Mapped.{mapped, mapped_at, mapped_from, plotted_alike, filled_alike}
 

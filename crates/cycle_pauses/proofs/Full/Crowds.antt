@@ -13,15 +13,15 @@ use Rattle.shen_graph.specs.Graph.{Graph}
 use Rattle.heap_world.specs.Asking.{Asking, nothing, asks, refused, given, IsRequest, IsAsked}
 use Rattle.heap_world.specs.Change.{words_given, IsCrowded}
 use Rattle.heap_world.specs.Represents.{RepresentsByCopies}
-use Rattle.pause_words.specs.Full.{packed_in, asked_in, full_from}
-use Rattle.pause_words.specs.Promised.{Promises, words_if, promised_words}
-use Rattle.pause_words.specs.Served.{tops_at_turn, given_in}
-use Rattle.pause_words.proofs.Served.{tops_are_served, requests_are_answered}
-use Rattle.pause_words.proofs.Crowded.{full_is_crowded}
+use Rattle.image_graph.specs.Full.{packed_in, asked_in, full_from}
+use Rattle.image_graph.specs.Promised.{Promises, words_if, promised_words}
+use Rattle.image_graph.specs.Served.{tops_at_turn, given_in}
+use Rattle.image_graph.proofs.Served.{tops_are_served, requests_are_answered}
+use Rattle.image_graph.proofs.Crowded.{full_is_crowded}
 use Rattle.cycle_pauses.proofs.Full.Promises.{promised_ref, promised_refs, promised_nums, promises_of, ref_of, refs_of, nums_of}
 use Rattle.cycle_pauses.proofs.Full.Before.{live}
 use Rattle.cycle_pauses.proofs.Full.Holding.{request_reads, waits_for, are_fresh, holds_by}
-use Rattle.pause_words.proofs.Still.{packed_wait}
+use Rattle.image_graph.proofs.Still.{packed_wait}
 use Rattle.cycle_pauses.proofs.Full.Paused.{then_of, asked_then}
 use Rattle.cycle_pauses.proofs.Full.Reached.{reach_list}
 use Rattle.cycle_pauses.proofs.Full.PinnedOnes.{held_ones, pinned_ones}

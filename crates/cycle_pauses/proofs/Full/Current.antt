@@ -14,12 +14,12 @@ use Rattle.heap_world.specs.World.{Block, thing, moved, spent, promised, dead, P
 use Rattle.heap_world.specs.Asking.{Asking}
 use Rattle.heap_world.specs.Represents.{RepresentsByCopies}
 use Rattle.heap_world.proofs.Pointing.{named_body, named_piece, named_if_not_0, copy_cases}
-use Rattle.pause_words.specs.Held.{IsLedTo, from_root, from_field, IsAmong, IsCopy, HoldsGraph}
-use Rattle.pause_words.specs.Full.{now_in, held_words}
-use Rattle.pause_words.specs.Promised.{Promises, with_promised}
-use Rattle.pause_words.proofs.Reached.{named_object, refs_read}
-use Rattle.pause_words.proofs.Roots.{root_named, root_held}
-use Rattle.pause_words.proofs.ImagesStand.{own_copy}
+use Rattle.image_graph.specs.Held.{IsLedTo, from_root, from_field, IsAmong, IsCopy, HoldsGraph}
+use Rattle.image_graph.specs.Full.{now_in, held_words}
+use Rattle.image_graph.specs.Promised.{Promises, with_promised}
+use Rattle.image_graph.proofs.Reached.{named_object, refs_read}
+use Rattle.image_graph.proofs.Roots.{root_named, root_held}
+use Rattle.image_graph.proofs.ImagesStand.{own_copy}
 use Rattle.cycle_pauses.proofs.Full.Promises.{promises_of}
 use Rattle.cycle_pauses.proofs.Full.Mapped.{mapped_from}
 use Rattle.cycle_pauses.proofs.Full.Before.{as_current, as_object, OnlyFills, fills_still, fills_unnamed, live, live_at, pieces_are, names_stay, promised_at, object_at, once_each, pinned_thing, live_rooted, live_plotted}

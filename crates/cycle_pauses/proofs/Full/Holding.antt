@@ -17,9 +17,9 @@ use Rattle.heap_world.specs.World.{Block, thing, moved, spent, promised, words_o
 use Rattle.heap_world.proofs.Pointing.{copy_cases, piece_inside}
 use Rattle.heap_world.specs.Asking.{Asking, nothing, asks, refused, given, IsRequest, IsAsked}
 use Rattle.heap_world.specs.Represents.{RepresentsByCopies}
-use Rattle.pause_words.specs.Full.{now_in}
-use Rattle.pause_words.specs.Promised.{Promises, AreFresh}
-use Rattle.pause_words.specs.Serving.{asked_shape, asked_name, IsAsking}
+use Rattle.image_graph.specs.Full.{now_in}
+use Rattle.image_graph.specs.Promised.{Promises, AreFresh}
+use Rattle.image_graph.specs.Serving.{asked_shape, asked_name, IsAsking}
 use Rattle.image_graph.specs.Holds.{HasMoved, HoldsBy, HoldsSome, HoldsSized, AreSized, HasObject}
 use Rattle.cycle_words.specs.Marking.Marks.{IsKept}
 use Rattle.cycle_words.specs.StillHolds.{AreMarkedObjects, WhileCollecting}

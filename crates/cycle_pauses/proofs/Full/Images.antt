@@ -15,18 +15,18 @@ use Rattle.heap_words.proofs.Rows.{word_inside, is_image-word_at}
 use Rattle.heap_words.proofs.Stores.{is_word_true, view_word, view_none}
 use Rattle.heap_world.specs.Change.{image_words, image_view}
 use Rattle.shen_graph.specs.Graph.{Graph}
-use Rattle.pause_words.specs.Held.{IsAmong}
-use Rattle.pause_words.specs.Full.{now_in, held_words, kept_in, packed, made_in, refused, full_from, full}
-use Rattle.pause_words.specs.Promised.{with_promised}
-use Rattle.pause_words.proofs.Reached.{can_pack}
-use Rattle.pause_words.proofs.Origin.{kept_inside, lie_apart}
-use Rattle.pause_words.proofs.Walked.{walk_keeps}
+use Rattle.image_graph.specs.Held.{IsAmong}
+use Rattle.image_graph.specs.Full.{now_in, held_words, kept_in, packed, made_in, refused, full_from, full}
+use Rattle.image_graph.specs.Promised.{with_promised}
+use Rattle.image_graph.proofs.Reached.{can_pack}
+use Rattle.image_graph.proofs.Origin.{kept_inside, lie_apart}
+use Rattle.image_graph.proofs.Walked.{walk_keeps}
 use Rattle.image_graph.specs.Holds.{Holds, HoldsSome}
 use Rattle.cycle_pauses.specs.Full.Image.{words_of_image, full_image}
-use Rattle.pause_words.proofs.Still.{full_still}
-use Rattle.pause_words.proofs.Inside.{buffers_inside}
-use Rattle.pause_words.specs.LetGo.{let_go}
-use Rattle.pause_words.proofs.Elsewhere.{IsOfBuffers, let_go_same}
+use Rattle.image_graph.proofs.Still.{full_still}
+use Rattle.image_graph.proofs.Inside.{buffers_inside}
+use Rattle.image_graph.specs.LetGo.{let_go}
+use Rattle.image_graph.proofs.Elsewhere.{IsOfBuffers, let_go_same}
 use Rattle.image_graph.proofs.Loosening.Laws.{letting_go_holds}
 use Rattle.image_graph.specs.Buffers.{HasNoMoreSeats}
 use Rattle.cycle_pauses.proofs.Full.Outside.{IsZeroOutside, full_outside}

@@ -9,11 +9,11 @@ use Rattle.heap_words.specs.Encoding.{filler_header, next_in, end_in}
 use Rattle.heap_words.specs.Words.{Word, Top, Current, Heap, is_word, same_word, write}
 use Rattle.heap_words.proofs.Stores.{same_word_true}
 use Rattle.regions.specs.Place.{base_of}
-use Rattle.pause_words.specs.Buffers.{buffer_region, is_last, filled_over, IsInside, AreInside}
-use Rattle.pause_words.specs.Settled.{settled_at, settled_below, buffers_settled}
-use Rattle.pause_words.specs.LetGo.{given_back, let_go_at, let_go_below, let_go}
-use Rattle.pause_words.proofs.Settling as settling
-use Rattle.pause_words.proofs.LettingGo as letting_go
+use Rattle.image_graph.specs.SeatBuffers.{buffer_region, is_last, filled_over, IsInside, AreInside}
+use Rattle.image_graph.specs.Settled.{settled_at, settled_below, buffers_settled}
+use Rattle.image_graph.specs.LetGo.{given_back, let_go_at, let_go_below, let_go}
+use Rattle.image_graph.proofs.Settling as settling
+use Rattle.image_graph.proofs.LettingGo as letting_go
 use Rattle.cycle_pauses.proofs.Full.Outside.{IsZeroOutside}
 
 -- a word of the table is written

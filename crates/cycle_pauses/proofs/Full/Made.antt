@@ -12,8 +12,8 @@ use Rattle.shen_graph.specs.Graph.{Graph, Object, Reference, blank, fresh, same_
 use Rattle.shen_graph.proofs.PlainLemmas.{same_name-itself}
 use Rattle.heap_world.specs.World.{thing, promised, Plot, name_at, IsThing}
 use Rattle.heap_world.specs.Asking.{HasNoPromise, IsPromise}
-use Rattle.pause_words.proofs.Named.{thing_at}
-use Rattle.pause_words.specs.Promised.{Promises, with_promised}
+use Rattle.image_graph.proofs.Named.{thing_at}
+use Rattle.image_graph.specs.Promised.{Promises, with_promised}
 use Rattle.cycle_pauses.proofs.Full.Mapped.{mapped_at}
 use Rattle.cycle_pauses.proofs.Full.After.{is_promised, as_promised, IsAfter, IsPromisedThing, replicate_at, taken, gone}
 

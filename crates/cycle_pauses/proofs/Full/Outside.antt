@@ -16,11 +16,11 @@ use Rattle.regions.proofs.Tops.{added, place_in_range}
 use Rattle.regions.proofs.ServedRooms.{has_room}
 use Rattle.regions.specs.Slide.{renewed, is_covered, slid_word, slid}
 use Rattle.regions.proofs.Slid.{slid_next, slid_none, covered_here}
-use Rattle.pause_words.specs.Plot.{heap_end, packed_top}
-use Rattle.pause_words.specs.Pinned.{is_row_pinned, object_of, is_in_use, begins}
-use Rattle.pause_words.specs.Full.{packed_in, now_in, kept_in, place_in, is_unkept, moved_heap, packed, made_in, served_in, room_for, served, refused, full_from}
-use Rattle.pause_words.proofs.Made.{outside_fresh}
-use Rattle.pause_words.proofs.Served.{served_first, turn_idle, turn_waits}
+use Rattle.image_graph.specs.Plot.{heap_end, packed_top}
+use Rattle.image_graph.specs.Pinned.{is_row_pinned, object_of, is_in_use, begins}
+use Rattle.image_graph.specs.Full.{packed_in, now_in, kept_in, place_in, is_unkept, moved_heap, packed, made_in, served_in, room_for, served, refused, full_from}
+use Rattle.image_graph.proofs.Made.{outside_fresh}
+use Rattle.image_graph.proofs.Served.{served_first, turn_idle, turn_waits}
 
 -- all that is no word of the table reads 0
 abbrev pub IsZeroOutside : Config → (Word → ℕ) → Type 0

@@ -8,36 +8,36 @@ use Rattle.heap_words.specs.declared.config.Config.{Config}
 use Rattle.heap_words.specs.Words.{Word, Top, Wait, Answer, Heap}
 use Rattle.heap_words.specs.Encoding.{request_count_in}
 use Rattle.regions.specs.ServedRooms.{NoneHasRoom, IsLowestRoom}
-use Rattle.pause_words.specs.LetGo.{HasNoBuffers}
-use Rattle.pause_words.proofs.Kept.{none_have_room}
+use Rattle.image_graph.specs.LetGo.{HasNoBuffers}
+use Rattle.image_graph.proofs.Kept.{none_have_room}
 use Rattle.shen_graph.specs.declared.name.Name.{Name}
 use Rattle.shen_graph.specs.Graph.{Graph, Object, fresh}
 use Rattle.shen_graph.specs.Reach as reach
 use Rattle.heap_world.specs.World.{thing, promised, HasNoRoom, Plot, name_at}
 use Rattle.heap_world.specs.Asking.{Asking, nothing, asks, refused, given}
 use Rattle.heap_world.specs.Represents.{RepresentsByCopies}
-use Rattle.pause_words.specs.Held.{IsLedTo, IsAmong, AreHeldKept}
-use Rattle.pause_words.specs.Pack.{CanPack}
-use Rattle.pause_words.specs.Pinned.{is_row_pinned}
-use Rattle.pause_words.specs.Plot.{AreParsed, packed_block}
-use Rattle.pause_words.specs.Full.{packed_in, now_in, held_words, kept_in, place_in, asked_in, packed, full_from}
-use Rattle.pause_words.specs.Promised.{Promises, with_promised}
-use Rattle.pause_words.specs.Image.{ImageStands}
-use Rattle.pause_words.specs.Serving.{asked_name, served_block, served_promises}
-use Rattle.pause_words.specs.Served.{tops_at_turn}
-use Rattle.pause_words.proofs.Reached.{can_pack}
-use Rattle.pause_words.proofs.Origin.{IsFrom, IsLeft, block_from}
+use Rattle.image_graph.specs.Held.{IsLedTo, IsAmong, AreHeldKept}
+use Rattle.image_graph.specs.Packing.{CanPack}
+use Rattle.image_graph.specs.Pinned.{is_row_pinned}
+use Rattle.image_graph.specs.Plot.{AreParsed, packed_block}
+use Rattle.image_graph.specs.Full.{packed_in, now_in, held_words, kept_in, place_in, asked_in, packed, full_from}
+use Rattle.image_graph.specs.Promised.{Promises, with_promised}
+use Rattle.image_graph.specs.Image.{ImageStands}
+use Rattle.image_graph.specs.Serving.{asked_name, served_block, served_promises}
+use Rattle.image_graph.specs.Served.{tops_at_turn}
+use Rattle.image_graph.proofs.Reached.{can_pack}
+use Rattle.image_graph.proofs.Origin.{IsFrom, IsLeft, block_from}
 use Rattle.cycle_words.proofs.Finishing.Strides.{strides}
-use Rattle.pause_words.proofs.Served.{requests_are_answered}
-use Rattle.pause_words.proofs.Serving.{full_stands}
-use Rattle.pause_words.proofs.Walked.{walk_keeps}
+use Rattle.image_graph.proofs.Served.{requests_are_answered}
+use Rattle.image_graph.proofs.Serving.{full_stands}
+use Rattle.image_graph.proofs.Walked.{walk_keeps}
 use Rattle.cycle_pauses.proofs.Full.Promises.{promises_of, promised_one}
 use Rattle.cycle_pauses.proofs.Full.Before.{live, not_next, current_kind, pinned_thing, live_room}
 use Rattle.cycle_pauses.proofs.Full.Current.{held_current, has_current, reached_at}
 use Rattle.cycle_pauses.proofs.Full.Holding.{next_asked, holds_by, are_sized}
-use Rattle.pause_words.proofs.Turned.{SamePromise, IsPromisedAsAsked, promise_after, piece_after}
+use Rattle.image_graph.proofs.Turned.{SamePromise, IsPromisedAsAsked, promise_after, piece_after}
 use Rattle.cycle_pauses.proofs.Full.After.{IsKnown, IsAfter, taken}
-use Rattle.pause_words.proofs.Still.{packed_wait}
+use Rattle.image_graph.proofs.Still.{packed_wait}
 
 -- what a mutator that asked has been answered
 abbrev pub then_of : Asking → (answer : ℕ) → Asking

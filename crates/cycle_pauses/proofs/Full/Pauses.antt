@@ -7,12 +7,12 @@ use Rattle.shen_graph.specs.Graph.{Graph}
 use Rattle.heap_world.specs.Asking.{Asking}
 use Rattle.heap_world.specs.Change.{image_view, IsPaused}
 use Rattle.heap_world.specs.Represents.{RepresentsByCopies}
-use Rattle.pause_words.specs.LetGo.{let_go, HasNoBuffers}
-use Rattle.pause_words.proofs.LettingGo.{letting_go_leaves}
-use Rattle.pause_words.proofs.Refitted.{currents_of}
-use Rattle.pause_words.proofs.Trimmed.{trim, trimmed_none}
-use Rattle.pause_words.proofs.Kept.{trimmed_copies}
-use Rattle.pause_words.specs.Full.{moved_heap, packed, packed_in, served, refused, full_from, full}
+use Rattle.image_graph.specs.LetGo.{let_go, HasNoBuffers}
+use Rattle.image_graph.proofs.LettingGo.{letting_go_leaves}
+use Rattle.image_graph.proofs.Refitted.{currents_of}
+use Rattle.image_graph.proofs.Trimmed.{trim, trimmed_none}
+use Rattle.image_graph.proofs.Kept.{trimmed_copies}
+use Rattle.image_graph.specs.Full.{moved_heap, packed, packed_in, served, refused, full_from, full}
 use Rattle.cycle_pauses.specs.Full.Laws.{RepresentingHolds, ImageIsFull, TableIsFull, FullFromCopies, FullIsPause}
 use Rattle.cycle_pauses.proofs.Full.ByCopies.{by_copies}
 use Rattle.cycle_pauses.proofs.Full.Holding.{holds_some, holds_sized}

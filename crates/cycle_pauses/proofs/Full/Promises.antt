@@ -7,7 +7,7 @@ use Rattle.heap_words.specs.declared.config.Config.{Config}
 use Rattle.shen_graph.specs.declared.name.Name.{Name}
 use Rattle.shen_graph.specs.Graph.{Graph, Reference, fresh}
 use Rattle.heap_world.specs.Asking.{Asking, nothing, asks, refused, given}
-use Rattle.pause_words.specs.Promised.{Promises}
+use Rattle.image_graph.specs.Promised.{Promises}
 
 -- the reference and the sizes that a thread is promised with an asking
 abbrev pub promised_ref : Graph → (thread : ℕ) → Asking → Reference

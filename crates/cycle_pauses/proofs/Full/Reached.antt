@@ -16,13 +16,13 @@ use Rattle.heap_graph.specs.Walk.{has}
 use Rattle.heap_world.specs.World.{thing, promised, Plot, name_at}
 use Rattle.heap_world.specs.Asking.{Asking}
 use Rattle.heap_world.specs.Represents.{RepresentsByCopies}
-use Rattle.pause_words.specs.Held.{IsLedTo, IsAmong, HoldsGraph}
-use Rattle.pause_words.specs.Full.{now_in, held_words, held_in}
-use Rattle.pause_words.specs.Promised.{Promises, with_promised}
-use Rattle.pause_words.proofs.Reached.{held_is_reached, reached_is_held}
-use Rattle.pause_words.proofs.Walked.{found_is_held, held_is_found}
-use Rattle.pause_words.proofs.Promised.{old_object, reaches_promised}
-use Rattle.pause_words.proofs.Rooted.{plain_root, pin_root}
+use Rattle.image_graph.specs.Held.{IsLedTo, IsAmong, HoldsGraph}
+use Rattle.image_graph.specs.Full.{now_in, held_words, held_in}
+use Rattle.image_graph.specs.Promised.{Promises, with_promised}
+use Rattle.image_graph.proofs.Reached.{held_is_reached, reached_is_held}
+use Rattle.image_graph.proofs.Walked.{found_is_held, held_is_found}
+use Rattle.image_graph.proofs.Promised.{old_object, reaches_promised}
+use Rattle.image_graph.proofs.Rooted.{plain_root, pin_root}
 use Rattle.cycle_pauses.proofs.Full.Sorted.{sorted_names}
 use Rattle.cycle_pauses.proofs.Full.Promises.{promises_of, promised_one}
 use Rattle.cycle_pauses.proofs.Full.Before.{live, live_rooted, names_stay, current_kind, names_differ, slot_of}

@@ -8,7 +8,7 @@ use Rattle.regions.specs.Walk.{is_filler}
 use Rattle.shen_graph.specs.declared.name.Name.{Name}
 use Rattle.shen_graph.specs.Graph.{Object}
 use Rattle.heap_world.specs.World.{Block, thing, moved, spent, promised, dead, words_of, is_loose, Plot, AreObjects, AreUnwritten, HaveMoved}
-use Rattle.pause_words.proofs.Reached.{words_read}
+use Rattle.image_graph.proofs.Reached.{words_read}
 use Rattle.image_graph.specs.Holds.{AreSized}
 
 -- a header that leads on is not one of words that only fill

@@ -12,14 +12,14 @@ use Rattle.heap_world.specs.Asking.{Asking, asks, given, IsAsked}
 use Rattle.heap_world.specs.Represents.{Represents, RepresentsByCopies}
 use Rattle.heap_world.proofs.Keeping.{usable_now}
 use Rattle.heap_world.proofs.Copies.{none_evacuated}
-use Rattle.pause_words.specs.Edge.{edge}
-use Rattle.pause_words.specs.Divided.{AreDivided}
-use Rattle.pause_words.proofs.Buffers.{SameRoom, rooms_stay, buffers_stay}
-use Rattle.pause_words.specs.Held.{IsAmong}
-use Rattle.pause_words.specs.Full.{held_words, held_in}
-use Rattle.pause_words.specs.Promised.{Promises}
-use Rattle.pause_words.proofs.Reached.{none_at_0, refs_read, words_read}
-use Rattle.pause_words.proofs.Roots.{root_among, answer_among, pin_among}
+use Rattle.image_graph.specs.Edge.{edge}
+use Rattle.image_graph.specs.Divided.{AreDivided}
+use Rattle.image_graph.proofs.Buffers.{SameRoom, rooms_stay, buffers_stay}
+use Rattle.image_graph.specs.Held.{IsAmong}
+use Rattle.image_graph.specs.Full.{held_words, held_in}
+use Rattle.image_graph.specs.Promised.{Promises}
+use Rattle.image_graph.proofs.Reached.{none_at_0, refs_read, words_read}
+use Rattle.image_graph.proofs.Roots.{root_among, answer_among, pin_among}
 use Rattle.image_graph.specs.Holds.{HoldsBy}
 use Rattle.cycle_pauses.proofs.Full.ByCopies.{by_copies}
 use Rattle.cycle_pauses.proofs.Full.Promises.{promises_of}

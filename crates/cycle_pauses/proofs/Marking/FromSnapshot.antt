@@ -14,7 +14,7 @@ use Rattle.heap_world.specs.Represents.{Represents, RepresentsByCopies}
 use Rattle.heap_world.proofs.Pointing.{piece_inside, named_thing}
 use Rattle.heap_world.proofs.Pieces.{some_words}
 use Rattle.heap_world.proofs.Copies.{none_in_0}
-use Rattle.pause_words.specs.Promised.{with_promised}
+use Rattle.image_graph.specs.Promised.{with_promised}
 use Rattle.image_graph.specs.Holds.{HoldsBy}
 use Rattle.cycle_pauses.proofs.Full.ByCopies.{by_copies}
 use Rattle.cycle_pauses.proofs.Full.Promises.{promises_of}

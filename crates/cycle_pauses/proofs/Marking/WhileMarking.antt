@@ -7,11 +7,11 @@ use Rattle.heap_world.specs.World.{Plot}
 use Rattle.heap_world.specs.Asking.{Asking}
 use Rattle.heap_world.specs.Represents.{Represents}
 use Rattle.heap_words.specs.Ranges.{seat_count}
-use Rattle.pause_words.specs.Settled.{buffers_settled}
-use Rattle.pause_words.proofs.Settling.{settling_leaves}
-use Rattle.pause_words.proofs.Elsewhere.{settled_same}
-use Rattle.pause_words.proofs.Kept.{settling_keeps, edges_divide}
-use Rattle.pause_words.specs.Promised.{Promises}
+use Rattle.image_graph.specs.Settled.{buffers_settled}
+use Rattle.image_graph.proofs.Settling.{settling_leaves}
+use Rattle.image_graph.proofs.Elsewhere.{settled_same}
+use Rattle.image_graph.proofs.Kept.{settling_keeps, edges_divide}
+use Rattle.image_graph.specs.Promised.{Promises}
 use Rattle.cycle_pauses.proofs.Full.ByCopies.{by_copies}
 use Rattle.cycle_pauses.proofs.Full.Promises.{promises_of}
 use Rattle.cycle_pauses.proofs.Full.Before.{live}

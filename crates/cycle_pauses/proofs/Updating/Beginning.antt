@@ -18,12 +18,12 @@ use Rattle.heap_world.proofs.Pins.{pins_stay}
 use Rattle.heap_world.proofs.Unmarked.{none_marked_in}
 use Rattle.heap_world.proofs.Units.{none_is_left}
 use Rattle.heap_words.specs.Ranges.{seat_count}
-use Rattle.pause_words.specs.Settled.{buffers_settled}
-use Rattle.pause_words.specs.Edge.{edge}
-use Rattle.pause_words.proofs.Settling.{settling_leaves}
-use Rattle.pause_words.proofs.Elsewhere.{IsOfBuffers, settled_same}
-use Rattle.pause_words.specs.Divided.{AreDivided}
-use Rattle.pause_words.proofs.Kept.{settling_keeps, edges_divide}
+use Rattle.image_graph.specs.Settled.{buffers_settled}
+use Rattle.image_graph.specs.Edge.{edge}
+use Rattle.image_graph.proofs.Settling.{settling_leaves}
+use Rattle.image_graph.proofs.Elsewhere.{IsOfBuffers, settled_same}
+use Rattle.image_graph.specs.Divided.{AreDivided}
+use Rattle.image_graph.proofs.Kept.{settling_keeps, edges_divide}
 use Rattle.cycle_pauses.proofs.Full.ByCopies.{by_copies}
 use Rattle.cycle_pauses.proofs.Evacuation.Asked.{asked_stays}
 use Rattle.cycle_words.specs.Updating.Changes.{is_chosen, updating_begun}

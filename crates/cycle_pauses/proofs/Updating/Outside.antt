@@ -3,9 +3,9 @@ use Rattle.std.proofs.Common.{ℕ, refl}
 use Rattle.std.proofs.lemmas.Bool.{true≢false}
 use Rattle.heap_words.specs.declared.config.Config.{Config}
 use Rattle.heap_words.specs.Words.{Word, Phase, Cset, Evac, Claim, Top, Limit}
-use Rattle.pause_words.specs.Buffers.{AreInside}
-use Rattle.pause_words.specs.Settled.{buffers_settled}
-use Rattle.pause_words.specs.Edge.{edge}
+use Rattle.image_graph.specs.SeatBuffers.{AreInside}
+use Rattle.image_graph.specs.Settled.{buffers_settled}
+use Rattle.image_graph.specs.Edge.{edge}
 use Rattle.cycle_pauses.proofs.Full.Outside.{IsZeroOutside}
 use Rattle.cycle_pauses.proofs.Full.LettingGoFirst.{settled_outside}
 use Rattle.cycle_words.specs.Marking.Final.{freed}

@@ -12,7 +12,7 @@ use Rattle.shen_graph.specs.Graph.{Graph}
 use Rattle.heap_world.specs.World.{PinStands}
 use Rattle.heap_world.specs.Asking.{Asking}
 use Rattle.heap_world.specs.Represents.{Represents}
-use Rattle.pause_words.specs.Pinned.{lies_in, has_pin, is_pinned}
+use Rattle.image_graph.specs.Pinned.{lies_in, has_pin, is_pinned}
 use Rattle.cycle_words.specs.Updating.Changes.{final_updated}
 use Rattle.cycle_words.proofs.Marking.Ranges.{any_is}
 use Rattle.cycle_words.proofs.Pinned.{same_pinned}

@@ -5,7 +5,7 @@ use Rattle.heap_words.specs.Words.{Word, Phase, Cset}
 use Rattle.shen_graph.specs.declared.name.Name.{Name}
 use Rattle.shen_graph.specs.Graph.{Graph}
 use Rattle.regions.specs.Place.{region_with}
-use Rattle.pause_words.specs.Pinned.{is_pinned}
+use Rattle.image_graph.specs.Pinned.{is_pinned}
 use Rattle.heap_world.specs.World.{thing, IsCollected}
 use Rattle.heap_world.specs.Asking.{Asking}
 use Rattle.heap_world.specs.Represents.{Represents, RepresentsByCopies}

@@ -8,10 +8,10 @@ use Rattle.heap_world.specs.World.{Plot}
 use Rattle.heap_world.specs.Asking.{Asking, asks, given}
 use Rattle.heap_world.specs.Represents.{Represents}
 use Rattle.heap_world.specs.Change.{IsPaused}
-use Rattle.pause_words.specs.LetGo.{let_go}
-use Rattle.pause_words.specs.Full.{full}
-use Rattle.pause_words.specs.Pinned.{is_pinned}
-use Rattle.pause_words.specs.Promised.{Promises}
+use Rattle.image_graph.specs.LetGo.{let_go}
+use Rattle.image_graph.specs.Full.{full}
+use Rattle.image_graph.specs.Pinned.{is_pinned}
+use Rattle.image_graph.specs.Promised.{Promises}
 use Rattle.image_graph.specs.Holds.{HoldsBy, AreSized}
 use Rattle.image_graph.specs.Buffers.{HasNoMoreSeats}
 use Rattle.cycle_pauses.specs.Updating.Freed.{IsFreed}

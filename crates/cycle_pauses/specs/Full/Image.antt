@@ -5,7 +5,7 @@ use Rattle.heap_words.specs.declared.config.Config.{Config}
 use Rattle.heap_words.specs.Words.{Word, image_start}
 use Rattle.heap_words.specs.Rows.{name_of}
 use Rattle.heap_world.specs.Change.{Change, image_words, image_view}
-use Rattle.pause_words.specs.Full.{full}
+use Rattle.image_graph.specs.Full.{full}
 
 -- the words of the image in a memory, in the order of their places
 abbrev pub words_of_image : Config → (Word → ℕ) → List ℕ

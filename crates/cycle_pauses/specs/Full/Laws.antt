@@ -7,8 +7,8 @@ use Rattle.heap_world.specs.World.{Plot}
 use Rattle.heap_world.specs.Asking.{Asking}
 use Rattle.heap_world.specs.Represents.{Represents, RepresentsByCopies}
 use Rattle.heap_world.specs.Change.{image_words, image_view, IsPaused, IsPause}
-use Rattle.pause_words.specs.Full.{full}
-use Rattle.pause_words.specs.Promised.{Promises}
+use Rattle.image_graph.specs.Full.{full}
+use Rattle.image_graph.specs.Promised.{Promises}
 use Rattle.image_graph.specs.Holds.{HoldsBy, AreSized, HoldsSome, HoldsSized}
 use Rattle.cycle_words.specs.StillHolds.{WhileCollecting}
 use Rattle.cycle_pauses.specs.Full.Image.{full_image}

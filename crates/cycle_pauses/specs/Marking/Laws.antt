@@ -6,7 +6,7 @@ use Rattle.shen_graph.specs.Graph.{Graph}
 use Rattle.heap_world.specs.World.{Plot, Ghost}
 use Rattle.heap_world.specs.Asking.{Asking, asks}
 use Rattle.heap_world.specs.Represents.{Represents}
-use Rattle.pause_words.specs.Promised.{Promises}
+use Rattle.image_graph.specs.Promised.{Promises}
 use Rattle.image_graph.specs.Holds.{HoldsBy}
 use Rattle.cycle_words.specs.Marking.Init.{init_marked}
 use Rattle.cycle_words.specs.Marking.Close.{closed}

@@ -9,7 +9,7 @@ use Rattle.shen_graph.specs.Graph.{Graph}
 use Rattle.shen_graph.specs.History.{after}
 use Rattle.heap_world.specs.World.{Plot, IsMarkable}
 use Rattle.heap_world.specs.Change.{image_view, image_words}
-use Rattle.pause_words.specs.Promised.{Promises}
+use Rattle.image_graph.specs.Promised.{Promises}
 use Rattle.image_graph.specs.Holds.{HoldsBy}
 use Rattle.cycle_words.specs.Marking.Close.{closed}
 use Rattle.cycle_words.specs.Marking.WhileMarking.{IsMarkedThrough}

@@ -14,11 +14,11 @@ use Rattle.regions.specs.Place.{region_with}
 use Rattle.regions.specs.Sets.{IsIn}
 use Rattle.shen_graph.specs.Graph.{Graph}
 use Rattle.heap_world.specs.World.{Plot, thing}
-use Rattle.pause_words.specs.Held.{IsAmong}
-use Rattle.pause_words.specs.Full.{held_words}
-use Rattle.pause_words.specs.Promised.{Promises}
-use Rattle.pause_words.proofs.Roots.{root_among, answer_among}
-use Rattle.pause_words.proofs.Reached.{words_read}
+use Rattle.image_graph.specs.Held.{IsAmong}
+use Rattle.image_graph.specs.Full.{held_words}
+use Rattle.image_graph.specs.Promised.{Promises}
+use Rattle.image_graph.proofs.Roots.{root_among, answer_among}
+use Rattle.image_graph.proofs.Reached.{words_read}
 use Rattle.image_graph.specs.Holds.{HoldsBy}
 use Rattle.cycle_words.specs.Marking.Marks.{is_black, IsNew}
 use Rattle.cycle_words.specs.Marking.Close.{IsTraced}

@@ -10,11 +10,11 @@ use Rattle.regions.specs.Sets.{IsIn}
 use Rattle.shen_graph.specs.Graph.{Graph}
 use Rattle.heap_world.specs.World.{Block, thing, words_of, is_loose, Plot}
 use Rattle.heap_world.proofs.Pointing.{piece_inside}
-use Rattle.pause_words.specs.Promised.{Promises, with_promised}
+use Rattle.image_graph.specs.Promised.{Promises, with_promised}
 use Rattle.image_graph.specs.Holds.{HoldsBy, AreSized}
-use Rattle.pause_words.specs.Held.{IsAmong}
-use Rattle.pause_words.specs.Full.{now_in, held_words}
-use Rattle.pause_words.proofs.Reached.{held_is_reached}
+use Rattle.image_graph.specs.Held.{IsAmong}
+use Rattle.image_graph.specs.Full.{now_in, held_words}
+use Rattle.image_graph.proofs.Reached.{held_is_reached}
 use Rattle.cycle_words.specs.Marking.Marks.{is_black, IsNew}
 use Rattle.cycle_words.proofs.Marking.Plain.{below_top}
 use Rattle.cycle_words.specs.Evacuation.Live.{words_at, marked_words, live_words, is_candidate}

@@ -4,7 +4,7 @@ use Rattle.std.specs.Int.{bit_at}
 use Rattle.std.proofs.lemmas.Bool.{and_parts, and_from, eqb-true, eq-eqb, leb-true, le-leb, not-true, not_from_false, false_from_ne_true, both_ways}
 use Rattle.heap_words.specs.declared.config.Config.{Config}
 use Rattle.heap_words.specs.Words.{Word, Free, Top, Tams}
-use Rattle.pause_words.specs.Pinned.{is_pinned}
+use Rattle.image_graph.specs.Pinned.{is_pinned}
 use Rattle.cycle_words.specs.Marking.Final.{is_current}
 use Rattle.cycle_words.proofs.Marking.Dead.{current_is, is_current_of}
 use Rattle.cycle_words.specs.Evacuation.Live.{garbage, is_candidate, IsCandidate}

@@ -14,12 +14,12 @@ use Rattle.shen_graph.specs.declared.name.Name.{Name}
 use Rattle.shen_graph.specs.Graph.{Graph}
 use Rattle.heap_world.specs.World.{Plot, thing, IsCollected, AreYoungRooms}
 use Rattle.heap_world.proofs.Pointing.{named_if_not_0}
-use Rattle.pause_words.specs.Held.{IsLedTo, from_root, IsAmong, HoldsGraph}
-use Rattle.pause_words.specs.Full.{now_in, held_words}
-use Rattle.pause_words.specs.Promised.{Promises, with_promised}
-use Rattle.pause_words.specs.Serving.{AreAsking}
-use Rattle.pause_words.proofs.Reached.{words_read}
-use Rattle.pause_words.proofs.Roots.{root_among, answer_among, answer_names}
+use Rattle.image_graph.specs.Held.{IsLedTo, from_root, IsAmong, HoldsGraph}
+use Rattle.image_graph.specs.Full.{now_in, held_words}
+use Rattle.image_graph.specs.Promised.{Promises, with_promised}
+use Rattle.image_graph.specs.Serving.{AreAsking}
+use Rattle.image_graph.proofs.Reached.{words_read}
+use Rattle.image_graph.proofs.Roots.{root_among, answer_among, answer_names}
 use Rattle.image_graph.specs.Holds.{HoldsBy, AreSized}
 use Rattle.cycle_words.proofs.Marking.Alike.{sized_alike, same_held_words, holds_alike}
 use Rattle.cycle_words.proofs.Marking.Dead.{seated}

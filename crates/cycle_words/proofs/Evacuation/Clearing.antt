@@ -20,7 +20,7 @@ use Rattle.regions.specs.Places.{LieApart}
 use Rattle.regions.specs.Place.{region_with, IsOf}
 use Rattle.regions.specs.Sets.{IsIn, IsOutside}
 use Rattle.regions.proofs.PlaceLemmas.{regions_tile}
-use Rattle.pause_words.specs.Full.{now_in}
+use Rattle.image_graph.specs.Full.{now_in}
 use Rattle.image_graph.specs.Make.{AreWithin}
 use Rattle.regions.specs.Marks.{mark_word, mark_bit}
 use Rattle.cycle_words.specs.Marking.Marks.{is_black}

@@ -11,7 +11,7 @@ use Rattle.regions.specs.ServedRooms.{lowest_room}
 use Rattle.regions.specs.Place.{base_of, region_with}
 use Rattle.regions.specs.Sets.{IsOutside, all_but}
 use Rattle.regions.specs.Walk.{is_filler}
-use Rattle.pause_words.specs.Full.{now_in}
+use Rattle.image_graph.specs.Full.{now_in}
 use Rattle.cycle_words.specs.Evacuation.Live.{words_at}
 use Rattle.cycle_words.specs.Evacuation.Copying.{tops_outside}
 use Rattle.cycle_words.specs.Evacuation.Copied.{copy_room, top_address, copied_word, copied_in, copied_to, copied_out, copied_by}

@@ -25,11 +25,11 @@ use Rattle.heap_world.proofs.Apart.{far}
 use Rattle.heap_world.proofs.Recut.{room_loose}
 use Rattle.heap_world.proofs.Joined as joined
 use Rattle.heap_world.proofs.Joined.{CanJoin}
-use Rattle.pause_words.specs.Held.{IsCopy}
-use Rattle.pause_words.specs.Plot.{NamedAreThings}
-use Rattle.pause_words.specs.Full.{now_in}
-use Rattle.pause_words.specs.Promised.{Promises}
-use Rattle.pause_words.proofs.Buffers.{buffers_stay, share_stays}
+use Rattle.image_graph.specs.Held.{IsCopy}
+use Rattle.image_graph.specs.Plot.{NamedAreThings}
+use Rattle.image_graph.specs.Full.{now_in}
+use Rattle.image_graph.specs.Promised.{Promises}
+use Rattle.image_graph.proofs.Buffers.{buffers_stay, share_stays}
 use Rattle.image_graph.specs.State.{EndsIn}
 use Rattle.image_graph.specs.Holds.{HasMoved, HoldsBy, AreSized}
 use Rattle.cycle_words.specs.Marking.Marks.{is_black, IsNew, IsKept}

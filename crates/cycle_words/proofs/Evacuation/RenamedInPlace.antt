@@ -11,8 +11,8 @@ use Rattle.regions.specs.Sets.{IsIn, IsOutside}
 use Rattle.shen_graph.specs.declared.name.Name.{Name}
 use Rattle.shen_graph.specs.Graph.{Graph}
 use Rattle.heap_world.specs.World.{thing, Plot, name_at, IsPlotted, IsFilled, IsFreeWord, ShareIsOpen, AreBuffers}
-use Rattle.pause_words.specs.Full.{now_in}
-use Rattle.pause_words.specs.Promised.{Promises}
+use Rattle.image_graph.specs.Full.{now_in}
+use Rattle.image_graph.specs.Promised.{Promises}
 use Rattle.image_graph.specs.Holds.{HasMoved, HoldsBy}
 use Rattle.cycle_words.specs.Marking.WhileMarking.{CanBeReached}
 use Rattle.image_graph.proofs.Carried.{now_same, IsRenamed, not_renamed, IsCarried, led_comes, carried_holds}

@@ -4,9 +4,9 @@ use Rattle.heap_words.specs.declared.config.Config.{Config}
 use Rattle.heap_words.specs.Words.{Word, Cset, Current}
 use Rattle.shen_graph.specs.Graph.{Graph}
 use Rattle.heap_world.specs.World.{Plot, HasNoRoom}
-use Rattle.pause_words.specs.LetGo.{let_go}
-use Rattle.pause_words.specs.Promised.{Promises}
-use Rattle.pause_words.proofs.Inside.{buffers_inside}
+use Rattle.image_graph.specs.LetGo.{let_go}
+use Rattle.image_graph.specs.Promised.{Promises}
+use Rattle.image_graph.proofs.Inside.{buffers_inside}
 use Rattle.image_graph.proofs.Loosening.Loosened.{loosened_sized}
 use Rattle.image_graph.proofs.Loosening.Divided.{none_have_room}
 use Rattle.image_graph.proofs.Loosening.LettingGo.{has_let_go, let_go_seats}

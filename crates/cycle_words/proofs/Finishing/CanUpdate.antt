@@ -8,8 +8,8 @@ use Rattle.regions.specs.Walk.{stride_at, start_of}
 use Rattle.regions.proofs.PlaceLemmas.{regions_tile}
 use Rattle.heap_world.specs.World.{Block, words_of, Plot, HasNoRoom, IsPlotted, IsFilled}
 use Rattle.heap_world.proofs.Pieces.{beside}
-use Rattle.pause_words.specs.Pinned.{EndInRegion}
-use Rattle.pause_words.specs.Promised.{Promises}
+use Rattle.image_graph.specs.Pinned.{EndInRegion}
+use Rattle.image_graph.specs.Promised.{Promises}
 use Rattle.image_graph.specs.Holds.{HoldsBy, AreSized}
 use Rattle.cycle_words.specs.Finishing.Updated.{stays, CanUpdateAll}
 use Rattle.cycle_words.specs.Finishing.Finish.{CanFree}

@@ -4,7 +4,7 @@ use Rattle.std.proofs.Math.Path.{fun_ext}
 use Rattle.std.proofs.lemmas.Bool.{cases_Bool, cases_eq, cond-true, cond-false, eq-eqb, ne_eqb, true≢false}
 use Rattle.heap_words.specs.declared.config.Config.{Config}
 use Rattle.heap_words.specs.Words.{Word, Phase, Wait}
-use Rattle.pause_words.specs.Full.{served}
+use Rattle.image_graph.specs.Full.{served}
 use Rattle.cycle_words.specs.Evacuation.Copied.{copy_room, copied_out}
 use Rattle.cycle_words.specs.Finishing.Copies.{is_left, is_found, has_copy_room, copied_from, is_room_from, all_copied}
 use Rattle.cycle_words.specs.Finishing.Laws.{IsStuck, StopsForRoom, ServingServesAll}

@@ -10,10 +10,10 @@ use Rattle.regions.specs.Marks.{mark_word, mark_bit}
 use Rattle.regions.proofs.PlaceLemmas.{regions_tile}
 use Rattle.shen_graph.specs.Graph.{Graph}
 use Rattle.heap_world.specs.World.{Plot, IsPlotted, IsCollected}
-use Rattle.pause_words.specs.Buffers.{buffer_region}
-use Rattle.pause_words.specs.LetGo.{let_go}
-use Rattle.pause_words.specs.Promised.{Promises}
-use Rattle.pause_words.proofs.Inside.{buffer_ends, buffer_region_is}
+use Rattle.image_graph.specs.SeatBuffers.{buffer_region}
+use Rattle.image_graph.specs.LetGo.{let_go}
+use Rattle.image_graph.specs.Promised.{Promises}
+use Rattle.image_graph.proofs.Inside.{buffer_ends, buffer_region_is}
 use Rattle.image_graph.specs.State.{EndsIn}
 use Rattle.image_graph.specs.Holds.{HoldsBy}
 use Rattle.image_graph.specs.Buffers.{HasNoMoreSeats}

@@ -9,7 +9,7 @@ use Rattle.heap_words.specs.Encoding.{is_forwarded}
 use Rattle.regions.specs.Place.{region_with}
 use Rattle.shen_graph.specs.Graph.{Graph}
 use Rattle.heap_world.specs.World.{words_of, Plot, IsCollected}
-use Rattle.pause_words.specs.Promised.{Promises}
+use Rattle.image_graph.specs.Promised.{Promises}
 use Rattle.image_graph.specs.Holds.{HoldsBy, AreSized, HasObject}
 use Rattle.cycle_words.specs.Marking.Marks.{is_black}
 use Rattle.cycle_words.specs.Evacuation.Live.{words_at}
@@ -17,7 +17,7 @@ use Rattle.cycle_words.specs.Evacuation.Begun.{is_collected}
 use Rattle.cycle_words.specs.Evacuation.Copied.{copied_out, IsCopiedOut}
 use Rattle.cycle_words.specs.Finishing.Copies.{is_left, has_copy_room, copied_from, all_copied}
 use Rattle.cycle_words.specs.StillHolds.{PiecesStay, HoldsStill, AreMarkedObjects, IsUnpinned}
-use Rattle.pause_words.specs.Pinned.{is_pinned}
+use Rattle.image_graph.specs.Pinned.{is_pinned}
 use Rattle.cycle_words.proofs.Pinned.{unpinned_there}
 use Rattle.cycle_words.proofs.Evacuation.CopiedOut.{copies_out}
 use Rattle.cycle_words.proofs.Evacuation.CopyHolds as copy

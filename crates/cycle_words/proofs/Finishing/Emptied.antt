@@ -12,10 +12,10 @@ use Rattle.regions.specs.Sets.{IsIn}
 use Rattle.shen_graph.specs.Graph.{Graph}
 use Rattle.heap_world.specs.World.{thing, words_of, Plot, IsCollected}
 use Rattle.heap_world.proofs.Pointing.{piece_inside}
-use Rattle.pause_words.specs.Held.{IsAmong}
-use Rattle.pause_words.specs.Full.{now_in, held_words}
-use Rattle.pause_words.specs.Promised.{Promises, with_promised}
-use Rattle.pause_words.proofs.Reached.{held_is_reached}
+use Rattle.image_graph.specs.Held.{IsAmong}
+use Rattle.image_graph.specs.Full.{now_in, held_words}
+use Rattle.image_graph.specs.Promised.{Promises, with_promised}
+use Rattle.image_graph.proofs.Reached.{held_is_reached}
 use Rattle.image_graph.specs.State.{EndsIn}
 use Rattle.image_graph.specs.Holds.{HoldsBy, AreSized, HasObject}
 use Rattle.cycle_words.specs.Marking.Marks.{is_black, IsNew, IsKept}
@@ -27,7 +27,7 @@ use Rattle.cycle_words.specs.Evacuation.Copied.{copied_out, IsCopiedOut}
 use Rattle.cycle_words.specs.Finishing.Copies.{is_left, has_copy_room, copied_from, is_room_from, all_copied, is_room_for_all}
 use Rattle.cycle_words.specs.Finishing.Laws.{NoneLeftInside}
 use Rattle.cycle_words.specs.StillHolds.{NothingInside, WhileCollecting, IsUnpinned}
-use Rattle.pause_words.specs.Pinned.{is_pinned}
+use Rattle.image_graph.specs.Pinned.{is_pinned}
 use Rattle.cycle_words.proofs.Pinned.{same_pinned}
 use Rattle.cycle_words.proofs.Evacuation.CopyHolds as copy
 use Rattle.cycle_words.proofs.Evacuation.CopyHolds.{some_set, IsInOrder, in_order}

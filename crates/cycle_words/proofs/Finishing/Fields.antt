@@ -11,10 +11,10 @@ use Rattle.regions.specs.Sets.{IsIn}
 use Rattle.regions.specs.Walk.{stride_at}
 use Rattle.regions.specs.Marks.{HasMark, mark_word, mark_bit}
 use Rattle.heap_world.specs.World.{Block, words_of, Plot, IsCollected, IsYoung, IsPlotted, IsFilled}
-use Rattle.pause_words.specs.Full.{now_in}
+use Rattle.image_graph.specs.Full.{now_in}
 use Rattle.cycle_words.specs.Marking.Marks.{is_black}
 use Rattle.cycle_words.specs.Evacuation.Begun.{is_collected}
-use Rattle.pause_words.specs.Pinned.{is_pinned, object_of, is_in_use}
+use Rattle.image_graph.specs.Pinned.{is_pinned, object_of, is_in_use}
 use Rattle.cycle_words.specs.Finishing.Updated.{updated_word, is_kept, is_kept_here, is_reference, stays, is_staying, is_kept_field, all_updated}
 use Rattle.cycle_words.proofs.Finishing.Walking as walking
 

@@ -5,20 +5,20 @@ use Rattle.std.proofs.Math.Path.{fun_ext}
 use Rattle.std.proofs.lemmas.Bool.{cases_Bool, cases_eq, cases_lt, cond-true, cond-false, and_parts, and_left, or_cases, eqb-true, not-true, false_from_ne_true, true≢false}
 use Rattle.heap_words.specs.declared.config.Config.{Config}
 use Rattle.heap_words.specs.Words.{Word, Cset, Top, Current, Root, Answer, Pin, Heap}
-use Rattle.pause_words.specs.LetGo.{let_go}
+use Rattle.image_graph.specs.LetGo.{let_go}
 use Rattle.heap_words.specs.Encoding.{is_forwarded, forwardee_in, refs_in}
 use Rattle.regions.specs.Place.{region_with}
 use Rattle.shen_graph.specs.declared.pin.Pinned.{Pinned}
 use Rattle.shen_graph.specs.Graph.{Graph}
 use Rattle.heap_graph.specs.Walk.{has}
 use Rattle.heap_world.specs.World.{thing, Plot, HasNoRoom, IsCollected}
-use Rattle.pause_words.specs.Held.{from_root, from_field, IsAmong}
-use Rattle.pause_words.specs.Full.{now_in, roots_below, answers_below, root_words, held_words, served}
-use Rattle.pause_words.specs.Pinned.{pins_below, is_pinned}
-use Rattle.pause_words.specs.Image.{PinWordStands}
-use Rattle.pause_words.specs.Promised.{Promises, with_promised}
-use Rattle.pause_words.proofs.Reached.{held_is_reached}
-use Rattle.pause_words.proofs.Roots.{has_either, root_in, answer_in, pin_in, root_among, answer_among, pin_among}
+use Rattle.image_graph.specs.Held.{from_root, from_field, IsAmong}
+use Rattle.image_graph.specs.Full.{now_in, roots_below, answers_below, root_words, held_words, served}
+use Rattle.image_graph.specs.Pinned.{pins_below, is_pinned}
+use Rattle.image_graph.specs.Image.{PinWordStands}
+use Rattle.image_graph.specs.Promised.{Promises, with_promised}
+use Rattle.image_graph.proofs.Reached.{held_is_reached}
+use Rattle.image_graph.proofs.Roots.{has_either, root_in, answer_in, pin_in, root_among, answer_among, pin_among}
 use Rattle.image_graph.specs.Holds.{HoldsBy}
 use Rattle.image_graph.proofs.ServedHolds.{serving_holds}
 use Rattle.cycle_words.specs.Marking.WhileMarking.{CanBeReached}

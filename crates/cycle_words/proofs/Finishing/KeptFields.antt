@@ -8,13 +8,13 @@ use Rattle.regions.specs.Place.{base_of, region_with}
 use Rattle.regions.specs.Walk.{is_filler, stride_at}
 use Rattle.shen_graph.specs.Graph.{Graph}
 use Rattle.heap_world.specs.World.{Block, filler, words_of, room_of, is_loose, Plot, HasNoRoom}
-use Rattle.pause_words.specs.Promised.{Promises}
+use Rattle.image_graph.specs.Promised.{Promises}
 use Rattle.image_graph.specs.Holds.{HoldsBy, AreSized}
 use Rattle.cycle_words.specs.Marking.Marks.{is_black, IsNew, IsKept}
 use Rattle.cycle_words.proofs.Marking.Plain.{below_top}
 use Rattle.cycle_words.proofs.Evacuation.RegionAddresses as regions
 use Rattle.cycle_words.proofs.Evacuation.RegionAddresses.{from_base}
-use Rattle.pause_words.specs.Pinned.{object_of, is_in_use}
+use Rattle.image_graph.specs.Pinned.{object_of, is_in_use}
 use Rattle.cycle_words.specs.Finishing.Updated.{is_kept, is_kept_here, is_reference, stays, is_staying, is_kept_field}
 use Rattle.cycle_words.specs.Finishing.Laws.{IsFieldOfKept, KeptFieldsAreFields}
 use Rattle.cycle_words.proofs.Finishing.Walking.{covered}

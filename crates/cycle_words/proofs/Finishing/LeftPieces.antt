@@ -10,10 +10,10 @@ use Rattle.shen_graph.specs.declared.name.Name.{Name}
 use Rattle.shen_graph.specs.Graph.{Graph}
 use Rattle.heap_world.specs.World.{Block, thing, promised, filler, hand, carved, words_of, room_of, is_loose, Plot, name_at}
 use Rattle.heap_world.proofs.Pointing.{named_piece}
-use Rattle.pause_words.specs.Held.{IsAmong, IsCopy}
-use Rattle.pause_words.specs.Full.{now_in, held_words}
-use Rattle.pause_words.specs.Promised.{Promises}
-use Rattle.pause_words.proofs.Buffers.{SameRoom, buffers_stay}
+use Rattle.image_graph.specs.Held.{IsAmong, IsCopy}
+use Rattle.image_graph.specs.Full.{now_in, held_words}
+use Rattle.image_graph.specs.Promised.{Promises}
+use Rattle.image_graph.proofs.Buffers.{SameRoom, buffers_stay}
 use Rattle.image_graph.specs.Holds.{HoldsBy}
 use Rattle.image_graph.proofs.Loosening.Resized.{IsResized, resized_plotted, resized_filled}
 use Rattle.cycle_words.specs.Marking.WhileMarking.{CanBeReached}

@@ -15,10 +15,10 @@ use Rattle.shen_graph.specs.Graph.{Graph}
 use Rattle.heap_world.specs.World.{Block, thing, filler, words_of, room_of, is_loose, Plot, name_at}
 use Rattle.heap_world.proofs.Pointing.{named_piece, piece_inside}
 use Rattle.heap_world.proofs.Roomless.{only_spares}
-use Rattle.pause_words.specs.Held.{IsAmong}
-use Rattle.pause_words.specs.Full.{now_in, held_words}
-use Rattle.pause_words.specs.Pinned.{is_pinned, begins}
-use Rattle.pause_words.specs.Promised.{Promises}
+use Rattle.image_graph.specs.Held.{IsAmong}
+use Rattle.image_graph.specs.Full.{now_in, held_words}
+use Rattle.image_graph.specs.Pinned.{is_pinned, begins}
+use Rattle.image_graph.specs.Promised.{Promises}
 use Rattle.image_graph.specs.Holds.{HoldsBy, AreSized}
 use Rattle.image_graph.proofs.Carried.{not_renamed}
 use Rattle.image_graph.proofs.Loosening.Loosened.{kind_of}

@@ -8,8 +8,8 @@ use Rattle.regions.specs.Place.{region_with}
 use Rattle.regions.specs.Walk.{is_filler}
 use Rattle.shen_graph.specs.Graph.{Graph}
 use Rattle.heap_world.specs.World.{Block, thing, filler, words_of, Plot, HasNoRoom}
-use Rattle.pause_words.specs.Full.{now_in}
-use Rattle.pause_words.specs.Promised.{Promises}
+use Rattle.image_graph.specs.Full.{now_in}
+use Rattle.image_graph.specs.Promised.{Promises}
 use Rattle.image_graph.specs.Holds.{HoldsBy, AreSized}
 use Rattle.cycle_words.specs.Evacuation.Begun.{is_collected}
 use Rattle.cycle_words.specs.Finishing.Updated.{updated_word, is_reference, stays, is_kept_field, all_updated}

@@ -7,8 +7,8 @@ use Rattle.regions.specs.Place.{base_of, region_with}
 use Rattle.regions.specs.Walk.{stride_at, start_of}
 use Rattle.regions.proofs.PlaceLemmas.{regions_tile}
 use Rattle.heap_world.specs.World.{Block, words_of, Plot, IsPlotted, IsFilled}
-use Rattle.pause_words.specs.Pinned.{object_of, is_in_use, begins}
-use Rattle.pause_words.proofs.Starts.{start_first, start_ends, start_goes_on}
+use Rattle.image_graph.specs.Pinned.{object_of, is_in_use, begins}
+use Rattle.image_graph.proofs.PieceStarts.{start_first, start_ends, start_goes_on}
 use Rattle.cycle_words.proofs.Marking.Plain.{below_top}
 
 -- `Walked` tells these regions.

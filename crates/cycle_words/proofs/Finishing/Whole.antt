@@ -7,9 +7,9 @@ use Rattle.heap_words.specs.Words.{Word, Wait}
 use Rattle.heap_words.specs.Encoding.{object_words, request_shape_in}
 use Rattle.regions.specs.ServedRooms.{lowest_room}
 use Rattle.regions.proofs.ServedRooms.{none_has_room, all_full}
-use Rattle.pause_words.specs.Full.{asked_in, served_in, room_for, served}
-use Rattle.pause_words.specs.Served.{tops_at_turn}
-use Rattle.pause_words.proofs.Served.{turn_idle, turn_waits, own_wait, before_turn, after_turn}
+use Rattle.image_graph.specs.Full.{asked_in, served_in, room_for, served}
+use Rattle.image_graph.specs.Served.{tops_at_turn}
+use Rattle.image_graph.proofs.Served.{turn_idle, turn_waits, own_wait, before_turn, after_turn}
 use Rattle.image_graph.specs.Left.{IsLeft}
 use Rattle.cycle_words.specs.Finishing.Finish.{nobody_waits}
 

@@ -11,13 +11,13 @@ use Rattle.regions.specs.Walk.{is_filler}
 use Rattle.shen_graph.specs.declared.pin.Pinned.{Pinned}
 use Rattle.shen_graph.specs.Graph.{Graph}
 use Rattle.heap_world.specs.World.{Plot, Points, IsFilled, IsFreeWord, ShareIsOpen, AreBuffers}
-use Rattle.pause_words.specs.Held.{IsAmong, HoldsGraph}
-use Rattle.pause_words.specs.Full.{now_in, roots_below, answers_below, root_words, held_words}
-use Rattle.pause_words.specs.Pinned.{pins_below}
-use Rattle.pause_words.specs.Promised.{Promises, with_promised}
-use Rattle.pause_words.specs.Image.{AnswerStands, PinWordStands, RootsStand}
-use Rattle.pause_words.proofs.Roots.{pin_stays}
-use Rattle.pause_words.specs.Serving.{asked_shape, AreAsking}
+use Rattle.image_graph.specs.Held.{IsAmong, HoldsGraph}
+use Rattle.image_graph.specs.Full.{now_in, roots_below, answers_below, root_words, held_words}
+use Rattle.image_graph.specs.Pinned.{pins_below}
+use Rattle.image_graph.specs.Promised.{Promises, with_promised}
+use Rattle.image_graph.specs.Image.{AnswerStands, PinWordStands, RootsStand}
+use Rattle.image_graph.proofs.Roots.{pin_stays}
+use Rattle.image_graph.specs.Serving.{asked_shape, AreAsking}
 use Rattle.image_graph.specs.Holds.{HoldsBy, AreSized}
 
 -- n has the words of m on which a graph stands

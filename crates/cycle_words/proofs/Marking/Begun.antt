@@ -9,15 +9,15 @@ use Rattle.shen_graph.specs.Graph.{Graph}
 use Rattle.heap_graph.specs.Walk.{has}
 use Rattle.heap_world.specs.World.{Plot, thing, moved, hand, carved, no_ghost, name_at, IsPlotted, AreObjects, AreBuffers, IsMarkable, IsLed}
 use Rattle.heap_world.proofs.Pointing.{named_thing}
-use Rattle.pause_words.specs.Settled.{buffers_settled}
-use Rattle.pause_words.proofs.Settling.{settling_leaves}
-use Rattle.pause_words.specs.Divided.{AreDivided}
-use Rattle.pause_words.specs.Held.{IsAmong, IsCopy}
-use Rattle.pause_words.specs.Full.{held_words, held_in}
-use Rattle.pause_words.specs.Promised.{Promises, with_promised}
-use Rattle.pause_words.proofs.Reached.{refs_read}
-use Rattle.pause_words.proofs.Walked.{held_is_found, found_is_held}
-use Rattle.pause_words.proofs.Buffers.{buffers_stay}
+use Rattle.image_graph.specs.Settled.{buffers_settled}
+use Rattle.image_graph.proofs.Settling.{settling_leaves}
+use Rattle.image_graph.specs.Divided.{AreDivided}
+use Rattle.image_graph.specs.Held.{IsAmong, IsCopy}
+use Rattle.image_graph.specs.Full.{held_words, held_in}
+use Rattle.image_graph.specs.Promised.{Promises, with_promised}
+use Rattle.image_graph.proofs.Reached.{refs_read}
+use Rattle.image_graph.proofs.Walked.{held_is_found, found_is_held}
+use Rattle.image_graph.proofs.Buffers.{buffers_stay}
 use Rattle.image_graph.specs.Holds.{HoldsBy}
 use Rattle.image_graph.specs.Buffers.{HasNoMoreSeats, settled_block}
 use Rattle.cycle_words.specs.Marking.Init.{marking_begun, init_marked, pruned}

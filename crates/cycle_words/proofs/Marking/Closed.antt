@@ -15,8 +15,8 @@ use Rattle.shen_graph.specs.Graph.{Graph, Reference}
 use Rattle.heap_graph.specs.Walk.{has}
 use Rattle.heap_world.specs.World.{Plot, thing, Snapshot, AreMarks, IsMarkable, IsYoung, IsNoted, was_at, IsToScan, IsTracedAt, IsLed}
 use Rattle.heap_world.proofs.Pointing.{named_if_not_0}
-use Rattle.pause_words.specs.Promised.{Promises}
-use Rattle.pause_words.proofs.Reached.{refs_read}
+use Rattle.image_graph.specs.Promised.{Promises}
+use Rattle.image_graph.proofs.Reached.{refs_read}
 use Rattle.image_graph.specs.Holds.{HoldsBy}
 use Rattle.cycle_words.specs.Marking.Marks.{is_grey, is_black, mark_bits, IsNew, IsKept}
 use Rattle.cycle_words.specs.Marking.Close.{IsTraced, from_grey, from_buffer, from_field, traced_in, closed}

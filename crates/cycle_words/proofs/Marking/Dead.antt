@@ -8,7 +8,7 @@ use Rattle.heap_words.specs.Words.{Word, Free, Top, Tams, Current, Share}
 use Rattle.heap_words.specs.Encoding.{end_in}
 use Rattle.heap_words.specs.Ranges.{seat_count}
 use Rattle.regions.specs.Place.{base_of, IsOf}
-use Rattle.pause_words.specs.Pinned.{is_pinned}
+use Rattle.image_graph.specs.Pinned.{is_pinned}
 use Rattle.image_graph.specs.State.{EndsIn, IsSomeSeats}
 use Rattle.cycle_words.specs.Marking.Marks.{is_black}
 use Rattle.cycle_words.specs.Marking.Close.{closed}

@@ -7,7 +7,7 @@ use Rattle.regions.specs.Place.{region_with}
 use Rattle.shen_graph.specs.Graph.{Graph}
 use Rattle.heap_graph.specs.Walk.{has}
 use Rattle.heap_world.specs.World.{Plot}
-use Rattle.pause_words.specs.Promised.{Promises}
+use Rattle.image_graph.specs.Promised.{Promises}
 use Rattle.image_graph.specs.Holds.{HoldsBy}
 use Rattle.cycle_words.specs.Marking.Marks.{is_black, IsNew, IsKept}
 use Rattle.cycle_words.specs.Marking.Close.{closed}

@@ -8,10 +8,10 @@ use Rattle.shen_graph.specs.declared.name.Name.{Name}
 use Rattle.regions.specs.Marks.{mark_bit}
 use Rattle.heap_graph.specs.Walk.{has}
 use Rattle.heap_world.specs.World.{thing, promised, dead, Plot, Scan, Snapshot, AreMarks, IsMarkable, IsNoted, IsToScan, IsTracedAt, IsLed, KeepsSnapshot}
-use Rattle.pause_words.specs.Edge.{edge}
-use Rattle.pause_words.specs.Divided.{AreDivided}
-use Rattle.pause_words.specs.Held.{IsAmong}
-use Rattle.pause_words.specs.Full.{held_words}
+use Rattle.image_graph.specs.Edge.{edge}
+use Rattle.image_graph.specs.Divided.{AreDivided}
+use Rattle.image_graph.specs.Held.{IsAmong}
+use Rattle.image_graph.specs.Full.{held_words}
 use Rattle.cycle_words.specs.Marking.Marks.{mark_bits}
 use Rattle.cycle_words.proofs.Marking.Bits.{one, bits_small, bits_at, mark_at}
 

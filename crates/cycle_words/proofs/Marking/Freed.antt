@@ -12,13 +12,13 @@ use Rattle.shen_graph.specs.Graph.{Graph}
 use Rattle.heap_world.specs.World.{Plot, thing, promised, name_at, hand, spare, carved, IsPlotted, ShareIsOpen, AreBuffers}
 use Rattle.heap_world.proofs.Pointing.{named_piece}
 use Rattle.heap_world.proofs.Roomless.{only_spares}
-use Rattle.pause_words.specs.Held.{IsAmong, IsCopy, HoldsGraph}
-use Rattle.pause_words.specs.Full.{now_in, held_words}
-use Rattle.pause_words.specs.Promised.{Promises, with_promised}
-use Rattle.pause_words.specs.Image.{RootsStand}
-use Rattle.pause_words.specs.Serving.{AreAsking}
-use Rattle.pause_words.proofs.Inside.{buffer_ends}
-use Rattle.pause_words.proofs.Buffers.{SameRoom, buffers_stay}
+use Rattle.image_graph.specs.Held.{IsAmong, IsCopy, HoldsGraph}
+use Rattle.image_graph.specs.Full.{now_in, held_words}
+use Rattle.image_graph.specs.Promised.{Promises, with_promised}
+use Rattle.image_graph.specs.Image.{RootsStand}
+use Rattle.image_graph.specs.Serving.{AreAsking}
+use Rattle.image_graph.proofs.Inside.{buffer_ends}
+use Rattle.image_graph.proofs.Buffers.{SameRoom, buffers_stay}
 use Rattle.image_graph.specs.State.{EndsIn}
 use Rattle.image_graph.specs.Holds.{HoldsBy}
 use Rattle.cycle_words.specs.Marking.WhileMarking.{CanBeReached}

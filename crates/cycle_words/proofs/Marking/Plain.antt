@@ -13,11 +13,11 @@ use Rattle.shen_graph.specs.declared.name.Name.{Name}
 use Rattle.shen_graph.specs.Graph.{Graph, Reference}
 use Rattle.heap_world.specs.World.{Plot, Block, thing, words_of, name_at, IsPlotted}
 use Rattle.heap_world.proofs.Pointing.{piece_inside, named_if_not_0}
-use Rattle.pause_words.specs.Held.{from_root, from_field, IsAmong}
-use Rattle.pause_words.specs.Plot.{heap_end}
-use Rattle.pause_words.specs.Full.{now_in, held_words}
-use Rattle.pause_words.specs.Promised.{Promises, with_promised}
-use Rattle.pause_words.proofs.Reached.{held_is_reached, refs_read}
+use Rattle.image_graph.specs.Held.{from_root, from_field, IsAmong}
+use Rattle.image_graph.specs.Plot.{heap_end}
+use Rattle.image_graph.specs.Full.{now_in, held_words}
+use Rattle.image_graph.specs.Promised.{Promises, with_promised}
+use Rattle.image_graph.proofs.Reached.{held_is_reached, refs_read}
 use Rattle.image_graph.specs.Holds.{HoldsBy}
 use Rattle.cycle_words.specs.Marking.WhileMarking.{IsObjectAt, CanBeReached}
 

@@ -12,12 +12,12 @@ use Rattle.shen_graph.specs.declared.name.Name.{Name}
 use Rattle.shen_graph.specs.declared.pin.Pinned.{Pinned}
 use Rattle.shen_graph.specs.Graph.{Graph, Reference, Object}
 use Rattle.heap_world.specs.World.{Plot, thing, name_at, Points, IsPlotted, IsThing}
-use Rattle.pause_words.specs.Held.{IsAmong, IsCopy, HoldsGraph}
-use Rattle.pause_words.specs.Full.{now_in, held_words}
-use Rattle.pause_words.specs.Promised.{Promises, with_promised}
-use Rattle.pause_words.specs.Image.{AnswerStands, PinWordStands, RootsStand}
-use Rattle.pause_words.proofs.Reached.{refs_read, none_at_0}
-use Rattle.pause_words.proofs.Roots.{root_among, answer_among, pin_among, pin_stays}
+use Rattle.image_graph.specs.Held.{IsAmong, IsCopy, HoldsGraph}
+use Rattle.image_graph.specs.Full.{now_in, held_words}
+use Rattle.image_graph.specs.Promised.{Promises, with_promised}
+use Rattle.image_graph.specs.Image.{AnswerStands, PinWordStands, RootsStand}
+use Rattle.image_graph.proofs.Reached.{refs_read, none_at_0}
+use Rattle.image_graph.proofs.Roots.{root_among, answer_among, pin_among, pin_stays}
 use Rattle.image_graph.specs.Holds.{HoldsBy}
 use Rattle.cycle_words.specs.Marking.WhileMarking.{CanBeReached}
 use Rattle.cycle_words.proofs.Marking.Plain.{root_reached, field_reached}

@@ -5,11 +5,11 @@ use Rattle.heap_words.specs.Words.{Word, Cset, Pin, Heap}
 use Rattle.regions.specs.Place.{region_with}
 use Rattle.shen_graph.specs.Graph.{Graph}
 use Rattle.heap_world.specs.World.{Plot, IsCollected}
-use Rattle.pause_words.specs.Settled.{buffers_settled}
-use Rattle.pause_words.proofs.Settling.{settling_leaves}
-use Rattle.pause_words.specs.Held.{IsLedTo, IsAmong}
-use Rattle.pause_words.specs.Full.{now_in}
-use Rattle.pause_words.specs.Promised.{Promises}
+use Rattle.image_graph.specs.Settled.{buffers_settled}
+use Rattle.image_graph.proofs.Settling.{settling_leaves}
+use Rattle.image_graph.specs.Held.{IsLedTo, IsAmong}
+use Rattle.image_graph.specs.Full.{now_in}
+use Rattle.image_graph.specs.Promised.{Promises}
 use Rattle.image_graph.specs.Holds.{HoldsBy}
 use Rattle.image_graph.specs.Buffers.{HasNoMoreSeats, settled_block}
 use Rattle.cycle_words.specs.Marking.WhileMarking.{CanBeReached}

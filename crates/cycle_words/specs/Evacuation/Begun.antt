@@ -9,7 +9,7 @@ use Rattle.heap_words.specs.Encoding.{is_forwarded}
 use Rattle.regions.specs.Place.{region_with}
 use Rattle.regions.specs.Sets.{IsIn}
 use Rattle.regions.specs.Places.{LieApart}
-use Rattle.pause_words.specs.Full.{now_in}
+use Rattle.image_graph.specs.Full.{now_in}
 use Rattle.image_graph.specs.Make.{AreWithin}
 use Rattle.cycle_words.specs.Marking.Marks.{is_black}
 use Rattle.cycle_words.specs.Evacuation.Live.{words_at, marked_words}

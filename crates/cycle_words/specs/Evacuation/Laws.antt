@@ -6,7 +6,7 @@ use Rattle.regions.specs.Places.{LieApart}
 use Rattle.regions.specs.Tops.{sum_below}
 use Rattle.shen_graph.specs.Graph.{Graph}
 use Rattle.heap_world.specs.World.{Block, Plot, words_of}
-use Rattle.pause_words.specs.Promised.{Promises}
+use Rattle.image_graph.specs.Promised.{Promises}
 use Rattle.image_graph.specs.Holds.{HoldsBy, AreSized, HasObject}
 use Rattle.cycle_words.specs.Marking.Marks.{is_black}
 use Rattle.cycle_words.specs.Marking.WhileMarking.{IsObjectAt, CanBeReached, IsMarking, IsMarkedThrough}

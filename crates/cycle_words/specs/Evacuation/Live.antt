@@ -7,7 +7,7 @@ use Rattle.heap_words.specs.Encoding.{object_words}
 use Rattle.regions.specs.Place.{base_of}
 use Rattle.regions.specs.Sets.{IsOutside}
 use Rattle.regions.specs.Tops.{sum_below}
-use Rattle.pause_words.specs.Pinned.{is_pinned}
+use Rattle.image_graph.specs.Pinned.{is_pinned}
 use Rattle.image_graph.specs.State.{IsSomeSeats}
 use Rattle.cycle_words.specs.Marking.Marks.{is_black}
 use Rattle.cycle_words.specs.Marking.Final.{is_current}

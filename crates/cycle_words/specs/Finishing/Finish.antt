@@ -3,11 +3,11 @@ use Rattle.std.specs.Prelude.{ℕ, ◌≡◌, ◌*◌, ◌^◌, ◌<◌, ◌==�
 use Rattle.std.specs.List.{range_with_len, list_all}
 use Rattle.heap_words.specs.declared.config.Config.{Config}
 use Rattle.heap_words.specs.Words.{Word, Phase, Cset, Evac, Ask, Wait, Heap}
-use Rattle.pause_words.specs.Buffers.{AreInside}
-use Rattle.pause_words.specs.LetGo.{let_go}
-use Rattle.pause_words.specs.Full.{served}
+use Rattle.image_graph.specs.SeatBuffers.{AreInside}
+use Rattle.image_graph.specs.LetGo.{let_go}
+use Rattle.image_graph.specs.Full.{served}
 use Rattle.heap_words.specs.Encoding.{is_forwarded}
-use Rattle.pause_words.specs.Pinned.{is_pinned, filled_in, CanFill}
+use Rattle.image_graph.specs.Pinned.{is_pinned, filled_in, CanFill}
 use Rattle.cycle_words.specs.Marking.Final.{freed}
 use Rattle.cycle_words.specs.Updating.Changes.{is_chosen, cycle_ended}
 use Rattle.cycle_words.specs.Finishing.Updated.{all_updated, CanUpdateAll}

@@ -6,8 +6,8 @@ use Rattle.heap_words.specs.Encoding.{is_forwarded, refs_in}
 use Rattle.regions.specs.Place.{region_with}
 use Rattle.shen_graph.specs.Graph.{Graph}
 use Rattle.heap_world.specs.World.{Block, Plot, is_loose, HasNoRoom}
-use Rattle.pause_words.specs.Full.{served}
-use Rattle.pause_words.specs.Promised.{Promises}
+use Rattle.image_graph.specs.Full.{served}
+use Rattle.image_graph.specs.Promised.{Promises}
 use Rattle.image_graph.specs.Left.{IsLeft}
 use Rattle.image_graph.specs.Holds.{HoldsBy, AreSized}
 use Rattle.cycle_words.specs.Marking.Marks.{IsKept}

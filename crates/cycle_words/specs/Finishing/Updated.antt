@@ -6,8 +6,8 @@ use Rattle.heap_words.specs.Words.{Word, Cset, Tams, Root, Answer, Heap}
 use Rattle.heap_words.specs.Encoding.{is_forwarded, refs_in}
 use Rattle.regions.specs.Place.{base_of, region_with}
 use Rattle.regions.specs.Walk.{is_filler}
-use Rattle.pause_words.specs.Full.{now_in}
-use Rattle.pause_words.specs.Pinned.{is_pinned, object_of, is_in_use, EndInRegion}
+use Rattle.image_graph.specs.Full.{now_in}
+use Rattle.image_graph.specs.Pinned.{is_pinned, object_of, is_in_use, EndInRegion}
 use Rattle.image_graph.specs.Make.{AreWithin}
 use Rattle.cycle_words.specs.Marking.Marks.{is_black}
 use Rattle.cycle_words.specs.Evacuation.Begun.{is_collected}

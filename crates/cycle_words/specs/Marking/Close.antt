@@ -6,8 +6,8 @@ use Rattle.heap_words.specs.declared.config.Config.{Config}
 use Rattle.heap_words.specs.Words.{Word, Count, Buffer, Grey, Black, Heap}
 use Rattle.heap_words.specs.Encoding.{refs_in}
 use Rattle.heap_graph.specs.Walk.{has}
-use Rattle.pause_words.specs.Held.{found_in}
-use Rattle.pause_words.specs.Full.{field_words}
+use Rattle.image_graph.specs.Held.{found_in}
+use Rattle.image_graph.specs.Full.{field_words}
 use Rattle.cycle_words.specs.Marking.Marks.{is_grey, is_black, mark_bits}
 
 -- What closing the marks comes to: what is grey or an entry of a buffer, and what the fields of such a one name that was not

@@ -10,7 +10,7 @@ use Rattle.heap_words.specs.Encoding.{end_in}
 use Rattle.regions.specs.Place.{base_of, region_with, IsOf}
 use Rattle.regions.specs.Sets.{IsOutside}
 use Rattle.heap_world.specs.World.{Plot}
-use Rattle.pause_words.specs.Pinned.{is_pinned}
+use Rattle.image_graph.specs.Pinned.{is_pinned}
 use Rattle.image_graph.specs.State.{IsSomeSeats}
 use Rattle.cycle_words.specs.Marking.Marks.{is_black, bits_of}
 use Rattle.cycle_words.specs.Marking.Close.{closed}

@@ -3,11 +3,11 @@ use Rattle.std.specs.Prelude.{ℕ, ◌+◌, if◌then◌else◌, Bool}
 use Rattle.std.specs.Option.{option_map}
 use Rattle.heap_words.specs.declared.config.Config.{Config}
 use Rattle.heap_words.specs.Words.{Word, Phase, Claim, Ask, Tams, Count, Grey, Black}
-use Rattle.pause_words.specs.Settled.{buffers_settled}
-use Rattle.pause_words.specs.Edge.{edge}
+use Rattle.image_graph.specs.Settled.{buffers_settled}
+use Rattle.image_graph.specs.Edge.{edge}
 use Rattle.heap_graph.specs.Walk.{has}
 use Rattle.heap_world.specs.World.{Block, thing, dead, Plot}
-use Rattle.pause_words.specs.Full.{held_words}
+use Rattle.image_graph.specs.Full.{held_words}
 use Rattle.cycle_words.specs.Marking.Marks.{mark_bits}
 
 -- Nothing is black, and exactly what roots, answers and pin slots hold is grey. The edges are noted, no SATB buffer has an entry, no unit is

@@ -5,8 +5,8 @@ use Rattle.heap_words.specs.Words.{Word, Cset}
 use Rattle.shen_graph.specs.Graph.{Graph}
 use Rattle.heap_graph.specs.Walk.{has}
 use Rattle.heap_world.specs.World.{Plot}
-use Rattle.pause_words.specs.Full.{held_in}
-use Rattle.pause_words.specs.Promised.{Promises}
+use Rattle.image_graph.specs.Full.{held_in}
+use Rattle.image_graph.specs.Promised.{Promises}
 use Rattle.image_graph.specs.Holds.{HoldsBy, AreSized}
 use Rattle.image_graph.specs.Buffers.{HasNoMoreSeats, settled_block}
 use Rattle.cycle_words.specs.Marking.Marks.{is_grey, is_black}

@@ -7,8 +7,8 @@ use Rattle.shen_graph.specs.declared.name.Name.{Name}
 use Rattle.shen_graph.specs.Graph.{Object}
 use Rattle.heap_world.specs.World.{Plot, Ghost, thing, AreObjects, KeepsSnapshot}
 use Rattle.heap_world.specs.Represents.{NobodyMarks}
-use Rattle.pause_words.specs.Held.{IsLedTo, IsAmong}
-use Rattle.pause_words.specs.Full.{now_in, held_words}
+use Rattle.image_graph.specs.Held.{IsLedTo, IsAmong}
+use Rattle.image_graph.specs.Full.{now_in, held_words}
 use Rattle.cycle_words.specs.Marking.Marks.{IsKept}
 
 -- an object stands at an address, and its shape word says so

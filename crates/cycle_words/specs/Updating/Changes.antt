@@ -3,8 +3,8 @@ use Rattle.std.specs.Prelude.{ℕ, ◌==◌, if◌then◌else◌, Bool}
 use Rattle.std.specs.Int.{bit_at}
 use Rattle.heap_words.specs.declared.config.Config.{Config}
 use Rattle.heap_words.specs.Words.{Word, Phase, Cset, Evac, Claim, Limit}
-use Rattle.pause_words.specs.Settled.{buffers_settled}
-use Rattle.pause_words.specs.Edge.{edge}
+use Rattle.image_graph.specs.Settled.{buffers_settled}
+use Rattle.image_graph.specs.Edge.{edge}
 use Rattle.cycle_words.specs.Marking.Final.{freed}
 
 -- a region is in the collection set

@@ -12,14 +12,14 @@ use Rattle.heap_words.specs.Encoding.{next_in, end_in}
 use Rattle.shen_graph.specs.Graph.{Graph}
 use Rattle.heap_world.specs.World.{Block, filler, spare, Plot}
 use Rattle.heap_world.proofs.Updates.{updated_same, updated_there, updated_else}
-use Rattle.pause_words.specs.Promised.{Promises}
+use Rattle.image_graph.specs.Promised.{Promises}
 use Rattle.image_graph.specs.Holds.{HoldsBy}
-use Rattle.pause_words.specs.Buffers.{is_last}
-use Rattle.pause_words.specs.Settled.{buffers_settled}
-use Rattle.pause_words.proofs.OneTurn.{last_same}
-use Rattle.pause_words.proofs.Settling.{settling_leaves}
-use Rattle.pause_words.proofs.Refitted.{refitted, tops_of, heap_of, currents_of}
-use Rattle.pause_words.proofs.SeatTurns.{IsDropped, KeepsFilling, settled_by_turns}
+use Rattle.image_graph.specs.SeatBuffers.{is_last}
+use Rattle.image_graph.specs.Settled.{buffers_settled}
+use Rattle.image_graph.proofs.OneTurn.{last_same}
+use Rattle.image_graph.proofs.Settling.{settling_leaves}
+use Rattle.image_graph.proofs.Refitted.{refitted, tops_of, heap_of, currents_of}
+use Rattle.image_graph.proofs.SeatTurns.{IsDropped, KeepsFilling, settled_by_turns}
 use Rattle.image_graph.specs.Buffers.{settled_piece, settled_block}
 use Rattle.image_graph.proofs.Loosening.Loosened.{loosened_none, loosened_on}
 use Rattle.image_graph.proofs.Loosening.OneTurn as turn

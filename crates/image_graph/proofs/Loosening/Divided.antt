@@ -8,10 +8,10 @@ use Rattle.heap_words.specs.Encoding.{end_in}
 use Rattle.shen_graph.specs.Graph.{Graph}
 use Rattle.heap_world.specs.World.{spare, Plot, HasNoRoom}
 use Rattle.heap_world.proofs.Roomless.{only_spares}
-use Rattle.pause_words.specs.Settled.{AreLast}
-use Rattle.pause_words.specs.Divided.{AreDivided}
-use Rattle.pause_words.proofs.Divided.{divided}
-use Rattle.pause_words.specs.Promised.{Promises}
+use Rattle.image_graph.specs.Settled.{AreLast}
+use Rattle.image_graph.specs.Divided.{AreDivided}
+use Rattle.image_graph.proofs.Divided.{divided}
+use Rattle.image_graph.specs.Promised.{Promises}
 use Rattle.image_graph.specs.Holds.{HoldsBy}
 use Rattle.image_graph.specs.Buffers.{HasNoMoreSeats}
 

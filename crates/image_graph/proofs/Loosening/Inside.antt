@@ -4,9 +4,9 @@ use Rattle.std.proofs.Math.Logic.{∥∥₁_elim, ∥∥₁_map}
 use Rattle.std.proofs.Math.Bridge.{le_prop}
 use Rattle.heap_words.specs.declared.config.Config.{Config}
 use Rattle.heap_words.specs.Words.{Word}
-use Rattle.pause_words.specs.Buffers.{AreInside}
+use Rattle.image_graph.specs.SeatBuffers.{AreInside}
 use Rattle.image_graph.specs.Holds.{HoldsSome}
-use Rattle.pause_words.proofs.Inside.{buffers_inside}
+use Rattle.image_graph.proofs.Inside.{buffers_inside}
 use Rattle.image_graph.specs.Buffers.{settled_block, SettlingHolds}
 
 inside_prop : (c : Config) (m : Word → ℕ) → IsProp (AreInside c m)

@@ -3,8 +3,8 @@ use Rattle.std.proofs.Common.{◌≡◌, ℕ, ◌≤◌}
 use Rattle.heap_words.specs.declared.config.Config.{Config}
 use Rattle.heap_words.specs.Ranges.{seat_count}
 use Rattle.heap_words.specs.Words.{Word, Current}
-use Rattle.pause_words.specs.Settled.{buffers_settled}
-use Rattle.pause_words.specs.LetGo.{let_go}
+use Rattle.image_graph.specs.Settled.{buffers_settled}
+use Rattle.image_graph.specs.LetGo.{let_go}
 use Rattle.image_graph.specs.Buffers.{settled_block, SettlingHolds, LettingGoHolds}
 use Rattle.image_graph.proofs.Loosening.Loosened.{loosened_sized}
 use Rattle.image_graph.proofs.Loosening.AllSettled.{settled_holds}

@@ -8,12 +8,12 @@ use Rattle.regions.specs.Place.{base_of}
 use Rattle.shen_graph.specs.Graph.{Graph}
 use Rattle.heap_world.specs.World.{filler, Plot, HasNoRoom}
 use Rattle.heap_world.proofs.Updates.{updated_same, updated_else}
-use Rattle.pause_words.specs.Promised.{Promises}
+use Rattle.image_graph.specs.Promised.{Promises}
 use Rattle.image_graph.specs.Holds.{HoldsBy}
-use Rattle.pause_words.specs.Buffers.{buffer_region, is_last}
-use Rattle.pause_words.specs.LetGo.{let_go}
-use Rattle.pause_words.proofs.Refitted.{refitted, tops_of, heap_of, currents_of}
-use Rattle.pause_words.proofs.SeatTurns.{IsDropped, AllHaveFree, KeepsTurns, let_go_by_turns, none_at_all}
+use Rattle.image_graph.specs.SeatBuffers.{buffer_region, is_last}
+use Rattle.image_graph.specs.LetGo.{let_go}
+use Rattle.image_graph.proofs.Refitted.{refitted, tops_of, heap_of, currents_of}
+use Rattle.image_graph.proofs.SeatTurns.{IsDropped, AllHaveFree, KeepsTurns, let_go_by_turns, none_at_all}
 use Rattle.image_graph.specs.Buffers.{HasNoMoreSeats}
 use Rattle.image_graph.proofs.Loosening.Divided.{none_have_room}
 use Rattle.image_graph.proofs.Loosening.Loosened.{loosened_none, loosened_on}

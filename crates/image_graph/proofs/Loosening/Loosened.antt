@@ -11,10 +11,10 @@ use Rattle.shen_graph.specs.declared.name.Name.{Name}
 use Rattle.shen_graph.specs.Graph.{Graph}
 use Rattle.heap_world.specs.World.{Block, thing, hand, promised, filler, spare, carved, words_of, room_of, is_loose, Plot, name_at, IsPlotted, IsFilled, IsFreeWord, ShareIsOpen, AreBuffers}
 use Rattle.heap_world.proofs.Loose.{SameButLoose, names_stay}
-use Rattle.pause_words.specs.Held.{IsLedTo, IsAmong}
-use Rattle.pause_words.specs.Full.{now_in, held_words}
-use Rattle.pause_words.specs.Promised.{Promises}
-use Rattle.pause_words.specs.Plot.{NamedAreThings}
+use Rattle.image_graph.specs.Held.{IsLedTo, IsAmong}
+use Rattle.image_graph.specs.Full.{now_in, held_words}
+use Rattle.image_graph.specs.Promised.{Promises}
+use Rattle.image_graph.specs.Plot.{NamedAreThings}
 use Rattle.image_graph.specs.Holds.{HasMoved, HoldsBy, AreSized}
 use Rattle.image_graph.proofs.Carried.{now_same, not_renamed, IsCarried, led_comes, carried_holds}
 use Rattle.image_graph.specs.Buffers.{HasNoMoreSeats}

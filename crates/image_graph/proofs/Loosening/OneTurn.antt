@@ -11,15 +11,15 @@ use Rattle.heap_world.specs.World.{Block, filler, spare, words_of, room_of, is_l
 use Rattle.heap_world.proofs.Updates.{updated, updated_same, updated_there, updated_else}
 use Rattle.heap_world.proofs.Pieces.{piece_cases}
 use Rattle.heap_world.proofs.Apart.{far}
-use Rattle.pause_words.specs.Promised.{Promises}
+use Rattle.image_graph.specs.Promised.{Promises}
 use Rattle.image_graph.specs.Holds.{HoldsBy}
-use Rattle.pause_words.specs.Buffers.{buffer_region, is_last, IsInside}
-use Rattle.pause_words.proofs.Refitted.{refitted, tops_of, heap_of, currents_of}
-use Rattle.pause_words.proofs.SeatTurns.{IsDropped, AllHaveFree}
-use Rattle.pause_words.proofs.Inside.{buffer_inside}
-use Rattle.pause_words.proofs.Emptied.{buffers_dropped, dropped_fewer, without_fewer}
-use Rattle.pause_words.proofs.Without.{buffers_without, buffers_cut}
-use Rattle.pause_words.proofs.CutOff.{CanCutOff, falls, stays, came, plotted_without, filled_without}
+use Rattle.image_graph.specs.SeatBuffers.{buffer_region, is_last, IsInside}
+use Rattle.image_graph.proofs.Refitted.{refitted, tops_of, heap_of, currents_of}
+use Rattle.image_graph.proofs.SeatTurns.{IsDropped, AllHaveFree}
+use Rattle.image_graph.proofs.Inside.{buffer_inside}
+use Rattle.image_graph.proofs.Emptied.{buffers_dropped, dropped_fewer, without_fewer}
+use Rattle.image_graph.proofs.Without.{buffers_without, buffers_cut}
+use Rattle.image_graph.proofs.CutOff.{CanCutOff, falls, stays, came, plotted_without, filled_without}
 use Rattle.image_graph.proofs.Loosening.Resized.{IsResized, resized_plotted, resized_filled}
 use Rattle.image_graph.proofs.Loosening.Loosened.{is_of_buffers, IsLoosened, loosened_holds}
 

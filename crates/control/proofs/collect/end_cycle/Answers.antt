@@ -2,7 +2,7 @@ use Rattle.std.proofs.Common.{◌≡◌, ℕ, true, false, ⊎_elim, sym, ap, �
 use Rattle.std.proofs.lemmas.Bool.{cases_Bool}
 use Rattle.heap_words.specs.Words.{Word}
 use Rattle.heap_words.specs.declared.config.Config.{Config}
-use Rattle.pause_words.specs.Full.{full}
+use Rattle.image_graph.specs.Full.{full}
 use Rattle.image_graph.specs.Holds.{HoldsSized}
 use Rattle.image_graph.specs.State.{config_of, memory_of}
 use Rattle.cycle_words.specs.Finishing.Finish.{finished, is_whole}

@@ -5,7 +5,7 @@ use Rattle.std.proofs.lemmas.List.{get_or-set_same, get_or-set_other}
 use Rattle.heap_words.specs.declared.config.Config.{Config}
 use Rattle.heap_words.specs.Ranges.{seat_count}
 use Rattle.heap_words.specs.Words.{Current, word_at}
-use Rattle.pause_words.specs.Buffers.{IsInside}
+use Rattle.image_graph.specs.SeatBuffers.{IsInside}
 use Rattle.image_graph.specs.State.{config_of, memory_of}
 use Rattle.control.specs.Starts.{start_index, IsHeapIndex, AreHeapIndices}
 use Rattle.control.proofs.Starting.{one_more_of_heap}

@@ -4,7 +4,7 @@ use Rattle.cycle_words.specs.Evacuation.Copied.{copy_room}
 use Rattle.heap_words.specs.declared.config.Config.{Config}
 use Rattle.heap_words.specs.Words.{Word, Heap, IsWord, word_at}
 use Rattle.heap_words.specs.Encoding.{is_forwarded, forwardee_in}
-use Rattle.pause_words.specs.Full.{now_in}
+use Rattle.image_graph.specs.Full.{now_in}
 use Rattle.image_graph.specs.State.{config_of, memory_of}
 use Rattle.image_graph.proofs.NamedStores.{placed_inside}
 use Rattle.cset_choice.proofs.Objects.{collected_of_heap}

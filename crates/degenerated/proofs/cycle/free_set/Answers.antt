@@ -2,7 +2,7 @@ use Rattle.std.proofs.Common.{◌≡◌, ◌<◌, ℕ, ◌&&◌, ◌==◌, not, 
 use Rattle.std.proofs.lemmas.Bool.{cases_Bool}
 use Rattle.heap_words.specs.declared.config.Config.{Config}
 use Rattle.heap_words.specs.Words.{Word}
-use Rattle.pause_words.specs.Pinned.{is_pinned, filled_in, CanFill}
+use Rattle.image_graph.specs.Pinned.{is_pinned, filled_in, CanFill}
 use Rattle.image_graph.specs.State.{config_of, words_of, memory_of}
 use Rattle.mark_core.specs.Steps.{freed_one}
 use Rattle.cycle_words.specs.Updating.Changes.{is_chosen}

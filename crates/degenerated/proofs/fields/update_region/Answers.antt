@@ -3,9 +3,9 @@ use Rattle.heap_words.specs.declared.config.Config.{Config}
 use Rattle.heap_words.specs.Words.{Word, Top, Heap}
 use Rattle.regions.specs.Place.{base_of}
 use Rattle.regions.specs.Walk.{start_of, stride_at}
-use Rattle.pause_words.specs.Pinned.{object_of}
+use Rattle.image_graph.specs.Pinned.{object_of}
 use Rattle.image_graph.specs.State.{config_of, memory_of}
-use Rattle.pause_words.proofs.Starts.{start_first}
+use Rattle.image_graph.proofs.PieceStarts.{start_first}
 use Rattle.cycle_words.specs.Finishing.Updated.{stays, is_staying, CanUpdateAll}
 use Rattle.degenerated.specs.Steps.{kept_now, fields_updated, is_at, is_below, is_of}
 use Rattle.degenerated.proofs.UpdatedFields.{CanRead, staying_told, object_in, same_fields, no_fields, can_still, same_object, then_updated, last_in_heap, here, still, none_below, addresses_apart, one_address_more, fields_below}

@@ -2,8 +2,8 @@ use Rattle.std.proofs.Common.{◌≡◌, ◌≤◌, ◌<◌, ◌+◌, ◌^◌, �
 use Rattle.std.proofs.Math.Nat.{pow-le-pow_right}
 use Rattle.heap_words.specs.declared.config.Config.{Config}
 use Rattle.heap_words.specs.Words.{Top, Free, write}
-use Rattle.pause_words.specs.Full.{empty_regions}
-use Rattle.pause_words.proofs.FreeWord.{empty_small}
+use Rattle.image_graph.specs.Full.{empty_regions}
+use Rattle.image_graph.proofs.FreeWord.{empty_small}
 use Rattle.image_graph.specs.State.{config_of, memory_of}
 use Rattle.image_graph.proofs.NamedStores.{stored}
 use Rattle.full_cycle.proofs.RangeWords.{empty_none, empty_more}

@@ -1,7 +1,7 @@
 use Rattle.std.proofs.Common.{◌≡◌, ℕ, sym, ap, ◌∙◌}
 use Rattle.heap_words.specs.declared.config.Config.{Config}
 use Rattle.heap_words.specs.Words.{Word}
-use Rattle.pause_words.specs.Full.{held_in, served, refused}
+use Rattle.image_graph.specs.Full.{held_in, served, refused}
 use Rattle.image_graph.specs.State.{config_of, memory_of}
 use Rattle.full_cycle.specs.Collect.{CanCollect}
 use Rattle.image_graph.proofs.Same.{memory_same, carried}

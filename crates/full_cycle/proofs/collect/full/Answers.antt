@@ -4,8 +4,8 @@ use Rattle.std.proofs.lemmas.Bool.Decides.{nat_tests}
 use Rattle.heap_words.specs.declared.config.Config.{Config}
 use Rattle.heap_words.specs.Words.{Word, Current}
 use Rattle.heap_words.proofs.Stores.{view_none}
-use Rattle.pause_words.specs.LetGo.{let_go}
-use Rattle.pause_words.specs.Full.{full_from}
+use Rattle.image_graph.specs.LetGo.{let_go}
+use Rattle.image_graph.specs.Full.{full_from}
 use Rattle.image_graph.specs.State.{config_of, words_of, memory_of}
 use Rattle.image_graph.specs.Holds.{HoldsSome}
 use Rattle.image_graph.specs.Buffers.{HasNoMoreSeats, LettingGoHolds}

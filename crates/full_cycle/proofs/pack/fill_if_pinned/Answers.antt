@@ -1,7 +1,7 @@
 use Rattle.std.proofs.Common.{ℕ, Bool, sym, ap, ◌∙◌, ◌==◌, ◌&&◌}
 use Rattle.std.proofs.Math.Path.{fun_ext}
 use Rattle.heap_words.specs.Words.{Word}
-use Rattle.pause_words.specs.Pinned.{is_pinned, filled_in}
+use Rattle.image_graph.specs.Pinned.{is_pinned, filled_in}
 use Rattle.image_graph.specs.Leftovers.{is_left_over}
 use Rattle.image_graph.specs.declared.leftovers.Leftover.TheVariants.{NotFound}
 use Rattle.image_graph.specs.State.{config_of, memory_of, found_of}

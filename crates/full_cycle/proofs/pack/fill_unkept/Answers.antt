@@ -2,7 +2,7 @@ use Rattle.std.proofs.Common.{◌≡◌, ◌<◌, ℕ, ◌==◌, ◌&&◌, List,
 use Rattle.heap_words.specs.declared.config.Config.{Config}
 use Rattle.heap_words.specs.Words.{Word}
 use Rattle.heap_graph.specs.Walk.{IsMarked}
-use Rattle.pause_words.specs.Pinned.{is_pinned, filled_in, CanFill}
+use Rattle.image_graph.specs.Pinned.{is_pinned, filled_in, CanFill}
 use Rattle.image_graph.specs.Leftovers.{is_left_over}
 use Rattle.image_graph.specs.declared.leftovers.Leftover.TheVariants.{NotFound}
 use Rattle.image_graph.specs.State.{config_of, memory_of, found_of, marks_of}

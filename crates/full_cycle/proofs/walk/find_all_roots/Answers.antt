@@ -2,7 +2,7 @@ use Rattle.std.proofs.Common.{ℕ, map, ap, ◌∙◌}
 use Rattle.std.specs.List.{range_with_len}
 use Rattle.heap_words.specs.Words.{Word, Root}
 use Rattle.heap_graph.specs.Walk.{with_addresses}
-use Rattle.pause_words.specs.Full.{copies_of}
+use Rattle.image_graph.specs.Full.{copies_of}
 use Rattle.image_graph.specs.State.{memory_of, found_of}
 use Rattle.image_graph.proofs.Same.{memory_same, both}
 use Rattle.full_cycle.proofs.Listed.{roots_more}

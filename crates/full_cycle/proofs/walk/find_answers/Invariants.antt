@@ -1,6 +1,6 @@
 use Rattle.std.proofs.Common.{◌≡◌}
 use Rattle.heap_graph.specs.Walk.{with_addresses}
-use Rattle.pause_words.specs.Full.{copies_of, answers_below}
+use Rattle.image_graph.specs.Full.{copies_of, answers_below}
 use Rattle.image_graph.specs.State.{memory_of, found_of, AreFound, IsUnchanged}
 use Rattle.full_cycle.proofs.walk.find_answers.Given as goal
 

@@ -4,12 +4,12 @@ use Rattle.heap_words.specs.declared.config.Config.{Config}
 use Rattle.heap_words.specs.Words.{Word, heap_size}
 use Rattle.heap_graph.specs.Walk.{with_addresses}
 use Rattle.heap_graph.proofs.Marks as marks
-use Rattle.pause_words.specs.Full.{copies_of, roots_below, answers_below, field_words, kept_in}
-use Rattle.pause_words.specs.Pinned.{pins_below}
+use Rattle.image_graph.specs.Full.{copies_of, roots_below, answers_below, field_words, kept_in}
+use Rattle.image_graph.specs.Pinned.{pins_below}
 use Rattle.image_graph.specs.State.{config_of, memory_of, found_of, marks_of}
 use Rattle.full_cycle.specs.Collect.{found_in_turns}
 use Rattle.image_graph.proofs.Same.{memory_same, carried, both}
-use Rattle.pause_words.proofs.FoundInTurn.{is_none, none_left}
+use Rattle.image_graph.proofs.FoundInTurn.{is_none, none_left}
 use Rattle.full_cycle.proofs.Listed.{no_turn, next_turn, last_turn}
 use Rattle.full_cycle.proofs.walk.find_held.Goals as goal
 

@@ -3,7 +3,7 @@ use Rattle.std.specs.List.{range_with_len}
 use Rattle.heap_words.specs.declared.config.Config.{Config}
 use Rattle.heap_words.specs.Words.{Pin, word_at}
 use Rattle.heap_graph.specs.Walk.{with_addresses}
-use Rattle.pause_words.specs.Full.{copies_of}
+use Rattle.image_graph.specs.Full.{copies_of}
 use Rattle.image_graph.specs.State.{config_of, memory_of, found_of}
 use Rattle.full_cycle.specs.Collect.{LeadsToHeld}
 use Rattle.image_graph.proofs.Same.{memory_same, carried, both}

@@ -1,5 +1,5 @@
 use Rattle.std.proofs.Common.{◌≡◌, ◌<◌, ◌≤◌, ℕ, length, get_or}
-use Rattle.pause_words.specs.Plot.{heap_end}
+use Rattle.image_graph.specs.Plot.{heap_end}
 use Rattle.graph_placing.specs.ByName.{end_behind, address_of}
 use Rattle.graph_placing.proofs.addresses.addresses.Given as goal
 

@@ -1,5 +1,5 @@
 use Rattle.std.proofs.Common.{◌≡◌, ◌≤◌}
-use Rattle.pause_words.specs.Plot.{heap_end}
+use Rattle.image_graph.specs.Plot.{heap_end}
 use Rattle.graph_placing.specs.ByName.{end_behind}
 use Rattle.graph_placing.proofs.addresses.fits.Given as goal
 

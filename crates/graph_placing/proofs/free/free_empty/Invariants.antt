@@ -1,6 +1,6 @@
 use Rattle.std.proofs.Common.{◌≡◌}
 use Rattle.heap_words.specs.Words.{Top}
-use Rattle.pause_words.specs.Full.{empty_regions}
+use Rattle.image_graph.specs.Full.{empty_regions}
 use Rattle.image_graph.specs.State.{memory_of}
 use Rattle.graph_placing.proofs.free.free_empty.Given as goal
 

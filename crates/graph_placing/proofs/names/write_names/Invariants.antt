@@ -1,5 +1,5 @@
 use Rattle.std.proofs.Common.{◌≡◌, ◌≤◌, take}
-use Rattle.pause_words.specs.Plot.{heap_end}
+use Rattle.image_graph.specs.Plot.{heap_end}
 use Rattle.shen_graph.specs.GraphText.{names_of}
 use Rattle.image_graph.specs.State.{config_of, memory_of}
 use Rattle.graph_placing.specs.ByName.{end_behind}

@@ -1,7 +1,7 @@
 use Rattle.std.proofs.Common.{◌≡◌, ℕ, length, sym, ap, ◌∙◌, subst}
 use Rattle.heap_words.specs.declared.config.Config.{Config}
 use Rattle.heap_words.specs.Words.{Word, Left, Free, Top, write}
-use Rattle.pause_words.specs.Full.{empty_regions}
+use Rattle.image_graph.specs.Full.{empty_regions}
 use Rattle.image_graph.specs.State.{config_of, memory_of}
 use Rattle.image_graph.proofs.NamedStores.{stored}
 use Rattle.graph_placing.specs.PlacedHeap.{IsPlaced}

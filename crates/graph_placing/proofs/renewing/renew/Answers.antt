@@ -5,7 +5,7 @@ use Rattle.heap_words.specs.declared.config.Config.{Config}
 use Rattle.image_graph.specs.State.{config_of, memory_of}
 use Rattle.shen_graph.specs.GraphText.{names_of}
 use Rattle.graph_placing.specs.ByName.{end_behind, Fits}
-use Rattle.pause_words.specs.Plot.{heap_end}
+use Rattle.image_graph.specs.Plot.{heap_end}
 use Rattle.graph_placing.specs.PlacedHeap.{IsPlaced}
 use Rattle.graph_placing.specs.PlaceableText.{IsPlaceable}
 use Rattle.graph_placing.specs.TextGraph.{text_graph}

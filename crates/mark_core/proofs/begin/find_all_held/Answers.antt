@@ -2,9 +2,9 @@ use Rattle.std.proofs.Common.{◌≡◌, ℕ, [], ap, ◌∙◌}
 use Rattle.heap_words.specs.declared.config.Config.{Config}
 use Rattle.heap_words.specs.Words.{Word}
 use Rattle.heap_graph.specs.Walk.{with_addresses}
-use Rattle.pause_words.specs.Full.{roots_below, answers_below, root_words}
-use Rattle.pause_words.specs.Pinned.{pins_below}
-use Rattle.pause_words.proofs.FoundInTurn.{noted_both}
+use Rattle.image_graph.specs.Full.{roots_below, answers_below, root_words}
+use Rattle.image_graph.specs.Pinned.{pins_below}
+use Rattle.image_graph.proofs.FoundInTurn.{noted_both}
 use Rattle.image_graph.specs.State.{config_of, memory_of, found_of}
 use Rattle.image_graph.proofs.Same.{memory_same, both}
 use Rattle.mark_core.proofs.begin.find_all_held.Goals as goal

@@ -1,7 +1,7 @@
 use Rattle.std.proofs.Common.{ℕ, ap, ◌∙◌, sym, subst}
 use Rattle.heap_words.specs.declared.config.Config.{Config}
 use Rattle.heap_words.specs.Words.{Word}
-use Rattle.pause_words.specs.Settled.{buffers_settled}
+use Rattle.image_graph.specs.Settled.{buffers_settled}
 use Rattle.image_graph.specs.State.{config_of, memory_of}
 use Rattle.cycle_words.specs.Marking.Init.{marking_begun}
 use Rattle.mark_core.specs.Trace.{HasRootsInside}

@@ -1,7 +1,7 @@
 use Rattle.std.proofs.Common.{◌≡◌, ◌<◌, ℕ, ap, ◌∙◌, arith}
 use Rattle.heap_words.specs.declared.config.Config.{Config}
 use Rattle.heap_words.specs.Words.{Word, Tams, word_at, write}
-use Rattle.pause_words.specs.Edge.{edge}
+use Rattle.image_graph.specs.Edge.{edge}
 use Rattle.image_graph.specs.State.{config_of, memory_of}
 use Rattle.image_graph.proofs.NamedStores.{stored}
 use Rattle.mark_core.specs.Steps.{noted}

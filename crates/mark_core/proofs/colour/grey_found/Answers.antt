@@ -6,7 +6,7 @@ use Rattle.heap_words.specs.Words.{Word, Grey, Heap, IsWord, word_at, heap_size,
 use Rattle.regions.proofs.MarksApart.{word_inside}
 use Rattle.heap_graph.specs.Walk.{has}
 use Rattle.heap_graph.proofs.Marks as marks
-use Rattle.pause_words.proofs.FoundInTurn.{is_none, none_left}
+use Rattle.image_graph.proofs.FoundInTurn.{is_none, none_left}
 use Rattle.image_graph.specs.State.{config_of, memory_of, found_of, marks_of}
 use Rattle.mark_core.specs.Steps.{greyed}
 use Rattle.mark_core.proofs.FoundStays.{still_found, found_inside}

@@ -3,7 +3,7 @@ use Rattle.std.specs.Prelude.{◌&&◌, nat_lt, if◌then◌else◌}
 use Rattle.heap_words.specs.Words.{Word, Current}
 use Rattle.heap_words.specs.Encoding.{next_in}
 use Rattle.regions.specs.Place.{base_of}
-use Rattle.pause_words.specs.Edge.{is_last_in}
+use Rattle.image_graph.specs.Edge.{is_last_in}
 use Rattle.image_graph.specs.State.{config_of, memory_of}
 use Rattle.image_graph.proofs.BufferTurns.{edge_first, edge_next}
 use Rattle.image_graph.proofs.image.Image.edge.Goals as goal

@@ -1,5 +1,5 @@
 use Rattle.std.proofs.Common.{◌≡◌}
-use Rattle.pause_words.specs.Edge.{edge_below}
+use Rattle.image_graph.specs.Edge.{edge_below}
 use Rattle.image_graph.specs.State.{config_of, memory_of}
 use Rattle.image_graph.proofs.image.Image.edge.Given as goal
 

@@ -4,7 +4,7 @@ use Rattle.std.specs.Prelude.{nat_lt}
 use Rattle.heap_words.specs.Words.{Word, Heap, IsWord, word_at, write}
 use Rattle.heap_words.specs.Encoding.{next_in, end_in, filler_header}
 use Rattle.regions.proofs.PlaceLemmas.{regions_tile}
-use Rattle.pause_words.specs.Buffers.{buffer_region}
+use Rattle.image_graph.specs.SeatBuffers.{buffer_region}
 use Rattle.image_graph.specs.State.{config_of, memory_of}
 use Rattle.image_graph.proofs.image.Image.fill.Goals as goal
 

@@ -3,13 +3,13 @@ use Rattle.heap_words.specs.declared.config.Config.{Config}
 use Rattle.heap_words.specs.Words.{Word, Top, Heap, IsWord}
 use Rattle.regions.specs.Place.{base_of}
 use Rattle.regions.specs.Walk.{is_filler, stride_at, start_of}
-use Rattle.pause_words.specs.Pinned.{CanFill, is_filled_from}
+use Rattle.image_graph.specs.Pinned.{CanFill, is_filled_from}
 use Rattle.image_graph.specs.declared.leftovers.Leftover.{Leftover}
 use Rattle.image_graph.specs.State.{config_of, memory_of, found_of}
 use Rattle.image_graph.specs.Leftovers.{is_left_over}
 use Rattle.image_graph.proofs.Room.{room_in_heap}
 use Rattle.image_graph.proofs.Same.{found_same}
-use Rattle.pause_words.proofs.Starts.{start_first}
+use Rattle.image_graph.proofs.PieceStarts.{start_first}
 use Rattle.image_graph.proofs.Filling.{filled_at, is_below, left_is_object, left_same, filled_none, filled_all, still, last_read, ends_here, goes_on, place_read, turn}
 use Rattle.image_graph.proofs.image.Image.fill_leftovers.Goals as goal
 use Rattle.image_graph.proofs.image.Image.fill_leftovers.Goals.{then-ends_at, else-ends_at}

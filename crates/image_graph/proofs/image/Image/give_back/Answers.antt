@@ -2,7 +2,7 @@ use Rattle.std.proofs.Common.{◌≡◌, ℕ, ◌-◌, sym, ap, ◌∙◌}
 use Rattle.heap_words.specs.Words.{Word, Top, word_at, write}
 use Rattle.heap_words.specs.Encoding.{next_in}
 use Rattle.regions.specs.Place.{base_of}
-use Rattle.pause_words.specs.Buffers.{buffer_region}
+use Rattle.image_graph.specs.SeatBuffers.{buffer_region}
 use Rattle.image_graph.specs.State.{config_of, memory_of}
 use Rattle.image_graph.proofs.image.Image.give_back.Goals as goal
 

@@ -4,7 +4,7 @@ use Rattle.heap_words.specs.declared.config.Config.{Config}
 use Rattle.heap_words.specs.Words.{Word, Top, Wait}
 use Rattle.heap_words.specs.Encoding.{object_words, request_shape_in}
 use Rattle.regions.specs.ServedRooms.{NoneHasRoom}
-use Rattle.pause_words.specs.Full.{served, served_in, room_for}
+use Rattle.image_graph.specs.Full.{served, served_in, room_for}
 use Rattle.image_graph.specs.State.{config_of, memory_of}
 use Rattle.image_graph.proofs.Turns.{served_none, turned, left_at, left_from, IsTold, told_left, told_served}
 use Rattle.image_graph.proofs.image.Image.give_turns.Goals as goal

@@ -1,5 +1,5 @@
 use Rattle.std.proofs.Common.{◌≡◌}
-use Rattle.pause_words.specs.Full.{served}
+use Rattle.image_graph.specs.Full.{served}
 use Rattle.image_graph.specs.State.{config_of, memory_of}
 use Rattle.image_graph.specs.Make.{AreWithin}
 use Rattle.image_graph.proofs.Turns.{IsTold}

@@ -1,9 +1,9 @@
 use Rattle.std.proofs.Common.{◌≡◌, ℕ, sym, ap, ◌∙◌, ⊎_elim, arith}
 use Rattle.std.proofs.lemmas.Bool.{cases_eq}
 use Rattle.heap_words.specs.Words.{Word, Pin}
-use Rattle.pause_words.specs.Pinned.{lies_in}
+use Rattle.image_graph.specs.Pinned.{lies_in}
 use Rattle.image_graph.specs.State.{config_of, memory_of}
-use Rattle.pause_words.proofs.PinnedRows.{range_has_any}
+use Rattle.image_graph.proofs.PinnedRows.{range_has_any}
 use Rattle.image_graph.proofs.RegionSets.{none_passes}
 use Rattle.image_graph.proofs.image.Image.has_pin.Goals as goal
 

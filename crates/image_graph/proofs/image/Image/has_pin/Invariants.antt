@@ -1,6 +1,6 @@
 use Rattle.std.proofs.Common.{◌≡◌, ℕ, ◌<◌, false}
 use Rattle.heap_words.specs.Words.{Pin}
-use Rattle.pause_words.specs.Pinned.{lies_in}
+use Rattle.image_graph.specs.Pinned.{lies_in}
 use Rattle.image_graph.specs.State.{config_of, memory_of}
 use Rattle.image_graph.proofs.image.Image.has_pin.Given as goal
 

@@ -1,8 +1,8 @@
 use Rattle.std.proofs.Common.{◌≡◌, sym, ap, ◌∙◌, ⊎_elim, arith}
 use Rattle.std.proofs.lemmas.Bool.{cases_eq}
-use Rattle.pause_words.specs.Pinned.{has_pin}
+use Rattle.image_graph.specs.Pinned.{has_pin}
 use Rattle.image_graph.specs.State.{config_of, memory_of}
-use Rattle.pause_words.proofs.PinnedRows.{range_has_any}
+use Rattle.image_graph.proofs.PinnedRows.{range_has_any}
 use Rattle.image_graph.proofs.RegionSets.{none_passes}
 use Rattle.image_graph.proofs.image.Image.is_pinned.Goals as goal
 

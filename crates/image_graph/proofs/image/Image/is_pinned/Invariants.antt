@@ -1,5 +1,5 @@
 use Rattle.std.proofs.Common.{◌≡◌, ℕ, ◌<◌, false}
-use Rattle.pause_words.specs.Pinned.{has_pin}
+use Rattle.image_graph.specs.Pinned.{has_pin}
 use Rattle.image_graph.specs.State.{config_of, memory_of}
 use Rattle.image_graph.proofs.image.Image.is_pinned.Given as goal
 

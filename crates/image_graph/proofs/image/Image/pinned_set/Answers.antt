@@ -1,7 +1,7 @@
 use Rattle.std.proofs.Common.{◌+◌, ◌*◌, ◌^◌, ◌<◌, ℕ, if◌then◌else◌, sym, ap, ◌∙◌, subst}
-use Rattle.pause_words.specs.Pinned.{is_pinned}
+use Rattle.image_graph.specs.Pinned.{is_pinned}
 use Rattle.image_graph.specs.State.{config_of, memory_of}
-use Rattle.pause_words.proofs.FreeWord.{set_small}
+use Rattle.image_graph.proofs.FreeWord.{set_small}
 use Rattle.image_graph.proofs.RegionSets.{set_none, set_more}
 use Rattle.image_graph.proofs.image.Image.pinned_set.Goals as goal
 

@@ -1,5 +1,5 @@
 use Rattle.std.proofs.Common.{◌≡◌}
-use Rattle.pause_words.specs.Pinned.{is_pinned, set_of}
+use Rattle.image_graph.specs.Pinned.{is_pinned, set_of}
 use Rattle.image_graph.specs.State.{config_of, memory_of}
 use Rattle.image_graph.proofs.image.Image.pinned_set.Given as goal
 

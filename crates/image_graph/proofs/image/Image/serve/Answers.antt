@@ -1,8 +1,8 @@
 use Rattle.std.proofs.Common.{ℕ, sym, subst, arith}
 use Rattle.heap_words.specs.Words.{Word}
-use Rattle.pause_words.specs.Image.{ImageStands}
-use Rattle.pause_words.specs.Serving.{served_block, served_promises}
-use Rattle.pause_words.proofs.Serving.{served_stands}
+use Rattle.image_graph.specs.Image.{ImageStands}
+use Rattle.image_graph.specs.Serving.{served_block, served_promises}
+use Rattle.image_graph.proofs.Serving.{served_stands}
 use Rattle.image_graph.specs.State.{config_of, memory_of}
 use Rattle.image_graph.specs.Left.{HoldsServed}
 use Rattle.image_graph.proofs.ServedHolds.{serving_holds}

@@ -2,8 +2,8 @@ use Rattle.std.proofs.Common.{◌≡◌, ℕ, ◌<◌, refl, sym, ap, ◌∙◌,
 use Rattle.heap_words.specs.declared.config.Config.{Config}
 use Rattle.heap_words.specs.Ranges.{seat_count}
 use Rattle.heap_words.specs.Words.{Word, Current}
-use Rattle.pause_words.specs.Buffers.{IsInside}
-use Rattle.pause_words.specs.Settled.{settled_at, settled_below, buffers_settled}
+use Rattle.image_graph.specs.SeatBuffers.{IsInside}
+use Rattle.image_graph.specs.Settled.{settled_at, settled_below, buffers_settled}
 use Rattle.image_graph.specs.State.{config_of, words_of, memory_of}
 use Rattle.image_graph.specs.Buffers.{SettlingHolds}
 use Rattle.image_graph.proofs.Loosening.Laws.{settling_holds}

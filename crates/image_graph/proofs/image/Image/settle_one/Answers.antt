@@ -1,6 +1,6 @@
 use Rattle.std.proofs.Common.{◌≡◌, ◌≢◌, ℕ, false, sym, ap, ◌∙◌}
 use Rattle.heap_words.specs.Words.{Word, Current, write}
-use Rattle.pause_words.specs.Buffers.{is_last, filled_over}
+use Rattle.image_graph.specs.SeatBuffers.{is_last, filled_over}
 use Rattle.image_graph.specs.State.{config_of, memory_of}
 use Rattle.image_graph.proofs.NamedStores.{stored}
 use Rattle.image_graph.proofs.BufferTurns.{settled_gone}

@@ -1,0 +1,112 @@
+-- The image after packing stands for the same graph.
+use Rattle.std.proofs.Common.{◌≡◌, ◌≢◌, ℕ, ◌+◌, ◌/◌, ◌<◌, inl, inr, Bool, true, false, not, Option, List, ⊎_elim, sym, ap, ◌∙◌, arith}
+use Rattle.std.specs.Prelude.{if◌then◌else◌}
+use Rattle.std.proofs.lemmas.Bool.{cond-true, cond-false, cases_Bool, not_from_true, not_from_false}
+use Rattle.std.proofs.lemmas.Option.{same_Some}
+use Rattle.heap_words.specs.declared.config.Config.{Config}
+use Rattle.heap_words.specs.Words.{Word, Top, Heap}
+use Rattle.regions.specs.Places.{new_place, open_kept}
+use Rattle.regions.specs.Tops.{sum_below}
+use Rattle.regions.specs.SlideLaws.{tops_where}
+use Rattle.regions.proofs.Placed.{new_shut}
+use Rattle.regions.proofs.Sums.{sum_same}
+use Rattle.regions.proofs.Tops.{tops_are_words, top_in_shut}
+use Rattle.shen_graph.specs.declared.name.Name.{Name}
+use Rattle.shen_graph.specs.Graph.{Graph, Object}
+use Rattle.heap_world.specs.World.{Block, Plot, thing, words_of, name_at, AreObjects}
+use Rattle.image_graph.specs.Held.{from_root, IsAmong, IsCopy}
+use Rattle.image_graph.specs.Plot.{AreThings, heap_end, packed_block, packed_top}
+use Rattle.image_graph.specs.Packing.{CanPack}
+use Rattle.image_graph.specs.Full.{packed, top_then}
+use Rattle.image_graph.specs.Laws.{IsBeforePacking, KeepsGraph}
+use Rattle.image_graph.proofs.Reached.{can_pack, none_at_0}
+use Rattle.image_graph.proofs.Origin as origins
+use Rattle.image_graph.proofs.PackedPieces.{slid_is_plotted, slid_is_filled}
+use Rattle.image_graph.proofs.Things.{renewed_points, slid_are_objects}
+use Rattle.image_graph.proofs.PackedWords.{placed_words, fillers_say}
+use Rattle.image_graph.proofs.FreeWord.{free_again}
+
+-- the tops of open regions are together what is kept in them, whatever stands in shut ones
+pub open_tops_sum : (c : Config) (memory : Word → ℕ) (block : Plot) (object : Name → Option Object) (shut : ℕ → Bool) (now kept : ℕ → ℕ)
+    → CanPack c (λ r. memory (Top r)) (λ a. memory (Heap a)) block object now kept
+    → tops_where (λ r. not (shut (r + 1))) (λ r. packed c shut now kept memory (Top r)) c.regions ≡ sum_below (open_kept c.region_words shut kept) (heap_end c)
+unfolding packed
+open_tops_sum c memory block object shut now kept can =
+    let top : ℕ → ℕ = λ r. memory (Top r) in
+    let heap : ℕ → ℕ = λ a. memory (Heap a) in
+    let lie = origins.lie_apart c top heap block object now kept can in
+    let one : ℕ → ℕ = λ r. if not (shut (r + 1)) then top_then c shut kept memory r else 0 in
+    let each : (r : ℕ) → r < c.regions → one r ≡ packed_top c shut kept r = λ r _. ⊎_elim
+    (λ (closed : shut (r + 1) ≡ true).
+    cond-false (not (shut (r + 1))) (top_then c shut kept memory r) 0 (not_from_true (shut (r + 1)) closed)
+    ∙ sym (top_in_shut c.region_words shut kept lie (origins.kept_low c top heap block object now kept can) r (heap_end c) closed))
+    (λ (opened : shut (r + 1) ≡ false).
+    cond-true (not (shut (r + 1))) (top_then c shut kept memory r) 0 (not_from_false (shut (r + 1)) opened)
+    ∙ cond-false (shut (r + 1)) (memory (Top r)) (packed_top c shut kept r) opened)
+    (cases_Bool (shut (r + 1))) in
+    sum_same one (packed_top c shut kept) c.regions each
+    ∙ tops_are_words c.region_words shut kept lie c.regions
+    (λ a some. (let inside = origins.kept_inside c top heap block object now kept can a some in omega (arith, inside.1, some))) (heap_end c)
+
+module _ (c : Config) (memory : Word → ℕ) (block : Plot) (g : Graph) (shut : ℕ → Bool) (now kept : ℕ → ℕ) (roots : List ℕ) (before : IsBeforePacking c memory block g shut now kept roots) where
+  abbrev top : ℕ → ℕ
+  top r = memory (Top r)
+
+  abbrev heap : ℕ → ℕ
+  heap a = memory (Heap a)
+
+  can : CanPack c top heap block g.object now kept
+  can = can_pack c top heap block now (IsAmong roots) g before.holds kept before.kept_are
+
+  abbrev place : ℕ → ℕ
+  place = new_place c.region_words shut kept
+
+  abbrev new_block : Plot
+  new_block = packed_block c shut kept block
+
+  abbrev IsFrom : ℕ → Block → Type 0
+  IsFrom p b = origins.IsFrom c top heap block g.object now kept can shut p b
+
+  abbrev IsLeft : ℕ → Block → Type 0
+  IsLeft p b = origins.IsLeft c top heap block g.object now kept can shut p b
+
+  -- each piece is an object, or only fills
+  are_things : AreThings new_block
+  are_things a piece is = ⊎_elim
+      (λ (from : IsFrom a piece).
+      let object = can.things from.0 from.1 in
+      inl (object.0, object.1, object.2, same_Some piece (thing object.0 object.1 object.2) (sym from.4 ∙ object.3)))
+      (λ (left : IsLeft a piece). inr (words_of left.0, before.parsed.some a left.0 left.3, sym left.4))
+      (origins.block_from c top heap block g.object now kept can shut a piece is)
+
+  -- the pieces are the graph's objects
+  objects_again : AreObjects (λ a. packed c shut now kept memory (Heap a)) new_block g.object
+  objects_again =
+      slid_are_objects c top heap block g.object now kept can shut (λ a. packed c shut now kept memory (Heap a))
+      (placed_words c memory block g.object now kept can shut before.parsed)
+
+  -- what a root word leads to is kept
+  led_kept : (word : ℕ) → IsAmong roots word → word ≢ 0 → 0 < kept (now word)
+  led_kept word is other = let size = before.kept_are.words (now word) (from_root word is other) in omega (arith, size)
+
+  -- what a root word holds in a shut region is where it was
+  stays_there : (word : ℕ) (name : Name) → IsAmong roots word → now word ≡ word → shut (word / c.region_words) ≡ true → IsCopy block word name → IsCopy new_block word name
+  stays_there word name is current closed copy =
+      let other = none_at_0 c top block can.plotted word name (ap name_at copy.2) in
+      let size : kept (now word) ≡ kept word = ap kept current in
+      let some : 0 < kept word = (let led = led_kept word is other in omega (arith, led, size)) in
+      (copy.0, copy.1, ap new_block (sym (new_shut c.region_words shut kept word closed)) ∙ origins.block_at c top heap block g.object now kept can shut word some ∙ copy.2)
+
+  pub keeps_graph : KeepsGraph c memory block g shut now kept roots
+  unfolding packed
+  keeps_graph = record {
+    plotted = slid_is_plotted c top heap block g.object now kept can shut before.parsed;
+    filled = slid_is_filled c top heap block g.object now kept can shut before.parsed;
+    objects = objects_again;
+    root_words = λ word r is points. renewed_points c top heap block g.object now kept can shut word r points (led_kept word is);
+    stays = stays_there;
+    free_word = free_again c (top_then c shut kept memory);
+    things = are_things;
+    fillers = fillers_say c memory block g.object now kept can shut before.parsed;
+    tops_sum = open_tops_sum c memory block g.object shut now kept can;
+  }

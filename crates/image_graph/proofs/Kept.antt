@@ -1,0 +1,66 @@
+-- The laws of settling and letting go, for both ways to represent a graph.
+use Rattle.std.proofs.Common.{◌≡◌, ℕ, Some, inl, inr, refl, ap, ◌∙◌, arith}
+use Rattle.heap_words.specs.declared.config.Config.{Config}
+use Rattle.heap_words.specs.Encoding.{end_in}
+use Rattle.heap_words.specs.Words.{Word, Cset, Evac, Top, Root}
+use Rattle.shen_graph.specs.Graph.{Graph}
+use Rattle.heap_world.specs.World.{thing, spare, Plot, IsUsable, AreUsable}
+use Rattle.heap_world.specs.Asking.{Asking}
+use Rattle.heap_world.specs.Represents.{RepresentsByCopies}
+use Rattle.heap_world.proofs.Loose.{SameButLoose}
+use Rattle.heap_world.proofs.Pieces.{some_words}
+use Rattle.heap_world.proofs.Roomless.{only_spares}
+use Rattle.image_graph.specs.LetGo.{let_go}
+use Rattle.image_graph.specs.BuffersKeep.{SettlingKeeps, LettingGoKeeps, HasNoOtherBuffers, LastDivide, NoneHaveRoom}
+use Rattle.image_graph.proofs.StandsStill.{IsOfRoots}
+use Rattle.image_graph.proofs.BuffersKept.{settled_stands, let_go_stands, let_go_trims}
+use Rattle.image_graph.proofs.Trimmed.{trim}
+use Rattle.image_graph.proofs.Divided.{divided}
+
+-- that roots may be used
+abbrev Usable : Config → (Word → ℕ) → Plot → Type 0
+Usable c m block = AreUsable c (m Cset) (m Evac) block (λ t i. m (Root t i))
+
+-- a word may be used still where objects stay
+usable_still : (c : Config) (cset evac : ℕ) (u w : Plot) → SameButLoose u w → (word : ℕ) → IsUsable c cset evac u word → IsUsable c cset evac w word
+usable_still c cset evac u w same word (inl null) = inl null
+usable_still c cset evac u w same word (inr at) = inr (at.0, at.1, at.2, record { piece = same.stays word (thing at.0 at.1 at.2) refl at.3.piece; safe = at.3.safe })
+
+usable_of_roots : (c : Config) → IsOfRoots (Usable c)
+usable_of_roots c = record {
+  refits = λ m top heap current block is. is;
+  stays = λ m u w same is. λ t i below small. usable_still c (m Cset) (m Evac) u w same (m (Root t i)) (is t i below small);
+}
+
+-- nothing is asked of them
+nothing_of_roots : IsOfRoots (λ m block. Unit {0})
+nothing_of_roots = record { refits = λ m top heap current block is. is; stays = λ m u w same is. is }
+
+pub settling_keeps : (c : Config) (m : Word → ℕ) (g : Graph) (asking : ℕ → Asking) → SettlingKeeps c m g asking
+settling_keeps c m g asking = record {
+  represents = λ r. settled_stands (Usable c) (usable_of_roots c) c g asking m r;
+  by_copies = λ r. settled_stands (λ k block. Unit {0}) nothing_of_roots c g asking m r;
+}
+
+pub letting_go_keeps : (c : Config) (m : Word → ℕ) (g : Graph) (asking : ℕ → Asking) → HasNoOtherBuffers c m → LettingGoKeeps c m g asking
+letting_go_keeps c m g asking beyond = record {
+  represents = λ r. let_go_stands (Usable c) (usable_of_roots c) c g asking m beyond r;
+  by_copies = λ r. let_go_stands (λ k block. Unit {0}) nothing_of_roots c g asking m beyond r;
+}
+
+-- Whatever seats there are, so it is but for buffers without free words.
+pub trimmed_copies : (c : Config) (m : Word → ℕ) (g : Graph) (asking : ℕ → Asking) → RepresentsByCopies c m g asking → RepresentsByCopies c (trim (let_go c m)) g asking
+trimmed_copies c m g asking r = let_go_trims (λ k block. Unit {0}) nothing_of_roots c g asking m r
+
+pub edges_divide : LastDivide
+edges_divide c m g asking r last = divided c m r.block r.shared.parsable.plotted (some_words c (λ q. m (Top q)) r.block r.shared.parsable r.shared.owned.rooms) r.shared.owned.buffers r.uncarved r.none
+    (λ a seat words is. r.shared.owned.rooms.seated a seat (spare seat words) is refl) last
+
+pub none_have_room : NoneHaveRoom
+none_have_room c m g asking r none a seat x is room =
+    let free = only_spares r.block r.none r.uncarved a seat x is room in
+    let piece : r.block a ≡ Some (spare seat free.0) = is ∙ ap Some free.1 in
+    let end = (r.shared.owned.buffers.spares a seat free.0 piece).1 in
+    let long = r.shared.owned.rooms.spares a seat free.0 piece in
+    let zero_end = ap end_in (none seat (r.shared.owned.rooms.seated a seat x is room)) in
+    omega (arith, end, long, zero_end)

@@ -1,0 +1,73 @@
+-- Where each piece is an object, or only fills, whatever stands for a name is an object.
+use Rattle.std.proofs.Common.{◌≡◌, ℕ, ◌≤◌, Some, ⊎_elim, refl, sym, ap, ◌∙◌, arith}
+use Rattle.std.proofs.lemmas.Option.{none-some, same_Some}
+use Rattle.shen_graph.specs.declared.name.Name.{Name}
+use Rattle.heap_world.specs.World.{Block, thing, moved, spent, hand, promised, dead, filler, carved, words_of, room_of, Plot, name_at, HasNoRoom}
+use Rattle.heap_world.proofs.Pointing.{named_piece}
+use Rattle.image_graph.specs.Plot.{AreThings, NamedAreThings}
+
+module _ (block : Plot) (things : AreThings block) where
+  -- an object, or words that only fill
+  abbrev IsObject : Block → Type 0
+  IsObject piece = (name : Name) × (refs : ℕ) × (nums : ℕ) × (piece ≡ thing name refs nums)
+
+  abbrev IsFiller : Block → Type 0
+  IsFiller piece = (words : ℕ) × (1 ≤ words) × (piece ≡ filler words)
+
+  -- what stands for a name is the object of that name
+  pub thing_at : (word : ℕ) (name : Name) → name_at (block word) ≡ Some name → (refs : ℕ) × (nums : ℕ) × (block word ≡ Some (thing name refs nums))
+  thing_at word name is =
+      let piece = named_piece (block word) name is in
+      ⊎_elim
+      (λ (found : IsObject piece.0).
+      let same : found.0 ≡ name = same_Some found.0 name (ap (λ x. name_at (Some x)) (sym found.3) ∙ piece.2) in
+      (found.1, found.2, piece.1 ∙ ap Some found.3 ∙ ap (λ n. Some (thing n found.1 found.2)) same))
+      (λ (fills : IsFiller piece.0). absurd (none-some name (ap (λ x. name_at (Some x)) (sym fills.2) ∙ piece.2)))
+      (things word piece.0 piece.1)
+
+  -- other kinds of pieces there are none
+  pub no_moved : (a refs nums to : ℕ) (name : Name) → block a ≡ Some (moved name refs nums to) → ⊥
+  no_moved a refs nums to name is = ⊎_elim
+      (λ (found : IsObject (moved name refs nums to)). (let other = found.3 in cc))
+      (λ (fills : IsFiller (moved name refs nums to)). (let other = fills.2 in cc))
+      (things a (moved name refs nums to) is)
+
+  pub no_spent : (a words to : ℕ) → block a ≡ Some (spent words to) → ⊥
+  no_spent a words to is = ⊎_elim
+      (λ (found : IsObject (spent words to)). (let other = found.3 in cc))
+      (λ (fills : IsFiller (spent words to)). (let other = fills.2 in cc))
+      (things a (spent words to) is)
+
+  pub no_room : HasNoRoom block
+  no_room a seat x is room = ⊎_elim
+      (λ (found : IsObject x). none-some seat (ap room_of (sym found.3) ∙ room))
+      (λ (fills : IsFiller x). none-some seat (ap room_of (sym fills.2) ∙ room))
+      (things a x is)
+
+  pub no_promised : (a seat words : ℕ) → block a ≡ Some (promised seat words) → ⊥
+  no_promised a seat words is = ⊎_elim
+      (λ (found : IsObject (promised seat words)). (let other = found.3 in cc))
+      (λ (fills : IsFiller (promised seat words)). (let other = fills.2 in cc))
+      (things a (promised seat words) is)
+
+  pub no_dead : (a words : ℕ) → block a ≡ Some (dead words) → ⊥
+  no_dead a words is = ⊎_elim
+      (λ (found : IsObject (dead words)). (let other = found.3 in cc))
+      (λ (fills : IsFiller (dead words)). (let other = fills.2 in cc))
+      (things a (dead words) is)
+
+  -- so what stands for a name is an object
+  pub some_words : (a : ℕ) (piece : Block) → block a ≡ Some piece → 1 ≤ words_of piece
+  some_words a piece is = ⊎_elim
+      (λ (found : IsObject piece). (let size = ap words_of found.3 in omega (arith, size)))
+      (λ (fills : IsFiller piece). (let size = ap words_of fills.2 in omega (arith, size, fills.1)))
+      (things a piece is)
+
+  pub named_things : NamedAreThings block
+  named_things = record {
+    named = thing_at;
+    unpromised = no_promised;
+    unheld = λ a seat words is. no_room a seat (hand seat words) is refl;
+    uncarved = λ a seat words is. no_room a seat (carved seat words) is refl;
+    some = some_words;
+  }

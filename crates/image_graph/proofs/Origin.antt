@@ -1,0 +1,195 @@
+-- Which piece stands at an address after packing: that of a kept object which is placed there, or, in a shut region, words that only fill.
+use Rattle.std.proofs.Common.{◌≡◌, ◌≢◌, ℕ, ◌+◌, ◌-◌, ◌*◌, ◌/◌, ◌%◌, ◌<◌, ◌≤◌, ◌⊎◌, ◌==◌, ◌&&◌, inl, inr, nat_lt, Bool, true, false, zero, suc, cond, Option, Some, None, ⊎_elim, refl, sym, ap, ◌∙◌, subst, arith}
+use Rattle.std.specs.Prelude.{option_and_then}
+use Rattle.std.specs.Option.{option_map}
+use Rattle.std.proofs.lemmas.Bool.{true≢false, cond-true, cond-false, cases_Bool, cases_eq, and_from, and_parts, lt-ltb, ltb-true, eq-eqb, eqb-true, ne_eqb}
+use Rattle.std.proofs.lemmas.Nat.{mod-mul-add, mul-le}
+use Rattle.std.proofs.lemmas.Option.{none-some, same_Some}
+use Rattle.heap_words.specs.declared.config.Config.{Config}
+use Rattle.regions.specs.Place.{base_of, region_with}
+use Rattle.regions.specs.Places.{new_place, LieApart}
+use Rattle.regions.specs.Slide.{PlacesApart}
+use Rattle.regions.proofs.Placed.{new_shut, stays_above, same_kind, places_apart, places_differ}
+use Rattle.shen_graph.specs.declared.name.Name.{Name}
+use Rattle.shen_graph.specs.Graph.{Object}
+use Rattle.heap_world.specs.World.{Block, thing, words_of, Plot}
+use Rattle.heap_world.proofs.Pointing.{piece_inside}
+use Rattle.image_graph.specs.Plot.{heap_end, origin, left_piece, packed_block}
+use Rattle.image_graph.specs.Packing.{CanPack}
+use Rattle.image_graph.proofs.Rows.{row_above}
+
+-- one step of the recursion
+origin_next : (place kept : ℕ → ℕ) (p a : ℕ) → origin place kept p (suc a) ≡ cond (nat_lt 0 (kept a) && (place a == p)) (Some a) (origin place kept p a)
+unfolding origin
+origin_next place kept p a = refl
+
+origin_none : (place kept : ℕ → ℕ) (p : ℕ) → origin place kept p 0 ≡ None
+unfolding origin
+origin_none place kept p = refl
+
+-- what is found is placed there
+pub origin_is : (place kept : ℕ → ℕ) (p e a : ℕ) → origin place kept p e ≡ Some a → (0 < kept a) × (a < e) × (place a ≡ p)
+origin_is place kept p zero a is = absurd (none-some a (sym (origin_none place kept p) ∙ is))
+origin_is place kept p (suc e) a is = ⊎_elim
+    (λ (here : (nat_lt 0 (kept e) && (place e == p)) ≡ true).
+    let parts = and_parts (nat_lt 0 (kept e)) (place e == p) here in
+    let same : e ≡ a = same_Some e a (sym (origin_next place kept p e ∙ cond-true (nat_lt 0 (kept e) && (place e == p)) (Some e) (origin place kept p e) here) ∙ is) in
+    subst (λ k. (0 < kept k) × (k < suc e) × (place k ≡ p)) same (ltb-true 0 (kept e) parts.0, omega arith, eqb-true (place e) p parts.1))
+    (λ (other : (nat_lt 0 (kept e) && (place e == p)) ≡ false).
+    let rest = origin_is place kept p e a (sym (origin_next place kept p e ∙ cond-false (nat_lt 0 (kept e) && (place e == p)) (Some e) (origin place kept p e) other) ∙ is) in
+    (rest.0, omega (arith, rest.1), rest.2))
+    (cases_Bool (nat_lt 0 (kept e) && (place e == p)))
+
+-- and what is placed there is found
+pub origin_found : (place kept : ℕ → ℕ) → PlacesApart place kept → (e a : ℕ) → 0 < kept a → a < e → origin place kept (place a) e ≡ Some a
+origin_found place kept apart zero a some below = absurd (omega (arith, below))
+origin_found place kept apart (suc e) a some below = ⊎_elim
+    (λ (here : (nat_lt 0 (kept e) && (place e == place a)) ≡ true).
+    let parts = and_parts (nat_lt 0 (kept e)) (place e == place a) here in
+    let same = places_differ place kept apart e a (ltb-true 0 (kept e) parts.0) some (eqb-true (place e) (place a) parts.1) in
+    origin_next place kept (place a) e
+    ∙ cond-true (nat_lt 0 (kept e) && (place e == place a)) (Some e) (origin place kept (place a) e) here ∙ ap Some same)
+    (λ (other : (nat_lt 0 (kept e) && (place e == place a)) ≡ false).
+    let differs : a ≢ e = λ same.
+    let begins : 0 < kept e = subst (λ k. 0 < kept k) same some in
+    let test = and_from (nat_lt 0 (kept e)) (place e == place a) (lt-ltb 0 (kept e) begins) (eq-eqb (place e) (place a) (ap place (sym same))) in
+    true≢false (sym test ∙ other)
+    in
+    origin_next place kept (place a) e
+    ∙ cond-false (nat_lt 0 (kept e) && (place e == place a)) (Some e) (origin place kept (place a) e) other
+    ∙ origin_found place kept apart e a some (omega (arith, below, differs)))
+    (cases_Bool (nat_lt 0 (kept e) && (place e == place a)))
+
+-- a piece that was made to fill
+from_left : (o : Option Block) (b : Block) → option_map left_piece o ≡ Some b → (x : Block) × (o ≡ Some x) × (left_piece x ≡ b)
+from_left None b is = absurd (none-some b is)
+from_left (Some x) b is = (x, refl, same_Some (left_piece x) b is)
+
+module _ (c : Config) (top heap : ℕ → ℕ) (block : Plot) (object : Name → Option Object) (now kept : ℕ → ℕ) (can : CanPack c top heap block object now kept) where
+  -- a kept object lies in the heap
+  pub kept_inside : (a : ℕ) → 0 < kept a → (c.region_words ≤ a) × (a + kept a ≤ heap_end c)
+  kept_inside a some =
+      let at = can.things a some in
+      let inside = piece_inside c top block can.plotted a (thing at.0 at.1 at.2) at.3 in
+      (inside.0, omega (arith, inside.1, at.4))
+
+  -- kept objects lie apart
+  pub lie_apart : LieApart c.region_words kept
+  lie_apart = record {
+    some = omega (arith, c.in_range.least_words);
+    above = λ a some. (kept_inside a some).0;
+    within = λ a some.
+        let at = can.things a some in
+        let used = can.plotted.in_use a (thing at.0 at.1 at.2) at.3 in
+        let most = can.plotted.tops used.region used.within in
+        let offset = a - base_of c used.region in
+        let back : (used.region + 1) * c.region_words + offset ≡ a = omega (arith, used.from_base) in
+        let small : offset < c.region_words = omega (arith, used.to_top, used.from_base, most) in
+        let rest : ((used.region + 1) * c.region_words + offset) % c.region_words ≡ offset = mod-mul-add (used.region + 1) c.region_words offset small in
+        let same : ((used.region + 1) * c.region_words + offset) % c.region_words ≡ a % c.region_words = ap (λ k. k % c.region_words) back in
+        omega (arith, used.to_top, used.from_base, most, rest, same, at.4);
+    apart = λ a b some_a some_b less.
+        let one = can.things a some_a in
+        let other = can.things b some_b in
+        let far = can.plotted.apart a b (thing one.0 one.1 one.2) (thing other.0 other.1 other.2) one.3 other.3 less in
+        omega (arith, far, one.4);
+  }
+
+  -- in at most 64 regions
+  pub kept_low : (a : ℕ) → 0 < kept a → a < 65 * c.region_words
+  kept_low a some =
+      let rows = mul-le (c.regions + 1) c.region_words 65 c.region_words (omega (arith, c.in_range.most_regions)) (omega arith) in
+      omega (arith, rows, (kept_inside a some).1, some)
+
+  module _ (shut : ℕ → Bool) where
+    abbrev place : ℕ → ℕ
+    place = new_place c.region_words shut kept
+
+    abbrev new_block : Plot
+    new_block = packed_block c shut kept block
+
+    pub places : PlacesApart place kept
+    places = places_apart c.region_words shut kept lie_apart kept_low
+
+    -- a new place is in a region of the kind that the object was in
+    pub kind : (a : ℕ) → 0 < kept a → shut (place a / c.region_words) ≡ shut (a / c.region_words)
+    kind a some = same_kind c.region_words shut kept lie_apart kept_low a some
+
+    -- what stands in a region that is shut, and in one that is not
+    abbrev stayed : ℕ → Option Block
+    stayed p = cond (kept p == 0) (option_map left_piece (block p)) (block p)
+
+    abbrev came : ℕ → Option Block
+    came p = option_and_then block (origin place kept p (heap_end c))
+
+    in_shut : (p : ℕ) → shut (region_with c p + 1) ≡ true → new_block p ≡ stayed p
+    in_shut p closed = cond-true (shut (region_with c p + 1)) (stayed p) (came p) closed
+
+    in_open : (p : ℕ) → shut (region_with c p + 1) ≡ false → new_block p ≡ came p
+    in_open p opened = cond-false (shut (region_with c p + 1)) (stayed p) (came p) opened
+
+    -- at the new place of a kept object is its piece
+    pub block_at : (a : ℕ) → 0 < kept a → new_block (place a) ≡ block a
+    block_at a some =
+        let row : shut (region_with c (place a) + 1) ≡ shut (a / c.region_words) =
+        ap shut (row_above c (place a) (stays_above c.region_words shut kept lie_apart a some)) ∙ kind a some in
+        ⊎_elim
+        (λ (closed : shut (a / c.region_words) ≡ true).
+        let stays : place a ≡ a = new_shut c.region_words shut kept a closed in
+        let size : kept (place a) ≡ kept a = ap kept stays in
+        in_shut (place a) (row ∙ closed)
+        ∙ cond-false (kept (place a) == 0) (option_map left_piece (block (place a))) (block (place a)) (ne_eqb (kept (place a)) 0 (λ none. omega (arith, none, size, some)))
+        ∙ ap block stays)
+        (λ (opened : shut (a / c.region_words) ≡ false).
+        let inside = kept_inside a some in
+        in_open (place a) (row ∙ opened) ∙ ap (option_and_then block) (origin_found place kept places (heap_end c) a some (omega (arith, inside.1, some))))
+        (cases_Bool (shut (a / c.region_words)))
+
+    -- an old piece of a shut region leaves a piece there
+    pub block_stays : (p : ℕ) (x : Block) → shut (p / c.region_words) ≡ true → block p ≡ Some x → (b : Block) × (new_block p ≡ Some b)
+    block_stays p x closed is =
+        let here = in_shut p (ap shut (row_above c p (piece_inside c top block can.plotted p x is).0) ∙ closed) in
+        ⊎_elim
+        (λ (none : kept p ≡ 0). (left_piece x, here ∙ cond-true (kept p == 0) (option_map left_piece (block p)) (block p) (eq-eqb (kept p) 0 none) ∙ ap (option_map left_piece) is))
+        (λ (some : kept p ≢ 0). (x, here ∙ cond-false (kept p == 0) (option_map left_piece (block p)) (block p) (ne_eqb (kept p) 0 some) ∙ is))
+        (cases_eq (kept p) 0)
+
+    -- and each piece is that of a kept object, or one that only fills where another stood
+    abbrev pub IsFrom : ℕ → Block → Type 0
+    IsFrom p b = (a : ℕ) × (0 < kept a) × (a < heap_end c) × (place a ≡ p) × (block a ≡ Some b) × (words_of b ≡ kept a)
+
+    abbrev pub IsLeft : ℕ → Block → Type 0
+    IsLeft p b = (x : Block) × (shut (p / c.region_words) ≡ true) × (kept p ≡ 0) × (block p ≡ Some x) × (left_piece x ≡ b)
+
+    -- a kept object's piece has its words
+    kept_words : (a : ℕ) (b : Block) → 0 < kept a → block a ≡ Some b → words_of b ≡ kept a
+    kept_words a b some found =
+        let piece = can.things a some in
+        let same : thing piece.0 piece.1 piece.2 ≡ b = same_Some (thing piece.0 piece.1 piece.2) b (sym piece.3 ∙ found) in
+        ap words_of (sym same) ∙ sym piece.4
+
+    from_origin : (p : ℕ) (b : Block) (o : Option ℕ) → origin place kept p (heap_end c) ≡ o → option_and_then block o ≡ Some b → IsFrom p b
+    from_origin p b None is found = absurd (none-some b found)
+    from_origin p b (Some a) is found =
+        let at = origin_is place kept p (heap_end c) a is in
+        (a, at.0, at.1, at.2, found, kept_words a b at.0 found)
+
+    from_stayed : (p : ℕ) (b : Block) → shut (region_with c p + 1) ≡ true → stayed p ≡ Some b → IsFrom p b ⊎ IsLeft p b
+    from_stayed p b closed found = ⊎_elim
+        (λ (none : kept p ≡ 0).
+        let left = from_left (block p) b (sym (cond-true (kept p == 0) (option_map left_piece (block p)) (block p) (eq-eqb (kept p) 0 none)) ∙ found) in
+        let row = row_above c p (piece_inside c top block can.plotted p left.0 left.1).0 in
+        inr (left.0, ap shut (sym row) ∙ closed, none, left.1, left.2))
+        (λ (some : kept p ≢ 0).
+        let begins : 0 < kept p = omega (arith, some) in
+        let inside = kept_inside p begins in
+        let is : block p ≡ Some b = sym (cond-false (kept p == 0) (option_map left_piece (block p)) (block p) (ne_eqb (kept p) 0 some)) ∙ found in
+        let stays = new_shut c.region_words shut kept p (ap shut (sym (row_above c p inside.0)) ∙ closed) in
+        inl (p, begins, omega (arith, inside.1, begins), stays, is, kept_words p b begins is))
+        (cases_eq (kept p) 0)
+
+    pub block_from : (p : ℕ) (b : Block) → new_block p ≡ Some b → IsFrom p b ⊎ IsLeft p b
+    block_from p b found = ⊎_elim
+        (λ (closed : shut (region_with c p + 1) ≡ true). from_stayed p b closed (sym (in_shut p closed) ∙ found))
+        (λ (opened : shut (region_with c p + 1) ≡ false). inl (from_origin p b (origin place kept p (heap_end c)) refl (sym (in_open p opened) ∙ found)))
+        (cases_Bool (shut (region_with c p + 1)))

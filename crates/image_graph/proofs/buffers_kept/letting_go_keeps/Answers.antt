@@ -1,0 +1,5 @@
+use Rattle.image_graph.proofs.Kept.{letting_go_keeps}
+use Rattle.image_graph.proofs.buffers_kept.letting_go_keeps.Goals as goal
+
+pub returns : goal.returns
+returns c = letting_go_keeps

@@ -1,0 +1,5 @@
+use Rattle.image_graph.proofs.Kept.{settling_keeps}
+use Rattle.image_graph.proofs.buffers_kept.settling_keeps.Goals as goal
+
+pub returns : goal.returns
+returns c = settling_keeps

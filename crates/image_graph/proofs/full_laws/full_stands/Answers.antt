@@ -1,0 +1,5 @@
+use Rattle.image_graph.proofs.Serving.{full_stands}
+use Rattle.image_graph.proofs.full_laws.full_stands.Goals as goal
+
+pub returns : goal.returns
+returns c = full_stands

@@ -1,0 +1,55 @@
+-- That packing keeps exactly what the graph reaches, and keeps the graph.
+use Rattle.std.specs.Prelude.{ℕ, ◌≡◌, ◌+◌, ◌/◌, Bool, true, not, Some, None, List}
+use Rattle.heap_words.specs.declared.config.Config.{Config}
+use Rattle.heap_words.specs.Words.{Word, Free, Top, Heap}
+use Rattle.regions.specs.Tops.{sum_below}
+use Rattle.regions.specs.Places.{open_kept}
+use Rattle.regions.specs.SlideLaws.{tops_where}
+use Rattle.regions.specs.Slide.{renewed}
+use Rattle.shen_graph.specs.declared.name.Name.{Name}
+use Rattle.shen_graph.specs.Graph.{Graph, Reference}
+use Rattle.shen_graph.specs.Reach.{IsReachable}
+use Rattle.heap_world.specs.World.{Plot, thing, Points, IsPlotted, IsFilled, AreObjects, IsFreeWord}
+use Rattle.image_graph.specs.Held.{IsLedTo, IsAmong, AreHeldKept, HoldsGraph, IsCopy}
+use Rattle.image_graph.specs.Plot.{AreParsed, AreThings, FillersSay, heap_end, packed_block}
+use Rattle.image_graph.specs.Full.{packed, place_in, now_in, held_words, kept_in}
+
+-- Exactly the reachable objects are held: what is held is the current copy of a reachable object, and each reachable
+-- object has a copy that is held.
+pub record HeldAreReachable (c : Config) (top heap : ℕ → ℕ) (block : Plot) (now : ℕ → ℕ) (IsRoot : ℕ → Type 0) (g : Graph) : Type 0 where
+  pub only : (a : ℕ) → IsLedTo now heap IsRoot a → (name : Name) × (refs : ℕ) × (nums : ℕ) × (block a ≡ Some (thing name refs nums)) × IsReachable g name
+  pub all : (name : Name) → IsReachable g name → (a : ℕ) × (refs : ℕ) × (nums : ℕ) × IsLedTo now heap IsRoot a × (block a ≡ Some (thing name refs nums))
+
+-- so it is wherever words stand for a graph; the root words are a list
+abbrev pub ReachableAreHeld : Type 0
+ReachableAreHeld = (c : Config) (top heap : ℕ → ℕ) (block : Plot) (now : ℕ → ℕ) (roots : List ℕ) (g : Graph)
+    → HoldsGraph c top heap block now (IsAmong roots) g → HeldAreReachable c top heap block now (IsAmong roots) g
+
+-- The words before packing stand for a graph, and exactly what the root words lead to is kept. Regions can be walked, where they are shut.
+pub record IsBeforePacking (c : Config) (memory : Word → ℕ) (block : Plot) (g : Graph) (shut : ℕ → Bool) (now kept : ℕ → ℕ) (roots : List ℕ) : Type 0 where
+  pub holds : HoldsGraph c (λ r. memory (Top r)) (λ a. memory (Heap a)) block now (IsAmong roots) g
+  pub kept_are : AreHeldKept (λ a. memory (Heap a)) (IsLedTo now (λ a. memory (Heap a)) (IsAmong roots)) kept
+  pub parsed : AreParsed c shut (λ r. memory (Top r)) (λ a. memory (Heap a)) block
+
+-- After packing the words stand for the same graph: pieces fill the regions, and are the graph's objects or only fill; what a root word
+-- stood for it stands for once renewed, what lies in a shut region is where it was, and nobody has a region.
+pub record KeepsGraph (c : Config) (memory : Word → ℕ) (block : Plot) (g : Graph) (shut : ℕ → Bool) (now kept : ℕ → ℕ) (roots : List ℕ) : Type 0 where
+  pub plotted : IsPlotted c (λ r. packed c shut now kept memory (Top r)) (packed_block c shut kept block)
+  pub filled : IsFilled c (λ r. packed c shut now kept memory (Top r)) (packed_block c shut kept block)
+  pub objects : AreObjects (λ a. packed c shut now kept memory (Heap a)) (packed_block c shut kept block) g.object
+  pub root_words : (word : ℕ) (r : Reference) → IsAmong roots word → Points block word r → Points (packed_block c shut kept block) (renewed (place_in c shut kept) now word) r
+  pub stays : (word : ℕ) (name : Name) → IsAmong roots word → now word ≡ word → shut (word / c.region_words) ≡ true → IsCopy block word name → IsCopy (packed_block c shut kept block) word name
+  pub free_word : IsFreeWord c (packed c shut now kept memory Free) (λ r. packed c shut now kept memory (Top r)) (λ r. None)
+  pub things : AreThings (packed_block c shut kept block)
+  pub fillers : FillersSay (λ a. packed c shut now kept memory (Heap a)) (packed_block c shut kept block)
+  pub tops_sum : tops_where (λ r. not (shut (r + 1))) (λ r. packed c shut now kept memory (Top r)) c.regions ≡ sum_below (open_kept c.region_words shut kept) (heap_end c)
+
+abbrev pub PackingKeepsGraph : Type 0
+PackingKeepsGraph = (c : Config) (memory : Word → ℕ) (block : Plot) (g : Graph) (shut : ℕ → Bool) (now kept : ℕ → ℕ) (roots : List ℕ)
+    → IsBeforePacking c memory block g shut now kept roots → KeepsGraph c memory block g shut now kept roots
+
+-- the objects that one computes as kept are exactly those that the root words lead to, wherever words stand for a graph
+abbrev pub KeptAreHeld : Type 0
+KeptAreHeld = (c : Config) (memory : Word → ℕ) (block : Plot) (g : Graph)
+    → HoldsGraph c (λ r. memory (Top r)) (λ a. memory (Heap a)) block (now_in memory) (IsAmong (held_words c memory)) g
+    → AreHeldKept (λ a. memory (Heap a)) (IsLedTo (now_in memory) (λ a. memory (Heap a)) (IsAmong (held_words c memory))) (kept_in c memory)

@@ -1,0 +1,32 @@
+-- What letting go makes of the words of an image: no seat has a buffer. The free words of one that ends at the top of its region are given
+-- back; those of any other only fill. Who was asked before may have lowered the top.
+use Rattle.std.specs.Prelude.{ℕ, ◌≡◌, ◌-◌, ◌<◌, ◌==◌, if◌then◌else◌, zero, suc}
+use Rattle.heap_words.specs.declared.config.Config.{Config}
+use Rattle.heap_words.specs.Ranges.{seat_count}
+use Rattle.heap_words.specs.Words.{Word, Top, Current, write}
+use Rattle.heap_words.specs.Encoding.{next_in}
+use Rattle.regions.specs.Place.{base_of}
+use Rattle.image_graph.specs.SeatBuffers.{buffer_region, is_last, filled_over}
+
+-- the words after a buffer's free words, which end at the top, were given back
+abbrev pub given_back : Config → (Word → ℕ) → ℕ → Word → ℕ
+given_back c memory word = write memory (Top (buffer_region c word)) (next_in word - base_of c (buffer_region c word))
+
+-- the words after the turn of a seat
+abbrev pub let_go_at : Config → (Word → ℕ) → (seat : ℕ) → Word → ℕ
+let_go_at c memory seat =
+    if memory (Current seat) == 0 then memory
+    else write (if is_last c memory (memory (Current seat)) then given_back c memory (memory (Current seat)) else filled_over memory (memory (Current seat))) (Current seat) 0
+
+-- and after the turns of so many seats, in their order
+unfoldable pub let_go_below : Config → (Word → ℕ) → ℕ → Word → ℕ
+let_go_below c memory zero = memory
+let_go_below c memory (suc seat) = let_go_at c (let_go_below c memory seat) seat
+
+-- The words after all seats had their turn.
+abbrev pub let_go : Config → (Word → ℕ) → Word → ℕ
+let_go c memory = let_go_below c memory (seat_count c.mutators c.helpers)
+
+-- no seat has a buffer
+abbrev pub HasNoBuffers : Config → (Word → ℕ) → Type 0
+HasNoBuffers c memory = (seat : ℕ) → seat < seat_count c.mutators c.helpers → memory (Current seat) ≡ 0

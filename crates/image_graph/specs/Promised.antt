@@ -1,0 +1,66 @@
+-- Objects that threads were given and have not taken yet: each is held by an answer, and is no object of the program's graph.
+use Rattle.std.specs.Prelude.{ℕ, ◌≡◌, ◌+◌, ◌-◌, ◌/◌, ◌<◌, ◌≤◌, ◌==◌, ◌&&◌, Bool, true, nat_le, nat_lt, if◌then◌else◌, Some, None, List, sum_by}
+use Rattle.heap_words.specs.declared.config.Config.{Config}
+use Rattle.regions.specs.Tops.{sum_below}
+use Rattle.regions.specs.Places.{open_kept}
+use Rattle.shen_graph.specs.declared.name.Name.{Name}
+use Rattle.shen_graph.specs.declared.pin.Pinned.{Pinned}
+use Rattle.shen_graph.specs.Crowd.{Held}
+use Rattle.shen_graph.specs.Graph.{Reference, Graph, named, blank, same_reference}
+use Rattle.shen_graph.specs.Reach.{IsReachable, IsReach, size}
+use Rattle.shen_graph.specs.Step.{name_in}
+use Rattle.heap_world.specs.World.{Plot}
+use Rattle.image_graph.specs.Held.{IsLedTo, IsAmong, AreHeldKept, HoldsGraph, IsCopy}
+
+-- for each thread, counted from 1, the reference that its answer stands for, and the sizes of that object
+pub record Promises : Type 0 where
+  pub ref : ℕ → Reference
+  pub refs : ℕ → ℕ
+  pub nums : ℕ → ℕ
+
+-- The graph with the promised objects: they are blank, and each thread has more roots, the promised object as its seventeenth, and what its
+-- pin slots hold as the four behind. The name of a promised object says which thread it is of.
+abbrev pub with_promised : Graph → Promises → Graph
+with_promised g p = record g {
+  object = λ n. if same_reference (p.ref n.thread) (Some n) then Some (blank (p.refs n.thread) (p.nums n.thread)) else g.object n;
+  root = λ t i. if i == 16 then p.ref t else (if nat_le 17 i && nat_lt i 21 then name_in (g.pin t (i - 17)) else g.root t i);
+  pin = λ t slot. None;
+}
+
+-- a thread is promised an object of its own name, which the graph does not reach
+pub record AreFresh (threads : ℕ) (g : Graph) (p : Promises) : Type 0 where
+  pub own : (t : ℕ) (n : Name) → p.ref t ≡ Some n → n.thread ≡ t
+  pub few : (t : ℕ) (n : Name) → p.ref t ≡ Some n → t ≤ threads
+  pub fresh : (t : ℕ) (n : Name) → p.ref t ≡ Some n → IsReachable g n → ⊥
+
+-- so many words, if there is something
+abbrev pub words_if : Reference → ℕ → ℕ
+words_if None words = 0
+words_if (Some n) words = words
+
+-- the words of what a thread is promised
+abbrev pub promised_words : Promises → ℕ → ℕ
+promised_words p t = words_if (p.ref t) (3 + p.refs t + p.nums t)
+
+-- What is kept has no more words than what the graph reaches, ..
+abbrev pub KeptAreLive : Type 0
+KeptAreLive = (c : Config) (top heap : ℕ → ℕ) (block : Plot) (now kept : ℕ → ℕ) (roots : List ℕ) (g : Graph) (names : List Name)
+    → HoldsGraph c top heap block now (IsAmong roots) g → AreHeldKept heap (IsLedTo now heap (IsAmong roots)) kept → IsReach g names
+    → (end : ℕ) → sum_below kept end ≤ sum_by (λ n. size (named g (Some n))) names
+
+-- .. and where objects are promised, no more than that and what is promised.
+abbrev pub KeptAreLiveOrPromised : Type 0
+KeptAreLiveOrPromised = (c : Config) (top heap : ℕ → ℕ) (block : Plot) (now kept : ℕ → ℕ) (roots : List ℕ) (g : Graph) (p : Promises) (names : List Name)
+    → HoldsGraph c top heap block now (IsAmong roots) (with_promised g p) → AreHeldKept heap (IsLedTo now heap (IsAmong roots)) kept
+    → AreFresh c.mutators g p → IsReach g names
+    → (end : ℕ) → sum_below kept end ≤ sum_by (λ n. size (named g (Some n))) names + sum_below (promised_words p) (c.mutators + 1)
+
+-- Where objects are pinned, each of these is kept in a region that is shut: so what is kept in open regions has no more words than what the
+-- graph reaches and is not pinned, and what is promised.
+abbrev pub OpenKeptAreFewer : Type 0
+OpenKeptAreFewer = (c : Config) (shut : ℕ → Bool) (top heap : ℕ → ℕ) (block : Plot) (now kept : ℕ → ℕ) (roots : List ℕ) (g : Graph) (p : Promises) (names : List Name) (held : ℕ)
+    → HoldsGraph c top heap block now (IsAmong roots) (with_promised g p) → AreHeldKept heap (IsLedTo now heap (IsAmong roots)) kept
+    → AreFresh c.mutators g p → IsReach g names → Held g held
+    → ((t slot : ℕ) (pinned : Pinned) → g.pin t slot ≡ Some pinned → (0 < kept pinned.place) × (shut (pinned.place / c.region_words) ≡ true) × IsCopy block pinned.place pinned.name)
+    → (end : ℕ) → sum_below (open_kept c.region_words shut kept) end
+    ≤ sum_by (λ n. size (named g (Some n))) names - held + sum_below (promised_words p) (c.mutators + 1)

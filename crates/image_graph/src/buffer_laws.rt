@@ -1,0 +1,22 @@
+//! What pauses make of the buffers of seats, word by word: they settle them before objects are marked or references updated, and let them
+//! go before a cycle ends at once. Definitions, and laws about them as theorems and no code.
+
+ghost use Rattle.std.specs.Prelude.{ℕ};
+ghost use Rattle.heap_words.specs.declared.config.Config.{Config};
+ghost use Rattle.heap_words.specs.Words.{Word};
+ghost use Rattle.image_graph.specs.BufferLaws.{SettlingLeaves, LettingGoLeaves, EdgesLie};
+
+/// A law: after settling each buffer ends at the top of its region, and no top has changed.
+pub fn settling_leaves()
+    ensures { (c : Config) (memory : Word → ℕ) → SettlingLeaves c memory }
+{}
+
+/// A law: after letting go nobody has a buffer.
+pub fn letting_go_leaves()
+    ensures { (c : Config) (memory : Word → ℕ) → LettingGoLeaves c memory }
+{}
+
+/// A law: a region's edge lies neither above its top nor above the free words of a buffer that ends there.
+pub fn edges_lie()
+    ensures { (c : Config) (memory : Word → ℕ) (r : ℕ) → EdgesLie c memory r }
+{}

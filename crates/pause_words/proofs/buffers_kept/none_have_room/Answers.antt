@@ -1,5 +1,0 @@
-use Rattle.pause_words.proofs.Kept.{none_have_room}
-use Rattle.pause_words.proofs.buffers_kept.none_have_room.Goals as goal
-
-pub returns : goal.returns
-returns c = none_have_room

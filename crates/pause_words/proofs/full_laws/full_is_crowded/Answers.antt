@@ -1,5 +1,0 @@
-use Rattle.pause_words.proofs.Crowded.{full_is_crowded}
-use Rattle.pause_words.proofs.full_laws.full_is_crowded.Goals as goal
-
-pub returns : goal.returns
-returns c = full_is_crowded

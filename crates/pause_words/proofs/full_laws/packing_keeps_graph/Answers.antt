@@ -1,5 +1,0 @@
-use Rattle.pause_words.proofs.Image.{keeps_graph}
-use Rattle.pause_words.proofs.full_laws.packing_keeps_graph.Goals as goal
-
-pub returns : goal.returns
-returns c = λ config memory block g shut now kept roots before. keeps_graph config memory block g shut now kept roots before
