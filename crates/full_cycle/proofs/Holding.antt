@@ -20,7 +20,7 @@ use Rattle.image_graph.specs.Full.{now_in, held_words, copies_of, field_words, k
 use Rattle.image_graph.specs.Promised.{Promises, with_promised}
 use Rattle.image_graph.proofs.Reached.{held_is_reached, can_pack, refs_read}
 use Rattle.image_graph.proofs.Origin.{kept_inside, lie_apart}
-use Rattle.image_graph.proofs.Found.{has_at, found_held}
+use Rattle.image_graph.proofs.HeldFound.{has_at, found_held}
 use Rattle.image_graph.proofs.Walked.{walk_keeps, root_held, field_held}
 use Rattle.image_graph.proofs.Roots.{root_among, answer_among, pin_among}
 use Rattle.image_graph.specs.Holds.{HoldsBy, AreSized}

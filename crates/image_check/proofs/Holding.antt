@@ -23,7 +23,7 @@ use Rattle.heap_world.specs.World.{Block, thing, filler, spare, words_of, Plot, 
 use Rattle.image_graph.specs.Promised.{Promises}
 use Rattle.image_graph.specs.Image.{RootsStand, ImageStands}
 use Rattle.image_graph.specs.Serving.{asked_name, IsAsking}
-use Rattle.image_graph.proofs.Found.{index_of, has_at}
+use Rattle.image_graph.proofs.HeldFound.{index_of, has_at}
 use Rattle.image_graph.proofs.Named.{named_things}
 use Rattle.image_graph.proofs.ImagesStand.{standing_holds}
 use Rattle.image_graph.specs.Holds.{HoldsBy, HoldsSome, HoldsSized, AreSized}

@@ -27,7 +27,7 @@ use Rattle.image_graph.proofs.Reached.{can_pack, none_at_0}
 use Rattle.image_graph.proofs.Rows.{row_is}
 use Rattle.image_graph.proofs.PinnedRows.{word_pinned, has_slot}
 use Rattle.image_graph.proofs.Roots.{pin_copy, pin_some, pin_among}
-use Rattle.image_graph.proofs.Image.{open_tops_sum}
+use Rattle.image_graph.proofs.ImagesHold.{open_tops_sum}
 use Rattle.image_graph.proofs.Walked.{walk_keeps}
 use Rattle.image_graph.proofs.Fewer.{ArePinnedThere, open_kept_are_fewer}
 use Rattle.image_graph.proofs.Served.{requests_are_answered}

@@ -21,7 +21,7 @@ use Rattle.image_graph.specs.Image.{AnswerStands, PinWordStands, RootsStand, Ima
 use Rattle.image_graph.proofs.Named.{thing_at}
 use Rattle.image_graph.proofs.Reached.{can_pack}
 use Rattle.image_graph.proofs.Origin.{lie_apart}
-use Rattle.image_graph.proofs.Image.{keeps_graph}
+use Rattle.image_graph.proofs.ImagesHold.{keeps_graph}
 use Rattle.image_graph.proofs.PinnedRows.{word_pinned}
 use Rattle.image_graph.proofs.Walked.{walk_keeps}
 use Rattle.image_graph.proofs.Roots.{pin_stays, root_named, root_held, root_among, answer_among, pin_among, no_pins}

@@ -15,7 +15,7 @@ pub mod Filled
 pub mod GivenBack
 pub mod BuffersKept
 pub mod Divided
-pub mod Kept
+pub mod LooseKept
 pub mod Named
 pub mod Rows
 pub mod PieceStarts
@@ -28,9 +28,9 @@ pub mod Things
 pub mod PackedWords
 pub mod FreeWord
 pub mod PinnedRows
-pub mod Buffers
-pub mod Image
-pub mod Found
+pub mod BuffersStay
+pub mod ImagesHold
+pub mod HeldFound
 pub mod Walked
 pub mod Served
 pub mod Live

@@ -22,7 +22,7 @@ use Rattle.image_graph.specs.Full.{now_in, roots_below, answers_below, root_word
 use Rattle.image_graph.specs.Pinned.{pins_below}
 use Rattle.image_graph.specs.Promised.{Promises, with_promised, AreFresh}
 use Rattle.image_graph.specs.Serving.{asked_shape, asked_name, asked_piece, made_block, made_promise, IsAsking, AreAsking}
-use Rattle.image_graph.proofs.Buffers.{buffers_stay, share_stays}
+use Rattle.image_graph.proofs.BuffersStay.{buffers_stay, share_stays}
 use Rattle.image_graph.proofs.Promised.{old_object}
 use Rattle.image_graph.proofs.Reached as reached
 use Rattle.image_graph.proofs.Reached.{refs_read, reached_is_held}

@@ -20,7 +20,7 @@ use Rattle.image_graph.specs.Pinned.{pins_below}
 use Rattle.image_graph.specs.Full.{roots_below, answers_below, root_words, held_words}
 use Rattle.image_graph.specs.Promised.{Promises, with_promised}
 use Rattle.image_graph.specs.Image.{AnswerStands, PinWordStands, RootsStand}
-use Rattle.image_graph.proofs.Found.{has_map, map_has, range_has}
+use Rattle.image_graph.proofs.HeldFound.{has_map, map_has, range_has}
 use Rattle.image_graph.proofs.Rooted.{plain_root, extra_root, pin_root, IsPromisedRoot, IsPinRoot, root_cases}
 
 -- a list behind another has what either has

@@ -13,7 +13,7 @@ use Rattle.heap_world.proofs.Pointing.{piece_inside}
 use Rattle.image_graph.specs.Held.{IsLedTo, from_root, from_field, IsAmong, AreHeldKept, HoldsGraph}
 use Rattle.image_graph.specs.Full.{now_in, held_words, field_words, copies_of, held_in, kept_in}
 use Rattle.image_graph.proofs.Reached.{held_is_reached}
-use Rattle.image_graph.proofs.Found.{has_map, map_has, range_has, roots_found, found_held, found_closed}
+use Rattle.image_graph.proofs.HeldFound.{has_map, map_has, range_has, roots_found, found_held, found_closed}
 
 module _ (c : Config) (memory : Word → ℕ) (block : Plot) (g : Graph)
     (holds : HoldsGraph c (λ r. memory (Top r)) (λ a. memory (Heap a)) block (now_in memory) (IsAmong (held_words c memory)) g) where

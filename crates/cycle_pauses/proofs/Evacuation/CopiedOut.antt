@@ -24,7 +24,7 @@ use Rattle.heap_world.proofs.Pieces.{some_words, beside, piece_cases, object_rea
 use Rattle.heap_world.proofs.Apart.{far}
 use Rattle.heap_world.proofs.Joined as joined
 use Rattle.heap_world.proofs.Joined.{CanJoin}
-use Rattle.image_graph.proofs.Buffers.{SameRoom, rooms_stay, buffers_stay, share_stays}
+use Rattle.image_graph.proofs.BuffersStay.{SameRoom, rooms_stay, buffers_stay, share_stays}
 use Rattle.cycle_words.specs.Evacuation.Live.{words_at}
 use Rattle.cycle_words.specs.Evacuation.Copied.{MayChange, top_address, copied_to, copied_out, IsCopiedOut}
 use Rattle.cycle_words.proofs.Evacuation.CopiedOut.{copied_as}

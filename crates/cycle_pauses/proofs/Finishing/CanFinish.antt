@@ -17,7 +17,7 @@ use Rattle.heap_world.specs.Represents.{RepresentsByCopies}
 use Rattle.heap_world.proofs.Pieces.{some_words}
 use Rattle.image_graph.specs.LetGo.{let_go, HasNoBuffers}
 use Rattle.image_graph.proofs.LettingGo.{letting_go_leaves}
-use Rattle.image_graph.proofs.Kept.{letting_go_keeps, none_have_room}
+use Rattle.image_graph.proofs.LooseKept.{letting_go_keeps, none_have_room}
 use Rattle.image_graph.proofs.Inside.{buffers_inside}
 use Rattle.image_graph.specs.Holds.{AreSized}
 use Rattle.image_graph.specs.Pinned.{is_pinned, CanFill}

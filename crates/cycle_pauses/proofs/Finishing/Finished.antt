@@ -17,7 +17,7 @@ use Rattle.image_graph.proofs.LettingGo.{none_to_let_go, letting_go_leaves}
 use Rattle.image_graph.proofs.Elsewhere.{IsOfBuffers, let_go_same}
 use Rattle.cycle_words.specs.Evacuation.Copied.{MayChange}
 use Rattle.cycle_pauses.specs.Updating.Freed.{IsFreed}
-use Rattle.image_graph.proofs.Kept.{letting_go_keeps}
+use Rattle.image_graph.proofs.LooseKept.{letting_go_keeps}
 use Rattle.image_graph.specs.Full.{packed, packed_in, made_in, served_in, room_for, served, full_from, full}
 use Rattle.image_graph.specs.Full as image
 use Rattle.image_graph.proofs.Still.{served_still}

@@ -18,7 +18,7 @@ use Rattle.heap_world.proofs.Copies.{none_in_0, none_is_in, none_evacuated}
 use Rattle.heap_world.proofs.Keeping.{usable_now}
 use Rattle.heap_world.proofs.Unmarked.{none_marked_in}
 use Rattle.image_graph.specs.LetGo.{HasNoBuffers}
-use Rattle.image_graph.proofs.Kept.{none_have_room}
+use Rattle.image_graph.proofs.LooseKept.{none_have_room}
 use Rattle.cycle_words.specs.Marking.Marks.{bits_of}
 use Rattle.cycle_pauses.proofs.Evacuation.Asked.{asked_stays}
 use Rattle.image_graph.specs.Pinned.{is_pinned, begins}

@@ -19,7 +19,7 @@ use Rattle.heap_world.proofs.Unwritten.{blank_stays}
 use Rattle.heap_world.proofs.Copies.{none_is_in, none_in_0}
 use Rattle.image_graph.proofs.Inside.{buffer_region_is}
 use Rattle.image_graph.specs.Pinned.{is_pinned, begins, filled_in}
-use Rattle.image_graph.proofs.Buffers.{SameRoom, rooms_stay, buffers_stay}
+use Rattle.image_graph.proofs.BuffersStay.{SameRoom, rooms_stay, buffers_stay}
 use Rattle.image_graph.proofs.Reached.{none_at_0}
 use Rattle.image_graph.specs.Holds.{AreSized}
 use Rattle.image_graph.proofs.Loosening.Loosened.{kind_of}

@@ -27,7 +27,7 @@ use Rattle.heap_world.proofs.FreeRegions.{free_before}
 use Rattle.heap_world.proofs.Joined as joined
 use Rattle.heap_world.proofs.Joined.{CanJoin}
 use Rattle.heap_world.proofs.Unwritten.{blank_stays}
-use Rattle.image_graph.proofs.Buffers.{SameRoom, rooms_stay, buffers_stay, share_stays}
+use Rattle.image_graph.proofs.BuffersStay.{SameRoom, rooms_stay, buffers_stay, share_stays}
 use Rattle.std.proofs.lemmas.Option.{none-some}
 use Rattle.image_graph.specs.Full.{made_word, made_in, served_in, room_for, served}
 use Rattle.image_graph.proofs.Made.{outside_fresh}

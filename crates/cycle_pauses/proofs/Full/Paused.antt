@@ -9,7 +9,7 @@ use Rattle.heap_words.specs.Words.{Word, Top, Wait, Answer, Heap}
 use Rattle.heap_words.specs.Encoding.{request_count_in}
 use Rattle.regions.specs.ServedRooms.{NoneHasRoom, IsLowestRoom}
 use Rattle.image_graph.specs.LetGo.{HasNoBuffers}
-use Rattle.image_graph.proofs.Kept.{none_have_room}
+use Rattle.image_graph.proofs.LooseKept.{none_have_room}
 use Rattle.shen_graph.specs.declared.name.Name.{Name}
 use Rattle.shen_graph.specs.Graph.{Graph, Object, fresh}
 use Rattle.shen_graph.specs.Reach as reach

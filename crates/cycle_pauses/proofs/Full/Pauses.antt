@@ -11,7 +11,7 @@ use Rattle.image_graph.specs.LetGo.{let_go, HasNoBuffers}
 use Rattle.image_graph.proofs.LettingGo.{letting_go_leaves}
 use Rattle.image_graph.proofs.Refitted.{currents_of}
 use Rattle.image_graph.proofs.Trimmed.{trim, trimmed_none}
-use Rattle.image_graph.proofs.Kept.{trimmed_copies}
+use Rattle.image_graph.proofs.LooseKept.{trimmed_copies}
 use Rattle.image_graph.specs.Full.{moved_heap, packed, packed_in, served, refused, full_from, full}
 use Rattle.cycle_pauses.specs.Full.Laws.{RepresentingHolds, ImageIsFull, TableIsFull, FullFromCopies, FullIsPause}
 use Rattle.cycle_pauses.proofs.Full.ByCopies.{by_copies}

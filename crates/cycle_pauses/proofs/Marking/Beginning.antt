@@ -14,7 +14,7 @@ use Rattle.heap_world.proofs.Keeping.{usable_now}
 use Rattle.heap_world.proofs.Copies.{none_evacuated}
 use Rattle.image_graph.specs.Edge.{edge}
 use Rattle.image_graph.specs.Divided.{AreDivided}
-use Rattle.image_graph.proofs.Buffers.{SameRoom, rooms_stay, buffers_stay}
+use Rattle.image_graph.proofs.BuffersStay.{SameRoom, rooms_stay, buffers_stay}
 use Rattle.image_graph.specs.Held.{IsAmong}
 use Rattle.image_graph.specs.Full.{held_words, held_in}
 use Rattle.image_graph.specs.Promised.{Promises}

@@ -16,7 +16,7 @@ use Rattle.heap_world.proofs.Keeping.{points_stay}
 use Rattle.heap_world.proofs.Pins.{pins_stay}
 use Rattle.heap_world.proofs.Roomless.{only_spares}
 use Rattle.image_graph.proofs.Inside.{buffer_ends}
-use Rattle.image_graph.proofs.Buffers.{SameRoom, rooms_stay, buffers_stay}
+use Rattle.image_graph.proofs.BuffersStay.{SameRoom, rooms_stay, buffers_stay}
 use Rattle.regions.specs.Marks.{HasMark}
 use Rattle.cycle_words.specs.Marking.Marks.{is_black, IsNew}
 use Rattle.cycle_words.specs.Marking.Close.{closed}

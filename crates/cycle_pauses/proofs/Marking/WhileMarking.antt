@@ -10,7 +10,7 @@ use Rattle.heap_words.specs.Ranges.{seat_count}
 use Rattle.image_graph.specs.Settled.{buffers_settled}
 use Rattle.image_graph.proofs.Settling.{settling_leaves}
 use Rattle.image_graph.proofs.Elsewhere.{settled_same}
-use Rattle.image_graph.proofs.Kept.{settling_keeps, edges_divide}
+use Rattle.image_graph.proofs.LooseKept.{settling_keeps, edges_divide}
 use Rattle.image_graph.specs.Promised.{Promises}
 use Rattle.cycle_pauses.proofs.Full.ByCopies.{by_copies}
 use Rattle.cycle_pauses.proofs.Full.Promises.{promises_of}

@@ -23,7 +23,7 @@ use Rattle.image_graph.specs.Edge.{edge}
 use Rattle.image_graph.proofs.Settling.{settling_leaves}
 use Rattle.image_graph.proofs.Elsewhere.{IsOfBuffers, settled_same}
 use Rattle.image_graph.specs.Divided.{AreDivided}
-use Rattle.image_graph.proofs.Kept.{settling_keeps, edges_divide}
+use Rattle.image_graph.proofs.LooseKept.{settling_keeps, edges_divide}
 use Rattle.cycle_pauses.proofs.Full.ByCopies.{by_copies}
 use Rattle.cycle_pauses.proofs.Evacuation.Asked.{asked_stays}
 use Rattle.cycle_words.specs.Updating.Changes.{is_chosen, updating_begun}

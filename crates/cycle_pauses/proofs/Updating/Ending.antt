@@ -18,7 +18,7 @@ use Rattle.heap_world.proofs.Keeping.{usable_now}
 use Rattle.heap_world.proofs.Unmarked.{none_marked_in}
 use Rattle.heap_world.proofs.Units.{all_is_current}
 use Rattle.image_graph.proofs.Inside.{buffer_region_is}
-use Rattle.image_graph.proofs.Buffers.{SameRoom, rooms_stay, buffers_stay}
+use Rattle.image_graph.proofs.BuffersStay.{SameRoom, rooms_stay, buffers_stay}
 use Rattle.image_graph.proofs.Reached.{none_at_0}
 use Rattle.cycle_words.specs.Marking.Final.{freed_block}
 use Rattle.cycle_pauses.proofs.Evacuation.Asked.{asked_stays}

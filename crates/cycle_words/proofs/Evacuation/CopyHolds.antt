@@ -29,7 +29,7 @@ use Rattle.image_graph.specs.Held.{IsCopy}
 use Rattle.image_graph.specs.Plot.{NamedAreThings}
 use Rattle.image_graph.specs.Full.{now_in}
 use Rattle.image_graph.specs.Promised.{Promises}
-use Rattle.image_graph.proofs.Buffers.{buffers_stay, share_stays}
+use Rattle.image_graph.proofs.BuffersStay.{buffers_stay, share_stays}
 use Rattle.image_graph.specs.State.{EndsIn}
 use Rattle.image_graph.specs.Holds.{HasMoved, HoldsBy, AreSized}
 use Rattle.cycle_words.specs.Marking.Marks.{is_black, IsNew, IsKept}

@@ -13,7 +13,7 @@ use Rattle.heap_world.proofs.Pointing.{named_piece}
 use Rattle.image_graph.specs.Held.{IsAmong, IsCopy}
 use Rattle.image_graph.specs.Full.{now_in, held_words}
 use Rattle.image_graph.specs.Promised.{Promises}
-use Rattle.image_graph.proofs.Buffers.{SameRoom, buffers_stay}
+use Rattle.image_graph.proofs.BuffersStay.{SameRoom, buffers_stay}
 use Rattle.image_graph.specs.Holds.{HoldsBy}
 use Rattle.image_graph.proofs.Loosening.Resized.{IsResized, resized_plotted, resized_filled}
 use Rattle.cycle_words.specs.Marking.WhileMarking.{CanBeReached}

@@ -17,7 +17,7 @@ use Rattle.image_graph.specs.Full.{held_words, held_in}
 use Rattle.image_graph.specs.Promised.{Promises, with_promised}
 use Rattle.image_graph.proofs.Reached.{refs_read}
 use Rattle.image_graph.proofs.Walked.{held_is_found, found_is_held}
-use Rattle.image_graph.proofs.Buffers.{buffers_stay}
+use Rattle.image_graph.proofs.BuffersStay.{buffers_stay}
 use Rattle.image_graph.specs.Holds.{HoldsBy}
 use Rattle.image_graph.specs.Buffers.{HasNoMoreSeats, settled_block}
 use Rattle.cycle_words.specs.Marking.Init.{marking_begun, init_marked, pruned}

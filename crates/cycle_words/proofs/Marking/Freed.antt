@@ -18,7 +18,7 @@ use Rattle.image_graph.specs.Promised.{Promises, with_promised}
 use Rattle.image_graph.specs.Image.{RootsStand}
 use Rattle.image_graph.specs.Serving.{AreAsking}
 use Rattle.image_graph.proofs.Inside.{buffer_ends}
-use Rattle.image_graph.proofs.Buffers.{SameRoom, buffers_stay}
+use Rattle.image_graph.proofs.BuffersStay.{SameRoom, buffers_stay}
 use Rattle.image_graph.specs.State.{EndsIn}
 use Rattle.image_graph.specs.Holds.{HoldsBy}
 use Rattle.cycle_words.specs.Marking.WhileMarking.{CanBeReached}

@@ -8,7 +8,7 @@ use Rattle.heap_words.specs.Words.{Word}
 use Rattle.shen_graph.specs.declared.name.Name.{Name}
 use Rattle.heap_world.specs.World.{Block, thing, moved, spent, promised, dead, filler, words_of, room_of, is_loose, Plot, IsPlotted, IsFilled}
 use Rattle.image_graph.proofs.Loosening.Resized.{IsResized, resized_plotted, resized_filled}
-use Rattle.image_graph.proofs.Buffers.{SameRoom}
+use Rattle.image_graph.proofs.BuffersStay.{SameRoom}
 use Rattle.image_graph.specs.Holds.{AreSized}
 use Rattle.cycle_words.specs.Marking.Init.{pruned_piece, pruned}
 

@@ -8,7 +8,7 @@ use Rattle.heap_words.specs.Encoding.{refs_in}
 use Rattle.heap_graph.specs.Walk.{has}
 use Rattle.heap_graph.proofs.Marks.{has-range}
 use Rattle.image_graph.specs.Full.{field_words}
-use Rattle.image_graph.proofs.Found.{has_map, map_has, range_has, roots_found, found_held, found_closed}
+use Rattle.image_graph.proofs.HeldFound.{has_map, map_has, range_has, roots_found, found_held, found_closed}
 use Rattle.image_graph.proofs.Roots.{has_either, has_first, has_second, has_one}
 use Rattle.cycle_words.specs.Marking.Marks.{is_grey, is_black}
 use Rattle.cycle_words.specs.Marking.Close.{IsTraced, from_grey, from_buffer, from_field, greys_below, entries_below, starts_in, open_fields, traced_by, traced_in}

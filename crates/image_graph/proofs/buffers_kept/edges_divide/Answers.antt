@@ -1,4 +1,4 @@
-use Rattle.image_graph.proofs.Kept.{edges_divide}
+use Rattle.image_graph.proofs.LooseKept.{edges_divide}
 use Rattle.image_graph.proofs.buffers_kept.edges_divide.Goals as goal
 
 pub returns : goal.returns

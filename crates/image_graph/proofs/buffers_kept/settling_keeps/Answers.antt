@@ -1,4 +1,4 @@
-use Rattle.image_graph.proofs.Kept.{settling_keeps}
+use Rattle.image_graph.proofs.LooseKept.{settling_keeps}
 use Rattle.image_graph.proofs.buffers_kept.settling_keeps.Goals as goal
 
 pub returns : goal.returns

@@ -1,4 +1,4 @@
-use Rattle.image_graph.proofs.Image.{keeps_graph}
+use Rattle.image_graph.proofs.ImagesHold.{keeps_graph}
 use Rattle.image_graph.proofs.full_laws.packing_keeps_graph.Goals as goal
 
 pub returns : goal.returns

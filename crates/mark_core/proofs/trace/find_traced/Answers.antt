@@ -4,7 +4,7 @@ use Rattle.heap_words.specs.declared.config.Config.{Config}
 use Rattle.heap_words.specs.Words.{Word, heap_size}
 use Rattle.heap_graph.specs.Walk.{with_addresses}
 use Rattle.heap_graph.proofs.Marks as marks
-use Rattle.image_graph.proofs.Found.{has_at}
+use Rattle.image_graph.proofs.HeldFound.{has_at}
 use Rattle.image_graph.proofs.FoundInTurn.{noted_both, no_turn, next_turn, last_turn, is_none, none_left}
 use Rattle.image_graph.specs.State.{config_of, memory_of, found_of, marks_of}
 use Rattle.cycle_words.specs.Marking.Close.{IsTraced, greys_below, entries_below, starts_in, open_fields, traced_by}
