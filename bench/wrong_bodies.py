@@ -6,7 +6,7 @@ usage: wrong_bodies.py [--jobs N] [NAME..]   tries them all, or the bodies of th
                                              bench/behind.txt does not name, and where that names one that is tried
 
 A wrong body, bench/edits/CRATE/NAME.edit, changes the code of one crate, so that its own contract must refuse it. The gate tries those
-of crates/NAME/must-fail, three for each crate with code, and more where crates were joined; those here each show what no other shows.
+of crates/NAME/must-fail, three for each crate with code; those here each show what no other shows.
 They are tried on a throwaway copy of the crates as they stand, without the edits of the gate, by `rt ci CRATE..`, which takes what the gate
 proved on this machine, or, with a kit whose `rt ci` takes no names, by `rt must-fail CRATE..` over the libraries that `rt check` kept in this
 tree: a crate costs one check of its own and ten to thirty seconds for each edit.

@@ -1,9 +1,9 @@
-//! Places the objects of a graph's text in a heap that nothing has happened in yet: in the order of their names, one behind the other, in
-//! regions 0 upward, each within one region. A run can begin from there.
+//! Places the objects of a graph's text in a heap that nothing has happened in yet, as they are named or named anew. A run can begin from
+//! there.
 //!
-//! Names the objects of a graph anew, and places them in a heap that nothing has happened in yet: a run can begin from there, in which each
-//! thread has only made the objects that are left of it. Each name keeps its thread and its place in the order, and those of a thread are
-//! counted from 1.
+//! `place` puts them in the order of their names, one behind the other, in regions 0 upward, each within one region. `renew` names them
+//! anew before, as if each thread had only made the objects that are left of it: each name keeps its thread and its place in the order,
+//! and those of a thread are counted from 1.
 #![tactic(auto)]
 
 mod addresses;

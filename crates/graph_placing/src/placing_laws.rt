@@ -1,5 +1,4 @@
-//! Places the objects of a graph's text in a heap that nothing has happened in yet: in the order of their names, one behind the other, in
-//! regions 0 upward, each within one region. A run can begin from there.
+//! That a text which can be placed has a graph: a law, as a theorem and no code.
 
 ghost use Rattle.std.specs.Prelude.{ℕ, List};
 ghost use Rattle.heap_words.specs.declared.config.Config.{Config};

@@ -1,6 +1,4 @@
-//! Names the objects of a graph anew, and places them in a heap that nothing has happened in yet: a run can begin from there, in which each
-//! thread has only made the objects that are left of it. Each name keeps its thread and its place in the order, and those of a thread are
-//! counted from 1.
+//! That names are counted anew as they should be, and that the graph stays the same but for them: laws, as theorems and no code.
 
 ghost use Rattle.std.specs.Prelude.{ℕ, List};
 ghost use Rattle.heap_words.specs.declared.config.Config.{Config};

@@ -1,5 +1,4 @@
-//! What pauses make of the buffers of seats, word by word: they settle them before objects are marked or references updated, and let them
-//! go before a cycle ends at once. Definitions, and laws about them as theorems and no code.
+//! What is left of the buffers of seats once they are settled, or let go, word by word: laws, as theorems and no code.
 
 ghost use Rattle.std.specs.Prelude.{ℕ};
 ghost use Rattle.heap_words.specs.declared.config.Config.{Config};

@@ -1,5 +1,4 @@
-//! What a full collection makes of the words of an image, by their names: definitions, and that it keeps the graph and answers who
-//! waits, as theorems and no code.
+//! That what a full collection makes of the words of an image keeps the graph, and answers who waits: laws, as theorems and no code.
 
 ghost use Rattle.image_graph.specs.Image.{StandingHolds, PackedStands};
 ghost use Rattle.image_graph.specs.Laws.{ReachableAreHeld, PackingKeepsGraph, KeptAreHeld};

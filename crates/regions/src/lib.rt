@@ -1,8 +1,7 @@
-//! The regions of the heap (those of Shenandoah, JEP 189): where each one lies, sets of them such as
-//! the collection set, how much room they have left above their tops, and the walk from object to
-//! object in one.
+//! The regions of the heap (those of Shenandoah, JEP 189), and packing over them: where each one lies, sets of them such as the collection
+//! set, how much room they have left above their tops, the walk from object to object in one, and where a full collection moves objects.
 //!
-//! Packing in the order of addresses: where the objects go that a sliding full collection keeps, how full each region is
+//! Packing goes in the order of addresses: where the objects go that a sliding full collection keeps, how full each region is
 //! then, and which requests for words find room above the tops; and sliding, which moves the objects down to these places.
 //!
 //! The places are numbers alone, with laws, each a theorem and no code. Sliding is over slices: a table with one word for each

@@ -1,12 +1,5 @@
-//! Packing in the order of addresses: where the objects go that a sliding full collection keeps, how full each region is
-//! then, and which requests for words find room above the tops; and sliding, which moves the objects down to these places.
-//!
-//! The places are numbers alone, with laws, each a theorem and no code. Sliding is over slices: a table with one word for each
-//! heap word says where each object goes, so that no header of the heap has to hold that and no word that no object covers is
-//! written. `assign` fills the table and the tops, `follow` gives each old copy the place of its current copy, and `slide` moves
-//! the words and renews the references. Each is one sweep over the addresses and takes no memory. The idea of sliding
-//! compaction is that of the LISP 2 collector; what is different here is that references are renewed while an object
-//! moves, so that words left behind show no renewed reference. `compact_marked` is all three in turn.
+//! That the places of packing are as packing should have them, and which requests for words find room above the tops: laws over
+//! numbers alone, as theorems and no code.
 
 ghost use Rattle.regions.specs.SlideLaws.{PackingFits, PackingFills, RequestsAreServed};
 

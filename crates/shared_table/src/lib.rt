@@ -1,8 +1,8 @@
-//! A table of words that threads share, changed by the steps of machines. What holds of it is proved here for every kind
-//! of machine.
+//! A table of words that threads share, changed by the steps of machines, and its seats, gathered again in one. What holds of it is proved
+//! here for every kind of machine.
 //!
-//! Seats of a table gathered in one, of which nobody knows whether they are of that table. A seat has no bytes, so that no code can look;
-//! but what it is to the proofs goes over to the one that gathers where both are of one table, and only there.
+//! Of the seats that are gathered nobody knows whether they are of one table. A seat has no bytes, so that no code can look; but what it is
+//! to the proofs goes over to the one that gathers where both are of one table, and only there.
 #![tactic(auto)]
 
 mod bundles;

@@ -1,7 +1,7 @@
-//! Bytes in and bytes out, with faults that are counted: what a program reads from and writes to,
+//! Bytes in and bytes out, with faults that are counted, and text on its way out: what a program reads from and writes to,
 //! the standard library's readers and writers behind it, and sources and sinks in memory for tests.
 //!
-//! Text on its way to a sink: a block of bytes collects what is put and goes to the sink as a whole, so that the system
+//! A block of bytes collects what is put and goes to the sink as a whole, so that the system
 //! sees blocks and not bytes. Nothing here takes memory.
 #![tactic(auto)]
 

@@ -5,7 +5,7 @@
 //! address of it that is grey and not black. It makes the address black, loads the references of the object there, and makes
 //! each of them grey. Helpers and the control share the units; one exchange of the claim word decides who has the next one.
 //!
-//! A machine that scans stands at a `ScanSpot`, and each of its steps is one access; the rows in `specs/Rows.antt` say for each
+//! A machine that scans stands at a `ScanSpot`, and each of its steps is one access; the rows in `specs/ScanRows.antt` say for each
 //! spot which access it makes and what follows.
 //!
 //! Updating of references beside the mutators: once all objects of the collection set are copied, a machine claims a unit, one
@@ -13,10 +13,10 @@
 //! copied is exchanged for one to the copy. Helpers and the control share the units; one exchange of the claim word decides who has
 //! the next one, and one exchange of the field whether the reference is still the one that was loaded.
 //!
-//! A machine that updates stands at an `UpdateSpot`, and each of its steps is one access; the rows in `specs/Rows.antt` say for
+//! A machine that updates stands at an `UpdateSpot`, and each of its steps is one access; the rows in `specs/UpdateRows.antt` say for
 //! each spot which access it makes and what follows.
 //!
-//! A machine that works on a unit stands at a `UnitSpot`, and each of its steps is one access; the rows in `specs/Rows.antt` say for
+//! A machine that works on a unit stands at a `UnitSpot`, and each of its steps is one access; the rows in `specs/UpdateRows.antt` say for
 //! each spot which access it makes and what follows.
 #![tactic(auto)]
 
