@@ -35,7 +35,7 @@ pub record IsMadeOfPart (inside : Word → Bool) (whole : Word → ℕ) (made pa
   pub outside : (word : Word) → inside word ≡ false → made word ≡ (if part_made word == 0 then whole word else part_made word)
 
 -- Where no room is needed a pause of phase 0 is made of the words off the heap, and one of phase 2 or 3 of those before the words of the mutators.
--- Of the others it writes at most headers of words that only fill, which are not 0.
+-- Of the others it writes only such as become other than 0.
 pub record CollectsByPart : Type 0 where
   pub begins : (c : Config) (whole part : Word → ℕ) → IsPartOf is_off_heap whole part → is_room_needed part ≡ false → part Phase ≡ 0
       → IsMadeOfPart is_off_heap whole (collected c whole) (collected c part)

@@ -57,8 +57,8 @@ pub fn collect_is_pause()
 {}
 
 /// A law: where no room is needed, a pause that begins marking is made of the words off the heap, and one that begins or ends the
-/// updating of references of those before the words of the mutators. Of all other words it writes at most the headers of free
-/// words that only fill from then on.
+/// updating of references of those before the words of the mutators. Of all other words it writes only such as
+/// become other than 0.
 pub fn collects_by_part()
     ensures { CollectsByPart }
 {}

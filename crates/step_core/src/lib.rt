@@ -37,10 +37,11 @@ pub use opening::{first_free, open_words};
 
 /// A law: whatever list of steps the machines of a heap make, from a stage that begins a graph, the words and machines
 /// then stand for the graph after the history of the steps; the history is legal and of the heap's threads, and refuses only
-/// allocations that live objects without a pin and other unanswered allocations crowd out of the regions without a pinned object; the entries of each thread are its calls, and
-/// one more where its call in progress is settled; and each machine finds a fit word next. This is so of any work that is a
-/// pause's: that makes, where a pause is due, of an image that stands for a graph one that stands for the same graph, and answers
-/// who waits.
+/// allocations that live objects without a pin and other unanswered allocations crowd out of the regions without a pinned object; the
+/// entries of each thread are its calls, and one more where its call in progress is settled; and each machine finds a fit word next. This
+/// is so of any work that is a pause's: that makes, where a pause is due, of an image that stands for a graph one that stands for the same
+/// graph, and answers who waits; and that makes of the part of an image that a brief pause loads what it makes of all of it, where that
+/// counts.
 pub fn every_schedule()
     ensures { (change : Change) → PausesByParts change → (c : Config) (s : Stage Actor) (g : Graph) → Begins c s g → (events : List (Event Order)) → IsSound c g (go (kind change c) s events) (history change c s events) }
 {}
@@ -79,7 +80,7 @@ pub fn looks_for_room_in_need()
 {}
 
 /// A law: of the image the control has, while it loads its words, exactly those that it has loaded as the table has them, and while it
-/// stores the new ones the first of them are the table's.
+/// stores the new ones the first of those that count are the table's.
 pub fn read_words_are_the_tables()
     ensures { (change : Change) → PausesByParts change → (c : Config) (s : Stage Actor) (g : Graph) → Begins c s g → (events : List (Event Order)) (number : ℕ) (a : Actor) (k : Controlling) → slice_get (go (kind change c) s events).machines number ≡ Some a → a.machine ≡ controlling k → IsAim c (go (kind change c) s events).words k.spot k.image }
 {}

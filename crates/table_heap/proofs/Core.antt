@@ -9,7 +9,6 @@ use Rattle.heap_words.specs.declared.config.Config.{Config}
 use Rattle.shen_graph.specs.declared.order.Order.{Order}
 use Rattle.shen_graph.specs.declared.order.Order.TheVariants.{Nothing}
 use Rattle.heap_words.specs.Ranges.{seat_count}
-use Rattle.heap_words.specs.Words.{table_words}
 use Rattle.shen_graph.specs.Graph.{Graph}
 use Rattle.steps_base.specs.Steps.{Stage, Event, Finds}
 use Rattle.control_rows.specs.declared.spot.ControlSpot.{ControlSpot}
@@ -51,10 +50,7 @@ found_fits k number a order got finds =
     begun k (IsFitFor k.config order got a.machine) (fit_is_prop k.config order got a.machine)
     (λ g begins. found_fit pause_image heap_pauses k.config (start_of_key k) g begins number a order got finds)
 
--- how many words and machines there are
-pub start_words : (k : HeapKey) → length (start_of_key k).words ≡ table_words k.config
-start_words k = begun k (length (start_of_key k).words ≡ table_words k.config) (hlevel ℕ_set) (λ g begins. begins.words)
-
+-- how many machines there are
 pub start_count : (k : HeapKey) → length (start_of_key k).machines ≡ seat_count k.config.mutators k.config.helpers
 start_count k = begun k (length (start_of_key k).machines ≡ seat_count k.config.mutators k.config.helpers) (hlevel ℕ_set) (λ g begins. begins.seats)
 
