@@ -2,6 +2,7 @@
 use Rattle.std.specs.Prelude.{ℕ, ◌≡◌, ◌≢◌, Bool, true, false, List}
 use Rattle.heap_words.specs.declared.config.Config.{Config}
 use Rattle.heap_words.specs.Words.{Word, Phase}
+use Rattle.heap_words.specs.Phases.{idle_phase, marking_phase}
 use Rattle.heap_world.specs.Change.{image_view}
 use Rattle.image_graph.specs.SeatBuffers.{AreInside}
 use Rattle.mark_core.specs.Trace.{HasRootsInside}
@@ -18,7 +19,7 @@ use Rattle.cycle_pauses.specs.Collect.{is_room_needed, CanPauseSome}
 -- pin slots hold addresses of the heap, and buffers lie in its regions.
 pub record CanBeginOff (c : Config) (memory : Word → ℕ) : Type 0 where
   pub calm : is_room_needed memory ≡ false
-  pub idle : memory Phase ≡ 0
+  pub idle : memory Phase ≡ idle_phase
   pub roots : HasRootsInside c memory
   pub buffers : AreInside c memory
 
@@ -26,8 +27,8 @@ pub record CanBeginOff (c : Config) (memory : Word → ℕ) : Type 0 where
 -- not marked; buffers lie in its regions.
 pub record CanUpdateAhead (c : Config) (memory : Word → ℕ) : Type 0 where
   pub calm : is_room_needed memory ≡ false
-  pub runs : memory Phase ≢ 0
-  pub unmarked : memory Phase ≢ 1
+  pub runs : memory Phase ≢ idle_phase
+  pub unmarked : memory Phase ≢ marking_phase
   pub buffers : AreInside c memory
 
 -- what a pause needs of the words that it has loaded, by its extent

@@ -4,6 +4,7 @@ ghost use Rattle.std.specs.Prelude.{◌≡◌, ◌≢◌, ◌==◌, true, false}
 ghost use Rattle.std.specs.Int.{bit_at};
 ghost use Rattle.heap_words.specs.Words.{Phase, Ask, Evac};
 ghost use Rattle.heap_words.specs.Counter as counter;
+ghost use Rattle.heap_words.specs.Phases.{idle_phase, marking_phase};
 ghost use Rattle.image_graph.specs.SeatBuffers.{AreInside};
 ghost use Rattle.image_graph.specs.State.{config_of, memory_of};
 ghost use Rattle.cycle_words.specs.Marking.Final.{final_marked};
@@ -17,15 +18,9 @@ ghost use Rattle.cycle_pauses.specs.Collect.{next_in_cycle, room_made, collected
 
 use degenerated::{Finished, begin_evac, choose, final_update, finish, init_update};
 use full_cycle::full;
+use heap_words::phase::{EVACUATION, IDLE, MARKING};
 use image_graph::Image;
 use mark_core::{final_mark, init_mark, init_mark_by_part};
-
-// The phases: none between two cycles, and then those of a cycle. After evacuation references are updated.
-const IDLE: u64 = 0;
-
-const MARK: u64 = 1;
-
-const EVAC: u64 = 2;
 
 // The bit of what is asked for that says that a mutator waits for room.
 const ROOM: u32 = 1;
@@ -60,8 +55,8 @@ fn go_on(image: &mut Image)
 {
     match phase(image) {
         IDLE => init_mark(image),
-        MARK => end_mark(image),
-        EVAC => init_update(image),
+        MARKING => end_mark(image),
+        EVACUATION => init_update(image),
         _ => final_update(image),
     }
 }
@@ -70,15 +65,15 @@ fn go_on(image: &mut Image)
 // of a heap: in phase 0 the words off the heap, and else those before the words of the mutators.
 pub(crate) fn collect_by_part(image: &mut Image)
     requires calm { room.is_room_needed (memory_of image.old) ≡ false }
-    requires unmarked { memory_of image.old Phase ≢ 1 }
-    requires roots { memory_of image.old Phase ≡ 0 → HasRootsInside (config_of image.old) (memory_of image.old) }
+    requires unmarked { memory_of image.old Phase ≢ marking_phase }
+    requires roots { memory_of image.old Phase ≡ idle_phase → HasRootsInside (config_of image.old) (memory_of image.old) }
     requires buffers { AreInside (config_of image.old) (memory_of image.old) }
     ensures config { config_of image.new ≡ config_of image.old }
     ensures words { memory_of image.new ≡ collected (config_of image.old) (memory_of image.old) }
 {
     match phase(image) {
         IDLE => init_mark_by_part(image),
-        EVAC => init_update(image),
+        EVACUATION => init_update(image),
         _ => final_update(image),
     }
 }
@@ -101,7 +96,7 @@ fn is_out_of_room(image: &Image) -> bool
 fn is_room_needed(image: &Image) -> bool
     ensures { result ≡ room.is_room_needed (memory_of image.now) }
 {
-    is_room_asked(image) || phase(image) == EVAC && is_out_of_room(image)
+    is_room_asked(image) || phase(image) == EVACUATION && is_out_of_room(image)
 }
 
 // Ends a cycle in its pause: it is finished, and where an object or a request found no room the heap is collected in full.
@@ -125,7 +120,7 @@ fn make_room(image: &mut Image)
 {
     match phase(image) {
         IDLE => full(image),
-        MARK => {
+        MARKING => {
             end_mark(image);
             end_cycle(image);
         }

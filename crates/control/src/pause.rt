@@ -18,6 +18,7 @@ ghost use Rattle.control.specs.Starts.{AreHeapIndices};
 use crate::collect::{collect, collect_by_part};
 use crate::starts::{clear_starts, starts_in};
 use control_rows::{ControlSpot, Extent, LastPause, image_words};
+use heap_words::phase::IDLE;
 use image_graph::Image;
 
 // Makes the words before the image 0.
@@ -113,7 +114,7 @@ fn ended_with(image: &Image, before: LastPause) -> LastPause
 {
     let config = image.config();
     let phase = image.word(config.phase_at());
-    let seen = if phase == 0 {
+    let seen = if phase == IDLE {
         image.word(config.free_at())
     } else {
         before.seen

@@ -5,6 +5,7 @@ use Rattle.std.specs.Int.{bit_at}
 use Rattle.heap_words.specs.declared.config.Config.{Config}
 use Rattle.heap_words.specs.Counter.{is_out_of_room}
 use Rattle.heap_words.specs.Words.{heap_size, image_start, roots_start, heap_start}
+use Rattle.heap_words.specs.Phases.{idle_phase, marking_phase, evacuation_phase}
 use Rattle.heap_world.specs.Change.{image_words}
 use Rattle.control_rows.specs.declared.extent.Extent.{Extent}
 use Rattle.control_rows.specs.declared.extent.Extent.TheVariants.{Whole, OffHeap, Ahead}
@@ -34,12 +35,12 @@ next_loaded c Ahead k = if nat_lt (k + 1) (roots_index c) then k + 1 else image_
 
 -- the extent with which a pause begins, by the phase before it
 abbrev pub first_extent : Config → ℕ → Extent
-first_extent c phase = if is_wide c then (if phase == 0 then OffHeap else (if phase == 1 then Whole else Ahead)) else Whole
+first_extent c phase = if is_wide c then (if phase == idle_phase then OffHeap else (if phase == marking_phase then Whole else Ahead)) else Whole
 
 -- A word that was loaded says that room is needed: that of the copiers, the fourth of the image, where one of them found none in phase 2; or that
 -- of what is asked for, the sixth, where a mutator waits.
 abbrev pub says_room : (phase index got : ℕ) → Bool
-says_room phase index got = ((index == 3) && ((phase == 2) && is_out_of_room got)) || ((index == 5) && (bit_at got 1 == 1))
+says_room phase index got = ((index == 3) && ((phase == evacuation_phase) && is_out_of_room got)) || ((index == 5) && (bit_at got 1 == 1))
 
 -- the extent then
 abbrev pub extent_after : (phase index : ℕ) → Extent → (got : ℕ) → Extent

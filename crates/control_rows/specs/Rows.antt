@@ -17,6 +17,7 @@ use Rattle.handshake.specs.declared.stop_spot.StopSpot.{StopSpot}
 use Rattle.handshake.specs.declared.stop_spot.StopSpot.TheVariants as stop
 use Rattle.handshake.specs.Rows.{stop_place, stop_touch, stop_next, go_touch}
 use Rattle.heap_words.specs.declared.access.Unit.TheVariants.{Worked, NoneLeft}
+use Rattle.heap_words.specs.Phases.{idle_phase}
 use Rattle.unit_part.specs.declared.spot.UnitSpot.{UnitSpot}
 use Rattle.unit_part.specs.declared.spot.UnitSpot.TheVariants.{Ended}
 use Rattle.unit_part.specs.Rows as units
@@ -123,11 +124,11 @@ after_unit at = Working at
 
 -- whether a pause is asked for: by bit 1 because a mutator waits for room, and in phase 0 by bit 0 for a cycle
 abbrev pub begins_pause : ℕ → ℕ → Bool
-begins_pause phase asked = (bit_at asked 1 == 1) || ((phase == 0) && (bit_at asked 0 == 1))
+begins_pause phase asked = (bit_at asked 1 == 1) || ((phase == idle_phase) && (bit_at asked 0 == 1))
 
 -- what it does where no pause is asked for: in phase 0 it looks at the free word, and in each other it claims a unit
 abbrev pub unasked : (phase cset : ℕ) → ControlSpot
-unasked phase cset = if phase == 0 then LookFree else Working (units.begins phase cset)
+unasked phase cset = if phase == idle_phase then LookFree else Working (units.begins phase cset)
 
 -- whether the free word calls for a pause: fewer than half of the regions are free, and it is not the word seen
 abbrev pub wants_pause : Config → ℕ → ℕ → Bool
@@ -180,7 +181,7 @@ next_image change c _ image phase got = []
 
 -- the free word that it has seen after a pause: that of the new image, if the pause has ended with phase 0
 abbrev pub seen_after : ℕ → (Word → ℕ) → ℕ
-seen_after seen memory = if memory Phase == 0 then memory Free else seen
+seen_after seen memory = if memory Phase == idle_phase then memory Free else seen
 
 -- the free word that it has seen then
 abbrev pub next_seen : Change → Config → ControlSpot → List ℕ → (seen phase got : ℕ) → ℕ

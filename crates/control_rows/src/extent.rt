@@ -6,16 +6,10 @@ ghost use Rattle.heap_world.specs.Change.{image_words};
 ghost use Rattle.control_rows.specs.Extent as extents;
 
 use heap_words::Config;
+use heap_words::phase::{EVACUATION, IDLE, MARKING};
 
 // The most words of a region in a heap that is not wide.
 const NARROW_WORDS: usize = 1024;
-
-// The phases: none between two cycles, and then those of a cycle.
-const IDLE: u64 = 0;
-
-const MARK: u64 = 1;
-
-const EVAC: u64 = 2;
 
 // Where in the image the words of the copiers and of what is asked for stand, counted from 0.
 const EVAC_INDEX: usize = 3;
@@ -70,7 +64,7 @@ pub(crate) fn first_extent(config: Config, phase: u64) -> Extent
     }
     match phase {
         IDLE => Extent::OffHeap,
-        MARK => Extent::Whole,
+        MARKING => Extent::Whole,
         _ => Extent::Ahead,
     }
 }
@@ -80,7 +74,7 @@ fn says_room(phase: u64, index: usize, word: u64) -> bool
     ensures { result ≡ extents.says_room phase index word }
 {
     match index {
-        EVAC_INDEX => phase == EVAC && word >= 1 << OUT_OF_ROOM,
+        EVAC_INDEX => phase == EVACUATION && word >= 1 << OUT_OF_ROOM,
         ASK_INDEX => word >> ROOM & 1 == 1,
         _ => false,
     }

@@ -9,6 +9,7 @@ ghost use Rattle.control_rows.specs.Waits.{waits_at};
 
 use crate::extent::{Extent, first_extent, image_words};
 use handshake::{StopSpot, go_access};
+use heap_words::phase::IDLE;
 use heap_words::{Access, Config, Place, Took, Unit};
 use regions::size;
 use unit_part::UnitSpot;
@@ -17,9 +18,6 @@ use unit_part::UnitSpot;
 const CYCLE: u32 = 0;
 
 const ROOM: u32 = 1;
-
-// The phase between two cycles.
-const IDLE: u64 = 0;
 
 /// What stood in the image at the end of the control's last pause.
 #[derive(Clone, Copy)]

@@ -11,6 +11,7 @@ ghost use Rattle.cycle_words.specs.Evacuation.Begun.{CanBegin, CanClear, CanClea
 ghost use Rattle.cycle_words.specs.StillHolds.{BeginningHolds};
 
 use crate::copy::copy_out;
+use heap_words::phase::{EVACUATION, IDLE};
 use heap_words::{Config, forwarded, forwardee};
 use image_graph::Image;
 use regions::{is_in, region_of};
@@ -110,7 +111,7 @@ fn start(image: &mut Image)
     let config = image.config();
     image.set_word(config.evac_at(), 0);
     image.set_word(config.claim_at(), 0);
-    image.set_word(config.phase_at(), 2);
+    image.set_word(config.phase_at(), EVACUATION);
 }
 
 // Without a region to evacuate the cycle ends.
@@ -121,7 +122,7 @@ fn spare(image: &mut Image)
     let config = image.config();
     image.set_word(config.cset_at(), 0);
     image.set_word(config.claim_at(), 0);
-    image.set_word(config.phase_at(), 0);
+    image.set_word(config.phase_at(), IDLE);
 }
 
 /// Begins evacuation: the regions of a set are to be evacuated, and each object in them that a root or an answer names is

@@ -2,6 +2,7 @@
 use Rattle.std.specs.Prelude.{ℕ, ◌≡◌, ◌≢◌, ◌==◌, if◌then◌else◌, Bool, true, false}
 use Rattle.heap_words.specs.declared.config.Config.{Config}
 use Rattle.heap_words.specs.Words.{Word, Phase, Root, Count, Buffer, Wait, Answer, Grey, Black, Heap, Share, Pin}
+use Rattle.heap_words.specs.Phases.{idle_phase, marking_phase}
 use Rattle.cycle_pauses.specs.Collect.{is_room_needed, collected}
 
 -- whether a word is none of the heap's
@@ -37,7 +38,7 @@ pub record IsMadeOfPart (inside : Word → Bool) (whole : Word → ℕ) (made pa
 -- Where no room is needed a pause of phase 0 is made of the words off the heap, and one of phase 2 or 3 of those before the words of the mutators.
 -- Of the others it writes only such as become other than 0.
 pub record CollectsByPart : Type 0 where
-  pub begins : (c : Config) (whole part : Word → ℕ) → IsPartOf is_off_heap whole part → is_room_needed part ≡ false → part Phase ≡ 0
+  pub begins : (c : Config) (whole part : Word → ℕ) → IsPartOf is_off_heap whole part → is_room_needed part ≡ false → part Phase ≡ idle_phase
       → IsMadeOfPart is_off_heap whole (collected c whole) (collected c part)
-  pub updates : (c : Config) (whole part : Word → ℕ) → IsPartOf is_ahead whole part → is_room_needed part ≡ false → part Phase ≢ 0 → part Phase ≢ 1
+  pub updates : (c : Config) (whole part : Word → ℕ) → IsPartOf is_ahead whole part → is_room_needed part ≡ false → part Phase ≢ idle_phase → part Phase ≢ marking_phase
       → IsMadeOfPart is_ahead whole (collected c whole) (collected c part)

@@ -7,6 +7,7 @@ use Rattle.heap_words.specs.declared.config.Config.{Config}
 use Rattle.heap_words.specs.Words.{Word, Phase, Cset, Evac, Ask, image_start}
 use Rattle.heap_words.specs.Rows.{name_of}
 use Rattle.heap_words.specs.Counter.{is_out_of_room}
+use Rattle.heap_words.specs.Phases.{idle_phase, marking_phase, evacuation_phase, updating_phase}
 use Rattle.shen_graph.specs.Graph.{Graph}
 use Rattle.heap_world.specs.World.{Plot}
 use Rattle.heap_world.specs.Change.{Change, image_words, image_view}
@@ -21,22 +22,22 @@ use Rattle.cycle_pauses.specs.Ended.{ended, CanEnd}
 
 -- room is needed now: a mutator waits for it, or a copier found none while objects are evacuated
 abbrev pub is_room_needed : (Word → ℕ) → Bool
-is_room_needed memory = (bit_at (memory Ask) 1 == 1) || ((memory Phase == 2) && is_out_of_room (memory Evac))
+is_room_needed memory = (bit_at (memory Ask) 1 == 1) || ((memory Phase == evacuation_phase) && is_out_of_room (memory Evac))
 
 -- The next step of the cycle: marking begins; it ends and evacuation begins; evacuation ends and the updating of references begins; or
 -- that ends, and the cycle with it.
 abbrev pub next_in_cycle : Config → (Word → ℕ) → Word → ℕ
 next_in_cycle c memory word =
-    if memory Phase == 0 then init_marked c memory word
-    else (if memory Phase == 1 then evac_next c memory word else (if memory Phase == 2 then init_updated c memory word else final_updated c memory word))
+    if memory Phase == idle_phase then init_marked c memory word
+    else (if memory Phase == marking_phase then evac_next c memory word else (if memory Phase == evacuation_phase then init_updated c memory word else final_updated c memory word))
 
 -- The words past marking, from which a cycle is ended in its pause: where objects are marked, marking ends and evacuation begins.
 abbrev pub past_marking : Config → (Word → ℕ) → Word → ℕ
-past_marking c memory word = if memory Phase == 1 then evac_next c memory word else memory word
+past_marking c memory word = if memory Phase == marking_phase then evac_next c memory word else memory word
 
 -- The words once there is room: where no cycle runs the heap is collected in full, and else the cycle is ended.
 abbrev pub room_made : Config → (Word → ℕ) → Word → ℕ
-room_made c memory word = if memory Phase == 0 then full c memory word else ended c (past_marking c memory) word
+room_made c memory word = if memory Phase == idle_phase then full c memory word else ended c (past_marking c memory) word
 
 -- The words after a pause. Where room is needed it is made; else the cycle goes on.
 abbrev pub collected : Config → (Word → ℕ) → Word → ℕ
@@ -51,10 +52,10 @@ collect_image c image = map (λ k. collected c (image_view c image) (name_of c (
 pub record CanPause (c : Config) (memory : Word → ℕ) (block : Plot) (owner : ℕ → Option ℕ) (p : Promises) (g : Graph) : Type 0 where
   pub holds : HoldsBy c memory block owner p g
   pub sized : AreSized memory block
-  pub phase_is : memory Phase ≤ 3
-  pub uncollected : memory Phase ≡ 0 → memory Cset ≡ 0
-  pub marking : memory Phase ≡ 1 → IsMarking c memory block
-  pub ends : is_room_needed memory ≡ true → memory Phase ≢ 0 → CanEnd c (past_marking c memory)
+  pub phase_is : memory Phase ≤ updating_phase
+  pub uncollected : memory Phase ≡ idle_phase → memory Cset ≡ 0
+  pub marking : memory Phase ≡ marking_phase → IsMarking c memory block
+  pub ends : is_room_needed memory ≡ true → memory Phase ≢ idle_phase → CanEnd c (past_marking c memory)
 
 -- so it is in some way
 abbrev pub CanPauseSome : Config → (Word → ℕ) → Type 0

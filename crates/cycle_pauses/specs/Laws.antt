@@ -2,6 +2,7 @@
 use Rattle.std.specs.Prelude.{ℕ, ◌≡◌, ◌≢◌, ◌<◌, ◌++◌, true, false, List, length, replicate}
 use Rattle.heap_words.specs.declared.config.Config.{Config}
 use Rattle.heap_words.specs.Words.{Word, Phase, Cset, image_start, table_words, view}
+use Rattle.heap_words.specs.Phases.{idle_phase, marking_phase}
 use Rattle.regions.specs.Sets.{IsIn}
 use Rattle.shen_graph.specs.Graph.{Graph}
 use Rattle.heap_world.specs.Asking.{Asking}
@@ -38,11 +39,11 @@ RepresentingCanCollect = (c : Config) (image : List ℕ) (g : Graph) (asking : �
 
 -- Where such a pause ends marking, evacuation can begin.
 abbrev pub EndedCanBegin : Type 0
-EndedCanBegin = (c : Config) (memory : Word → ℕ) → CanPauseSome c memory → memory Phase ≡ 1 → HasNoMoreSeats c memory → CanBegin c (final_marked c memory)
+EndedCanBegin = (c : Config) (memory : Word → ℕ) → CanPauseSome c memory → memory Phase ≡ marking_phase → HasNoMoreSeats c memory → CanBegin c (final_marked c memory)
 
 -- And where such a pause makes room while a cycle runs, the cycle can be ended.
 abbrev pub RunningCanEnd : Type 0
-RunningCanEnd = (c : Config) (memory : Word → ℕ) → CanPauseSome c memory → is_room_needed memory ≡ true → memory Phase ≢ 0 → CanEnd c (past_marking c memory)
+RunningCanEnd = (c : Config) (memory : Word → ℕ) → CanPauseSome c memory → is_room_needed memory ≡ true → memory Phase ≢ idle_phase → CanEnd c (past_marking c memory)
 
 -- By their names the words of an image after a pause are those that the pause makes of its words.
 abbrev pub ImageIsCollected : Type 0

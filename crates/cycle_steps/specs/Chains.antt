@@ -4,6 +4,7 @@ use Rattle.std.specs.Prelude.{ℕ, ◌≡◌, ◌≢◌, ◌+◌, ◌<◌, ◌�
 use Rattle.heap_words.specs.declared.config.Config.{Config}
 use Rattle.heap_words.specs.Ranges.{seat_count}
 use Rattle.heap_words.specs.Words.{Phase, Tams, Black, Heap}
+use Rattle.heap_words.specs.Phases.{marking_phase}
 use Rattle.regions.specs.Marks.{mark_at, HasMark}
 use Rattle.shen_graph.specs.declared.name.Name.{Name}
 use Rattle.heap_world.specs.World.{World, thing, IsMarkable, IsYoung, NotedIn, Shared}
@@ -38,4 +39,4 @@ IsSafe c w a = HasMark c (λ n. w.memory (Black n)) a ⊎ (IsYoung c (λ r. w.me
 
 -- While objects are marked, each object is safe. So is each that a root or a field names, for these name objects.
 abbrev pub MarkingComes : Type 0
-MarkingComes = (c : Config) (w : World) → Shared c w → w.memory Phase ≡ 1 → (a : ℕ) → IsMarkable w.block a → IsSafe c w a
+MarkingComes = (c : Config) (w : World) → Shared c w → w.memory Phase ≡ marking_phase → (a : ℕ) → IsMarkable w.block a → IsSafe c w a

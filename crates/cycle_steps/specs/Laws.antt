@@ -3,6 +3,7 @@ use Rattle.std.specs.Prelude.{ℕ, ◌≡◌, ◌≢◌, ◌<◌, ◌==◌, fals
 use Rattle.heap_words.specs.declared.config.Config.{Config}
 use Rattle.heap_words.specs.Ranges.{seat_count}
 use Rattle.heap_words.specs.Words.{Phase, IsWord}
+use Rattle.heap_words.specs.Phases.{marking_phase}
 use Rattle.heap_world.specs.World.{World, hand, with_recording, IsMarkable, NotedIn, Shared}
 use Rattle.heap_world.specs.Rely.{Keeps, Rely}
 use Rattle.heap_world.specs.Part.{PartStep, SameWork}
@@ -35,7 +36,7 @@ pub record TakesInHand (c : Config) (u : World) (mutator v : ℕ) : Type 0 where
 
 -- A mutator that overwrites a reference records it.
 pub record RecordingSteps : Type 0 where
-  pub begins : (c : Config) (u : World) (mutator v : ℕ) → mutator < c.mutators → u.memory Phase ≡ 1 → IsMarkable u.block v
+  pub begins : (c : Config) (u : World) (mutator v : ℕ) → mutator < c.mutators → u.memory Phase ≡ marking_phase → IsMarkable u.block v
       → u.ghost.recording mutator ≡ None → u.ghost.scanning mutator ≡ None → ((a words : ℕ) → u.block a ≡ Some (hand mutator words) → ⊥) → Shared c u → TakesInHand c u mutator v
   pub each : (c : Config) (u : World) (mutator v : ℕ) (at : RememberSpot) → remember.is_recorded at ≡ false → Shared c u → CanRecord c u mutator v at → RecordStep c u mutator v at
   pub stays : (c : Config) (u w : World) (mutator v : ℕ) (at : RememberSpot) → Rely c mutator u w → CanRecord c u mutator v at → CanRecord c w mutator v at
@@ -49,7 +50,7 @@ ScanStep c u seat at = PartStep c u seat (scan.touch_at c at) (λ w. CanScan c w
 
 -- A machine that scans makes grey what the fields of black objects name.
 pub record ScanningSteps : Type 0 where
-  pub begins : (c : Config) (u : World) (seat : ℕ) → seat < seat_count c.mutators c.helpers → u.memory Phase ≡ 1 → u.ghost.recording seat ≡ None → u.ghost.scanning seat ≡ None → ((a words : ℕ) → u.block a ≡ Some (hand seat words) → ⊥) → CanScan c u seat LoadClaim
+  pub begins : (c : Config) (u : World) (seat : ℕ) → seat < seat_count c.mutators c.helpers → u.memory Phase ≡ marking_phase → u.ghost.recording seat ≡ None → u.ghost.scanning seat ≡ None → ((a words : ℕ) → u.block a ≡ Some (hand seat words) → ⊥) → CanScan c u seat LoadClaim
   -- who has claimed no unit may take any hint
   pub hinted : (c : Config) (u : World) (seat address : ℕ) → CanScan c u seat LoadClaim → CanScan c u seat (scan.hinted c address)
   pub each : (c : Config) (u : World) (seat : ℕ) (at : ScanSpot) → scan.is_ended at ≡ false → Shared c u → CanScan c u seat at → ScanStep c u seat at

@@ -2,6 +2,7 @@
 use Rattle.std.specs.Prelude.{ℕ, ◌≡◌, ◌<◌, Option, Some, None}
 use Rattle.heap_words.specs.declared.config.Config.{Config}
 use Rattle.heap_words.specs.Words.{Phase}
+use Rattle.heap_words.specs.Phases.{marking_phase}
 use Rattle.heap_world.specs.World.{World, hand, IsMarkable}
 use Rattle.satb_barrier.specs.declared.spot.RememberSpot.{RememberSpot}
 use Rattle.satb_barrier.specs.declared.spot.RememberSpot.TheVariants.{Recorded}
@@ -16,7 +17,7 @@ recording_of _ v = Some v
 -- room in hand.
 pub record CanRecord (c : Config) (w : World) (mutator v : ℕ) (at : RememberSpot) : Type 0 where
   pub seated : mutator < c.mutators
-  pub phase : w.memory Phase ≡ 1
+  pub phase : w.memory Phase ≡ marking_phase
   pub markable : IsMarkable w.block v
   pub recording : w.ghost.recording mutator ≡ recording_of at v
   pub scanning : w.ghost.scanning mutator ≡ None

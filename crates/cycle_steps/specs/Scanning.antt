@@ -5,6 +5,7 @@ use Rattle.heap_words.specs.declared.config.Config.{Config}
 use Rattle.heap_words.specs.Encoding.{refs_in}
 use Rattle.heap_words.specs.Ranges.{seat_count}
 use Rattle.heap_words.specs.Words.{Phase, Heap}
+use Rattle.heap_words.specs.Phases.{marking_phase}
 use Rattle.regions.specs.Marks.{address_at}
 use Rattle.shen_graph.specs.declared.name.Name.{Name}
 use Rattle.heap_world.specs.World.{World, Scan, Plot, thing, hand, IsMarkable, NotedIn, was_at, NeedsNoMarking}
@@ -51,7 +52,7 @@ ScanFacts c w _ = ⊤
 -- Objects are marked, and the machine is in the scan of which its spot tells. It records nothing, and has no room in hand.
 pub record CanScan (c : Config) (w : World) (seat : ℕ) (at : ScanSpot) : Type 0 where
   pub seated : seat < seat_count c.mutators c.helpers
-  pub phase : w.memory Phase ≡ 1
+  pub phase : w.memory Phase ≡ marking_phase
   pub scanning : w.ghost.scanning seat ≡ scanning_of at
   pub records_none : w.ghost.recording seat ≡ None
   pub ready : is_ready c at ≡ true

@@ -4,6 +4,7 @@ use Rattle.std.specs.Option.{option_map}
 use Rattle.heap_words.specs.declared.config.Config.{Config}
 use Rattle.heap_words.specs.Words.{Word, Phase, Cset, Top, Tams, Pin, Heap}
 use Rattle.heap_words.specs.Encoding.{is_forwarded, refs_in}
+use Rattle.heap_words.specs.Phases.{evacuation_phase}
 use Rattle.shen_graph.specs.Graph.{Graph}
 use Rattle.regions.specs.Sets.{IsIn}
 use Rattle.regions.specs.Place.{region_with}
@@ -51,7 +52,7 @@ pub record WhileCollecting (c : Config) (memory : Word → ℕ) (block : Plot) :
   pub floors : memory Cset ≢ 0 → (r : ℕ) → r < c.regions → memory (Tams r) ≤ memory (Top r)
   pub young : memory Cset ≢ 0 → AreYoungRooms c (λ r. memory (Tams r)) block
   pub unseated : (seat r : ℕ) → EndsIn c memory seat r → IsIn (memory Cset) r → ⊥
-  pub outside : memory Phase ≢ 2 → NothingInside c memory
+  pub outside : memory Phase ≢ evacuation_phase → NothingInside c memory
 
 -- So words hold the graph, with the same collection set, and finishing the cycle keeps it, if it did.
 pub record HoldsCopied (c : Config) (before after : Word → ℕ) (block : Plot) (owner : ℕ → Option ℕ) (p : Promises) (g : Graph) : Type 0 where

@@ -2,6 +2,7 @@
 
 ghost use Rattle.std.specs.Prelude.{◌≡◌, ◌*◌, true};
 ghost use Rattle.heap_words.specs.Words.{Phase, Heap, IsWord};
+ghost use Rattle.heap_words.specs.Phases.{evacuation_phase};
 ghost use Rattle.image_graph.specs.State.{config_of, memory_of};
 ghost use Rattle.cycle_words.specs.Evacuation.Copied.{CanCopyOut};
 ghost use Rattle.cycle_words.specs.Finishing.Copies as left;
@@ -10,6 +11,7 @@ ghost use Rattle.degenerated.specs.Steps.{turn_taken, has_turn_room};
 
 use cset_choice::copy_out;
 use heap_words::forwarded;
+use heap_words::phase::EVACUATION;
 use image_graph::Image;
 use mark_core::is_black;
 use regions::{is_in, region_of};
@@ -65,13 +67,13 @@ fn copy_set(image: &mut Image) -> bool
 /// Copies out what is left of the collection set while objects are evacuated, in the order of addresses, up to the first
 /// object that finds no room. False where there is one.
 pub(crate) fn copy_rest(image: &mut Image) -> bool
-    requires { memory_of image.old Phase ≡ 2 → CanCopyFrom (config_of image.old) (memory_of image.old) (config_of image.old).region_words ((config_of image.old).regions * (config_of image.old).region_words) }
+    requires { memory_of image.old Phase ≡ evacuation_phase → CanCopyFrom (config_of image.old) (memory_of image.old) (config_of image.old).region_words ((config_of image.old).regions * (config_of image.old).region_words) }
     ensures config { config_of image.new ≡ config_of image.old }
     ensures words { memory_of image.new ≡ all_copied (config_of image.old) (memory_of image.old) }
     ensures room { result ≡ is_room_for_all (config_of image.old) (memory_of image.old) }
 {
     let phase = image.word(image.config().phase_at());
-    if phase != 2 {
+    if phase != EVACUATION {
         return true;
     }
     copy_set(image)

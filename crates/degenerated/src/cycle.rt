@@ -3,6 +3,7 @@
 ghost use Rattle.std.specs.Prelude.{◌≡◌, ◌<◌, ◌*◌, ◌↔◌, ◌&&◌, ◌==◌, true, false};
 ghost use Rattle.image_graph.specs.State.{config_of, memory_of};
 ghost use Rattle.heap_words.specs.Words.{Phase};
+ghost use Rattle.heap_words.specs.Phases.{evacuation_phase};
 ghost use Rattle.cycle_words.specs.Finishing.Copies.{CanCopyFrom, all_copied, is_room_for_all};
 ghost use Rattle.cycle_words.specs.Finishing.Updated.{CanUpdateAll, all_updated};
 ghost use Rattle.image_graph.specs.Pinned.{filled_in, CanFill};
@@ -75,7 +76,7 @@ fn end_cycle(image: &mut Image)
 
 // Ends a cycle in one pause, where nobody has a buffer.
 fn end(image: &mut Image) -> Finished
-    requires copies { memory_of image.old Phase ≡ 2 → CanCopyFrom (config_of image.old) (memory_of image.old) (config_of image.old).region_words ((config_of image.old).regions * (config_of image.old).region_words) }
+    requires copies { memory_of image.old Phase ≡ evacuation_phase → CanCopyFrom (config_of image.old) (memory_of image.old) (config_of image.old).region_words ((config_of image.old).regions * (config_of image.old).region_words) }
     requires updates { is_room_for_all (config_of image.old) (memory_of image.old) ≡ true → CanUpdateAll (config_of image.old) (all_copied (config_of image.old) (memory_of image.old)) }
     requires frees { is_room_for_all (config_of image.old) (memory_of image.old) ≡ true → CanFree (config_of image.old) (all_updated (config_of image.old) (all_copied (config_of image.old) (memory_of image.old))) }
     ensures config { config_of image.new ≡ config_of image.old }

@@ -2,6 +2,7 @@
 use Rattle.std.specs.Prelude.{ℕ, ◌≡◌, ◌==◌, ◌&&◌, nat_le, nat_lt, if◌then◌else◌, Bool, List, slice_index}
 use Rattle.heap_words.specs.declared.config.Config.{Config}
 use Rattle.heap_words.specs.Words.{Word, Phase, Cset, Evac, Claim, Ask, Top, Tams, Limit, Current, Root, Count, Wait, Answer, Grey, Black, Heap, Share}
+use Rattle.heap_words.specs.Phases.{idle_phase}
 use Rattle.regions.specs.Slide.{renewed}
 use Rattle.regions.specs.Table.{from_table, IsInTable}
 use Rattle.image_graph.specs.Full.{moved_heap, top_then}
@@ -29,7 +30,7 @@ roots_renewed c places memory word = memory word
 
 -- the words when nothing is left of a collection in progress
 abbrev pub calm : (Word → ℕ) → Word → ℕ
-calm memory Phase = 0
+calm memory Phase = idle_phase
 calm memory Cset = 0
 calm memory Evac = 0
 calm memory Claim = 0

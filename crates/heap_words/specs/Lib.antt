@@ -8,3 +8,4 @@ pub mod Access
 pub mod Rows
 pub mod Name
 pub mod Counter
+pub mod Phases

@@ -6,6 +6,7 @@ mod access;
 mod config;
 mod encoding;
 mod name;
+pub mod phase;
 mod place;
 mod schedule;
 mod words;

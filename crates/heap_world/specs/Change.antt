@@ -3,6 +3,7 @@ use Rattle.std.specs.Prelude.{ℕ, ◌≡◌, ◌+◌, ◌-◌, ◌*◌, ◌<◌
 use Rattle.heap_words.specs.declared.config.Config.{Config}
 use Rattle.std.specs.Int.{bit_at}
 use Rattle.heap_words.specs.Words.{Word, Phase, Claim, Ask, image_start, table_words, view}
+use Rattle.heap_words.specs.Phases.{evacuation_phase}
 use Rattle.regions.specs.Tops.{sum_below}
 use Rattle.shen_graph.specs.declared.name.Name.{Name}
 use Rattle.shen_graph.specs.Graph.{Graph, named}
@@ -54,7 +55,7 @@ pub record IsPaused (c : Config) (before after : Word → ℕ) (g : Graph) (aski
 
 -- A pause is due: in phases 2 and 3 all regions are claimed, or an allocation waits.
 abbrev pub IsDue : Config → (Word → ℕ) → Type 0
-IsDue c memory = 2 ≤ memory Phase → bit_at (memory Ask) 1 ≡ 0 → c.regions ≤ memory Claim
+IsDue c memory = evacuation_phase ≤ memory Phase → bit_at (memory Ask) 1 ≡ 0 → c.regions ≤ memory Claim
 
 -- the law of a pause: it keeps the image's length, and it owes what a pause owes wherever the image stands for a graph and the pause is due
 pub record IsPause (change : Change) : Type 0 where

@@ -6,6 +6,7 @@ use Rattle.heap_words.specs.Ranges.{seat_count}
 use Rattle.heap_words.specs.Words.{Top, Tams, Limit, Current, Root, Pin, Heap, Phase, Cset, Evac, Claim, Ask, State, Wait, Answer, Count, Buffer, Grey}
 use Rattle.regions.specs.Sets.{IsIn}
 use Rattle.heap_words.specs.Counter.{is_out_of_room, IsQuiet}
+use Rattle.heap_words.specs.Phases.{evacuation_phase, updating_phase}
 use Rattle.regions.specs.Marks.{HasMark}
 use Rattle.shen_graph.specs.declared.name.Name.{Name}
 use Rattle.heap_world.specs.World.{World, Block, IsOpenIn, TargetIn, thing, moved, spent, promised, dead, filler, words_of, filling, room_of, name_at, Body, body_at, body_words, IsCollected, IsMarkable, IsCurrent, NotedIn}
@@ -15,7 +16,7 @@ use Rattle.heap_world.specs.World.{World, Block, IsOpenIn, TargetIn, thing, move
 pub record KeepsMarks (c : Config) (u w : World) : Type 0 where
   pub phase : w.memory Phase ≡ u.memory Phase
   pub snapshot : w.ghost.snapshot ≡ u.ghost.snapshot
-  pub markable : u.memory Phase ≢ 2 → (a : ℕ) → IsMarkable u.block a → IsMarkable w.block a
+  pub markable : u.memory Phase ≢ evacuation_phase → (a : ℕ) → IsMarkable u.block a → IsMarkable w.block a
   pub shapes : (a : ℕ) → IsMarkable u.block a → w.memory (Heap (a + 1)) ≡ u.memory (Heap (a + 1))
   pub noted : (v : ℕ) → NotedIn c u v → NotedIn c w v
 
@@ -79,7 +80,7 @@ pub record KeepsFields (c : Config) (u w : World) : Type 0 where
   pub deads : (a words : ℕ) → u.block a ≡ Some (dead words) → w.block a ≡ Some (dead words)
   pub fillers : (a words : ℕ) → u.block a ≡ Some (filler words) → w.block a ≡ Some (filler words)
   pub claims : c.regions ≤ u.memory Claim → c.regions ≤ w.memory Claim
-  pub fields : u.memory Phase ≡ 3 → (a refs nums k : ℕ) (name : Name) → u.block a ≡ Some (thing name refs nums) → k < refs
+  pub fields : u.memory Phase ≡ updating_phase → (a refs nums k : ℕ) (name : Name) → u.block a ≡ Some (thing name refs nums) → k < refs
       → (w.memory (Heap (a + 3 + k)) ≡ u.memory (Heap (a + 3 + k))) ⊎ IsCurrent w.block (w.memory (Heap (a + 3 + k)))
 
 -- What the machine of a seat relies on while another machine leads from u to w: objects stay where they are; what is the

@@ -12,6 +12,7 @@ use Rattle.shen_graph.specs.declared.pin.Pinned.{Pinned}
 use Rattle.shen_graph.specs.Graph.{Reference, Object, Graph}
 use Rattle.regions.specs.Marks.{address_at, mark_at, HasMark}
 use Rattle.heap_words.specs.Counter.{count_of, is_out_of_room, IsQuiet}
+use Rattle.heap_words.specs.Phases.{marking_phase, evacuation_phase, updating_phase}
 use Rattle.heap_world.specs.Objects.{Refers, IsObject}
 
 -- A piece of the part of a region that is in use: the current copy of an object of a name, with so many references and numbers; an
@@ -333,9 +334,9 @@ pub record AreOwned (c : Config) (top : ℕ → ℕ) (share free cset : ℕ) (cu
 -- The phase is 0 to 3. Only in phases 2 and 3, while objects are evacuated and references to them updated, is a region in the collection
 -- set, and only in phase 2 is a copier counted.
 pub record IsPhased (phase cset evac : ℕ) : Type 0 where
-  pub phase_is : phase ≤ 3
-  pub cset_is : phase < 2 → cset ≡ 0
-  pub evac_is : phase ≢ 2 → evac ≡ 0
+  pub phase_is : phase ≤ updating_phase
+  pub cset_is : phase < evacuation_phase → cset ≡ 0
+  pub evac_is : phase ≢ evacuation_phase → evac ≡ 0
 
 -- so many words are a new object: its shape word says so, and its references are null
 pub record IsBlank (heap : ℕ → ℕ) (a words : ℕ) : Type 0 where
@@ -418,20 +419,20 @@ pub record AreEntries (c : Config) (count : ℕ → ℕ) (buffer : ℕ → ℕ �
 -- object is one of the snapshot, or was named by a root or an answer then, or was allocated since. Marks and buffers have objects alone. In
 -- other phases there is no snapshot.
 pub record KeepsSnapshot (c : Config) (phase : ℕ) (grey black count : ℕ → ℕ) (buffer : ℕ → ℕ → ℕ) (top tams heap : ℕ → ℕ) (block : Plot) (s : Snapshot) (recording : ℕ → Option ℕ) (scanning : ℕ → Option Scan) : Type 0 where
-  pub empty : phase ≢ 1 → s ≡ no_snapshot
+  pub empty : phase ≢ marking_phase → s ≡ no_snapshot
   pub traced : AreTraced c s heap black scanning (IsNoted c grey count buffer recording)
   pub led : (a refs nums : ℕ) (name : Name) → s.block a ≡ Some (thing name refs nums) → IsLed s a
   pub old : (a refs nums : ℕ) (name : Name) → s.block a ≡ Some (thing name refs nums) → IsYoung c s.top a → ⊥
   pub kept : (a refs nums : ℕ) (name : Name) → s.block a ≡ Some (thing name refs nums) → block a ≡ Some (thing name refs nums)
-  pub older : phase ≡ 1 → (a refs nums : ℕ) (name : Name) → block a ≡ Some (thing name refs nums) → (s.block a ≡ Some (thing name refs nums)) ⊎ ((s.starts a ≡ true) ⊎ IsYoung c s.top a)
-  pub promises : phase ≡ 1 → (a seat words : ℕ) → block a ≡ Some (promised seat words) → s.starts a ≡ true
-  pub deads : phase ≡ 1 → (a words : ℕ) → block a ≡ Some (dead words) → IsYoung c s.top a → ⊥
-  pub young : phase ≡ 1 → AreYoungRooms c s.top block
+  pub older : phase ≡ marking_phase → (a refs nums : ℕ) (name : Name) → block a ≡ Some (thing name refs nums) → (s.block a ≡ Some (thing name refs nums)) ⊎ ((s.starts a ≡ true) ⊎ IsYoung c s.top a)
+  pub promises : phase ≡ marking_phase → (a seat words : ℕ) → block a ≡ Some (promised seat words) → s.starts a ≡ true
+  pub deads : phase ≡ marking_phase → (a words : ℕ) → block a ≡ Some (dead words) → IsYoung c s.top a → ⊥
+  pub young : phase ≡ marking_phase → AreYoungRooms c s.top block
   pub floors : (r : ℕ) → r < c.regions → s.top r ≤ top r
-  pub tams_are : phase ≡ 1 → (r : ℕ) → r < c.regions → tams r ≡ s.top r
-  pub greys : phase ≡ 1 → AreMarks c grey block
-  pub blacks : phase ≡ 1 → AreMarks c black block
-  pub entries : phase ≡ 1 → AreEntries c count buffer block
+  pub tams_are : phase ≡ marking_phase → (r : ℕ) → r < c.regions → tams r ≡ s.top r
+  pub greys : phase ≡ marking_phase → AreMarks c grey block
+  pub blacks : phase ≡ marking_phase → AreMarks c black block
+  pub entries : phase ≡ marking_phase → AreEntries c count buffer block
 
 -- An old copy lies in the collection set. Its header leads to the current copy, which lies outside, its shape and its name are as they
 -- were, and its references stand for references still.
@@ -493,12 +494,12 @@ pub data HasCopy (block : Plot) (a : ℕ) : Type 0 where
 -- While objects are evacuated and references to them updated, each object is marked or was allocated since mark start, as all room was,
 -- and a dead object is neither; and what is marked in the collection set is an object.
 pub record AreKept (c : Config) (phase cset : ℕ) (black top tams : ℕ → ℕ) (block : Plot) : Type 0 where
-  pub objects : 2 ≤ phase → (a : ℕ) → IsMarkable block a → HasMark c black a ⊎ IsYoung c tams a
-  pub young : 2 ≤ phase → AreYoungRooms c tams block
-  pub floors : 2 ≤ phase → (r : ℕ) → r < c.regions → tams r ≤ top r
-  pub unmarked : 2 ≤ phase → (a words : ℕ) → block a ≡ Some (dead words) → HasMark c black a → ⊥
-  pub deads : 2 ≤ phase → (a words : ℕ) → block a ≡ Some (dead words) → IsYoung c tams a → ⊥
-  pub only : 2 ≤ phase → (a : ℕ) → c.region_words ≤ a → HasMark c black a → IsCollected c cset a → HasCopy block a
+  pub objects : evacuation_phase ≤ phase → (a : ℕ) → IsMarkable block a → HasMark c black a ⊎ IsYoung c tams a
+  pub young : evacuation_phase ≤ phase → AreYoungRooms c tams block
+  pub floors : evacuation_phase ≤ phase → (r : ℕ) → r < c.regions → tams r ≤ top r
+  pub unmarked : evacuation_phase ≤ phase → (a words : ℕ) → block a ≡ Some (dead words) → HasMark c black a → ⊥
+  pub deads : evacuation_phase ≤ phase → (a words : ℕ) → block a ≡ Some (dead words) → IsYoung c tams a → ⊥
+  pub only : evacuation_phase ≤ phase → (a : ℕ) → c.region_words ≤ a → HasMark c black a → IsCollected c cset a → HasCopy block a
 
 -- A region of the collection set is swept up to an address: no object has its current copy below it; or there was no room.
 abbrev pub IsSweptTo : Config → (evac : ℕ) → Plot → (region end : ℕ) → Type 0
@@ -511,7 +512,7 @@ IsCaredFor c evac block working region =
     IsSweptTo c evac block region (base_of c (region + 1)) ⊎ ((seat : ℕ) × (seat < seat_count c.mutators c.helpers) × (working seat ≡ Some region))
 
 abbrev pub AreCaredFor : Config → (phase cset evac claim : ℕ) → Plot → (working : ℕ → Option ℕ) → Type 0
-AreCaredFor c phase cset evac claim block working = phase ≡ 2 → (r : ℕ) → r < claim → IsIn cset r → IsCaredFor c evac block working r
+AreCaredFor c phase cset evac claim block working = phase ≡ evacuation_phase → (r : ℕ) → r < claim → IsIn cset r → IsCaredFor c evac block working r
 
 -- each root may be used as a reference
 abbrev pub AreUsable : Config → (cset evac : ℕ) → Plot → (root : ℕ → ℕ → ℕ) → Type 0
@@ -562,7 +563,7 @@ pub record SharedFacts (c : Config) (top heap : ℕ → ℕ) (block : Plot) (gho
   pub unwritten : AreUnwritten heap block
   pub marked : KeepsSnapshot c phase grey black entries buffer top tams heap block ghost.snapshot ghost.recording ghost.scanning
   pub evacuated : IsEvacuating c phase cset evac claim free top tams heap black block ghost.owner ghost.copying ghost.working
-  pub updated : phase ≡ 3 → IsUpdating c cset claim top limit heap block ghost.scanning
+  pub updated : phase ≡ updating_phase → IsUpdating c cset claim top limit heap block ghost.scanning
   pub pinned : ArePinned c cset evac block pin_words pin
 
 abbrev pub Shared : Config → World → Type 0

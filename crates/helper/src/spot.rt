@@ -7,11 +7,9 @@ ghost use Rattle.helper.specs.Ready.{spot_fits, UnitGoesOn};
 ghost use Rattle.helper.specs.Waits.{waits_at};
 
 use handshake::{EnterSpot, leave_access};
+use heap_words::phase::IDLE;
 use heap_words::{Access, Config, Place, Took, Unit};
 use unit_part::UnitSpot;
-
-// The phase in which there is no work for a helper.
-const IDLE: u64 = 0;
 
 /// Where a helper stands.
 #[derive(Clone, Copy)]

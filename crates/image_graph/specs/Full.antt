@@ -5,6 +5,7 @@ use Rattle.std.specs.List.{range_with_len}
 use Rattle.heap_words.specs.declared.config.Config.{Config}
 use Rattle.heap_words.specs.Words.{Word, Pause, Left, End, State, Phase, Cset, Free, Evac, Claim, Ask, Top, Tams, Limit, Current, Root, Count, Buffer, Wait, Answer, Grey, Black, Heap, Share, Pin}
 use Rattle.heap_words.specs.Encoding.{plain_header, is_forwarded, forwardee_in, filler_header, refs_in, object_words, name_code, request_count_in, request_shape_in}
+use Rattle.heap_words.specs.Phases.{idle_phase}
 use Rattle.regions.specs.Place.{base_of}
 use Rattle.regions.specs.Sets.{all_but}
 use Rattle.regions.specs.Places.{new_place}
@@ -95,7 +96,7 @@ packed c shut now kept memory (Answer t) = renewed_answer (place_in c shut kept)
 packed c shut now kept memory (Pin t i) = memory (Pin t i)
 packed c shut now kept memory (Top r) = top_then c shut kept memory r
 packed c shut now kept memory Free = empty_regions (top_then c shut kept memory) c.regions
-packed c shut now kept memory Phase = 0
+packed c shut now kept memory Phase = idle_phase
 packed c shut now kept memory Cset = 0
 packed c shut now kept memory Evac = 0
 packed c shut now kept memory Claim = 0

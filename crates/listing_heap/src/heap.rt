@@ -1,5 +1,6 @@
 //! The heap as the listing shows it: its phase and sets, a line a region, and the roots.
 
+use heap_words::phase::{EVACUATION, IDLE, UPDATING};
 use heap_words::{Config, forwarded, forwardee, refs_of};
 use listing::{
     Kind, Piece, Reading, Row, Table, heap_word, name_at, piece_at, put_machine, put_name,
@@ -220,7 +221,7 @@ pub fn live_and_garbage(table: &Table, region: usize, start: u64) -> (u64, u64) 
 // how far it was used when updating began.
 fn put_cycle(row: &mut Row, table: &Table, config: Config, region: usize) {
     let phase = phase(table);
-    if phase == 0 || region >= config.regions() {
+    if phase == IDLE || region >= config.regions() {
         return;
     }
     let start = table.word(config.tams_at(region));
@@ -229,14 +230,14 @@ fn put_cycle(row: &mut Row, table: &Table, config: Config, region: usize) {
     }
     row.put(b" mark start ");
     row.put_number(start);
-    if phase > 1 {
+    if phase >= EVACUATION {
         let (live, garbage) = live_and_garbage(table, region, start);
         row.put(b", live ");
         row.put_number(live);
         row.put(b", garbage ");
         row.put_number(garbage);
     }
-    if phase > 2 {
+    if phase >= UPDATING {
         row.put(b", limit ");
         row.put_number(table.word(config.limit_at(region)));
     }

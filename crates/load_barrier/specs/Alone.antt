@@ -5,6 +5,7 @@ use Rattle.heap_words.specs.Encoding.{next_in, plain_header, is_forwarded, objec
 use Rattle.heap_words.specs.Words.{Word, Evac, Heap}
 use Rattle.steps_base.specs.Touch.{touched}
 use Rattle.heap_words.specs.Counter.{count_of, is_out_of_room, IsQuiet}
+use Rattle.heap_words.specs.Phases.{updating_phase}
 use Rattle.evac_room.specs.Spot.{is_counted}
 use Rattle.alloc_buffers.specs.declared.spot.TakeSpot.TheVariants as take
 use Rattle.load_barrier.specs.declared.copying.CopySpot.TheVariants.{Publish}
@@ -69,7 +70,7 @@ pub record LeaveObject (phase address : ℕ) (spot : ResolveSpot) (before after 
   pub header : IsHeader (after (Heap address))
   pub forwarded : is_forwarded (before (Heap address)) ≡ true → after (Heap address) ≡ before (Heap address)
   pub quiet : IsQuiet (before Evac) → after (Heap address) ≡ before (Heap address)
-  pub updating : phase ≡ 3 → after (Heap address) ≡ before (Heap address)
+  pub updating : phase ≡ updating_phase → after (Heap address) ≡ before (Heap address)
   -- Whoever found no room is not forgotten, nobody copies again then, and a copier stays counted.
   pub out : is_out_of_room (before Evac) ≡ true → is_out_of_room (after Evac) ≡ true
   pub stopped : IsQuiet (before Evac) → IsQuiet (after Evac)

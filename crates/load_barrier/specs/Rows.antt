@@ -10,6 +10,7 @@ use Rattle.heap_words.specs.declared.access.Took.{Took}
 use Rattle.heap_words.specs.declared.access.Took.TheVariants.{More, Again, Done}
 use Rattle.heap_words.specs.Encoding.{plain_header, header_word, is_forwarded, forwardee_in, object_words, buffer_word}
 use Rattle.heap_words.specs.Words.{Evac, Current, Heap}
+use Rattle.heap_words.specs.Phases.{updating_phase}
 use Rattle.steps_base.specs.Touch.{Touch, touch, loads, stores, subtracts, exchanges}
 use Rattle.alloc_buffers.specs.declared.spot.Kind.TheVariants.{Evacuated}
 use Rattle.alloc_buffers.specs.declared.spot.Taken.TheVariants.{At, NoRoom}
@@ -67,7 +68,7 @@ touch_at c seat address (Resolved answer) = touch (Heap address) loads
 -- what follows the first load of the header: a forwarded object is resolved, and one that is not is copied, but not while
 -- references are updated
 abbrev pub after_header : ℕ → ℕ → ℕ → ResolveSpot
-after_header address phase got = if is_forwarded got then Resolved (forwardee_in got) else (if phase == 3 then Resolved address else Entering room.Look)
+after_header address phase got = if is_forwarded got then Resolved (forwardee_in got) else (if phase == updating_phase then Resolved address else Entering room.Look)
 
 -- the current copy of an object by the header of a copy
 abbrev pub current_copy : ℕ → ℕ → ℕ

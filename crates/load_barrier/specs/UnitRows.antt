@@ -11,6 +11,7 @@ use Rattle.heap_words.specs.declared.access.Took.TheVariants.{More, Again, Done}
 use Rattle.heap_words.specs.declared.access.Unit.TheVariants.{Worked, NoneLeft}
 use Rattle.heap_words.specs.Encoding.{filler_words_in, object_words}
 use Rattle.heap_words.specs.Words.{Claim, Top, Black, Heap}
+use Rattle.heap_words.specs.Phases.{evacuation_phase}
 use Rattle.steps_base.specs.Touch.{Touch, touch, loads, exchanges}
 use Rattle.regions.specs.Place.{region_with, base_of}
 use Rattle.regions.specs.Marks.{mark_word, mark_bit}
@@ -22,7 +23,7 @@ use Rattle.load_barrier.specs.declared.evac_spot.EvacSpot.TheVariants.{LoadClaim
 
 -- the phase in which objects are copied
 abbrev pub copy_phase : ℕ
-copy_phase = 2
+copy_phase = evacuation_phase
 
 -- whether a set has a region
 abbrev pub is_in_set : ℕ → ℕ → Bool

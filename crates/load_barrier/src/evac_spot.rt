@@ -8,8 +8,9 @@ ghost use Rattle.load_barrier.specs.Fit as resolve;
 ghost use Rattle.load_barrier.specs.UnitFit.{is_ready, IsFit};
 ghost use Rattle.load_barrier.specs.UnitEnds.{WaitsAt};
 
-use crate::set::{COPY, lies_in_set};
+use crate::set::lies_in_set;
 use crate::spot::ResolveSpot;
+use heap_words::phase::EVACUATION;
 use heap_words::{Access, Config, Place, Took, Unit, filler_words, words_of};
 use regions::{base, is_in, is_marked_in, mark_word};
 
@@ -161,7 +162,7 @@ impl EvacSpot {
                 next,
                 at,
             } => {
-                let (at, said) = at.after(config, seat, address, COPY, got);
+                let (at, said) = at.after(config, seat, address, EVACUATION, got);
                 led_by(
                     said,
                     after_resolve(config, seat, cset, address, end, next, at),

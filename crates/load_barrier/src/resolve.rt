@@ -1,6 +1,7 @@
 ghost use Rattle.std.specs.Prelude.{◌≡◌, ◌<◌, true};
 ghost use Rattle.heap_words.specs.Ranges.{seat_count};
 ghost use Rattle.heap_words.specs.Words.{Heap, IsWord};
+ghost use Rattle.heap_words.specs.Phases.{updating_phase};
 ghost use Rattle.load_barrier.specs.Fit.{is_ready};
 
 use crate::spot::ResolveSpot;
@@ -34,7 +35,7 @@ impl Resolve {
     pub fn new(config: Config, seat: usize, address: u64, phase: u64, cset: u64) -> Resolve
         requires seat { seat < seat_count config.mutators config.helpers }
         requires address { IsWord config (Heap address) }
-        requires phase { phase ≤ 3 }
+        requires phase { phase ≤ updating_phase }
         requires inside { must_resolve config phase cset address ≡ true }
         ensures resolver { resolver_of result ≡ record { config = config; seat = seat; address = address; phase = phase } }
         ensures spot { spot_of result ≡ ResolveSpot.LoadHeader }

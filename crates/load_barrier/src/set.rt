@@ -3,10 +3,8 @@ ghost use Rattle.heap_words.specs.Words.{Heap, IsWord};
 ghost use Rattle.load_barrier.specs.UnitRows as rows;
 
 use heap_words::Config;
+use heap_words::phase::EVACUATION;
 use regions::{is_in, region_of};
-
-// The phase in which objects are copied.
-pub(crate) const COPY: u64 = 2;
 
 /// Whether a value that was loaded has to be resolved: null is not, and no value is in a phase in which objects do not move, or
 /// outside the collection set.
@@ -14,7 +12,7 @@ pub fn must_resolve(config: Config, phase: u64, cset: u64, value: u64) -> bool
     requires { value ≢ 0 → IsWord config (Heap value) }
     ensures { result ≡ rows.must_resolve config phase cset value }
 {
-    value != 0 && phase >= COPY && lies_in_set(config, cset, value)
+    value != 0 && phase >= EVACUATION && lies_in_set(config, cset, value)
 }
 
 // Whether an address of the heap lies in a region of a set.

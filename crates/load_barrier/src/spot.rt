@@ -10,10 +10,8 @@ ghost use Rattle.load_barrier.specs.Waits.{WaitsAt};
 use crate::copying::CopySpot;
 use alloc_buffers::{Kind, TakeSpot, Taken};
 use evac_room::RoomSpot;
+use heap_words::phase::UPDATING;
 use heap_words::{Access, Config, Place, Took, forwarded, forwardee, words_of};
-
-// The phase in which references are updated, and objects are copied no more.
-const UPDATE: u64 = 3;
 
 /// Where a machine stands that resolves an address of the collection set.
 #[derive(Clone, Copy)]
@@ -194,7 +192,7 @@ fn current_copy(address: u64, header: u64) -> u64
 fn after_header(address: u64, phase: u64, header: u64) -> ResolveSpot
     ensures { result ≡ rows.after_header address phase header }
 {
-    if forwarded(header) || phase == UPDATE {
+    if forwarded(header) || phase == UPDATING {
         ResolveSpot::Resolved {
             answer: current_copy(address, header),
         }

@@ -16,6 +16,7 @@ ghost use Rattle.mark_core.specs.Result.{BeginsToMark, MarksSome};
 
 use crate::clear::empty_buffers;
 use crate::colour::grey_found;
+use heap_words::phase::MARKING;
 use image_graph::Image;
 
 // Notes what the roots of a mutator name.
@@ -148,7 +149,7 @@ fn begin(image: &mut Image)
     let config = image.config();
     image.set_word(config.claim_at(), 0);
     image.set_word(config.ask_at(), 0);
-    image.set_word(config.phase_at(), 1);
+    image.set_word(config.phase_at(), MARKING);
 }
 
 /// Begins marking as `init_mark` does, over an image of which the words off the heap are those of a heap; what stands for the

@@ -9,6 +9,7 @@ use Rattle.heap_words.specs.declared.access.Took.TheVariants.{More, Again, Done}
 use Rattle.heap_words.specs.Words.{Left, State, Phase, Cset, Ask, Root, Heap}
 use Rattle.heap_words.specs.Words as words
 use Rattle.heap_words.specs.Encoding.{refs_in, thread_in, count_in, fresh_word}
+use Rattle.heap_words.specs.Phases.{idle_phase, marking_phase}
 use Rattle.steps_base.specs.Touch.{Touch, touch, loads, stores, swaps, subtracts, sets_bits, exchanges}
 use Rattle.handshake.specs.declared.enter_spot.EnterSpot.TheVariants.{Raise, Look}
 use Rattle.handshake.specs.Rows as enters
@@ -65,7 +66,7 @@ pub record Mutating : Type 0 where
 
 -- a mutator that has not begun a call, where its thread has made so many objects before, or none
 abbrev pub mutator_after : ℕ → ℕ → Mutating
-mutator_after seat made = record { seat = seat; made = made; kept = record { command = Gc; phase = 0; cset = 0 }; spot = Rest }
+mutator_after seat made = record { seat = seat; made = made; kept = record { command = Gc; phase = idle_phase; cset = 0 }; spot = Rest }
 
 abbrev pub fresh_mutator : ℕ → Mutating
 fresh_mutator seat = mutator_after seat 0
@@ -232,7 +233,7 @@ on_number _ object shape = Leave reply.Bad
 
 -- what a Set does to the field first: while objects are marked it looks what it will overwrite
 abbrev pub first_of_set : ℕ → ℕ → FieldSpot
-first_of_set phase value = if phase == 1 then fields.LoadOld value else fields.Store value
+first_of_set phase value = if phase == marking_phase then fields.LoadOld value else fields.Store value
 
 -- where a call goes on, in its phase, with the field or number of the object
 abbrev pub with_part : ℕ → Command → ℕ → ℕ → ℕ → ℕ → Spot
@@ -277,7 +278,7 @@ after_recording found overwrites.Cas = Leave reply.Yes
 
 -- whether an overwritten reference has to be recorded: objects are marked, and it is not null
 abbrev pub is_to_record : ℕ → ℕ → Bool
-is_to_record phase found = (phase == 1) && nat_lt 0 found
+is_to_record phase found = (phase == marking_phase) && nat_lt 0 found
 
 -- where a call goes on, in its phase, with the reference that it overwrites
 abbrev pub overwritten : (phase found : ℕ) → Overwritten → Spot

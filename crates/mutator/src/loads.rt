@@ -10,6 +10,7 @@ use crate::numbers::NumberSpot;
 use crate::pins::PinSpot;
 use crate::spot::Spot;
 use alloc_buffers::TakeSpot;
+use heap_words::phase::MARKING;
 use heap_words::{Access, Config, Place, refs_of};
 use shen_graph::{Command, Reply};
 
@@ -193,7 +194,7 @@ fn after_shape(
 fn first_of_set(phase: u64, value: u64) -> FieldSpot
     ensures { result ≡ rows.first_of_set phase value }
 {
-    if phase == 1 {
+    if phase == MARKING {
         FieldSpot::LoadOld { value }
     } else {
         FieldSpot::Store { value }

@@ -4,6 +4,7 @@ ghost use Rattle.mutator.specs.Rows as rows;
 use crate::fields::FieldSpot;
 use crate::shows::after_field;
 use crate::spot::Spot;
+use heap_words::phase::MARKING;
 use satb_barrier::RememberSpot;
 use shen_graph::Reply;
 
@@ -11,7 +12,7 @@ use shen_graph::Reply;
 pub(crate) fn is_to_record(phase: u64, found: u64) -> bool
     ensures { result ≡ rows.is_to_record phase found }
 {
-    phase == 1 && found > 0
+    phase == MARKING && found > 0
 }
 
 /// What a mutator does once the reference that it overwrites is recorded.

@@ -12,6 +12,7 @@ use crate::settles::{field_settles, load_settles, number_settles, pin_settles};
 use crate::spot::{Entered, Kept, Spot, call_says};
 use crate::waits::WaitSpot;
 use handshake::{EnterSpot, leave_access};
+use heap_words::phase::IDLE;
 use heap_words::{Access, Config, Place, Took};
 use load_barrier::ResolveSpot;
 use shen_graph::{Command, Order, Reply};
@@ -67,7 +68,7 @@ impl Mutator {
             made: count,
             kept: Kept {
                 command: Command::Gc,
-                phase: 0,
+                phase: IDLE,
                 cset: 0,
             },
             spot: Spot::Rest,

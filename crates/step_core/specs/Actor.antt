@@ -10,6 +10,7 @@ use Rattle.helper.specs.Rows as helpers
 use Rattle.helper.specs.Rows.{Helping}
 use Rattle.control_rows.specs.declared.spot.ControlSpot.TheVariants.{LookLeft}
 use Rattle.control_rows.specs.Rows.{Controlling}
+use Rattle.heap_words.specs.Phases.{idle_phase}
 
 -- what memory keeps of a machine, by its role
 pub data Machine : Type 0 where
@@ -30,7 +31,7 @@ fresh_helper seat = helping (helpers.fresh_helper seat)
 
 -- and a control that has seen this free word
 abbrev pub fresh_control : ℕ → Machine
-fresh_control free = controlling (record { spot = LookLeft; seen = free; phase = 0; cset = 0; image = []; hints = 0 })
+fresh_control free = controlling (record { spot = LookLeft; seen = free; phase = idle_phase; cset = 0; image = []; hints = 0 })
 
 -- the entry of a command of a seat, once its reply is settled
 abbrev pub entry_of : ℕ → Command → Reply → Entry

@@ -7,6 +7,7 @@ use Rattle.heap_words.specs.declared.place.Place.TheVariants.{KX}
 use Rattle.heap_words.specs.declared.access.Took.{Took}
 use Rattle.heap_words.specs.declared.access.Took.TheVariants.{Done}
 use Rattle.heap_words.specs.Words.{Claim}
+use Rattle.heap_words.specs.Phases.{marking_phase, evacuation_phase}
 use Rattle.steps_base.specs.Touch.{Touch, touch, loads}
 use Rattle.unit_part.specs.declared.scan_spot.ScanSpot.{ScanSpot}
 use Rattle.unit_part.specs.declared.scan_spot.ScanSpot.TheVariants as scan
@@ -23,7 +24,7 @@ use Rattle.unit_part.specs.declared.spot.UnitSpot.TheVariants.{Scanning, Evacuat
 -- where it begins with a unit, by the phase, which is not 0, and the collection set: in phase 1 objects are marked, in phase 2 copied,
 -- and in phase 3 references are updated
 abbrev pub begins : (phase cset : ℕ) → UnitSpot
-begins phase cset = if phase == 1 then Scanning scan.LoadClaim else (if phase == 2 then Evacuating cset evac.LoadClaim else Updating cset update.LoadClaim)
+begins phase cset = if phase == marking_phase then Scanning scan.LoadClaim else (if phase == evacuation_phase then Evacuating cset evac.LoadClaim else Updating cset update.LoadClaim)
 
 -- whether it takes hints: it marks, and has claimed no unit yet
 abbrev pub takes_hint : UnitSpot → Bool

@@ -10,14 +10,9 @@ ghost use Rattle.unit_part.specs.Ready.{is_ready, IsFit};
 ghost use Rattle.unit_part.specs.Ends.{WaitsAt};
 
 use crate::{ScanSpot, UpdateSpot};
+use heap_words::phase::{EVACUATION, MARKING};
 use heap_words::{Access, Config, Place, Took, Unit};
 use load_barrier::EvacSpot;
-
-// The phase in which objects are marked.
-const MARK: u64 = 1;
-
-// The phase in which they are copied.
-const EVAC: u64 = 2;
 
 /// Where a machine stands that claims a unit of the phase and works on it.
 #[derive(Clone, Copy)]
@@ -55,10 +50,10 @@ impl UnitSpot {
         ensures { result ≡ rows.begins phase cset }
     {
         match phase {
-            MARK => UnitSpot::Scanning {
+            MARKING => UnitSpot::Scanning {
                 at: ScanSpot::LoadClaim,
             },
-            EVAC => UnitSpot::Evacuating {
+            EVACUATION => UnitSpot::Evacuating {
                 cset,
                 at: EvacSpot::LoadClaim,
             },

@@ -2,6 +2,7 @@
 use Rattle.std.specs.Prelude.{ℕ, if◌then◌else◌, nat_lt}
 use Rattle.heap_words.specs.declared.config.Config.{Config}
 use Rattle.heap_words.specs.Words.{Word, Phase, Evac, Claim, Limit}
+use Rattle.heap_words.specs.Phases.{updating_phase}
 use Rattle.image_graph.specs.Edge.{edge}
 use Rattle.cycle_words.specs.Updating.Changes.{is_chosen}
 
@@ -16,7 +17,7 @@ limited c regions memory word = memory word
 
 -- updating runs: no copier is counted, and no unit is claimed
 abbrev pub update_started : (Word → ℕ) → Word → ℕ
-update_started memory Phase = 3
+update_started memory Phase = updating_phase
 update_started memory Evac = 0
 update_started memory Claim = 0
 update_started memory word = memory word

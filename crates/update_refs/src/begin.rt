@@ -7,6 +7,7 @@ ghost use Rattle.cycle_words.specs.Updating.Changes.{updating_begun, init_update
 ghost use Rattle.cycle_words.specs.StillHolds.{LimitsHold};
 ghost use Rattle.update_refs.specs.Steps.{limit_in, limited, update_started};
 
+use heap_words::phase::UPDATING;
 use image_graph::Image;
 use regions::is_in;
 
@@ -41,7 +42,7 @@ fn start(image: &mut Image)
     let config = image.config();
     image.set_word(config.evac_at(), 0);
     image.set_word(config.claim_at(), 0);
-    image.set_word(config.phase_at(), 3);
+    image.set_word(config.phase_at(), UPDATING);
 }
 
 // Begins the updating of references, where buffers are settled.

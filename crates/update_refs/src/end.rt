@@ -7,6 +7,7 @@ ghost use Rattle.mark_core.specs.Steps.{freed_one};
 ghost use Rattle.cycle_words.specs.Updating.Changes.{is_chosen, cycle_ended, final_updated};
 ghost use Rattle.cycle_words.specs.StillHolds.{EndingHolds};
 
+use heap_words::phase::IDLE;
 use image_graph::Image;
 use mark_core::free_region;
 use regions::is_in;
@@ -42,7 +43,7 @@ pub fn end_updating(image: &mut Image)
     let config = image.config();
     image.set_word(config.cset_at(), 0);
     image.set_word(config.claim_at(), 0);
-    image.set_word(config.phase_at(), 0);
+    image.set_word(config.phase_at(), IDLE);
 }
 
 /// Ends the updating of references, and the cycle with it: the regions of the collection set are freed, the set is empty, and

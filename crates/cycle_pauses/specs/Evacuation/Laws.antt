@@ -3,6 +3,7 @@ use Rattle.std.specs.Prelude.{ℕ, ◌≡◌}
 use Rattle.std.specs.Int.{bit_at}
 use Rattle.heap_words.specs.declared.config.Config.{Config}
 use Rattle.heap_words.specs.Words.{Word, Phase, Ask}
+use Rattle.heap_words.specs.Phases.{marking_phase}
 use Rattle.shen_graph.specs.Graph.{Graph}
 use Rattle.heap_world.specs.World.{Plot, Ghost}
 use Rattle.heap_world.specs.Asking.{Asking}
@@ -16,7 +17,7 @@ use Rattle.cycle_pauses.specs.Evacuation.Collect.{evac_next}
 
 -- The words that it leaves represent the same graph, with what mutators have asked for, also where one of them waits.
 abbrev pub EvacuationRepresents : Type 0
-EvacuationRepresents = (c : Config) (memory : Word → ℕ) (g : Graph) (asking : ℕ → Asking) → Represents c memory g asking → memory Phase ≡ 1 → HasNoMoreSeats c memory
+EvacuationRepresents = (c : Config) (memory : Word → ℕ) (g : Graph) (asking : ℕ → Asking) → Represents c memory g asking → memory Phase ≡ marking_phase → HasNoMoreSeats c memory
     → Represents c (evac_next c memory) g asking
 
 -- So do those that the beginning of evacuation leaves by itself, of any words that the end of marking may leave.
@@ -26,5 +27,5 @@ EvacuationAloneRepresents = (c : Config) (memory : Word → ℕ) (block : Plot) 
 
 -- So it is what a pause owes, where no mutator waits.
 abbrev pub EvacuationBegins : Type 0
-EvacuationBegins = (c : Config) (memory : Word → ℕ) (g : Graph) (asking : ℕ → Asking) → Represents c memory g asking → memory Phase ≡ 1 → bit_at (memory Ask) 1 ≡ 0
+EvacuationBegins = (c : Config) (memory : Word → ℕ) (g : Graph) (asking : ℕ → Asking) → Represents c memory g asking → memory Phase ≡ marking_phase → bit_at (memory Ask) 1 ≡ 0
     → HasNoMoreSeats c memory → IsPaused c memory (evac_next c memory) g asking

@@ -2,6 +2,7 @@
 use Rattle.std.specs.Prelude.{ℕ, ◌≡◌, ◌*◌, true, Some}
 use Rattle.heap_words.specs.declared.config.Config.{Config}
 use Rattle.heap_words.specs.Words.{Word, Phase, Cset}
+use Rattle.heap_words.specs.Phases.{evacuation_phase}
 use Rattle.shen_graph.specs.declared.name.Name.{Name}
 use Rattle.shen_graph.specs.Graph.{Graph}
 use Rattle.regions.specs.Place.{region_with}
@@ -26,5 +27,5 @@ CopyingKeeps = (c : Config) (memory : Word → ℕ) (g : Graph) (asking : ℕ �
 
 -- And while objects are evacuated what is left can be copied out, one object after the other.
 abbrev pub LeftCanBeCopied : Type 0
-LeftCanBeCopied = (c : Config) (memory : Word → ℕ) (g : Graph) (asking : ℕ → Asking) → Represents c memory g asking → memory Phase ≡ 2
+LeftCanBeCopied = (c : Config) (memory : Word → ℕ) (g : Graph) (asking : ℕ → Asking) → Represents c memory g asking → memory Phase ≡ evacuation_phase
     → CanCopyFrom c memory c.region_words (c.regions * c.region_words)

@@ -2,6 +2,7 @@
 use Rattle.std.specs.Prelude.{ℕ, ◌≡◌, ◌<◌, Option}
 use Rattle.heap_words.specs.declared.config.Config.{Config}
 use Rattle.heap_words.specs.Words.{Word, Phase}
+use Rattle.heap_words.specs.Phases.{idle_phase, marking_phase}
 use Rattle.shen_graph.specs.Graph.{Graph}
 use Rattle.heap_world.specs.World.{Plot, Ghost}
 use Rattle.heap_world.specs.Asking.{Asking, asks}
@@ -17,12 +18,12 @@ use Rattle.cycle_pauses.specs.Marking.MarkedOut.{IsMarkedOut}
 
 -- Words that represent a graph while objects are marked hold it, and marking comes to each object that can be reached.
 abbrev pub MarkingStands : Type 0
-MarkingStands = (c : Config) (memory : Word → ℕ) (g : Graph) (asking : ℕ → Asking) → Represents c memory g asking → memory Phase ≡ 1
+MarkingStands = (c : Config) (memory : Word → ℕ) (g : Graph) (asking : ℕ → Asking) → Represents c memory g asking → memory Phase ≡ marking_phase
     → (block : Plot) × (owner : ℕ → Option ℕ) × (p : Promises) × HoldsBy c memory block owner p g × IsMarking c memory block
 
 -- So once the marks are closed, each object that can be reached is marked or has been allocated since mark start.
 abbrev pub ReachableAreMarked : Type 0
-ReachableAreMarked = (c : Config) (memory : Word → ℕ) (g : Graph) (asking : ℕ → Asking) → Represents c memory g asking → memory Phase ≡ 1
+ReachableAreMarked = (c : Config) (memory : Word → ℕ) (g : Graph) (asking : ℕ → Asking) → Represents c memory g asking → memory Phase ≡ marking_phase
     → (block : Plot) × (owner : ℕ → Option ℕ) × (p : Promises) × HoldsBy c (closed c memory) block owner p g × IsMarkedThrough c (closed c memory) block
 
 -- no mutator asks for an object
@@ -31,10 +32,10 @@ NobodyAsks c asking = (t refs nums : ℕ) → t < c.mutators → asking t ≡ as
 
 -- Where nothing runs and nobody asks, the beginning of marking keeps the graph.
 abbrev pub BeginningRepresents : Type 0
-BeginningRepresents = (c : Config) (memory : Word → ℕ) (g : Graph) (asking : ℕ → Asking) → Represents c memory g asking → memory Phase ≡ 0 → NobodyAsks c asking
+BeginningRepresents = (c : Config) (memory : Word → ℕ) (g : Graph) (asking : ℕ → Asking) → Represents c memory g asking → memory Phase ≡ idle_phase → NobodyAsks c asking
     → Represents c (init_marked c memory) g asking
 
 -- The end of marking keeps the graph too, and each object is marked then, or was allocated since mark start.
 abbrev pub EndGives : Type 0
-EndGives = (c : Config) (memory : Word → ℕ) (g : Graph) (asking : ℕ → Asking) → Represents c memory g asking → memory Phase ≡ 1 → HasNoMoreSeats c memory
+EndGives = (c : Config) (memory : Word → ℕ) (g : Graph) (asking : ℕ → Asking) → Represents c memory g asking → memory Phase ≡ marking_phase → HasNoMoreSeats c memory
     → (block : Plot) × (ghost : Ghost) × IsMarkedOut c (final_marked c memory) block ghost g asking

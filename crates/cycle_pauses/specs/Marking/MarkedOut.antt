@@ -3,6 +3,7 @@ use Rattle.std.specs.Prelude.{ℕ, ◌≡◌, ◌+◌, ◌<◌, ◌≤◌, ◌�
 use Rattle.std.specs.Int.{bit_at}
 use Rattle.heap_words.specs.declared.config.Config.{Config}
 use Rattle.heap_words.specs.Words.{Word, Phase, Cset, Evac, Ask, Free, Top, Tams, Current, Root, Pin, Black, Heap, Share}
+use Rattle.heap_words.specs.Phases.{marking_phase}
 use Rattle.shen_graph.specs.declared.name.Name.{Name}
 use Rattle.shen_graph.specs.Graph.{Graph}
 use Rattle.regions.specs.Marks.{HasMark}
@@ -31,7 +32,7 @@ pub record AreMarkedOut (c : Config) (black top tams : ℕ → ℕ) (block : Plo
 -- The words stand for a graph as ever, with what mutators have asked for. The marks are closed, no object has moved, no seat has a region to
 -- itself, and no seat but those of the heap has a buffer.
 pub record IsMarkedOut (c : Config) (memory : Word → ℕ) (block : Plot) (ghost : Ghost) (g : Graph) (asking : ℕ → Asking) : Type 0 where
-  pub phase_is : memory Phase ≡ 1
+  pub phase_is : memory Phase ≡ marking_phase
   pub cset_is : memory Cset ≡ 0
   pub evac_is : memory Evac ≡ 0
   pub parsable : IsParsable c (λ r. memory (Top r)) block

@@ -4,6 +4,7 @@ use Rattle.heap_words.specs.declared.config.Config.{Config}
 use Rattle.heap_words.specs.Words.{Word, Phase, Cset, Evac, Claim}
 use Rattle.regions.specs.Sets.{IsIn}
 use Rattle.heap_words.specs.Counter.{is_out_of_room}
+use Rattle.heap_words.specs.Phases.{evacuation_phase, updating_phase}
 use Rattle.image_graph.specs.Pinned.{is_pinned}
 use Rattle.shen_graph.specs.Graph.{Graph}
 use Rattle.heap_world.specs.Asking.{Asking}
@@ -14,12 +15,12 @@ use Rattle.cycle_pauses.specs.Updating.Freed.{IsFreed, IsSpared}
 -- Once all regions are claimed in phase 2, and if there was always room, the words stand for the same graph where the updating of
 -- references begins, with what mutators have asked for.
 abbrev pub UpdatingBegins : Type 0
-UpdatingBegins = (c : Config) (memory : Word → ℕ) (g : Graph) (asking : ℕ → Asking) → Represents c memory g asking → memory Phase ≡ 2 → is_out_of_room (memory Evac) ≡ false
+UpdatingBegins = (c : Config) (memory : Word → ℕ) (g : Graph) (asking : ℕ → Asking) → Represents c memory g asking → memory Phase ≡ evacuation_phase → is_out_of_room (memory Evac) ≡ false
     → c.regions ≤ memory Claim → Represents c (init_updated c memory) g asking
 
 -- Once all regions are claimed in phase 3 they stand for it where the updating ends.
 abbrev pub UpdatingEnds : Type 0
-UpdatingEnds = (c : Config) (memory : Word → ℕ) (g : Graph) (asking : ℕ → Asking) → Represents c memory g asking → memory Phase ≡ 3
+UpdatingEnds = (c : Config) (memory : Word → ℕ) (g : Graph) (asking : ℕ → Asking) → Represents c memory g asking → memory Phase ≡ updating_phase
     → c.regions ≤ memory Claim → Represents c (final_updated c memory) g asking
 
 -- The end of updating frees each region of the collection set, and leaves each other as it is.
@@ -29,5 +30,5 @@ pub record SetIsFreed : Type 0 where
 
 -- In phase 3 no region of the collection set is pinned: so after the end of updating none of those that it frees is.
 abbrev pub NoneIsPinned : Type 0
-NoneIsPinned = (c : Config) (memory : Word → ℕ) (g : Graph) (asking : ℕ → Asking) → Represents c memory g asking → memory Phase ≡ 3
+NoneIsPinned = (c : Config) (memory : Word → ℕ) (g : Graph) (asking : ℕ → Asking) → Represents c memory g asking → memory Phase ≡ updating_phase
     → (r : ℕ) → r < c.regions → IsIn (memory Cset) r → is_pinned c (final_updated c memory) r ≡ false

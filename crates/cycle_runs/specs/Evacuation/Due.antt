@@ -12,6 +12,7 @@ use Rattle.shen_graph.specs.Graph.{Graph}
 use Rattle.shen_graph.specs.History.{after}
 use Rattle.regions.specs.Marks.{HasMark}
 use Rattle.heap_words.specs.Counter.{is_out_of_room}
+use Rattle.heap_words.specs.Phases.{evacuation_phase, updating_phase}
 use Rattle.heap_world.specs.World.{thing, IsCollected}
 use Rattle.heap_world.specs.Change.{Change, IsDue, image_view, image_words}
 use Rattle.control_rows.specs.ByParts.{PausesByParts}
@@ -47,7 +48,7 @@ PausesComeWhenDue = (change : Change) → PausesByParts change → (c : Config) 
 -- in phase 2, where no allocation waits and there was always room, each marked address of the collection set has the header of an
 -- object that has moved
 abbrev pub IsEvacuated : Config → (Word → ℕ) → Type 0
-IsEvacuated c memory = memory Phase ≡ 2 → bit_at (memory Ask) 1 ≡ 0 → is_out_of_room (memory Evac) ≡ false
+IsEvacuated c memory = memory Phase ≡ evacuation_phase → bit_at (memory Ask) 1 ≡ 0 → is_out_of_room (memory Evac) ≡ false
     → (a : ℕ) → c.region_words ≤ a → IsCollected c (memory Cset) a → HasMark c (λ n. memory (Black n)) a → is_forwarded (memory (Heap a)) ≡ true
 
 -- so it is wherever the control reads the image in a pause
@@ -78,5 +79,5 @@ pub record AreUpdated (c : Config) (s : Stage Actor) (g : Graph) : Type 0 where
 abbrev pub UpdatingIsWhole : Type 0
 UpdatingIsWhole = (change : Change) → PausesByParts change → (c : Config) (s : Stage Actor) (g : Graph) → Begins c s g → (events : List (Event Order))
     → (control : Controlling) → HasControl c (go (kind change c) s events) control → (index : ℕ) (extent : Extent) → control.spot ≡ LoadWord index extent
-    → settled c (go (kind change c) s events) Phase ≡ 3 → bit_at (settled c (go (kind change c) s events) Ask) 1 ≡ 0
+    → settled c (go (kind change c) s events) Phase ≡ updating_phase → bit_at (settled c (go (kind change c) s events) Ask) 1 ≡ 0
     → AreUpdated c (go (kind change c) s events) (after g (history change c s events))

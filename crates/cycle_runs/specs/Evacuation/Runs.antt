@@ -15,6 +15,7 @@ use Rattle.shen_graph.specs.Graph.{Graph}
 use Rattle.shen_graph.specs.History.{after}
 use Rattle.regions.specs.Marks.{HasMark}
 use Rattle.heap_words.specs.Counter.{is_out_of_room, IsQuiet}
+use Rattle.heap_words.specs.Phases.{evacuation_phase}
 use Rattle.heap_world.specs.World.{World, thing, moved, Body, body_at, body_words, IsCollected}
 use Rattle.heap_world.specs.Change.{Change}
 use Rattle.control_rows.specs.ByParts.{PausesByParts}
@@ -96,7 +97,7 @@ CopiesAreSpared = (change : Change) → PausesByParts change → (c : Config) (s
 -- where all regions are claimed and there was always room, each marked address of the collection set has the header of an object that has
 -- moved
 abbrev pub AreAllForwarded : Config → Stage Actor → Type 0
-AreAllForwarded c s = settled c s Phase ≡ 2 → c.regions ≤ settled c s Claim → is_out_of_room (settled c s Evac) ≡ false
+AreAllForwarded c s = settled c s Phase ≡ evacuation_phase → c.regions ≤ settled c s Claim → is_out_of_room (settled c s Evac) ≡ false
     → (a : ℕ) → c.region_words ≤ a → IsCollected c (settled c s Cset) a → HasMark c (λ n. settled c s (Black n)) a → is_forwarded (settled c s (Heap a)) ≡ true
 
 -- so it is in each pause

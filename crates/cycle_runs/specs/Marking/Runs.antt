@@ -2,6 +2,7 @@
 use Rattle.std.specs.Prelude.{ℕ, ◌≡◌, ◌+◌, List, [], ◌∷◌, ◌++◌, Option}
 use Rattle.heap_words.specs.declared.config.Config.{Config}
 use Rattle.heap_words.specs.Words.{Word, Phase}
+use Rattle.heap_words.specs.Phases.{marking_phase}
 use Rattle.steps_base.specs.Steps.{Stage, Event, go, Finds}
 use Rattle.shen_graph.specs.declared.order.Order.{Order}
 use Rattle.shen_graph.specs.declared.order.Order.TheVariants.{Nothing}
@@ -29,7 +30,7 @@ use Rattle.step_core.specs.Begins.{Begins}
 -- to it by a chain of objects that are not marked yet.
 pub record IsTracked (c : Config) (s : Stage Actor) (g : Graph) : Type 0 where
   pub stands : StandsFor c s g
-  pub comes : settled c s Phase ≡ 1 → (a : ℕ) → IsMarkable stands.block a → IsSafe c (world_of c s stands.block stands.ghost g) a
+  pub comes : settled c s Phase ≡ marking_phase → (a : ℕ) → IsMarkable stands.block a → IsSafe c (world_of c s stands.block stands.ghost g) a
 
 -- So it is after every list of steps, from a stage that begins a graph.
 abbrev pub MarkingComesInRuns : Type 0
@@ -50,5 +51,5 @@ pub record AreMarkedThrough (c : Config) (memory : Word → ℕ) : Type 0 where
 -- each object that can be reached is marked or was allocated since.
 abbrev pub ReachableAreMarkedInRuns : Type 0
 ReachableAreMarkedInRuns = (c : Config) (s : Stage Actor) (g : Graph) → Begins c s g → (number index got : ℕ) (extent : Extent) (a : Actor) (k : Controlling) → Finds (kind collect_image c) s number a Nothing got
-    → a.machine ≡ controlling k → k.spot ≡ LoadWord index extent → index + 1 ≡ image_words c → image_view c (k.image ++ got ∷ []) Phase ≡ 1
+    → a.machine ≡ controlling k → k.spot ≡ LoadWord index extent → index + 1 ≡ image_words c → image_view c (k.image ++ got ∷ []) Phase ≡ marking_phase
     → ∥ AreMarkedThrough c (closed c (image_view c (k.image ++ got ∷ []))) ∥₁

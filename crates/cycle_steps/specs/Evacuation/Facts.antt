@@ -3,6 +3,7 @@ use Rattle.std.specs.Prelude.{ℕ, ◌≡◌, ◌+◌, ◌<◌, ◌≤◌, false
 use Rattle.heap_words.specs.declared.config.Config.{Config}
 use Rattle.heap_words.specs.Ranges.{seat_count}
 use Rattle.heap_words.specs.Words.{Phase, Cset, Evac, Top}
+use Rattle.heap_words.specs.Phases.{evacuation_phase}
 use Rattle.regions.specs.Place.{base_of, region_with}
 use Rattle.regions.specs.Sets.{IsIn}
 use Rattle.alloc_buffers.specs.Facts.{OnlySpares}
@@ -68,7 +69,7 @@ WorkFacts c w seat (Ended unit) = HasNothing w seat
 -- Objects are evacuated, the machine knows the collection set, and works on the region of which its spot tells.
 pub record CanEvacuate (c : Config) (w : World) (seat cset : ℕ) (at : EvacSpot) : Type 0 where
   pub seated : seat < seat_count c.mutators c.helpers
-  pub phase : w.memory Phase ≡ 2
+  pub phase : w.memory Phase ≡ evacuation_phase
   pub set_is : cset ≡ w.memory Cset
   pub working : w.ghost.working seat ≡ working_of c at
   pub facts : WorkFacts c w seat at

@@ -9,6 +9,7 @@ use Rattle.regions.specs.Place.{region_with}
 use Rattle.regions.specs.Sets.{IsIn}
 use Rattle.regions.specs.Marks.{HasMark}
 use Rattle.heap_words.specs.Counter.{is_out_of_room}
+use Rattle.heap_words.specs.Phases.{evacuation_phase}
 use Rattle.heap_world.specs.World.{World, Body, body_at, body_words, Shared, IsCollected}
 use Rattle.heap_world.specs.Rely.{KeepsCopies, Rely}
 use Rattle.heap_world.specs.Part.{PartStep}
@@ -34,7 +35,7 @@ SweptStep c u seat cset at = PartStep c u seat (touch_at c seat at)
 -- A machine that evacuates claims regions of the collection set, and sees to it that their objects are copied: a region on which it has
 -- worked is swept, and stays so. Of the words of copies only headers are accessed by more than loads.
 pub record EvacuatingSteps : Type 0 where
-  pub begins : (c : Config) (u : World) (seat : ℕ) → seat < seat_count c.mutators c.helpers → u.memory Phase ≡ 2 → u.ghost.working seat ≡ None → HasNothing u seat
+  pub begins : (c : Config) (u : World) (seat : ℕ) → seat < seat_count c.mutators c.helpers → u.memory Phase ≡ evacuation_phase → u.ghost.working seat ≡ None → HasNothing u seat
       → CanEvacuate c u seat (u.memory Cset) LoadClaim
   pub each : (c : Config) (u : World) (seat cset : ℕ) (at : EvacSpot) → is_ended at ≡ false → Shared c u → CanEvacuate c u seat cset at → EvacStep c u seat cset at
   pub sweeps : (c : Config) (u : World) (seat cset : ℕ) (at : EvacSpot) → is_ended at ≡ false → Shared c u → CanEvacuate c u seat cset at → SweptStep c u seat cset at
@@ -47,11 +48,11 @@ pub record EvacuatingSteps : Type 0 where
 
 -- In a region that is swept each marked object is forwarded, if there was always room.
 abbrev pub SweptIsForwarded : Type 0
-SweptIsForwarded = (c : Config) (u : World) (a : ℕ) → Shared c u → u.memory Phase ≡ 2 → IsSwept c u (region_with c a) → is_out_of_room (u.memory Evac) ≡ false
+SweptIsForwarded = (c : Config) (u : World) (a : ℕ) → Shared c u → u.memory Phase ≡ evacuation_phase → IsSwept c u (region_with c a) → is_out_of_room (u.memory Evac) ≡ false
     → c.region_words ≤ a → IsCollected c (u.memory Cset) a → HasMark c (λ n. u.memory (Black n)) a → is_forwarded (u.memory (Heap a)) ≡ true
 
 -- Where all units are claimed, nobody works on one, and there was always room, each marked object of the collection set is forwarded.
 abbrev pub AllIsForwarded : Type 0
-AllIsForwarded = (c : Config) (u : World) → Shared c u → u.memory Phase ≡ 2 → ((seat : ℕ) → seat < seat_count c.mutators c.helpers → u.ghost.working seat ≡ None)
+AllIsForwarded = (c : Config) (u : World) → Shared c u → u.memory Phase ≡ evacuation_phase → ((seat : ℕ) → seat < seat_count c.mutators c.helpers → u.ghost.working seat ≡ None)
     → c.regions ≤ u.memory Claim → is_out_of_room (u.memory Evac) ≡ false
     → (a : ℕ) → c.region_words ≤ a → IsCollected c (u.memory Cset) a → HasMark c (λ n. u.memory (Black n)) a → is_forwarded (u.memory (Heap a)) ≡ true

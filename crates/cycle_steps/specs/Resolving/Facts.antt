@@ -8,6 +8,7 @@ use Rattle.shen_graph.specs.declared.name.Name.{Name}
 use Rattle.alloc_buffers.specs.Facts as takes
 use Rattle.alloc_buffers.specs.Facts.{IsSpare, HasTakenRoom, CanTake}
 use Rattle.heap_words.specs.Counter.{is_out_of_room, IsQuiet}
+use Rattle.heap_words.specs.Phases.{evacuation_phase}
 use Rattle.evac_room.specs.declared.spot.RoomSpot.{RoomSpot}
 use Rattle.evac_room.specs.declared.spot.RoomSpot.TheVariants.{Wait}
 use Rattle.heap_world.specs.World.{World, Block, thing, moved, room_of, Body, body_at, body_words, IsCollected, HasCopy, TargetIn}
@@ -75,7 +76,7 @@ IsResolvingRoom seat _ a x = IsSpare seat x
 -- machine where it copies; all its room is what the spot says, and it neither records nor scans.
 pub record CanResolve (c : Config) (w : World) (seat a : ℕ) (at : ResolveSpot) : Type 0 where
   pub seated : seat < seat_count c.mutators c.helpers
-  pub phase : w.memory Phase ≡ 2
+  pub phase : w.memory Phase ≡ evacuation_phase
   pub inside : IsCollected c (w.memory Cset) a
   pub there : HasCopy w.block a
   pub copying : w.ghost.copying seat ≡ is_copier at

@@ -4,6 +4,7 @@ use Rattle.heap_words.specs.declared.config.Config.{Config}
 use Rattle.heap_words.specs.Encoding.{plain_header, is_forwarded, forwardee_in}
 use Rattle.heap_words.specs.Ranges.{seat_count}
 use Rattle.heap_words.specs.Words.{Phase, Cset, Heap, IsWord}
+use Rattle.heap_words.specs.Phases.{evacuation_phase}
 use Rattle.steps_base.specs.Touch.{loads}
 use Rattle.heap_world.specs.World.{World, Body, body_at, body_words, IsCollected, HasCopy, Shared, TargetIn}
 use Rattle.heap_world.specs.Rely.{KeepsCopies, Rely}
@@ -29,7 +30,7 @@ ResolveStep c u seat a unit at = PartStep c u seat (touch_at c seat a at) (λ w.
 -- A machine that resolves an address finds the object's current copy, or makes it. Its accesses to words of copies are loads, but for the
 -- exchange that publishes a copy, on the object's header.
 pub record ResolvingSteps : Type 0 where
-  pub begins : (c : Config) (u : World) (seat a : ℕ) → seat < seat_count c.mutators c.helpers → u.memory Phase ≡ 2 → IsCollected c (u.memory Cset) a → HasCopy u.block a
+  pub begins : (c : Config) (u : World) (seat a : ℕ) → seat < seat_count c.mutators c.helpers → u.memory Phase ≡ evacuation_phase → IsCollected c (u.memory Cset) a → HasCopy u.block a
       → u.ghost.copying seat ≡ false → u.ghost.recording seat ≡ None → u.ghost.scanning seat ≡ None → OnlySpares u seat → CanResolve c u seat a LoadHeader
   pub each : (c : Config) (u : World) (seat a : ℕ) (unit : Option ℕ) (at : ResolveSpot) → is_resolved at ≡ false → Shared c u → CanResolveFor c u seat a unit at → ResolveStep c u seat a unit at
   pub stays : (c : Config) (u w : World) (seat a : ℕ) (at : ResolveSpot) → Shared c u → Rely c seat u w → CanResolve c u seat a at → CanResolve c w seat a at

@@ -5,6 +5,7 @@ use Rattle.heap_words.specs.declared.config.Config.{Config}
 use Rattle.heap_words.specs.Encoding.{refs_in, object_words}
 use Rattle.heap_words.specs.Ranges.{seat_count}
 use Rattle.heap_words.specs.Words.{Phase, Cset, Limit, Tams, Heap}
+use Rattle.heap_words.specs.Phases.{updating_phase}
 use Rattle.regions.specs.Place.{base_of}
 use Rattle.regions.specs.Sets.{IsIn}
 use Rattle.shen_graph.specs.declared.name.Name.{Name}
@@ -91,7 +92,7 @@ UpdateFacts c w _ = ⊤
 -- and all its room is free words of its buffer.
 pub record CanUpdate (c : Config) (w : World) (seat cset : ℕ) (at : UpdateSpot) : Type 0 where
   pub seated : seat < seat_count c.mutators c.helpers
-  pub phase : w.memory Phase ≡ 3
+  pub phase : w.memory Phase ≡ updating_phase
   pub set_is : cset ≡ w.memory Cset
   pub copying : w.ghost.copying seat ≡ false
   pub working : w.ghost.working seat ≡ None

@@ -4,6 +4,7 @@ use Rattle.std.specs.Prelude.{ℕ, ◌≡◌, ◌<◌, Some, None, ⊤}
 use Rattle.heap_words.specs.declared.config.Config.{Config}
 use Rattle.heap_words.specs.Ranges.{seat_count}
 use Rattle.heap_words.specs.Words.{Phase, Cset}
+use Rattle.heap_words.specs.Phases.{updating_phase}
 use Rattle.heap_world.specs.World.{World, Body, body_at, IsCollected}
 use Rattle.load_barrier.specs.declared.spot.ResolveSpot.{ResolveSpot}
 use Rattle.load_barrier.specs.declared.spot.ResolveSpot.TheVariants.{LoadHeader, Resolved}
@@ -20,7 +21,7 @@ FollowFacts c w a _ = ⊥
 -- no unit, neither copies nor records nor scans, and has no room in hand.
 pub record CanFollow (c : Config) (w : World) (seat a : ℕ) (at : ResolveSpot) : Type 0 where
   pub seated : seat < seat_count c.mutators c.helpers
-  pub phase : w.memory Phase ≡ 3
+  pub phase : w.memory Phase ≡ updating_phase
   pub inside : IsCollected c (w.memory Cset) a
   pub body : Body
   pub there : body_at (w.block a) ≡ Some body

@@ -3,6 +3,7 @@ use Rattle.std.specs.Prelude.{ℕ, ◌≡◌, ◌≢◌, ◌+◌, ◌<◌, ◌�
 use Rattle.heap_words.specs.declared.config.Config.{Config}
 use Rattle.heap_words.specs.Ranges.{seat_count}
 use Rattle.heap_words.specs.Words.{Phase, Cset, Claim, Limit, Heap, IsWord}
+use Rattle.heap_words.specs.Phases.{updating_phase}
 use Rattle.steps_base.specs.Touch.{loads}
 use Rattle.regions.specs.Place.{region_with}
 use Rattle.shen_graph.specs.declared.name.Name.{Name}
@@ -34,7 +35,7 @@ UpdateStep c u seat cset at = PartStep c u seat (touch_at c at) (λ w. CanUpdate
 -- A machine that updates claims regions outside of the collection set, and sees to it that their fields become current. Of the words of
 -- copies in the set it only loads.
 pub record UpdatingSteps : Type 0 where
-  pub begins : (c : Config) (u : World) (seat : ℕ) → seat < seat_count c.mutators c.helpers → u.memory Phase ≡ 3 → u.ghost.working seat ≡ None → HasNothing u seat
+  pub begins : (c : Config) (u : World) (seat : ℕ) → seat < seat_count c.mutators c.helpers → u.memory Phase ≡ updating_phase → u.ghost.working seat ≡ None → HasNothing u seat
       → CanUpdate c u seat (u.memory Cset) LoadClaim
   pub each : (c : Config) (u : World) (seat cset : ℕ) (at : UpdateSpot) → is_ended at ≡ false → Shared c u → CanUpdate c u seat cset at → UpdateStep c u seat cset at
   pub stays : (c : Config) (u w : World) (seat cset : ℕ) (at : UpdateSpot) → Shared c u → Rely c seat u w → CanUpdate c u seat cset at → CanUpdate c w seat cset at
@@ -46,7 +47,7 @@ pub record UpdatingSteps : Type 0 where
 
 -- the rows of resolving while references are updated
 abbrev pub update_phase : ℕ
-update_phase = 3
+update_phase = updating_phase
 
 -- what a step of a machine that resolves an address owes then
 abbrev pub FollowStep : Config → World → (seat a : ℕ) → ResolveSpot → Type 0
@@ -56,7 +57,7 @@ FollowStep c u seat a at =
 -- A machine that resolves an address while references are updated finds the object's current copy by one load of the header, and makes no
 -- other access.
 pub record FollowingSteps : Type 0 where
-  pub begins : (c : Config) (u : World) (seat a : ℕ) (b : Body) → seat < seat_count c.mutators c.helpers → u.memory Phase ≡ 3 → IsCollected c (u.memory Cset) a → body_at (u.block a) ≡ Some b
+  pub begins : (c : Config) (u : World) (seat a : ℕ) (b : Body) → seat < seat_count c.mutators c.helpers → u.memory Phase ≡ updating_phase → IsCollected c (u.memory Cset) a → body_at (u.block a) ≡ Some b
       → u.ghost.working seat ≡ None → HasNothing u seat → CanFollow c u seat a LoadHeader
   pub each : (c : Config) (u : World) (seat a : ℕ) (at : ResolveSpot) → resolves.is_resolved at ≡ false → Shared c u → CanFollow c u seat a at → FollowStep c u seat a at
   pub stays : (c : Config) (u w : World) (seat a : ℕ) (at : ResolveSpot) → Shared c u → Rely c seat u w → CanFollow c u seat a at → CanFollow c w seat a at
@@ -75,13 +76,13 @@ NobodyUpdates c w region = (seat : ℕ) (at : Scan) → seat < seat_count c.muta
 -- A unit is done that is claimed and in which nobody stands: then no field of a current copy there names the collection set, nor does
 -- one at or above its region's limit.
 pub record UnitsAreUpdated : Type 0 where
-  pub done : (c : Config) (w : World) (a refs nums k : ℕ) (name : Name) → Shared c w → w.memory Phase ≡ 3 → region_with c a < w.memory Claim → NobodyUpdates c w (region_with c a)
+  pub done : (c : Config) (w : World) (a refs nums k : ℕ) (name : Name) → Shared c w → w.memory Phase ≡ updating_phase → region_with c a < w.memory Claim → NobodyUpdates c w (region_with c a)
       → w.block a ≡ Some (thing name refs nums) → k < refs → IsCurrent w.block (w.memory (Heap (a + 3 + k)))
-  pub above : (c : Config) (w : World) (a refs nums k : ℕ) (name : Name) → Shared c w → w.memory Phase ≡ 3 → IsYoung c (λ r. w.memory (Limit r)) a
+  pub above : (c : Config) (w : World) (a refs nums k : ℕ) (name : Name) → Shared c w → w.memory Phase ≡ updating_phase → IsYoung c (λ r. w.memory (Limit r)) a
       → w.block a ≡ Some (thing name refs nums) → k < refs → IsCurrent w.block (w.memory (Heap (a + 3 + k)))
-  pub outside : (c : Config) (w : World) (v : ℕ) → Shared c w → w.memory Phase ≡ 3 → IsCurrent w.block v → v ≢ 0 → IsCollected c (w.memory Cset) v → ⊥
+  pub outside : (c : Config) (w : World) (v : ℕ) → Shared c w → w.memory Phase ≡ updating_phase → IsCurrent w.block v → v ≢ 0 → IsCollected c (w.memory Cset) v → ⊥
 
 -- Where all regions are claimed and nobody stands in a unit, all fields of current copies are current.
 abbrev pub AllIsUpdated : Type 0
-AllIsUpdated = (c : Config) (w : World) → Shared c w → w.memory Phase ≡ 3 → ((seat : ℕ) → seat < seat_count c.mutators c.helpers → w.ghost.scanning seat ≡ None)
+AllIsUpdated = (c : Config) (w : World) → Shared c w → w.memory Phase ≡ updating_phase → ((seat : ℕ) → seat < seat_count c.mutators c.helpers → w.ghost.scanning seat ≡ None)
     → c.regions ≤ w.memory Claim → (a refs nums k : ℕ) (name : Name) → w.block a ≡ Some (thing name refs nums) → k < refs → IsCurrent w.block (w.memory (Heap (a + 3 + k)))

@@ -6,6 +6,7 @@ use Rattle.std.specs.Int.{bit_at}
 use Rattle.heap_words.specs.declared.config.Config.{Config}
 use Rattle.heap_words.specs.Words.{Word, Phase, Cset, Free, Evac, Claim, Top, Root, Answer, Heap, same_word}
 use Rattle.heap_words.specs.Encoding.{is_forwarded}
+use Rattle.heap_words.specs.Phases.{idle_phase, evacuation_phase}
 use Rattle.regions.specs.Place.{region_with}
 use Rattle.regions.specs.Sets.{IsIn}
 use Rattle.regions.specs.Places.{LieApart}
@@ -60,14 +61,14 @@ roots_cleared c memory set = cleared_in_turn c (with_set memory set) (naming_pla
 
 -- evacuation runs: no copier is counted, and no unit is claimed
 abbrev pub evac_started : (Word → ℕ) → Word → ℕ
-evac_started memory Phase = 2
+evac_started memory Phase = evacuation_phase
 evac_started memory Evac = 0
 evac_started memory Claim = 0
 evac_started memory word = memory word
 
 -- without a region to evacuate the cycle ends
 abbrev pub evac_spared : (Word → ℕ) → Word → ℕ
-evac_spared memory Phase = 0
+evac_spared memory Phase = idle_phase
 evac_spared memory Cset = 0
 evac_spared memory Claim = 0
 evac_spared memory word = memory word

@@ -4,6 +4,7 @@ use Rattle.std.specs.Prelude.{ℕ, ◌≡◌, ◌+◌, ◌*◌, ◌==◌, ◌&&�
 use Rattle.heap_words.specs.declared.config.Config.{Config}
 use Rattle.heap_words.specs.Words.{Word, Phase, Heap}
 use Rattle.heap_words.specs.Encoding.{is_forwarded}
+use Rattle.heap_words.specs.Phases.{evacuation_phase}
 use Rattle.regions.specs.Place.{region_with}
 use Rattle.image_graph.specs.Pinned.{is_pinned}
 use Rattle.cycle_words.specs.Marking.Marks.{is_black}
@@ -46,8 +47,8 @@ CanCopyFrom c memory a (suc n) =
 -- The words after all that is left in the collection set was copied out, or what comes before the first object without room. Only
 -- while objects are evacuated something is left.
 abbrev pub all_copied : Config → (Word → ℕ) → Word → ℕ
-all_copied c memory word = if memory Phase == 2 then copied_from c memory c.region_words (c.regions * c.region_words) word else memory word
+all_copied c memory word = if memory Phase == evacuation_phase then copied_from c memory c.region_words (c.regions * c.region_words) word else memory word
 
 -- whether all of it finds room
 abbrev pub is_room_for_all : Config → (Word → ℕ) → Bool
-is_room_for_all c memory = if memory Phase == 2 then is_room_from c memory c.region_words (c.regions * c.region_words) else true
+is_room_for_all c memory = if memory Phase == evacuation_phase then is_room_from c memory c.region_words (c.regions * c.region_words) else true

@@ -7,6 +7,7 @@ use Rattle.image_graph.specs.SeatBuffers.{AreInside}
 use Rattle.image_graph.specs.LetGo.{let_go}
 use Rattle.image_graph.specs.Full.{served}
 use Rattle.heap_words.specs.Encoding.{is_forwarded}
+use Rattle.heap_words.specs.Phases.{evacuation_phase}
 use Rattle.image_graph.specs.Pinned.{is_pinned, filled_in, CanFill}
 use Rattle.cycle_words.specs.Marking.Final.{freed}
 use Rattle.cycle_words.specs.Updating.Changes.{is_chosen, cycle_ended}
@@ -64,6 +65,6 @@ is_whole c memory = is_room_for_all c (let_go c memory) && nobody_waits c (finis
 -- out; and once that is done references can be updated, and then the set can be left.
 pub record CanFinish (c : Config) (memory : Word → ℕ) : Type 0 where
   pub buffers : AreInside c memory
-  pub copies : let_go c memory Phase ≡ 2 → CanCopyFrom c (let_go c memory) c.region_words (c.regions * c.region_words)
+  pub copies : let_go c memory Phase ≡ evacuation_phase → CanCopyFrom c (let_go c memory) c.region_words (c.regions * c.region_words)
   pub updates : is_room_for_all c (let_go c memory) ≡ true → CanUpdateAll c (all_copied c (let_go c memory))
   pub frees : is_room_for_all c (let_go c memory) ≡ true → CanFree c (all_updated c (all_copied c (let_go c memory)))

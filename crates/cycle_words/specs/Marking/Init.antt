@@ -3,6 +3,7 @@ use Rattle.std.specs.Prelude.{ℕ, ◌+◌, if◌then◌else◌, Bool}
 use Rattle.std.specs.Option.{option_map}
 use Rattle.heap_words.specs.declared.config.Config.{Config}
 use Rattle.heap_words.specs.Words.{Word, Phase, Claim, Ask, Tams, Count, Grey, Black}
+use Rattle.heap_words.specs.Phases.{marking_phase}
 use Rattle.image_graph.specs.Settled.{buffers_settled}
 use Rattle.image_graph.specs.Edge.{edge}
 use Rattle.heap_graph.specs.Walk.{has}
@@ -19,7 +20,7 @@ marking_begun c memory (Tams r) = edge c memory r
 marking_begun c memory (Count t) = 0
 marking_begun c memory Claim = 0
 marking_begun c memory Ask = 0
-marking_begun c memory Phase = 1
+marking_begun c memory Phase = marking_phase
 marking_begun c memory word = memory word
 
 -- Buffers are settled, and marking begins: so what is allocated from now on lies at or above the edges.

@@ -3,6 +3,7 @@ use Rattle.std.specs.Prelude.{ℕ, ◌==◌, if◌then◌else◌, Bool}
 use Rattle.std.specs.Int.{bit_at}
 use Rattle.heap_words.specs.declared.config.Config.{Config}
 use Rattle.heap_words.specs.Words.{Word, Phase, Cset, Evac, Claim, Limit}
+use Rattle.heap_words.specs.Phases.{idle_phase, updating_phase}
 use Rattle.image_graph.specs.Settled.{buffers_settled}
 use Rattle.image_graph.specs.Edge.{edge}
 use Rattle.cycle_words.specs.Marking.Final.{freed}
@@ -14,7 +15,7 @@ is_chosen memory r = bit_at (memory Cset) r == 1
 -- The limit of each region outside of the collection set is its edge, and that of each region of the set is 0. No copier is counted, and no
 -- unit is claimed. All other words stay.
 abbrev pub updating_begun : Config → (Word → ℕ) → Word → ℕ
-updating_begun c memory Phase = 3
+updating_begun c memory Phase = updating_phase
 updating_begun c memory Evac = 0
 updating_begun c memory Claim = 0
 updating_begun c memory (Limit r) = if is_chosen memory r then 0 else edge c memory r
@@ -26,7 +27,7 @@ init_updated c memory = updating_begun c (buffers_settled c memory)
 
 -- no cycle runs: the collection set is empty, and no unit is claimed
 abbrev pub cycle_ended : (Word → ℕ) → Word → ℕ
-cycle_ended memory Phase = 0
+cycle_ended memory Phase = idle_phase
 cycle_ended memory Cset = 0
 cycle_ended memory Claim = 0
 cycle_ended memory word = memory word
