@@ -46,7 +46,8 @@ TOGETHER = 12
 # So many lemmas are named of those at which a law is refused.
 NAMED = 3
 REFUSED = re.compile(r"must-fail (\w+)/\S+\.edit: refused, as it must be(?! \(only )")
-# The last line of a run, which one that was cut off does not have.
+# What a run says of each edit, and its last line, where the kit's command has one: a run that was cut off lacks both.
+TOLD = re.compile(r"must-fail (\w+)/\S+\.edit: ")
 ENDED = re.compile(r"^\d+ passed, \d+ failed", re.M)
 UNPROVED = re.compile(r"^fn (\S+): (?!proved\b)", re.M)
 ERROR = re.compile(r"^(?:\./)?(\S+?\.(?:antt|rt)):\d+:\d+: error(?:\[\S+\])?: (.*)$", re.M)
@@ -115,8 +116,8 @@ def note(folder, head, noted):
 
 def refusals(names):
     """Tries the edits of these crates, and returns how many of each were refused, or None where the run did not come to its end."""
-    told = subprocess.run(["rt", "help"], stdout=subprocess.PIPE, stderr=subprocess.STDOUT, text=True).stdout
-    takes_names = "rt ci [" in told or "rt ci NAME" in told
+    usage = subprocess.run(["rt", "help"], stdout=subprocess.PIPE, stderr=subprocess.STDOUT, text=True).stdout
+    takes_names = "rt ci [" in usage or "rt ci NAME" in usage
     with tempfile.TemporaryDirectory() as room:
         lay_out(room, () if takes_names else os.listdir(CRATES))
         for name in names:
@@ -124,8 +125,9 @@ def refusals(names):
         words = ["rt", "ci" if takes_names else "must-fail", *names]
         said = subprocess.run(words, cwd=room, stdout=subprocess.PIPE, stderr=subprocess.STDOUT, text=True).stdout
     print(said, end="", flush=True)
-    found = REFUSED.findall(said)
-    return {name: found.count(name) for name in names} if ENDED.search(said) else None
+    found, told = REFUSED.findall(said), TOLD.findall(said)
+    is_whole = ENDED.search(said) or all(told.count(name) == len(os.listdir(os.path.join(EDITS, name))) for name in names)
+    return {name: found.count(name) for name in names} if is_whole else None
 
 
 def body_sums(stands_on):
