@@ -189,6 +189,24 @@ impl Control {
         ensures row { result ≡ control_access (config_in self.now) (control_hinted (config_in self.now) (hint_of self.now) (seen_control self.now)) }
         ensures inside { table_index result < table_words (config_in self.now) }
     {
+        if self.hint.is_some() {
+            return self.plan_apart();
+        }
+        match self.spot {
+            ControlSpot::LookLeft => ControlSpot::LookLeft.access(self.image.config(), 0),
+            ControlSpot::LookAsked => ControlSpot::LookAsked.access(self.image.config(), 0),
+            ControlSpot::LookFree => ControlSpot::LookFree.access(self.image.config(), 0),
+            _ => self.plan_apart(),
+        }
+    }
+
+    // The same wherever it stands. The three looks, of which its steps outside pauses are, do not pay for the copy of its spot.
+    #[inline(never)]
+    fn plan_apart(&self) -> Access
+        requires { is_gone (seen_control self.now).spot ≡ false }
+        ensures row { result ≡ control_access (config_in self.now) (control_hinted (config_in self.now) (hint_of self.now) (seen_control self.now)) }
+        ensures inside { table_index result < table_words (config_in self.now) }
+    {
         let config = self.image.config();
         match self.goes_on_at() {
             ControlSpot::LoadWord { index, .. } => Access::Load {
@@ -378,8 +396,32 @@ impl Control {
         }
     }
 
-    // Goes on with the word, where it has no hint.
+    // Goes on with the word, where it has no hint. Outside pauses a step in three looks whether there are mutators left, and pays for
+    // nothing that the others put aside.
     fn took_word(&mut self, got: u64) -> Took
+        requires none { hint_of self.old ≡ None }
+        requires busy { is_gone (seen_control self.old).spot ≡ false }
+        requires fit { IsFit (config_in self.old) (seen_control self.old) got }
+        ensures config { config_in self.new ≡ config_in self.old }
+        ensures hint { hint_of self.new ≡ None }
+        ensures row { seen_control self.new ≡ control_next collect_image (config_in self.old) (seen_control self.old) got }
+        ensures says { result ≡ control_says (config_in self.old) (seen_control self.old) got }
+        ensures again { (result ≡ Took.Again) ↔ WaitsAt (config_in self.old) (seen_control self.old) got }
+    {
+        if let ControlSpot::LookLeft = self.spot {
+            self.spot = if got == 0 {
+                ControlSpot::StoreEnd
+            } else {
+                ControlSpot::LookAsked
+            };
+            return Took::More;
+        }
+        self.took_apart(got)
+    }
+
+    // The same wherever it stands.
+    #[inline(never)]
+    fn took_apart(&mut self, got: u64) -> Took
         requires none { hint_of self.old ≡ None }
         requires busy { is_gone (seen_control self.old).spot ≡ false }
         requires fit { IsFit (config_in self.old) (seen_control self.old) got }
