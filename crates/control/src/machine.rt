@@ -11,6 +11,7 @@ use crate::starts::{next_stored, no_starts};
 use control_rows::{ControlSpot, Extent, LastPause, image_words};
 use heap_words::{Access, Config, Place, Took};
 use image_graph::Image;
+use regions::size;
 use shen_graph::GraphText;
 
 /// The machine that collects a heap. Its steps are one access each; between two of them it does constant work, but for the
@@ -200,7 +201,7 @@ impl Control {
         }
     }
 
-    // The same wherever it stands. The three looks, of which its steps outside pauses are, do not pay for the copy of its spot.
+    // The same wherever it stands. The three looks, nearly all of its steps outside pauses, do not pay for the copy of its spot.
     #[inline(never)]
     fn plan_apart(&self) -> Access
         requires { is_gone (seen_control self.now).spot ≡ false }
@@ -396,8 +397,8 @@ impl Control {
         }
     }
 
-    // Goes on with the word, where it has no hint. Outside pauses a step in three looks whether there are mutators left, and pays for
-    // nothing that the others put aside.
+    // Goes on with the word, where it has no hint. Outside pauses it looks at three words in turn: while there are mutators left, nothing
+    // is asked for in phase 0, and half of the regions are free, it pays for nothing that the others put aside.
     fn took_word(&mut self, got: u64) -> Took
         requires none { hint_of self.old ≡ None }
         requires busy { is_gone (seen_control self.old).spot ≡ false }
@@ -408,15 +409,18 @@ impl Control {
         ensures says { result ≡ control_says (config_in self.old) (seen_control self.old) got }
         ensures again { (result ≡ Took.Again) ↔ WaitsAt (config_in self.old) (seen_control self.old) got }
     {
-        if let ControlSpot::LookLeft = self.spot {
-            self.spot = if got == 0 {
-                ControlSpot::StoreEnd
-            } else {
-                ControlSpot::LookAsked
-            };
-            return Took::More;
+        match self.spot {
+            ControlSpot::LookLeft if got != 0 => self.spot = ControlSpot::LookAsked,
+            ControlSpot::LookAsked if got == 0 && self.last.phase == 0 => {
+                self.spot = ControlSpot::LookFree;
+            }
+            ControlSpot::LookFree if 2 * size(got) as usize >= self.image.config().regions() => {
+                self.spot = ControlSpot::LookLeft;
+                return Took::Again;
+            }
+            _ => return self.took_apart(got),
         }
-        self.took_apart(got)
+        Took::More
     }
 
     // The same wherever it stands.
