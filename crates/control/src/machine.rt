@@ -11,6 +11,7 @@ use crate::starts::{next_stored, no_starts};
 use control_rows::{ControlSpot, Extent, LastPause, image_words};
 use heap_words::{Access, Config, Place, Took};
 use image_graph::Image;
+use regions::size;
 use shen_graph::GraphText;
 
 /// The machine that collects a heap. Its steps are one access each; between two of them it does constant work, but for the
@@ -185,6 +186,24 @@ impl Control {
     /// The access of its next step.
     #[inline(never)]
     pub fn plan(&self) -> Access
+        requires { is_gone (seen_control self.now).spot ≡ false }
+        ensures row { result ≡ control_access (config_in self.now) (control_hinted (config_in self.now) (hint_of self.now) (seen_control self.now)) }
+        ensures inside { table_index result < table_words (config_in self.now) }
+    {
+        if self.hint.is_some() {
+            return self.plan_apart();
+        }
+        match self.spot {
+            ControlSpot::LookLeft => ControlSpot::LookLeft.access(self.image.config(), 0),
+            ControlSpot::LookAsked => ControlSpot::LookAsked.access(self.image.config(), 0),
+            ControlSpot::LookFree => ControlSpot::LookFree.access(self.image.config(), 0),
+            _ => self.plan_apart(),
+        }
+    }
+
+    // The same wherever it stands. The three looks, nearly all of its steps outside pauses, do not pay for the copy of its spot.
+    #[inline(never)]
+    fn plan_apart(&self) -> Access
         requires { is_gone (seen_control self.now).spot ≡ false }
         ensures row { result ≡ control_access (config_in self.now) (control_hinted (config_in self.now) (hint_of self.now) (seen_control self.now)) }
         ensures inside { table_index result < table_words (config_in self.now) }
@@ -378,8 +397,35 @@ impl Control {
         }
     }
 
-    // Goes on with the word, where it has no hint.
+    // Goes on with the word, where it has no hint. Outside pauses it looks at three words in turn: while there are mutators left, nothing
+    // is asked for in phase 0, and half of the regions are free, it pays for nothing that the others put aside.
     fn took_word(&mut self, got: u64) -> Took
+        requires none { hint_of self.old ≡ None }
+        requires busy { is_gone (seen_control self.old).spot ≡ false }
+        requires fit { IsFit (config_in self.old) (seen_control self.old) got }
+        ensures config { config_in self.new ≡ config_in self.old }
+        ensures hint { hint_of self.new ≡ None }
+        ensures row { seen_control self.new ≡ control_next collect_image (config_in self.old) (seen_control self.old) got }
+        ensures says { result ≡ control_says (config_in self.old) (seen_control self.old) got }
+        ensures again { (result ≡ Took.Again) ↔ WaitsAt (config_in self.old) (seen_control self.old) got }
+    {
+        match self.spot {
+            ControlSpot::LookLeft if got != 0 => self.spot = ControlSpot::LookAsked,
+            ControlSpot::LookAsked if got == 0 && self.last.phase == 0 => {
+                self.spot = ControlSpot::LookFree;
+            }
+            ControlSpot::LookFree if 2 * size(got) as usize >= self.image.config().regions() => {
+                self.spot = ControlSpot::LookLeft;
+                return Took::Again;
+            }
+            _ => return self.took_apart(got),
+        }
+        Took::More
+    }
+
+    // The same wherever it stands.
+    #[inline(never)]
+    fn took_apart(&mut self, got: u64) -> Took
         requires none { hint_of self.old ≡ None }
         requires busy { is_gone (seen_control self.old).spot ≡ false }
         requires fit { IsFit (config_in self.old) (seen_control self.old) got }

@@ -1,5 +1,5 @@
 -- Where a mutator stands after a step, its next access can be made.
-use Rattle.std.proofs.Common.{◌≡◌, ℕ, true, refl, sym, ap, ◌∙◌, subst}
+use Rattle.std.proofs.Common.{◌≡◌, ℕ, true, refl, sym, subst}
 use Rattle.heap_words.specs.declared.config.Config.{Config}
 use Rattle.shen_graph.specs.declared.order.Order.{Order}
 use Rattle.shen_graph.specs.declared.order.Order.TheVariants.{Nothing}
@@ -7,7 +7,7 @@ use Rattle.mutator.specs.declared.spot.Spot.{Spot}
 use Rattle.mutator.specs.Orders.{is_pending}
 use Rattle.mutator.specs.Rows.{Mutating, next_at, next_of}
 use Rattle.mutator.specs.declared.spot.Kept.{Kept}
-use Rattle.mutator.specs.Fit.{IsReady, PartFit, IsFit}
+use Rattle.mutator.specs.Fit.{IsReady, PartFit}
 
 -- no order stands everywhere
 pub pending : (spot : Spot) (made : ℕ) (order : Order) → order ≡ Nothing → is_pending spot made order ≡ true
@@ -20,9 +20,3 @@ ready_next c m order got spot n is row ready = subst (IsReady c) row (subst (λ 
 -- a word that is fit for the part of a spot is so for the part by its own name
 pub part_at : (c : Config) (seat : ℕ) (kept : Kept) (spot at : Spot) (got : ℕ) → spot ≡ at → PartFit c seat kept spot got → PartFit c seat kept at got
 part_at c seat kept spot at got is fit = subst (λ s. PartFit c seat kept s got) is fit
-
--- in a call, where the next spot is by no order, a word that is fit under an order is so under none
-pub fit_in_call : (c : Config) (m : Mutating) (order : Order) (got : ℕ) (at : Spot) → m.spot ≡ at → next_at c m order got at ≡ next_at c m Nothing got at → IsFit c m order got → IsFit c m Nothing got
-fit_in_call c m order got at is same fit =
-    let next : next_of c m order got ≡ next_of c m Nothing got = ap (next_at c m order got) is ∙ same ∙ sym (ap (next_at c m Nothing got) is) in
-    (subst (IsReady c) next fit.0, fit.1, tt)

@@ -1,6 +1,7 @@
 pub mod Done
 pub mod Again
 pub mod Orders
+pub mod Beginning
 pub mod Making
 pub mod Leaving
 pub mod CallKnows

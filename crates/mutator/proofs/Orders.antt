@@ -6,7 +6,7 @@ use Rattle.shen_graph.specs.declared.order.Order.{Order}
 use Rattle.shen_graph.specs.declared.order.Order.TheVariants.{Nothing, Begin, End, Hint}
 use Rattle.mutator.specs.declared.spot.Spot.{Spot}
 use Rattle.mutator.specs.declared.spot.Spot.TheVariants.{Rest, Ended, Gone}
-use Rattle.mutator.specs.Orders.{is_between_calls, takes_at, is_pending}
+use Rattle.mutator.specs.Orders.{is_between_calls, takes_commands, takes_at, is_pending}
 
 pub in_call : (spot : Spot) (made : ℕ) (order : Order) → is_between_calls spot ≡ false → takes_at spot made order ≡ true → order ≡ Nothing
 in_call Rest made order busy takes = absurd (cc (busy))
@@ -16,6 +16,16 @@ in_call _ made Nothing busy takes = refl
 in_call _ made (Begin command) busy takes = absurd (cc (takes))
 in_call _ made End busy takes = absurd (cc (takes))
 in_call _ made (Hint address) busy takes = absurd (cc (takes))
+
+-- nor is there one where no command is taken
+pub in_progress : (spot : Spot) (made : ℕ) (order : Order) → takes_commands spot ≡ false → takes_at spot made order ≡ true → order ≡ Nothing
+in_progress Rest made order busy takes = absurd (cc (busy))
+in_progress (Ended reply) made order busy takes = absurd (cc (busy))
+in_progress Gone made order busy takes = absurd (cc (takes))
+in_progress _ made Nothing busy takes = refl
+in_progress _ made (Begin command) busy takes = absurd (cc (takes))
+in_progress _ made End busy takes = absurd (cc (takes))
+in_progress _ made (Hint address) busy takes = absurd (cc (takes))
 
 -- a mutator that is not idle takes the order that it was given
 pub takes_where_busy : (spot : Spot) (made : ℕ) (order : Order) → (is_between_calls spot && is_nothing order) ≡ false → is_pending spot made order ≡ true → takes_at spot made order ≡ true

@@ -1,4 +1,5 @@
 pub mod Orders
+pub mod Apart
 pub mod Commands
 pub mod WaitRows
 pub mod Rows

@@ -5,6 +5,7 @@ ghost use Rattle.mutator.specs.Rows.{first_touch};
 ghost use Rattle.mutator.specs.Fit.{is_ready};
 
 use crate::commands::dst_of;
+use crate::fields::FieldSpot;
 use crate::loads::first_spot;
 use crate::makes::{MakeSpot, next_name};
 use crate::resolves::Loaded;
@@ -37,6 +38,7 @@ impl Mutator {
     ghost use Rattle.heap_words.specs.Access.{table_index};
     ghost use Rattle.heap_words.specs.Words.{Heap, IsWord, table_words, view};
     ghost use Rattle.mutator.specs.Orders.{is_between_calls, takes_commands, takes_at};
+    ghost use Rattle.mutator.specs.Apart.{is_apart};
     ghost use Rattle.mutator.specs.Rows.{fresh_mutator, mutator_after, place_at, touch_of, call_begun, next_of, make_says, answer_at, reply_at, greys_at};
     ghost use Rattle.mutator.specs.WaitRows.{wait_says};
     ghost use Rattle.mutator.specs.Fit.{IsFit};
@@ -194,44 +196,67 @@ impl Mutator {
         self.access()
     }
 
-    // The same by its spot. That it is inside follows from what a mutator's numbers are.
+    // The same by its spot. That it is inside follows from what a mutator's numbers are. The longer parts of a call have a function
+    // of their own, so that the others do not pay for what those put aside.
     fn access(&self) -> Access
         requires { is_idle self.now ≡ false }
+        ensures { result ≡ placed (config_of self.now) (touch_of (config_of self.now) (seen self.now) (order_of self.now)) }
+    {
+        match self.spot {
+            Spot::Rest | Spot::Ended { .. } => first_access(self.config, self.mutator, self.order),
+            Spot::Entering { at, .. } => at.access(self.config, self.mutator),
+            Spot::LoadPhase => Access::Load {
+                at: self.config.phase_at(),
+            },
+            Spot::LoadSet => Access::Load {
+                at: self.config.cset_at(),
+            },
+            Spot::Loading { at } => at.access(self.config, self.mutator, self.kept.command),
+            Spot::OnField { object, at } => at.access(self.config, object, self.kept.command),
+            Spot::OnNumber { object, refs, at } => {
+                at.access(self.config, object, refs, self.kept.command)
+            }
+            Spot::Showing { value, at } => {
+                at.access(self.config, self.mutator, value, self.kept.command)
+            }
+            // keeps HasItsOwn.roots and IsSeated.usable
+            Spot::StoreRoot { value } => Access::Store {
+                at: self
+                    .config
+                    .root_at(self.mutator, dst_of(self.kept.command) as usize),
+                value,
+            },
+            // keeps IsHeard and IsDue of heap_world
+            Spot::AskCycle => Access::Or {
+                at: self.config.ask_at(),
+                value: 1,
+            },
+            Spot::Leave { .. } => leave_access(self.config, self.mutator),
+            Spot::Resolving { .. }
+            | Spot::Recording { .. }
+            | Spot::Making { .. }
+            | Spot::Pinning { .. }
+            | Spot::Waiting { .. } => self.access_apart(),
+            Spot::Gone => unreachable!(),
+        }
+    }
+
+    // The same in a longer part of a call.
+    #[inline(never)]
+    fn access_apart(&self) -> Access
+        requires { is_apart (seen self.now).spot ≡ true }
         ensures { result ≡ placed (config_of self.now) (touch_of (config_of self.now) (seen self.now) (order_of self.now)) }
     {
         let config = self.config;
         let seat = self.mutator;
         let command = self.kept.command;
         match self.spot {
-            Spot::Rest | Spot::Ended { .. } => first_access(config, seat, self.order),
-            Spot::Entering { at, .. } => at.access(config, seat),
-            Spot::LoadPhase => Access::Load {
-                at: config.phase_at(),
-            },
-            Spot::LoadSet => Access::Load {
-                at: config.cset_at(),
-            },
-            Spot::Loading { at } => at.access(config, seat, command),
-            Spot::OnField { object, at } => at.access(config, object, command),
             Spot::Resolving { address, at, .. } => at.access(config, seat, address),
             Spot::Recording { at, address, .. } => at.access(config, seat, address),
-            Spot::OnNumber { object, refs, at } => at.access(config, object, refs, command),
-            Spot::Showing { value, at } => at.access(config, seat, value, command),
-            // keeps HasItsOwn.roots and IsSeated.usable
-            Spot::StoreRoot { value } => Access::Store {
-                at: config.root_at(seat, dst_of(command) as usize),
-                value,
-            },
             Spot::Making { at } => at.access(config, seat, self.made, command),
-            // keeps IsHeard and IsDue of heap_world
-            Spot::AskCycle => Access::Or {
-                at: config.ask_at(),
-                value: 1,
-            },
             Spot::Pinning { value, at } => at.access(config, seat, value, command),
             Spot::Waiting { at } => at.access(config, seat, self.made, command),
-            Spot::Leave { .. } => leave_access(config, seat),
-            Spot::Gone => unreachable!(),
+            _ => unreachable!(),
         }
     }
 
@@ -261,9 +286,11 @@ impl Mutator {
         ensures replied { result ≡ Took.Done → reply_at (seen self.new).spot ≢ None }
         ensures again { (result ≡ Took.Again) ↔ WaitsAt (seen self.old).spot got }
     {
-        let order = self.order;
-        self.order = Order::Nothing;
-        self.go_on(order, got)
+        if self.takes_commands() {
+            self.obey();
+            return Took::More;
+        }
+        self.go_on(got)
     }
 
     /// The reply of the last call, until the next one is ordered.
@@ -277,19 +304,19 @@ impl Mutator {
         }
     }
 
-    // Goes on by the order that it had with the word that its access has found.
-    fn go_on(&mut self, order: Order, got: u64) -> Took
+    // Goes on in a call with the word that its access has found. The longer parts go on in a function of their own, so that the
+    // others do not pay for what those put aside.
+    fn go_on(&mut self, got: u64) -> Took
         requires none { order_of self.old ≡ Order.Nothing }
-        requires takes { takes_at (seen self.old).spot (seen self.old).made order ≡ true }
-        requires fit { IsFit (config_of self.old) (seen self.old) order got }
-        ensures seen { seen self.new ≡ next_of (config_of self.old) (seen self.old) order got }
+        requires takes { takes_at (seen self.old).spot (seen self.old).made Order.Nothing ≡ true }
+        requires fit { IsFit (config_of self.old) (seen self.old) Order.Nothing got }
+        ensures seen { seen self.new ≡ next_of (config_of self.old) (seen self.old) Order.Nothing got }
         ensures order { order_of self.new ≡ Order.Nothing }
         ensures config { config_of self.new ≡ config_of self.old }
         ensures answer { result ≡ answer_at (config_of self.old) (seen self.old).kept (seen self.old).spot got }
         ensures again { (result ≡ Took.Again) ↔ WaitsAt (seen self.old).spot got }
     {
         match self.spot {
-            Spot::Rest | Spot::Ended { .. } => self.obey(order),
             Spot::Entering { at, then } => {
                 self.spot = then.after(at.after(got));
                 return call_says(at.says(got));
@@ -303,37 +330,58 @@ impl Mutator {
                 self.spot = first_spot(self.kept.command);
             }
             Spot::Loading { at } => self.spot = at.after(self.kept.phase, self.kept.command, got),
-            Spot::OnField { object, at } => {
-                self.spot = at.after(self.config, self.kept.phase, self.kept.cset, object, got);
-                return at.says(got);
+            Spot::OnField { object, at } => return self.field(object, at, got),
+            Spot::OnNumber { at, .. } => self.spot = at.after(got),
+            Spot::Showing { value, at } => self.spot = at.after(value, got),
+            Spot::StoreRoot { .. } | Spot::AskCycle => self.spot = Spot::Leave { reply: Reply::Ok },
+            Spot::Leave { reply } => {
+                self.spot = Spot::Ended { reply };
+                return Took::Done;
             }
+            Spot::Resolving { .. }
+            | Spot::Recording { .. }
+            | Spot::Making { .. }
+            | Spot::Pinning { .. }
+            | Spot::Waiting { .. } => return self.go_on_apart(got),
+            Spot::Rest | Spot::Ended { .. } | Spot::Gone => unreachable!(),
+        }
+        Took::More
+    }
+
+    // The same in a longer part of a call.
+    #[inline(never)]
+    fn go_on_apart(&mut self, got: u64) -> Took
+        requires apart { is_apart (seen self.old).spot ≡ true }
+        requires none { order_of self.old ≡ Order.Nothing }
+        requires fit { IsFit (config_of self.old) (seen self.old) Order.Nothing got }
+        ensures seen { seen self.new ≡ next_of (config_of self.old) (seen self.old) Order.Nothing got }
+        ensures order { order_of self.new ≡ Order.Nothing }
+        ensures config { config_of self.new ≡ config_of self.old }
+        ensures answer { result ≡ answer_at (config_of self.old) (seen self.old).kept (seen self.old).spot got }
+        ensures again { (result ≡ Took.Again) ↔ WaitsAt (seen self.old).spot got }
+    {
+        match self.spot {
             Spot::Resolving { address, at, next } => return self.resolve(address, at, next, got),
             Spot::Recording { at, address, next } => self.spot = next.remember(
                 address,
                 at.after(got),
             ),
-            Spot::OnNumber { at, .. } => self.spot = at.after(got),
-            Spot::Showing { value, at } => self.spot = at.after(value, got),
-            Spot::StoreRoot { .. } | Spot::AskCycle => self.spot = Spot::Leave { reply: Reply::Ok },
-            Spot::Pinning { value, at } => self.spot = at.after(value, self.kept.command, got),
             Spot::Making { at } => return self.make(at, got),
+            Spot::Pinning { value, at } => self.spot = at.after(value, self.kept.command, got),
             Spot::Waiting { at } => return self.wait(at, got),
-            Spot::Leave { reply } => {
-                self.spot = Spot::Ended { reply };
-                return Took::Done;
-            }
-            Spot::Gone => unreachable!(),
+            _ => unreachable!(),
         }
         Took::More
     }
 
     // Goes on by its order, once its first access has been made: it enters for a call, or has ended.
-    fn obey(&mut self, order: Order)
-        requires { order_of self.old ≡ Order.Nothing }
-        ensures seen { seen self.new ≡ call_begun order (seen self.old) }
+    fn obey(&mut self)
+        ensures seen { seen self.new ≡ call_begun (order_of self.old) (seen self.old) }
         ensures order { order_of self.new ≡ Order.Nothing }
         ensures config { config_of self.new ≡ config_of self.old }
     {
+        let order = self.order;
+        self.order = Order::Nothing;
         match order {
             Order::Begin(command) => {
                 self.kept.command = command;
@@ -345,6 +393,22 @@ impl Mutator {
             Order::End => self.spot = Spot::Gone,
             Order::Nothing | Order::Hint(_) => {}
         }
+    }
+
+    // Goes on with its reference field, in a function of its own for the same reason.
+    #[inline(never)]
+    fn field(&mut self, object: u64, at: FieldSpot, got: u64) -> Took
+        requires at { (seen self.old).spot ≡ Spot.OnField object at }
+        requires order { order_of self.old ≡ Order.Nothing }
+        requires fit { IsFit (config_of self.old) (seen self.old) Order.Nothing got }
+        ensures seen { seen self.new ≡ next_of (config_of self.old) (seen self.old) Order.Nothing got }
+        ensures order { order_of self.new ≡ Order.Nothing }
+        ensures config { config_of self.new ≡ config_of self.old }
+        ensures answer { result ≡ answer_at (config_of self.old) (seen self.old).kept (Spot.OnField object at) got }
+        ensures again { (result ≡ Took.Again) ↔ WaitsAt (Spot.OnField object at) got }
+    {
+        self.spot = at.after(self.config, self.kept.phase, self.kept.cset, object, got);
+        at.says(got)
     }
 
     // Goes on with the resolving of what it has found in a field.

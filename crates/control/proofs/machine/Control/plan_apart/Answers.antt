@@ -1,17 +1,14 @@
-use Rattle.std.proofs.Common.{◌≡◌, ◌+◌, ap, sym, ◌∙◌, subst}
+use Rattle.std.proofs.Common.{◌+◌, ap, sym, ◌∙◌, subst}
 use Rattle.std.specs.Prelude.{slice_index}
 use Rattle.std.proofs.lemmas.List.{get_or-drop}
-use Rattle.heap_words.specs.declared.config.Config.{Config}
 use Rattle.heap_words.specs.declared.access.Access.TheVariants.{Store}
 use Rattle.heap_words.specs.Words.{image_start}
 use Rattle.image_graph.specs.State.{words_of}
-use Rattle.control_rows.specs.declared.spot.ControlSpot.{ControlSpot}
-use Rattle.control_rows.specs.Rows.{Controlling}
-use Rattle.control.specs.Image.{image_in, image_shown, words_seen, SeesOwn}
+use Rattle.control.specs.Image.{image_in, words_seen, SeesOwn}
 use Rattle.control.specs.Seen.{config_in, seen_control, hint_of}
 use Rattle.control.proofs.Going.{unhinted, stored_row}
 use Rattle.control.proofs.PartShown.{seen_reads}
-use Rattle.control.proofs.machine.Control.plan.Goals as goal
+use Rattle.control.proofs.machine.Control.plan_apart.Goals as goal
 
 pub returns-in-StoreWord-clause-row : goal.returns-in-StoreWord-clause-row
 returns-in-StoreWord-clause-row c =

@@ -1,0 +1,13 @@
+-- Which parts of a call are the longer ones, whose steps have a function of their own.
+use Rattle.std.specs.Prelude.{Bool, true, false}
+use Rattle.mutator.specs.declared.spot.Spot.{Spot}
+use Rattle.mutator.specs.declared.spot.Spot.TheVariants.{Resolving, Recording, Making, Pinning, Waiting}
+
+-- whether the next step of a mutator that stands there belongs to one of the longer parts of a call
+abbrev pub is_apart : Spot → Bool
+is_apart (Resolving address at next) = true
+is_apart (Recording at address next) = true
+is_apart (Making at) = true
+is_apart (Pinning value at) = true
+is_apart (Waiting at) = true
+is_apart _ = false
