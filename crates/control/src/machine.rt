@@ -9,6 +9,7 @@ ghost use Rattle.control.specs.Starts.{AreHeapIndices};
 use crate::pause::{clear, load, put_word, take_found};
 use crate::starts::{next_stored, no_starts};
 use control_rows::{ControlSpot, Extent, LastPause, image_words};
+use heap_words::phase::IDLE;
 use heap_words::{Access, Config, Place, Took};
 use image_graph::Image;
 use regions::size;
@@ -411,7 +412,7 @@ impl Control {
     {
         match self.spot {
             ControlSpot::LookLeft if got != 0 => self.spot = ControlSpot::LookAsked,
-            ControlSpot::LookAsked if got == 0 && self.last.phase == 0 => {
+            ControlSpot::LookAsked if got == 0 && self.last.phase == IDLE => {
                 self.spot = ControlSpot::LookFree;
             }
             ControlSpot::LookFree if 2 * size(got) as usize >= self.image.config().regions() => {
