@@ -9,6 +9,7 @@ use Rattle.heap_words.specs.declared.access.Took.{Took}
 use Rattle.heap_words.specs.declared.access.Took.TheVariants.{More, Again, Done}
 use Rattle.heap_words.specs.declared.access.Unit.TheVariants.{NoneLeft}
 use Rattle.heap_words.specs.Words.{End, Phase, Cset}
+use Rattle.heap_words.specs.Phases.{idle_phase}
 use Rattle.steps_base.specs.Touch.{Touch, touch, loads}
 use Rattle.handshake.specs.declared.enter_spot.EnterSpot.{EnterSpot}
 use Rattle.handshake.specs.declared.enter_spot.EnterSpot.TheVariants as enter
@@ -96,7 +97,7 @@ after_unit at = Working at
 abbrev pub next_spot : Config → HelpSpot → ℕ → HelpSpot
 next_spot c LoadEnd got = if got == 1 then Gone else Entering enter.Raise
 next_spot c (Entering at) got = after_enter (enter_next at got)
-next_spot c LoadPhase got = if got == 0 then Leave else LoadSet got
+next_spot c LoadPhase got = if got == idle_phase then Leave else LoadSet got
 next_spot c (LoadSet phase) got = Working (units.begins phase got)
 next_spot c (Working at) got = after_unit (units.next_at c at got)
 next_spot c Leave got = LoadEnd
@@ -121,7 +122,7 @@ working_says next said = said
 -- what a step says that finds this word: that it waits, that another was faster, or that there is more to do
 abbrev pub says_at : Config → HelpSpot → ℕ → Took
 says_at c (Entering at) got = entering_says at got
-says_at c LoadPhase got = if got == 0 then Again else More
+says_at c LoadPhase got = if got == idle_phase then Again else More
 says_at c (Working at) got = working_says (units.next_at c at got) (units.says_at c at got)
 says_at c _ got = More
 

@@ -1,6 +1,7 @@
 -- Where a step of a helper says that it waits, or that another machine was faster, by the word that it finds.
 use Rattle.std.specs.Prelude.{ℕ, ◌≡◌, ◌≢◌, ◌⊎◌}
 use Rattle.heap_words.specs.declared.config.Config.{Config}
+use Rattle.heap_words.specs.Phases.{idle_phase}
 use Rattle.handshake.specs.declared.enter_spot.EnterSpot.TheVariants.{Await}
 use Rattle.unit_part.specs.Ends as units
 use Rattle.helper.specs.declared.spot.HelpSpot.{HelpSpot}
@@ -11,7 +12,7 @@ use Rattle.helper.specs.Rows.{Helping}
 -- it never waits.
 abbrev pub waits_at : Config → HelpSpot → ℕ → Type 0
 waits_at c (Entering Await) got = got ≢ 0
-waits_at c LoadPhase got = got ≡ 0
+waits_at c LoadPhase got = got ≡ idle_phase
 waits_at c (Working at) got = units.HasNoneLeft c at got ⊎ units.WaitsAt at got
 waits_at c _ got = ⊥
 

@@ -6,6 +6,7 @@ use crate::row::Row;
 use crate::table::Table;
 use crate::terms::put_regions;
 use crate::view::{heap_word, name_at};
+use heap_words::phase::{EVACUATION, IDLE, MARKING, UPDATING};
 use heap_words::{Config, NoMemory, Place, forwarded};
 use regions::mark_words;
 use std::alloc::Global;
@@ -75,16 +76,16 @@ impl Told {
     /// What the pause did.
     pub fn deed(&self) -> &'static [u8] {
         match (self.before, self.after, self.waits) {
-            (0, 0, _) => b"a full collection",
-            (0, _, _) => b"marking begins",
-            (1, 2, _) => b"marking ends, evacuation begins",
-            (1, _, false) => b"marking ends, no region is chosen",
-            (1, _, true) if self.full => {
+            (IDLE, IDLE, _) => b"a full collection",
+            (IDLE, _, _) => b"marking begins",
+            (MARKING, EVACUATION, _) => b"marking ends, evacuation begins",
+            (MARKING, _, false) => b"marking ends, no region is chosen",
+            (MARKING, _, true) if self.full => {
                 b"marking ends, the cycle is finished, then a full collection"
             }
-            (1, _, true) => b"marking ends, the cycle is finished",
-            (2, 3, _) => b"updating begins",
-            (3, _, false) => b"updating ends, the set is freed",
+            (MARKING, _, true) => b"marking ends, the cycle is finished",
+            (EVACUATION, UPDATING, _) => b"updating begins",
+            (UPDATING, _, false) => b"updating ends, the set is freed",
             _ if self.full => b"the cycle is finished, then a full collection",
             _ => b"the cycle is finished",
         }
@@ -277,7 +278,7 @@ fn put_some(row: &mut Row, number: u64, thing: &[u8], what: &[u8]) {
 // Puts why a pause was made.
 fn put_cause(row: &mut Row, told: &Told) {
     row.put(told.cause.text());
-    if told.no_room && told.before == 2 {
+    if told.no_room && told.before == EVACUATION {
         row.put(b", a copier found no room");
     }
     if told.waits && !matches!(told.cause, Cause::Waits) {
@@ -294,7 +295,7 @@ pub fn put_pause(row: &mut Row, config: Config, told: &Told) {
     row.put(told.deed());
     row.put_with(b"; phase ", told.before);
     row.put_with(b" to ", told.after);
-    if told.set > 0 && told.after == 2 {
+    if told.set > 0 && told.after == EVACUATION {
         row.put(b"; set ");
         put_regions(row, config, told.set);
     }

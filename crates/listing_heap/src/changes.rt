@@ -3,6 +3,7 @@
 use crate::heap::{
     SLOTS, phase, pin_word, put_fields, put_heap, put_phase, put_pins, put_region, put_roots,
 };
+use heap_words::phase::IDLE;
 use heap_words::refs_of;
 use listing::{Row, Table, heap_word, piece_at, region_of_buffer, shared_region, top, used};
 use regions::mark_words;
@@ -37,7 +38,7 @@ impl Change<'_> {
     // Whether the line of the state says something else.
     fn has_state(&self) -> bool {
         let config = self.after.config();
-        phase(self.after) > 0
+        phase(self.after) != IDLE
             && (self.is_new(config.claim_at())
                 || self.is_new(config.evac_at())
                 || self.is_new(config.ask_at()))

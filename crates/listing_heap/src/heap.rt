@@ -70,7 +70,7 @@ fn put_object(row: &mut Row, table: &Table, at: u64, words: u64) {
     row.put(b"(");
     row.put_number(words);
     row.put(b")");
-    if phase(table) > 0 {
+    if phase(table) != IDLE {
         if is_black(table, at) {
             row.put(b"*");
         } else if is_grey(table, at) {
@@ -414,7 +414,7 @@ pub fn put_heap<K: Sink>(
     bars: bool,
 ) {
     let config = table.config();
-    if phase(table) > 0 {
+    if phase(table) != IDLE {
         put_phase(row, block, sink, table);
     }
     for region in 0..config.regions() {

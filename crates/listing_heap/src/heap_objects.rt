@@ -1,6 +1,7 @@
 //! The heap as an object of JSON.
 
 use crate::heap::{SLOTS, has_pins, is_black, is_grey, live_and_garbage, phase, pin_word};
+use heap_words::phase::EVACUATION;
 use heap_words::{forwarded, forwardee};
 use listing::{
     Kind, Piece, Reading, Row, Table, base, heap_word, json_field_lists, json_flag, json_key,
@@ -140,7 +141,7 @@ fn json_region<K: Sink>(
         let start = table.word(config.tams_at(region));
         json_number(row, b"mark_start", start);
         json_number(row, b"limit", table.word(config.limit_at(region)));
-        if phase(table) > 1 {
+        if phase(table) >= EVACUATION {
             let (live, garbage) = live_and_garbage(table, region, start);
             json_number(row, b"live", live);
             json_number(row, b"garbage", garbage);

@@ -7,7 +7,8 @@ use Rattle.load_barrier.specs.Rows.{is_resolved}
 use Rattle.load_barrier.specs.Fit as resolve
 use Rattle.load_barrier.specs.declared.evac_spot.EvacSpot.{EvacSpot}
 use Rattle.load_barrier.specs.declared.evac_spot.EvacSpot.TheVariants.{LoadClaim, ClaimUnit, LoadTop, LoadFirst, LoadShape, LoadMark, Resolving, Ended}
-use Rattle.load_barrier.specs.UnitRows.{copy_phase, next_at}
+use Rattle.heap_words.specs.Phases.{evacuation_phase}
+use Rattle.load_barrier.specs.UnitRows.{next_at}
 
 -- whether the header and the shape of an object at an address lie in the heap
 abbrev pub has_shape : Config → ℕ → Bool
@@ -35,7 +36,7 @@ is_ready c seat (Ended unit) = true
 -- the word is fit for the part: a top is at most the words of a region, and a resolving can go on
 abbrev pub PartFit : Config → ℕ → EvacSpot → ℕ → Type 0
 PartFit c seat (LoadTop region) got = nat_le got c.region_words ≡ true
-PartFit c seat (Resolving address end next at) got = resolve.IsFit c seat address copy_phase at got
+PartFit c seat (Resolving address end next at) got = resolve.IsFit c seat address evacuation_phase at got
 PartFit c seat _ got = ⊤
 
 -- the word is fit: the access that follows can be made

@@ -21,10 +21,6 @@ use Rattle.load_barrier.specs.Rows as resolves
 use Rattle.load_barrier.specs.declared.evac_spot.EvacSpot.{EvacSpot}
 use Rattle.load_barrier.specs.declared.evac_spot.EvacSpot.TheVariants.{LoadClaim, ClaimUnit, LoadTop, LoadFirst, LoadShape, LoadMark, Resolving, Ended}
 
--- the phase in which objects are copied
-abbrev pub copy_phase : ℕ
-copy_phase = evacuation_phase
-
 -- whether a set has a region
 abbrev pub is_in_set : ℕ → ℕ → Bool
 is_in_set cset region = bit_at cset region == 1
@@ -35,7 +31,7 @@ lies_in_set c cset address = is_in_set cset (region_with c address)
 
 -- Whether a value that was loaded has to be resolved: not null, and not where objects do not move, nor outside the collection set.
 abbrev pub must_resolve : Config → ℕ → ℕ → ℕ → Bool
-must_resolve c phase cset value = if value == 0 then false else (if nat_lt phase copy_phase then false else lies_in_set c cset value)
+must_resolve c phase cset value = if value == 0 then false else (if nat_lt phase evacuation_phase then false else lies_in_set c cset value)
 
 -- the place of the next access. There is none at the end, where it is named as that of the claim
 abbrev pub place_at : EvacSpot → Place
@@ -92,7 +88,7 @@ next_at c cset (LoadTop region) got = walk_on (base_of c region) (base_of c regi
 next_at c cset (LoadFirst address end) got = after_first address end got
 next_at c cset (LoadShape address end) got = LoadMark address end (address + object_words got)
 next_at c cset (LoadMark address end next) got = after_mark c address end next got
-next_at c cset (Resolving address end next at) got = after_resolve c cset address end next (resolves.next_at c address copy_phase at got)
+next_at c cset (Resolving address end next at) got = after_resolve c cset address end next (resolves.next_at c address evacuation_phase at got)
 next_at c cset (Ended unit) got = Ended unit
 
 -- whether the unit is done, or none was left
@@ -114,5 +110,5 @@ says_by _ next = says_of next
 abbrev pub says_at : Config → ℕ → EvacSpot → ℕ → Took
 says_at c cset (ClaimUnit unit) got = if got == unit then says_of (after_claim cset unit) else Again
 says_at c cset (Resolving address end next at) got =
-    says_by (resolves.says_at c address copy_phase at got) (after_resolve c cset address end next (resolves.next_at c address copy_phase at got))
+    says_by (resolves.says_at c address evacuation_phase at got) (after_resolve c cset address end next (resolves.next_at c address evacuation_phase at got))
 says_at c cset spot got = says_of (next_at c cset spot got)

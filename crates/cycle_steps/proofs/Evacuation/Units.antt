@@ -25,7 +25,8 @@ use Rattle.load_barrier.specs.declared.spot.ResolveSpot.TheVariants.{LoadHeader,
 use Rattle.load_barrier.specs.Rows as resolves
 use Rattle.load_barrier.specs.declared.evac_spot.EvacSpot.{EvacSpot}
 use Rattle.load_barrier.specs.declared.evac_spot.EvacSpot.TheVariants.{LoadClaim, ClaimUnit, LoadTop, LoadFirst, LoadShape, LoadMark, Resolving, Ended}
-use Rattle.load_barrier.specs.UnitRows.{copy_phase, touch_at, is_ended, walk_on, after_claim, after_words, after_resolve, is_in_set, lies_in_set}
+use Rattle.heap_words.specs.Phases.{evacuation_phase}
+use Rattle.load_barrier.specs.UnitRows.{touch_at, is_ended, walk_on, after_claim, after_words, after_resolve, is_in_set, lies_in_set}
 use Rattle.cycle_steps.specs.Resolving.Facts.{CanResolve}
 use Rattle.cycle_steps.specs.Resolving.Laws.{ResolvingSteps}
 use Rattle.cycle_steps.specs.Evacuation.Facts.{working_of, IsSwept, IsWalkedTo, HasNothing, WorkFacts, CanEvacuate}
@@ -289,7 +290,7 @@ module _ (resolving : ResolvingSteps) (c : Config) (u : World) (seat cset : ℕ)
 
   -- The address is resolved: with an answer in the set there was no room, and with another the object is forwarded.
   answered : (address end next : ℕ) (at : ResolveSpot) (answer : ℕ) (w : World) → IsBase c u seat cset (Resolving address end next at) w → CanEvacuate c u seat cset (Resolving address end next at)
-      → resolves.next_at c address copy_phase at (u.memory (resolves.touch_at c seat address at).word) ≡ Resolved answer → CanResolve c w seat address (Resolved answer)
+      → resolves.next_at c address evacuation_phase at (u.memory (resolves.touch_at c seat address at).word) ≡ Resolved answer → CanResolve c w seat address (Resolved answer)
       → UnitStep c u seat cset (Resolving address end next at)
   answered address end next at answer w base can leads resolved =
       let spot : EvacSpot = Resolving address end next at in
@@ -309,7 +310,7 @@ module _ (resolving : ResolvingSteps) (c : Config) (u : World) (seat cset : ℕ)
 
   -- a step of the resolving
   resolves_on : (address end next : ℕ) (at more : ResolveSpot) (w : World) → IsBase c u seat cset (Resolving address end next at) w → CanEvacuate c u seat cset (Resolving address end next at)
-      → resolves.next_at c address copy_phase at (u.memory (resolves.touch_at c seat address at).word) ≡ more → CanResolve c w seat address more
+      → resolves.next_at c address evacuation_phase at (u.memory (resolves.touch_at c seat address at).word) ≡ more → CanResolve c w seat address more
       → UnitStep c u seat cset (Resolving address end next at)
   resolves_on address end next at (Resolved answer) w base can leads resolves = answered address end next at answer w base can leads resolves
   resolves_on address end next at more w base can leads resolves =
@@ -319,7 +320,7 @@ module _ (resolving : ResolvingSteps) (c : Config) (u : World) (seat cset : ℕ)
   at_resolving : (address end next : ℕ) (at : ResolveSpot) → Shared c u → CanEvacuate c u seat cset (Resolving address end next at) → UnitStep c u seat cset (Resolving address end next at)
   at_resolving address end next at shared can =
       let step = resolving.each c u seat address (Some (region_with c address)) at can.facts.0 shared (record { resolves = can.facts.1; working = can.working }) in
-      resolves_on address end next at (resolves.next_at c address copy_phase at (u.memory (resolves.touch_at c seat address at).word)) step.world
+      resolves_on address end next at (resolves.next_at c address evacuation_phase at (u.memory (resolves.touch_at c seat address at).word)) step.world
       (record { memory = step.memory; graph = step.graph; shared = step.shared; keeps = step.keeps; others = step.others; working = step.own.working }) can refl step.own.resolves
 
   -- each step

@@ -20,7 +20,7 @@ use Rattle.load_barrier.specs.declared.spot.ResolveSpot.TheVariants.{Entering, R
 use Rattle.load_barrier.specs.Rows.{touch_at, next_at, after_header}
 use Rattle.load_barrier.specs.Fit.{is_ready}
 use Rattle.load_barrier.specs.Alone.{is_copier}
-use Rattle.load_barrier.specs.UnitRows.{copy_phase}
+use Rattle.heap_words.specs.Phases.{evacuation_phase}
 use Rattle.load_barrier.proofs.Knows.{header_forwarded, header_names}
 use Rattle.cycle_steps.specs.Resolving.Facts.{IsAnswer, HasMovedTo, ResolveFacts, IsResolvingRoom}
 use Rattle.cycle_steps.specs.Resolving.Laws.{CanResolveFor, ResolveStep}
@@ -64,7 +64,7 @@ module _ (c : Config) (u : World) (seat a : ℕ) (unit : Option ℕ) (shared : S
   abbrev pub StepTo : ResolveSpot → ResolveSpot → Type 0
   StepTo at next = PartStep c u seat (touch_at c seat a at) (λ w. CanResolveFor c w seat a unit next)
 
-  pub leads_to : (at next : ResolveSpot) → next_at c a copy_phase at (u.memory (touch_at c seat a at).word) ≡ next → StepTo at next → ResolveStep c u seat a unit at
+  pub leads_to : (at next : ResolveSpot) → next_at c a evacuation_phase at (u.memory (touch_at c seat a at).word) ≡ next → StepTo at next → ResolveStep c u seat a unit at
   leads_to at next leads step = subst (λ n. StepTo at n) (sym leads) step
 
   -- what it counts on elsewhere in the same world
@@ -111,7 +111,7 @@ module _ (c : Config) (u : World) (seat a : ℕ) (unit : Option ℕ) (shared : S
   answer_word b to is = piece_begins c u shared to (thing b.name b.refs b.nums) (shared.evacuated.moved.moveds a b.refs b.nums to b.name is).copy (omega arith)
 
   -- what the header that leads to a copy is answered by
-  pub leads_header : (to : ℕ) → after_header a copy_phase (header_word to) ≡ Resolved to
+  pub leads_header : (to : ℕ) → after_header a evacuation_phase (header_word to) ≡ Resolved to
   leads_header to = cond-true (is_forwarded (header_word to)) (Resolved (forwardee_in (header_word to))) (Entering Look) (header_forwarded to) ∙ ap (λ x. Resolved x) (header_names to)
 
   -- what it counts on after a step of the counter

@@ -15,7 +15,7 @@ use Rattle.heap_world.proofs.Keeping.{load_keeps}
 use Rattle.heap_world.proofs.Pointing.{copy_cases}
 use Rattle.load_barrier.specs.declared.spot.ResolveSpot.TheVariants.{LoadHeader, Entering, LoadShape, Taking, LoadAgain, Resolved}
 use Rattle.load_barrier.specs.Rows.{after_header, after_enter}
-use Rattle.load_barrier.specs.UnitRows.{copy_phase}
+use Rattle.heap_words.specs.Phases.{evacuation_phase}
 use Rattle.cycle_steps.specs.Resolving.Facts.{IsAnswer}
 use Rattle.cycle_steps.specs.Resolving.Laws.{CanResolveFor, ResolveStep}
 use Rattle.cycle_steps.proofs.Resolving.Bodies.{body_long, body_small, body_lies, piece_word_is, piece_begins, copy_piece, markable_piece}
@@ -29,13 +29,13 @@ module _ (c : Config) (u : World) (seat a : ℕ) (unit : Option ℕ) (shared : S
     where
       answered : (to : ℕ) → u.memory (Heap a) ≡ header_word to → is_word c (Heap to) ≡ true → IsAnswer c u a to → ResolveStep c u seat a unit LoadHeader
       answered to header inside answer =
-          steps.leads_to c u seat a unit shared LoadHeader (Resolved to) (ap (after_header a copy_phase) header ∙ steps.leads_header c u seat a unit shared to)
+          steps.leads_to c u seat a unit shared LoadHeader (Resolved to) (ap (after_header a evacuation_phase) header ∙ steps.leads_header c u seat a unit shared to)
           (steps.looked c u seat a unit shared LoadHeader (Resolved to) (load_keeps u.memory (Heap a)) (steps.can_at c u seat a unit shared LoadHeader (Resolved to) can refl (λ d x room. room) inside answer))
 
       by_copy : HasCopy u.block a → ResolveStep c u seat a unit LoadHeader
       by_copy (HasCopy.copy b is) = ⊎_elim
           (λ current.
-          steps.leads_to c u seat a unit shared LoadHeader (Entering Look) (ap (after_header a copy_phase) (steps.header_plain c u seat a unit shared b current))
+          steps.leads_to c u seat a unit shared LoadHeader (Entering Look) (ap (after_header a evacuation_phase) (steps.header_plain c u seat a unit shared b current))
           (steps.looked c u seat a unit shared LoadHeader (Entering Look) (load_keeps u.memory (Heap a)) (steps.can_at c u seat a unit shared LoadHeader (Entering Look) can refl (λ d x room. room) refl (b, is, tt))))
           (λ old. answered old.0 (steps.header_leads c u seat a unit shared b old.0 old.1) (steps.answer_word c u seat a unit shared b old.0 old.1) (moved_answer c u a old.0 b shared old.1))
           (copy_cases (u.block a) b is)

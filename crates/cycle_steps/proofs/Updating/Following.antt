@@ -24,7 +24,8 @@ use Rattle.cycle_steps.proofs.Resolving.Bodies.{copy_piece, piece_begins}
 use Rattle.cycle_steps.proofs.Resolving.Stays.{answer_stays}
 use Rattle.cycle_steps.proofs.Resolving.Common.{moved_answer}
 use Rattle.cycle_steps.specs.Updating.Following.{FollowFacts, CanFollow}
-use Rattle.cycle_steps.specs.Updating.Laws.{update_phase, FollowStep, FollowingSteps}
+use Rattle.heap_words.specs.Phases.{updating_phase}
+use Rattle.cycle_steps.specs.Updating.Laws.{FollowStep, FollowingSteps}
 
 module _ (c : Config) (u : World) (seat a : ℕ) (shared : Shared c u) where
   -- a copy in the set is an old one
@@ -35,10 +36,10 @@ module _ (c : Config) (u : World) (seat a : ℕ) (shared : Shared c u) where
       (copy_cases (u.block a) b is)
 
   -- where its header leads
-  leads_there : (b : Body) (to : ℕ) → HasMovedTo u a b to → after_header a update_phase (u.memory (Heap a)) ≡ Resolved to
+  leads_there : (b : Body) (to : ℕ) → HasMovedTo u a b to → after_header a updating_phase (u.memory (Heap a)) ≡ Resolved to
   leads_there b to is =
-      ap (after_header a update_phase) (shared.evacuated.moved.moveds a b.refs b.nums to b.name is).header
-      ∙ cond-true (is_forwarded (header_word to)) (Resolved (forwardee_in (header_word to))) (if update_phase == 3 then Resolved a else Entering Look) (header_forwarded to)
+      ap (after_header a updating_phase) (shared.evacuated.moved.moveds a b.refs b.nums to b.name is).header
+      ∙ cond-true (is_forwarded (header_word to)) (Resolved (forwardee_in (header_word to))) (if updating_phase == 3 then Resolved a else Entering Look) (header_forwarded to)
       ∙ ap (λ x. Resolved x) (header_names to)
 
   -- the load of the header
@@ -170,7 +171,7 @@ following_steps = record {
   stays = λ c u w seat a at shared rely can. can_follow_stays c u w seat a shared rely at can;
   fits = λ c u seat a at going shared can.
       let step = each_follow c u seat a shared at going can in
-      (follow_ready c step.world seat a step.shared (next_at c a update_phase at (u.memory (touch_at c seat a at).word)) step.own, leaves_fit c u seat a shared at (u.memory (touch_at c seat a at).word) can);
+      (follow_ready c step.world seat a step.shared (next_at c a updating_phase at (u.memory (touch_at c seat a at).word)) step.own, leaves_fit c u seat a shared at (u.memory (touch_at c seat a at).word) can);
   inside = λ c u seat a at shared can. follow_inside c u seat a shared at can;
   ready = λ c u seat a at shared can. follow_ready c u seat a shared at can;
   copies_none = λ c u seat a at can. follows_uncounted c u seat a at can;

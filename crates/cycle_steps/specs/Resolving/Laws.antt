@@ -9,7 +9,6 @@ use Rattle.steps_base.specs.Touch.{loads}
 use Rattle.heap_world.specs.World.{World, Body, body_at, body_words, IsCollected, HasCopy, Shared, TargetIn}
 use Rattle.heap_world.specs.Rely.{KeepsCopies, Rely}
 use Rattle.heap_world.specs.Part.{PartStep}
-use Rattle.load_barrier.specs.UnitRows.{copy_phase}
 use Rattle.load_barrier.specs.declared.spot.ResolveSpot.{ResolveSpot}
 use Rattle.load_barrier.specs.declared.spot.ResolveSpot.TheVariants.{LoadHeader, Copying, Resolved}
 use Rattle.load_barrier.specs.declared.copying.CopySpot.TheVariants.{Publish}
@@ -25,7 +24,7 @@ pub record CanResolveFor (c : Config) (w : World) (seat a : ℕ) (unit : Option 
 
 -- what a step of a machine that resolves an address owes
 abbrev pub ResolveStep : Config → World → (seat a : ℕ) → Option ℕ → ResolveSpot → Type 0
-ResolveStep c u seat a unit at = PartStep c u seat (touch_at c seat a at) (λ w. CanResolveFor c w seat a unit (next_at c a copy_phase at (u.memory (touch_at c seat a at).word)))
+ResolveStep c u seat a unit at = PartStep c u seat (touch_at c seat a at) (λ w. CanResolveFor c w seat a unit (next_at c a evacuation_phase at (u.memory (touch_at c seat a at).word)))
 
 -- A machine that resolves an address finds the object's current copy, or makes it. Its accesses to words of copies are loads, but for the
 -- exchange that publishes a copy, on the object's header.
@@ -34,7 +33,7 @@ pub record ResolvingSteps : Type 0 where
       → u.ghost.copying seat ≡ false → u.ghost.recording seat ≡ None → u.ghost.scanning seat ≡ None → OnlySpares u seat → CanResolve c u seat a LoadHeader
   pub each : (c : Config) (u : World) (seat a : ℕ) (unit : Option ℕ) (at : ResolveSpot) → is_resolved at ≡ false → Shared c u → CanResolveFor c u seat a unit at → ResolveStep c u seat a unit at
   pub stays : (c : Config) (u w : World) (seat a : ℕ) (at : ResolveSpot) → Shared c u → Rely c seat u w → CanResolve c u seat a at → CanResolve c w seat a at
-  pub fits : (c : Config) (u : World) (seat a : ℕ) (at : ResolveSpot) → is_resolved at ≡ false → Shared c u → CanResolve c u seat a at → IsFit c seat a copy_phase at (u.memory (touch_at c seat a at).word)
+  pub fits : (c : Config) (u : World) (seat a : ℕ) (at : ResolveSpot) → is_resolved at ≡ false → Shared c u → CanResolve c u seat a at → IsFit c seat a evacuation_phase at (u.memory (touch_at c seat a at).word)
   pub inside : (c : Config) (u : World) (seat a : ℕ) (at : ResolveSpot) → Shared c u → CanResolve c u seat a at → IsWord c (touch_at c seat a at).word
   pub spares : (c : Config) (u : World) (seat a : ℕ) (at : ResolveSpot) (d k : ℕ) (b : Body) → Shared c u → CanResolve c u seat a at → body_at (u.block d) ≡ Some b → k < body_words b
       → (touch_at c seat a at).word ≡ Heap (d + k) → ((touch_at c seat a at).form ≡ loads) ⊎ ((copy : ℕ) × (end : ℕ) × (at ≡ Copying copy end Publish) × (d ≡ a) × (k ≡ 0))

@@ -45,14 +45,10 @@ pub record UpdatingSteps : Type 0 where
   pub spares : (c : Config) (u : World) (seat cset : ℕ) (at : UpdateSpot) (d k : ℕ) (b : Body) → Shared c u → CanUpdate c u seat cset at → body_at (u.block d) ≡ Some b
       → IsCollected c (u.memory Cset) d → k < body_words b → (touch_at c at).word ≡ Heap (d + k) → (touch_at c at).form ≡ loads
 
--- the rows of resolving while references are updated
-abbrev pub update_phase : ℕ
-update_phase = updating_phase
-
 -- what a step of a machine that resolves an address owes then
 abbrev pub FollowStep : Config → World → (seat a : ℕ) → ResolveSpot → Type 0
 FollowStep c u seat a at =
-    PartStep c u seat (resolves.touch_at c seat a at) (λ w. CanFollow c w seat a (resolves.next_at c a update_phase at (u.memory (resolves.touch_at c seat a at).word)))
+    PartStep c u seat (resolves.touch_at c seat a at) (λ w. CanFollow c w seat a (resolves.next_at c a updating_phase at (u.memory (resolves.touch_at c seat a at).word)))
 
 -- A machine that resolves an address while references are updated finds the object's current copy by one load of the header, and makes no
 -- other access.
@@ -62,7 +58,7 @@ pub record FollowingSteps : Type 0 where
   pub each : (c : Config) (u : World) (seat a : ℕ) (at : ResolveSpot) → resolves.is_resolved at ≡ false → Shared c u → CanFollow c u seat a at → FollowStep c u seat a at
   pub stays : (c : Config) (u w : World) (seat a : ℕ) (at : ResolveSpot) → Shared c u → Rely c seat u w → CanFollow c u seat a at → CanFollow c w seat a at
   pub fits : (c : Config) (u : World) (seat a : ℕ) (at : ResolveSpot) → resolves.is_resolved at ≡ false → Shared c u → CanFollow c u seat a at
-      → resolve.IsFit c seat a update_phase at (u.memory (resolves.touch_at c seat a at).word)
+      → resolve.IsFit c seat a updating_phase at (u.memory (resolves.touch_at c seat a at).word)
   pub inside : (c : Config) (u : World) (seat a : ℕ) (at : ResolveSpot) → Shared c u → CanFollow c u seat a at → IsWord c (resolves.touch_at c seat a at).word
   pub ready : (c : Config) (u : World) (seat a : ℕ) (at : ResolveSpot) → Shared c u → CanFollow c u seat a at → resolve.is_ready c seat a at ≡ true
   pub copies_none : (c : Config) (u : World) (seat a : ℕ) (at : ResolveSpot) → CanFollow c u seat a at → is_copier at ≡ false

@@ -3,6 +3,7 @@ use Rattle.std.specs.Prelude.{ℕ, ◌≡◌, ◌≢◌, ◌+◌, ◌<◌, ◌�
 use Rattle.heap_words.specs.declared.config.Config.{Config}
 use Rattle.heap_words.specs.Words.{Word, Cset, Top, Tams, Count, Buffer, Grey, Black, Heap}
 use Rattle.heap_words.specs.Encoding.{refs_in, shape_word}
+use Rattle.heap_words.specs.Phases.{marking_phase}
 use Rattle.shen_graph.specs.declared.name.Name.{Name}
 use Rattle.shen_graph.specs.Graph.{Object}
 use Rattle.heap_world.specs.World.{Plot, Ghost, thing, AreObjects, KeepsSnapshot}
@@ -30,7 +31,7 @@ CanBeReached c memory = IsLedTo (now_in memory) (λ a. memory (Heap a)) (IsAmong
 pub record IsMarking (c : Config) (memory : Word → ℕ) (block : Plot) : Type 0 where
   pub ghost : Ghost
   pub object : Name → Option Object
-  pub marked : KeepsSnapshot c 1 (λ n. memory (Grey n)) (λ n. memory (Black n)) (λ t. memory (Count t)) (λ t k. memory (Buffer t k)) (λ r. memory (Top r)) (λ r. memory (Tams r))
+  pub marked : KeepsSnapshot c marking_phase (λ n. memory (Grey n)) (λ n. memory (Black n)) (λ t. memory (Count t)) (λ t k. memory (Buffer t k)) (λ r. memory (Top r)) (λ r. memory (Tams r))
       (λ a. memory (Heap a)) block ghost.snapshot ghost.recording ghost.scanning
   pub unmarking : NobodyMarks c ghost
   pub objects : AreObjects (λ a. memory (Heap a)) block object

@@ -19,7 +19,8 @@ use Rattle.mutator.specs.declared.shows.ShowSpot.TheVariants as show
 use Rattle.mutator.specs.declared.spot.Kept.{Kept}
 use Rattle.mutator.specs.Commands.{dst_of, index_of}
 use Rattle.mutator.specs.declared.resolves.Loaded.TheVariants.{ToCompare}
-use Rattle.load_barrier.specs.UnitRows.{copy_phase, lies_in_set}
+use Rattle.heap_words.specs.Phases.{evacuation_phase}
+use Rattle.load_barrier.specs.UnitRows.{lies_in_set}
 use Rattle.mutator.specs.Rows.{Mutating, name_in, with_loaded}
 use Rattle.mutator.specs.Told.{name_the_same}
 use Rattle.mutator.specs.Fit.{is_ready}
@@ -125,7 +126,7 @@ module _ (c : Config) (u : World) (seat made : ℕ) (kept : Kept) (command : Com
       (λ (null : (got == 0) ≡ true).
       let zero_got : got ≡ 0 = eqb-true _ _ null in
       let other : (got == expect) ≡ false = same_words c u shared got expect v _ (inl zero_got) cas.expect_is.usable is cas.expect_is.stands ∙ differs in
-      rw (cond-true (got == 0) false (if nat_lt kept.phase copy_phase then false else lies_in_set c kept.cset got) null, other)
+      rw (cond-true (got == 0) false (if nat_lt kept.phase evacuation_phase then false else lies_in_set c kept.cset got) null, other)
       (leaving c _ seat made kept command reply.No mine.seated (mine.marking.records, mine.marking.scans, mine.copying.copies_is, mine.copying.works_none) mine.roots mine.rooms))
       (λ (some : (got == 0) ≡ false).
       compared_mine c u seat made kept command shared mine.seated mine.marking mine.copying mine.rooms (Some reply.No) object expect value got v cas

@@ -15,7 +15,8 @@ use Rattle.shen_graph.specs.Graph.{Reference, same_reference}
 use Rattle.shen_graph.specs.Step.{shown}
 use Rattle.load_barrier.specs.declared.spot.ResolveSpot.{ResolveSpot}
 use Rattle.load_barrier.specs.declared.spot.ResolveSpot.TheVariants.{LoadHeader, Resolved}
-use Rattle.load_barrier.specs.UnitRows.{copy_phase, must_resolve, lies_in_set}
+use Rattle.heap_words.specs.Phases.{evacuation_phase}
+use Rattle.load_barrier.specs.UnitRows.{must_resolve, lies_in_set}
 use Rattle.load_barrier.specs.UnitFit.{resolve_ready}
 use Rattle.load_barrier.specs.Alone.{is_copier}
 use Rattle.load_barrier.specs.Rows as resolves
@@ -51,14 +52,14 @@ lies_there c cset a is = eqb-true _ _ is
 -- what has to be resolved is not null, lies in the collection set, and objects are copied or references to them updated
 pub resolved_some : (c : Config) (phase cset got : ℕ) → must_resolve c phase cset got ≡ true → (got ≢ 0) × (2 ≤ phase) × IsCollected c cset got
 resolved_some c phase cset got is = ⊎_elim
-    (λ (null : (got == 0) ≡ true). absurd (false≢true (sym (cond-true (got == 0) false (if nat_lt phase copy_phase then false else lies_in_set c cset got) null) ∙ is)))
+    (λ (null : (got == 0) ≡ true). absurd (false≢true (sym (cond-true (got == 0) false (if nat_lt phase evacuation_phase then false else lies_in_set c cset got) null) ∙ is)))
     (λ (some : (got == 0) ≡ false).
-    let rest : (if nat_lt phase copy_phase then false else lies_in_set c cset got) ≡ true = sym (cond-false (got == 0) false (if nat_lt phase copy_phase then false else lies_in_set c cset got) some) ∙ is in
+    let rest : (if nat_lt phase evacuation_phase then false else lies_in_set c cset got) ≡ true = sym (cond-false (got == 0) false (if nat_lt phase evacuation_phase then false else lies_in_set c cset got) some) ∙ is in
     ⊎_elim
-    (λ (early : nat_lt phase copy_phase ≡ true). absurd (false≢true (sym (cond-true (nat_lt phase copy_phase) false (lies_in_set c cset got) early) ∙ rest)))
-    (λ (late : nat_lt phase copy_phase ≡ false).
-    (eqb-false _ _ some, ltb-false _ _ late, lies_there c cset got (sym (cond-false (nat_lt phase copy_phase) false (lies_in_set c cset got) late) ∙ rest)))
-    (cases_Bool (nat_lt phase copy_phase)))
+    (λ (early : nat_lt phase evacuation_phase ≡ true). absurd (false≢true (sym (cond-true (nat_lt phase evacuation_phase) false (lies_in_set c cset got) early) ∙ rest)))
+    (λ (late : nat_lt phase evacuation_phase ≡ false).
+    (eqb-false _ _ some, ltb-false _ _ late, lies_there c cset got (sym (cond-false (nat_lt phase evacuation_phase) false (lies_in_set c cset got) late) ∙ rest)))
+    (cases_Bool (nat_lt phase evacuation_phase)))
     (cases_Bool (got == 0))
 
 -- what needs no resolving is null, or objects are not copied yet, or it does not lie in the set
@@ -66,11 +67,11 @@ pub resolved_none : (c : Config) (phase cset got : ℕ) → must_resolve c phase
 resolved_none c phase cset got is = ⊎_elim
     (λ (null : (got == 0) ≡ true). inl (eqb-true _ _ null))
     (λ (some : (got == 0) ≡ false).
-    let rest : (if nat_lt phase copy_phase then false else lies_in_set c cset got) ≡ false = sym (cond-false (got == 0) false (if nat_lt phase copy_phase then false else lies_in_set c cset got) some) ∙ is in
+    let rest : (if nat_lt phase evacuation_phase then false else lies_in_set c cset got) ≡ false = sym (cond-false (got == 0) false (if nat_lt phase evacuation_phase then false else lies_in_set c cset got) some) ∙ is in
     ⊎_elim
-    (λ (early : nat_lt phase copy_phase ≡ true). inr (inl (ltb-true _ _ early)))
-    (λ (late : nat_lt phase copy_phase ≡ false). inr (inr (eqb-false _ _ (sym (cond-false (nat_lt phase copy_phase) false (lies_in_set c cset got) late) ∙ rest))))
-    (cases_Bool (nat_lt phase copy_phase)))
+    (λ (early : nat_lt phase evacuation_phase ≡ true). inr (inl (ltb-true _ _ early)))
+    (λ (late : nat_lt phase evacuation_phase ≡ false). inr (inr (eqb-false _ _ (sym (cond-false (nat_lt phase evacuation_phase) false (lies_in_set c cset got) late) ∙ rest))))
+    (cases_Bool (nat_lt phase evacuation_phase)))
     (cases_Bool (got == 0))
 
 -- a phase that is neither 0 nor 1 is 2 or 3
