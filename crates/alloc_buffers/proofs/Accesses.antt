@@ -10,7 +10,7 @@ use Rattle.heap_words.specs.declared.access.Took.TheVariants.{Again}
 use Rattle.heap_words.specs.Encoding.{next_in, end_in}
 use Rattle.heap_words.specs.Words.{Word, Free, Top, Current, Heap, Share, same_word, is_image}
 use Rattle.heap_words.proofs.Stores.{same_word_true}
-use Rattle.steps_base.specs.Touch.{touched}
+use Rattle.heap_words.specs.Touch.{touched}
 use Rattle.alloc_buffers.specs.declared.spot.Kind.{Kind}
 use Rattle.alloc_buffers.specs.declared.spot.TakeSpot.{TakeSpot}
 use Rattle.alloc_buffers.specs.declared.spot.TakeSpot.TheVariants.{LoadBuffer, LoadShared, LoadTop, Carve, LoadFree, TakeRegion, ShareRegion, GiveBack, Fill, StoreBuffer, Ended}

@@ -5,7 +5,7 @@ use Rattle.std.proofs.lemmas.Option.{same_Some}
 use Rattle.heap_words.specs.declared.config.Config.{Config}
 use Rattle.heap_words.specs.Encoding.{next_in, end_in, buffer_word}
 use Rattle.heap_words.specs.Words.{Cset, Top, Current, Heap, write}
-use Rattle.steps_base.specs.Touch.{touch, stores}
+use Rattle.heap_words.specs.Touch.{touch, stores}
 use Rattle.regions.specs.Place.{base_of, IsOf}
 use Rattle.regions.proofs.PlaceLemmas.{regions_tile}
 use Rattle.heap_world.specs.World.{World, Block, Plot, hand, filler, spare, carved, room_of, is_loose, IsInUse, IsBuffer, AreBuffers, Shared}

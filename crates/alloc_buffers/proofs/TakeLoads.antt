@@ -12,7 +12,7 @@ use Rattle.heap_world.proofs.FreeRegions.{lowest_within}
 use Rattle.alloc_buffers.specs.declared.spot.Kind.{Kind}
 use Rattle.alloc_buffers.specs.declared.spot.Taken.TheVariants.{NoRoom}
 use Rattle.alloc_buffers.specs.declared.spot.TakeSpot.TheVariants.{LoadBuffer, LoadShared, LoadTop, Carve, LoadFree, TakeRegion, StoreBuffer, Ended}
-use Rattle.steps_base.specs.Fits.{touch_fits}
+use Rattle.heap_words.specs.Fits.{touch_fits}
 use Rattle.alloc_buffers.specs.Rows.{touch_at, has_free, has_room, has_none, carved_words, kept_back, free_words}
 use Rattle.alloc_buffers.specs.Facts.{CanTake}
 use Rattle.alloc_buffers.proofs.TakeSteps.{TakeStep, looked, left_of, buffer_small, spare_is_next, store_ready}

@@ -6,7 +6,7 @@ use Rattle.std.proofs.lemmas.Bool.{cases_eq, cases_Bool, cond-true, cond-false, 
 use Rattle.std.proofs.lemmas.Option.{none-some, same_Some}
 use Rattle.heap_words.specs.declared.config.Config.{Config}
 use Rattle.heap_words.specs.Words.{Word, Phase, Cset, Free, Evac, Claim, Top, Tams, Black, Heap, Share, write}
-use Rattle.steps_base.specs.Touch.{touched}
+use Rattle.heap_words.specs.Touch.{touched}
 use Rattle.regions.specs.Sets.{IsIn, all_but}
 use Rattle.heap_world.specs.World.{World, IsOpen, IsEvacuating, Shared}
 use Rattle.heap_world.proofs.Updates.{updated, updated_there, updated_else}

@@ -8,7 +8,7 @@ use Rattle.heap_words.specs.declared.config.Config.{Config}
 use Rattle.heap_words.specs.Ranges.{seat_count}
 use Rattle.heap_words.specs.Encoding.{next_in, end_in, buffer_word}
 use Rattle.heap_words.specs.Words.{Word, Top, Current, write}
-use Rattle.steps_base.specs.Touch.{touch, exchanges, touched}
+use Rattle.heap_words.specs.Touch.{touch, exchanges, touched}
 use Rattle.regions.specs.Place.{base_of}
 use Rattle.heap_world.specs.World.{World, Block, spare, carved, room_of, words_of, Plot, IsPlotted, Shared}
 use Rattle.heap_world.specs.Part.{PartStep, SameWork}

@@ -8,8 +8,8 @@ use Rattle.heap_words.specs.declared.access.Took.{Took}
 use Rattle.heap_words.specs.declared.access.Took.TheVariants.{More, Again, Done}
 use Rattle.heap_words.specs.Encoding.{filler_header, buffer_word, next_in, end_in}
 use Rattle.heap_words.specs.Words.{Free, Top, Current, Heap, Share}
-use Rattle.steps_base.specs.Touch.{Touch, touch, loads, stores, keeps_bits, sets_bits, exchanges}
-use Rattle.steps_base.specs.Fits.{touch_fits}
+use Rattle.heap_words.specs.Touch.{Touch, touch, loads, stores, keeps_bits, sets_bits, exchanges}
+use Rattle.heap_words.specs.Fits.{touch_fits}
 use Rattle.regions.specs.Place.{base_of}
 use Rattle.regions.specs.Sets.{members_below, lowest_in, all_but}
 use Rattle.alloc_buffers.specs.declared.spot.Kind.{Kind}

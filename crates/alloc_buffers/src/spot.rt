@@ -2,7 +2,7 @@ ghost use Rattle.std.specs.Prelude.{◌≡◌, ◌<◌, ◌≤◌, true, false};
 ghost use Rattle.heap_words.specs.Ranges.{seat_count};
 ghost use Rattle.heap_words.specs.Access.{table_index};
 ghost use Rattle.heap_words.specs.Words.{table_words};
-ghost use Rattle.steps_base.specs.Touch.{placed};
+ghost use Rattle.heap_words.specs.Touch.{placed};
 ghost use Rattle.alloc_buffers.specs.Rows as rows;
 ghost use Rattle.alloc_buffers.specs.Seen.{IsFit};
 

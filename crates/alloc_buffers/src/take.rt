@@ -23,7 +23,7 @@ impl Take {
     ghost use Rattle.std.specs.Prelude.{false, ◌↔◌, Some};
     ghost use Rattle.heap_words.specs.Access.{table_index};
     ghost use Rattle.heap_words.specs.Words.{table_words};
-    ghost use Rattle.steps_base.specs.Touch.{placed};
+    ghost use Rattle.heap_words.specs.Touch.{placed};
     ghost use Rattle.alloc_buffers.specs.Rows.{place_at, touch_at, next_at, is_ended, says};
     ghost use Rattle.alloc_buffers.specs.Seen.{wanted, spot_of, taken_in, end_of_taken, looks_at_free, IsFit};
     ghost use Rattle.alloc_buffers.specs.Waits.{WaitsAt, TakingEndsAt};

@@ -9,7 +9,7 @@ use Rattle.heap_words.specs.declared.access.Access.TheVariants.{Store}
 use Rattle.heap_words.specs.declared.access.Unit.TheVariants.{Worked, NoneLeft}
 use Rattle.heap_words.specs.Access.{table_index}
 use Rattle.heap_words.specs.Words.{image_start}
-use Rattle.steps_base.specs.Steps.{accessed}
+use Rattle.heap_words.specs.Steps.{accessed}
 use Rattle.handshake.specs.declared.stop_spot.StopSpot.{StopSpot}
 use Rattle.handshake.specs.declared.stop_spot.StopSpot.TheVariants as stop
 use Rattle.unit_part.specs.declared.spot.UnitSpot.{UnitSpot}

@@ -43,7 +43,7 @@ pub struct Control {
 impl Control {
     ghost use Rattle.std.specs.Prelude.{◌<◌, ◌≤◌, ◌↔◌, [], length, vec_len, slice_index, false, Some, None, IfSome};
     ghost use Rattle.heap_words.specs.Access.{table_index};
-    ghost use Rattle.steps_base.specs.Steps.{accessed};
+    ghost use Rattle.heap_words.specs.Steps.{accessed};
     ghost use Rattle.heap_words.specs.Words.{Free, Phase, Cset, Heap, IsWord, table_words, heap_size};
     ghost use Rattle.heap_world.specs.Change.{image_view};
     ghost use Rattle.image_graph.specs.State.{memory_of};

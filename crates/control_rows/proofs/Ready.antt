@@ -8,8 +8,8 @@ use Rattle.heap_words.specs.Access.{table_index}
 use Rattle.heap_words.specs.Words.{IsWord, word_at, table_words}
 use Rattle.heap_words.proofs.Stores.{is_word_true}
 use Rattle.heap_words.proofs.Rows.{word_inside}
-use Rattle.steps_base.specs.Touch.{Touch, placed}
-use Rattle.steps_base.proofs.Touches.{table_index-access_at}
+use Rattle.heap_words.specs.Touch.{Touch, placed}
+use Rattle.heap_words.proofs.Touches.{table_index-access_at}
 use Rattle.handshake.specs.declared.stop_spot.StopSpot.{StopSpot}
 use Rattle.handshake.specs.declared.stop_spot.StopSpot.TheVariants as stop
 use Rattle.handshake.specs.Rows.{after_seat, stop_touch}

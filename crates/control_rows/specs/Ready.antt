@@ -4,7 +4,7 @@ use Rattle.std.specs.Option.{ForSome}
 use Rattle.heap_words.specs.declared.config.Config.{Config}
 use Rattle.heap_words.specs.Access.{table_index}
 use Rattle.heap_words.specs.Words.{Heap, IsWord, table_words}
-use Rattle.steps_base.specs.Fits.{touch_fits}
+use Rattle.heap_words.specs.Fits.{touch_fits}
 use Rattle.handshake.specs.Rows.{stop_touch, is_stopped}
 use Rattle.unit_part.specs.Rows as units
 use Rattle.unit_part.specs.Ready as unit

@@ -11,7 +11,7 @@ use Rattle.heap_words.specs.declared.access.Took.TheVariants.{More, Again, Done}
 use Rattle.heap_words.specs.declared.place.Place.{Place}
 use Rattle.heap_words.specs.declared.place.Place.TheVariants as place
 use Rattle.heap_words.specs.Words.{Word, Left, End, Ask, Free, Phase, Cset, image_start}
-use Rattle.steps_base.specs.Touch.{Touch, touch, loads, stores, placed}
+use Rattle.heap_words.specs.Touch.{Touch, touch, loads, stores, placed}
 use Rattle.regions.specs.Sets.{members_below}
 use Rattle.handshake.specs.declared.stop_spot.StopSpot.{StopSpot}
 use Rattle.handshake.specs.declared.stop_spot.StopSpot.TheVariants as stop

@@ -1,7 +1,7 @@
 -- What is answered where a heap is to be renewed, and what handles hold then.
 use Rattle.std.specs.Prelude.{ℕ, ◌≡◌, ◌⊎◌, Bool, true, false, List, [], ◌∷◌, map, Option, Some, None, MatchOption, slice_get, ⊤}
 use Rattle.heap_words.specs.declared.config.Config.{Config}
-use Rattle.steps_base.specs.Steps.{Stage}
+use Rattle.heap_words.specs.Steps.{Stage}
 use Rattle.step_core.specs.Actor.{Actor}
 use Rattle.heap_seats.specs.declared.renewing.Renewal.{Renewal}
 use Rattle.heap_seats.specs.declared.renewing.Following.{Following}

@@ -6,7 +6,7 @@ use Rattle.std.proofs.lemmas.Bool.{cases_Bool, cond-true, cond-false, false≢tr
 use Rattle.heap_words.specs.declared.config.Config.{Config}
 use Rattle.heap_words.specs.Words.{Word, Phase, Cset, Free, Evac, Claim, Top, Tams, Count, Buffer, Grey, Black, Heap, same_word}
 use Rattle.heap_words.proofs.Stores.{same_word_true}
-use Rattle.steps_base.specs.Touch.{Touch, touch, loads, touched}
+use Rattle.heap_words.specs.Touch.{Touch, touch, loads, touched}
 use Rattle.regions.specs.Marks.{HasMark}
 use Rattle.shen_graph.specs.declared.name.Name.{Name}
 use Rattle.heap_world.specs.World.{World, Scan, thing, with_recording, with_scanning, IsNoted, IsToScan, NeedsNoMarking, AreMarks, AreEntries, KeepsSnapshot, IsEvacuating, NotedIn, Shared}

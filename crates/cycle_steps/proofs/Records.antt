@@ -7,7 +7,7 @@ use Rattle.std.proofs.lemmas.Bool.Decides.{nat_tests}
 use Rattle.std.proofs.lemmas.Option.{same_Some}
 use Rattle.heap_words.specs.declared.config.Config.{Config}
 use Rattle.heap_words.specs.Words.{Claim, Word, Phase, Count, Buffer, Grey, Black, Heap, IsWord}
-use Rattle.steps_base.specs.Touch.{touched}
+use Rattle.heap_words.specs.Touch.{touched}
 use Rattle.regions.specs.Marks.{mark_word, mark_bit, address_at, HasMark}
 use Rattle.regions.proofs.MarksApart.{word_back, bit_back, mark_stays, word_inside}
 use Rattle.heap_world.specs.World.{World, Scan, hand, with_recording, IsMarkable, IsNoted, IsToScan, AreMarks, AreEntries, NotedIn, Shared}

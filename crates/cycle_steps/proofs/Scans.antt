@@ -10,7 +10,7 @@ use Rattle.heap_words.specs.Encoding.{refs_in}
 use Rattle.heap_words.specs.Words.{Phase, Word, Claim, Count, Buffer, Grey, Black, Heap, IsWord, is_word, bit_words}
 use Rattle.heap_words.proofs.Shapes.{refs_in-shape_word}
 use Rattle.heap_words.proofs.Stores.{is_word_true}
-use Rattle.steps_base.specs.Touch.{touched}
+use Rattle.heap_words.specs.Touch.{touched}
 use Rattle.regions.specs.Marks.{mark_word, mark_bit, mark_at, address_at, lowest_address, HasMark}
 use Rattle.regions.proofs.MarksApart.{mark_set, mark_stays, word_inside}
 use Rattle.shen_graph.specs.declared.name.Name.{Name}

@@ -12,7 +12,7 @@ use Rattle.std.proofs.lemmas.Option.{slice_get-map, slice_get-get_or, get_or_fro
 use Rattle.heap_words.specs.declared.config.Config.{Config}
 use Rattle.heap_words.specs.declared.schedule.Item.{Item}
 use Rattle.heap_words.specs.Ranges.{seat_count}
-use Rattle.steps_base.specs.Steps.{Stage, Event}
+use Rattle.heap_words.specs.Steps.{Stage, Event}
 use Rattle.shen_graph.specs.Graph.{Reference, Graph}
 use Rattle.shen_graph.specs.GraphText.{Text, Row, names_of, root_of, pin_of, row_in}
 use Rattle.shen_graph.specs.Step.{name_in}

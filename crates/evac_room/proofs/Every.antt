@@ -6,11 +6,11 @@ use Rattle.std.proofs.lemmas.List.{length-set, length-replicate}
 use Rattle.std.proofs.lemmas.List.Elements.{All-head, All-tail}
 use Rattle.std.proofs.lemmas.List.Sums.{count_by-le-length}
 use Rattle.heap_words.specs.Access.{table_index}
-use Rattle.steps_base.specs.Touch.{access_at}
-use Rattle.steps_base.specs.Steps.{Stage, Event, act, go, moved}
-use Rattle.steps_base.proofs.Runs.{go-none, go-first, go-append, go-keeps}
-use Rattle.steps_base.proofs.Laws.{act_cases, act-event, machines_other}
-use Rattle.steps_base.proofs.Places.{slice_get-set_same, slice_get-set_other}
+use Rattle.heap_words.specs.Touch.{access_at}
+use Rattle.heap_words.specs.Steps.{Stage, Event, act, go, moved}
+use Rattle.heap_words.proofs.Runs.{go-none, go-first, go-append, go-keeps}
+use Rattle.heap_words.proofs.Laws.{act_cases, act-event, machines_other}
+use Rattle.heap_words.proofs.Places.{slice_get-set_same, slice_get-set_other}
 use Rattle.heap_words.specs.declared.access.Took.{Took}
 use Rattle.heap_words.specs.declared.access.Took.TheVariants.{Done}
 use Rattle.evac_room.specs.declared.wish.Wish.{Wish}

@@ -8,9 +8,9 @@ use Rattle.std.proofs.Math.Nat.{ℕ_set}
 use Rattle.std.proofs.Math.Bridge.{le_prop}
 use Rattle.std.proofs.lemmas.List.{map-set, map-append, length-map, length-set, replicate_more}
 use Rattle.std.proofs.lemmas.Option.{slice_get-map, slice_get_read, get_or_from_slice_get}
-use Rattle.steps_base.specs.Steps.{Stage, act, IsReached}
-use Rattle.steps_base.proofs.Laws.{act-event}
-use Rattle.steps_base.proofs.Runs.{reached_none, reached_more, reached_has}
+use Rattle.heap_words.specs.Steps.{Stage, act, IsReached}
+use Rattle.heap_words.proofs.Laws.{act-event}
+use Rattle.heap_words.proofs.Runs.{reached_none, reached_more, reached_has}
 use Rattle.evac_room.specs.declared.copier.Copier.{Copier}
 use Rattle.evac_room.specs.declared.wish.Wish.{Wish}
 use Rattle.evac_room.specs.declared.wish.Copying.{Copying}

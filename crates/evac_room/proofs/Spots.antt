@@ -3,8 +3,8 @@ use Rattle.std.proofs.Common.{◌≡◌, ℕ, ◌+◌, ◌≤◌, true, false, c
 use Rattle.std.specs.Prelude.{slice_get, slice_set, slice_index, replicate}
 use Rattle.std.proofs.lemmas.List.Sums.{sum_by-cons}
 use Rattle.heap_words.specs.Access.{table_index}
-use Rattle.steps_base.specs.Steps.{accessed}
-use Rattle.steps_base.specs.Touch.{Form, loads, formed, access_at}
+use Rattle.heap_words.specs.Steps.{accessed}
+use Rattle.heap_words.specs.Touch.{Form, loads, formed, access_at}
 use Rattle.evac_room.specs.declared.wish.Wish.{Wish}
 use Rattle.evac_room.specs.declared.wish.Wish.TheVariants.{Enter, Leave, NoRoom}
 use Rattle.evac_room.specs.declared.spot.RoomSpot.{RoomSpot}

@@ -2,8 +2,8 @@
 use Rattle.std.specs.Prelude.{ℕ, ◌≢◌, ◌≤◌, Bool, true, false, List, [], ◌∷◌, Option, Some, None, All, replicate, count_by, slice_get, slice_index, if◌then◌else◌}
 use Rattle.heap_words.specs.declared.access.Took.{Took}
 use Rattle.heap_words.specs.declared.access.Took.TheVariants as took
-use Rattle.steps_base.specs.Steps.{MachineKind, Stage, Event, go}
-use Rattle.steps_base.specs.Touch.{access_at}
+use Rattle.heap_words.specs.Steps.{MachineKind, Stage, Event, go}
+use Rattle.heap_words.specs.Touch.{access_at}
 use Rattle.evac_room.specs.declared.wish.Wish.{Wish}
 use Rattle.evac_room.specs.declared.wish.Wish.TheVariants.{Enter, Leave, NoRoom}
 use Rattle.evac_room.specs.declared.wish.Copying.{Copying}

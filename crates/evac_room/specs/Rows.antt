@@ -7,7 +7,7 @@ use Rattle.heap_words.specs.declared.access.Took.TheVariants.{More, Again, Done}
 use Rattle.heap_words.specs.declared.place.Place.{Place}
 use Rattle.heap_words.specs.declared.place.Place.TheVariants as place
 use Rattle.heap_words.specs.Words.{Evac}
-use Rattle.steps_base.specs.Touch.{Form, loads, subtracts, exchanges, touch, placed}
+use Rattle.heap_words.specs.Touch.{Form, loads, subtracts, exchanges, touch, placed}
 use Rattle.heap_words.specs.Counter.{count_of, is_out_of_room, marked}
 use Rattle.evac_room.specs.declared.spot.RoomSpot.{RoomSpot}
 use Rattle.evac_room.specs.declared.spot.RoomSpot.TheVariants.{Outside, Look, Raise, Inside, Lower, Ask, Mark, Wait, Stopped}

@@ -20,7 +20,7 @@ pub(crate) enum Copier {
 impl Copier {
     ghost use Rattle.std.specs.Prelude.{true, false};
     ghost use Rattle.heap_words.specs.Access.{made_of};
-    ghost use Rattle.steps_base.specs.Touch.{formed};
+    ghost use Rattle.heap_words.specs.Touch.{formed};
     ghost use Rattle.evac_room.specs.Spot.{is_at_rest};
     ghost use Rattle.evac_room.specs.Rows.{form_at, next_at, IsFit};
     ghost use Rattle.evac_room.specs.Core.{takes_at, wish_begun, copying_at};

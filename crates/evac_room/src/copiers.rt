@@ -1,5 +1,5 @@
 ghost use Rattle.std.specs.Prelude.{◌≡◌, [], ◌∷◌, map, length};
-ghost use Rattle.steps_base.specs.Steps.{IsReached};
+ghost use Rattle.heap_words.specs.Steps.{IsReached};
 ghost use Rattle.evac_room.specs.Core.{copier_kind, opening, IsFew};
 ghost use Rattle.evac_room.specs.Copier.{spot_of};
 
@@ -20,7 +20,7 @@ pub struct Copiers {
 
 impl Copiers {
     ghost use Rattle.std.specs.Prelude.{◌<◌, ◌≢◌, true, false, Some, IfOk};
-    ghost use Rattle.steps_base.specs.Steps.{act};
+    ghost use Rattle.heap_words.specs.Steps.{act};
     ghost use Rattle.heap_words.specs.Counter.{count_of, is_out_of_room, IsQuiet};
     ghost use Rattle.evac_room.specs.Core.{takes_at, answer_to, counted};
     ghost use Rattle.evac_room.specs.State.{counting_word, spots_of, spot_at, copiers_stage};

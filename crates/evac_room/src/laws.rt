@@ -2,7 +2,7 @@
 //! of steps, so of every way in which threads may take turns.
 
 ghost use Rattle.std.specs.Prelude.{ℕ, ◌≡◌, ◌≢◌, ◌≤◌, ◌<◌, ◌+◌, ◌-◌, ◌*◌, ◌^◌, ◌↔◌, bit_or, true, List, ◌∷◌, ◌++◌, Some, slice_get};
-ghost use Rattle.steps_base.specs.Steps.{Event};
+ghost use Rattle.heap_words.specs.Steps.{Event};
 ghost use Rattle.evac_room.specs.declared.wish.Wish.{Wish};
 ghost use Rattle.std.specs.Int.{bit_at};
 ghost use Rattle.heap_words.specs.Counter.{count_of, is_out_of_room, marked, IsQuiet};

@@ -5,7 +5,7 @@ use Rattle.std.proofs.lemmas.Bool.Decides.{nat_tests}
 use Rattle.heap_words.specs.declared.config.Config.{Config}
 use Rattle.heap_words.specs.Ranges.{seat_count}
 use Rattle.heap_words.specs.Words.{Pause, Left, State, table_words, view}
-use Rattle.steps_base.specs.Steps.{Stage}
+use Rattle.heap_words.specs.Steps.{Stage}
 use Rattle.handshake.specs.Standing.{Standing, outside, idle, state_word, pause_word, is_within, HasSeat, control_seat}
 use Rattle.handshake.specs.Shaken.{IsShaken}
 use Rattle.handshake.specs.Left.{AreLeftCounted}

@@ -8,10 +8,10 @@ use Rattle.heap_words.specs.declared.access.Access.{Access}
 use Rattle.heap_words.specs.Access.{table_index}
 use Rattle.heap_words.specs.Words.{Left, word_at, view}
 use Rattle.heap_words.proofs.Stores.{view_set}
-use Rattle.steps_base.specs.Touch.{touch, subtracts, placed}
-use Rattle.steps_base.specs.Steps.{MachineKind, Stage, Event, act, go, accessed}
-use Rattle.steps_base.proofs.Runs.{go-none, go-first}
-use Rattle.steps_base.proofs.Laws.{act_cases}
+use Rattle.heap_words.specs.Touch.{touch, subtracts, placed}
+use Rattle.heap_words.specs.Steps.{MachineKind, Stage, Event, act, go, accessed}
+use Rattle.heap_words.proofs.Runs.{go-none, go-first}
+use Rattle.heap_words.proofs.Laws.{act_cases}
 use Rattle.handshake.specs.Obeys.{is_load}
 use Rattle.handshake.specs.Left.{Counts, EventCounts, EachCounts, AreLeftCounted}
 use Rattle.handshake.proofs.PauseWords.{accessed-load}

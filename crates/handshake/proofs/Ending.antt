@@ -9,11 +9,11 @@ use Rattle.heap_words.specs.declared.access.Access.{Access}
 use Rattle.heap_words.specs.Access.{table_index}
 use Rattle.heap_words.specs.Words.{End, word_at, view}
 use Rattle.heap_words.proofs.Stores.{view_set}
-use Rattle.steps_base.specs.Touch.{touch, stores, placed}
-use Rattle.steps_base.specs.Steps.{MachineKind, Stage, Event, act, go, accessed}
-use Rattle.steps_base.proofs.Places.{slice_get-set_same, slice_get-set_other}
-use Rattle.steps_base.proofs.Runs.{go-none, go-first}
-use Rattle.steps_base.proofs.Laws.{act_cases}
+use Rattle.heap_words.specs.Touch.{touch, stores, placed}
+use Rattle.heap_words.specs.Steps.{MachineKind, Stage, Event, act, go, accessed}
+use Rattle.heap_words.proofs.Places.{slice_get-set_same, slice_get-set_other}
+use Rattle.heap_words.proofs.Runs.{go-none, go-first}
+use Rattle.heap_words.proofs.Laws.{act_cases}
 use Rattle.handshake.specs.Obeys.{is_load}
 use Rattle.handshake.specs.Ending.{KeepsEnd, EventKeepsEnd, EachKeepsEnd, IsEndWord}
 use Rattle.handshake.proofs.PauseWords.{accessed-load}

@@ -8,8 +8,8 @@ use Rattle.heap_words.specs.declared.access.Access.TheVariants.{Load}
 use Rattle.heap_words.specs.Access.{table_index}
 use Rattle.heap_words.specs.Words.{Pause, State, word_at, table_words, view}
 use Rattle.heap_words.proofs.Stores.{view_word, view_set}
-use Rattle.steps_base.specs.Touch.{touch, stores, placed}
-use Rattle.steps_base.specs.Steps.{accessed}
+use Rattle.heap_words.specs.Touch.{touch, stores, placed}
+use Rattle.heap_words.specs.Steps.{accessed}
 use Rattle.handshake.specs.Standing.{control_seat}
 use Rattle.handshake.specs.Obeys.{IsElsewhere, is_load}
 

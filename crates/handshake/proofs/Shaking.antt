@@ -9,10 +9,10 @@ use Rattle.heap_words.specs.declared.access.Access.{Access}
 use Rattle.heap_words.specs.Access.{table_index}
 use Rattle.heap_words.specs.Words.{Pause, State, view}
 use Rattle.heap_words.proofs.Stores.{view_word}
-use Rattle.steps_base.specs.Touch.{touch, stores, placed}
-use Rattle.steps_base.specs.Steps.{MachineKind, Stage, Event, act, go, accessed}
-use Rattle.steps_base.proofs.Runs.{go-none, go-first}
-use Rattle.steps_base.proofs.Laws.{act_cases}
+use Rattle.heap_words.specs.Touch.{touch, stores, placed}
+use Rattle.heap_words.specs.Steps.{MachineKind, Stage, Event, act, go, accessed}
+use Rattle.heap_words.proofs.Runs.{go-none, go-first}
+use Rattle.heap_words.proofs.Laws.{act_cases}
 use Rattle.handshake.specs.declared.stop_spot.StopSpot.TheVariants.{Check, Stopped}
 use Rattle.handshake.specs.Rows.{after_seat}
 use Rattle.handshake.specs.Standing.{Standing, outside, looks, backs, inside, leaves, idle, stops, checks, works, goes, state_word, pause_word, is_within, is_pausing, is_free, is_checked, HasSeat, control_seat, stop_standing}

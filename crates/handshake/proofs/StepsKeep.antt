@@ -4,8 +4,8 @@ use Rattle.std.specs.Prelude.{slice_get, slice_set, nat_eq}
 use Rattle.std.proofs.lemmas.Bool.Decides.{nat_tests}
 use Rattle.heap_words.specs.declared.config.Config.{Config}
 use Rattle.heap_words.specs.Words.{Pause, State, view}
-use Rattle.steps_base.specs.Steps.{Stage}
-use Rattle.steps_base.proofs.Places.{slice_get-set_same, slice_get-set_other}
+use Rattle.heap_words.specs.Steps.{Stage}
+use Rattle.heap_words.proofs.Places.{slice_get-set_same, slice_get-set_other}
 use Rattle.handshake.specs.Standing.{Standing, state_word, pause_word, is_within, is_checked, HasSeat, control_seat}
 use Rattle.handshake.specs.Shaken.{IsShaken}
 

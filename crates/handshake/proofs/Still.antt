@@ -5,8 +5,8 @@ use Rattle.heap_words.specs.declared.config.Config.{Config}
 use Rattle.heap_words.specs.declared.access.Access.{Access}
 use Rattle.heap_words.specs.Access.{table_index}
 use Rattle.heap_words.specs.Words.{State, image_start}
-use Rattle.steps_base.specs.Touch.{touch, stores, placed}
-use Rattle.steps_base.specs.Steps.{MachineKind, Stage}
+use Rattle.heap_words.specs.Touch.{touch, stores, placed}
+use Rattle.heap_words.specs.Steps.{MachineKind, Stage}
 use Rattle.handshake.specs.Standing.{Standing, outside, looks, backs, inside, leaves, idle, stops, checks, works, goes, is_within, is_pausing, HasSeat, control_seat}
 use Rattle.handshake.specs.Obeys.{is_load, IsHarmless, Obeys}
 use Rattle.handshake.specs.Shaken.{IsShaken, IsPausing, IsStill}

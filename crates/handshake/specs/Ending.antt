@@ -4,8 +4,8 @@ use Rattle.heap_words.specs.declared.config.Config.{Config}
 use Rattle.heap_words.specs.declared.access.Access.{Access}
 use Rattle.heap_words.specs.Access.{table_index}
 use Rattle.heap_words.specs.Words.{End, word_at, table_words, view}
-use Rattle.steps_base.specs.Touch.{touch, stores, placed}
-use Rattle.steps_base.specs.Steps.{MachineKind, Stage, Event, IsEvent, act}
+use Rattle.heap_words.specs.Touch.{touch, stores, placed}
+use Rattle.heap_words.specs.Steps.{MachineKind, Stage, Event, IsEvent, act}
 use Rattle.handshake.specs.Obeys.{is_load}
 
 -- a machine that ends, and says so

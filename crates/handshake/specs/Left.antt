@@ -4,8 +4,8 @@ use Rattle.heap_words.specs.declared.config.Config.{Config}
 use Rattle.heap_words.specs.declared.access.Access.{Access}
 use Rattle.heap_words.specs.Access.{table_index}
 use Rattle.heap_words.specs.Words.{Left, word_at, table_words, view}
-use Rattle.steps_base.specs.Touch.{touch, subtracts, placed}
-use Rattle.steps_base.specs.Steps.{MachineKind, Stage, Event, IsEvent, act}
+use Rattle.heap_words.specs.Touch.{touch, subtracts, placed}
+use Rattle.heap_words.specs.Steps.{MachineKind, Stage, Event, IsEvent, act}
 use Rattle.handshake.specs.Obeys.{is_load}
 
 -- a mutator that ends: it takes itself off the count

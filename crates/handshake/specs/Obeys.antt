@@ -6,7 +6,7 @@ use Rattle.heap_words.specs.declared.access.Access.{Access}
 use Rattle.heap_words.specs.declared.access.Access.TheVariants.{Load}
 use Rattle.heap_words.specs.Access.{table_index}
 use Rattle.heap_words.specs.Words.{Pause, State, word_at, image_start}
-use Rattle.steps_base.specs.Touch.{touch, loads, stores, placed}
+use Rattle.heap_words.specs.Touch.{touch, loads, stores, placed}
 use Rattle.handshake.specs.declared.enter_spot.EnterSpot.{EnterSpot}
 use Rattle.handshake.specs.declared.stop_spot.StopSpot.{StopSpot}
 use Rattle.handshake.specs.Rows.{enter_touch, enter_next, is_entered, leave_touch, stop_touch, stop_next, is_stopped, after_seat, go_touch}

@@ -8,7 +8,7 @@ use Rattle.heap_words.specs.declared.place.Place.TheVariants as place
 use Rattle.heap_words.specs.declared.access.Took.{Took}
 use Rattle.heap_words.specs.declared.access.Took.TheVariants.{More, Again, Done}
 use Rattle.heap_words.specs.Words.{Pause, State}
-use Rattle.steps_base.specs.Touch.{Touch, touch, loads, stores}
+use Rattle.heap_words.specs.Touch.{Touch, touch, loads, stores}
 use Rattle.handshake.specs.declared.enter_spot.EnterSpot.{EnterSpot}
 use Rattle.handshake.specs.declared.enter_spot.EnterSpot.TheVariants as enter
 use Rattle.handshake.specs.declared.stop_spot.StopSpot.{StopSpot}

@@ -3,7 +3,7 @@ use Rattle.std.specs.Prelude.{ℕ, ◌≡◌, ◌<◌, true, false, List, [], �
 use Rattle.heap_words.specs.declared.config.Config.{Config}
 use Rattle.heap_words.specs.Access.{table_index}
 use Rattle.heap_words.specs.Words.{Pause, State, image_start, table_words, view}
-use Rattle.steps_base.specs.Steps.{MachineKind, Stage, Event, IsEvent, act}
+use Rattle.heap_words.specs.Steps.{MachineKind, Stage, Event, IsEvent, act}
 use Rattle.handshake.specs.Standing.{Standing, state_word, pause_word, is_within, is_pausing, is_checked, HasSeat, control_seat}
 use Rattle.handshake.specs.Obeys.{Obeys, is_load}
 

@@ -16,7 +16,7 @@ impl Enter {
     ghost use Rattle.std.specs.Prelude.{false, true, ◌≢◌, ◌↔◌};
     ghost use Rattle.heap_words.specs.Access.{table_index};
     ghost use Rattle.heap_words.specs.Words.{table_words};
-    ghost use Rattle.steps_base.specs.Touch.{placed};
+    ghost use Rattle.heap_words.specs.Touch.{placed};
     ghost use Rattle.handshake.specs.Rows.{enter_place, enter_touch, enter_next, enter_says, is_entered};
     ghost use Rattle.handshake.specs.Seen.{seat_of_enter, spot_of_enter};
 

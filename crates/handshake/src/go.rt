@@ -14,7 +14,7 @@ impl Go {
     ghost use Rattle.std.specs.Prelude.{false, true, ◌<◌};
     ghost use Rattle.heap_words.specs.Access.{table_index};
     ghost use Rattle.heap_words.specs.Words.{table_words};
-    ghost use Rattle.steps_base.specs.Touch.{placed};
+    ghost use Rattle.heap_words.specs.Touch.{placed};
     ghost use Rattle.handshake.specs.Rows.{go_touch};
     ghost use Rattle.handshake.specs.Seen.{config_of_go, has_gone};
 

@@ -4,7 +4,7 @@
 ghost use Rattle.std.specs.Prelude.{ℕ, ◌≡◌, ◌≢◌, Bool, true, List, Some, slice_get};
 ghost use Rattle.heap_words.specs.declared.config.Config.{Config};
 ghost use Rattle.heap_words.specs.Words.{Left, view};
-ghost use Rattle.steps_base.specs.Steps.{MachineKind, Stage, Event, go};
+ghost use Rattle.heap_words.specs.Steps.{MachineKind, Stage, Event, go};
 ghost use Rattle.handshake.specs.Standing.{Standing};
 ghost use Rattle.handshake.specs.Obeys.{RowsObey};
 ghost use Rattle.handshake.specs.Shaken.{IsShaken, EachObeys, IsPausing, IsStill};

@@ -16,7 +16,7 @@ impl Leave {
     ghost use Rattle.std.specs.Prelude.{false, true};
     ghost use Rattle.heap_words.specs.Access.{table_index};
     ghost use Rattle.heap_words.specs.Words.{table_words};
-    ghost use Rattle.steps_base.specs.Touch.{placed};
+    ghost use Rattle.heap_words.specs.Touch.{placed};
     ghost use Rattle.handshake.specs.Rows.{leave_touch};
     ghost use Rattle.handshake.specs.Seen.{seat_of_leave, has_left};
 

@@ -1,7 +1,7 @@
 ghost use Rattle.std.specs.Prelude.{◌≡◌, ◌<◌, ◌+◌};
 ghost use Rattle.heap_words.specs.Access.{table_index};
 ghost use Rattle.heap_words.specs.Words.{table_words};
-ghost use Rattle.steps_base.specs.Touch.{placed};
+ghost use Rattle.heap_words.specs.Touch.{placed};
 ghost use Rattle.handshake.specs.Rows.{leave_touch, go_touch};
 
 use crate::values::{OUT, UNWANTED};

@@ -1,5 +1,5 @@
 ghost use Rattle.std.specs.Prelude.{◌≡◌, true};
-ghost use Rattle.steps_base.specs.Fits.{touch_fits};
+ghost use Rattle.heap_words.specs.Fits.{touch_fits};
 ghost use Rattle.handshake.specs.Rows.{stop_touch};
 
 use crate::stop_spot::StopSpot;
@@ -17,7 +17,7 @@ impl Stop {
     ghost use Rattle.std.specs.Prelude.{ℕ, false, ◌≢◌, ◌<◌, ◌↔◌};
     ghost use Rattle.heap_words.specs.Access.{table_index};
     ghost use Rattle.heap_words.specs.Words.{table_words};
-    ghost use Rattle.steps_base.specs.Touch.{placed};
+    ghost use Rattle.heap_words.specs.Touch.{placed};
     ghost use Rattle.handshake.specs.Rows.{stop_place, stop_next, stop_says, is_stopped};
     ghost use Rattle.handshake.specs.Seen.{config_of_stop, spot_of_stop};
 

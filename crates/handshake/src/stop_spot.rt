@@ -1,8 +1,8 @@
 ghost use Rattle.std.specs.Prelude.{◌≡◌, ◌<◌, ◌+◌, true, false};
 ghost use Rattle.heap_words.specs.Access.{table_index};
 ghost use Rattle.heap_words.specs.Words.{table_words};
-ghost use Rattle.steps_base.specs.Touch.{placed};
-ghost use Rattle.steps_base.specs.Fits.{touch_fits};
+ghost use Rattle.heap_words.specs.Touch.{placed};
+ghost use Rattle.heap_words.specs.Fits.{touch_fits};
 ghost use Rattle.handshake.specs.Rows as rows;
 
 use crate::values::{OUT, WANTED};

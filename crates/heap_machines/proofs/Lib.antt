@@ -11,3 +11,7 @@ mod Awaiting
 pub mod Inside
 pub mod Hinting
 pub mod FromImages
+pub mod Placed
+pub mod Rested
+mod Stored
+pub mod ComeToRest

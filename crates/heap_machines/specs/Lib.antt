@@ -8,5 +8,5 @@ pub mod Settles
 pub mod Awaits
 pub mod Inside
 pub mod FromImage
--- what the control has of an image, for those who make a machine of it
 pub use Rattle.control.specs.Image
+pub mod Reopened

@@ -29,7 +29,7 @@ pub enum Machine {
 impl Machine {
     ghost use Rattle.std.specs.Prelude.{◌≡◌, ◌<◌, ◌≤◌, ◌↔◌, ◌≢◌, length, vec_len, slice_index, true, false, not, Option, Some, None, IfOk, IfSome, is_some, if◌then◌else◌};
     ghost use Rattle.heap_words.specs.Access.{table_index};
-    ghost use Rattle.steps_base.specs.Steps.{accessed};
+    ghost use Rattle.heap_words.specs.Steps.{accessed};
     ghost use Rattle.heap_words.specs.Words.{Cset, Heap, IsWord, table_words, heap_size, view};
     ghost use Rattle.heap_world.specs.Change.{image_view};
     ghost use Rattle.image_graph.specs.Holds.{HoldsSome};

@@ -17,7 +17,7 @@ use Rattle.graph_placing.specs.Renaming.{AreOfThreads, AreCountsOf}
 use Rattle.graph_placing.specs.Renewed.{HoldsNothing}
 use Rattle.graph_placing.proofs.SameGraphs.{same_anew}
 use Rattle.graph_placing.proofs.ShownRenewable.{renewable_anew}
-use Rattle.heap_reopening.proofs.Placed.{text_unpinned}
+use Rattle.heap_machines.proofs.Placed.{text_unpinned}
 use Rattle.heap_renewal.specs.RenewedHeap.{BeginsAnew}
 
 module _ (c : Config) (t : Text) (whole : IsPlaceable c t) (threads : AreOfThreads c.mutators (names_of t)) (g : Graph) (shows : ShowsGraph t c.mutators g) (counts : List ℕ) (are : AreCountsOf (names_of t) c.mutators counts) where

@@ -1,7 +1,7 @@
 -- What comes of renewing a heap.
 use Rattle.std.specs.Prelude.{ℕ, ◌≡◌, None}
 use Rattle.heap_words.specs.declared.config.Config.{Config}
-use Rattle.steps_base.specs.Steps.{Stage}
+use Rattle.heap_words.specs.Steps.{Stage}
 use Rattle.shen_graph.specs.declared.name.Name.{Name}
 use Rattle.shen_graph.specs.Graph.{Graph}
 use Rattle.heap_machines.specs.Pause.{pause_image}

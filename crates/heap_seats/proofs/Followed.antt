@@ -9,7 +9,7 @@ use Rattle.shen_graph.specs.GraphText.{Text, names_of}
 use Rattle.heap_world.specs.Asking.{nothing}
 use Rattle.heap_world.specs.Represents.{Represents}
 use Rattle.heap_graph.specs.Shows.{ShowsGraph}
-use Rattle.steps_base.specs.Steps.{Stage}
+use Rattle.heap_words.specs.Steps.{Stage}
 use Rattle.image_graph.specs.declared.image.Image.{Image}
 use Rattle.image_graph.specs.State as images
 use Rattle.heap_machines.specs.FromImage.{CanBeginFrom, stage_from}
@@ -28,9 +28,9 @@ use Rattle.graph_placing.specs.Renewed.{PinsNothing}
 use Rattle.graph_placing.proofs.PinsShown.{nothing_pinned}
 use Rattle.graph_placing.proofs.SameGraphs.{same_anew}
 use Rattle.graph_placing.proofs.ShownRenewable.{renewable_anew}
-use Rattle.heap_reopening.specs.Reopened.{words_reopened, AreMadeBy}
-use Rattle.heap_reopening.proofs.Placed.{text_unpinned, placed_can_begin}
-use Rattle.heap_reopening.proofs.Rested.{can_begin_again}
+use Rattle.heap_machines.specs.Reopened.{words_reopened, AreMadeBy}
+use Rattle.heap_machines.proofs.Placed.{text_unpinned, placed_can_begin}
+use Rattle.heap_machines.proofs.Rested.{can_begin_again}
 use Rattle.heap_seats.specs.declared.renewing.Renewal.{Renewal}
 use Rattle.heap_seats.specs.declared.renewing.Renewal.TheVariants.{Renewed, Pinned, TooSmall, NoMemory}
 use Rattle.heap_seats.specs.declared.seat.Seat.{Seat}

@@ -6,7 +6,7 @@ use Rattle.std.specs.Option.{is_some}
 use Rattle.std.proofs.lemmas.Bool.Decides.{nat_tests}
 use Rattle.heap_words.specs.declared.config.Config.{Config}
 use Rattle.heap_words.specs.Ranges.{seat_count}
-use Rattle.steps_base.specs.Steps.{Stage, Event, IsReached}
+use Rattle.heap_words.specs.Steps.{Stage, Event, IsReached}
 use Rattle.shen_graph.specs.declared.order.Order.{Order}
 use Rattle.shen_graph.specs.declared.order.Order.TheVariants.{Nothing}
 use Rattle.shen_graph.specs.Order.{is_nothing, hinting}
@@ -34,7 +34,7 @@ use Rattle.heap_machines.specs.Shown.{shown, order_of}
 use Rattle.heap_machines.specs.Roles.{is_mutating}
 use Rattle.heap_machines.specs.declared.machine.Machine as memory
 use Rattle.heap_machines.specs.declared.machine.Machine.TheVariants as memories
-use Rattle.heap_reopening.proofs.ComeToRest.{HasComeToRest}
+use Rattle.heap_machines.proofs.ComeToRest.{HasComeToRest}
 use Rattle.table_heap.proofs.Core.{run_from}
 use Rattle.table_heap.proofs.MachineUnder.{shows_as}
 use Rattle.table_heap.proofs.Running.{at_number, in_view, in_memory, role_at}

@@ -7,7 +7,7 @@ use Rattle.shen_graph.specs.declared.order.Order.TheVariants.{Nothing}
 use Rattle.heap_machines.specs.Shown.{shown, order_of, no_machine}
 use Rattle.step_core.specs.Actor.{Actor}
 use Rattle.step_core.specs.Machines.{takes_of}
-use Rattle.steps_base.specs.Steps.{Stage}
+use Rattle.heap_words.specs.Steps.{Stage}
 use Rattle.heap_words.specs.declared.config.Config.{Config}
 use Rattle.shared_table.specs.Views.{View, machine_of, kept_in_view}
 use Rattle.shared_table.specs.Counted.{uncounted_seat}

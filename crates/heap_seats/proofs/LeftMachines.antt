@@ -7,8 +7,8 @@ use Rattle.shared_table.specs.Views.{machine_of}
 use Rattle.step_core.specs.Actor.{Actor}
 use Rattle.step_core.specs.AtRest.{IsAtRest}
 use Rattle.step_core.specs.Machines.{made_of_machine}
-use Rattle.heap_reopening.specs.Reopened.{AreMadeBy}
-use Rattle.heap_reopening.proofs.ComeToRest.{HasComeToRest, all_at_rest}
+use Rattle.heap_machines.specs.Reopened.{AreMadeBy}
+use Rattle.heap_machines.proofs.ComeToRest.{HasComeToRest, all_at_rest}
 use Rattle.table_heap.specs.declared.bundle.Bundle.{Bundle}
 use Rattle.table_heap.specs.declared.closed.Closed.{Closed}
 use Rattle.table_heap.specs.Closed as closed

@@ -12,7 +12,7 @@ use Rattle.heap_machines.specs.declared.stepped.Stepped.{Stepped}
 use Rattle.heap_machines.specs.declared.stepped.Stepped.TheVariants as stepped
 use Rattle.step_core.specs.Actor.{Machine, mutating, Actor, entries_of}
 use Rattle.step_core.specs.Machines.{may_begin, is_resting, reply_in, takes_of}
-use Rattle.steps_base.specs.Steps.{Stage, HasReached}
+use Rattle.heap_words.specs.Steps.{Stage, HasReached}
 use Rattle.table_heap.specs.Core.{heap_kind, start_of_key, nobody}
 use Rattle.table_heap.specs.State.{start_in, has_turn}
 use Rattle.table_heap.proofs.Running.{at_number, in_view, role_at}

@@ -10,7 +10,7 @@ use Rattle.std.proofs.lemmas.List.{get_or-reverse, length-reverse}
 use Rattle.std.proofs.lemmas.Option.{slice_get_within, slice_get-get_or, get_or_from_slice_get}
 use Rattle.heap_words.specs.declared.config.Config.{Config}
 use Rattle.heap_words.specs.Ranges.{seat_count}
-use Rattle.steps_base.specs.Steps.{Stage, HasReached}
+use Rattle.heap_words.specs.Steps.{Stage, HasReached}
 use Rattle.shared_table.specs.Views.{View, machine_of, whole, dealt_to, is_dealt_to}
 use Rattle.shared_table.proofs.Reached.{reached_opens, reached_picked}
 use Rattle.shared_table.proofs.ViewsShow.{machine_of-whole, machine_of-picked}

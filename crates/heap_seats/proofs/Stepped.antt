@@ -7,7 +7,7 @@ use Rattle.shen_graph.specs.declared.command.Command.{Command}
 use Rattle.shen_graph.specs.declared.command.Reply.{Reply}
 use Rattle.shen_graph.specs.declared.order.Order.{Order}
 use Rattle.shen_graph.specs.declared.order.Order.TheVariants.{Nothing, Begin, End, Hint}
-use Rattle.steps_base.specs.Steps.{Finds}
+use Rattle.heap_words.specs.Steps.{Finds}
 use Rattle.mutator.specs.declared.spot.Spot.{Spot}
 use Rattle.mutator.specs.declared.spot.Spot.TheVariants.{Leave}
 use Rattle.mutator.specs.Orders.{takes_at}

@@ -4,7 +4,7 @@ use Rattle.std.specs.Arc.{arc_value}
 use Rattle.heap_words.specs.declared.config.Config.{Config}
 use Rattle.heap_words.specs.Ranges.{seat_count}
 use Rattle.shen_graph.specs.declared.order.Order.{Order}
-use Rattle.steps_base.specs.Steps.{Stage, Event}
+use Rattle.heap_words.specs.Steps.{Stage, Event}
 use Rattle.step_core.specs.Actor.{Actor}
 use Rattle.step_core.specs.Settled.{control_number}
 use Rattle.table_heap.specs.declared.heap.Heap.{Heap}

@@ -6,7 +6,7 @@ use Rattle.heap_words.specs.Ranges.{seat_count}
 use Rattle.shen_graph.specs.declared.order.Order.{Order}
 use Rattle.shen_graph.specs.Graph.{Graph}
 use Rattle.shen_graph.specs.History.{of_thread}
-use Rattle.steps_base.specs.Steps.{Stage, Event}
+use Rattle.heap_words.specs.Steps.{Stage, Event}
 use Rattle.shared_table.specs.Views.{View, machine_of}
 use Rattle.step_core.specs.Actor.{Actor}
 use Rattle.step_core.specs.Settled.{control_number}

@@ -6,7 +6,7 @@ use Rattle.shen_graph.specs.declared.order.Order.{Order}
 use Rattle.shen_graph.specs.declared.order.Order.TheVariants.{Nothing}
 use Rattle.shen_graph.specs.Graph.{Graph}
 use Rattle.shen_graph.specs.History.{Entry, of_thread}
-use Rattle.steps_base.specs.Steps.{Stage, Event}
+use Rattle.heap_words.specs.Steps.{Stage, Event}
 use Rattle.heap_machines.specs.Answer.{says}
 use Rattle.heap_machines.specs.Pause.{pause_image}
 use Rattle.heap_machines.specs.declared.stepped.Stepped.{Stepped}

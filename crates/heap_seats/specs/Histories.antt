@@ -5,7 +5,7 @@ use Rattle.shen_graph.specs.declared.order.Order.{Order}
 use Rattle.shen_graph.specs.Graph.{Graph}
 use Rattle.shen_graph.specs.History.{Entry, EachIsLegal}
 use Rattle.shen_graph.specs.Crowd.{AreCrowded}
-use Rattle.steps_base.specs.Steps.{Stage, Event, go}
+use Rattle.heap_words.specs.Steps.{Stage, Event, go}
 use Rattle.heap_machines.specs.Pause.{pause_image}
 use Rattle.step_core.specs.Actor.{Actor}
 use Rattle.step_core.specs.Begins.{Begins}

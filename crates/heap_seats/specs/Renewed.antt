@@ -5,7 +5,7 @@ use Rattle.heap_words.specs.Words.{End, view}
 use Rattle.shen_graph.specs.declared.name.Name.{Name}
 use Rattle.shen_graph.specs.declared.order.Order.{Order}
 use Rattle.shen_graph.specs.Graph.{Graph}
-use Rattle.steps_base.specs.Steps.{Stage, Event}
+use Rattle.heap_words.specs.Steps.{Stage, Event}
 use Rattle.step_core.specs.Actor.{Actor}
 use Rattle.heap_machines.specs.Pause.{pause_image}
 use Rattle.step_core.specs.Begins.{Run, Begins, ending, graph_after}

@@ -1,7 +1,7 @@
 -- What is known of a heap while it is renewed.
 use Rattle.heap_words.specs.declared.config.Config.{Config}
 use Rattle.shen_graph.specs.Graph.{Graph}
-use Rattle.steps_base.specs.Steps.{Stage}
+use Rattle.heap_words.specs.Steps.{Stage}
 use Rattle.step_core.specs.Actor.{Actor}
 use Rattle.graph_placing.specs.Renewable.{IsRenewable}
 use Rattle.heap_seats.specs.declared.renewing.Renewal.{Renewal}

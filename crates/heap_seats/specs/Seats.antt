@@ -6,7 +6,7 @@ use Rattle.heap_words.specs.declared.place.Place.{Place}
 use Rattle.shen_graph.specs.declared.command.Command.{Command}
 use Rattle.shen_graph.specs.declared.order.Order.{Order}
 use Rattle.shen_graph.specs.History.{Entry}
-use Rattle.steps_base.specs.Steps.{Stage}
+use Rattle.heap_words.specs.Steps.{Stage}
 use Rattle.shared_table.specs.Views.{machine_of}
 use Rattle.step_core.specs.Actor.{Machine, Actor, command_by}
 use Rattle.step_core.specs.Machines.{may_begin, made_of_machine, place_in}

@@ -4,3 +4,7 @@ pub mod Rows
 pub mod Stores
 pub mod Shapes
 pub mod Named
+pub mod Places
+pub mod Touches
+pub mod Runs
+pub mod Laws

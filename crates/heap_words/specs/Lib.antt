@@ -9,3 +9,6 @@ pub mod Rows
 pub mod Name
 pub mod Counter
 pub mod Phases
+pub mod Touch
+pub mod Fits
+pub mod Steps

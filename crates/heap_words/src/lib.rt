@@ -1,5 +1,8 @@
 //! The words of the heap's table: where each one stands, how numbers are written into it, what an
 //! access makes of it, and the names of the places at which a machine can stand.
+//!
+//! Runs of machines over words: an event is one access of one word by one machine. The laws here hold of every kind of
+//! machine, whatever its words mean.
 #![tactic(auto)]
 
 mod access;
@@ -8,7 +11,9 @@ mod encoding;
 mod name;
 pub mod phase;
 mod place;
+pub mod run_laws;
 mod schedule;
+mod table;
 mod words;
 
 pub use access::{Access, Took, Unit};
@@ -21,4 +26,5 @@ pub use encoding::{
 pub use name::{WordName, words_named};
 pub use place::Place;
 pub use schedule::{Item, NoMemory, Schedule};
+pub use table::make_access;
 pub use words::{heap_in, pins_in, roots_in, words_apart};

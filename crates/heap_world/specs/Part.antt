@@ -1,7 +1,7 @@
 -- What a step of a part, a sub-machine that a machine of a seat has inside, owes to the machine that has it.
 use Rattle.std.specs.Prelude.{ℕ, ◌≡◌, ◌≢◌}
 use Rattle.heap_words.specs.declared.config.Config.{Config}
-use Rattle.steps_base.specs.Touch.{Touch, touched}
+use Rattle.heap_words.specs.Touch.{Touch, touched}
 use Rattle.heap_world.specs.World.{World, Shared}
 use Rattle.heap_world.specs.Rely.{Keeps, Rely}
 

@@ -6,8 +6,8 @@ use Rattle.heap_words.specs.declared.config.Config.{Config}
 use Rattle.heap_words.specs.Access.{table_index}
 use Rattle.heap_words.specs.Words.{IsWord, word_at, table_words}
 use Rattle.heap_words.proofs.Rows.{word_inside}
-use Rattle.steps_base.specs.Touch.{Touch, placed}
-use Rattle.steps_base.proofs.Touches.{table_index-access_at}
+use Rattle.heap_words.specs.Touch.{Touch, placed}
+use Rattle.heap_words.proofs.Touches.{table_index-access_at}
 use Rattle.handshake.specs.declared.enter_spot.EnterSpot.{EnterSpot}
 use Rattle.handshake.specs.declared.enter_spot.EnterSpot.TheVariants as enter
 use Rattle.unit_part.specs.declared.spot.UnitSpot.{UnitSpot}

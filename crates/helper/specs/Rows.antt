@@ -10,7 +10,7 @@ use Rattle.heap_words.specs.declared.access.Took.TheVariants.{More, Again, Done}
 use Rattle.heap_words.specs.declared.access.Unit.TheVariants.{NoneLeft}
 use Rattle.heap_words.specs.Words.{End, Phase, Cset}
 use Rattle.heap_words.specs.Phases.{idle_phase}
-use Rattle.steps_base.specs.Touch.{Touch, touch, loads}
+use Rattle.heap_words.specs.Touch.{Touch, touch, loads}
 use Rattle.handshake.specs.declared.enter_spot.EnterSpot.{EnterSpot}
 use Rattle.handshake.specs.declared.enter_spot.EnterSpot.TheVariants as enter
 use Rattle.handshake.specs.Rows.{enter_place, enter_touch, enter_next, leave_touch}

@@ -23,7 +23,7 @@ impl Helper {
     ghost use Rattle.std.specs.Prelude.{◌↔◌, false, Some, None, IfSome};
     ghost use Rattle.heap_words.specs.Access.{table_index};
     ghost use Rattle.heap_words.specs.Words.{Heap, IsWord, table_words};
-    ghost use Rattle.steps_base.specs.Touch.{placed};
+    ghost use Rattle.heap_words.specs.Touch.{placed};
     ghost use Rattle.helper.specs.Rows.{fresh_helper, help_place, help_touch, help_next, help_says, is_gone, takes_hint, hinted_by, help_hinted, greys_at};
     ghost use Rattle.helper.specs.Ready.{IsFit};
     ghost use Rattle.helper.specs.Waits.{WaitsAt};

@@ -1,7 +1,7 @@
 ghost use Rattle.std.specs.Prelude.{ℕ, ◌≡◌, ◌<◌, ◌+◌, ◌↔◌, true, false, Some, IfSome};
 ghost use Rattle.heap_words.specs.Access.{table_index};
 ghost use Rattle.heap_words.specs.Words.{Heap, IsWord, table_words};
-ghost use Rattle.steps_base.specs.Touch.{placed};
+ghost use Rattle.heap_words.specs.Touch.{placed};
 ghost use Rattle.helper.specs.Rows as rows;
 ghost use Rattle.helper.specs.Ready.{spot_fits, UnitGoesOn};
 ghost use Rattle.helper.specs.Waits.{waits_at};

@@ -60,3 +60,6 @@ pub mod Loosening
 pub mod RegionSets
 pub mod Starts
 pub mod Filling
+pub mod Holding
+pub mod Reading
+pub mod Seats

@@ -22,3 +22,4 @@ pub mod Left
 pub mod Make
 pub mod Pack
 pub mod Leftovers
+pub mod Laid

@@ -6,7 +6,7 @@ use Rattle.std.proofs.lemmas.Bool.Decides.{nat_tests}
 use Rattle.heap_words.specs.declared.config.Config.{Config}
 use Rattle.heap_words.specs.Encoding.{next_in, plain_header, header_word, is_forwarded, forwardee_in, object_words}
 use Rattle.heap_words.specs.Words.{Word, Evac, Heap}
-use Rattle.steps_base.specs.Touch.{touch, touched, loads, formed}
+use Rattle.heap_words.specs.Touch.{touch, touched, loads, formed}
 use Rattle.heap_world.proofs.Keeping.{load_keeps}
 use Rattle.alloc_buffers.specs.declared.spot.Taken.TheVariants.{At, NoRoom}
 use Rattle.alloc_buffers.specs.declared.spot.TakeSpot.{TakeSpot}

@@ -3,7 +3,7 @@ use Rattle.std.specs.Prelude.{ℕ, ◌≡◌, ◌+◌, ◌≤◌, ◌<◌, ◌^�
 use Rattle.heap_words.specs.declared.config.Config.{Config}
 use Rattle.heap_words.specs.Encoding.{next_in, plain_header, is_forwarded, object_words}
 use Rattle.heap_words.specs.Words.{Word, Evac, Heap}
-use Rattle.steps_base.specs.Touch.{touched}
+use Rattle.heap_words.specs.Touch.{touched}
 use Rattle.heap_words.specs.Counter.{count_of, is_out_of_room, IsQuiet}
 use Rattle.heap_words.specs.Phases.{updating_phase}
 use Rattle.evac_room.specs.Spot.{is_counted}

@@ -11,7 +11,7 @@ use Rattle.heap_words.specs.declared.access.Took.TheVariants.{More, Again, Done}
 use Rattle.heap_words.specs.Encoding.{plain_header, header_word, is_forwarded, forwardee_in, object_words, buffer_word}
 use Rattle.heap_words.specs.Words.{Evac, Current, Heap}
 use Rattle.heap_words.specs.Phases.{updating_phase}
-use Rattle.steps_base.specs.Touch.{Touch, touch, loads, stores, subtracts, exchanges}
+use Rattle.heap_words.specs.Touch.{Touch, touch, loads, stores, subtracts, exchanges}
 use Rattle.alloc_buffers.specs.declared.spot.Kind.TheVariants.{Evacuated}
 use Rattle.alloc_buffers.specs.declared.spot.Taken.TheVariants.{At, NoRoom}
 use Rattle.alloc_buffers.specs.declared.spot.TakeSpot.{TakeSpot}

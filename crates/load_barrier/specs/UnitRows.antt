@@ -12,7 +12,7 @@ use Rattle.heap_words.specs.declared.access.Unit.TheVariants.{Worked, NoneLeft}
 use Rattle.heap_words.specs.Encoding.{filler_words_in, object_words}
 use Rattle.heap_words.specs.Words.{Claim, Top, Black, Heap}
 use Rattle.heap_words.specs.Phases.{evacuation_phase}
-use Rattle.steps_base.specs.Touch.{Touch, touch, loads, exchanges}
+use Rattle.heap_words.specs.Touch.{Touch, touch, loads, exchanges}
 use Rattle.regions.specs.Place.{region_with, base_of}
 use Rattle.regions.specs.Marks.{mark_word, mark_bit}
 use Rattle.load_barrier.specs.declared.spot.ResolveSpot.{ResolveSpot}

@@ -2,7 +2,7 @@ ghost use Rattle.std.specs.Prelude.{◌≡◌, ◌<◌, ◌+◌, ◌↔◌, true
 ghost use Rattle.heap_words.specs.Ranges.{seat_count};
 ghost use Rattle.heap_words.specs.Access.{table_index};
 ghost use Rattle.heap_words.specs.Words.{Heap, IsWord, table_words};
-ghost use Rattle.steps_base.specs.Touch.{placed};
+ghost use Rattle.heap_words.specs.Touch.{placed};
 ghost use Rattle.load_barrier.specs.UnitRows as rows;
 ghost use Rattle.load_barrier.specs.Fit as resolve;
 ghost use Rattle.load_barrier.specs.UnitFit.{is_ready, IsFit};

@@ -20,7 +20,7 @@ impl EvacUnit {
     ghost use Rattle.std.specs.Prelude.{false, ◌^◌, ◌↔◌};
     ghost use Rattle.heap_words.specs.Access.{table_index};
     ghost use Rattle.heap_words.specs.Words.{table_words};
-    ghost use Rattle.steps_base.specs.Touch.{placed};
+    ghost use Rattle.heap_words.specs.Touch.{placed};
     ghost use Rattle.load_barrier.specs.UnitRows.{place_at, touch_at, next_at, says_at, is_ended};
     ghost use Rattle.load_barrier.specs.UnitFit.{IsFit};
     ghost use Rattle.load_barrier.specs.UnitEnds.{WaitsAt, HasNoneLeft};

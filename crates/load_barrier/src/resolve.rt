@@ -24,7 +24,7 @@ impl Resolve {
     ghost use Rattle.std.specs.Prelude.{false, ◌≤◌, ◌↔◌};
     ghost use Rattle.heap_words.specs.Access.{table_index};
     ghost use Rattle.heap_words.specs.Words.{table_words};
-    ghost use Rattle.steps_base.specs.Touch.{placed};
+    ghost use Rattle.heap_words.specs.Touch.{placed};
     ghost use Rattle.load_barrier.specs.Rows.{place_at, touch_at, next_at, says_at, is_resolved};
     ghost use Rattle.load_barrier.specs.Fit.{IsFit};
     ghost use Rattle.load_barrier.specs.Waits.{WaitsAt};

@@ -6,8 +6,8 @@ use Rattle.heap_words.specs.Access.{table_index}
 use Rattle.heap_words.specs.Words.{IsWord, is_word, word_at, table_words, view}
 use Rattle.heap_words.proofs.Rows.{word_inside}
 use Rattle.heap_words.proofs.Stores.{is_word_true, view_word}
-use Rattle.steps_base.specs.Touch.{Touch, placed}
-use Rattle.steps_base.proofs.Touches.{table_index-access_at}
+use Rattle.heap_words.specs.Touch.{Touch, placed}
+use Rattle.heap_words.proofs.Touches.{table_index-access_at}
 use Rattle.shen_graph.specs.declared.order.Order.{Order}
 use Rattle.shen_graph.specs.declared.order.Order.TheVariants.{Nothing, Begin, End, Hint}
 use Rattle.mutator.specs.declared.spot.Kept.{Kept}

@@ -13,7 +13,7 @@ use Rattle.alloc_buffers.specs.declared.spot.Taken.TheVariants.{At, NoRoom}
 use Rattle.alloc_buffers.specs.Rows as takes
 use Rattle.shen_graph.specs.declared.order.Order.TheVariants.{Nothing}
 use Rattle.mutator.specs.Rows.{Mutating, words_made, after_take, take_next, next_at}
-use Rattle.steps_base.specs.Fits.{touch_fits}
+use Rattle.heap_words.specs.Fits.{touch_fits}
 use Rattle.std.specs.Prelude.{◌&&◌}
 use Rattle.mutator.specs.Fit.{is_ready, can_make, is_going, IsReady, make_goes}
 

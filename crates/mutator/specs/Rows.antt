@@ -10,7 +10,7 @@ use Rattle.heap_words.specs.Words.{Left, State, Phase, Cset, Ask, Root, Heap}
 use Rattle.heap_words.specs.Words as words
 use Rattle.heap_words.specs.Encoding.{refs_in, thread_in, count_in, fresh_word}
 use Rattle.heap_words.specs.Phases.{idle_phase, marking_phase}
-use Rattle.steps_base.specs.Touch.{Touch, touch, loads, stores, swaps, subtracts, sets_bits, exchanges}
+use Rattle.heap_words.specs.Touch.{Touch, touch, loads, stores, swaps, subtracts, sets_bits, exchanges}
 use Rattle.handshake.specs.declared.enter_spot.EnterSpot.TheVariants.{Raise, Look}
 use Rattle.handshake.specs.Rows as enters
 use Rattle.alloc_buffers.specs.Rows as takes

@@ -7,7 +7,7 @@ use Rattle.heap_words.specs.declared.access.Took.{Took}
 use Rattle.heap_words.specs.declared.access.Took.TheVariants.{More, Again}
 use Rattle.heap_words.specs.Words.{State, Ask, Root, Wait, Answer}
 use Rattle.heap_words.specs.Encoding.{shape_word, request_code}
-use Rattle.steps_base.specs.Touch.{Touch, touch, loads, stores, sets_bits}
+use Rattle.heap_words.specs.Touch.{Touch, touch, loads, stores, sets_bits}
 use Rattle.shen_graph.specs.declared.name.Name.{Name}
 use Rattle.shen_graph.specs.declared.command.Command.{Command}
 use Rattle.shen_graph.specs.declared.command.Reply.TheVariants as reply

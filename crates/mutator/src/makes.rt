@@ -1,6 +1,6 @@
 ghost use Rattle.std.specs.Prelude.{◌≡◌, ◌<◌, true};
-ghost use Rattle.steps_base.specs.Touch.{placed};
-ghost use Rattle.steps_base.specs.Fits.{touch_fits};
+ghost use Rattle.heap_words.specs.Touch.{placed};
+ghost use Rattle.heap_words.specs.Fits.{touch_fits};
 ghost use Rattle.heap_words.specs.Encoding as encoding;
 ghost use Rattle.mutator.specs.Rows as rows;
 ghost use Rattle.mutator.specs.WaitRows.{next_name};

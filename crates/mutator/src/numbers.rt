@@ -1,6 +1,6 @@
 ghost use Rattle.std.specs.Prelude.{◌≡◌, true};
-ghost use Rattle.steps_base.specs.Touch.{placed};
-ghost use Rattle.steps_base.specs.Fits.{touch_fits};
+ghost use Rattle.heap_words.specs.Touch.{placed};
+ghost use Rattle.heap_words.specs.Fits.{touch_fits};
 ghost use Rattle.mutator.specs.Rows as rows;
 
 use crate::commands::{index_of, number_of};

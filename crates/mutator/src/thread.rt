@@ -1,5 +1,5 @@
 ghost use Rattle.std.specs.Prelude.{◌≡◌, ◌<◌, true, length};
-ghost use Rattle.steps_base.specs.Touch.{placed};
+ghost use Rattle.heap_words.specs.Touch.{placed};
 ghost use Rattle.mutator.specs.Orders.{is_pending};
 ghost use Rattle.mutator.specs.Rows.{first_touch};
 ghost use Rattle.mutator.specs.Fit.{is_ready};

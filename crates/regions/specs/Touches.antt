@@ -2,7 +2,7 @@
 use Rattle.std.specs.Prelude.{ℕ}
 use Rattle.heap_words.specs.declared.config.Config.{Config}
 use Rattle.heap_words.specs.Words.{Grey, Black}
-use Rattle.steps_base.specs.Touch.{Touch, touch, sets_bits}
+use Rattle.heap_words.specs.Touch.{Touch, touch, sets_bits}
 use Rattle.regions.specs.Marks.{mark_word, mark_mask}
 
 -- the access that makes an address grey

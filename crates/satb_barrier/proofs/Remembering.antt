@@ -6,7 +6,7 @@ use Rattle.std.proofs.lemmas.Bool.{cond-true, cond-false, eq-eqb}
 use Rattle.std.proofs.lemmas.Bool.Decides.{nat_tests}
 use Rattle.heap_words.specs.declared.config.Config.{Config}
 use Rattle.heap_words.specs.Words.{Word, Count, Buffer, Heap, IsWord}
-use Rattle.steps_base.specs.Touch.{touch, touched, loads, stores}
+use Rattle.heap_words.specs.Touch.{touch, touched, loads, stores}
 use Rattle.regions.specs.Marks.{mark_word, mark_bit, HasMark}
 use Rattle.regions.specs.Touches.{grey_touch}
 use Rattle.regions.proofs.MarksApart.{bit_below, bits_stay, mark_set}

@@ -8,7 +8,7 @@ use Rattle.heap_words.specs.declared.place.Place.TheVariants as place
 use Rattle.heap_words.specs.declared.access.Took.{Took}
 use Rattle.heap_words.specs.declared.access.Took.TheVariants.{More, Done}
 use Rattle.heap_words.specs.Words.{Count, Buffer, Heap, IsWord, is_word}
-use Rattle.steps_base.specs.Touch.{Touch, touch, loads, stores}
+use Rattle.heap_words.specs.Touch.{Touch, touch, loads, stores}
 use Rattle.regions.specs.Touches.{grey_touch}
 use Rattle.satb_barrier.specs.declared.spot.RememberSpot.{RememberSpot}
 use Rattle.satb_barrier.specs.declared.spot.RememberSpot.TheVariants.{LoadCount, LoadEntry, MarkEntry, ClearCount, StoreEntry, StoreCount, Recorded}

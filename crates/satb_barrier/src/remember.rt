@@ -21,7 +21,7 @@ impl Remember {
     ghost use Rattle.std.specs.Prelude.{false, ◌↔◌};
     ghost use Rattle.heap_words.specs.Access.{table_index};
     ghost use Rattle.heap_words.specs.Words.{table_words};
-    ghost use Rattle.steps_base.specs.Touch.{placed};
+    ghost use Rattle.heap_words.specs.Touch.{placed};
     ghost use Rattle.satb_barrier.specs.Rows.{place_at, touch_at, next_at, says_at, is_recorded, IsFit};
     ghost use Rattle.satb_barrier.specs.Seen.{recorder_of, spot_of};
 

@@ -2,9 +2,9 @@
 use Rattle.std.proofs.Common.{◌≡◌, ℕ, suc, List, [], ◌∷◌, length, refl, sym, ap, ◌∙◌}
 use mathlib.Core.Option.{some}
 use lib.ListN.{get_elem?}
-use Rattle.steps_base.specs.Steps.{MachineKind, Stage, Event, go}
-use Rattle.steps_base.proofs.Runs.{go-keeps}
-use Rattle.steps_base.proofs.Laws.{length-machines, length-words}
+use Rattle.heap_words.specs.Steps.{MachineKind, Stage, Event, go}
+use Rattle.heap_words.proofs.Runs.{go-keeps}
+use Rattle.heap_words.proofs.Laws.{length-machines, length-words}
 use Rattle.shared_table.specs.Views.{View, machine_of, whole, machines_of, HasAllMachines}
 use Rattle.shared_table.specs.Rule.{IsDealt}
 use Rattle.shared_table.proofs.ViewsShow.{machine_of-whole, same_elements}

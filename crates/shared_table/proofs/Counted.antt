@@ -6,7 +6,7 @@ use Rattle.std.proofs.lemmas.List.{map-set}
 use Rattle.std.proofs.lemmas.Option.{slice_get-map}
 use Rattle.atomic_table.specs.Table.{Me}
 use Rattle.heap_words.specs.declared.access.Access.{Access}
-use Rattle.steps_base.specs.Steps.{MachineKind, Stage, Event, accessed, moved, act_of, act, go, IsReached, Finds}
+use Rattle.heap_words.specs.Steps.{MachineKind, Stage, Event, accessed, moved, act_of, act, go, IsReached, Finds}
 use Rattle.shared_table.specs.Views.{View, machine_of, whole, machines_of, HasAllMachines, kept_one}
 use Rattle.shared_table.specs.Counted.{Counted, uncounted_machine, steps_made, at_start, counting, counted_from, uncounted_stage, uncounted_view, steps_in_view, uncounted_seat}
 use Rattle.shared_table.specs.Rule.{Took}

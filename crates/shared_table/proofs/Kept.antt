@@ -5,7 +5,7 @@ use Rattle.shared_table.specs.Views.{View, machine_of, whole, machines_picked, m
 use Rattle.std.specs.Option.{is_some}
 use Rattle.atomic_table.specs.Table.{Me}
 use Rattle.heap_words.specs.declared.access.Access.{Access}
-use Rattle.steps_base.specs.Steps.{MachineKind, Stage, Finds}
+use Rattle.heap_words.specs.Steps.{MachineKind, Stage, Finds}
 use Rattle.shared_table.specs.Rule.{Took}
 use Rattle.shared_table.specs.Laws.{KeptLaws, StepLaws}
 

@@ -4,7 +4,7 @@ use Rattle.std.specs.Prelude.{◌==◌, if◌then◌else◌}
 use Rattle.std.proofs.lemmas.Bool.Decides.{nat_tests}
 use Rattle.std.proofs.Common.{arith}
 use Rattle.atomic_table.specs.Table.{Me}
-use Rattle.steps_base.specs.Steps.{MachineKind, Stage, HasReached}
+use Rattle.heap_words.specs.Steps.{MachineKind, Stage, HasReached}
 use Rattle.shared_table.specs.Views.{View, machine_of, whole, machines_picked, merged, whichever_is_there}
 use Rattle.shared_table.specs.Rule.{Took, AreReached}
 use Rattle.shared_table.specs.Laws.{ReachLaws}

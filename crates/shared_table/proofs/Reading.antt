@@ -4,7 +4,7 @@ use Rattle.std.specs.Prelude.{slice_set, slice_index}
 use mathlib.Core.Option.{some}
 use lib.ListN.{get_elem?}
 use Rattle.atomic_table.specs.Table.{State, Me, keeps, Allows}
-use Rattle.steps_base.specs.Steps.{MachineKind, Stage, go}
+use Rattle.heap_words.specs.Steps.{MachineKind, Stage, go}
 use Rattle.shared_table.specs.Views.{View, machines_of, HasAllMachines}
 use Rattle.shared_table.specs.Rule.{IsDealt, Rule}
 use Rattle.shared_table.proofs.Closing.{length-go, whole_has_all}

@@ -6,9 +6,9 @@ use lib.ListN.{get_elem?}
 use Rattle.heap_words.specs.declared.access.Access.{Access}
 use Rattle.heap_words.specs.Access.{table_index, made_of}
 use Rattle.atomic_table.specs.Table.{State, Me, keeps, Allows, Splits, Joins, Final, Seen, opening}
-use Rattle.steps_base.specs.Steps.{MachineKind, Stage, Event, go, moved, IsEvent, IsReached, HasReached, Finds}
-use Rattle.steps_base.proofs.Runs.{go-none, go-step, has_start}
-use Rattle.steps_base.proofs.Laws.{act-event, has_next}
+use Rattle.heap_words.specs.Steps.{MachineKind, Stage, Event, go, moved, IsEvent, IsReached, HasReached, Finds}
+use Rattle.heap_words.proofs.Runs.{go-none, go-step, has_start}
+use Rattle.heap_words.proofs.Laws.{act-event, has_next}
 use Rattle.shared_table.specs.Views.{View, machine_of, whole, machines_of, machines_picked, machines_left, merged, HasAllMachines}
 use Rattle.shared_table.specs.Rule.{IsDealt, IsRuleKept, Rule, Took, TookAs}
 use Rattle.shared_table.specs.Laws.{TableLaws}

@@ -2,7 +2,7 @@
 -- machines. The numbers are ghost: no word has them.
 use Rattle.std.specs.Prelude.{ℕ, ◌+◌, map}
 use Rattle.atomic_table.specs.Table.{Me}
-use Rattle.steps_base.specs.Steps.{MachineKind, Stage}
+use Rattle.heap_words.specs.Steps.{MachineKind, Stage}
 use Rattle.shared_table.specs.Views.{View, kept_in_view}
 
 -- a machine, and how many steps it has made

@@ -1,7 +1,7 @@
 -- What the seat that has all machines of a table knows of them.
 use Rattle.std.specs.Prelude.{ℕ, ◌≡◌, List, Option, Some, length}
 use Rattle.atomic_table.specs.Table.{Me}
-use Rattle.steps_base.specs.Steps.{MachineKind, Stage, IsReached}
+use Rattle.heap_words.specs.Steps.{MachineKind, Stage, IsReached}
 use Rattle.shared_table.specs.Views.{View, machines_of, HasAllMachines}
 
 -- some events lead from the start to just these machines, and to some words

@@ -5,7 +5,7 @@ use Rattle.std.specs.Option.{is_some}
 use Rattle.heap_words.specs.declared.access.Access.{Access}
 use Rattle.heap_words.specs.Access.{table_index, made_of}
 use Rattle.atomic_table.specs.Table.{Me, Allows, Splits, Joins, Final, Seen, opening}
-use Rattle.steps_base.specs.Steps.{MachineKind, Stage, Event, go, IsReached, HasReached, Finds}
+use Rattle.heap_words.specs.Steps.{MachineKind, Stage, Event, go, IsReached, HasReached, Finds}
 use Rattle.shared_table.specs.Views.{View, machine_of, whole, machines_of, HasAllMachines, machines_picked, machines_left, merged, is_dealt_to, dealt_to, dealt_below, kept_one, kept_in_view, SameNumbers}
 use Rattle.shared_table.specs.Counted.{Counted, counting, counted_from, uncounted_stage, uncounted_view, steps_in_view, uncounted_seat}
 use Rattle.shared_table.specs.Rule.{Rule, Took, AreReached}

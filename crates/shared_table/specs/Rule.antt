@@ -2,7 +2,7 @@
 -- nothing of the machines but that they are of one kind.
 use Rattle.std.specs.Prelude.{ℕ, ◌≡◌, ◌==◌, List, Option, Some, None, slice_get, slice_set, if◌then◌else◌}
 use Rattle.atomic_table.specs.Table.{State, Me}
-use Rattle.steps_base.specs.Steps.{MachineKind, Stage, Event, go, HasReached, Finds}
+use Rattle.heap_words.specs.Steps.{MachineKind, Stage, Event, go, HasReached, Finds}
 use Rattle.shared_table.specs.Views.{View, machine_of, seen_under}
 
 -- each machine is in one view, that of its owner, and in no other. No view has a machine that there is not

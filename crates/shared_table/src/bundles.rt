@@ -1,6 +1,6 @@
 ghost use Rattle.std.specs.Prelude.{◌≡◌, ◌<◌, [], length, IfOk};
 ghost use Rattle.std.specs.Slots.{slots_items, slots_len, IsFull};
-ghost use Rattle.steps_base.specs.Steps.{IsReached};
+ghost use Rattle.heap_words.specs.Steps.{IsReached};
 ghost use Rattle.shared_table.specs.Views.{whole, machines_of, machines_picked, machines_left, merged, is_dealt_to, HasAllMachines};
 
 use crate::machines::{Cut, Machines, Parts, SharedWords, StepsTable, Union, ViewSeat};

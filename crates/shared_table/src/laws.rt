@@ -1,5 +1,5 @@
 ghost use Rattle.std.specs.Prelude.{ℕ};
-ghost use Rattle.steps_base.specs.Steps.{MachineKind, Stage};
+ghost use Rattle.heap_words.specs.Steps.{MachineKind, Stage};
 ghost use Rattle.shared_table.specs.Views as views;
 ghost use Rattle.shared_table.specs.Laws.{TableLaws, ReachLaws, DealingLaws, KeptLaws, StepLaws, NumberLaws, CountLaws};
 

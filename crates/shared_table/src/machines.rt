@@ -1,5 +1,5 @@
 ghost use Rattle.std.specs.Prelude.{ℕ, Option, None, []};
-ghost use Rattle.steps_base.specs.Steps.{MachineKind, Stage};
+ghost use Rattle.heap_words.specs.Steps.{MachineKind, Stage};
 ghost use Rattle.shared_table.specs.Views.{whole, machines_picked, machines_left, merged};
 ghost use Rattle.shared_table.specs.Rule.{Rule, TookAs};
 

@@ -9,9 +9,9 @@ use Rattle.heap_words.specs.declared.config.Config.{Config}
 use Rattle.heap_machines.proofs.Turns.{role_stays}
 use Rattle.heap_machines.proofs.OnScript.{script_step, script_done}
 use Rattle.heap_machines.proofs.Openings.{first_actor, first_role, first_on_script}
-use Rattle.steps_base.specs.Steps.{Stage, Event, act, go, moved}
-use Rattle.steps_base.proofs.Laws.{act_cases}
-use Rattle.steps_base.proofs.Places.{slice_get-set_same, slice_get-set_other}
+use Rattle.heap_words.specs.Steps.{Stage, Event, act, go, moved}
+use Rattle.heap_words.proofs.Laws.{act_cases}
+use Rattle.heap_words.proofs.Places.{slice_get-set_same, slice_get-set_other}
 use Rattle.shen_graph.specs.declared.order.Order.{Order}
 use Rattle.step_core.specs.Actor.{Actor}
 use Rattle.step_core.specs.Machines.{took_of, kind}

@@ -13,8 +13,8 @@ use Rattle.step_core.proofs.History.Crowds.{sum_below_le, sum_by_range}
 use Rattle.heap_machines.specs.Pause.{pause_image}
 use Rattle.heap_machines.proofs.Pauses.{heap_pauses}
 use Rattle.heap_words.specs.declared.config.Config.{Config}
-use Rattle.steps_base.specs.Steps.{Stage, Event, go}
-use Rattle.steps_base.proofs.Runs.{go-append}
+use Rattle.heap_words.specs.Steps.{Stage, Event, go}
+use Rattle.heap_words.proofs.Runs.{go-append}
 use Rattle.shen_graph.specs.declared.order.Order.{Order}
 use Rattle.shen_graph.specs.declared.command.Command.{Command}
 use Rattle.shen_graph.specs.declared.command.Reply.{Reply}

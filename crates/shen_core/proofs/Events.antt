@@ -7,9 +7,9 @@ use Rattle.std.proofs.lemmas.Option.{slice_get-map, same_Some}
 use Rattle.std.proofs.lemmas.List.{map-set}
 use Rattle.heap_words.specs.declared.config.Config.{Config}
 use Rattle.heap_words.specs.Access.{table_index}
-use Rattle.steps_base.specs.Steps.{Stage, IsEvent, accessed, moved, act, go}
-use Rattle.steps_base.proofs.Runs.{go-step}
-use Rattle.steps_base.proofs.Laws.{act-event}
+use Rattle.heap_words.specs.Steps.{Stage, IsEvent, accessed, moved, act, go}
+use Rattle.heap_words.proofs.Runs.{go-step}
+use Rattle.heap_words.proofs.Laws.{act-event}
 use Rattle.shen_graph.specs.declared.command.Command.{Command}
 use Rattle.shen_graph.specs.History.{Entry}
 use Rattle.shen_graph.specs.declared.order.Order.{Order}

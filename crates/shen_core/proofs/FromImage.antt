@@ -9,8 +9,8 @@ use Rattle.heap_words.specs.Ranges.{seat_count}
 use Rattle.heap_words.specs.Words.{view, table_words}
 use Rattle.shen_graph.specs.declared.order.Order.{Order}
 use Rattle.shen_graph.specs.declared.order.Order.TheVariants.{Nothing}
-use Rattle.steps_base.specs.Steps.{Stage}
-use Rattle.steps_base.proofs.Runs.{go-none}
+use Rattle.heap_words.specs.Steps.{Stage}
+use Rattle.heap_words.proofs.Runs.{go-none}
 use Rattle.shen_graph.specs.Graph.{Graph}
 use Rattle.mutator.specs.Rows.{mutator_after}
 use Rattle.heap_machines.specs.Pause.{pause_image}

@@ -5,8 +5,8 @@ use Rattle.std.proofs.lemmas.List.{length-append, length-map}
 use Rattle.std.specs.Prelude.{nat_le}
 use Rattle.heap_words.specs.declared.config.Config.{Config}
 use Rattle.heap_words.specs.declared.place.Place.{Place}
-use Rattle.steps_base.specs.Steps.{Stage, Event, act, go}
-use Rattle.steps_base.proofs.Runs.{go-none, go-first, go-append}
+use Rattle.heap_words.specs.Steps.{Stage, Event, act, go}
+use Rattle.heap_words.proofs.Runs.{go-none, go-first, go-append}
 use Rattle.shen_graph.specs.declared.order.Order.{Order}
 use Rattle.step_core.specs.Actor.{Actor}
 use Rattle.step_core.specs.Machines.{kind}

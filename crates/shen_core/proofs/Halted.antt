@@ -4,7 +4,7 @@ use Rattle.std.specs.Prelude.{slice_set, slice_index}
 use Rattle.std.proofs.lemmas.List.{set-get_or}
 use Rattle.heap_words.specs.Access.{table_index}
 use Rattle.heap_words.specs.Words.{Pause, word_at, view}
-use Rattle.steps_base.specs.Steps.{accessed}
+use Rattle.heap_words.specs.Steps.{accessed}
 use Rattle.shen_graph.specs.declared.order.Order.TheVariants.{Nothing}
 use Rattle.heap_machines.specs.Answer.{stepped_by}
 use Rattle.heap_machines.specs.Pause.{pause_image}

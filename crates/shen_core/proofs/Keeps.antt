@@ -4,8 +4,8 @@ use Rattle.heap_machines.specs.Pause.{pause_image}
 use Rattle.std.specs.Prelude.{nat_le, if◌then◌else◌}
 use Rattle.std.proofs.lemmas.Option.{same_Some}
 use Rattle.heap_words.specs.declared.config.Config.{Config}
-use Rattle.steps_base.specs.Steps.{Stage, Event, act, go}
-use Rattle.steps_base.proofs.Runs.{go-none, go-first}
+use Rattle.heap_words.specs.Steps.{Stage, Event, act, go}
+use Rattle.heap_words.proofs.Runs.{go-none, go-first}
 use Rattle.shen_graph.specs.declared.order.Order.{Order}
 use Rattle.step_core.specs.Actor.{Actor}
 use Rattle.step_core.specs.Machines.{kind}

@@ -27,9 +27,9 @@ use Rattle.step_core.specs.Actor as actors
 use Rattle.step_core.specs.Machines.{takes_of, plan_of, place_in, answer_of, machine_after, kind, WaitsIn}
 use Rattle.step_core.specs.Opening.{opening_words, opening_machine, opening}
 use Rattle.step_core.proofs.Theorem.FirstFacts.{opening_run}
-use Rattle.steps_base.specs.Steps.{accessed}
-use Rattle.steps_base.proofs.Places.{slice_get-set_same}
-use Rattle.steps_base.proofs.Runs.{go-none}
+use Rattle.heap_words.specs.Steps.{accessed}
+use Rattle.heap_words.proofs.Places.{slice_get-set_same}
+use Rattle.heap_words.proofs.Runs.{go-none}
 use Rattle.shen_core.specs.Runs.{WordsShow, event, IsShownBySome, IsOneEvent, machine_next}
 use Rattle.shen_core.proofs.Events.{one_event}
 

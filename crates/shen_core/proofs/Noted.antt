@@ -10,9 +10,9 @@ use Rattle.heap_words.specs.declared.config.Config.{Config}
 use Rattle.heap_words.specs.declared.access.Took.{Took}
 use Rattle.heap_words.specs.declared.access.Took.TheVariants as took
 use Rattle.heap_words.specs.Access.{table_index}
-use Rattle.steps_base.specs.Steps.{Stage, IsEvent, moved, act}
-use Rattle.steps_base.proofs.Laws.{act-event, machines_other}
-use Rattle.steps_base.proofs.Places.{slice_get-set_same}
+use Rattle.heap_words.specs.Steps.{Stage, IsEvent, moved, act}
+use Rattle.heap_words.proofs.Laws.{act-event, machines_other}
+use Rattle.heap_words.proofs.Places.{slice_get-set_same}
 use Rattle.shen_graph.specs.declared.command.Reply.{Reply}
 use Rattle.shen_graph.specs.Work as work
 use Rattle.shen_graph.proofs.Noted.{script_kept, replies_same, replies_other, script_stays}

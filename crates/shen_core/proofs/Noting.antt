@@ -7,8 +7,8 @@ use Rattle.heap_machines.specs.Pause.{pause_image}
 use Rattle.heap_words.specs.declared.config.Config.{Config}
 use Rattle.heap_words.specs.declared.schedule.Item.{Item}
 use Rattle.heap_words.specs.Ranges.{seat_count}
-use Rattle.steps_base.specs.Steps.{Stage, Event, act, go}
-use Rattle.steps_base.proofs.Runs.{go-append}
+use Rattle.heap_words.specs.Steps.{Stage, Event, act, go}
+use Rattle.heap_words.proofs.Runs.{go-append}
 use Rattle.shen_graph.specs.declared.order.Order.{Order}
 use Rattle.shen_graph.specs.History.{Entry}
 use Rattle.shen_graph.specs.Noting.{Noting}

@@ -9,8 +9,8 @@ use Rattle.step_core.specs.Schedule.{task_of, Scripts, turn, Agenda, next, numbe
 use Rattle.shen_core.specs.Progress.{DoesTask, Jobs, Tells, Runs, agenda, Turned, HasTurned, IsPassed, AreIdle, AllIdle, SomeBusy}
 use Rattle.heap_words.specs.declared.config.Config.{Config}
 use Rattle.heap_words.specs.Ranges.{seat_count}
-use Rattle.steps_base.specs.Steps.{Stage, Event, act, go}
-use Rattle.steps_base.proofs.Runs.{go-none, go-append}
+use Rattle.heap_words.specs.Steps.{Stage, Event, act, go}
+use Rattle.heap_words.proofs.Runs.{go-none, go-append}
 use Rattle.shen_graph.specs.declared.order.Order.{Order}
 use Rattle.step_core.specs.Actor.{Actor}
 use Rattle.step_core.specs.Machines.{kind}

@@ -12,10 +12,10 @@ use Rattle.heap_words.specs.Access.{table_index}
 use Rattle.heap_words.specs.Words.{Word, Answer, Phase, Cset, IsWord, view, image_start, table_words}
 use Rattle.heap_words.specs.Rows.{name_of}
 use Rattle.heap_words.proofs.Named.{are_named}
-use Rattle.steps_base.specs.Steps.{Stage, Event, act, go, moved}
-use Rattle.steps_base.proofs.Laws.{act_cases, machines_other}
-use Rattle.steps_base.proofs.Places.{slice_get-set_same, slice_get-set_other}
-use Rattle.steps_base.proofs.Runs.{go-none, go-first, go-step}
+use Rattle.heap_words.specs.Steps.{Stage, Event, act, go, moved}
+use Rattle.heap_words.proofs.Laws.{act_cases, machines_other}
+use Rattle.heap_words.proofs.Places.{slice_get-set_same, slice_get-set_other}
+use Rattle.heap_words.proofs.Runs.{go-none, go-first, go-step}
 use Rattle.shen_graph.specs.declared.command.Command.{Command}
 use Rattle.shen_graph.specs.declared.command.Reply.{Reply}
 use Rattle.shen_graph.specs.declared.command.Reply.TheVariants as reply

@@ -9,7 +9,7 @@ use Rattle.heap_machines.specs.Answer.{says}
 use Rattle.heap_machines.specs.Shown.{shown, no_machine}
 use Rattle.heap_machines.specs.declared.stepped.Stepped.{Stepped}
 use Rattle.step_core.specs.Actor.{Actor}
-use Rattle.steps_base.specs.Steps.{Event}
+use Rattle.heap_words.specs.Steps.{Event}
 use Rattle.shen_graph.specs.declared.history.Entry.{Entry}
 use Rattle.shen_graph.specs.declared.order.Order.{Order}
 use Rattle.step_core.specs.Machines.{plan_of, place_in}

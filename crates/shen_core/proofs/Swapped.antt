@@ -3,7 +3,7 @@ use Rattle.std.proofs.Common.{◌≡◌, ◌<◌, ◌≤◌, ℕ, ◌+◌, List,
 use Rattle.heap_machines.specs.Pause.{pause_image}
 use Rattle.heap_machines.specs.Shown.{no_machine}
 use Rattle.heap_words.specs.declared.schedule.Item.{Item}
-use Rattle.steps_base.specs.Steps.{Stage, go}
+use Rattle.heap_words.specs.Steps.{Stage, go}
 use Rattle.shen_graph.specs.declared.order.Order.TheVariants.{Nothing}
 use Rattle.shen_graph.specs.Noting.{Noting}
 use Rattle.shen_graph.specs.Valid.{IsValid}

@@ -2,7 +2,7 @@
 use Rattle.std.proofs.Common.{◌≡◌, ◌<◌, ℕ, ◌+◌, ◌-◌, [], ◌++◌, length, refl, sym, ap, ◌∙◌, subst, arith, ◌≤◌, ⊎_elim}
 use Rattle.std.proofs.lemmas.Bool.{cases_lt}
 use Rattle.std.proofs.lemmas.List.{append-nil}
-use Rattle.steps_base.specs.Steps.{Stage}
+use Rattle.heap_words.specs.Steps.{Stage}
 use Rattle.heap_machines.specs.Pause.{pause_image}
 use Rattle.step_core.specs.Actor.{Actor}
 use Rattle.step_core.specs.Schedule.{Scripts, Agenda, next, scheduled}

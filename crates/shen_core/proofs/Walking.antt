@@ -1,6 +1,6 @@
 -- Events one after the other.
 use Rattle.std.proofs.Common.{arith, ◌≡◌, ◌<◌, ℕ, ◌+◌, ◌-◌, Some, None, sym, ◌∙◌, subst}
-use Rattle.steps_base.specs.Steps.{act}
+use Rattle.heap_words.specs.Steps.{act}
 use Rattle.heap_machines.specs.Pause.{pause_image}
 use Rattle.step_core.specs.Machines.{kind}
 use Rattle.step_core.specs.Schedule.{Agenda}

@@ -2,7 +2,7 @@
 use Rattle.std.specs.Prelude.{ℕ, ◌≡◌, ◌+◌, ◌<◌, ◌≤◌, true, false, [], drop, Option, Some, None}
 use Rattle.heap_words.specs.declared.config.Config.{Config}
 use Rattle.heap_words.specs.declared.schedule.Item.{Item}
-use Rattle.steps_base.specs.Steps.{Stage, Event, act}
+use Rattle.heap_words.specs.Steps.{Stage, Event, act}
 use Rattle.shen_graph.specs.declared.history.Entry.{Entry}
 use Rattle.shen_graph.specs.declared.order.Order.{Order}
 use Rattle.heap_machines.specs.Pause.{pause_image}

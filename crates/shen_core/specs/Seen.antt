@@ -2,7 +2,7 @@
 use Rattle.std.specs.Prelude.{ℕ, ◌≡◌, Option, Some, None, slice_get, slice_index}
 use Rattle.heap_words.specs.declared.config.Config.{Config}
 use Rattle.heap_words.specs.Access.{table_index}
-use Rattle.steps_base.specs.Steps.{Stage, Event}
+use Rattle.heap_words.specs.Steps.{Stage, Event}
 use Rattle.shen_graph.specs.declared.history.Entry.{Entry}
 use Rattle.shen_graph.specs.declared.order.Order.{Order}
 use Rattle.heap_machines.specs.declared.stepped.Stepped.{Stepped}

@@ -2,7 +2,7 @@
 use Rattle.std.specs.Prelude.{ℕ, ◌≡◌, List, length}
 use Rattle.heap_words.specs.declared.config.Config.{Config}
 use Rattle.heap_words.specs.declared.schedule.Item.{Item}
-use Rattle.steps_base.specs.Steps.{Stage, go}
+use Rattle.heap_words.specs.Steps.{Stage, go}
 use Rattle.step_core.specs.Actor.{Actor}
 use Rattle.heap_machines.specs.Pause.{pause_image}
 use Rattle.step_core.specs.Machines.{kind}

@@ -5,13 +5,12 @@ ghost use Rattle.heap_machines.specs.Shown.{shown, order_of, heap_of};
 ghost use Rattle.shen_core.specs.Runs.{IsShownBySome};
 
 use heap_machines::{Machine, Stepped, machines_from, open_machines, words_from};
-use heap_words::{Access, Config, NoMemory, Place};
+use heap_words::{Access, Config, NoMemory, Place, make_access};
 use image_graph::Image;
 use shen_graph::{Command, Entry, GraphText, History, Reply, Work};
 use std::alloc::Global;
 use std::mem;
 use step_core::open_words;
-use steps_base::make_access;
 
 /// A heap and its machines, on one thread.
 #[derive(Drop)]
@@ -46,7 +45,7 @@ impl Plain {
     ghost use Rattle.heap_machines.specs.Inside.{is_inside_image};
     ghost use Rattle.heap_machines.specs.Roles.{is_mutating};
     ghost use Rattle.heap_machines.specs.Turn.{order_for};
-    ghost use Rattle.steps_base.specs.Steps.{Stage, accessed};
+    ghost use Rattle.heap_words.specs.Steps.{Stage, accessed};
     ghost use Rattle.step_core.specs.Actor.{Actor};
     ghost use Rattle.step_core.specs.History.{told};
     ghost use Rattle.shen_core.specs.Runs.{event};

@@ -2,7 +2,7 @@
 -- neither works on a unit nor has an image.
 use Rattle.std.specs.Prelude.{ℕ, ◌≡◌, ◌≢◌, false, true, Some, None, slice_get}
 use Rattle.heap_words.specs.declared.config.Config.{Config}
-use Rattle.steps_base.specs.Steps.{Stage}
+use Rattle.heap_words.specs.Steps.{Stage}
 use Rattle.handshake.specs.Standing.{is_within}
 use Rattle.mutator.specs.Orders.{is_between_calls}
 use Rattle.control_rows.specs.Rows.{Controlling}

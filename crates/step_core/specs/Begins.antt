@@ -3,7 +3,7 @@ use Rattle.std.specs.Prelude.{ℕ, ◌≡◌, ◌+◌, ◌<◌, true, List, [], 
 use Rattle.heap_words.specs.declared.config.Config.{Config}
 use Rattle.heap_words.specs.Ranges.{seat_count}
 use Rattle.heap_words.specs.Words.{Word, Pause, Left, State, Phase, Cset, view, table_words}
-use Rattle.steps_base.specs.Steps.{Stage, Event, go}
+use Rattle.heap_words.specs.Steps.{Stage, Event, go}
 use Rattle.shen_graph.specs.declared.order.Order.{Order}
 use Rattle.shen_graph.specs.Graph as graphs
 use Rattle.shen_graph.specs.Graph.{Graph}

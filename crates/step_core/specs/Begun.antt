@@ -1,7 +1,7 @@
 -- The commands that the threads of a stage have begun.
 use Rattle.std.specs.Prelude.{List, [], ◌∷◌, ◌++◌, map, take, if◌then◌else◌}
 use Rattle.heap_words.specs.declared.config.Config.{Config}
-use Rattle.steps_base.specs.Steps.{Stage}
+use Rattle.heap_words.specs.Steps.{Stage}
 use Rattle.shen_graph.specs.declared.command.Command.{Command}
 use Rattle.shen_graph.specs.History.{commands_of}
 use Rattle.step_core.specs.Actor.{Actor}

@@ -2,7 +2,7 @@
 use Rattle.std.specs.Prelude.{List, [], ◌∷◌, ◌++◌, Option, Some, None, slice_get, if◌then◌else◌}
 use Rattle.heap_words.specs.declared.config.Config.{Config}
 use Rattle.heap_world.specs.Change.{Change}
-use Rattle.steps_base.specs.Steps.{Stage, Event, act}
+use Rattle.heap_words.specs.Steps.{Stage, Event, act}
 use Rattle.shen_graph.specs.declared.order.Order.{Order}
 use Rattle.shen_graph.specs.History.{Entry}
 use Rattle.step_core.specs.Actor.{Machine, Actor}

@@ -11,8 +11,8 @@ use Rattle.heap_words.specs.Place.{same_place}
 use Rattle.heap_words.specs.Words.{Word, Answer, image_start}
 use Rattle.heap_words.specs.Rows.{name_of}
 use Rattle.heap_world.specs.Change.{Change}
-use Rattle.steps_base.specs.Touch.{placed}
-use Rattle.steps_base.specs.Steps.{MachineKind, Stage}
+use Rattle.heap_words.specs.Touch.{placed}
+use Rattle.heap_words.specs.Steps.{MachineKind, Stage}
 use Rattle.shen_graph.specs.declared.command.Command.{Command}
 use Rattle.shen_graph.specs.declared.command.Command.TheVariants.{Gc}
 use Rattle.shen_graph.specs.declared.command.Reply.{Reply}

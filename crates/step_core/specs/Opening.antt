@@ -5,7 +5,7 @@ use Rattle.heap_words.specs.declared.config.Config.{Config}
 use Rattle.heap_words.specs.Ranges.{seat_count}
 use Rattle.heap_words.specs.Words.{Word, Left, Free, Top, Root, Heap, word_at, table_words}
 use Rattle.heap_words.specs.Encoding.{plain_header, shape_word, name_code}
-use Rattle.steps_base.specs.Steps.{Stage}
+use Rattle.heap_words.specs.Steps.{Stage}
 use Rattle.shen_graph.specs.declared.command.Command.TheVariants.{Gc}
 use Rattle.mutator.specs.Rows.{fresh_mutator}
 use Rattle.step_core.specs.Actor.{Machine, mutating, fresh_helper, fresh_control, Actor}

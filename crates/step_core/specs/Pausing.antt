@@ -2,7 +2,7 @@
 use Rattle.std.specs.Prelude.{ℕ, ◌≡◌, ◌⊎◌, ◌+◌, ◌<◌, true, false, List, length, Some, slice_get, slice_index, if◌then◌else◌}
 use Rattle.heap_words.specs.declared.config.Config.{Config}
 use Rattle.heap_words.specs.Words.{is_image, image_start}
-use Rattle.steps_base.specs.Steps.{Stage}
+use Rattle.heap_words.specs.Steps.{Stage}
 use Rattle.shen_graph.specs.declared.order.Order.{Order}
 use Rattle.handshake.specs.Standing.{is_within, is_pausing}
 use Rattle.mutator.specs.declared.spot.Spot.TheVariants.{Waiting}

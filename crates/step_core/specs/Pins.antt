@@ -3,7 +3,7 @@ use Rattle.std.specs.Prelude.{ℕ, ◌≡◌, ◌≢◌, ◌+◌, ◌<◌, false
 use Rattle.heap_words.specs.declared.config.Config.{Config}
 use Rattle.heap_words.specs.Words.{Word, Pin, Heap}
 use Rattle.heap_words.specs.Encoding.{is_forwarded, name_code}
-use Rattle.steps_base.specs.Steps.{Stage, Event, act}
+use Rattle.heap_words.specs.Steps.{Stage, Event, act}
 use Rattle.shen_graph.specs.declared.order.Order.{Order}
 use Rattle.shen_graph.specs.declared.pin.Pinned.{Pinned}
 use Rattle.shen_graph.specs.Step.{slot_of}

@@ -8,7 +8,7 @@ ghost use Rattle.std.specs.Prelude.{ℕ, ◌≡◌, ◌<◌, true, List, Some, s
 ghost use Rattle.heap_words.specs.declared.config.Config.{Config};
 ghost use Rattle.heap_words.specs.Access.{table_index};
 ghost use Rattle.heap_words.specs.Words.{End, view, table_words};
-ghost use Rattle.steps_base.specs.Steps.{Stage, Event, go, HasReached, Finds};
+ghost use Rattle.heap_words.specs.Steps.{Stage, Event, go, HasReached, Finds};
 ghost use Rattle.shen_graph.specs.declared.order.Order.{Order};
 ghost use Rattle.shen_graph.specs.Graph.{Graph};
 ghost use Rattle.alloc_buffers.specs.Facts.{HasLess};

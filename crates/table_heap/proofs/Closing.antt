@@ -10,7 +10,7 @@ use lib.ListN.{get_elem?}
 use Rattle.heap_words.specs.declared.config.Config.{Config}
 use Rattle.heap_words.specs.Ranges.{seat_count}
 use Rattle.shen_graph.specs.declared.order.Order.TheVariants.{Nothing}
-use Rattle.steps_base.specs.Steps.{Stage, IsReached}
+use Rattle.heap_words.specs.Steps.{Stage, IsReached}
 use Rattle.shared_table.specs.Views.{View, machine_of, machines_of, whole, kept_in_view, HasAllMachines}
 use Rattle.shared_table.proofs.Kept.{length-kept, kept_some, kept_here}
 use Rattle.shared_table.proofs.Numbers.{all_here}

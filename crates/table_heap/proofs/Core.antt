@@ -10,7 +10,7 @@ use Rattle.shen_graph.specs.declared.order.Order.{Order}
 use Rattle.shen_graph.specs.declared.order.Order.TheVariants.{Nothing}
 use Rattle.heap_words.specs.Ranges.{seat_count}
 use Rattle.shen_graph.specs.Graph.{Graph}
-use Rattle.steps_base.specs.Steps.{Stage, Event, Finds}
+use Rattle.heap_words.specs.Steps.{Stage, Event, Finds}
 use Rattle.control_rows.specs.declared.spot.ControlSpot.{ControlSpot}
 use Rattle.control_rows.specs.declared.spot.ControlSpot.TheVariants.{StoreWord}
 use Rattle.control_rows.specs.Rows.{is_gone}

@@ -4,7 +4,7 @@ use Rattle.std.specs.Prelude.{slice_get, if◌then◌else◌}
 use Rattle.std.specs.Option.{option_map}
 use Rattle.shen_graph.specs.declared.order.Order.{Order}
 use Rattle.shen_graph.specs.declared.order.Order.TheVariants.{Nothing}
-use Rattle.steps_base.specs.Steps.{Stage}
+use Rattle.heap_words.specs.Steps.{Stage}
 use Rattle.step_core.specs.Actor.{Machine, Actor}
 use Rattle.step_core.specs.Machines.{takes_of, may_begin}
 use Rattle.step_core.specs.Schedule.{Scripts, nth_script, turn, turn_of}

@@ -25,3 +25,4 @@ pub mod Hinting
 pub mod Inside
 pub mod HintTotals
 pub mod Thieves
+pub mod Keeping

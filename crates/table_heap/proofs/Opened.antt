@@ -25,7 +25,7 @@ use Rattle.heap_machines.proofs.FromImages.{begins_from, stage_machines, stage_w
 use Rattle.image_graph.specs.State as images
 use Rattle.image_graph.specs.declared.image.Image.{Image}
 use Rattle.shen_graph.specs.Graph.{Graph}
-use Rattle.steps_base.specs.Steps.{Stage, IsReached}
+use Rattle.heap_words.specs.Steps.{Stage, IsReached}
 use Rattle.step_core.specs.Actor.{Actor}
 use Rattle.step_core.specs.Begins.{Begins}
 use Rattle.table_heap.specs.declared.key.HeapKey.{HeapKey}

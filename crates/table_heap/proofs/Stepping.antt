@@ -6,7 +6,7 @@ use Rattle.atomic_table.specs.Table.{Me}
 use Rattle.heap_words.specs.declared.access.Access.{Access}
 use Rattle.heap_words.specs.declared.config.Config.{Config}
 use Rattle.shen_graph.specs.declared.order.Order.{Order}
-use Rattle.steps_base.specs.Steps.{Finds}
+use Rattle.heap_words.specs.Steps.{Finds}
 use Rattle.shared_table.specs.Rule.{Took}
 use Rattle.shared_table.specs.Counted.{Counted, steps_in_view, uncounted_seat}
 use Rattle.shared_table.specs.Views.{View, machine_of, kept_in_view, machines_picked, merged, whichever_is_there, SameNumbers}

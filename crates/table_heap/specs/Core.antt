@@ -4,7 +4,7 @@ use Rattle.std.specs.Prelude.{[]}
 use Rattle.heap_words.specs.declared.config.Config.{Config}
 use Rattle.shen_graph.specs.declared.command.Command.TheVariants.{Gc}
 use Rattle.shen_graph.specs.declared.order.Order.{Order}
-use Rattle.steps_base.specs.Steps.{MachineKind, Stage}
+use Rattle.heap_words.specs.Steps.{MachineKind, Stage}
 use Rattle.heap_machines.specs.Pause.{pause_image}
 use Rattle.shared_table.specs.Counted.{Counted, counting, counted_from}
 use Rattle.step_core.specs.Actor.{Machine, Actor}

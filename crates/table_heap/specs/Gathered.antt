@@ -3,7 +3,7 @@ use Rattle.std.specs.Prelude.{ℕ, ◌≡◌, ◌<◌, true, List, length}
 use Rattle.std.specs.Option.{is_some}
 use Rattle.heap_words.specs.declared.config.Config.{Config}
 use Rattle.heap_words.specs.Ranges.{seat_count}
-use Rattle.steps_base.specs.Steps.{IsReached}
+use Rattle.heap_words.specs.Steps.{IsReached}
 use Rattle.shared_table.specs.Views.{View, machine_of, machines_of}
 use Rattle.shared_table.specs.Counted.{uncounted_view}
 use Rattle.step_core.specs.Actor.{Actor}

@@ -5,14 +5,14 @@ use Rattle.heap_words.specs.declared.config.Config.{Config}
 use Rattle.heap_words.specs.Words.{Heap, IsWord}
 use Rattle.shared_table.specs.Views.{View, machine_of}
 use Rattle.heap_machines.specs.declared.machine.Machine.{Machine}
-use Rattle.steps_base.specs.Steps.{Stage}
+use Rattle.heap_words.specs.Steps.{Stage}
 use Rattle.shen_graph.specs.declared.order.Order.TheVariants.{Nothing}
 use Rattle.heap_machines.specs.Shown.{shown, order_of, heap_of}
 use Rattle.step_core.specs.Actor.{Actor}
 use Rattle.table_heap.specs.Core.{machine_in}
 use Rattle.heap_machines.specs.Roles.{is_mutating}
-use Rattle.hint_deque.specs.Seen.{config_in}
-use Rattle.hint_deque.specs.declared.hints.Thief.{Thief}
+use Rattle.table_heap.specs.Seen.{config_in}
+use Rattle.table_heap.specs.declared.hints.Thief.{Thief}
 use Rattle.step_core.specs.Machines.{control_in}
 use Rattle.step_core.specs.Settled.{control_number}
 

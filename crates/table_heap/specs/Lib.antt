@@ -11,3 +11,5 @@ pub mod Driving
 pub mod Hinted
 pub mod Sharing
 pub mod Gathered
+pub mod Rule
+pub mod Seen

@@ -1,8 +1,8 @@
 -- Who steals whose hints.
 use Rattle.std.specs.Prelude.{ℕ, ◌≡◌, ◌≢◌, ◌<◌, List, length, Some, slice_get}
 use Rattle.heap_words.specs.declared.config.Config.{Config}
-use Rattle.hint_deque.specs.Seen.{IsThiefOf, IsSameDeque}
-use Rattle.hint_deque.specs.declared.hints.Thief.{Thief}
+use Rattle.table_heap.specs.Seen.{IsThiefOf, IsSameDeque}
+use Rattle.table_heap.specs.declared.hints.Thief.{Thief}
 use Rattle.table_heap.specs.declared.bundle.Bundle.{Bundle}
 use Rattle.table_heap.specs.State.{heap_of}
 use Rattle.table_heap.specs.Turning.{OnlyHintsDiffer}

@@ -1,7 +1,7 @@
 -- Where a heap begins.
 use Rattle.std.specs.Prelude.{Option, Some, None}
 use Rattle.heap_words.specs.declared.config.Config.{Config}
-use Rattle.steps_base.specs.Steps.{Stage}
+use Rattle.heap_words.specs.Steps.{Stage}
 use Rattle.step_core.specs.Actor.{Actor}
 use Rattle.step_core.specs.Opening.{opening}
 use Rattle.heap_machines.specs.FromImage.{stage_from}

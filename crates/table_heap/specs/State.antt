@@ -5,7 +5,7 @@ use Rattle.heap_words.specs.declared.config.Config.{Config}
 use Rattle.shared_table.specs.Views.{View, machine_of, kept_in_view, SameNumbers}
 use Rattle.shared_table.specs.Counted.{uncounted_view, steps_in_view, uncounted_seat}
 use Rattle.shared_table.specs.Rule.{Took}
-use Rattle.steps_base.specs.Steps.{Stage}
+use Rattle.heap_words.specs.Steps.{Stage}
 use Rattle.shen_graph.specs.declared.order.Order.{Order}
 use Rattle.shen_graph.specs.declared.order.Order.TheVariants.{Nothing}
 use Rattle.heap_machines.specs.Answer.{says}
@@ -13,8 +13,8 @@ use Rattle.heap_machines.specs.declared.stepped.Stepped.{Stepped}
 use Rattle.heap_machines.specs.Shown.{shown, order_of, no_machine}
 use Rattle.step_core.specs.Actor.{Machine, Actor}
 use Rattle.step_core.specs.Machines.{takes_of, greys_of}
-use Rattle.hint_deque.specs.declared.hints.Hints.{Hints}
-use Rattle.hint_deque.specs.declared.hints.Thief.{Thief}
+use Rattle.table_heap.specs.declared.hints.Hints.{Hints}
+use Rattle.table_heap.specs.declared.hints.Thief.{Thief}
 use Rattle.table_heap.specs.declared.heap.Heap.{Heap}
 use Rattle.table_heap.specs.declared.bundle.Bundle.{Bundle}
 use Rattle.table_heap.specs.Core.{heap_kind, start_of_key}

@@ -4,15 +4,15 @@ ghost use Rattle.heap_machines.specs.Shown.{shown};
 ghost use Rattle.shared_table.specs.Views.{kept_in_view};
 ghost use Rattle.shared_table.specs.Counted.{uncounted_view};
 ghost use Rattle.table_heap.specs.Core.{machine_in};
-ghost use Rattle.hint_deque.specs.Seen.{config_of};
+ghost use Rattle.table_heap.specs.Seen.{config_of};
 ghost use Rattle.table_heap.specs.Known.{AreOfHeap, AreGreyedBy, AreThievesOf};
 
 use crate::heap::Heap;
 use crate::key::HeapKey;
 use crate::machines::{Acting, OfHeaps};
+use crate::{Hints, Thief};
 use heap_machines::{Machine, Stepped};
 use heap_words::{Config, NoMemory, Place};
-use hint_deque::{Hints, Thief};
 use shared_table::{ViewSeat, deal_bundle, deal_machines, join_bundle, join_machines, make_step};
 use shen_graph::{Command, Order, Reply};
 use std::alloc::Global;

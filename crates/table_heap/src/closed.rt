@@ -2,7 +2,7 @@ ghost use Rattle.std.specs.Prelude.{◌≡◌, None, List, length, slice_get};
 ghost use Rattle.std.specs.Slots.{slots_items, slots_len, IsFull};
 ghost use Rattle.heap_words.specs.Words.{table_words, heap_size};
 ghost use Rattle.image_graph.specs.State as images;
-ghost use Rattle.steps_base.specs.Steps.{IsReached};
+ghost use Rattle.heap_words.specs.Steps.{IsReached};
 ghost use Rattle.shared_table.specs.Views.{machines_of, whole, kept_in_view};
 ghost use Rattle.heap_machines.specs.Shown.{shown};
 ghost use Rattle.step_core.specs.Actor.{Actor};

@@ -7,6 +7,7 @@ ghost use Rattle.shen_graph.specs.declared.order.Order.TheVariants.{Nothing};
 ghost use Rattle.table_heap.specs.Core.{table_start, start_of_key};
 ghost use Rattle.heap_words.specs.Ranges.{seat_count};
 
+use crate::Hints;
 use crate::bundle::Bundle;
 use crate::key::HeapKey;
 use crate::left::Left;
@@ -14,7 +15,6 @@ use crate::machines::{Acting, OfHeaps};
 use crate::sharing::share_hints;
 use heap_machines::{Machine, machines_from, open_machines, words_from};
 use heap_words::{Config, NoMemory};
-use hint_deque::Hints;
 use image_graph::Image;
 use shared_table::{StepsTable, ViewSeat, open_table};
 use shen_graph::Order;

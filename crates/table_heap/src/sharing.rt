@@ -1,17 +1,17 @@
 ghost use Rattle.std.specs.Prelude.{◌≡◌, ◌≢◌, ◌<◌, length, Some, IfOk, IfSome, slice_get};
 ghost use Rattle.heap_words.specs.declared.config.Config.{Config};
 ghost use Rattle.heap_words.specs.Words.{Heap, IsWord};
-ghost use Rattle.hint_deque.specs.Seen.{config_in, IsThiefOf};
+ghost use Rattle.table_heap.specs.Seen.{config_in, IsThiefOf};
 ghost use Rattle.table_heap.specs.Known.{AreThievesOf};
 ghost use Rattle.table_heap.specs.State.{heap_of, HasMachine, IsUnmoved};
 ghost use Rattle.table_heap.specs.Sharing.{HaveConfig, SharesMore, AllShareMore, StealsFrom, StealFrom};
 ghost use Rattle.table_heap.specs.Turning.{IsHinted, OnlyHintsDiffer};
 ghost use Rattle.table_heap.specs.declared.bundle.Bundle.{Bundle as Bundles};
 
+use crate::Thief;
 use crate::bundle::Bundle;
 use crate::gate::Gate;
 use heap_words::NoMemory;
-use hint_deque::Thief;
 
 // From now on the other bundle steals the hints of this one, if it is another.
 fn share_with(bundles: &mut Vec<Bundle>, bundle: usize, other: usize) -> Result<(), NoMemory>

@@ -7,7 +7,7 @@ use Rattle.std.proofs.lemmas.Bool.Decides.{nat_tests}
 use Rattle.heap_words.specs.declared.config.Config.{Config}
 use Rattle.heap_words.specs.declared.schedule.Item.{Item}
 use Rattle.heap_words.specs.Ranges.{seat_count}
-use Rattle.steps_base.specs.Steps.{Stage, IsReached}
+use Rattle.heap_words.specs.Steps.{Stage, IsReached}
 use Rattle.shen_graph.specs.GraphText.{Text, names_of, root_of, pin_of}
 use Rattle.shen_graph.specs.History.{Entry, after, of_thread}
 use Rattle.shen_graph.specs.History as history

@@ -16,9 +16,9 @@ use Rattle.atomic_table.proofs.owned.Table.TheSendSync as table
 use Rattle.heap_words.proofs.config.Config.TheSendSync as config
 use Rattle.heap_machines.proofs.machine.Machine.TheSendSync as machine
 use Rattle.heap_machines.specs.contracts.machine.Machine as machines
-use Rattle.hint_deque.proofs.hints.Hints.TheSendSync as hints
-use Rattle.hint_deque.proofs.hints.Thief.TheSendSync as thief
-use Rattle.hint_deque.specs.contracts.hints.Thief as thieves
+use Rattle.table_heap.proofs.hints.Hints.TheSendSync as hints
+use Rattle.table_heap.proofs.hints.Thief.TheSendSync as thief
+use Rattle.table_heap.specs.contracts.hints.Thief as thieves
 use Rattle.table_heap.specs.contracts.left.Left as left
 use Rattle.table_heap.specs.contracts.key.HeapKey as key
 use Rattle.table_heap.specs.contracts.heap.Heap as heap

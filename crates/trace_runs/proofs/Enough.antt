@@ -6,8 +6,8 @@ use Rattle.std.proofs.lemmas.Option.{slice_get_past}
 use Rattle.heap_words.specs.declared.config.Config.{Config}
 use Rattle.heap_words.specs.declared.schedule.Item.{Item}
 use Rattle.heap_words.specs.Ranges.{seat_count}
-use Rattle.steps_base.specs.Steps.{Stage, Event, act, go}
-use Rattle.steps_base.proofs.Runs.{go-none, go-first}
+use Rattle.heap_words.specs.Steps.{Stage, Event, act, go}
+use Rattle.heap_words.proofs.Runs.{go-none, go-first}
 use Rattle.shen_graph.specs.declared.order.Order.{Order}
 use Rattle.heap_machines.specs.Pause.{pause_image}
 use Rattle.heap_machines.proofs.Pauses.{heap_pauses}

@@ -9,7 +9,7 @@ use Rattle.std.proofs.lemmas.Option.{get_or_from_slice_get}
 use Rattle.std.proofs.Math.Nat.{mul-le-mul_left, mul-le-mul_right, le_trans}
 use Rattle.heap_words.specs.declared.config.Config.{Config}
 use Rattle.heap_words.specs.Ranges.{seat_count}
-use Rattle.steps_base.specs.Steps.{Stage, IsReached}
+use Rattle.heap_words.specs.Steps.{Stage, IsReached}
 use Rattle.shen_graph.specs.History.{Entry, of_thread, commands_of}
 use Rattle.shen_graph.specs.Crowd.{IsLegalHistory}
 use Rattle.shen_graph.specs.Work.{opened, parted}

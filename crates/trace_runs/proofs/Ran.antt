@@ -5,7 +5,7 @@ use Rattle.std.specs.List.{range_with_len}
 use Rattle.std.proofs.lemmas.List.Sums.{sum_by-cons}
 use Rattle.heap_words.specs.declared.config.Config.{Config}
 use Rattle.heap_words.specs.declared.schedule.Item.{Item}
-use Rattle.steps_base.specs.Steps.{go}
+use Rattle.heap_words.specs.Steps.{go}
 use Rattle.shen_graph.specs.Noting.{Noting}
 use Rattle.shen_graph.specs.Work as work
 use Rattle.shen_graph.specs.declared.order.Order.TheVariants.{Nothing}

@@ -2,7 +2,7 @@
 use Rattle.std.specs.Prelude.{ℕ, ◌≡◌, ◌++◌, List, length}
 use Rattle.heap_words.specs.declared.config.Config.{Config}
 use Rattle.heap_words.specs.declared.schedule.Item.{Item}
-use Rattle.steps_base.specs.Steps.{Stage, Event}
+use Rattle.heap_words.specs.Steps.{Stage, Event}
 use Rattle.shen_graph.specs.Graph.{opening as graph_opening}
 use Rattle.shen_graph.specs.History.{Entry, after, Follows}
 use Rattle.shen_graph.specs.Crowd.{IsLegalHistory}

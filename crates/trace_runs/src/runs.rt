@@ -1,6 +1,6 @@
 //! `run`: the scripts of a trace on a heap that threads share.
 ghost use Rattle.std.specs.Prelude.{◌≡◌, ◌≤◌, ◌<◌, ℕ, List, IfOk, IfErr, All, length};
-ghost use Rattle.steps_base.specs.Steps.{Event, go};
+ghost use Rattle.heap_words.specs.Steps.{Event, go};
 ghost use Rattle.shen_graph.specs.declared.order.Order.{Order};
 ghost use Rattle.shen_graph.specs.Work.{HasScript};
 ghost use Rattle.heap_graph.specs.Shows.{ShowsGraph};

@@ -6,7 +6,7 @@ use Rattle.heap_words.specs.declared.config.Config.{Config}
 use Rattle.heap_words.specs.Ranges.{seat_count}
 use Rattle.heap_words.specs.Words.{IsWord, is_image, word_at, table_words}
 use Rattle.heap_words.proofs.Rows.{word_inside}
-use Rattle.steps_base.proofs.Touches.{table_index-access_at}
+use Rattle.heap_words.proofs.Touches.{table_index-access_at}
 use Rattle.unit_part.specs.declared.scan_spot.ScanSpot.{ScanSpot}
 use Rattle.unit_part.specs.declared.scan_spot.ScanSpot.TheVariants as scan
 use Rattle.unit_part.specs.ScanRows as scans

@@ -4,7 +4,7 @@ use Rattle.heap_words.specs.declared.config.Config.{Config}
 use Rattle.heap_words.specs.Access.{table_index}
 use Rattle.heap_words.specs.Ranges.{seat_count}
 use Rattle.heap_words.specs.Words.{table_words}
-use Rattle.steps_base.specs.Touch.{placed}
+use Rattle.heap_words.specs.Touch.{placed}
 use Rattle.unit_part.specs.ScanRows as scans
 use Rattle.unit_part.specs.ScanSeen as scan
 use Rattle.load_barrier.specs.UnitRows as evacs

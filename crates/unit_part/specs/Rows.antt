@@ -8,7 +8,7 @@ use Rattle.heap_words.specs.declared.access.Took.{Took}
 use Rattle.heap_words.specs.declared.access.Took.TheVariants.{Done}
 use Rattle.heap_words.specs.Words.{Claim}
 use Rattle.heap_words.specs.Phases.{marking_phase, evacuation_phase}
-use Rattle.steps_base.specs.Touch.{Touch, touch, loads}
+use Rattle.heap_words.specs.Touch.{Touch, touch, loads}
 use Rattle.unit_part.specs.declared.scan_spot.ScanSpot.{ScanSpot}
 use Rattle.unit_part.specs.declared.scan_spot.ScanSpot.TheVariants as scan
 use Rattle.unit_part.specs.ScanRows as scans

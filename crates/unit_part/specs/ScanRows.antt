@@ -11,7 +11,7 @@ use Rattle.heap_words.specs.declared.access.Took.TheVariants.{More, Again, Done}
 use Rattle.heap_words.specs.declared.access.Unit.TheVariants.{Worked, NoneLeft}
 use Rattle.heap_words.specs.Encoding.{refs_in}
 use Rattle.heap_words.specs.Words.{Claim, Grey, Black, Heap, is_word, bit_words}
-use Rattle.steps_base.specs.Touch.{Touch, touch, loads, exchanges}
+use Rattle.heap_words.specs.Touch.{Touch, touch, loads, exchanges}
 use Rattle.regions.specs.Marks.{mark_word, mark_bit, lowest_address}
 use Rattle.regions.specs.Touches.{grey_touch, black_touch}
 use Rattle.unit_part.specs.declared.scan_spot.ScanSpot.{ScanSpot}

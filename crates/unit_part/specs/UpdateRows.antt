@@ -11,7 +11,7 @@ use Rattle.heap_words.specs.declared.access.Took.TheVariants.{More, Again, Done}
 use Rattle.heap_words.specs.declared.access.Unit.TheVariants.{Worked, NoneLeft}
 use Rattle.heap_words.specs.Encoding.{filler_words_in, refs_in, object_words, is_forwarded, forwardee_in}
 use Rattle.heap_words.specs.Words.{Claim, Limit, Tams, Black, Heap, is_word}
-use Rattle.steps_base.specs.Touch.{Touch, touch, loads, exchanges}
+use Rattle.heap_words.specs.Touch.{Touch, touch, loads, exchanges}
 use Rattle.regions.specs.Marks.{mark_word, mark_bit}
 use Rattle.regions.specs.Place.{base_of, region_with}
 use Rattle.unit_part.specs.declared.update_spot.Walk.{Walk}

@@ -1,7 +1,7 @@
 ghost use Rattle.std.specs.Prelude.{◌≡◌, ◌<◌, ◌+◌, ◌↔◌, true, false, IfSome};
 ghost use Rattle.heap_words.specs.Access.{table_index};
 ghost use Rattle.heap_words.specs.Words.{Claim, Heap, IsWord, table_words, word_at};
-ghost use Rattle.steps_base.specs.Touch.{placed};
+ghost use Rattle.heap_words.specs.Touch.{placed};
 ghost use Rattle.unit_part.specs.ScanRows as rows;
 ghost use Rattle.unit_part.specs.ScanEnds.{WaitsAt};
 ghost use Rattle.unit_part.specs.ScanSeen.{IsFit};

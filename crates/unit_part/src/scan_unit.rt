@@ -16,7 +16,7 @@ impl ScanUnit {
     ghost use Rattle.std.specs.Prelude.{false, ◌<◌, ◌↔◌};
     ghost use Rattle.heap_words.specs.Access.{table_index};
     ghost use Rattle.heap_words.specs.Words.{Heap, IsWord, table_words};
-    ghost use Rattle.steps_base.specs.Touch.{placed};
+    ghost use Rattle.heap_words.specs.Touch.{placed};
     ghost use Rattle.unit_part.specs.ScanRows.{place_at, touch_at, next_at, says_at, is_ended, hinted, has_claimed};
     ghost use Rattle.unit_part.specs.ScanSeen.{config_of, spot_of, IsFit};
     ghost use Rattle.unit_part.specs.ScanEnds.{WaitsAt, HasNoneLeft, IsDoneAt};

@@ -2,7 +2,7 @@ ghost use Rattle.std.specs.Prelude.{ℕ, ◌≡◌, ◌<◌, ◌↔◌, true, fa
 ghost use Rattle.heap_words.specs.Ranges.{seat_count};
 ghost use Rattle.heap_words.specs.Access.{table_index};
 ghost use Rattle.heap_words.specs.Words.{Heap, IsWord, table_words};
-ghost use Rattle.steps_base.specs.Touch.{placed};
+ghost use Rattle.heap_words.specs.Touch.{placed};
 ghost use Rattle.unit_part.specs.UpdateRows as updates;
 ghost use Rattle.unit_part.specs.UpdateEnds as updating;
 ghost use Rattle.unit_part.specs.Rows as rows;

@@ -17,7 +17,7 @@ impl UpdateUnit {
     ghost use Rattle.std.specs.Prelude.{false, ◌<◌, ◌↔◌};
     ghost use Rattle.heap_words.specs.Access.{table_index};
     ghost use Rattle.heap_words.specs.Words.{table_words};
-    ghost use Rattle.steps_base.specs.Touch.{placed};
+    ghost use Rattle.heap_words.specs.Touch.{placed};
     ghost use Rattle.unit_part.specs.UpdateRows.{place_at, touch_at, next_at, says_at, is_ended};
     ghost use Rattle.unit_part.specs.UpdateSeen.{config_of, set_of, spot_of, IsFit};
     ghost use Rattle.unit_part.specs.UpdateEnds.{WaitsAt, HasNoneLeft, IsDoneAt};

@@ -4,8 +4,8 @@ use Rattle.std.specs.Prelude.{slice_get, slice_index}
 use Rattle.heap_words.specs.declared.config.Config.{Config}
 use Rattle.heap_words.specs.Access.{table_index}
 use Rattle.heap_words.specs.Words.{Phase, Cset, Evac, Claim, Root, Answer, Heap, image_start, view}
-use Rattle.steps_base.specs.Steps.{Stage, Event, go}
-use Rattle.steps_base.proofs.Runs.{reached_has}
+use Rattle.heap_words.specs.Steps.{Stage, Event, go}
+use Rattle.heap_words.proofs.Runs.{reached_has}
 use Rattle.shen_graph.specs.declared.order.Order.{Order}
 use Rattle.shen_graph.specs.declared.order.Order.TheVariants.{Nothing}
 use Rattle.shen_graph.specs.Graph.{Graph}

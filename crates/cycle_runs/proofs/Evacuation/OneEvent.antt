@@ -8,9 +8,9 @@ use Rattle.heap_words.specs.Access.{table_index}
 use Rattle.heap_words.specs.declared.access.Access.{Access}
 use Rattle.heap_words.specs.Words.{Word, Answer, Top, Heap, is_word, is_image, image_start, view}
 use Rattle.heap_words.proofs.Stores.{is_word_from}
-use Rattle.steps_base.specs.Steps.{Stage, Event, IsEvent, accessed, moved, act_of, act, go}
-use Rattle.steps_base.specs.Touch.{Touch, placed, touched}
-use Rattle.steps_base.proofs.Places.{slice_get-set_same}
+use Rattle.heap_words.specs.Steps.{Stage, Event, IsEvent, accessed, moved, act_of, act, go}
+use Rattle.heap_words.specs.Touch.{Touch, placed, touched}
+use Rattle.heap_words.proofs.Places.{slice_get-set_same}
 use Rattle.shen_graph.specs.declared.command.Command.{Command}
 use Rattle.shen_graph.specs.declared.order.Order.{Order}
 use Rattle.shen_graph.specs.declared.order.Order.TheVariants.{Nothing, Hint}

@@ -12,9 +12,9 @@ use Rattle.heap_words.specs.declared.access.Access.TheVariants.{Load}
 use Rattle.heap_words.specs.Words.{Cset, Heap, IsWord, image_start, word_at}
 use Rattle.heap_words.proofs.Rows.{words_differ}
 use Rattle.heap_words.proofs.Stores.{is_word_true}
-use Rattle.steps_base.specs.Touch.{Touch, access_at, placed}
-use Rattle.steps_base.proofs.Touches.{table_index-access_at}
-use Rattle.steps_base.specs.Steps.{Stage, Event, go}
+use Rattle.heap_words.specs.Touch.{Touch, access_at, placed}
+use Rattle.heap_words.proofs.Touches.{table_index-access_at}
+use Rattle.heap_words.specs.Steps.{Stage, Event, go}
 use Rattle.shen_graph.specs.declared.order.Order.{Order}
 use Rattle.shen_graph.specs.Graph.{Graph}
 use Rattle.shen_graph.specs.History.{Entry, after, of_thread}

@@ -9,7 +9,7 @@ use Rattle.heap_words.specs.Encoding.{plain_header, header_word, is_forwarded}
 use Rattle.heap_words.specs.Words.{Word, Cset, Evac, Top, Heap, same_word, word_at}
 use Rattle.heap_words.specs.Counter.{IsQuiet}
 use Rattle.heap_words.proofs.Stores.{same_word_true}
-use Rattle.steps_base.specs.Touch.{Touch, loads, exchanges, formed, access_at, placed, touched}
+use Rattle.heap_words.specs.Touch.{Touch, loads, exchanges, formed, access_at, placed, touched}
 use Rattle.shen_graph.specs.declared.name.Name.{Name}
 use Rattle.load_barrier.proofs.Knows.{header_forwarded}
 use Rattle.heap_world.specs.World.{World, Block, thing, moved, spent, hand, promised, dead, filler, spare, carved, words_of, room_of, Body, body_at, IsCollected, TargetIn, Shared}

@@ -4,7 +4,7 @@ use Rattle.heap_words.specs.declared.config.Config.{Config}
 use Rattle.heap_words.specs.Encoding.{plain_header, header_word, refs_in, next_in}
 use Rattle.heap_words.specs.Words.{Word, Cset, Evac, Heap}
 use Rattle.heap_words.proofs.Shapes.{refs_in-shape_word}
-use Rattle.steps_base.specs.Touch.{Touch, loads, exchanges, touched}
+use Rattle.heap_words.specs.Touch.{Touch, loads, exchanges, touched}
 use Rattle.shen_graph.specs.declared.name.Name.{Name}
 use Rattle.shen_graph.specs.declared.command.Command.{Command}
 use Rattle.shen_graph.specs.declared.command.Reply.{Reply}

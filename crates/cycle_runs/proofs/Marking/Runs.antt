@@ -7,7 +7,7 @@ use Rattle.std.proofs.lemmas.Grind.{same_number_lists}
 use Rattle.std.proofs.lemmas.List.{append-nil, length-append}
 use Rattle.heap_words.specs.declared.config.Config.{Config}
 use Rattle.heap_words.specs.Words.{Phase, heap_size}
-use Rattle.steps_base.proofs.Runs.{reached_has}
+use Rattle.heap_words.proofs.Runs.{reached_has}
 use Rattle.heap_world.specs.Represents.{Represents}
 use Rattle.shen_graph.specs.declared.order.Order.TheVariants.{Nothing}
 use Rattle.heap_world.specs.Change.{image_view, image_words}

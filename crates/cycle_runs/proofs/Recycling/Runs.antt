@@ -7,7 +7,7 @@ use Rattle.heap_words.specs.Encoding.{end_in}
 use Rattle.heap_words.specs.Words.{Cset, Evac, Free, Top, Current, Pin, Answer, Heap}
 use Rattle.regions.specs.Place.{IsOf}
 use Rattle.regions.specs.Sets.{IsIn}
-use Rattle.steps_base.specs.Steps.{Stage, go}
+use Rattle.heap_words.specs.Steps.{Stage, go}
 use Rattle.shen_graph.specs.declared.name.Name.{Name}
 use Rattle.shen_graph.specs.declared.pin.Pinned.{Pinned}
 use Rattle.shen_graph.specs.declared.command.Command.{Command}

@@ -5,9 +5,9 @@ use Rattle.std.proofs.lemmas.Option.{same_Some, none-some}
 use Rattle.heap_words.specs.declared.config.Config.{Config}
 use Rattle.heap_words.specs.Words.{Free, view, is_word}
 use Rattle.regions.specs.Sets.{IsIn}
-use Rattle.steps_base.specs.Steps.{Stage, Event, IsEvent, accessed, act, go}
-use Rattle.steps_base.specs.Touch.{Touch, placed, touched}
-use Rattle.steps_base.proofs.Laws.{act-event}
+use Rattle.heap_words.specs.Steps.{Stage, Event, IsEvent, accessed, act, go}
+use Rattle.heap_words.specs.Touch.{Touch, placed, touched}
+use Rattle.heap_words.proofs.Laws.{act-event}
 use Rattle.shen_graph.specs.declared.order.Order.{Order}
 use Rattle.shen_graph.specs.Graph.{Graph}
 use Rattle.shen_graph.specs.History.{Entry, after, of_thread}

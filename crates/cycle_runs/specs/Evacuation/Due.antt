@@ -4,7 +4,7 @@ use Rattle.std.specs.Int.{bit_at}
 use Rattle.heap_words.specs.declared.config.Config.{Config}
 use Rattle.heap_words.specs.Encoding.{is_forwarded}
 use Rattle.heap_words.specs.Words.{Word, Phase, Cset, Evac, Ask, Root, Answer, Black, Heap}
-use Rattle.steps_base.specs.Steps.{Stage, Event, go, Finds}
+use Rattle.heap_words.specs.Steps.{Stage, Event, go, Finds}
 use Rattle.shen_graph.specs.declared.name.Name.{Name}
 use Rattle.shen_graph.specs.declared.order.Order.{Order}
 use Rattle.shen_graph.specs.declared.order.Order.TheVariants.{Nothing}

@@ -4,7 +4,7 @@ use Rattle.heap_words.specs.declared.config.Config.{Config}
 use Rattle.heap_words.specs.Encoding.{plain_header, header_word}
 use Rattle.heap_words.specs.Words.{Word, Cset, Evac, Heap}
 use Rattle.heap_words.specs.Counter.{IsQuiet}
-use Rattle.steps_base.specs.Steps.{Stage, Event, IsEvent, act, go}
+use Rattle.heap_words.specs.Steps.{Stage, Event, IsEvent, act, go}
 use Rattle.shen_graph.specs.declared.order.Order.{Order}
 use Rattle.shen_graph.specs.Graph.{Graph}
 use Rattle.shen_graph.specs.History.{after}

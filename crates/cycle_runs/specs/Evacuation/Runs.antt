@@ -8,7 +8,7 @@ use Rattle.heap_words.specs.declared.place.Place.{Place}
 use Rattle.heap_words.specs.declared.place.Place.TheVariants.{FS, FX, CX, NS}
 use Rattle.heap_words.specs.Encoding.{plain_header, header_word, is_forwarded, forwardee_in}
 use Rattle.heap_words.specs.Words.{Phase, Cset, Evac, Claim, Black, Heap, word_at}
-use Rattle.steps_base.specs.Steps.{Stage, Event, go}
+use Rattle.heap_words.specs.Steps.{Stage, Event, go}
 use Rattle.shen_graph.specs.declared.name.Name.{Name}
 use Rattle.shen_graph.specs.declared.order.Order.{Order}
 use Rattle.shen_graph.specs.Graph.{Graph}

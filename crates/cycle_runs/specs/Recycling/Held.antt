@@ -5,7 +5,7 @@ use Rattle.heap_words.specs.Encoding.{end_in}
 use Rattle.heap_words.specs.Words.{Free, Share, Current, Pin, Answer, Heap, view}
 use Rattle.regions.specs.Place.{IsOf}
 use Rattle.regions.specs.Sets.{IsIn}
-use Rattle.steps_base.specs.Steps.{Stage, Event, IsEvent, act, go}
+use Rattle.heap_words.specs.Steps.{Stage, Event, IsEvent, act, go}
 use Rattle.shen_graph.specs.declared.order.Order.{Order}
 use Rattle.shen_graph.specs.Graph.{Graph}
 use Rattle.shen_graph.specs.History.{after}

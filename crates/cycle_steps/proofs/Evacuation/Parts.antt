@@ -5,7 +5,7 @@ use Rattle.heap_words.specs.declared.config.Config.{Config}
 use Rattle.heap_words.specs.Encoding.{header_word, is_forwarded}
 use Rattle.heap_words.specs.Ranges.{seat_count}
 use Rattle.heap_words.specs.Words.{Evac, Top, Heap, IsWord, is_word}
-use Rattle.steps_base.specs.Touch.{loads}
+use Rattle.heap_words.specs.Touch.{loads}
 use Rattle.regions.specs.Place.{base_of, region_with}
 use Rattle.regions.specs.Sets.{IsIn}
 use Rattle.regions.proofs.MarksApart.{word_inside}

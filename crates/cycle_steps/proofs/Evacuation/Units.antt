@@ -11,7 +11,7 @@ use Rattle.heap_words.specs.Encoding.{filler_words_in, object_words}
 use Rattle.heap_words.specs.Words.{Word, Phase, Cset, Evac, Claim, Top, Tams, Black, Heap, write}
 use Rattle.regions.specs.Place.{base_of, region_with}
 use Rattle.regions.specs.Sets.{IsIn}
-use Rattle.steps_base.specs.Touch.{touched}
+use Rattle.heap_words.specs.Touch.{touched}
 use Rattle.regions.specs.Marks.{mark_word, mark_bit, HasMark}
 use Rattle.shen_graph.specs.declared.name.Name.{Name}
 use Rattle.heap_world.specs.World.{World, Block, thing, filler, words_of, filling, IsCollected, IsMarkable, IsYoung, IsSweptTo, Shared}

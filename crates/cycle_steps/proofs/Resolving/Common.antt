@@ -5,7 +5,7 @@ use Rattle.std.proofs.lemmas.Option.{same_Some, none-some}
 use Rattle.heap_words.specs.declared.config.Config.{Config}
 use Rattle.heap_words.specs.Encoding.{plain_header, header_word, is_forwarded, forwardee_in}
 use Rattle.heap_words.specs.Words.{Cset, Evac, Heap, is_word}
-use Rattle.steps_base.specs.Touch.{touch, touched}
+use Rattle.heap_words.specs.Touch.{touch, touched}
 use Rattle.heap_words.specs.Counter.{IsQuiet}
 use Rattle.evac_room.specs.declared.spot.RoomSpot.{RoomSpot}
 use Rattle.evac_room.specs.declared.spot.RoomSpot.TheVariants.{Look}

@@ -6,7 +6,7 @@ use Rattle.std.proofs.lemmas.Option.{same_Some}
 use Rattle.heap_words.specs.declared.config.Config.{Config}
 use Rattle.heap_words.specs.Encoding.{plain_header, header_word, forwardee_in}
 use Rattle.heap_words.specs.Words.{Heap, is_word, write}
-use Rattle.steps_base.specs.Touch.{touch, stores}
+use Rattle.heap_words.specs.Touch.{touch, stores}
 use Rattle.alloc_buffers.specs.declared.spot.Kind.TheVariants.{Evacuated}
 use Rattle.alloc_buffers.specs.declared.spot.Taken.TheVariants.{At, NoRoom}
 use Rattle.alloc_buffers.specs.declared.spot.TakeSpot.{TakeSpot}

@@ -8,7 +8,7 @@ use Rattle.heap_words.specs.Encoding.{plain_header, header_word, object_words, n
 use Rattle.heap_words.specs.Ranges.{seat_count}
 use Rattle.heap_words.specs.Words.{Phase, Cset, Evac, Top, Tams, Current, Heap, write}
 use Rattle.regions.specs.Place.{base_of}
-use Rattle.steps_base.specs.Touch.{touch, exchanges}
+use Rattle.heap_words.specs.Touch.{touch, exchanges}
 use Rattle.shen_graph.specs.declared.name.Name.{Name}
 use Rattle.shen_graph.specs.Graph.{Reference, Object}
 use Rattle.heap_world.specs.World.{World, Block, thing, moved, spent, hand, promised, dead, filler, spare, carved, words_of, filling, room_of, Plot, name_at, Points, IsInUse, Body, body_of, body_at, IsPlotted, IsFilled, IsThing, IsCollected, IsMarkable, IsYoung, HasCopy, IsMoved, Shared}

@@ -3,7 +3,7 @@ use Rattle.std.proofs.Common.{◌≡◌, ◌≢◌, ◌⊎◌, ℕ, ◌+◌, ◌
 use Rattle.heap_words.specs.declared.config.Config.{Config}
 use Rattle.heap_words.specs.Ranges.{seat_count}
 use Rattle.heap_words.specs.Words.{Top, Heap, IsWord}
-use Rattle.steps_base.specs.Touch.{loads}
+use Rattle.heap_words.specs.Touch.{loads}
 use Rattle.alloc_buffers.proofs.Accesses.{writes_spare}
 use Rattle.heap_world.specs.World.{World, hand, spare, Body, body_at, body_words, Shared}
 use Rattle.heap_world.proofs.Apart.{far, one_piece}

@@ -4,7 +4,7 @@ use Rattle.std.proofs.lemmas.Option.{same_Some}
 use Rattle.heap_words.specs.declared.config.Config.{Config}
 use Rattle.heap_words.specs.Encoding.{object_words}
 use Rattle.heap_words.specs.Words.{Phase, Evac, Top, Heap}
-use Rattle.steps_base.specs.Touch.{touch, stores}
+use Rattle.heap_words.specs.Touch.{touch, stores}
 use Rattle.heap_world.specs.World.{World, Block, thing, moved, spent, hand, words_of, room_of, Points, Shared}
 use Rattle.heap_world.specs.Part.{PartStep}
 use Rattle.heap_world.proofs.Updates.{updated, updated_else}

@@ -2,7 +2,7 @@
 use Rattle.std.proofs.Common.{◌≡◌, ◌≢◌, ℕ, ◌≤◌, Option, sym, ◌∙◌, subst, arith}
 use Rattle.heap_words.specs.declared.config.Config.{Config}
 use Rattle.heap_words.specs.Words.{Phase, Cset, Claim, Top, Tams, Limit, Count, Buffer, Grey, Black, Heap, write}
-use Rattle.steps_base.specs.Touch.{Touch, touched}
+use Rattle.heap_words.specs.Touch.{Touch, touched}
 use Rattle.heap_world.specs.World.{World, Scan, with_scanning, KeepsSnapshot, IsUpdating, Shared}
 use Rattle.heap_world.specs.Rely.{KeepsFields, Keeps, Rely}
 use Rattle.heap_world.specs.Part.{PartStep}

@@ -5,7 +5,7 @@ use Rattle.std.proofs.lemmas.Bool.{cond-true}
 use Rattle.heap_words.specs.declared.config.Config.{Config}
 use Rattle.heap_words.specs.Encoding.{header_word, is_forwarded, forwardee_in}
 use Rattle.heap_words.specs.Words.{Phase, Cset, Heap, IsWord}
-use Rattle.steps_base.specs.Touch.{loads}
+use Rattle.heap_words.specs.Touch.{loads}
 use Rattle.evac_room.specs.declared.spot.RoomSpot.TheVariants.{Look}
 use Rattle.heap_world.specs.World.{World, thing, Body, body_at, IsCollected, HasCopy, Shared}
 use Rattle.heap_world.specs.Rely.{Rely}

@@ -9,7 +9,7 @@ use Rattle.heap_words.specs.Encoding.{refs_in, header_word, is_forwarded, forwar
 use Rattle.heap_words.specs.Words.{Word, Phase, Cset, Claim, Top, Tams, Limit, Black, Heap, write}
 use Rattle.regions.specs.Place.{base_of, region_with}
 use Rattle.regions.specs.Sets.{IsIn}
-use Rattle.steps_base.specs.Touch.{touched}
+use Rattle.heap_words.specs.Touch.{touched}
 use Rattle.regions.specs.Marks.{mark_word, mark_bit, HasMark}
 use Rattle.shen_graph.specs.declared.name.Name.{Name}
 use Rattle.heap_world.specs.World.{World, Scan, Block, thing, filler, words_of, IsMarkable, IsYoung, IsCurrent, IsUpdating, Shared}

@@ -5,7 +5,7 @@ use Rattle.heap_words.specs.Encoding.{plain_header, is_forwarded, forwardee_in}
 use Rattle.heap_words.specs.Ranges.{seat_count}
 use Rattle.heap_words.specs.Words.{Phase, Cset, Heap, IsWord}
 use Rattle.heap_words.specs.Phases.{evacuation_phase}
-use Rattle.steps_base.specs.Touch.{loads}
+use Rattle.heap_words.specs.Touch.{loads}
 use Rattle.heap_world.specs.World.{World, Body, body_at, body_words, IsCollected, HasCopy, Shared, TargetIn}
 use Rattle.heap_world.specs.Rely.{KeepsCopies, Rely}
 use Rattle.heap_world.specs.Part.{PartStep}

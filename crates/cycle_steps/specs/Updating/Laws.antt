@@ -4,7 +4,7 @@ use Rattle.heap_words.specs.declared.config.Config.{Config}
 use Rattle.heap_words.specs.Ranges.{seat_count}
 use Rattle.heap_words.specs.Words.{Phase, Cset, Claim, Limit, Heap, IsWord}
 use Rattle.heap_words.specs.Phases.{updating_phase}
-use Rattle.steps_base.specs.Touch.{loads}
+use Rattle.heap_words.specs.Touch.{loads}
 use Rattle.regions.specs.Place.{region_with}
 use Rattle.shen_graph.specs.declared.name.Name.{Name}
 use Rattle.heap_world.specs.World.{World, Scan, thing, Body, body_at, body_words, IsCollected, IsYoung, IsCurrent, Shared}

@@ -9,8 +9,8 @@ use Rattle.heap_words.specs.Access.{table_index}
 use Rattle.heap_words.specs.Ranges.{seat_count}
 use Rattle.heap_words.specs.Words.{Ask, Phase, Cset, image_start, view}
 use Rattle.heap_words.proofs.Stores.{is_word_from}
-use Rattle.steps_base.specs.Steps.{Stage, accessed, moved}
-use Rattle.steps_base.proofs.Places.{slice_get-set_same}
+use Rattle.heap_words.specs.Steps.{Stage, accessed, moved}
+use Rattle.heap_words.proofs.Places.{slice_get-set_same}
 use Rattle.shen_graph.specs.declared.command.Command.{Command}
 use Rattle.shen_graph.specs.declared.order.Order.TheVariants.{Nothing}
 use Rattle.shen_graph.specs.Graph.{Graph}
@@ -25,7 +25,7 @@ use Rattle.unit_part.specs.Ready as unit
 use Rattle.unit_part.proofs.Inside.{unit_inside}
 use Rattle.heap_world.specs.Change.{Change, IsDue, image_view, image_words}
 use Rattle.control_rows.specs.ByParts.{PausesByParts}
-use Rattle.steps_base.specs.Touch.{touch, loads}
+use Rattle.heap_words.specs.Touch.{touch, loads}
 use Rattle.control_rows.specs.declared.extent.Extent.{Extent}
 use Rattle.control_rows.specs.Extent.{next_loaded, extent_after, Counting}
 use Rattle.control_rows.specs.declared.spot.ControlSpot.{ControlSpot}

@@ -2,8 +2,8 @@
 use Rattle.std.proofs.Common.{◌≡◌, ◌≢◌, ℕ, ◌<◌, true, false, Option, Some, refl, sym, ap, ◌∙◌}
 use Rattle.std.specs.Prelude.{slice_get, slice_set}
 use Rattle.heap_words.specs.declared.config.Config.{Config}
-use Rattle.steps_base.specs.Steps.{Stage}
-use Rattle.steps_base.proofs.Places.{slice_get-set_other}
+use Rattle.heap_words.specs.Steps.{Stage}
+use Rattle.heap_words.proofs.Places.{slice_get-set_other}
 use Rattle.control_rows.specs.Extent.{Counting}
 use Rattle.handshake.specs.Standing.{is_within, is_pausing}
 use Rattle.handshake.specs.Shaken.{IsShaken}

@@ -11,8 +11,8 @@ use Rattle.heap_words.specs.Words.{Word, is_word, is_image, same_word, word_at, 
 use Rattle.heap_words.proofs.Rows.{word_inside, is_image-word_at}
 use Rattle.heap_words.proofs.Stores.{same_word_true, is_word_true, view_word, view_set_all}
 use Rattle.heap_world.specs.Change.{image_view, image_words}
-use Rattle.steps_base.specs.Touch.{Touch, touch, loads, formed, placed, touched}
-use Rattle.steps_base.proofs.Touches.{table_index-access_at, made_of-access_at}
+use Rattle.heap_words.specs.Touch.{Touch, touch, loads, formed, placed, touched}
+use Rattle.heap_words.proofs.Touches.{table_index-access_at, made_of-access_at}
 use Rattle.control_rows.specs.declared.extent.Extent.{Extent}
 use Rattle.control_rows.specs.declared.extent.Extent.TheVariants.{Whole}
 use Rattle.control_rows.specs.ByParts.{IsMadeOf}

@@ -8,7 +8,7 @@ use Rattle.heap_words.specs.declared.config.Config.{Config}
 use Rattle.heap_words.specs.declared.access.Unit.TheVariants.{Worked, NoneLeft}
 use Rattle.heap_words.specs.Words.{Word, Pause, Left, End, Phase, Ask, Free, State, is_word, view, write, table_words}
 use Rattle.heap_words.proofs.Stores.{is_word_from}
-use Rattle.steps_base.specs.Touch.{Touch, touch, loads, stores}
+use Rattle.heap_words.specs.Touch.{Touch, touch, loads, stores}
 use Rattle.shen_graph.specs.declared.command.Command.{Command}
 use Rattle.shen_graph.specs.Graph.{Graph}
 use Rattle.shen_graph.specs.History.{Entry, of_thread}

@@ -6,8 +6,8 @@ use Rattle.heap_words.specs.declared.config.Config.{Config}
 use Rattle.heap_words.specs.declared.access.Unit.TheVariants.{Worked, NoneLeft}
 use Rattle.heap_words.specs.Access.{table_index}
 use Rattle.heap_words.specs.Words.{Left, End, Ask, Free, image_start}
-use Rattle.steps_base.specs.Fits.{touch_fits}
-use Rattle.steps_base.specs.Touch.{touch, loads, stores, placed}
+use Rattle.heap_words.specs.Fits.{touch_fits}
+use Rattle.heap_words.specs.Touch.{touch, loads, stores, placed}
 use Rattle.handshake.specs.declared.stop_spot.StopSpot.{StopSpot}
 use Rattle.handshake.specs.declared.stop_spot.StopSpot.TheVariants as stop
 use Rattle.handshake.specs.Rows.{stop_touch, stop_next, is_stopped}

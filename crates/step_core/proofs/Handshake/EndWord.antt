@@ -7,7 +7,7 @@ use Rattle.heap_words.specs.declared.access.Access.{Access}
 use Rattle.heap_words.specs.Access.{table_index}
 use Rattle.heap_words.specs.declared.access.Unit.TheVariants.{Worked, NoneLeft}
 use Rattle.heap_words.specs.Words.{End, IsWord, word_at}
-use Rattle.steps_base.specs.Touch.{placed}
+use Rattle.heap_words.specs.Touch.{placed}
 use Rattle.shen_graph.specs.declared.order.Order.{Order}
 use Rattle.shen_graph.specs.declared.order.Order.TheVariants as order
 use Rattle.heap_world.specs.Change.{image_words}

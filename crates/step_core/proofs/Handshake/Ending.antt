@@ -4,7 +4,7 @@ use Rattle.std.specs.Prelude.{slice_get}
 use Rattle.std.proofs.lemmas.Bool.{true≢false}
 use Rattle.heap_words.specs.declared.config.Config.{Config}
 use Rattle.heap_words.specs.Words.{Phase, Cset, End, view}
-use Rattle.steps_base.specs.Steps.{Stage, Event, act, go}
+use Rattle.heap_words.specs.Steps.{Stage, Event, act, go}
 use Rattle.shen_graph.specs.Graph.{Graph}
 use Rattle.shen_graph.specs.declared.order.Order.{Order}
 use Rattle.shen_graph.specs.History.{Entry}

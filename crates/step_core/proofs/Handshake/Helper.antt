@@ -5,7 +5,7 @@ use Rattle.std.proofs.lemmas.Bool.{and_parts}
 use Rattle.heap_words.specs.declared.config.Config.{Config}
 use Rattle.heap_words.specs.Access.{table_index}
 use Rattle.heap_words.specs.Words.{End, Phase, Cset, word_at, image_start}
-use Rattle.steps_base.specs.Touch.{touch, loads, placed}
+use Rattle.heap_words.specs.Touch.{touch, loads, placed}
 use Rattle.handshake.specs.declared.enter_spot.EnterSpot.{EnterSpot}
 use Rattle.handshake.specs.declared.enter_spot.EnterSpot.TheVariants as enter
 use Rattle.handshake.specs.Rows.{enter_next, is_entered}

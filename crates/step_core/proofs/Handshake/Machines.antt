@@ -2,7 +2,7 @@
 use Rattle.std.proofs.Common.{◌≡◌, Bool, Some}
 use Rattle.std.specs.Prelude.{slice_get}
 use Rattle.heap_words.specs.declared.config.Config.{Config}
-use Rattle.steps_base.specs.Steps.{Stage, Event}
+use Rattle.heap_words.specs.Steps.{Stage, Event}
 use Rattle.shen_graph.specs.declared.order.Order.{Order}
 use Rattle.heap_world.specs.Change.{Change}
 use Rattle.handshake.specs.Standing.{Standing}

@@ -5,12 +5,12 @@ use Rattle.heap_words.specs.declared.config.Config.{Config}
 use Rattle.heap_words.specs.Words.{IsWord, is_word, is_image}
 use Rattle.heap_words.proofs.Stores.{is_word_true}
 use Rattle.std.proofs.lemmas.Bool.{and_parts}
-use Rattle.steps_base.specs.Touch.{placed}
+use Rattle.heap_words.specs.Touch.{placed}
 use Rattle.shen_graph.specs.declared.order.Order.{Order}
 use Rattle.shen_graph.specs.declared.order.Order.TheVariants.{Nothing, Begin, End, Hint}
 use Rattle.shen_graph.specs.declared.command.Reply.{Reply}
 use Rattle.heap_words.specs.Words.{Left}
-use Rattle.steps_base.specs.Touch.{touch, subtracts}
+use Rattle.heap_words.specs.Touch.{touch, subtracts}
 use Rattle.alloc_buffers.proofs.Accesses.{in_image}
 use Rattle.satb_barrier.specs.declared.spot.RememberSpot.{RememberSpot}
 use Rattle.satb_barrier.specs.declared.spot.RememberSpot.TheVariants.{LoadCount, LoadEntry, MarkEntry, ClearCount, StoreEntry, StoreCount, Recorded}

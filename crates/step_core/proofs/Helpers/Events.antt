@@ -6,8 +6,8 @@ use Rattle.heap_words.specs.declared.config.Config.{Config}
 use Rattle.heap_words.specs.Access.{table_index}
 use Rattle.heap_words.specs.Words.{is_word, is_image, image_start}
 use Rattle.heap_words.proofs.Stores.{is_word_from}
-use Rattle.steps_base.specs.Steps.{Stage, moved}
-use Rattle.steps_base.specs.Touch.{Touch, placed, touched}
+use Rattle.heap_words.specs.Steps.{Stage, moved}
+use Rattle.heap_words.specs.Touch.{Touch, placed, touched}
 use Rattle.shen_graph.specs.declared.command.Command.{Command}
 use Rattle.shen_graph.specs.declared.order.Order.TheVariants.{Nothing}
 use Rattle.shen_graph.specs.Graph.{Graph}

@@ -6,7 +6,7 @@ use Rattle.std.proofs.lemmas.List.{append-nil}
 use Rattle.std.proofs.lemmas.List.Elements.{All-nil}
 use Rattle.heap_words.specs.declared.config.Config.{Config}
 use Rattle.heap_words.specs.Words.{is_word, is_image, table_words}
-use Rattle.steps_base.specs.Touch.{Touch, touched}
+use Rattle.heap_words.specs.Touch.{Touch, touched}
 use Rattle.shen_graph.specs.Graph.{Graph}
 use Rattle.shen_graph.specs.History.{Entry, of_thread}
 use Rattle.heap_world.specs.World.{Ghost, World, Plot, promised, Shared}

@@ -6,7 +6,7 @@ use Rattle.heap_words.specs.declared.access.Unit.{Unit}
 use Rattle.heap_words.specs.declared.access.Unit.TheVariants.{Worked, NoneLeft}
 use Rattle.heap_words.specs.Ranges.{seat_count}
 use Rattle.heap_words.specs.Words.{Phase, Cset, Claim}
-use Rattle.steps_base.specs.Touch.{Touch}
+use Rattle.heap_words.specs.Touch.{Touch}
 use Rattle.unit_part.specs.declared.scan_spot.ScanSpot.{ScanSpot}
 use Rattle.unit_part.specs.declared.scan_spot.ScanSpot.TheVariants as scan
 use Rattle.unit_part.specs.ScanRows as scans

@@ -9,7 +9,7 @@ use Rattle.heap_words.specs.declared.config.Config.{Config}
 use Rattle.heap_words.specs.Rows.{name_of}
 use Rattle.heap_words.specs.Words.{Word, Answer, IsWord, view, image_start}
 use Rattle.regions.specs.Tops.{sum_below}
-use Rattle.steps_base.specs.Steps.{Stage, Event, act, go}
+use Rattle.heap_words.specs.Steps.{Stage, Event, act, go}
 use Rattle.shen_graph.specs.declared.command.Command.{Command}
 use Rattle.shen_graph.specs.declared.command.Reply.{Reply}
 use Rattle.shen_graph.specs.declared.command.Reply.TheVariants.{Full}

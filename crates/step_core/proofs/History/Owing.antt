@@ -7,8 +7,8 @@ use Rattle.std.proofs.lemmas.Option.{same_Some}
 use Rattle.std.proofs.lemmas.Bool.{cases_eq}
 use Rattle.heap_words.specs.declared.config.Config.{Config}
 use Rattle.heap_words.specs.Words.{table_words}
-use Rattle.steps_base.specs.Steps.{Stage}
-use Rattle.steps_base.proofs.Places.{slice_get-set_same, slice_get-set_other}
+use Rattle.heap_words.specs.Steps.{Stage}
+use Rattle.heap_words.proofs.Places.{slice_get-set_same, slice_get-set_other}
 use Rattle.shen_graph.specs.Graph.{Graph}
 use Rattle.shen_graph.specs.History.{Entry, after, of_thread}
 use Rattle.heap_world.specs.World.{World, Shared}

@@ -3,7 +3,7 @@ use Rattle.std.proofs.Common.{◌≡◌, ◌≢◌, ℕ, ◌+◌, Bool, true, fa
 use Rattle.std.specs.Int.{bit_at}
 use Rattle.heap_words.specs.declared.config.Config.{Config}
 use Rattle.heap_words.specs.Words.{Word, Pause, Left, End, Phase, Cset, Evac, Claim, Ask, Free, State, Top, Tams, Limit, Current, Root, Pin, Count, Buffer, Wait, Answer, Grey, Heap, write}
-use Rattle.steps_base.specs.Touch.{touch, loads, stores}
+use Rattle.heap_words.specs.Touch.{touch, loads, stores}
 use Rattle.regions.specs.Sets.{IsIn}
 use Rattle.heap_world.specs.World.{World, IsCollected, TargetIn, Shared}
 use Rattle.heap_words.specs.Counter.{IsQuiet}

@@ -6,7 +6,7 @@ use Rattle.heap_words.specs.declared.config.Config.{Config}
 use Rattle.heap_words.specs.Encoding.{object_words}
 use Rattle.heap_words.specs.Words.{Word, Answer, Heap, is_word, is_image, same_word, view, table_words}
 use Rattle.heap_words.proofs.Stores.{same_word_true}
-use Rattle.steps_base.specs.Touch.{Touch, touched}
+use Rattle.heap_words.specs.Touch.{Touch, touched}
 use Rattle.heap_world.specs.World.{World}
 use Rattle.heap_world.specs.Rely.{Rely}
 use Rattle.control_rows.specs.Extent.{Counting}

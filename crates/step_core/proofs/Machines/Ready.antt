@@ -6,7 +6,7 @@ use Rattle.std.proofs.lemmas.Bool.Decides.{nat_tests}
 use Rattle.heap_words.specs.declared.config.Config.{Config}
 use Rattle.heap_words.specs.Encoding.{fresh_word}
 use Rattle.heap_words.specs.Words.{Root}
-use Rattle.steps_base.specs.Fits.{touch_fits, is_number}
+use Rattle.heap_words.specs.Fits.{touch_fits, is_number}
 use Rattle.shen_graph.specs.declared.command.Command.{Command}
 use Rattle.shen_graph.specs.declared.command.Reply.{Reply}
 use Rattle.alloc_buffers.specs.declared.spot.TakeSpot.{TakeSpot}

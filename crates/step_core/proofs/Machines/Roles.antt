@@ -34,7 +34,7 @@ use Rattle.mutator.specs.Rows.{Mutating, touch_of, touch_at, answer_at}
 use Rattle.heap_words.specs.declared.access.Took.{Took}
 use Rattle.heap_words.specs.declared.access.Took.TheVariants.{Done}
 use Rattle.heap_words.proofs.Stores.{is_word_from}
-use Rattle.steps_base.specs.Touch.{Touch, Form, touch, placed, touched}
+use Rattle.heap_words.specs.Touch.{Touch, Form, touch, placed, touched}
 use Rattle.mutator.specs.Fit.{IsReady}
 use Rattle.heap_world.specs.World.{World, Points, UsableIn, AreUsable, Shared}
 use Rattle.heap_world.specs.Asking.{IsAsked, nothing}

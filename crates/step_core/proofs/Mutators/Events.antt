@@ -7,8 +7,8 @@ use Rattle.heap_words.specs.declared.config.Config.{Config}
 use Rattle.shen_graph.specs.declared.command.Reply.TheVariants.{Full}
 use Rattle.heap_words.specs.Access.{table_index}
 use Rattle.heap_words.specs.Words.{Answer, is_word, is_image, image_start, view}
-use Rattle.steps_base.specs.Touch.{touch, loads, placed, touched}
-use Rattle.steps_base.specs.Steps.{Stage, moved}
+use Rattle.heap_words.specs.Touch.{touch, loads, placed, touched}
+use Rattle.heap_words.specs.Steps.{Stage, moved}
 use Rattle.shen_graph.specs.declared.command.Command.{Command}
 use Rattle.shen_graph.specs.declared.order.Order.{Order}
 use Rattle.shen_graph.specs.declared.order.Order.TheVariants.{Nothing}

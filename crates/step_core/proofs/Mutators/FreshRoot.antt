@@ -7,7 +7,7 @@ use Rattle.std.proofs.lemmas.Bool.Decides.{nat_tests}
 use Rattle.heap_words.specs.declared.config.Config.{Config}
 use Rattle.heap_words.specs.Encoding.{fresh_word}
 use Rattle.heap_words.specs.Words.{Free, Claim, Cset, Evac, Phase, Root, Top, Tams, Limit, Heap, Current, Share, Pin, Count, Buffer, Grey, Black}
-use Rattle.steps_base.specs.Touch.{touch, stores, touched}
+use Rattle.heap_words.specs.Touch.{touch, stores, touched}
 use Rattle.shen_graph.specs.declared.name.Name.{Name}
 use Rattle.shen_graph.specs.declared.command.Command.{Command}
 use Rattle.shen_graph.specs.declared.command.Reply.{Reply}

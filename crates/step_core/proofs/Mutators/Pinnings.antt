@@ -6,8 +6,8 @@ use Rattle.std.proofs.lemmas.Bool.Decides.{nat_tests}
 use Rattle.std.proofs.lemmas.Option.{none-some, same_Some}
 use Rattle.heap_words.specs.declared.config.Config.{Config}
 use Rattle.heap_words.specs.Words.{Cset, Evac, Top, Pin as PinWord, write}
-use Rattle.steps_base.specs.Touch.{touched}
-use Rattle.steps_base.specs.Fits.{is_number}
+use Rattle.heap_words.specs.Touch.{touched}
+use Rattle.heap_words.specs.Fits.{is_number}
 use Rattle.shen_graph.specs.declared.pin.Pinned.{Pinned}
 use Rattle.shen_graph.specs.declared.command.Command.{Command}
 use Rattle.shen_graph.specs.declared.command.Command.TheVariants.{Pin, Unpin}

@@ -6,7 +6,7 @@ use Rattle.std.proofs.lemmas.Bool.{and_from, and_parts, cases_Bool, cases_eq, co
 use Rattle.heap_words.specs.declared.config.Config.{Config}
 use Rattle.heap_words.specs.Words.{Root, Heap, Phase, Cset, is_word}
 use Rattle.heap_words.proofs.Stores.{is_word_from}
-use Rattle.steps_base.specs.Fits.{is_number}
+use Rattle.heap_words.specs.Fits.{is_number}
 use Rattle.shen_graph.specs.declared.name.Name.{Name}
 use Rattle.shen_graph.specs.declared.command.Command.{Command}
 use Rattle.shen_graph.specs.declared.command.Reply.{Reply}

@@ -1,7 +1,7 @@
 -- A mutator at a spot, and the world after its access where nothing but the memory changes.
 use Rattle.std.proofs.Common.{ℕ}
 use Rattle.heap_words.specs.declared.config.Config.{Config}
-use Rattle.steps_base.specs.Touch.{touched}
+use Rattle.heap_words.specs.Touch.{touched}
 use Rattle.mutator.specs.declared.spot.Kept.{Kept}
 use Rattle.mutator.specs.declared.spot.Spot.{Spot}
 use Rattle.mutator.specs.Rows.{Mutating, touch_of}

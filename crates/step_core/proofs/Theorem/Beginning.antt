@@ -4,7 +4,7 @@ use Rattle.std.specs.Prelude.{slice_get}
 use Rattle.std.proofs.lemmas.List.Elements.{All-nil}
 use Rattle.heap_words.specs.declared.config.Config.{Config}
 use Rattle.heap_words.specs.Words.{Phase, Cset, view}
-use Rattle.steps_base.specs.Steps.{Stage}
+use Rattle.heap_words.specs.Steps.{Stage}
 use Rattle.shen_graph.specs.Graph.{Graph}
 use Rattle.heap_world.specs.World.{Shared}
 use Rattle.step_core.specs.Actor.{Machine, controlling, Actor}

@@ -8,12 +8,12 @@ use Rattle.heap_words.specs.Access.{table_index}
 use Rattle.heap_words.specs.Words.{Left, Answer, Pin, word_at, view, table_words}
 use Rattle.heap_words.proofs.Stores.{is_word_true}
 use Rattle.heap_words.proofs.Rows.{word_inside}
-use Rattle.steps_base.specs.Touch.{touch, subtracts, placed}
-use Rattle.steps_base.specs.Steps.{Stage, Event, act, go, HasReached, Finds}
-use Rattle.steps_base.proofs.Laws.{act-event}
-use Rattle.steps_base.proofs.Places.{slice_get-set_same}
-use Rattle.steps_base.proofs.Runs.{reached_has}
-use Rattle.steps_base.proofs.Touches.{table_index-access_at}
+use Rattle.heap_words.specs.Touch.{touch, subtracts, placed}
+use Rattle.heap_words.specs.Steps.{Stage, Event, act, go, HasReached, Finds}
+use Rattle.heap_words.proofs.Laws.{act-event}
+use Rattle.heap_words.proofs.Places.{slice_get-set_same}
+use Rattle.heap_words.proofs.Runs.{reached_has}
+use Rattle.heap_words.proofs.Touches.{table_index-access_at}
 use Rattle.shen_graph.specs.declared.order.Order.{Order}
 use Rattle.shen_graph.specs.declared.order.Order.TheVariants.{Nothing, Begin, End, Hint}
 use Rattle.shen_graph.specs.Order.{hint_in}

@@ -12,7 +12,7 @@ use Rattle.std.proofs.lemmas.Bool.Decides.{nat_tests}
 use Rattle.heap_words.specs.declared.config.Config.{Config}
 use Rattle.heap_words.specs.Ranges.{seat_count}
 use Rattle.std.specs.Prelude.{List}
-use Rattle.steps_base.specs.Steps.{Event}
+use Rattle.heap_words.specs.Steps.{Event}
 use Rattle.shen_graph.specs.declared.order.Order.{Order}
 use Rattle.regions.specs.Place.{base_of}
 use Rattle.heap_words.specs.Words.{Word, same_word, Pause, State, Top, Tams, Root, Pin, Heap, Phase, Cset, Free, Evac, Claim, Current, Count, Buffer, Wait, Answer, Grey, Black, view, Share}

@@ -7,9 +7,9 @@ use Rattle.heap_words.specs.Access.{table_index}
 use Rattle.heap_words.specs.Words.{word_at, table_words}
 use Rattle.heap_words.proofs.Stores.{is_word_from}
 use Rattle.heap_words.proofs.Rows.{word_inside}
-use Rattle.steps_base.specs.Touch.{placed}
-use Rattle.steps_base.specs.Steps.{Stage}
-use Rattle.steps_base.proofs.Touches.{table_index-access_at}
+use Rattle.heap_words.specs.Touch.{placed}
+use Rattle.heap_words.specs.Steps.{Stage}
+use Rattle.heap_words.proofs.Touches.{table_index-access_at}
 use Rattle.shen_graph.specs.declared.command.Command.{Command}
 use Rattle.shen_graph.specs.declared.order.Order.{Order}
 use Rattle.shen_graph.specs.declared.order.Order.TheVariants.{Nothing, Begin, End, Hint}

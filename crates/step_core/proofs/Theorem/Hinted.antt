@@ -9,8 +9,8 @@ use Rattle.heap_words.specs.declared.config.Config.{Config}
 use Rattle.heap_words.specs.Words.{Word}
 use Rattle.heap_words.specs.Access.{table_index, got_of}
 use Rattle.heap_words.specs.declared.access.Access.{Access}
-use Rattle.steps_base.specs.Steps.{Stage, accessed, moved}
-use Rattle.steps_base.proofs.Places.{slice_get-set_same, slice_get-set_other}
+use Rattle.heap_words.specs.Steps.{Stage, accessed, moved}
+use Rattle.heap_words.proofs.Places.{slice_get-set_same, slice_get-set_other}
 use Rattle.shen_graph.specs.declared.command.Command.{Command}
 use Rattle.shen_graph.specs.declared.order.Order.{Order}
 use Rattle.shen_graph.specs.declared.order.Order.TheVariants.{Nothing}

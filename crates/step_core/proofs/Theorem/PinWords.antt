@@ -7,8 +7,8 @@ use Rattle.heap_words.specs.declared.config.Config.{Config}
 use Rattle.heap_words.specs.Words.{Word, Cset, Evac, Answer, Pin, image_start}
 use Rattle.heap_words.specs.Rows.{name_of}
 use Rattle.heap_words.specs.Encoding.{is_forwarded}
-use Rattle.steps_base.specs.Touch.{touched}
-use Rattle.steps_base.specs.Steps.{Stage, Event, act}
+use Rattle.heap_words.specs.Touch.{touched}
+use Rattle.heap_words.specs.Steps.{Stage, Event, act}
 use Rattle.shen_graph.specs.declared.pin.Pinned.{Pinned}
 use Rattle.shen_graph.specs.declared.command.Reply.{Reply}
 use Rattle.shen_graph.specs.declared.command.Reply.TheVariants.{Full}

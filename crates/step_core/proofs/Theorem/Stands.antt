@@ -1,7 +1,7 @@
 -- What a stage says in which all goes as it should: its words and machines stand for the graph after the history.
 use Rattle.std.proofs.Common.{ℕ, ◌+◌, List, subst}
 use Rattle.heap_words.specs.declared.config.Config.{Config}
-use Rattle.steps_base.specs.Steps.{Stage}
+use Rattle.heap_words.specs.Steps.{Stage}
 use Rattle.shen_graph.specs.Graph.{Graph}
 use Rattle.shen_graph.specs.History.{Entry, after, of_thread}
 use Rattle.mutator.specs.Rows.{Mutating}

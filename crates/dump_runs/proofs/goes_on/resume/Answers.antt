@@ -1,7 +1,7 @@
 use Rattle.std.proofs.Common.{◌≡◌, List, subst, arith, ap, ◌∙◌}
 use Rattle.heap_words.specs.declared.config.Config.{Config}
 use Rattle.heap_words.specs.Words.{view, table_words}
-use Rattle.steps_base.specs.Steps.{Stage, Event}
+use Rattle.heap_words.specs.Steps.{Stage, Event}
 use Rattle.shen_graph.specs.Graph.{Graph}
 use Rattle.shen_graph.specs.declared.order.Order.{Order}
 use Rattle.image_graph.specs.declared.image.Image.{Image}

@@ -19,7 +19,7 @@ use Rattle.graph_placing.specs.NamesAnew.{text_anew}
 use Rattle.graph_placing.specs.Renaming.{AreOfThreads, AreCountsOf}
 use Rattle.graph_placing.proofs.PinsShown.{nothing_pinned, nothing_held, not_pinned}
 use Rattle.graph_placing.proofs.ShownRenewable.{placeable, of_threads}
-use Rattle.heap_reopening.proofs.Placed.{placed_can_begin}
+use Rattle.heap_machines.proofs.Placed.{placed_can_begin}
 use Rattle.heap_renewal.proofs.Anew.{begins_anew}
 use Rattle.heap_renewal.proofs.renewing.renew_heap.Goals as goal
 

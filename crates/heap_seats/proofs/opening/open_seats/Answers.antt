@@ -1,6 +1,6 @@
 use Rattle.std.proofs.Common.{sym, ◌∙◌, subst, arith}
 use Rattle.std.specs.Prelude.{IfOk}
-use Rattle.steps_base.specs.Steps.{Stage}
+use Rattle.heap_words.specs.Steps.{Stage}
 use Rattle.shared_table.specs.Views.{whole, dealt_to}
 use Rattle.step_core.specs.Actor.{Actor}
 use Rattle.step_core.specs.Begins.{first_graph}

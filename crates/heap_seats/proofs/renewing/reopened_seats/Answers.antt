@@ -2,7 +2,7 @@ use Rattle.std.proofs.Common.{◌≡◌, List, ℕ, ap, ◌∙◌}
 use Rattle.heap_words.specs.declared.config.Config.{Config}
 use Rattle.heap_words.specs.Words.{view}
 use Rattle.image_graph.specs.State as images
-use Rattle.heap_reopening.specs.Reopened.{words_reopened}
+use Rattle.heap_machines.specs.Reopened.{words_reopened}
 use Rattle.table_heap.specs.Closed as ends
 use Rattle.heap_seats.proofs.Followed.{if_ok, reopened_can, seats_kept}
 use Rattle.heap_seats.proofs.renewing.reopened_seats.Goals as goal

@@ -1,7 +1,7 @@
 use Rattle.std.proofs.Common.{◌≡◌, ◌<◌, sym, ◌∙◌, subst}
 use Rattle.std.proofs.lemmas.List.Elements.{All-get_or, All-set}
 use Rattle.heap_words.specs.Words.{Heap, IsWord}
-use Rattle.hint_deque.specs.Seen.{config_in}
+use Rattle.table_heap.specs.Seen.{config_in}
 use Rattle.table_heap.proofs.sharing.stolen.Goals as goal
 
 pub returns-in-Some : goal.returns-in-Some

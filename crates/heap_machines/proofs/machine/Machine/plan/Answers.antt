@@ -1,7 +1,7 @@
 use Rattle.std.proofs.Common.{◌<◌, sym, ap, ◌∙◌, subst}
 use Rattle.heap_words.specs.Access.{table_index}
 use Rattle.heap_words.specs.Words.{table_words}
-use Rattle.steps_base.specs.Touch.{placed}
+use Rattle.heap_words.specs.Touch.{placed}
 use Rattle.control.specs.Seen.{config_in, seen_control, hint_of}
 use Rattle.control_rows.specs.Rows.{Controlling, control_access}
 use Rattle.helper.specs.Rows.{Helping, help_touch}

@@ -1,7 +1,7 @@
 use Rattle.std.proofs.Common.{sym, ap, ◌∙◌}
 use Rattle.std.specs.Prelude.{slice_index}
 use Rattle.heap_words.specs.Access.{table_index}
-use Rattle.steps_base.specs.Steps.{accessed}
+use Rattle.heap_words.specs.Steps.{accessed}
 use Rattle.shen_graph.specs.Order.{hinting}
 use Rattle.control.specs.Seen.{config_in, seen_control}
 use Rattle.step_core.specs.Actor.{controlling}

@@ -1,5 +1,5 @@
 use Rattle.std.proofs.Common.{sym, ap, ◌∙◌, subst}
-use Rattle.steps_base.specs.Steps.{IsReached}
+use Rattle.heap_words.specs.Steps.{IsReached}
 use Rattle.table_heap.specs.declared.heap.Heap.{Heap}
 use Rattle.table_heap.specs.Closed.{stage_of}
 use Rattle.table_heap.specs.Core.{heap_kind}

@@ -1,5 +1,5 @@
 use Rattle.std.proofs.Common.{◌≡◌, ◌<◌, ℕ, None}
-use Rattle.steps_base.specs.Steps.{Stage}
+use Rattle.heap_words.specs.Steps.{Stage}
 use Rattle.step_core.specs.Actor.{Actor}
 use Rattle.step_core.specs.Schedule.{Scripts, turn}
 use Rattle.shen_core.specs.State.{Shows}

@@ -3,7 +3,7 @@ use Rattle.std.proofs.Common.{length, sym, ap, ◌∙◌, subst, arith}
 use Rattle.std.proofs.lemmas.List.{length-map}
 use Rattle.heap_words.specs.declared.config.Config.{Config}
 use Rattle.heap_words.specs.Ranges.{seat_count}
-use Rattle.steps_base.specs.Steps.{IsReached}
+use Rattle.heap_words.specs.Steps.{IsReached}
 use Rattle.shared_table.specs.Views.{machines_of, HasAllMachines}
 use Rattle.shared_table.specs.Counted.{at_start}
 use Rattle.shared_table.proofs.Counted.{all_counted, view_reached}

@@ -3,7 +3,7 @@ use Rattle.std.specs.List.{range_with_len}
 use Rattle.std.proofs.lemmas.Result.{IfOk-weaker}
 use Rattle.heap_words.specs.Ranges.{seat_count}
 use Rattle.shared_table.specs.Views.{whole, dealt_to}
-use Rattle.steps_base.specs.Steps.{Stage}
+use Rattle.heap_words.specs.Steps.{Stage}
 use Rattle.step_core.specs.Actor.{Actor}
 use Rattle.image_graph.specs.State as images
 use Rattle.heap_machines.specs.Shown.{shown}

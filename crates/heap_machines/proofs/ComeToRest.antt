@@ -1,0 +1,73 @@
+-- A stage is at rest where each mutator is between two calls or has ended, and all others have ended.
+use Rattle.std.proofs.Common.{◌≡◌, ◌⊎◌, inl, inr, ℕ, true, false, List, Some, None, refl, subst}
+use Rattle.std.specs.Prelude.{slice_get, if◌then◌else◌}
+use Rattle.heap_words.specs.declared.config.Config.{Config}
+use Rattle.shen_graph.specs.declared.order.Order.TheVariants.{Nothing}
+use Rattle.heap_words.specs.Steps.{Stage}
+use Rattle.handshake.specs.Standing.{is_within}
+use Rattle.mutator.specs.declared.spot.Spot.{Spot}
+use Rattle.mutator.specs.declared.spot.Spot.TheVariants as spots
+use Rattle.mutator.specs.Orders.{is_between_calls}
+use Rattle.mutator.specs.Rows.{Mutating}
+use Rattle.helper.specs.declared.spot.HelpSpot.{HelpSpot}
+use Rattle.helper.specs.declared.spot.HelpSpot.TheVariants as helps
+use Rattle.helper.specs.Rows as help
+use Rattle.control_rows.specs.declared.spot.ControlSpot.{ControlSpot}
+use Rattle.control_rows.specs.declared.spot.ControlSpot.TheVariants as controls
+use Rattle.control_rows.specs.Rows.{Controlling, is_gone}
+use Rattle.heap_machines.specs.Roles.{is_mutating}
+use Rattle.step_core.specs.Actor.{Machine, mutating, helping, controlling, Actor}
+use Rattle.step_core.specs.AtRest.{IsAtRest}
+use Rattle.step_core.specs.Machines.{is_resting, takes_of, standing_of}
+use Rattle.step_core.specs.Seats.{is_working}
+use Rattle.step_core.specs.Settled.{stored_image}
+use Rattle.step_core.specs.Standing.{standing_at, help_standing, control_standing}
+
+-- a machine rests between two calls, or is no mutator and makes no step any more
+abbrev pub HasComeToRest : Machine → Type 0
+HasComeToRest machine = (is_resting machine ≡ true) ⊎ ((is_mutating machine ≡ false) × (takes_of machine Nothing ≡ false))
+
+mutator_outside : (spot : Spot) → is_between_calls spot ≡ true → is_within (standing_at spot) ≡ false
+mutator_outside spots.Rest rest = refl
+mutator_outside (spots.Ended reply) rest = refl
+mutator_outside spots.Gone rest = refl
+mutator_outside _ rest = absurd cc
+
+helper_outside : (spot : HelpSpot) → (if help.is_gone spot then false else true) ≡ false → is_within (help_standing spot) ≡ false
+helper_outside helps.Gone none = refl
+helper_outside _ none = absurd cc
+
+control_outside : (spot : ControlSpot) → (if is_gone spot then false else true) ≡ false → is_within (control_standing spot) ≡ false
+control_outside controls.Gone none = refl
+control_outside _ none = absurd cc
+
+control_free : (spot : ControlSpot) → (if is_gone spot then false else true) ≡ false → is_working spot ≡ false
+control_free controls.Gone none = refl
+control_free _ none = absurd cc
+
+control_calm : (spot : ControlSpot) (image : List ℕ) → (if is_gone spot then false else true) ≡ false → stored_image spot image ≡ None
+control_calm controls.Gone image none = refl
+control_calm _ image none = absurd cc
+
+between_calls : (m : Mutating) → HasComeToRest (mutating m) → is_between_calls m.spot ≡ true
+between_calls m (inl rest) = rest
+between_calls m (inr other) = absurd (let none = other.0 in cc)
+
+is_outside : (machine : Machine) → HasComeToRest machine → is_within (standing_of machine) ≡ false
+is_outside (mutating m) rests = mutator_outside m.spot (between_calls m rests)
+is_outside (helping h) (inl rest) = absurd cc
+is_outside (helping h) (inr none) = helper_outside h.spot none.1
+is_outside (controlling k) (inl rest) = absurd cc
+is_outside (controlling k) (inr none) = control_outside k.spot none.1
+
+has_ended : (k : Controlling) → HasComeToRest (controlling k) → (if is_gone k.spot then false else true) ≡ false
+has_ended k (inl rest) = absurd cc
+has_ended k (inr none) = none.1
+
+pub all_at_rest : (c : Config) (s : Stage Actor) → ((number : ℕ) (a : Actor) → slice_get s.machines number ≡ Some a → HasComeToRest a.machine) → IsAtRest c s
+all_at_rest c s rests = record {
+  calls = λ number a m mutator. between_calls m (subst HasComeToRest mutator.is (rests number a mutator.here));
+  outside = λ number a here other. is_outside a.machine (rests number a here);
+  no_unit = λ number a k here is. control_free k.spot (has_ended k (subst HasComeToRest is (rests number a here)));
+  no_image = λ number a k here is. control_calm k.spot k.image (has_ended k (subst HasComeToRest is (rests number a here)));
+}

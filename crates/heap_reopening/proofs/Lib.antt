@@ -1,4 +1,0 @@
-pub mod Placed
-pub mod Rested
-mod Stored
-pub mod ComeToRest

@@ -1,9 +1,0 @@
-use Rattle.std.proofs.Common.{ap}
-use Rattle.hint_deque.proofs.Keeping.{takes, pops}
-use Rattle.hint_deque.proofs.hints.Hints.pop.Goals as goal
-
-pub pop_as-requires-clause-fifo : goal.pop_as-requires-clause-fifo
-pop_as-requires-clause-fifo c = λ _. takes _ (ap (λ v. v.known) c.args.self.now.known) _ 1
-
-pub pop_as-requires-clause-lifo : goal.pop_as-requires-clause-lifo
-pop_as-requires-clause-lifo c = λ _. pops _ (ap (λ v. v.known) c.args.self.now.known) _

@@ -1,6 +1,0 @@
-use Rattle.std.proofs.Common.{ap}
-use Rattle.hint_deque.proofs.Keeping.{forks}
-use Rattle.hint_deque.proofs.hints.Hints.thief.Goals as goal
-
-pub another-pass-requires : goal.another-pass-requires
-another-pass-requires c = forks _ (ap (λ v. v.known) c.args.self.now.known) _

@@ -1,6 +1,0 @@
-use Rattle.std.proofs.Common.{ap}
-use Rattle.hint_deque.proofs.Keeping.{takes}
-use Rattle.hint_deque.proofs.hints.Thief.steal.Goals as goal
-
-pub steal_as-requires-clause-takes : goal.steal_as-requires-clause-takes
-steal_as-requires-clause-takes c = takes _ (ap (λ v. v.known) c.args.self.now.known) _ 1

@@ -1,8 +1,0 @@
-use Rattle.std.proofs.Common.{ℕ, ◌+◌, ◌<◌}
-use Rattle.heap_words.specs.Words.{Heap}
-use Rattle.image_graph.specs.State.{memory_of}
-use Rattle.image_check.specs.Laid.{IsReference}
-use Rattle.image_check.proofs.objects.are_fields_right.Given as goal
-
-abbrev pub invariant-loop-index : goal.invariant-loop-index
-invariant-loop-index l = (i : ℕ) → i < l.index → IsReference l.objects (memory_of l.image (Heap (l.address + 3 + i)))

@@ -1,7 +1,0 @@
-use Rattle.std.proofs.Common.{ℕ, ◌<◌}
-use Rattle.image_graph.specs.State.{config_of, memory_of}
-use Rattle.image_check.specs.Laid.{IsRegionRight}
-use Rattle.image_check.proofs.rest.are_regions_right.Given as goal
-
-abbrev pub invariant-loop-region : goal.invariant-loop-region
-invariant-loop-region l = (r : ℕ) → r < l.region → IsRegionRight (config_of l.image) (memory_of l.image) l.objects r

@@ -1,7 +1,0 @@
-use Rattle.std.proofs.Common.{◌≡◌, ℕ, ◌<◌}
-use Rattle.heap_words.specs.Words.{Pin}
-use Rattle.image_graph.specs.State.{memory_of}
-use Rattle.image_check.proofs.rest.are_slots_empty.Given as goal
-
-abbrev pub invariant-loop-slot : goal.invariant-loop-slot
-invariant-loop-slot l = (i : ℕ) → i < l.slot → memory_of l.image (Pin l.mutator i) ≡ 0

@@ -1,7 +1,0 @@
-use Rattle.std.proofs.Common.{◌≡◌, ℕ, ◌<◌}
-use Rattle.heap_words.specs.Words.{Current}
-use Rattle.image_graph.specs.State.{memory_of}
-use Rattle.image_check.proofs.rest.has_no_buffers.Given as goal
-
-abbrev pub invariant-loop-seat : goal.invariant-loop-seat
-invariant-loop-seat l = (s : ℕ) → s < l.seat → memory_of l.image (Current s) ≡ 0

@@ -1,0 +1,28 @@
+use Rattle.std.proofs.Common.{◌≡◌, ℕ, ◌+◌, sym, subst, arith}
+use borrow.Author.Count.{below_more}
+use Rattle.heap_words.specs.declared.config.Config.{Config}
+use Rattle.heap_words.specs.Words.{Word, Heap, IsWord}
+use Rattle.image_graph.specs.State.{config_of, memory_of}
+use Rattle.image_graph.specs.Laid.{IsReference}
+use Rattle.image_graph.proofs.Reading.{read, placed}
+use Rattle.image_graph.proofs.objects.are_fields_right.Goals as goal
+
+pub heap_at-requires : goal.heap_at-requires
+heap_at-requires c =
+    subst (λ (j : Config). IsWord j (Heap (c.args.address + 3 + c.loop-index.index))) (sym c.config-config.ensures) (c.requires.inside c.loop-index.index c.loop-index-test.true)
+
+pub word-requires : goal.word-requires
+word-requires c =
+    placed _ _ (Heap (c.args.address + 3 + c.loop-index.index)) _ c.config-config.ensures (c.requires.inside c.loop-index.index c.loop-index-test.true) c.heap_at.ensures
+
+pub loop-index-preserved : goal.loop-index-preserved
+loop-index-preserved c =
+    let m : Word → ℕ = memory_of c.args.image.now in
+    let i = c.loop-index.index in
+    let word : c.word.result ≡ m (Heap (c.args.address + 3 + i)) =
+    read (config_of c.args.image.now) _ m (Heap (c.args.address + 3 + i)) _ _ c.config-config.ensures (c.requires.inside i c.loop-index-test.true) c.heap_at.ensures c.word.ensures.named in
+    below_more (λ (j : ℕ). IsReference c.args.objects.now (m (Heap (c.args.address + 3 + j)))) i c.loop-index.invariant
+    (subst (IsReference c.args.objects.now) word (c.is_reference.ensures c.if-not-is_reference.false))
+
+pub returns : goal.returns
+returns c = λ _ i below. c.loop-index.invariant i (omega (arith, below, c.loop-index-test.false))

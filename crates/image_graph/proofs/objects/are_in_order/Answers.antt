@@ -1,0 +1,80 @@
+use Rattle.std.proofs.Common.{◌≡◌, ℕ, ◌+◌, ◌-◌, ◌<◌, ◌≤◌, get_or, refl, ap, ◌∙◌, subst, arith}
+use Rattle.heap_words.specs.Words.{Word, Heap}
+use Rattle.heap_words.specs.Encoding.{object_words}
+use Rattle.image_graph.specs.State.{config_of, memory_of}
+use Rattle.image_graph.specs.Laid.{laid_words}
+use Rattle.image_graph.proofs.Reading.{read, placed, head, low, more}
+use Rattle.image_graph.proofs.objects.are_in_order.Goals as goal
+
+pub overflow_sub-before : goal.overflow_sub-before
+overflow_sub-before c = omega arith
+
+pub bounds-objects-index : goal.bounds-objects-index
+bounds-objects-index c = omega (arith, c.loop-index-test.true)
+
+pub overflow_add-before : goal.overflow_add-before
+overflow_add-before c = omega (arith, low _ _ _ _ (c.requires (c.loop-index.index - 1) (omega (arith, c.loop-index-test.true))))
+
+pub heap_at-requires : goal.heap_at-requires
+heap_at-requires c = head _ _ _ _ _ 1 c.config-config.ensures (c.requires (c.loop-index.index - 1) (omega (arith, c.loop-index-test.true))) (omega arith)
+
+pub word-requires : goal.word-requires
+word-requires c =
+    let lies = c.requires (c.loop-index.index - 1) (omega (arith, c.loop-index-test.true)) in
+    placed _ _ (Heap (get_or c.args.objects.now (c.loop-index.index - 1) 0 + 1)) _ c.config-config.ensures (head _ (config_of c.args.image.now) _ _ _ 1 refl lies (omega arith)) c.heap_at.ensures
+
+pub overflow_add-behind : goal.overflow_add-behind
+overflow_add-behind c =
+    let lies = c.requires (c.loop-index.index - 1) (omega (arith, c.loop-index-test.true)) in
+    omega (arith, low _ _ _ _ lies, c.words_of.ensures)
+
+pub overflow_add-before-else-behind-here : goal.overflow_add-before-else-behind-here
+overflow_add-before-else-behind-here c = omega (arith, low _ _ _ _ (c.requires (c.loop-index.index - 1) (omega (arith, c.loop-index-test.true))))
+
+pub heap_at-requires-else-behind-here : goal.heap_at-requires-else-behind-here
+heap_at-requires-else-behind-here c = head _ _ _ _ _ 2 c.config-config.ensures (c.requires (c.loop-index.index - 1) (omega (arith, c.loop-index-test.true))) (omega arith)
+
+pub word-requires-else-behind-here : goal.word-requires-else-behind-here
+word-requires-else-behind-here c =
+    let lies = c.requires (c.loop-index.index - 1) (omega (arith, c.loop-index-test.true)) in
+    placed _ _ (Heap (get_or c.args.objects.now (c.loop-index.index - 1) 0 + 2)) _ c.config-config.ensures (head _ (config_of c.args.image.now) _ _ _ 2 refl lies (omega arith)) c.heap_at-else-behind-here.ensures
+
+pub overflow_add-here : goal.overflow_add-here
+overflow_add-here c = omega (arith, low _ _ _ _ (c.requires c.loop-index.index c.loop-index-test.true))
+
+pub heap_at-requires-else-behind-here-2 : goal.heap_at-requires-else-behind-here-2
+heap_at-requires-else-behind-here-2 c = head _ _ _ _ _ 2 c.config-config.ensures (c.requires c.loop-index.index c.loop-index-test.true) (omega arith)
+
+pub word-requires-else-behind-here-2 : goal.word-requires-else-behind-here-2
+word-requires-else-behind-here-2 c =
+    placed _ _ (Heap (get_or c.args.objects.now c.loop-index.index 0 + 2)) _ c.config-config.ensures
+    (head _ (config_of c.args.image.now) _ _ _ 2 refl (c.requires c.loop-index.index c.loop-index-test.true) (omega arith)) c.heap_at-else-behind-here-2.ensures
+
+pub loop-index-preserved : goal.loop-index-preserved
+loop-index-preserved c =
+    let k = config_of c.args.image.now in
+    let m : Word → ℕ = memory_of c.args.image.now in
+    let i = c.loop-index.index in
+    let at : ℕ → ℕ = λ (j : ℕ). get_or c.args.objects.now j 0 in
+    let before = c.requires (i - 1) (omega (arith, c.loop-index-test.true)) in
+    let here = c.requires i c.loop-index-test.true in
+    let shape : c.word.result ≡ m (Heap (at (i - 1) + 1)) =
+    read k _ m (Heap (at (i - 1) + 1)) _ _ c.config-config.ensures (head _ k _ _ _ 1 refl before (omega arith)) c.heap_at.ensures c.word.ensures.named in
+    let one : c.word-else-behind-here.result ≡ m (Heap (at (i - 1) + 2)) =
+    read k _ m (Heap (at (i - 1) + 2)) _ _ c.config-config.ensures (head _ k _ _ _ 2 refl before (omega arith)) c.heap_at-else-behind-here.ensures c.word-else-behind-here.ensures.named in
+    let two : c.word-else-behind-here-2.result ≡ m (Heap (at i + 2)) =
+    read k _ m (Heap (at i + 2)) _ _ c.config-config.ensures (head _ k _ _ _ 2 refl here (omega arith)) c.heap_at-else-behind-here-2.ensures c.word-else-behind-here-2.ensures.named in
+    let long : c.words_of.result ≡ laid_words m (at (i - 1)) = c.words_of.ensures ∙ ap object_words shape in
+    let some : 1 ≤ i = c.loop-index.auto.index in
+    record {
+      apart = more (λ (j l : ℕ). at j + laid_words m (at j) ≤ at l) i some c.loop-index.invariant.apart
+          (subst (λ (n : ℕ). at (i - 1) + n ≤ at i) long c.if-behind-here.false);
+      named = more (λ (j l : ℕ). m (Heap (at j + 2)) < m (Heap (at l + 2))) i some c.loop-index.invariant.named
+          (subst (λ (n : ℕ). n < m (Heap (at i + 2))) one (subst (λ (n : ℕ). c.word-else-behind-here.result < n) two c.if-word.false));
+    }
+
+pub returns : goal.returns
+returns c = λ _. record {
+  apart = λ k below. c.loop-index.invariant.apart k (omega (arith, below, c.loop-index-test.false));
+  named = λ k below. c.loop-index.invariant.named k (omega (arith, below, c.loop-index-test.false));
+}

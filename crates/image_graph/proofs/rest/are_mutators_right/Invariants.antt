@@ -1,0 +1,7 @@
+use Rattle.std.proofs.Common.{ℕ, ◌<◌}
+use Rattle.image_graph.specs.State.{memory_of}
+use Rattle.image_graph.specs.Laid.{IsMutatorRight}
+use Rattle.image_graph.proofs.rest.are_mutators_right.Given as goal
+
+abbrev pub invariant-loop-mutator : goal.invariant-loop-mutator
+invariant-loop-mutator l = (t : ℕ) → t < l.mutator → IsMutatorRight (memory_of l.image) l.objects t

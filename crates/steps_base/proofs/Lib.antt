@@ -1,4 +1,0 @@
-pub mod Places
-pub mod Touches
-pub mod Runs
-pub mod Laws

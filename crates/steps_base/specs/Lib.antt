@@ -1,3 +1,0 @@
-pub mod Touch
-pub mod Fits
-pub mod Steps
